@@ -1,0 +1,4 @@
+pub mod Numbers
+pub mod Partition
+pub mod Prefixes
+pub mod Sets

@@ -1,0 +1,30 @@
+//! The small types that every other crate stands on, with exact contracts.
+//!
+//! Lists and texts grow at their end, and contracts see them as lists of items and of bytes. A set of
+//! numbers is its ascending list. Numbers and addresses are read exactly by their grammar: the answer
+//! is `None` where the word is off it, and the number itself everywhere else. A graph of acting edges
+//! keeps its rules in its type, and beside it stands what an admissible and the coarsest partition of
+//! its routers is.
+#![tactic(auto)]
+
+mod act_graph;
+mod ids;
+mod list;
+mod memory;
+mod num_set;
+mod numbers;
+mod prefix;
+mod protocol;
+mod steps;
+mod text;
+
+pub use act_graph::{ActGraph, Edge};
+pub use ids::{Community, RouterId};
+pub use list::List;
+pub use memory::NoMemory;
+pub use num_set::NumSet;
+pub use numbers::{read_address, read_number};
+pub use prefix::Prefix;
+pub use protocol::Protocol;
+pub use steps::Steps;
+pub use text::Text;
