@@ -1,0 +1,10 @@
+//! The answers of community lists.
+//!
+//! `permits` is the answer of a list to a set of communities: its lines are tried in the order of the
+//! text, the first that holds decides, and the end denies. `permits_exact` is the same where a line
+//! holds only for exactly the communities that it names.
+#![tactic(auto)]
+
+mod answers;
+
+pub use answers::{permits, permits_alone, permits_exact};
