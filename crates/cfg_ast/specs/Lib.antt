@@ -1,3 +1,5 @@
 pub mod Addresses
 pub mod Answers
+pub mod Lines
 pub mod Lists
+pub mod TextLines
