@@ -3,3 +3,4 @@ pub mod Answers
 pub mod Lines
 pub mod Lists
 pub mod TextLines
+pub mod Topology
