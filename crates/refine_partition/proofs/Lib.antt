@@ -1,0 +1,4 @@
+pub mod AlikeLemmas
+pub mod LeaderLemmas
+pub mod NumberingLemmas
+pub mod RoundLemmas

@@ -1,0 +1,4 @@
+pub mod Alike
+pub mod Inside
+pub mod Numbering
+pub mod Round

@@ -1,0 +1,98 @@
+//! Partitions of routers into numbered groups.
+
+ghost use Rattle.std.specs.Prelude.{◌≡◌, ◌<◌, ◌≤◌, ◌+◌, ◌*◌, ◌^◌, IfOk, Contains, length, slice_index};
+ghost use Rattle.base_kit.specs.Partition.{IsNumbered, IsCoarsest, members_of};
+
+use crate::coarsest_numbers;
+use base_kit::{ActGraph, NoMemory, Steps};
+use std::alloc::Global;
+use std::marker::Model;
+use std::sync::ledger::Ledger;
+
+/// Routers in groups, which are numbered from 0 by their least members.
+#[derive(Drop)]
+pub struct Partition {
+    numbers: Vec<u32>,
+    count: u32,
+    blocks: Vec<Vec<u32>>,
+}
+
+impl Model for Partition {
+    ghost use Rattle.std.specs.Prelude.{List, ℕ};
+
+    ghost Value = { List ℕ };
+
+    ghost use Rattle.refine_partition.specs.Inside.{IsPartition};
+
+    ghost view = { λ p. p.numbers.items };
+
+    ghost invariant = { IsPartition };
+}
+
+/// The members of a group, ascending.
+fn members_in(alloc: Global, numbers: &[u32], group: u32) -> Result<Vec<u32>, NoMemory>
+    requires fits { length numbers.now < 2 ^ 32 }
+    ensures { IfOk result (λ v. v.items ≡ members_of numbers.now group) }
+{
+    let members = (0..numbers.len() as u32)
+        .filter(|router| numbers[*router as usize] == group)
+        .collect(alloc)?;
+    Ok(members)
+}
+
+impl Partition {
+    /// The number of groups.
+    pub fn groups(&self) -> u32
+        ensures { IsNumbered self.now result }
+    {
+        self.count
+    }
+
+    /// The number of a router's group.
+    pub fn group_of(&self, router: u32) -> u32
+        requires { router < length self.now }
+        ensures { result ≡ slice_index self.now router }
+    {
+        self.numbers[router as usize]
+    }
+
+    /// The members of a group, ascending.
+    pub fn members(&self, group: u32) -> &[u32]
+        requires { Contains self.now group }
+        ensures { result.now ≡ members_of self.now group }
+    {
+        &self.blocks[group as usize]
+    }
+}
+
+/// A partition of these group numbers.
+fn from_numbers(alloc: Global, numbers: Vec<u32>, count: u32) -> Result<Partition, NoMemory>
+    requires fits { length numbers.items < 2 ^ 32 }
+    requires numbered { IsNumbered numbers.items count }
+    ensures { IfOk result (λ p. p ≡ numbers.items) }
+{
+    let mut blocks = Vec::new(alloc);
+    for group in 0..count {
+        blocks.push(members_in(alloc, &numbers, group)?)?;
+    }
+    Ok(Partition {
+        numbers,
+        count,
+        blocks,
+    })
+}
+
+/// The coarsest admissible partition of a graph: every admissible one refines it. It counts its turns,
+/// at most two for each router.
+pub fn coarsest<L: Ledger>(
+    alloc: Global,
+    graph: &ActGraph,
+    turns: &mut Steps<L>,
+) -> Result<Partition, NoMemory>
+    ensures coarsest { IfOk result (λ p. IsCoarsest graph.now p) }
+    ensures turns { turns.new ≤ turns.old + 2 * graph.now.count }
+{
+    let (numbers, count) = coarsest_numbers(alloc, graph)?;
+    let partition = from_numbers(alloc, numbers, count)?;
+    Ok(partition)
+}
