@@ -1,8 +1,13 @@
 pub mod Addresses
 pub mod Answers
 pub mod Classes
+pub mod FormSteps
+pub mod Heads
 pub mod Lines
 pub mod Lists
+pub mod PolicyForms
 pub mod PrefixLists
+pub mod RouterForms
 pub mod TextLines
 pub mod Topology
+pub mod Words

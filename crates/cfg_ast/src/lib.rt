@@ -8,6 +8,7 @@
 
 mod bgp;
 mod classes;
+mod heads;
 mod interface;
 mod items;
 mod line;
@@ -19,6 +20,7 @@ mod topology;
 
 pub use bgp::{Base, BgpProcess, Neighbor, NetLine};
 pub use classes::{DestClass, Origin};
+pub use heads::{HeadClass, HeadWord, PolicyForm, RouterForm};
 pub use interface::{Address, Interface};
 pub use items::{PolicyItem, PolicyScope, RouterItem, Scope};
 pub use line::{Line, Span};

@@ -1,0 +1,215 @@
+-- What lines of prefix lists, community lists (RFC 1997) and route maps say, form by form, as IOS
+-- writes them.
+use Rattle.std.specs.Prelude.{ℕ, ◌-◌, Bool, true, false, not, ◌&&◌, List, [], ◌∷◌, length, nat_le, if◌then◌else◌, Option, Some, None, Result, Ok, Err, codes, bytes_eq, take}
+use Rattle.std.specs.List.{list_all, list_any, filter_map}
+use Rattle.std.specs.Option.{is_some}
+use Rattle.base_kit.specs.Numbers.{number_of}
+use Rattle.base_kit.specs.Sets.{with_numbers}
+use Rattle.cfg_ast.specs.declared.policy.MapEntry.{MapEntry}
+use Rattle.cfg_ast.specs.declared.policy.Change.{Change}
+use Rattle.cfg_ast.specs.declared.policy.Change.TheVariants.{Clear, Replace, Append}
+use Rattle.cfg_ast.specs.declared.items.PolicyScope.{PolicyScope}
+use Rattle.cfg_ast.specs.declared.items.PolicyItem.{PolicyItem}
+use Rattle.cfg_ast.specs.declared.items.PolicyItem.TheVariants as item
+use Rattle.cfg_ast.specs.declared.heads.HeadClass.{HeadClass}
+use Rattle.cfg_ast.specs.declared.heads.HeadClass.TheVariants as class
+use Rattle.cfg_ast.specs.declared.heads.PolicyForm.{PolicyForm}
+use Rattle.cfg_ast.specs.declared.heads.PolicyForm.TheVariants as form
+use Rattle.cfg_ast.specs.declared.refusal.FormFault.{FormFault}
+use Rattle.cfg_ast.specs.declared.refusal.FormFault.TheVariants.{UnknownLine, Unsupported, BadForm, WellKnown}
+use Rattle.cfg_ast.specs.Words.{is_list_name, number_between, as_number_of, prefix_of, community_of, is_community, is_well_known, same_community}
+use Rattle.cfg_ast.specs.FormSteps.{◌>>=◌, or_bad, bad_unless, list_name_of, named_of}
+use Rattle.cfg_ast.specs.Heads.{class_in, policy_heads_of}
+
+-- ---- parts of forms
+
+-- `permit` is true, `deny` false
+abbrev pub is_permit : List ℕ → Option Bool
+is_permit word = if bytes_eq word (codes "permit") then Some true else (if bytes_eq word (codes "deny") then Some false else None)
+
+-- no word is the same as a later one
+abbrev pub all_differ : (List ℕ → List ℕ → Bool) → List (List ℕ) → Bool
+all_differ same [] = true
+all_differ same (word ∷ words) = not (list_any (same word) words) && all_differ same words
+
+-- 1 to 32 words
+abbrev pub is_group : List (List ℕ) → Bool
+is_group words = nat_le 1 (length words) && nat_le (length words) 32
+
+-- 1 to 32 names of lists, each once
+unfoldable pub list_names_of : List (List ℕ) → Result (List (List ℕ)) FormFault
+list_names_of words = bad_unless (is_group words && list_all is_list_name words && all_differ bytes_eq words) (Ok words)
+
+-- 1 to 32 communities, each once. Only where nothing else is at fault is a well-known one reported.
+unfoldable pub communities_of : List (List ℕ) → Result (List ℕ) FormFault
+communities_of words = bad_unless (is_group words && list_all is_community words && all_differ same_community words)
+    (if list_any is_well_known words then Err WellKnown else Ok (with_numbers (filter_map community_of words) []))
+
+-- whether the last word is this one
+abbrev pub is_marked : List ℕ → List (List ℕ) → Bool
+is_marked mark [] = false
+is_marked mark (word ∷ []) = bytes_eq word mark
+is_marked mark (word ∷ next ∷ words) = is_marked mark (next ∷ words)
+
+-- the words but for the last one
+abbrev pub but_last : List (List ℕ) → List (List ℕ)
+but_last words = take (length words - 1) words
+
+-- ---- top lines
+
+-- `ge G`, `le E`, both in this order, or neither, between the prefix's length and 32
+unfoldable pub bounds_of : ℕ → List (List ℕ) → Result (Option ℕ × Option ℕ) FormFault
+bounds_of len [] = Ok (None, None)
+bounds_of len (word ∷ number ∷ []) = do
+  bound ← or_bad (number_between len 32 number)
+  if bytes_eq word (codes "ge") then Ok (Some bound, None) else bad_unless (bytes_eq word (codes "le")) (Ok (None, Some bound))
+bounds_of len (word ∷ low ∷ other ∷ high ∷ []) = bad_unless (bytes_eq word (codes "ge") && bytes_eq other (codes "le")) (do
+  ge ← or_bad (number_between len 32 low)
+  le ← or_bad (number_between ge 32 high)
+  Ok (Some ge, Some le))
+bounds_of len _ = Err BadForm
+
+-- ip prefix-list NAME seq NUMBER permit PREFIX, or deny, and the bounds
+unfoldable pub prefix_entry_form : ℕ → List (List ℕ) → Result PolicyItem FormFault
+prefix_entry_form line (_ ∷ _ ∷ name ∷ word ∷ number ∷ act ∷ prefix ∷ options) = bad_unless (bytes_eq word (codes "seq")) (do
+  seq ← or_bad (number_between 1 4294967295 number)
+  permit ← or_bad (is_permit act)
+  p ← or_bad (prefix_of prefix)
+  bounds ← bounds_of p.len options
+  list ← list_name_of name
+  Ok (item.PrefixEntry list (record { seq = seq; permit = permit; prefix = p; ge = bounds.0; le = bounds.1; line = line })))
+prefix_entry_form line _ = Err BadForm
+
+abbrev pub community_line : ℕ → List ℕ → List ℕ → List (List ℕ) → Result PolicyItem FormFault
+community_line line name act communities = do
+  permit ← or_bad (is_permit act)
+  list ← list_name_of name
+  comms ← communities_of communities
+  Ok (item.CommunityLine list (record { permit = permit; comms = comms; line = line }))
+
+-- a list named by a number from 1 to 99
+abbrev pub numbered_line : ℕ → List ℕ → List ℕ → List (List ℕ) → Result PolicyItem FormFault
+numbered_line line number act communities = bad_unless (is_some (number_between 1 99 number)) (community_line line number act communities)
+
+-- ip community-list NUMBER permit COMMUNITY .., or standard NAME, or deny
+unfoldable pub community_line_form : ℕ → List (List ℕ) → Result PolicyItem FormFault
+community_line_form line (_ ∷ _ ∷ word ∷ []) = Err BadForm
+community_line_form line (_ ∷ _ ∷ word ∷ next ∷ []) = Err BadForm
+community_line_form line (_ ∷ _ ∷ word ∷ next ∷ third ∷ words) =
+    if bytes_eq word (codes "standard") then community_line line next third words
+    else numbered_line line word next (third ∷ words)
+community_line_form line _ = Err BadForm
+
+-- an entry of a route map that matches and sets nothing yet
+abbrev pub empty_entry : ℕ → Bool → ℕ → MapEntry
+empty_entry seq permit line = record {
+  seq = seq;
+  permit = permit;
+  line = line;
+  prefixes = None;
+  comms = None;
+  exact = false;
+  lp = None;
+  change = None;
+  change_line = 0;
+  delete = None;
+  prepend = None;
+}
+
+-- route-map NAME permit NUMBER, or deny, from 0 to 65535
+unfoldable pub map_head_form : ℕ → List (List ℕ) → Result PolicyItem FormFault
+map_head_form line (_ ∷ name ∷ act ∷ number ∷ []) = do
+  permit ← or_bad (is_permit act)
+  seq ← or_bad (number_between 0 65535 number)
+  map ← list_name_of name
+  Ok (item.MapHead map (empty_entry seq permit line))
+map_head_form line _ = Err BadForm
+
+-- ---- lines of an entry of a route map
+
+-- match ip address prefix-list NAME ..
+unfoldable pub match_prefixes_form : ℕ → List (List ℕ) → Result PolicyItem FormFault
+match_prefixes_form line (_ ∷ _ ∷ _ ∷ _ ∷ words) = do
+  names ← list_names_of words
+  Ok (item.MatchPrefixes (record { names = names; line = line }))
+match_prefixes_form line _ = Err BadForm
+
+-- match community NAME .., and a last word `exact-match` is always the mark
+unfoldable pub match_comms_form : ℕ → List (List ℕ) → Result PolicyItem FormFault
+match_comms_form line (_ ∷ _ ∷ words) = do
+  names ← list_names_of (if is_marked (codes "exact-match") words then but_last words else words)
+  Ok (item.MatchComms (record { names = names; line = line }) (is_marked (codes "exact-match") words))
+match_comms_form line _ = Err BadForm
+
+-- set local-preference NUMBER
+unfoldable pub lp_form : List (List ℕ) → Result PolicyItem FormFault
+lp_form (_ ∷ _ ∷ number ∷ []) = do
+  n ← or_bad (number_of number)
+  Ok (item.Lp n)
+lp_form _ = Err BadForm
+
+abbrev pub is_none_alone : List (List ℕ) → Bool
+is_none_alone (word ∷ []) = bytes_eq word (codes "none")
+is_none_alone words = false
+
+-- COMMUNITY .., COMMUNITY .. additive, or none
+abbrev pub change_of : List (List ℕ) → Result Change FormFault
+change_of words =
+    if is_none_alone words then Ok Clear
+    else (if is_marked (codes "additive") words then communities_of (but_last words) >>= (λ comms. Ok (Append comms))
+    else (communities_of words >>= (λ comms. Ok (Replace comms))))
+
+-- set community, and what is to be done with the communities
+unfoldable pub set_comms_form : List (List ℕ) → Result PolicyItem FormFault
+set_comms_form (_ ∷ _ ∷ words) = do
+  change ← change_of words
+  Ok (item.Comms change)
+set_comms_form _ = Err BadForm
+
+-- set comm-list NAME delete
+unfoldable pub delete_form : ℕ → List (List ℕ) → Result PolicyItem FormFault
+delete_form line (_ ∷ _ ∷ name ∷ word ∷ []) = bad_unless (bytes_eq word (codes "delete")) (do
+  list ← named_of line name
+  Ok (item.Delete list))
+delete_form line _ = Err BadForm
+
+-- AS numbers, which may repeat
+abbrev pub as_numbers_of : List (List ℕ) → Result (List ℕ) FormFault
+as_numbers_of [] = Ok []
+as_numbers_of (word ∷ words) = do
+  n ← or_bad (as_number_of word)
+  more ← as_numbers_of words
+  Ok (n ∷ more)
+
+-- set as-path prepend NUMBER .., 1 to 10 AS numbers
+unfoldable pub prepend_form : ℕ → List (List ℕ) → Result PolicyItem FormFault
+prepend_form line (_ ∷ _ ∷ _ ∷ words) = bad_unless (nat_le 1 (length words) && nat_le (length words) 10) (do
+  numbers ← as_numbers_of words
+  Ok (item.Prepend (record { numbers = numbers; line = line })))
+prepend_form line _ = Err BadForm
+
+-- ---- a line by its head
+
+unfoldable pub policy_form : PolicyForm → ℕ → List (List ℕ) → Result PolicyItem FormFault
+policy_form form.PrefixEntry line words = prefix_entry_form line words
+policy_form form.CommunityLine line words = community_line_form line words
+policy_form form.MapHead line words = map_head_form line words
+policy_form form.MatchPrefixes line words = match_prefixes_form line words
+policy_form form.MatchComms line words = match_comms_form line words
+policy_form form.Lp line words = lp_form words
+policy_form form.Comms line words = set_comms_form words
+policy_form form.Delete line words = delete_form line words
+policy_form form.Prepend line words = prepend_form line words
+
+-- A head in no table is unknown, and a refused one unsupported. Router lines are not read here; they
+-- are unsupported too.
+unfoldable pub policy_item_by : Option HeadClass → ℕ → List (List ℕ) → Result PolicyItem FormFault
+policy_item_by None line words = Err UnknownLine
+policy_item_by (Some class.Refused) line words = Err Unsupported
+policy_item_by (Some class.Ignored) line words = Ok item.Ignored
+policy_item_by (Some (class.Router form)) line words = Err Unsupported
+policy_item_by (Some (class.Policy form)) line words = policy_form form line words
+
+-- what a line of this number says of a list, a route map or an entry, in its scope
+abbrev pub policy_item_of : PolicyScope → ℕ → List (List ℕ) → Result PolicyItem FormFault
+policy_item_of scope line words = policy_item_by (class_in (policy_heads_of scope) words) line words
