@@ -1,0 +1,7 @@
+pub mod Acts
+pub mod Candidates
+pub mod Labels
+pub mod Problem
+pub mod Quotient
+pub mod Routes
+pub mod Stability

@@ -1,0 +1,121 @@
+-- The stable routing problem of a destination (Beckett, Gupta, Mahajan and Walker, Control Plane
+-- Compression, SIGCOMM 2018, section 3).
+use Rattle.std.specs.Prelude.{◌≡◌, ◌≢◌, ℕ, ◌^◌, ◌<◌, ◌⊎◌, Bool, true, false, ◌||◌, ◌&&◌, All, List, [], ◌∷◌, length, Option, Some, None, nat_eq, slice_index, slice_index_or, Contains}
+use Rattle.base_kit.specs.declared.protocol.Protocol.{Protocol}
+use Rattle.base_kit.specs.declared.protocol.Protocol.TheVariants.{Bgp as OverBgp}
+use Rattle.base_kit.specs.declared.act_graph.Edge.{Edge}
+use Rattle.base_kit.specs.Sets.{IsAscending}
+use Rattle.route_maps.specs.declared.plain.Imported.{Imported}
+use Rattle.srp_core.specs.declared.route.Route.{Route}
+use Rattle.srp_core.specs.declared.route.Act.{Act}
+use Rattle.srp_core.specs.declared.route.Act.TheVariants.{Cost}
+use Rattle.srp_core.specs.Routes.{path_of, IsRouteOf, Key, key_by}
+use Rattle.srp_core.specs.Acts.{import_by, ActsAlike, KeepsSets, IsActOf, step_by}
+
+-- routers by place: their names, AS numbers (0 without BGP), initial routes and marks; and the edges,
+-- each with the place of its act
+pub record Problem : Type 0 where
+  pub protocol : Protocol
+  pub names : List (List ℕ)
+  pub numbers : List ℕ
+  pub init : List (Option Route)
+  pub lone : List Bool
+  pub acts : List Act
+  pub edges : List Edge
+
+-- how many routers there are
+abbrev pub count : Problem → ℕ
+count problem = length problem.numbers
+
+-- the AS number of a router
+abbrev pub number : Problem → ℕ → ℕ
+number problem router = slice_index problem.numbers router
+
+-- the initial route of a router, if it originates
+abbrev pub initial : Problem → ℕ → Option Route
+initial problem router = slice_index_or problem.init router None
+
+-- whether the router is marked as lone
+abbrev pub is_lone : Problem → ℕ → Bool
+is_lone problem router = slice_index_or problem.lone router false
+
+-- the act of an edge
+abbrev pub act_of : Problem → Edge → Act
+act_of problem edge = slice_index_or problem.acts edge.act (Cost 0)
+
+-- what an edge makes of its exporter's route, before the loop check
+abbrev pub step : Problem → Edge → Route → Option Route
+step problem edge route = step_by (act_of problem edge) (number problem edge.exporter) route
+
+-- some router of that number is marked
+unfoldable pub is_marked : List Bool → List ℕ → ℕ → Bool
+is_marked [] numbers wanted = false
+is_marked (mark ∷ marks) [] wanted = false
+is_marked (mark ∷ marks) (number ∷ numbers) wanted = (mark && nat_eq number wanted) || is_marked marks numbers wanted
+
+-- whether a lone router has that number
+abbrev pub is_lone_number : Problem → ℕ → Bool
+is_lone_number problem wanted = is_marked problem.lone problem.numbers wanted
+
+-- the key of a route of the problem
+abbrev pub key_of : Problem → Route → Key
+key_of problem route = key_by (is_lone_number problem) route
+
+-- the router accepts some set of communities, over one of its edges, with that preference
+pub record Accepts (problem : Problem) (router preference : ℕ) : Type 0 where
+  pub edge : Edge
+  pub edge_in : Contains problem.edges edge
+  pub importer : edge.importer ≡ router
+  pub comms : List ℕ
+  pub is_set : IsAscending comms
+  pub imported : Imported
+  pub accepted : import_by (act_of problem edge) comms ≡ Some imported
+  pub preferred : imported.lp ≡ preference
+
+-- a router that does not originate, and that accepts with two different preferences
+pub record IsLone (problem : Problem) (router : ℕ) : Type 0 where
+  pub unoriginated : initial problem router ≡ None
+  pub first : ℕ
+  pub second : ℕ
+  pub first_accepted : Accepts problem router first
+  pub second_accepted : Accepts problem router second
+  pub differ : first ≢ second
+
+-- two different routers and an act of the table
+pub record IsEdgeOf (problem : Problem) (edge : Edge) : Type 0 where
+  pub importer_in : edge.importer < count problem
+  pub exporter_in : edge.exporter < count problem
+  pub differ : edge.importer ≢ edge.exporter
+  pub act_in : edge.act < length problem.acts
+
+-- an edge stands before another by importer, then exporter, then link
+abbrev pub Precedes : Edge → Edge → Type 0
+Precedes first second = (first.importer < second.importer) ⊎ ((first.importer ≡ second.importer) × ((first.exporter < second.exporter) ⊎ ((first.exporter ≡ second.exporter) × (first.link < second.link))))
+
+-- each edge stands before all later ones
+abbrev pub AreOrdered : List Edge → Type 0
+AreOrdered [] = Unit {0}
+AreOrdered (edge ∷ edges) = All (Precedes edge) edges × AreOrdered edges
+
+-- the rules of a problem
+pub record IsProblem (problem : Problem) : Type 0 where
+  pub few_routers : count problem < 2 ^ 32
+  pub few_edges : length problem.edges < 2 ^ 32
+  pub names_total : length problem.names ≡ count problem
+  pub init_total : length problem.init ≡ count problem
+  pub lone_total : length problem.lone ≡ count problem
+  pub edges : (edge : Edge) → Contains problem.edges edge → IsEdgeOf problem edge
+  pub ordered : AreOrdered problem.edges
+  pub one_of_link : (edge other : Edge) → Contains problem.edges edge → Contains problem.edges other → edge.importer ≡ other.importer → edge.link ≡ other.link → edge ≡ other
+  pub acts_fit : All (IsActOf problem.protocol) problem.acts
+  pub acts_keep : All KeepsSets problem.acts
+  pub acts_differ : (i j : ℕ) → i < length problem.acts → j < length problem.acts → ActsAlike (slice_index_or problem.acts i (Cost 0)) (slice_index_or problem.acts j (Cost 0)) → i ≡ j
+  pub routes : (u : ℕ) (r : Route) → initial problem u ≡ Some r → IsRouteOf problem.protocol r
+  pub starts : (u : ℕ) (r : Route) → initial problem u ≡ Some r → path_of r ≡ []
+  pub unoriginated : problem.protocol ≡ OverBgp → (edge : Edge) → Contains problem.edges edge → initial problem edge.importer ≡ None
+  pub numbered : problem.protocol ≡ OverBgp → (u : ℕ) (r : Route) → initial problem u ≡ Some r → number problem u ≢ 0
+  pub importers : problem.protocol ≡ OverBgp → (edge : Edge) → Contains problem.edges edge → number problem edge.importer ≢ 0
+  pub exporters : problem.protocol ≡ OverBgp → (edge : Edge) → Contains problem.edges edge → number problem edge.exporter ≢ 0
+  pub distinct : problem.protocol ≡ OverBgp → (u v : ℕ) → u < count problem → v < count problem → number problem u ≡ number problem v → number problem u ≢ 0 → u ≡ v
+  pub lone_is : (u : ℕ) → u < count problem → is_lone problem u ≡ true → IsLone problem u
+  pub is_lone : (u : ℕ) → u < count problem → IsLone problem u → is_lone problem u ≡ true
