@@ -1,0 +1,18 @@
+//! The lines of a text.
+//!
+//! `lines` cuts a text at its newlines, drops one carriage return at the end of each line, and gives
+//! the number, the indentation and the words of every line that is not skipped; or it refuses the text
+//! at its first line with a byte that is not plain, with too many bytes, or behind the last line that a
+//! text may have. Its contract is the definition `lines_of`, by the places of newlines and blanks. It
+//! also says that every word lies in the text and is ASCII, which the readers of lines ask for.
+#![tactic(auto)]
+
+mod cutting;
+mod places;
+mod words;
+
+pub use cfg_ast::{FormFault, Line, Span};
+pub use cutting::lines;
+
+#[cfg(test)]
+mod tests;

@@ -1,0 +1,86 @@
+ghost use Rattle.std.specs.Prelude.{◌≡◌, ◌-◌, ◌≤◌, length};
+ghost use Rattle.cfg_ast.specs.Lines.{is_blank, is_plain, newline_from, without_return, word_end, indent_between, odd_from};
+
+pub(crate) fn is_blank(b: u8) -> bool
+    ensures { result ≡ is_blank b }
+{
+    b == b' ' || b == b'\t'
+}
+
+fn is_plain(b: u8) -> bool
+    ensures { result ≡ is_plain b }
+{
+    b == b'\t' || b >= b' ' && b <= b'~'
+}
+
+// The place of the first newline from `from` on, or the end.
+#[tactic(auto, using(cfg_ast::proofs::Places::first_next, cfg_ast::proofs::Places::first_here, cfg_ast::proofs::Places::first_end))]
+pub(crate) fn newline_from(bytes: &[u8], from: usize) -> usize
+    requires { from ≤ length bytes.now }
+    ensures place { result ≡ newline_from bytes.now from }
+    ensures bounds { (from ≤ result) × (result ≤ length bytes.now) }
+{
+    let mut i = from;
+    while i < bytes.len() && bytes[i] != b'\n' {
+        i += 1;
+    }
+    i
+}
+
+// The end of a line without a carriage return.
+pub(crate) fn without_return(bytes: &[u8], from: usize, end: usize) -> usize
+    requires front { from ≤ end }
+    requires end { end ≤ length bytes.now }
+    ensures place { result ≡ without_return bytes.now from end }
+    ensures bounds { (from ≤ result) × (result ≤ end) }
+{
+    if from < end && bytes[end - 1] == b'\r' {
+        end - 1
+    } else {
+        end
+    }
+}
+
+// The end of the word that begins at `from`.
+#[tactic(auto, using(cfg_ast::proofs::Places::first_next, cfg_ast::proofs::Places::first_here, cfg_ast::proofs::Places::first_end))]
+pub(crate) fn word_end(bytes: &[u8], from: usize, upto: usize) -> usize
+    requires front { from ≤ upto }
+    requires end { upto ≤ length bytes.now }
+    ensures place { result ≡ word_end bytes.now from upto }
+    ensures bounds { (from ≤ result) × (result ≤ upto) }
+{
+    let mut i = from;
+    while i < upto && !is_blank(bytes[i]) {
+        i += 1;
+    }
+    i
+}
+
+// How many blanks and tabs lead the line.
+#[tactic(auto, using(cfg_ast::proofs::Places::first_next, cfg_ast::proofs::Places::first_here, cfg_ast::proofs::Places::first_end))]
+pub(crate) fn indent_between(bytes: &[u8], from: usize, upto: usize) -> usize
+    requires front { from ≤ upto }
+    requires end { upto ≤ length bytes.now }
+    ensures value { result ≡ indent_between bytes.now from upto }
+    ensures bound { result ≤ upto - from }
+{
+    let mut i = from;
+    while i < upto && is_blank(bytes[i]) {
+        i += 1;
+    }
+    i - from
+}
+
+// The place of the first byte that a text may not have, or the end of the line.
+#[tactic(auto, using(cfg_ast::proofs::Places::first_next, cfg_ast::proofs::Places::first_here, cfg_ast::proofs::Places::first_end))]
+pub(crate) fn odd_from(bytes: &[u8], from: usize, upto: usize) -> usize
+    requires front { from ≤ upto }
+    requires end { upto ≤ length bytes.now }
+    ensures { result ≡ odd_from bytes.now from upto }
+{
+    let mut i = from;
+    while i < upto && is_plain(bytes[i]) {
+        i += 1;
+    }
+    i
+}
