@@ -1,5 +1,5 @@
 -- Partitions of the routers of a graph, each given as the list of the routers' groups.
-use Rattle.std.specs.Prelude.{◌≡◌, ◌≢◌, ℕ, ◌<◌, ◌≤◌, List, length, slice_index, All, Any, Contains, ◌==◌, filter}
+use Rattle.std.specs.Prelude.{◌≡◌, ◌≢◌, ℕ, ◌<◌, List, length, slice_index, All, Any, Contains, ◌==◌, filter}
 use Rattle.std.specs.List.{range_with_len}
 use Rattle.base_kit.specs.declared.act_graph.Edge.{Edge}
 use Rattle.base_kit.specs.declared.act_graph.ActGraph.{ActGraph}

@@ -16,6 +16,8 @@ mod numbers;
 mod prefix;
 mod protocol;
 mod steps;
+#[cfg(test)]
+mod tests;
 mod text;
 
 pub use act_graph::{ActGraph, Edge};
