@@ -1,8 +1,8 @@
 -- Interfaces and links: what is up, subnets (RFC 4632 section 3.1), BGP sessions (RFC 4271 section 3),
 -- OSPF adjacencies in one area (RFC 2328 sections 1.1 and 9), and the costs of interfaces (RFC 2328 section C.3).
-use Rattle.std.specs.Prelude.{ℕ, ◌-◌, ◌*◌, ◌/◌, ◌^◌, Bool, true, false, not, ◌&&◌, List, [], ◌∷◌, ◌++◌, Option, Some, None, map, filter, filter_map, flat_map, find, take_while, nat_eq, nat_lt, bytes_eq, bit_or, is_some, slice_get, codes, if◌then◌else◌, option_and_then}
+use Rattle.std.specs.Prelude.{ℕ, ◌-◌, ◌*◌, ◌/◌, ◌^◌, Bool, false, not, ◌&&◌, List, [], ◌∷◌, ◌++◌, Option, Some, None, map, filter, filter_map, flat_map, find, nat_eq, nat_lt, bytes_eq, bit_or, is_some, slice_get, codes, if◌then◌else◌, option_and_then}
 use Rattle.std.specs.Option.{option_map, option_map_or}
-use Rattle.std.specs.List.{list_any, enumerate_from}
+use Rattle.std.specs.List.{list_any, enumerate_from, before_first}
 use Rattle.base_kit.specs.Numbers.{is_digit}
 use Rattle.base_kit.specs.Prefixes.{Prefix}
 use Rattle.cfg_ast.specs.Addresses.{Address}
@@ -55,32 +55,33 @@ abbrev pub names : List (List ℕ) → List ℕ → Bool
 names all name = list_any (λ other. bytes_eq other name) all
 
 -- an interface is passive by name, or by default and not excepted by name
-abbrev pub is_passive_in : Option OspfProcess → Interface → Bool
-is_passive_in None x = false
-is_passive_in (Some process) x = if process.passive_default then not (names process.not_passive x.name) else names process.passive x.name
+abbrev pub is_passive_name : OspfProcess → List ℕ → Bool
+is_passive_name process name = if process.passive_default then not (names process.not_passive name) else names process.passive name
+
+abbrev pub is_passive_in : Option OspfProcess → List ℕ → Bool
+is_passive_in None name = false
+is_passive_in (Some process) name = is_passive_name process name
 
 -- an interface is active if it is in the area and not passive
 abbrev pub is_active_interface : Router → Interface → Bool
-is_active_interface router x = is_in_area_interface router x && not (is_passive_in router.ospf x)
+is_active_interface router x = is_in_area_interface router x && not (is_passive_in router.ospf x.name)
 
 -- the type of an interface is its name up to its first digit
 abbrev pub type_of : Interface → List ℕ
-type_of x = take_while (λ b. not (is_digit b)) x.name
+type_of x = before_first is_digit x.name
 
-pub record TypeCost : Type 0 where
-  pub name : List ℕ
-  pub cost : ℕ
-
--- the costs of the types that have a default
-unfoldable pub default_costs : List TypeCost
+-- the types that have a default cost
+unfoldable pub default_costs : List (List ℕ × ℕ)
 default_costs =
-    record { name = codes "Loopback"; cost = 1 } ∷ record { name = codes "FastEthernet"; cost = 1 } ∷ record { name = codes "GigabitEthernet"; cost = 1 }
-    ∷ record { name = codes "TenGigabitEthernet"; cost = 1 } ∷ record { name = codes "Vlan"; cost = 1 } ∷ record { name = codes "Ethernet"; cost = 10 }
-    ∷ record { name = codes "Serial"; cost = 64 } ∷ []
+    (codes "Loopback", 1) ∷ (codes "FastEthernet", 1) ∷ (codes "GigabitEthernet", 1) ∷ (codes "TenGigabitEthernet", 1) ∷ (codes "Vlan", 1)
+    ∷ (codes "Ethernet", 10) ∷ (codes "Serial", 64) ∷ []
+
+abbrev pub is_row_of : List ℕ → List ℕ × ℕ → Bool
+is_row_of name row = bytes_eq row.0 name
 
 -- the default cost of a type, if it has one
-unfoldable pub default_cost_of : List ℕ → Option ℕ
-default_cost_of name = option_map (λ (row : TypeCost). row.cost) (find (λ (row : TypeCost). bytes_eq row.name name) default_costs)
+abbrev pub default_cost_of : List ℕ → Option ℕ
+default_cost_of name = option_map (λ (row : List ℕ × ℕ). row.1) (find (is_row_of name) default_costs)
 
 -- the cost that is given, else the default cost of the type
 abbrev pub cost_of_interface : Interface → Option ℕ

@@ -12,6 +12,7 @@ mod heads;
 mod interface;
 mod items;
 mod line;
+mod lookups;
 mod network;
 mod ospf;
 mod policy;
@@ -24,6 +25,7 @@ pub use heads::{HeadClass, HeadWord, PolicyForm, RouterForm};
 pub use interface::{Address, Interface};
 pub use items::{PolicyItem, PolicyScope, RouterItem, Scope};
 pub use line::{Line, Span};
+pub use lookups::{active, in_area, ospf_cost, subnet, up};
 pub use network::{Named, Network, Notes, Router};
 pub use ospf::{AreaLine, OspfProcess};
 pub use policy::{
