@@ -4,7 +4,7 @@ use std::marker::Model;
 
 /// A set of addresses by its first one and the number of leading bits that all of them share
 /// (RFC 4632 section 3.1), as `10.0.0.0/8`. The length is at most 32.
-#[derive(Clone, Copy, Debug, PartialEq, Eq)]
+#[derive(Clone, Copy, Debug, PartialEq, Eq, PartialOrd, Ord)]
 pub struct Prefix {
     addr: u32,
     len: u8,
