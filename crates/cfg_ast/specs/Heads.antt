@@ -6,8 +6,6 @@ use Rattle.cfg_ast.specs.declared.items.Scope.{Scope}
 use Rattle.cfg_ast.specs.declared.items.Scope.TheVariants as scope
 use Rattle.cfg_ast.specs.declared.items.PolicyScope.{PolicyScope}
 use Rattle.cfg_ast.specs.declared.items.PolicyScope.TheVariants as policy_scope
-use Rattle.cfg_ast.specs.declared.heads.HeadWord.{HeadWord}
-use Rattle.cfg_ast.specs.declared.heads.HeadWord.TheVariants.{Word, Any, Number}
 use Rattle.cfg_ast.specs.declared.heads.HeadClass.{HeadClass}
 use Rattle.cfg_ast.specs.declared.heads.HeadClass.TheVariants.{Router, Policy, Refused, Ignored}
 use Rattle.cfg_ast.specs.declared.heads.RouterForm.TheVariants as router_form
@@ -16,33 +14,24 @@ use Rattle.cfg_ast.specs.Words.{number_between}
 
 -- a row of a table: the words of a head, and what the lines are that it begins
 pub record Row : Type 0 where
-  pub words : List (HeadWord (List ℕ))
+  pub words : List (List ℕ)
   pub class : HeadClass
 
--- in a head, A stands for any word
-abbrev pub head_word : List ℕ → HeadWord (List ℕ)
-head_word word = if bytes_eq word (codes "A") then Any else Word word
-
 -- a head written as one text
-abbrev pub head_words : List ℕ → List (HeadWord (List ℕ))
-head_words text = map head_word (slice_split (λ b. b == 32) text)
-
 abbrev pub row : HeadClass → List ℕ → Row
-row class text = record { words = head_words text; class = class }
-
--- a head that ends in a number of a range
-abbrev pub numbered_row : HeadClass → List ℕ → ℕ → ℕ → Row
-numbered_row class text low high = record { words = head_words text ++ Number low high ∷ []; class = class }
+row class text = record { words = slice_split (λ b. b == 32) text; class = class }
 
 -- ---- which head decides
 
-abbrev pub is_word_for : HeadWord (List ℕ) → List ℕ → Bool
-is_word_for (Word text) word = bytes_eq text word
-is_word_for Any word = true
-is_word_for (Number low high) word = is_some (number_between low high word)
+-- in a head, `A` stands for any word, and `100-500` for a number from 100 to 500
+abbrev pub is_word_for : List ℕ → List ℕ → Bool
+is_word_for head_word word =
+    if bytes_eq head_word (codes "A") then true
+    else (if bytes_eq head_word (codes "100-500") then is_some (number_between 100 500 word)
+    else bytes_eq head_word word)
 
 -- the head stands at the front of the line
-abbrev pub begins : List (HeadWord (List ℕ)) → List (List ℕ) → Bool
+abbrev pub begins : List (List ℕ) → List (List ℕ) → Bool
 begins [] words = true
 begins (h ∷ head) [] = false
 begins (h ∷ head) (word ∷ words) = is_word_for h word && begins head words
@@ -80,9 +69,9 @@ known_at_top =
     ∷ []
 
 unfoldable pub refused_at_top : List Row
-refused_at_top = numbered_row Refused (codes "ip community-list") 100 500 ∷ map (row Refused) (
+refused_at_top = map (row Refused) (
     codes "ip route" ∷ codes "ip vrf" ∷ codes "vrf" ∷ codes "ip as-path" ∷ codes "ip community-list expanded"
-    ∷ codes "ip extcommunity-list" ∷ codes "ip policy-list" ∷ codes "ip default-network" ∷ codes "no ip routing"
+    ∷ codes "ip community-list 100-500" ∷ codes "ip extcommunity-list" ∷ codes "ip policy-list" ∷ codes "ip default-network" ∷ codes "no ip routing"
     ∷ codes "router" ∷ codes "ipv6" ∷ codes "banner" ∷ codes "mpls" ∷ [])
 
 -- lines about IP services

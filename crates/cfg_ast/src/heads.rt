@@ -1,11 +1,3 @@
-/// A word of a head: a word of the line itself, any word, or a number of a range, both ends included.
-#[derive(Clone, Copy, Debug, PartialEq, Eq)]
-pub enum HeadWord<W> {
-    Word(W),
-    Any,
-    Number(u32, u32),
-}
-
 /// What a line is whose head is in a table.
 #[derive(Clone, Copy, Debug, PartialEq, Eq)]
 pub enum HeadClass {

@@ -21,7 +21,7 @@ mod topology;
 
 pub use bgp::{Base, BgpProcess, Neighbor, NetLine};
 pub use classes::{DestClass, Origin};
-pub use heads::{HeadClass, HeadWord, PolicyForm, RouterForm};
+pub use heads::{HeadClass, PolicyForm, RouterForm};
 pub use interface::{Address, Interface};
 pub use items::{PolicyItem, PolicyScope, RouterItem, Scope};
 pub use line::{Line, Span};
