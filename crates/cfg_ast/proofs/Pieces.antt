@@ -1,6 +1,6 @@
 -- The lines of a text, taken from the front.
-use Rattle.std.proofs.Common.{◌≡◌, ℕ, zero, suc, ◌+◌, ◌-◌, ◌<◌, ◌≤◌, Bool, true, false, not, ◌&&◌, ◌||◌, cond, List, [], ◌∷◌, ◌++◌, map, length, refl, sym, ap, ◌∙◌, arith, inl, inr, ◌⊎◌, Option, Some, None, Result, Ok, Err, eq-eqb, append_assoc}
-use Rattle.std.specs.List.{range_with_len, enumerate_from, filter, filter_map}
+use Rattle.std.proofs.Common.{◌≡◌, ℕ, ◌+◌, ◌-◌, ◌<◌, ◌≤◌, Bool, true, false, cond, List, [], ◌∷◌, ◌++◌, map, length, refl, sym, ap, ◌∙◌, arith, inl, inr, Some, None, Result, Ok, Err, append_assoc}
+use Rattle.std.specs.List.{range_with_len, enumerate_from, filter}
 use Rattle.std.proofs.lemmas.List.Elements.{filter-append}
 use Rattle.std.proofs.lemmas.Bool.{ne_eqb, cases_lt}
 use Rattle.std.proofs.lemmas.List.{append-nil}
@@ -9,8 +9,8 @@ use Rattle.cfg_ast.specs.declared.line.Line.{Line}
 use Rattle.cfg_ast.specs.declared.refusal.Kind.{Kind}
 use Rattle.cfg_ast.specs.declared.refusal.ReadRefusal.{ReadRefusal}
 use Rattle.cfg_ast.specs.declared.refusal.ReadRefusal.TheVariants.{At}
-use Rattle.cfg_ast.specs.Lines.{first_at, newline_at, begins_line, newline_from, Piece, piece_at, pieces_from, line_of, is_kept, are_kept, kind_at, line_faults, lines_in, words_between, indent_between, without_return, unless_refused}
-use Rattle.cfg_ast.proofs.Places.{range_step, range_end, first_here, first_next, first_from, first_below, first_fails, first_passes}
+use Rattle.cfg_ast.specs.Lines.{newline_at, begins_line, newline_from, Piece, piece_at, pieces_from, line_of, is_kept, are_kept, kind_at, line_faults, lines_in, words_between, indent_between, without_return, unless_refused}
+use Rattle.cfg_ast.proofs.Places.{range_step, range_end, first_from, first_below, first_fails, first_passes}
 use Rattle.cfg_ast.proofs.WordRuns.{filter_none, range_split}
 
 -- no line begins behind this one's front, up to its newline
@@ -126,6 +126,7 @@ line_read bs n from end upto dent ws found found' all cut dented grown given = b
   where
     longer : List Line
     longer = found ++ record { number = n; indent = dent; words = ws } ∷ []
+
     by : (b : Bool) → are_kept bs ws ≡ b → with_front found' (lines_in bs (pieces_from bs (n + 1) (end + 1))) ≡ all
     by true keep = line_taken bs n from end upto dent ws found found' all cut keep dented (grown ∙ ap (λ b. cond b longer found) keep) given
     by false skip = rw (grown ∙ ap (λ b. cond b longer found) skip) (line_passed bs n from end upto ws found all cut skip given)

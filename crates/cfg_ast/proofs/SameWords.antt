@@ -1,14 +1,13 @@
 -- The words by their places are the parts between blanks.
-use Rattle.std.proofs.Common.{◌≡◌, ℕ, zero, suc, ◌+◌, ◌-◌, ◌<◌, ◌≤◌, Bool, true, false, not, ◌&&◌, ◌||◌, cond, List, [], ◌∷◌, ◌++◌, map, filter, length, get_or, take, drop, All, refl, sym, ap, ◌∙◌, arith, inl, inr, ◌⊎◌}
-use Rattle.std.specs.List.{slice_range, slice_split, position_or_len}
+use Rattle.std.proofs.Common.{◌≡◌, ℕ, zero, suc, ◌+◌, ◌-◌, ◌<◌, ◌≤◌, true, false, List, [], ◌∷◌, ◌++◌, filter, length, get_or, take, drop, All, refl, sym, ap, ◌∙◌, arith, inl, inr}
+use Rattle.std.specs.List.{slice_range, slice_split}
 use Rattle.std.proofs.lemmas.List.Elements.{All-cons}
-use Rattle.std.proofs.lemmas.List.{append-nil, drop_more, drop_all, length-drop, length-take, get_or-drop, get_or-take}
+use Rattle.std.proofs.lemmas.List.{append-nil, drop_more}
 use Rattle.std.proofs.lemmas.List.Splits.{slice_split_at, slice_split_none}
 use Rattle.std.proofs.lemmas.Bool.{cases_lt, cases_Bool}
-use Rattle.cfg_ast.specs.declared.line.Span.{Span}
-use Rattle.cfg_ast.specs.Lines.{first_at, is_blank, blank_at, word_end, word_at, words_between}
-use Rattle.cfg_ast.specs.Lines.{text_of, texts, is_some_word, words_of}
-use Rattle.cfg_ast.proofs.Places.{first_next, first_from, first_below, first_fails, first_passes}
+use Rattle.cfg_ast.specs.Lines.{is_blank, blank_at, word_end, words_between}
+use Rattle.cfg_ast.specs.Lines.{texts, is_some_word, words_of}
+use Rattle.cfg_ast.proofs.Places.{first_below, first_fails, first_passes}
 use Rattle.cfg_ast.proofs.WordRuns.{words_blank, words_word, words_end, word_past}
 
 -- a range, its first byte and the rest

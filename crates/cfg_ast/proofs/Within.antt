@@ -1,7 +1,6 @@
 -- What the definition of the lines gives lies in the text.
-use Rattle.std.proofs.Common.{◌≡◌, ℕ, zero, suc, ◌+◌, ◌-◌, ◌<◌, ◌≤◌, Bool, true, false, not, List, [], ◌∷◌, map, filter, length, get_or, All, refl, sym, ap, ◌∙◌, arith, Option, Some, None, Result, Ok, Err, slice_index}
-use Rattle.std.specs.List.{range_with_len, enumerate_from, AllByRecursion, filter_map}
-use Rattle.std.specs.Str.{IsAscii}
+use Rattle.std.proofs.Common.{◌≡◌, ℕ, ◌+◌, ◌-◌, ◌<◌, ◌≤◌, false, not, List, [], ◌∷◌, map, filter, length, get_or, All, refl, arith, Option, Some, None, Ok, slice_index}
+use Rattle.std.specs.List.{range_with_len, enumerate_from}
 use Rattle.std.proofs.lemmas.Bool.Decides.{nat_tests}
 use Rattle.std.proofs.lemmas.List.Elements.{All-map, All-filter, All-cons, All-head, All-tail, recursion_from_All}
 use Rattle.std.proofs.lemmas.List.FromFn.{length-range_with_len, get_or-range_with_len}
@@ -10,14 +9,14 @@ use Rattle.cfg_ast.specs.declared.line.Span.{Span}
 use Rattle.cfg_ast.specs.declared.line.Line.{Line}
 use Rattle.cfg_ast.specs.declared.refusal.Kind.{Kind}
 use Rattle.cfg_ast.specs.declared.refusal.ReadRefusal.{ReadRefusal}
-use Rattle.cfg_ast.specs.Lines.{Piece, first_at, is_plain, blank_at, newline_at, newline_from, without_return, piece_at, pieces_from, begins_line, begins_word, word_at, words_between, line_of, is_kept, kind_at, odd_from, line_faults, unless_refused, lines_in, lines_of, text_of, IsWordIn, IsLineIn}
+use Rattle.cfg_ast.specs.Lines.{Piece, is_plain, blank_at, newline_at, newline_from, piece_at, pieces_from, begins_line, begins_word, word_at, words_between, line_of, is_kept, kind_at, odd_from, line_faults, unless_refused, lines_in, lines_of, text_of, IsWordIn, IsLineIn}
 use Rattle.cfg_ast.proofs.Places.{first_from, first_below, first_fails}
 use Rattle.cfg_ast.proofs.SameWords.{range_all}
 
 in_range : (a n : ℕ) → All (λ i. (a ≤ i) × (i < a + n)) (range_with_len a n)
 in_range a n = λ k d lt.
-  let here : get_or (range_with_len a n) k d ≡ a + k = get_or-range_with_len a n k d (omega (arith, length-range_with_len a n)) in
-  (omega arith, omega (arith, length-range_with_len a n))
+    let here : get_or (range_with_len a n) k d ≡ a + k = get_or-range_with_len a n k d (omega (arith, length-range_with_len a n)) in
+    (omega arith, omega (arith, length-range_with_len a n))
 
 abbrev IsBetween : ℕ → ℕ → Span → Type 0
 IsBetween from upto w = (from ≤ w.from) × (w.from ≤ w.upto) × (w.upto ≤ upto)
@@ -27,9 +26,9 @@ unfolding words_between
 words_lie bs from upto le =
     let places = All-filter (begins_word bs from) (λ i. (from ≤ i) × (i < from + (upto - from))) (range_with_len from (upto - from)) (in_range from (upto - from)) in
     All-map (IsBetween from upto) (word_at bs upto) (filter (begins_word bs from) (range_with_len from (upto - from))) (λ k d lt.
-      let i = get_or (filter (begins_word bs from) (range_with_len from (upto - from))) k d in
-      let there = places k d lt in
-      (there.0, first_from (blank_at bs) i upto, first_below (blank_at bs) i upto (omega (arith, there.1))))
+    let i = get_or (filter (begins_word bs from) (range_with_len from (upto - from))) k d in
+    let there = places k d lt in
+    (there.0, first_from (blank_at bs) i upto, first_below (blank_at bs) i upto (omega (arith, there.1))))
 
 small : (b : ℕ) → not (is_plain b) ≡ false → b < 128
 small b plain = grind (arith, nat_tests)
@@ -37,7 +36,7 @@ small b plain = grind (arith, nat_tests)
 word_in : (bs : List ℕ) (from upto : ℕ) (w : Span) → from ≤ upto → upto ≤ length bs → upto ≤ odd_from bs from upto → IsBetween from upto w → IsWordIn bs w
 word_in bs from upto w le short plain lies =
     let each : All (λ b. b < 128) (text_of bs w) = range_all (w.upto - w.from) (λ b. b < 128) bs w.from w.upto (omega (arith, lies.1)) (omega (arith, lies.2)) (λ k l m.
-      small (get_or bs k 0) (first_fails (λ i. not (is_plain (slice_index bs i))) from upto k le (omega (arith, lies.0)) (omega (arith, lies.2)))) in
+    small (get_or bs k 0) (first_fails (λ i. not (is_plain (slice_index bs i))) from upto k le (omega (arith, lies.0)) (omega (arith, lies.2)))) in
     (lies.1, omega (arith, lies.2), IsAscii-from_all (text_of bs w) each)
 
 -- ---- lines

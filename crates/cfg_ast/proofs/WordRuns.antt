@@ -1,10 +1,10 @@
 -- The words between two places, taken from the front.
-use Rattle.std.proofs.Common.{◌≡◌, ℕ, zero, suc, ◌+◌, ◌-◌, ◌<◌, ◌≤◌, Bool, true, false, not, ◌&&◌, ◌||◌, cond, List, [], ◌∷◌, ◌++◌, map, filter, refl, sym, ap, ◌∙◌, arith, inl, inr, ◌⊎◌, nat_eq, eq-eqb}
+use Rattle.std.proofs.Common.{◌≡◌, ℕ, zero, suc, ◌+◌, ◌-◌, ◌<◌, ◌≤◌, Bool, true, false, List, [], ◌∷◌, ◌++◌, map, filter, refl, ap, ◌∙◌, arith, inl, inr, eq-eqb}
 use Rattle.std.specs.List.{range_with_len}
 use Rattle.std.proofs.lemmas.List.Elements.{filter-append}
 use Rattle.std.proofs.lemmas.Bool.{ne_eqb, cases_lt}
-use Rattle.cfg_ast.specs.Lines.{first_at, blank_at, begins_word, word_at, word_end, words_between}
-use Rattle.cfg_ast.proofs.Places.{range_step, range_end, first_here, first_next, first_from, first_below, first_fails, first_passes}
+use Rattle.cfg_ast.specs.Lines.{blank_at, begins_word, word_at, word_end, words_between}
+use Rattle.cfg_ast.proofs.Places.{range_step, range_end, first_next, first_from, first_below, first_fails, first_passes}
 
 pub filter_same : (p q : ℕ → Bool) (a n : ℕ) → ((k : ℕ) → a ≤ k → k < a + n → p k ≡ q k) → filter p (range_with_len a n) ≡ filter q (range_with_len a n)
 filter_same p q a zero same = refl

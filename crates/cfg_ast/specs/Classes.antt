@@ -3,7 +3,7 @@
 -- In BGP a router originates what a `network` line names and an up interface has (RFC 4271 section
 -- 9.4); in OSPF the subnets of its up interfaces in the area (RFC 2328 section 12.4.1).
 use Rattle.std.specs.Prelude.{◌≡◌, ℕ, Bool, true, false, not, ◌&&◌, List, [], ◌∷◌, Option, Some, None, map, filter, filter_map, flat_map, find, nat_eq, nat_lt, is_some, if◌then◌else◌}
-use Rattle.std.specs.Option.{option_map, option_map_or, option_and_then, option_eq}
+use Rattle.std.specs.Option.{option_map, option_map_or, option_eq}
 use Rattle.std.specs.List.{enumerate_from, list_any}
 use Rattle.std.specs.Bool.{beq}
 use Rattle.base_kit.specs.Prefixes.{Prefix}

@@ -5,8 +5,10 @@ pub mod FormSteps
 pub mod Heads
 pub mod Lines
 pub mod Lists
+pub mod Meaning
 pub mod PolicyForms
 pub mod PrefixLists
+pub mod RouterFaults
 pub mod RouterForms
 pub mod TextLines
 pub mod Topology

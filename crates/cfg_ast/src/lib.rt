@@ -32,5 +32,5 @@ pub use policy::{
     Change, CommunityLine, CommunityList, MapEntry, NameLine, PrefixEntry, PrefixList, Prepend,
     RouteMap,
 };
-pub use refusal::{FormFault, Kind, ReadRefusal};
+pub use refusal::{Fault, FormFault, Kind, ReadRefusal};
 pub use topology::{Link, Unmatched};
