@@ -1,0 +1,7 @@
+pub mod Calls
+pub mod Ends
+pub mod Files
+pub mod SinkState
+pub mod SinkStates
+pub mod SourceState
+pub mod SourceStates

@@ -1,0 +1,26 @@
+//! The outside as a program sees it: named files that are read, and places that take bytes.
+//!
+//! A `Source` tells what its files hold, and a `Sink` what it took, as far as they can tell it; both
+//! count their faults, and a call fails only where the count rose. `read_all` gives the whole content
+//! of a name, or says that it is longer than the limit; `put_all` leaves a first part of the bytes,
+//! and all of them where it answers Ok. Over memory the contents are told, and a call fails exactly
+//! where it was told to: that is for tests, and for callers that need an outside that cannot fail.
+#![tactic(auto)]
+
+mod ends;
+mod files;
+mod mem_sink;
+mod mem_source;
+mod sure_sink;
+mod sure_source;
+#[cfg(test)]
+mod tests;
+mod whole;
+
+pub use ends::{Failed, Sink, Source};
+pub use files::MemFile;
+pub use mem_sink::MemSink;
+pub use mem_source::MemSource;
+pub use sure_sink::SureSink;
+pub use sure_source::SureSource;
+pub use whole::{InFault, put_all, read_all};
