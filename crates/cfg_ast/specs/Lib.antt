@@ -8,8 +8,10 @@ pub mod Lists
 pub mod Meaning
 pub mod PolicyForms
 pub mod PrefixLists
+pub mod Reading
 pub mod RouterFaults
 pub mod RouterForms
+pub mod Stanzas
 pub mod TextLines
 pub mod Topology
 pub mod Words
