@@ -1,0 +1,9 @@
+pub mod DifferLemmas
+pub mod IteLemmas
+pub mod MemoryLemmas
+pub mod NodeLemmas
+pub mod SetLemmas
+pub mod ShownLemmas
+pub mod StoreLemmas
+pub mod TableLemmas
+pub mod ValueLemmas

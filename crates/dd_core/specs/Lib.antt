@@ -1,0 +1,4 @@
+pub mod Remembering
+pub mod Sets
+pub mod Store
+pub mod Value

@@ -1,0 +1,20 @@
+//! Reduced ordered decision diagrams over sets of communities, in one shared store.
+//!
+//! A node of a store has a value on every set of communities: the variables are the communities of
+//! the store's universe, in their order, and last `others`, which is true where the set has a
+//! community outside the universe. Equal numbers are equal functions, and different numbers differ
+//! on some set that a proof can name: `is_same` carries both. Old numbers keep their meaning while
+//! the store grows, also where memory runs out. `ite`, and `not`, `and` and `or`, which are that
+//! `ite`, ask first what the store remembers and remember their answer last; a remembered operation
+//! is answered as it was, and adds no node.
+#![tactic(auto)]
+
+mod build;
+mod ite;
+mod node_id;
+mod store;
+mod table;
+mod variables;
+
+pub use node_id::NodeId;
+pub use store::{Store, is_same};

@@ -1,0 +1,37 @@
+ghost use Rattle.std.specs.Prelude.{◌≡◌, ◌<◌, length, slice_index, true};
+ghost use Rattle.base_kit.specs.Sets.{has};
+ghost use Rattle.dd_core.specs.Sets.{has_others, test_of};
+
+use base_kit::NumSet;
+
+/// The place of a community in the universe.
+pub fn place_of(universe: &NumSet, community: u32) -> usize
+    requires { has universe.now community ≡ true }
+    ensures inside { result < length universe.now }
+    ensures there { slice_index universe.now result ≡ community }
+{
+    for (place, c) in universe.as_slice().iter().enumerate() {
+        if *c == community {
+            return place;
+        }
+    }
+    unreachable!()
+}
+
+/// Whether the set has a community outside the universe.
+fn any_outside(universe: &NumSet, set: &NumSet) -> bool
+    ensures { result ≡ has_others universe.now set.now }
+{
+    set.as_slice().iter().any(|c| !universe.has(*c))
+}
+
+/// Whether the variable is true on the set.
+pub fn is_true(universe: &NumSet, set: &NumSet, variable: usize) -> bool
+    ensures { result ≡ test_of universe.now set.now variable }
+{
+    if variable < universe.as_slice().len() {
+        set.has(universe.as_slice()[variable])
+    } else {
+        any_outside(universe, set)
+    }
+}
