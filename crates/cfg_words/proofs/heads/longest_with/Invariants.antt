@@ -1,0 +1,9 @@
+use Rattle.std.proofs.Common.{◌≡◌, drop}
+use Rattle.std.specs.Option.{option_map}
+use Rattle.cfg_ast.specs.Heads.{longest, longer}
+use Rattle.cfg_ast.specs.Lines.{texts}
+use Rattle.cfg_words.specs.Rows.{row_of, rows_of}
+use Rattle.cfg_words.proofs.heads.longest_with.Given as goal
+
+abbrev pub invariant-loop-row : goal.invariant-loop-row
+invariant-loop-row l = longer (option_map row_of l.best) (longest (rows_of (drop l.row-index l.rows)) (texts l.bytes l.words)) ≡ longer (option_map row_of l.initial.best) (longest (rows_of l.rows) (texts l.bytes l.words))

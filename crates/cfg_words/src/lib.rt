@@ -1,0 +1,18 @@
+//! The words of a line, and the head that decides it.
+//!
+//! A head is the words that a line begins with. `router_class` and `policy_class` find the longest head
+//! in the tables of a scope that begins the line, and answer what the definitions say of it: its form,
+//! or that it is refused or ignored. The tables are constants, each equal to the table of the
+//! definitions. The other calls read single words, exactly by their definitions.
+#![tactic(auto)]
+
+mod heads;
+mod names;
+mod numbers;
+mod tables;
+mod words;
+
+pub use heads::{policy_class, router_class};
+pub use names::{list_name, named};
+pub use numbers::{read_as_number, read_between};
+pub use words::{copy_of, text};

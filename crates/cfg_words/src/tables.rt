@@ -1,0 +1,5 @@
+pub(crate) mod bgp;
+pub(crate) mod entry;
+pub(crate) mod interface;
+pub(crate) mod ospf;
+pub(crate) mod top;
