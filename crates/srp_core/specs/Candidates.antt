@@ -1,10 +1,11 @@
 -- The candidates of a router as a list: its initial route, then one for each edge that gives it a route.
-use Rattle.std.specs.Prelude.{ℕ, ◌+◌, List, [], ◌∷◌, ◌++◌, Option, Some, None, nat_eq, option_and_then, if◌then◌else◌}
+use Rattle.std.specs.Prelude.{◌≡◌, ◌≢◌, Contains, ℕ, ◌+◌, List, [], ◌∷◌, ◌++◌, Option, Some, None, nat_eq, option_and_then, if◌then◌else◌}
+use Rattle.std.specs.declared.cmp.Ordering.TheVariants.{Less}
 use Rattle.base_kit.specs.declared.act_graph.Edge.{Edge}
 use Rattle.srp_core.specs.declared.route.Route.{Route}
 use Rattle.srp_core.specs.declared.route.Candidate.{Candidate}
-use Rattle.srp_core.specs.Routes.{path_of, is_on}
-use Rattle.srp_core.specs.Problem.{Problem, number, initial, step}
+use Rattle.srp_core.specs.Routes.{path_of, is_on, compare_keys}
+use Rattle.srp_core.specs.Problem.{Problem, number, initial, step, key_of}
 use Rattle.srp_core.specs.Stability.{label}
 
 -- the route, unless the router's own number is on its path
@@ -28,3 +29,9 @@ over_edges problem labels router place (edge ∷ edges) = (if nat_eq edge.import
 -- all candidates of the router
 unfoldable pub candidates : Problem → List (Option Route) → ℕ → List Candidate
 candidates problem labels router = listed None (initial problem router) ++ over_edges problem labels router 0 problem.edges
+
+-- the router has no candidate and no label, or holds one of its candidates, and none beats it
+pub record IsSettled (problem : Problem) (labels : List (Option Route)) (router : ℕ) : Type 0 where
+  pub none : label labels router ≡ None → candidates problem labels router ≡ []
+  pub held : (r : Route) → label labels router ≡ Some r → (k : Candidate) × Contains (candidates problem labels router) k × (k.route ≡ r)
+  pub best : (r : Route) (k : Candidate) → label labels router ≡ Some r → Contains (candidates problem labels router) k → compare_keys (key_of problem k.route) (key_of problem r) ≢ Less

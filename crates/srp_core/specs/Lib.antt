@@ -1,6 +1,9 @@
 pub mod Acts
 pub mod Candidates
 pub mod Labels
+pub mod Laws
+pub mod Lifts
+pub mod LoneOrder
 pub mod Problem
 pub mod Quotient
 pub mod Routes

@@ -8,6 +8,7 @@
 #![tactic(auto)]
 
 mod labels;
+pub mod laws;
 mod route;
 mod srp;
 
