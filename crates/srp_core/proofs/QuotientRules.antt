@@ -88,6 +88,7 @@ module _ (S : Problem) (good : IsProblem S) (groups : List ℕ) (adm : IsAdmissi
     acts_differ = subst (λ (l : List Act). (i j : ℕ) → i < length l → j < length l → ActsAlike (slice_index_or l i (Cost 0)) (slice_index_or l j (Cost 0)) → i ≡ j) (sym made.acts) good.acts_differ;
     routes = λ g r e. (let m = from_member g r e in subst (λ p. IsRouteOf p r) q.protocol (good.routes m.0 r m.3));
     starts = λ g r e. (let m = from_member g r e in good.starts m.0 r m.3);
+    bare = λ g r e. (let m = from_member g r e in good.bare m.0 r m.3);
     unoriginated = λ p e i. (let d = q.down e i in ap (initial Q) (sym d.2.importer) ∙ q.origins d.0.importer (good.edges d.0 d.1).importer_in ∙ good.unoriginated (from_bgp p) d.0 d.1);
     numbered = λ p g r e. has_number p g (initial_in g r e) (originates r e);
     importers = λ p e i. has_number p e.importer (made.edges e i).importer_in (imports e i refl);

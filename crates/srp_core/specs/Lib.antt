@@ -8,3 +8,4 @@ pub mod Problem
 pub mod Quotient
 pub mod Routes
 pub mod Stability
+pub mod Starts

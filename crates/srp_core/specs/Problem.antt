@@ -9,7 +9,7 @@ use Rattle.route_maps.specs.declared.plain.Imported.{Imported}
 use Rattle.srp_core.specs.declared.route.Route.{Route}
 use Rattle.srp_core.specs.declared.route.Act.{Act}
 use Rattle.srp_core.specs.declared.route.Act.TheVariants.{Cost}
-use Rattle.srp_core.specs.Routes.{path_of, IsRouteOf, Key, key_by}
+use Rattle.srp_core.specs.Routes.{path_of, comms_of, IsRouteOf, Key, key_by}
 use Rattle.srp_core.specs.Acts.{import_by, ActsAlike, KeepsSets, IsActOf, step_by}
 
 -- routers by place: their names, AS numbers (0 without BGP), initial routes and marks; and the edges,
@@ -112,6 +112,7 @@ pub record IsProblem (problem : Problem) : Type 0 where
   pub acts_differ : (i j : ℕ) → i < length problem.acts → j < length problem.acts → ActsAlike (slice_index_or problem.acts i (Cost 0)) (slice_index_or problem.acts j (Cost 0)) → i ≡ j
   pub routes : (u : ℕ) (r : Route) → initial problem u ≡ Some r → IsRouteOf problem.protocol r
   pub starts : (u : ℕ) (r : Route) → initial problem u ≡ Some r → path_of r ≡ []
+  pub bare : (u : ℕ) (r : Route) → initial problem u ≡ Some r → comms_of r ≡ []
   pub unoriginated : problem.protocol ≡ OverBgp → (edge : Edge) → Contains problem.edges edge → initial problem edge.importer ≡ None
   pub numbered : problem.protocol ≡ OverBgp → (u : ℕ) (r : Route) → initial problem u ≡ Some r → number problem u ≢ 0
   pub importers : problem.protocol ≡ OverBgp → (edge : Edge) → Contains problem.edges edge → number problem edge.importer ≢ 0

@@ -7,10 +7,12 @@
 //! Whoever needs one of these laws calls its function.
 #![tactic(auto)]
 
+mod graph;
 mod labels;
 pub mod laws;
 mod route;
 mod srp;
+mod starts;
 
 pub use labels::Labels;
 pub use route::{Act, Candidate, Route};

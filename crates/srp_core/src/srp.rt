@@ -63,6 +63,11 @@ impl Srp {
         }
     }
 
+    /// Where the problem's parts lie.
+    pub(crate) fn alloc(&self) -> Global {
+        self.alloc
+    }
+
     /// How many routers there are.
     pub fn count(&self) -> u32
         ensures count { result ≡ count self.now }

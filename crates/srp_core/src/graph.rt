@@ -1,0 +1,46 @@
+ghost use Rattle.std.specs.Prelude.{◌≡◌, ◌<◌, ◌↔◌, ◌^◌, ℕ, List, All, length, IfOk};
+ghost use Rattle.base_kit.specs.Partition as partition;
+ghost use Rattle.srp_core.specs.Problem.{count, IsProblem};
+ghost use Rattle.srp_core.specs.Quotient.{IsAdmissible, IsCoarsest};
+ghost use Rattle.srp_core.specs.Starts.{AreColors, IsGraphOf};
+
+use crate::srp::Srp;
+use crate::starts::{Start, Starts};
+use base_kit::{ActGraph, List, NoMemory};
+
+// One color for each router: the number of its start.
+fn colors(srp: &Srp) -> Result<Vec<u32>, NoMemory>
+    ensures { IfOk result (λ colors. AreColors srp.now colors.items) }
+{
+    let mut starts = Starts::new(srp.alloc());
+    let mut colors = Vec::new(srp.alloc());
+    for router in 0..srp.count() {
+        let start = Start::of(
+            srp.lone()[router as usize],
+            router,
+            &srp.init()[router as usize],
+        );
+        let color = starts.number(start)?;
+        colors.push(color as u32)?;
+    }
+    Ok(colors)
+}
+
+impl Srp {
+    /// The graph of the problem: lone routers have colors of their own, and the others equal colors
+    /// exactly where their initial routes are equal or both are none. Its edges are those of the
+    /// problem, in the same order. Its admissible partitions are those of the problem.
+    pub fn graph(&self) -> Result<ActGraph, NoMemory>
+        ensures graph { IfOk result (λ graph. IsGraphOf self.now graph) }
+        ensures admissible { IfOk result (λ graph. (groups : List ℕ) → IsAdmissible self.now groups ↔ partition.IsAdmissible graph groups) }
+        ensures coarsest { IfOk result (λ graph. (groups : List ℕ) → IsCoarsest self.now groups ↔ partition.IsCoarsest graph groups) }
+    {
+        let colors = colors(self)?;
+        let edges = Vec::from_slice(self.alloc(), self.edges())?;
+        Ok(ActGraph {
+            count: self.count(),
+            colors: List::from_vec(colors),
+            edges: List::from_vec(edges),
+        })
+    }
+}
