@@ -18,9 +18,9 @@ abbrev pub bad_unless : {X : Type 0} → Bool → Result X FormFault → Result 
 bad_unless fits r = if fits then r else Err BadForm
 
 -- the name of a list or a route map
-abbrev pub list_name_of : List ℕ → Result (List ℕ) FormFault
+unfoldable pub list_name_of : List ℕ → Result (List ℕ) FormFault
 list_name_of word = bad_unless (is_list_name word) (Ok word)
 
 -- the same with the number of its line
-abbrev pub named_of : ℕ → List ℕ → Result Named FormFault
+unfoldable pub named_of : ℕ → List ℕ → Result Named FormFault
 named_of line word = bad_unless (is_list_name word) (Ok (record { name = word; line = line }))

@@ -17,14 +17,14 @@ use Rattle.cfg_ast.specs.declared.heads.PolicyForm.{PolicyForm}
 use Rattle.cfg_ast.specs.declared.heads.PolicyForm.TheVariants as form
 use Rattle.cfg_ast.specs.declared.refusal.FormFault.{FormFault}
 use Rattle.cfg_ast.specs.declared.refusal.FormFault.TheVariants.{UnknownLine, Unsupported, BadForm, WellKnown}
-use Rattle.cfg_ast.specs.Words.{is_list_name, number_between, as_number_of, prefix_of, community_of, is_community, is_well_known, same_community}
+use Rattle.cfg_ast.specs.Words.{is_list_name, number_word, number_between, as_number_of, prefix_of, community_of, is_community, is_well_known, same_community}
 use Rattle.cfg_ast.specs.FormSteps.{◌>>=◌, or_bad, bad_unless, list_name_of, named_of}
 use Rattle.cfg_ast.specs.Heads.{class_in, policy_heads_of}
 
 -- ---- parts of forms
 
 -- `permit` is true, `deny` false
-abbrev pub is_permit : List ℕ → Option Bool
+unfoldable pub is_permit : List ℕ → Option Bool
 is_permit word = if bytes_eq word (codes "permit") then Some true else (if bytes_eq word (codes "deny") then Some false else None)
 
 -- no word is the same as a later one
@@ -144,7 +144,7 @@ match_comms_form line _ = Err BadForm
 -- set local-preference NUMBER
 unfoldable pub lp_form : List (List ℕ) → Result PolicyItem FormFault
 lp_form (_ ∷ _ ∷ number ∷ []) = do
-  n ← or_bad (number_of number)
+  n ← or_bad (number_word number)
   Ok (item.Lp n)
 lp_form _ = Err BadForm
 

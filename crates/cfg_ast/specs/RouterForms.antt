@@ -1,7 +1,6 @@
 -- What router lines say, form by form, as IOS writes them.
 use Rattle.std.specs.Prelude.{ℕ, Bool, true, false, ◌||◌, List, [], ◌∷◌, if◌then◌else◌, Option, Some, None, Result, Ok, Err, codes, bytes_eq}
 use Rattle.std.specs.Option.{option_or}
-use Rattle.base_kit.specs.Numbers.{number_of, address_of}
 use Rattle.cfg_ast.specs.declared.items.Scope.{Scope}
 use Rattle.cfg_ast.specs.declared.items.RouterItem.{RouterItem}
 use Rattle.cfg_ast.specs.declared.items.RouterItem.TheVariants as item
@@ -11,7 +10,7 @@ use Rattle.cfg_ast.specs.declared.heads.RouterForm.{RouterForm}
 use Rattle.cfg_ast.specs.declared.heads.RouterForm.TheVariants as form
 use Rattle.cfg_ast.specs.declared.refusal.FormFault.{FormFault}
 use Rattle.cfg_ast.specs.declared.refusal.FormFault.TheVariants.{UnknownLine, Unsupported, BadForm}
-use Rattle.cfg_ast.specs.Words.{is_router_name, is_interface_name, number_between, as_number_of, mask_len_of, classful_len_of, exact_prefix}
+use Rattle.cfg_ast.specs.Words.{is_router_name, is_interface_name, number_word, address_word, number_between, as_number_of, mask_len_of, classful_len_of, exact_prefix}
 use Rattle.cfg_ast.specs.FormSteps.{◌>>=◌, or_bad, bad_unless, named_of}
 use Rattle.cfg_ast.specs.Heads.{class_in, heads_of}
 
@@ -51,7 +50,7 @@ end_form _ = Err BadForm
 -- ip address ADDRESS MASK
 unfoldable pub ip_address_form : ℕ → List (List ℕ) → Result RouterItem FormFault
 ip_address_form line (_ ∷ _ ∷ address ∷ mask ∷ []) = do
-  addr ← or_bad (address_of address)
+  addr ← or_bad (address_word address)
   len ← or_bad (mask_len_of mask)
   Ok (item.IpAddress (record { addr = addr; len = len; line = line }))
 ip_address_form line _ = Err BadForm
@@ -73,12 +72,12 @@ shutdown_form _ = Err BadForm
 -- bgp default local-preference NUMBER
 unfoldable pub base_form : ℕ → List (List ℕ) → Result RouterItem FormFault
 base_form line (_ ∷ _ ∷ _ ∷ number ∷ []) = do
-  n ← or_bad (number_of number)
+  n ← or_bad (number_word number)
   Ok (item.Base (record { value = n; line = line }))
 base_form line _ = Err BadForm
 
 -- a network whose address has no bits behind its length
-abbrev pub net_line : ℕ → ℕ → ℕ → Result RouterItem FormFault
+unfoldable pub net_line : ℕ → ℕ → ℕ → Result RouterItem FormFault
 net_line line addr len = do
   prefix ← or_bad (exact_prefix addr len)
   Ok (item.Network (record { prefix = prefix; line = line }))
@@ -86,11 +85,11 @@ net_line line addr len = do
 -- network ADDRESS, of the length of its class, or network ADDRESS mask MASK
 unfoldable pub network_form : ℕ → List (List ℕ) → Result RouterItem FormFault
 network_form line (_ ∷ address ∷ []) = do
-  addr ← or_bad (address_of address)
+  addr ← or_bad (address_word address)
   len ← or_bad (classful_len_of addr)
   net_line line addr len
 network_form line (_ ∷ address ∷ word ∷ mask ∷ []) = bad_unless (bytes_eq word (codes "mask")) (do
-  addr ← or_bad (address_of address)
+  addr ← or_bad (address_word address)
   len ← or_bad (mask_len_of mask)
   net_line line addr len)
 network_form line _ = Err BadForm
@@ -98,7 +97,7 @@ network_form line _ = Err BadForm
 -- neighbor ADDRESS remote-as NUMBER
 unfoldable pub remote_as_form : List (List ℕ) → Result RouterItem FormFault
 remote_as_form (_ ∷ address ∷ _ ∷ number ∷ []) = do
-  addr ← or_bad (address_of address)
+  addr ← or_bad (address_word address)
   n ← or_bad (as_number_of number)
   Ok (item.RemoteAs addr n)
 remote_as_form _ = Err BadForm
@@ -106,32 +105,32 @@ remote_as_form _ = Err BadForm
 -- neighbor ADDRESS shutdown
 unfoldable pub peer_shut_form : List (List ℕ) → Result RouterItem FormFault
 peer_shut_form (_ ∷ address ∷ _ ∷ []) = do
-  addr ← or_bad (address_of address)
+  addr ← or_bad (address_word address)
   Ok (item.PeerShut addr)
 peer_shut_form _ = Err BadForm
 
 -- which communities are sent: the ones that are read here in both cases
-abbrev pub sends_standard : List ℕ → Bool
+unfoldable pub sends_standard : List ℕ → Bool
 sends_standard word = bytes_eq word (codes "standard") || bytes_eq word (codes "both")
 
 -- neighbor ADDRESS send-community, with `standard`, `both` or neither
 unfoldable pub peer_sends_form : List (List ℕ) → Result RouterItem FormFault
 peer_sends_form (_ ∷ address ∷ _ ∷ []) = do
-  addr ← or_bad (address_of address)
+  addr ← or_bad (address_word address)
   Ok (item.PeerSends addr)
 peer_sends_form (_ ∷ address ∷ _ ∷ word ∷ []) = bad_unless (sends_standard word) (do
-  addr ← or_bad (address_of address)
+  addr ← or_bad (address_word address)
   Ok (item.PeerSends addr))
 peer_sends_form _ = Err BadForm
 
 -- `in` is true, `out` false
-abbrev pub is_inward : List ℕ → Option Bool
+unfoldable pub is_inward : List ℕ → Option Bool
 is_inward word = if bytes_eq word (codes "in") then Some true else (if bytes_eq word (codes "out") then Some false else None)
 
 -- neighbor ADDRESS prefix-list NAME in, or out
 unfoldable pub peer_list_form : ℕ → List (List ℕ) → Result RouterItem FormFault
 peer_list_form line (_ ∷ address ∷ _ ∷ name ∷ way ∷ []) = do
-  addr ← or_bad (address_of address)
+  addr ← or_bad (address_word address)
   inward ← or_bad (is_inward way)
   list ← named_of line name
   Ok (item.PeerList addr list inward)
@@ -140,7 +139,7 @@ peer_list_form line _ = Err BadForm
 -- neighbor ADDRESS route-map NAME in, or out
 unfoldable pub peer_map_form : ℕ → List (List ℕ) → Result RouterItem FormFault
 peer_map_form line (_ ∷ address ∷ _ ∷ name ∷ way ∷ []) = do
-  addr ← or_bad (address_of address)
+  addr ← or_bad (address_word address)
   inward ← or_bad (is_inward way)
   map ← named_of line name
   Ok (item.PeerMap addr map inward)
@@ -149,14 +148,14 @@ peer_map_form line _ = Err BadForm
 -- ---- lines of an OSPF process
 
 -- an area is a number or an address
-abbrev pub area_of : List ℕ → Option ℕ
-area_of word = option_or (number_of word) (address_of word)
+unfoldable pub area_of : List ℕ → Option ℕ
+area_of word = option_or (number_word word) (address_word word)
 
 -- network ADDRESS WILDCARD area NUMBER
 unfoldable pub area_form : ℕ → List (List ℕ) → Result RouterItem FormFault
 area_form line (_ ∷ address ∷ wildcard ∷ word ∷ number ∷ []) = bad_unless (bytes_eq word (codes "area")) (do
-  addr ← or_bad (address_of address)
-  wild ← or_bad (address_of wildcard)
+  addr ← or_bad (address_word address)
+  wild ← or_bad (address_word wildcard)
   area ← or_bad (area_of number)
   Ok (item.Area (record { addr = addr; wild = wild; area = area; line = line })))
 area_form line _ = Err BadForm

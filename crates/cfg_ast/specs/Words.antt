@@ -29,7 +29,7 @@ abbrev pub is_router_byte : ℕ → Bool
 is_router_byte b = is_letter_or_digit b || b == 45 || b == 95 || b == 46
 
 -- a router's name begins with a letter or a digit
-abbrev pub is_router_name : List ℕ → Bool
+unfoldable pub is_router_name : List ℕ → Bool
 is_router_name word = is_name_long word && begins_with is_letter_or_digit word && list_all is_router_byte word
 
 -- a letter, a digit, `/`, `.`, `:` or `-`
@@ -37,11 +37,11 @@ abbrev pub is_interface_byte : ℕ → Bool
 is_interface_byte b = is_letter_or_digit b || b == 47 || b == 46 || b == 58 || b == 45
 
 -- an interface's name begins with a letter and has a digit
-abbrev pub is_interface_name : List ℕ → Bool
+unfoldable pub is_interface_name : List ℕ → Bool
 is_interface_name word = is_name_long word && begins_with is_ascii_alphabetic word && list_any is_ascii_digit word && list_all is_interface_byte word
 
 -- any word of 1 to 63 bytes names a list or a route map
-abbrev pub is_list_name : List ℕ → Bool
+unfoldable pub is_list_name : List ℕ → Bool
 is_list_name word = is_name_long word
 
 -- ---- numbers
@@ -49,15 +49,23 @@ is_list_name word = is_name_long word
 abbrev pub if_between : ℕ → ℕ → ℕ → Option ℕ
 if_between low high n = if nat_le low n && nat_le n high then Some n else None
 
+-- 0, or digits without a leading 0, of a value up to 4294967295
+unfoldable pub number_word : List ℕ → Option ℕ
+number_word word = number_of word
+
 -- a number of a range, both ends included
-abbrev pub number_between : ℕ → ℕ → List ℕ → Option ℕ
-number_between low high word = number_of word >>= if_between low high
+unfoldable pub number_between : ℕ → ℕ → List ℕ → Option ℕ
+number_between low high word = number_word word >>= if_between low high
 
 -- an AS number is from 1 to 4294967295
-abbrev pub as_number_of : List ℕ → Option ℕ
+unfoldable pub as_number_of : List ℕ → Option ℕ
 as_number_of word = number_between 1 4294967295 word
 
--- ---- masks and prefixes
+-- ---- addresses, masks and prefixes
+
+-- an address is four numbers from 0 to 255 joined by points
+unfoldable pub address_word : List ℕ → Option ℕ
+address_word word = address_of word
 
 -- ones, as many as the length says, and then zeros
 abbrev pub mask_of : ℕ → ℕ
@@ -68,8 +76,8 @@ unfoldable pub len_of_mask : ℕ → Option ℕ
 len_of_mask mask = find (λ len. mask_of len == mask) (range_with_len 1 32)
 
 -- a mask as a word
-abbrev pub mask_len_of : List ℕ → Option ℕ
-mask_len_of word = address_of word >>= len_of_mask
+unfoldable pub mask_len_of : List ℕ → Option ℕ
+mask_len_of word = address_word word >>= len_of_mask
 
 -- the bits behind the length
 abbrev pub bits_behind : ℕ → ℕ → ℕ
@@ -83,9 +91,9 @@ abbrev pub is_slash : ℕ → Bool
 is_slash b = b == 47
 
 -- a prefix word is an address, `/` and a length from 0 to 32; bits behind the length are cleared
-abbrev pub prefix_of : List ℕ → Option Prefix
+unfoldable pub prefix_of : List ℕ → Option Prefix
 prefix_of word = do
-  addr ← address_of (before_first is_slash word)
+  addr ← address_word (before_first is_slash word)
   len ← number_between 0 32 (after_first is_slash word)
   Some (cut_to len addr)
 
@@ -97,11 +105,11 @@ len_of_class first =
     else (if nat_le first 191 then Some 16
     else Some 24))
 
-abbrev pub classful_len_of : ℕ → Option ℕ
+unfoldable pub classful_len_of : ℕ → Option ℕ
 classful_len_of addr = len_of_class (addr / 16777216)
 
 -- the prefix of an address that has no bits behind the length
-abbrev pub exact_prefix : ℕ → ℕ → Option Prefix
+unfoldable pub exact_prefix : ℕ → ℕ → Option Prefix
 exact_prefix addr len = if bits_behind len addr == 0 then Some (record { addr = addr; len = len }) else None
 
 -- ---- communities
@@ -117,13 +125,13 @@ community_of_halves high low = do
   Some (65536 * a + b)
 
 -- a community is `A:B`, or a number from 1
-abbrev pub community_of : List ℕ → Option ℕ
+unfoldable pub community_of : List ℕ → Option ℕ
 community_of word =
     if list_any is_colon word then community_of_halves (before_first is_colon word) (after_first is_colon word)
     else number_between 1 4294967295 word
 
 -- the names of well-known communities
-abbrev pub is_well_known_name : List ℕ → Bool
+unfoldable pub is_well_known_name : List ℕ → Bool
 is_well_known_name word =
     bytes_eq word (codes "internet") || bytes_eq word (codes "no-export") || bytes_eq word (codes "no-advertise")
     || bytes_eq word (codes "local-AS") || bytes_eq word (codes "gshut")
@@ -137,10 +145,10 @@ is_some_reserved None = false
 is_some_reserved (Some community) = is_reserved community
 
 -- a community by its name or by its value
-abbrev pub is_community : List ℕ → Bool
+unfoldable pub is_community : List ℕ → Bool
 is_community word = is_well_known_name word || is_some (community_of word)
 
-abbrev pub is_well_known : List ℕ → Bool
+unfoldable pub is_well_known : List ℕ → Bool
 is_well_known word = is_well_known_name word || is_some_reserved (community_of word)
 
 abbrev pub same_value : Option ℕ → Option ℕ → Bool
@@ -148,5 +156,5 @@ same_value (Some a) (Some b) = a == b
 same_value a b = false
 
 -- names are the same as words, and other communities by their value
-abbrev pub same_community : List ℕ → List ℕ → Bool
+unfoldable pub same_community : List ℕ → List ℕ → Bool
 same_community word other = bytes_eq word other || same_value (community_of word) (community_of other)

@@ -14,5 +14,5 @@ mod words;
 
 pub use heads::{policy_class, router_class};
 pub use names::{list_name, named};
-pub use numbers::{read_as_number, read_between};
+pub use numbers::{read_address, read_as_number, read_between, read_number};
 pub use words::{copy_of, text};

@@ -10,6 +10,7 @@ use cfg_ast::{FormFault, Named};
 use std::alloc::Global;
 
 // Any word of 1 to 63 bytes.
+#[tactic(auto, unfolding(cfg_ast::specs::Words::is_list_name))]
 fn is_list_name(word: &[u8]) -> bool
     ensures { result ≡ is_list_name word.now }
 {
@@ -17,6 +18,7 @@ fn is_list_name(word: &[u8]) -> bool
 }
 
 /// The name of a list or a route map. `BadForm` where the word is not 1 to 63 bytes long.
+#[tactic(auto, unfolding(cfg_ast::specs::FormSteps::list_name_of))]
 pub fn list_name(alloc: Global, word: &[u8]) -> Result<Text, FormFault>
     requires { IsAscii word.now }
     ensures { Reads result (list_name_of word.now) }
@@ -29,6 +31,7 @@ pub fn list_name(alloc: Global, word: &[u8]) -> Result<Text, FormFault>
 
 /// The name of a list or a route map with the number of the line that gives it. `BadForm` where the
 /// word is not 1 to 63 bytes long.
+#[tactic(auto, unfolding(cfg_ast::specs::FormSteps::named_of))]
 pub fn named(alloc: Global, word: &[u8], line: u32) -> Result<Named, FormFault>
     requires { IsAscii word.now }
     ensures { Reads result (named_of line word.now) }

@@ -1,9 +1,16 @@
 ghost use Rattle.std.specs.Prelude.{◌≡◌, ◌≤◌, IfSome};
-ghost use Rattle.cfg_ast.specs.Words.{number_between, as_number_of};
+ghost use Rattle.cfg_ast.specs.Words.{number_word, number_between, as_number_of, address_word};
 
-use base_kit::read_number;
+/// Reads a number: `0`, or digits without a leading zero, up to 4294967295.
+#[tactic(auto, unfolding(cfg_ast::specs::Words::number_word))]
+pub fn read_number(word: &[u8]) -> Option<u32>
+    ensures { result ≡ number_word word.now }
+{
+    base_kit::read_number(word)
+}
 
 /// Reads a number of the range from `low` to `high`, both included.
+#[tactic(auto, unfolding(cfg_ast::specs::Words::number_between))]
 pub fn read_between(word: &[u8], low: u32, high: u32) -> Option<u32>
     ensures value { result ≡ number_between low high word.now }
     ensures bound { IfSome result (λ n. (low ≤ n) × (n ≤ high)) }
@@ -13,8 +20,17 @@ pub fn read_between(word: &[u8], low: u32, high: u32) -> Option<u32>
 }
 
 /// Reads an AS number, which is not 0.
+#[tactic(auto, unfolding(cfg_ast::specs::Words::as_number_of))]
 pub fn read_as_number(word: &[u8]) -> Option<u32>
     ensures { result ≡ as_number_of word.now }
 {
     read_between(word, 1, u32::MAX)
+}
+
+/// Reads an address: four numbers from 0 to 255 joined by points.
+#[tactic(auto, unfolding(cfg_ast::specs::Words::address_word))]
+pub fn read_address(word: &[u8]) -> Option<u32>
+    ensures { result ≡ address_word word.now }
+{
+    base_kit::read_address(word)
 }

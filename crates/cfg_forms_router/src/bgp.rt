@@ -1,0 +1,153 @@
+ghost use Rattle.std.specs.Prelude.{◌≡◌, ◌≤◌};
+ghost use Rattle.std.specs.List.{AllByRecursion};
+ghost use Rattle.cfg_ast.specs.Answers.{Reads};
+ghost use Rattle.cfg_ast.specs.Lines.{IsWordIn, texts};
+ghost use Rattle.cfg_ast.specs.RouterForms.{base_form, net_line, network_form, remote_as_form, peer_shut_form, sends_standard, peer_sends_form, is_inward, peer_list_form, peer_map_form};
+
+use crate::masks::{classful_len, exact_prefix, read_mask};
+use cfg_ast::FormFault::BadForm;
+use cfg_ast::{Base, FormFault, NetLine, RouterItem, Span};
+use cfg_words::{named, read_address, read_as_number, read_number, text};
+use std::alloc::Global;
+
+#[tactic(auto, unfolding(cfg_ast::specs::RouterForms::base_form))]
+pub(crate) fn base(bytes: &[u8], words: &[Span], line: u32) -> Result<RouterItem, FormFault>
+    requires { AllByRecursion (IsWordIn bytes.now) words.now }
+    ensures { Reads result (base_form line (texts bytes.now words.now)) }
+{
+    let [_, _, _, number] = words else {
+        return Err(BadForm);
+    };
+    let value = read_number(text(bytes, *number)).ok_or(BadForm)?;
+    Ok(RouterItem::Base(Base { value, line }))
+}
+
+#[tactic(auto, unfolding(cfg_ast::specs::RouterForms::net_line))]
+fn net_line(addr: u32, len: u8, line: u32) -> Result<RouterItem, FormFault>
+    requires { len ≤ 32 }
+    ensures { Reads result (net_line line addr len) }
+{
+    let prefix = exact_prefix(addr, len).ok_or(BadForm)?;
+    Ok(RouterItem::Network(NetLine { prefix, line }))
+}
+
+#[tactic(auto, unfolding(cfg_ast::specs::RouterForms::network_form))]
+pub(crate) fn network(bytes: &[u8], words: &[Span], line: u32) -> Result<RouterItem, FormFault>
+    requires { AllByRecursion (IsWordIn bytes.now) words.now }
+    ensures { Reads result (network_form line (texts bytes.now words.now)) }
+{
+    if let [_, address] = words {
+        let addr = read_address(text(bytes, *address)).ok_or(BadForm)?;
+        let len = classful_len(addr).ok_or(BadForm)?;
+        return net_line(addr, len, line);
+    }
+    let [_, address, word, mask] = words else {
+        return Err(BadForm);
+    };
+    if text(bytes, *word) != b"mask".as_slice() {
+        return Err(BadForm);
+    }
+    let addr = read_address(text(bytes, *address)).ok_or(BadForm)?;
+    let len = read_mask(text(bytes, *mask)).ok_or(BadForm)?;
+    net_line(addr, len, line)
+}
+
+#[tactic(auto, unfolding(cfg_ast::specs::RouterForms::remote_as_form))]
+pub(crate) fn remote_as(bytes: &[u8], words: &[Span]) -> Result<RouterItem, FormFault>
+    requires { AllByRecursion (IsWordIn bytes.now) words.now }
+    ensures { Reads result (remote_as_form (texts bytes.now words.now)) }
+{
+    let [_, address, _, number] = words else {
+        return Err(BadForm);
+    };
+    let addr = read_address(text(bytes, *address)).ok_or(BadForm)?;
+    let number = read_as_number(text(bytes, *number)).ok_or(BadForm)?;
+    Ok(RouterItem::RemoteAs { addr, number })
+}
+
+#[tactic(auto, unfolding(cfg_ast::specs::RouterForms::peer_shut_form))]
+pub(crate) fn peer_shut(bytes: &[u8], words: &[Span]) -> Result<RouterItem, FormFault>
+    requires { AllByRecursion (IsWordIn bytes.now) words.now }
+    ensures { Reads result (peer_shut_form (texts bytes.now words.now)) }
+{
+    let [_, address, _] = words else {
+        return Err(BadForm);
+    };
+    let addr = read_address(text(bytes, *address)).ok_or(BadForm)?;
+    Ok(RouterItem::PeerShut(addr))
+}
+
+#[tactic(auto, unfolding(cfg_ast::specs::RouterForms::sends_standard))]
+fn sends_standard(word: &[u8]) -> bool
+    ensures { result ≡ sends_standard word.now }
+{
+    word == b"standard".as_slice() || word == b"both".as_slice()
+}
+
+#[tactic(auto, unfolding(cfg_ast::specs::RouterForms::peer_sends_form))]
+pub(crate) fn peer_sends(bytes: &[u8], words: &[Span]) -> Result<RouterItem, FormFault>
+    requires { AllByRecursion (IsWordIn bytes.now) words.now }
+    ensures { Reads result (peer_sends_form (texts bytes.now words.now)) }
+{
+    if let [_, address, _] = words {
+        let addr = read_address(text(bytes, *address)).ok_or(BadForm)?;
+        return Ok(RouterItem::PeerSends(addr));
+    }
+    let [_, address, _, word] = words else {
+        return Err(BadForm);
+    };
+    if !sends_standard(text(bytes, *word)) {
+        return Err(BadForm);
+    }
+    let addr = read_address(text(bytes, *address)).ok_or(BadForm)?;
+    Ok(RouterItem::PeerSends(addr))
+}
+
+#[tactic(auto, unfolding(cfg_ast::specs::RouterForms::is_inward))]
+fn is_inward(word: &[u8]) -> Option<bool>
+    ensures { result ≡ is_inward word.now }
+{
+    match word {
+        b"in" => Some(true),
+        b"out" => Some(false),
+        _ => None,
+    }
+}
+
+#[tactic(auto, unfolding(cfg_ast::specs::RouterForms::peer_list_form))]
+pub(crate) fn peer_list(
+    alloc: Global,
+    bytes: &[u8],
+    words: &[Span],
+    line: u32,
+) -> Result<RouterItem, FormFault>
+    requires { AllByRecursion (IsWordIn bytes.now) words.now }
+    ensures { Reads result (peer_list_form line (texts bytes.now words.now)) }
+{
+    let [_, address, _, name, way] = words else {
+        return Err(BadForm);
+    };
+    let addr = read_address(text(bytes, *address)).ok_or(BadForm)?;
+    let inward = is_inward(text(bytes, *way)).ok_or(BadForm)?;
+    let list = named(alloc, text(bytes, *name), line)?;
+    Ok(RouterItem::PeerList { addr, list, inward })
+}
+
+#[tactic(auto, unfolding(cfg_ast::specs::RouterForms::peer_map_form))]
+pub(crate) fn peer_map(
+    alloc: Global,
+    bytes: &[u8],
+    words: &[Span],
+    line: u32,
+) -> Result<RouterItem, FormFault>
+    requires { AllByRecursion (IsWordIn bytes.now) words.now }
+    ensures { Reads result (peer_map_form line (texts bytes.now words.now)) }
+{
+    let [_, address, _, name, way] = words else {
+        return Err(BadForm);
+    };
+    let addr = read_address(text(bytes, *address)).ok_or(BadForm)?;
+    let inward = is_inward(text(bytes, *way)).ok_or(BadForm)?;
+    let map = named(alloc, text(bytes, *name), line)?;
+    Ok(RouterItem::PeerMap { addr, map, inward })
+}

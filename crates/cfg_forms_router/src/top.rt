@@ -1,0 +1,79 @@
+ghost use Rattle.std.specs.Prelude.{◌≡◌};
+ghost use Rattle.std.specs.List.{AllByRecursion};
+ghost use Rattle.cfg_ast.specs.Answers.{Reads};
+ghost use Rattle.cfg_ast.specs.Lines.{IsWordIn, texts};
+ghost use Rattle.cfg_ast.specs.RouterForms.{hostname_form, interface_form, bgp_form, ospf_form, end_form};
+
+use crate::names::{is_interface_name, is_router_name};
+use cfg_ast::FormFault::BadForm;
+use cfg_ast::{FormFault, RouterItem, Span};
+use cfg_words::{copy_of, read_as_number, read_between, text};
+use std::alloc::Global;
+
+#[tactic(auto, unfolding(cfg_ast::specs::RouterForms::hostname_form))]
+pub(crate) fn hostname(alloc: Global, bytes: &[u8], words: &[Span]) -> Result<RouterItem, FormFault>
+    requires { AllByRecursion (IsWordIn bytes.now) words.now }
+    ensures { Reads result (hostname_form (texts bytes.now words.now)) }
+{
+    let [_, name] = words else {
+        return Err(BadForm);
+    };
+    let name = text(bytes, *name);
+    if !is_router_name(name) {
+        return Err(BadForm);
+    }
+    Ok(RouterItem::Hostname(copy_of(alloc, name)?))
+}
+
+#[tactic(auto, unfolding(cfg_ast::specs::RouterForms::interface_form))]
+pub(crate) fn interface(
+    alloc: Global,
+    bytes: &[u8],
+    words: &[Span],
+) -> Result<RouterItem, FormFault>
+    requires { AllByRecursion (IsWordIn bytes.now) words.now }
+    ensures { Reads result (interface_form (texts bytes.now words.now)) }
+{
+    let [_, name] = words else {
+        return Err(BadForm);
+    };
+    let name = text(bytes, *name);
+    if !is_interface_name(name) {
+        return Err(BadForm);
+    }
+    Ok(RouterItem::Interface(copy_of(alloc, name)?))
+}
+
+#[tactic(auto, unfolding(cfg_ast::specs::RouterForms::bgp_form))]
+pub(crate) fn bgp(bytes: &[u8], words: &[Span]) -> Result<RouterItem, FormFault>
+    requires { AllByRecursion (IsWordIn bytes.now) words.now }
+    ensures { Reads result (bgp_form (texts bytes.now words.now)) }
+{
+    let [_, _, number] = words else {
+        return Err(BadForm);
+    };
+    let number = read_as_number(text(bytes, *number)).ok_or(BadForm)?;
+    Ok(RouterItem::Bgp(number))
+}
+
+#[tactic(auto, unfolding(cfg_ast::specs::RouterForms::ospf_form))]
+pub(crate) fn ospf(bytes: &[u8], words: &[Span]) -> Result<RouterItem, FormFault>
+    requires { AllByRecursion (IsWordIn bytes.now) words.now }
+    ensures { Reads result (ospf_form (texts bytes.now words.now)) }
+{
+    let [_, _, number] = words else {
+        return Err(BadForm);
+    };
+    let number = read_between(text(bytes, *number), 1, 65535).ok_or(BadForm)?;
+    Ok(RouterItem::Ospf(number))
+}
+
+#[tactic(auto, unfolding(cfg_ast::specs::RouterForms::end_form))]
+pub(crate) fn end(bytes: &[u8], words: &[Span]) -> Result<RouterItem, FormFault>
+    ensures { Reads result (end_form (texts bytes.now words.now)) }
+{
+    let [_] = words else {
+        return Err(BadForm);
+    };
+    Ok(RouterItem::End)
+}
