@@ -6,7 +6,7 @@ use Rattle.srp_core.specs.declared.route.Route.{Route}
 use Rattle.srp_core.specs.Routes.{preference_of, size_of, Key, compare_keys}
 use Rattle.srp_core.specs.Problem.{Problem, number, initial, is_lone, key_of, IsProblem}
 use Rattle.srp_core.specs.Stability.{label, IsCandidate, of_init, of_edge, IsStable}
-use Rattle.srp_core.proofs.Keys.{neither_better, not_longer}
+use Rattle.srp_core.proofs.KeyOrder.{neither_better, not_longer}
 use Rattle.srp_core.proofs.Offers.{Offer, offer_init, offer_edge, AsGood, candidate_offer, lone_bgp, one_preference, grows, candidate_as_good, raw_optimal}
 use Rattle.srp_core.proofs.Matching.{IsMatching, Held, matched_step}
 
@@ -73,7 +73,7 @@ module _ (S : Problem) (R : ℕ → ℕ → Type 0) (m : IsMatching S S R) (back
       elim (cases_Bool (is_lone S u)) [
         | inl l ↦
             let same = lone_same u v x l in
-            record { route = r; labelled = subst (λ w. label L w ≡ Some r) same lab; as_good = Rattle.srp_core.proofs.Keys.irreflexive (key_of S r) (key_of S r) refl; size = refl }
+            record { route = r; labelled = subst (λ w. label L w ≡ Some r) same lab; as_good = Rattle.srp_core.proofs.KeyOrder.irreflexive (key_of S r) (key_of S r) refl; size = refl }
         | inr l ↦ half_at u v r x l lab before (st.held u r (m.left_in u v x) lab)
       ]
 

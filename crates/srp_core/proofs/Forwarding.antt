@@ -5,7 +5,7 @@ use Rattle.srp_core.specs.declared.route.Route.{Route}
 use Rattle.srp_core.specs.Routes.{path_of, is_on}
 use Rattle.srp_core.specs.Problem.{Problem, number, is_lone, key_of, IsProblem}
 use Rattle.srp_core.specs.Stability.{label, IsStable, ForwardsTo}
-use Rattle.srp_core.proofs.Keys.{irreflexive}
+use Rattle.srp_core.proofs.KeyOrder.{irreflexive}
 use Rattle.srp_core.proofs.Offers.{loop_check}
 use Rattle.srp_core.proofs.Matching.{IsMatching, keys_agree, matched_step, lone_check, inner_offer}
 use Rattle.srp_core.proofs.Filling.{IsTied, IsEven}

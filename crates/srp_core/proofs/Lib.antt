@@ -1,6 +1,6 @@
 pub mod Imports
 pub mod Steps
-pub mod Keys
+pub mod KeyOrder
 pub mod Offers
 pub mod Matching
 pub mod EqualKeys

@@ -5,7 +5,7 @@ use Rattle.std.proofs.lemmas.Bool.{cases_Bool, or_cases, eqb-true}
 use Rattle.srp_core.specs.Routes.{is_on, chosen}
 use Rattle.base_kit.specs.Sets.{with_number, IsAscending}
 use Rattle.base_kit.proofs.Members.{ascending_with}
-use Rattle.srp_core.proofs.Keys.{is_on-with_number}
+use Rattle.srp_core.proofs.KeyOrder.{is_on-with_number}
 
 -- they ascend, each once
 pub chosen_ascending : (test : ℕ → Bool) (path : List ℕ) → IsAscending (chosen test path)

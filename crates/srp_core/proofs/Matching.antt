@@ -10,7 +10,7 @@ use Rattle.srp_core.specs.Acts.{ActsAlike}
 use Rattle.srp_core.specs.Problem.{Problem, count, number, initial, is_lone, act_of, step, is_lone_number, key_of, IsProblem}
 use Rattle.srp_core.specs.Stability.{label, AreLabels, IsCandidateOver, IsCandidate, of_init, of_edge, IsStable}
 use Rattle.srp_core.proofs.Steps.{step_alike, step_same}
-use Rattle.srp_core.proofs.Keys.{shorter, marked_from, marked_at, is_on-chosen}
+use Rattle.srp_core.proofs.KeyOrder.{shorter, marked_from, marked_at, is_on-chosen}
 use Rattle.srp_core.proofs.Offers.{Offer, offer_init, offer_edge, Better, AsGood, better_as_good, lone_bgp, one_preference, grows, candidate_as_good, raw_optimal}
 
 -- an edge of `a` in A that acts like an edge of B, from a matched exporter

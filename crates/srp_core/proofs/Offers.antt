@@ -14,7 +14,7 @@ use Rattle.srp_core.specs.declared.route.Act.TheVariants.{Cost}
 use Rattle.srp_core.specs.Problem.{Problem, count, number, initial, is_lone, act_of, step, key_of, Accepts, IsLone, IsEdgeOf, IsProblem}
 use Rattle.srp_core.specs.Stability.{label, AreLabels, IsCandidate, of_init, of_edge, IsStable}
 use Rattle.srp_core.proofs.Steps.{step_grows, step_path, step_route, step_accepts, ospf_zero, no_import_cost}
-use Rattle.srp_core.proofs.Keys.{shorter, not_better}
+use Rattle.srp_core.proofs.KeyOrder.{shorter, not_better}
 
 pub cases_label : (o : Option Route) → (o ≡ None) ⊎ ((r : Route) × (o ≡ Some r))
 cases_label None = inl refl

@@ -5,6 +5,7 @@ pub mod Laws
 pub mod Lifts
 pub mod LoneOrder
 pub mod Problem
+pub mod ProblemOf
 pub mod Quotient
 pub mod Routes
 pub mod Stability

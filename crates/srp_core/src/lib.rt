@@ -8,6 +8,7 @@
 #![tactic(auto)]
 
 mod graph;
+mod keys;
 mod labels;
 pub mod laws;
 mod route;
