@@ -22,3 +22,5 @@ pub mod LoneOrder
 pub mod StartPlaces
 pub mod GraphPartitions
 pub mod Colors
+pub mod OwnEdges
+pub mod Joins

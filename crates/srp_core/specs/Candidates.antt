@@ -1,5 +1,6 @@
 -- The candidates of a router as a list: its initial route, then one for each edge that gives it a route.
-use Rattle.std.specs.Prelude.{◌≡◌, ◌≢◌, Contains, ℕ, ◌+◌, List, [], ◌∷◌, ◌++◌, Option, Some, None, nat_eq, option_and_then, if◌then◌else◌}
+use Rattle.std.specs.Prelude.{◌≡◌, ◌≢◌, Contains, ℕ, ◌+◌, List, [], ◌∷◌, ◌++◌, Option, Some, None, nat_eq, option_and_then, if◌then◌else◌, ◌≤◌, ◌<◌, length}
+use Rattle.std.specs.List.{AllWithin}
 use Rattle.std.specs.declared.cmp.Ordering.TheVariants.{Less}
 use Rattle.base_kit.specs.declared.act_graph.Edge.{Edge}
 use Rattle.srp_core.specs.declared.route.Route.{Route}
@@ -35,3 +36,11 @@ pub record IsSettled (problem : Problem) (labels : List (Option Route)) (router 
   pub none : label labels router ≡ None → candidates problem labels router ≡ []
   pub held : (r : Route) → label labels router ≡ Some r → (k : Candidate) × Contains (candidates problem labels router) k × (k.route ≡ r)
   pub best : (r : Route) (k : Candidate) → label labels router ≡ Some r → Contains (candidates problem labels router) k → compare_keys (key_of problem k.route) (key_of problem r) ≢ Less
+
+-- the edges of a router stand together, from `first` up to `end`
+pub record AreOwnEdges (edges : List Edge) (router first end : ℕ) : Type 0 where
+  pub forward : first ≤ end
+  pub inside : end ≤ length edges
+  pub before : AllWithin (λ edge. edge.importer < router) edges 0 first
+  pub own : AllWithin (λ edge. edge.importer ≡ router) edges first end
+  pub behind : AllWithin (λ edge. router < edge.importer) edges end (length edges)

@@ -1,7 +1,7 @@
 -- Partitions of the routers of a problem whose groups can stand for their members, the problem of the
 -- groups, and when labels of both say the same (Beckett, Gupta, Mahajan and Walker, Control Plane
 -- Compression, SIGCOMM 2018, sections 4 and 5). A partition is the list of the routers' groups.
-use Rattle.std.specs.Prelude.{◌≡◌, ◌≢◌, ℕ, ◌^◌, ◌<◌, true, not, ◌&&◌, nat_eq, List, [], ◌∷◌, length, Option, Some, slice_index, slice_index_or, Contains, if◌then◌else◌}
+use Rattle.std.specs.Prelude.{◌≡◌, ◌≢◌, ◌⊎◌, zero, suc, ℕ, ◌^◌, ◌<◌, true, not, ◌&&◌, nat_eq, List, [], ◌∷◌, length, Option, Some, slice_index, slice_index_or, Contains, if◌then◌else◌}
 use Rattle.base_kit.specs.declared.act_graph.Edge.{Edge}
 use Rattle.base_kit.specs.Partition.{Refines}
 use Rattle.srp_core.specs.declared.route.Route.{Route}
@@ -91,3 +91,19 @@ pub record Corresponds (problem small : Problem) (groups : List ℕ) (labels low
   pub keys : (u : ℕ) → u < count problem → HaveSameKeys problem small (label labels u) (label lower (group_of groups u))
   pub down : (u v : ℕ) → u < count problem → ForwardsTo problem labels u v → ForwardsTo small lower (group_of groups u) (group_of groups v)
   pub up : (u h : ℕ) → u < count problem → ForwardsTo small lower (group_of groups u) h → (v : ℕ) × ForwardsTo problem labels u v × (group_of groups v ≡ h)
+
+-- the routers are together in one of the two partitions
+abbrev pub AreTogetherInOne : List ℕ → List ℕ → ℕ → ℕ → Type 0
+AreTogetherInOne first second u v = (group_of first u ≡ group_of first v) ⊎ (group_of second u ≡ group_of second v)
+
+-- a chain of so many steps leads from the one router to the other, each between routers that are
+-- together in one of the two partitions
+abbrev pub AreLinked : ℕ → List ℕ → List ℕ → ℕ → ℕ → ℕ → Type 0
+AreLinked count first second zero u v = u ≡ v
+AreLinked count first second (suc steps) u v = (w : ℕ) × (w < count) × AreTogetherInOne first second u w × AreLinked count first second steps w v
+
+-- the join of two partitions: routers are together exactly where a chain leads from one to the other
+pub record IsJoin (count : ℕ) (first second joined : List ℕ) : Type 0 where
+  pub total : length joined ≡ count
+  pub linked : (u v : ℕ) → u < count → v < count → group_of joined u ≡ group_of joined v → (steps : ℕ) × AreLinked count first second steps u v
+  pub together : (steps u v : ℕ) → u < count → v < count → AreLinked count first second steps u v → group_of joined u ≡ group_of joined v

@@ -4,12 +4,13 @@
 ghost use Rattle.std.specs.Prelude.{◌≡◌, ◌≢◌, ℕ, ◌<◌, ◌∷◌, ◌++◌, true, false, List, Option, Some, None, length, Contains};
 ghost use Rattle.base_kit.specs.declared.act_graph.Edge.{Edge};
 ghost use Rattle.base_kit.specs.declared.protocol.Protocol.TheVariants.{Bgp as OverBgp, Ospf as OverOspf};
+ghost use Rattle.base_kit.specs.Partition.{Refines};
 ghost use Rattle.srp_core.specs.declared.route.Route.{Route};
 ghost use Rattle.srp_core.specs.declared.route.Candidate.{Candidate};
 ghost use Rattle.srp_core.specs.Routes.{path_of, is_on};
 ghost use Rattle.srp_core.specs.Problem.{Problem, count, number, is_lone, step, key_of, IsProblem};
 ghost use Rattle.srp_core.specs.Stability.{label, AreLabels, IsCandidate, IsStable, HaveSameKeys};
-ghost use Rattle.srp_core.specs.Quotient.{group_of, IsAdmissible, IsQuotient, HasTables, Corresponds};
+ghost use Rattle.srp_core.specs.Quotient.{group_of, IsAdmissible, IsCoarsest, IsJoin, IsQuotient, HasTables, Corresponds};
 ghost use Rattle.srp_core.specs.Candidates.{candidates, IsSettled};
 ghost use Rattle.srp_core.specs.Laws.{Below, Above, HasPath, HasBetter};
 ghost use Rattle.srp_core.specs.Lifts.{IsLift, IsFold, AllTrack};
@@ -100,4 +101,11 @@ pub fn listed_candidates()
     ensures complete { (problem : Problem) (labels : List (Option Route)) (u : ℕ) (route : Route) → IsCandidate problem labels u route → (candidate : Candidate) × Contains (candidates problem labels u) candidate × (candidate.route ≡ route) }
     ensures stable { (problem : Problem) (labels : List (Option Route)) → AreLabels problem labels → ((u : ℕ) → u < count problem → IsSettled problem labels u) → IsStable problem labels }
     ensures settled { (problem : Problem) (labels : List (Option Route)) → IsStable problem labels → (u : ℕ) → u < count problem → IsSettled problem labels u }
+{}
+
+/// The join of two admissible partitions is admissible, and the coarsest partition is one: two of them
+/// put the same routers together.
+pub fn joins()
+    ensures admissible { (problem : Problem) (first second joined : List ℕ) → IsProblem problem → IsAdmissible problem first → IsAdmissible problem second → IsJoin (count problem) first second joined → IsAdmissible problem joined }
+    ensures one_coarsest { (problem : Problem) (first second : List ℕ) → IsCoarsest problem first → IsCoarsest problem second → Refines (count problem) first second }
 {}

@@ -7,6 +7,7 @@
 //! Whoever needs one of these laws calls its function.
 #![tactic(auto)]
 
+mod candidates;
 mod graph;
 mod keys;
 mod labels;

@@ -1,5 +1,8 @@
-use base_kit::{List, NumSet};
+ghost use Rattle.std.specs.Prelude.{◌≡◌, IfOk};
+
+use base_kit::{List, NoMemory, NumSet};
 use route_maps::Plain;
+use std::alloc::Global;
 
 /// A route to the destination.
 #[derive(Drop)]
@@ -34,4 +37,36 @@ pub enum Act {
 pub struct Candidate {
     pub edge: Option<u32>,
     pub route: Route,
+}
+
+impl Route {
+    ghost use Rattle.srp_core.specs.Routes.{is_on, path_of};
+
+    /// The same route.
+    pub fn copy(&self, alloc: Global) -> Result<Route, NoMemory>
+        ensures { IfOk result (λ route. route ≡ self.now) }
+    {
+        match self {
+            Route::Bgp { lp, path, comms } => {
+                let numbers = Vec::from_slice(alloc, path.as_slice())?;
+                let comms = comms.copy()?;
+                Ok(Route::Bgp {
+                    lp: *lp,
+                    path: List::from_vec(numbers),
+                    comms,
+                })
+            }
+            Route::Ospf { cost } => Ok(Route::Ospf { cost: *cost }),
+        }
+    }
+
+    /// Whether the number is on the route's path.
+    pub fn has_on_path(&self, number: u32) -> bool
+        ensures { result ≡ is_on number (path_of self.now) }
+    {
+        match self {
+            Route::Bgp { path, .. } => path.as_slice().contains(&number),
+            Route::Ospf { .. } => false,
+        }
+    }
 }

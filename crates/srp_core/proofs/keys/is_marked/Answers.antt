@@ -1,5 +1,4 @@
-use Rattle.std.proofs.Common.{◌≡◌, ℕ, ◌<◌, true, false, length, sym, arith, rules}
-use Rattle.std.specs.Prelude.{slice_index, slice_index_or}
+use Rattle.std.proofs.Common.{sym, arith, rules}
 use Rattle.std.proofs.lemmas.Bool.{false_from_ne_true}
 use Rattle.srp_core.specs.Problem.{is_marked}
 use Rattle.srp_core.proofs.KeyOrder.{marked_from, marked_at}

@@ -1,11 +1,11 @@
-use Rattle.std.proofs.Common.{◌≡◌, ◌<◌, ℕ, List, Some, None, ap, sym, ◌∙◌, arith, length}
+use Rattle.std.proofs.Common.{◌≡◌, ℕ, List, None, ap, sym, ◌∙◌, arith}
 use Rattle.std.specs.Ordering.{nat_cmp}
 use Rattle.std.specs.Cmp.Lexicographic.{slice_cmp}
 use Rattle.srp_core.specs.Problem.{is_lone_number}
 use Rattle.srp_core.specs.Routes.{chosen}
-use Rattle.srp_core.specs.LoneOrder.{rest_above, head_of}
+use Rattle.srp_core.specs.LoneOrder.{rest_above}
 use Rattle.srp_core.proofs.LoneNumbers.{chosen_ascending}
-use Rattle.srp_core.proofs.LoneOrder.{whole_rest, turn_equal, turn_shorter, turn_less, turn_greater, ends_cmp, first_ends, second_ends}
+use Rattle.srp_core.proofs.LoneOrder.{whole_rest, turn_equal, turn_shorter}
 use Rattle.srp_core.proofs.srp.Srp.compare_lone.Goals as goal
 
 pub loop-x-init : goal.loop-x-init

@@ -1,4 +1,4 @@
-use Rattle.std.proofs.Common.{arith, ◌≤◌, length}
+use Rattle.std.proofs.Common.{arith}
 use Rattle.srp_core.specs.Problem.{is_lone_number}
 use Rattle.srp_core.proofs.LoneOrder.{next_start, next_down}
 use Rattle.srp_core.proofs.srp.Srp.next_lone.Goals as goal
