@@ -1,5 +1,5 @@
 -- The network of a text: its lines, read one after the other.
-use Rattle.std.specs.Prelude.{◌≡◌, ℕ, ◌-◌, Bool, false, ◌&&◌, List, [], ◌∷◌, ◌++◌, length, map, slice_get, ◌==◌, if◌then◌else◌, Option, Some, None, Result, Ok, Err, codes, bytes_eq, is_some}
+use Rattle.std.specs.Prelude.{◌≡◌, ℕ, ◌-◌, Bool, true, false, ◌&&◌, List, [], ◌∷◌, ◌++◌, length, map, slice_get, ◌==◌, if◌then◌else◌, Option, Some, None, Result, Ok, Err, codes, bytes_eq, is_some}
 use Rattle.std.specs.List.{list_any}
 use Rattle.cfg_ast.specs.declared.network.Named.{Named}
 use Rattle.cfg_ast.specs.declared.network.Network.{Network}
@@ -20,6 +20,7 @@ use Rattle.cfg_ast.specs.declared.refusal.ReadRefusal.TheVariants as refusal
 use Rattle.cfg_ast.specs.Lines.{lines_of}
 use Rattle.cfg_ast.specs.TextLines.{TextLine, text_line}
 use Rattle.cfg_ast.specs.RouterForms.{router_item_of}
+use Rattle.cfg_ast.specs.Meaning.{judged}
 use Rattle.cfg_ast.specs.Stanzas.{◌>>=◌, said_at, once, set_interface, set_bgp, set_ospf}
 
 -- the stanza to which indented lines belong
@@ -86,8 +87,30 @@ new_bgp n number = record { number = number; line = n; base = None; networks = [
 abbrev pub new_ospf : ℕ → ℕ → OspfProcess
 new_ospf n number = record { number = number; line = n; passive_default = false; passive = []; not_passive = []; areas = [] }
 
-abbrev pub router_of : Named → Draft → Router
-router_of host d = record {
+abbrev pub take_hostname : ℕ → List ℕ → Draft → Result Draft ReadRefusal
+take_hostname n name d = once n (is_some d.name) (record d { name = Some (record { name = name; line = n }) })
+
+abbrev pub open_interface : ℕ → List ℕ → Draft → Result Draft ReadRefusal
+open_interface n name d = once n (has_interface d.interfaces name) (record d { stanza = in_interface (new_interface n name) })
+
+abbrev pub open_bgp : ℕ → ℕ → Draft → Result Draft ReadRefusal
+open_bgp n number d = once n (is_some d.bgp) (record d { stanza = in_bgp (new_bgp n number) })
+
+abbrev pub open_ospf : ℕ → ℕ → Draft → Result Draft ReadRefusal
+open_ospf n number d = once n (is_some d.ospf) (record d { stanza = in_ospf (new_ospf n number) })
+
+-- the top lines that do not end a router
+unfoldable pub take_line : ℕ → RouterItem → Draft → Result Draft ReadRefusal
+take_line n (item.Hostname name) d = take_hostname n name d
+take_line n (item.Interface name) d = open_interface n name d
+take_line n (item.Bgp number) d = open_bgp n number d
+take_line n (item.Ospf number) d = open_ospf n number d
+take_line n item.Ignored d = Ok (record d { stanza = ignored })
+take_line n _ d = Ok d
+
+abbrev pub named_router : ℕ → Option Named → Draft → Result Router ReadRefusal
+named_router n None d = Err (refusal.At n kind.NoHostname)
+named_router n (Some host) d = Ok (record {
   name = host.name;
   line = host.line;
   interfaces = d.interfaces;
@@ -96,21 +119,21 @@ router_of host d = record {
   prefix_lists = d.prefix_lists;
   community_lists = d.community_lists;
   route_maps = d.route_maps;
-}
+})
 
--- the router is done, if it has a name
-abbrev pub ended : ℕ → Option Named → State → Result State ReadRefusal
-ended n None s = Err (refusal.At n kind.NoHostname)
-ended n (Some host) s = Ok (record { routers = s.routers ++ router_of host s.draft ∷ []; draft = no_draft })
+-- the router that a top line `end` ends
+abbrev pub router_of : ℕ → Draft → Result Router ReadRefusal
+router_of n d = named_router n d.name d
+
+abbrev pub end_router : ℕ → State → Result State ReadRefusal
+end_router n s = router_of n s.draft >>= (λ (r : Router). Ok (record { routers = s.routers ++ r ∷ []; draft = no_draft }))
+
+abbrev pub ends_router : RouterItem → Bool
+ends_router item.End = true
+ends_router _ = false
 
 unfoldable pub take_top : ℕ → RouterItem → State → Result State ReadRefusal
-take_top n (item.Hostname name) s = once n (is_some s.draft.name) (record s { draft = record s.draft { name = Some (record { name = name; line = n }) } })
-take_top n (item.Interface name) s = once n (has_interface s.draft.interfaces name) (record s { draft = record s.draft { stanza = in_interface (new_interface n name) } })
-take_top n (item.Bgp number) s = once n (is_some s.draft.bgp) (record s { draft = record s.draft { stanza = in_bgp (new_bgp n number) } })
-take_top n (item.Ospf number) s = once n (is_some s.draft.ospf) (record s { draft = record s.draft { stanza = in_ospf (new_ospf n number) } })
-take_top n item.End s = ended n s.draft.name s
-take_top n item.Ignored s = Ok (record s { draft = record s.draft { stanza = ignored } })
-take_top n _ s = Ok s
+take_top n said s = if ends_router said then end_router n s else take_line n said s.draft >>= (λ (d : Draft). Ok (record { routers = s.routers; draft = d }))
 
 unfoldable pub step_top : State → TextLine → Result State ReadRefusal
 step_top s l = said_at l.number (router_item_of scope.Top l.number l.words) >>= (λ (said : RouterItem). take_top l.number said (record s { draft = with_closed s.draft }))
@@ -162,3 +185,7 @@ network_of_text bs = lines_of bs >>= (λ (ls : List Line). network_of_lines (tex
 -- some text gives the network
 abbrev pub IsGiven : Network → Type 0
 IsGiven network = (bs : List ℕ) × (network_of_text bs ≡ Ok network)
+
+-- the network of a text that may be used, or the fault that decides
+unfoldable pub reading_of : List ℕ → Result Network ReadRefusal
+reading_of bs = network_of_text bs >>= judged

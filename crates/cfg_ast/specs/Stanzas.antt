@@ -1,9 +1,11 @@
 -- What the lines of a stanza give, one after the other: an interface, a BGP process (RFC 4271) or an
 -- OSPF process (RFC 2328), in the style of IOS.
-use Rattle.std.specs.Prelude.{ℕ, Bool, true, false, ◌&&◌, List, [], ◌∷◌, ◌++◌, ◌==◌, if◌then◌else◌, Some, None, Result, Ok, Err, bytes_eq, is_some}
+use Rattle.std.specs.Prelude.{ℕ, Bool, true, false, ◌&&◌, List, [], ◌∷◌, ◌++◌, ◌==◌, if◌then◌else◌, Option, Some, None, Result, Ok, Err, bytes_eq, is_some}
 use Rattle.std.specs.List.{list_any}
 use Rattle.base_kit.specs.Prefixes.{Prefix}
+use Rattle.cfg_ast.specs.declared.network.Named.{Named}
 use Rattle.cfg_ast.specs.declared.interface.Interface.{Interface}
+use Rattle.cfg_ast.specs.declared.bgp.Base.{Base}
 use Rattle.cfg_ast.specs.declared.bgp.NetLine.{NetLine}
 use Rattle.cfg_ast.specs.declared.bgp.Neighbor.{Neighbor}
 use Rattle.cfg_ast.specs.declared.bgp.BgpProcess.{BgpProcess}
@@ -74,14 +76,21 @@ new_neighbor n addr remote = record {
   map_out = None;
 }
 
+-- a list of a neighbour may stand once in each direction, and so may a map
+abbrev pub set_list : ℕ → Named → Bool → Neighbor → Result Neighbor ReadRefusal
+set_list n list true p = once n (is_some p.list_in) (record p { list_in = Some list })
+set_list n list false p = once n (is_some p.list_out) (record p { list_out = Some list })
+
+abbrev pub set_map : ℕ → Named → Bool → Neighbor → Result Neighbor ReadRefusal
+set_map n map true p = once n (is_some p.map_in) (record p { map_in = Some map })
+set_map n map false p = once n (is_some p.map_out) (record p { map_out = Some map })
+
 -- what a further line says of a neighbour
 unfoldable pub set_neighbor : ℕ → RouterItem → Neighbor → Result Neighbor ReadRefusal
 set_neighbor n (item.PeerShut _) p = Ok (record p { shut = true })
 set_neighbor n (item.PeerSends _) p = Ok (record p { sends = true })
-set_neighbor n (item.PeerList _ list true) p = once n (is_some p.list_in) (record p { list_in = Some list })
-set_neighbor n (item.PeerList _ list false) p = once n (is_some p.list_out) (record p { list_out = Some list })
-set_neighbor n (item.PeerMap _ map true) p = once n (is_some p.map_in) (record p { map_in = Some map })
-set_neighbor n (item.PeerMap _ map false) p = once n (is_some p.map_out) (record p { map_out = Some map })
+set_neighbor n (item.PeerList _ list inward) p = set_list n list inward p
+set_neighbor n (item.PeerMap _ map inward) p = set_map n map inward p
 set_neighbor n _ p = Ok p
 
 -- a change of the neighbour of this address, which must have its `remote-as` line
@@ -94,15 +103,36 @@ at_neighbor n addr change (p ∷ peers) =
 abbrev pub with_peer : ℕ → ℕ → RouterItem → BgpProcess → Result BgpProcess ReadRefusal
 with_peer n addr said b = at_neighbor n addr (set_neighbor n said) b.neighbors >>= (λ (peers : List Neighbor). Ok (record b { neighbors = peers }))
 
+-- the neighbour of which a line says something, but for its `remote-as` line
+abbrev pub peer_of : RouterItem → Option ℕ
+peer_of (item.PeerShut addr) = Some addr
+peer_of (item.PeerSends addr) = Some addr
+peer_of (item.PeerList addr _ _) = Some addr
+peer_of (item.PeerMap addr _ _) = Some addr
+peer_of _ = None
+
+abbrev pub set_base : ℕ → Base → BgpProcess → Result BgpProcess ReadRefusal
+set_base n base b = once n (is_some b.base) (record b { base = Some base })
+
+abbrev pub add_network : ℕ → NetLine → BgpProcess → Result BgpProcess ReadRefusal
+add_network n net b = once n (has_network b.networks net.prefix) (record b { networks = b.networks ++ net ∷ [] })
+
+abbrev pub add_neighbor : ℕ → ℕ → ℕ → BgpProcess → Result BgpProcess ReadRefusal
+add_neighbor n addr remote b = once n (has_neighbor b.neighbors addr) (record b { neighbors = b.neighbors ++ new_neighbor n addr remote ∷ [] })
+
+-- what a line says of the process itself
+unfoldable pub set_process : ℕ → RouterItem → BgpProcess → Result BgpProcess ReadRefusal
+set_process n (item.Base base) b = set_base n base b
+set_process n (item.Network net) b = add_network n net b
+set_process n (item.RemoteAs addr number) b = add_neighbor n addr number b
+set_process n _ b = Ok b
+
+abbrev pub set_bgp_for : Option ℕ → ℕ → RouterItem → BgpProcess → Result BgpProcess ReadRefusal
+set_bgp_for (Some addr) n said b = with_peer n addr said b
+set_bgp_for None n said b = set_process n said b
+
 unfoldable pub set_bgp : ℕ → RouterItem → BgpProcess → Result BgpProcess ReadRefusal
-set_bgp n (item.Base base) b = once n (is_some b.base) (record b { base = Some base })
-set_bgp n (item.Network net) b = once n (has_network b.networks net.prefix) (record b { networks = b.networks ++ net ∷ [] })
-set_bgp n (item.RemoteAs addr number) b = once n (has_neighbor b.neighbors addr) (record b { neighbors = b.neighbors ++ new_neighbor n addr number ∷ [] })
-set_bgp n (item.PeerShut addr) b = with_peer n addr (item.PeerShut addr) b
-set_bgp n (item.PeerSends addr) b = with_peer n addr (item.PeerSends addr) b
-set_bgp n (item.PeerList addr list inward) b = with_peer n addr (item.PeerList addr list inward) b
-set_bgp n (item.PeerMap addr map inward) b = with_peer n addr (item.PeerMap addr map inward) b
-set_bgp n _ b = Ok b
+set_bgp n said b = set_bgp_for (peer_of said) n said b
 
 -- ---- an OSPF process
 

@@ -1,0 +1,19 @@
+-- The open stanza as the definition of reading sees it.
+use Rattle.std.specs.Prelude.{◌≡◌, Result, Ok, Err}
+use Rattle.cfg_ast.specs.declared.refusal.ReadRefusal.{ReadRefusal}
+use Rattle.cfg_ast.specs.Answers.{RefusesAs}
+use Rattle.cfg_ast.specs.Reading.{Stanza, closed, ignored, in_interface, in_bgp, in_ospf}
+use Rattle.cfg_parse.specs.declared.draft.Open.{Open}
+use Rattle.cfg_parse.specs.declared.draft.Open.TheVariants as open_stanza
+
+abbrev pub stanza_of : Open → Stanza
+stanza_of open_stanza.Closed = closed
+stanza_of open_stanza.Ignored = ignored
+stanza_of (open_stanza.Interface i) = in_interface i
+stanza_of (open_stanza.Bgp b) = in_bgp b
+stanza_of (open_stanza.Ospf o) = in_ospf o
+
+-- the stanza is that of the definition, or memory ran out
+abbrev pub GivesOpen : Result Open ReadRefusal → Result Stanza ReadRefusal → Type 0
+GivesOpen (Ok now_open) defined = defined ≡ Ok (stanza_of now_open)
+GivesOpen (Err fault) defined = RefusesAs fault defined

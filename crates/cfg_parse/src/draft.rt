@@ -1,0 +1,114 @@
+ghost use Rattle.std.specs.Prelude.{◌≡◌, IfOk};
+ghost use Rattle.cfg_ast.specs.Reading.{no_draft, at_start, with_closed};
+
+use base_kit::{List, NoMemory};
+use cfg_ast::{
+    BgpProcess, CommunityList, Interface, Named, OspfProcess, PrefixList, RouteMap, Router,
+};
+use std::alloc::Global;
+use std::marker::Model;
+
+/// The stanza to which indented lines belong.
+#[derive(Drop)]
+pub(crate) enum Open {
+    Closed,
+    Ignored,
+    Interface(Interface),
+    Bgp(BgpProcess),
+    Ospf(OspfProcess),
+}
+
+/// The router whose lines are being read.
+#[derive(Drop)]
+pub(crate) struct Draft {
+    pub(crate) name: Option<Named>,
+    pub(crate) interfaces: List<Interface>,
+    pub(crate) bgp: Option<BgpProcess>,
+    pub(crate) ospf: Option<OspfProcess>,
+    pub(crate) prefix_lists: List<PrefixList>,
+    pub(crate) community_lists: List<CommunityList>,
+    pub(crate) route_maps: List<RouteMap>,
+    pub(crate) stanza: Open,
+}
+
+impl Model for Draft {
+    ghost use Rattle.cfg_ast.specs.Reading.{Draft};
+    ghost use Rattle.cfg_parse.specs.Open.{stanza_of};
+
+    ghost Value = { Draft };
+
+    ghost view = { λ d. record { name = d.name; interfaces = d.interfaces; bgp = d.bgp; ospf = d.ospf; prefix_lists = d.prefix_lists; community_lists = d.community_lists; route_maps = d.route_maps; stanza = stanza_of d.stanza } };
+}
+
+/// What the lines so far give.
+#[derive(Drop)]
+pub(crate) struct State {
+    pub(crate) routers: List<Router>,
+    pub(crate) draft: Draft,
+}
+
+impl Model for State {
+    ghost use Rattle.cfg_ast.specs.Reading.{State};
+
+    ghost Value = { State };
+
+    ghost view = { λ s. record { routers = s.routers; draft = s.draft } };
+}
+
+pub(crate) fn no_draft(alloc: Global) -> Draft
+    ensures { result ≡ no_draft }
+{
+    Draft {
+        name: None,
+        interfaces: List::new(alloc),
+        bgp: None,
+        ospf: None,
+        prefix_lists: List::new(alloc),
+        community_lists: List::new(alloc),
+        route_maps: List::new(alloc),
+        stanza: Open::Closed,
+    }
+}
+
+pub(crate) fn at_start(alloc: Global) -> State
+    ensures { result ≡ at_start }
+{
+    State {
+        routers: List::new(alloc),
+        draft: no_draft(alloc),
+    }
+}
+
+/// The draft after its open stanza is closed.
+#[tactic(auto, unfolding(cfg_ast::specs::Reading::with_closed))]
+pub(crate) fn with_closed(draft: Draft) -> Result<Draft, NoMemory>
+    ensures { IfOk result (λ d. d ≡ with_closed draft) }
+{
+    let Draft {
+        name,
+        mut interfaces,
+        mut bgp,
+        mut ospf,
+        prefix_lists,
+        community_lists,
+        route_maps,
+        stanza,
+    } = draft;
+    match stanza {
+        Open::Closed => {}
+        Open::Ignored => {}
+        Open::Interface(interface) => interfaces.push(interface)?,
+        Open::Bgp(process) => bgp = Some(process),
+        Open::Ospf(process) => ospf = Some(process),
+    }
+    Ok(Draft {
+        name,
+        interfaces,
+        bgp,
+        ospf,
+        prefix_lists,
+        community_lists,
+        route_maps,
+        stanza: Open::Closed,
+    })
+}

@@ -1,0 +1,16 @@
+//! The network of a text.
+//!
+//! `read_network` reads a text line by line: it gives the network of the text, or refuses the text at
+//! the first line with a fault of its own or of its form. Its contract is the definition
+//! `network_of_text`.
+#![tactic(auto)]
+
+mod bgp;
+mod draft;
+mod interface;
+mod ospf;
+mod reading;
+mod stanza;
+mod top;
+
+pub use reading::read_network;

@@ -1,0 +1,102 @@
+ghost use Rattle.std.specs.Prelude.{◌≡◌};
+ghost use Rattle.cfg_ast.specs.Answers.{Gives};
+ghost use Rattle.cfg_ast.specs.Lines.{IsLineIn, texts};
+ghost use Rattle.cfg_ast.specs.TextLines.{text_line};
+ghost use Rattle.cfg_ast.specs.RouterForms.{router_item_of};
+ghost use Rattle.cfg_ast.specs.Reading.{take_inner};
+ghost use Rattle.cfg_ast.specs.Stanzas.{once, said_at};
+ghost use Rattle.cfg_parse.specs.Open.{stanza_of, GivesOpen};
+ghost use Rattle.cfg_ast.specs.declared.refusal.ReadRefusal.TheVariants.{At};
+ghost use Rattle.cfg_ast.specs.declared.refusal.Kind.TheVariants.{Misplaced};
+
+use crate::bgp::set_bgp;
+use crate::draft::Open;
+use crate::interface::set_interface;
+use crate::ospf::set_ospf;
+use cfg_ast::{FormFault, Kind, Line, ReadRefusal, RouterItem, Scope};
+use cfg_forms_router::router_item;
+use std::alloc::Global;
+
+/// The fault of a line whose value may stand once, if it is given already.
+pub(crate) fn once(number: u32, is_given: bool) -> Result<(), ReadRefusal>
+    ensures { result ≡ once number is_given tt }
+{
+    if is_given {
+        return Err(ReadRefusal::At {
+            line: number,
+            kind: Kind::Repeated,
+        });
+    }
+    Ok(())
+}
+
+pub(crate) fn misplaced(number: u32) -> ReadRefusal
+    ensures { result ≡ At number Misplaced }
+{
+    ReadRefusal::At {
+        line: number,
+        kind: Kind::Misplaced,
+    }
+}
+
+/// What a router line says, or its fault at its line.
+pub(crate) fn said_in(
+    alloc: Global,
+    bytes: &[u8],
+    line: &Line,
+    scope: Scope,
+) -> Result<RouterItem, ReadRefusal>
+    requires { IsLineIn bytes.now line.now }
+    ensures { Gives result (said_at line.now.number (router_item_of scope line.now.number (texts bytes.now line.now.words))) }
+{
+    let number = line.number;
+    match router_item(alloc, bytes, line, scope) {
+        Ok(item) => Ok(item),
+        Err(FormFault::UnknownLine) => Err(ReadRefusal::At {
+            line: number,
+            kind: Kind::UnknownLine,
+        }),
+        Err(FormFault::Unsupported) => Err(ReadRefusal::At {
+            line: number,
+            kind: Kind::Unsupported,
+        }),
+        Err(FormFault::BadForm) => Err(ReadRefusal::At {
+            line: number,
+            kind: Kind::BadForm,
+        }),
+        Err(FormFault::WellKnown) => Err(ReadRefusal::At {
+            line: number,
+            kind: Kind::WellKnown,
+        }),
+        Err(FormFault::Memory) => Err(ReadRefusal::Memory),
+    }
+}
+
+/// The open stanza with what one of its lines says.
+#[tactic(auto, unfolding(cfg_ast::specs::Reading::take_inner))]
+pub(crate) fn take_inner(
+    alloc: Global,
+    bytes: &[u8],
+    line: &Line,
+    stanza: Open,
+) -> Result<Open, ReadRefusal>
+    requires { IsLineIn bytes.now line.now }
+    ensures { GivesOpen result (take_inner (text_line bytes.now line.now) (stanza_of stanza)) }
+{
+    match stanza {
+        Open::Closed => Err(misplaced(line.number)),
+        Open::Ignored => Ok(Open::Ignored),
+        Open::Interface(interface) => {
+            let item = said_in(alloc, bytes, line, Scope::Interface)?;
+            Ok(Open::Interface(set_interface(line.number, item, interface)?))
+        }
+        Open::Bgp(process) => {
+            let item = said_in(alloc, bytes, line, Scope::Bgp)?;
+            Ok(Open::Bgp(set_bgp(line.number, item, process)?))
+        }
+        Open::Ospf(process) => {
+            let item = said_in(alloc, bytes, line, Scope::Ospf)?;
+            Ok(Open::Ospf(set_ospf(item, process)?))
+        }
+    }
+}
