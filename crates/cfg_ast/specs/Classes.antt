@@ -34,6 +34,18 @@ abbrev pub with_prefixes : List Prefix → List Prefix → List Prefix
 with_prefixes [] set = set
 with_prefixes (p ∷ more) set = with_prefixes more (with_prefix p set)
 
+abbrev pub has_prefix : List Prefix → Prefix → Bool
+has_prefix ps p = list_any (same_prefix p) ps
+
+abbrev pub AllAfter : Prefix → List Prefix → Type 0
+AllAfter p [] = Unit {0}
+AllAfter p (q ∷ qs) = (is_before p q ≡ true) × AllAfter p qs
+
+-- each prefix is before all later ones
+abbrev pub AreAscending : List Prefix → Type 0
+AreAscending [] = Unit {0}
+AreAscending (p ∷ ps) = AllAfter p ps × AreAscending ps
+
 -- the subnet of an up interface
 abbrev pub up_subnet : Interface → Option Prefix
 up_subnet x = option_map subnet_of_address (up_address x)
@@ -110,3 +122,15 @@ class_of network p = record { prefixes = filter (is_same_class network p) (origi
 -- the classes, by their least prefixes
 unfoldable pub classes_of : Network → List DestClass
 classes_of network = map (class_of network) (filter (is_least network) (originated network))
+
+-- the two say the same
+abbrev pub SameClassIsDecided : Type 0
+SameClassIsDecided = (network : Network) (p q : Prefix) → (is_same_class network p q ≡ true → IsSameClass network p q) × (IsSameClass network p q → is_same_class network p q ≡ true)
+
+-- a class is that of each of its members
+abbrev pub ClassOfEachMember : Type 0
+ClassOfEachMember = (network : Network) (p q : Prefix) → IsSameClass network p q → class_of network p ≡ class_of network q
+
+-- the prefixes of a class are different and ascend
+abbrev pub ClassAscends : Type 0
+ClassAscends = (network : Network) (p : Prefix) → AreAscending (class_of network p).prefixes

@@ -8,7 +8,7 @@ pub struct DestClass {
 }
 
 /// A router, by its place, that originates the prefixes of a class, and its cost to them in OSPF.
-#[derive(Clone, Copy, Debug, PartialEq, Eq)]
+#[derive(Clone, Copy, Debug, PartialEq, Eq, Hash)]
 pub struct Origin {
     pub router: u32,
     pub cost: Option<u16>,

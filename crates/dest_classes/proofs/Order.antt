@@ -1,0 +1,13 @@
+-- The order of prefixes.
+use Rattle.std.proofs.Common.{◌≡◌, ℕ, Bool, true, false, refl, arith}
+use Rattle.std.specs.Ordering.{is_eq, is_lt}
+use Rattle.std.proofs.lemmas.Bool.Decides.{nat_tests}
+use Rattle.base_kit.specs.Prefixes.{Prefix}
+use Rattle.cfg_ast.specs.Classes.{same_prefix, is_before}
+use Rattle.dest_classes.specs.Routes.{prefix_order}
+
+pub is_eq-prefix_order : (p q : Prefix) → is_eq (prefix_order p q) ≡ same_prefix p q
+is_eq-prefix_order p q = grind (arith, nat_tests)
+
+pub is_lt-prefix_order : (p q : Prefix) → is_lt (prefix_order p q) ≡ is_before p q
+is_lt-prefix_order p q = grind (arith, nat_tests)

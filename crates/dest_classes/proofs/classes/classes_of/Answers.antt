@@ -1,0 +1,13 @@
+use Rattle.std.proofs.Common.{◌≡◌, ◌∙◌, [], ap, map}
+use Rattle.cfg_ast.specs.Classes.{originated, origins_of}
+use Rattle.dest_classes.specs.Groups.{class_from, with_members}
+use Rattle.dest_classes.proofs.Keys.{entries_are}
+use Rattle.dest_classes.proofs.Leaders.{classes_are}
+use Rattle.dest_classes.proofs.Noted.{noted_is}
+use Rattle.dest_classes.proofs.classes.classes_of.Goals as goal
+
+pub returns : goal.returns
+returns c =
+    let network = c.args.net.now in
+    let entries = entries_are network c.in_ok-originators.originators c.in_ok-groups.ensures.ordered (λ p. c.in_ok-originators.ensures p ∙ noted_is network p) in
+    c.in_ok-classes.ensures ∙ ap (map class_from) c.in_ok-groups.ensures.groups ∙ ap (λ es. map class_from (with_members network es [])) entries ∙ classes_are network

@@ -1,0 +1,96 @@
+ghost use Rattle.std.specs.Prelude.{◌≡◌, [], ◌∷◌, ◌++◌, IfOk, OnOk, map, flat_map, unwrap_or};
+ghost use Rattle.cfg_ast.specs.Classes.{lists_on, answers_of};
+ghost use Rattle.cfg_ast.specs.PrefixLists.{prefix_list_permits};
+ghost use Rattle.indexmap.specs.IndexMap.{insert_entry, get};
+ghost use Rattle.std.specs.BTreeMap.{IsOrdered};
+ghost use Rattle.dest_classes.specs.Routes.{prefix_order};
+ghost use Rattle.dest_classes.specs.Groups.{same_signature, Traits, shown_group, shown_signature, with_member, with_members, class_from};
+
+use crate::routes::Originators;
+use base_kit::{List, NoMemory, Prefix};
+use cfg_ast::{DestClass, Network, Origin, PrefixList};
+use indexmap::IndexMap;
+use prefix_lists::permits;
+use std::alloc::Global;
+
+/// What tells classes apart: the originators of a prefix, with their initial routes, and what all
+/// prefix lists answer.
+#[derive(PartialEq, Eq, Hash, Drop)]
+pub struct Signature {
+    pub origins: Vec<Origin>,
+    pub answers: Vec<bool>,
+}
+
+/// The prefixes of each signature, by the first prefix that has it.
+pub type Groups = IndexMap<Signature, List<Prefix>>;
+
+// All prefix lists of all routers.
+fn lists_of<'a>(alloc: Global, net: &'a Network) -> Result<Vec<&'a PrefixList>, NoMemory>
+    ensures { IfOk result (λ v. map (λ list. list.now) v.items ≡ flat_map lists_on net.now.routers) }
+{
+    let mut lists = Vec::new(alloc);
+    for router in net.routers.as_slice() {
+        for list in router.prefix_lists.as_slice() {
+            lists.push(list)?;
+        }
+    }
+    Ok(lists)
+}
+
+// What all lists answer to a prefix.
+fn answers_to(alloc: Global, lists: &[&PrefixList], prefix: Prefix) -> Result<Vec<bool>, NoMemory>
+    ensures { IfOk result (λ v. v.items ≡ map (λ list. prefix_list_permits list prefix) (map (λ list. list.now) lists.now)) }
+{
+    let mut answers = Vec::new(alloc);
+    for list in lists {
+        answers.push(permits(list, prefix))?;
+    }
+    Ok(answers)
+}
+
+// Puts a prefix into the group of its signature.
+fn add(
+    alloc: Global,
+    groups: &mut Groups,
+    signature: Signature,
+    prefix: Prefix,
+) -> Result<(), NoMemory>
+    ensures { OnOk result (groups.new.entries ≡ insert_entry same_signature groups.old.entries signature (unwrap_or (get same_signature groups.old signature) [] ++ prefix ∷ [])) }
+{
+    groups
+        .entry(signature)?
+        .or_insert(List::new(alloc))
+        .push(prefix)?;
+    Ok(())
+}
+
+/// The prefixes of the map, in its order, in their groups.
+pub fn groups_of(alloc: Global, net: &Network, originators: Originators) -> Result<Groups, NoMemory>
+    ensures groups { IfOk result (λ groups. map shown_group groups.entries ≡ with_members net.now originators.entries []) }
+    ensures ordered { OnOk result (IsOrdered prefix_order originators) }
+{
+    let lists = lists_of(alloc, net)?;
+    let mut groups = IndexMap::new(alloc);
+    for (prefix, origins) in originators {
+        let signature = Signature {
+            origins: origins.into_vec(),
+            answers: answers_to(alloc, lists.as_slice(), prefix)?,
+        };
+        add(alloc, &mut groups, signature, prefix)?;
+    }
+    Ok(groups)
+}
+
+/// The class of each group.
+pub fn classes_of(alloc: Global, groups: Groups) -> Result<List<DestClass>, NoMemory>
+    ensures { IfOk result (λ classes. classes ≡ map class_from (map shown_group groups.entries)) }
+{
+    let mut classes = List::new(alloc);
+    for (signature, prefixes) in groups {
+        classes.push(DestClass {
+            prefixes,
+            origins: List::from_vec(signature.origins),
+        })?;
+    }
+    Ok(classes)
+}
