@@ -6,6 +6,7 @@ pub mod Heads
 pub mod Lines
 pub mod Lists
 pub mod Meaning
+pub mod Policy
 pub mod PolicyForms
 pub mod PrefixLists
 pub mod Reading
