@@ -80,7 +80,7 @@ prefix_entry_form line (_ ∷ _ ∷ name ∷ word ∷ number ∷ act ∷ prefix 
   Ok (item.PrefixEntry list (record { seq = seq; permit = permit; prefix = p; ge = bounds.0; le = bounds.1; line = line })))
 prefix_entry_form line _ = Err BadForm
 
-abbrev pub community_line : ℕ → List ℕ → List ℕ → List (List ℕ) → Result PolicyItem FormFault
+unfoldable pub community_line : ℕ → List ℕ → List ℕ → List (List ℕ) → Result PolicyItem FormFault
 community_line line name act communities = do
   permit ← or_bad (is_permit act)
   list ← list_name_of name
@@ -88,7 +88,7 @@ community_line line name act communities = do
   Ok (item.CommunityLine list (record { permit = permit; comms = comms; line = line }))
 
 -- a list named by a number from 1 to 99
-abbrev pub numbered_line : ℕ → List ℕ → List ℕ → List (List ℕ) → Result PolicyItem FormFault
+unfoldable pub numbered_line : ℕ → List ℕ → List ℕ → List (List ℕ) → Result PolicyItem FormFault
 numbered_line line number act communities = bad_unless (is_some (number_between 1 99 number)) (community_line line number act communities)
 
 -- ip community-list NUMBER permit COMMUNITY .., or standard NAME, or deny
@@ -134,11 +134,20 @@ match_prefixes_form line (_ ∷ _ ∷ _ ∷ _ ∷ words) = do
   Ok (item.MatchPrefixes (record { names = names; line = line }))
 match_prefixes_form line _ = Err BadForm
 
--- match community NAME .., and a last word `exact-match` is always the mark
+-- lists of communities, one of which must permit, by its exact answer or by its answer
+unfoldable pub comms_match : ℕ → Bool → List (List ℕ) → Result PolicyItem FormFault
+comms_match line exact words = do
+  names ← list_names_of words
+  Ok (item.MatchComms (record { names = names; line = line }) exact)
+
+-- a last word `exact-match` is always the mark
+unfoldable pub marked_match : ℕ → List (List ℕ) → Result PolicyItem FormFault
+marked_match line words =
+    if is_marked (codes "exact-match") words then comms_match line true (but_last words) else comms_match line false words
+
+-- match community NAME .., with `exact-match` or without
 unfoldable pub match_comms_form : ℕ → List (List ℕ) → Result PolicyItem FormFault
-match_comms_form line (_ ∷ _ ∷ words) = do
-  names ← list_names_of (if is_marked (codes "exact-match") words then but_last words else words)
-  Ok (item.MatchComms (record { names = names; line = line }) (is_marked (codes "exact-match") words))
+match_comms_form line (_ ∷ _ ∷ words) = marked_match line words
 match_comms_form line _ = Err BadForm
 
 -- set local-preference NUMBER
@@ -148,12 +157,12 @@ lp_form (_ ∷ _ ∷ number ∷ []) = do
   Ok (item.Lp n)
 lp_form _ = Err BadForm
 
-abbrev pub is_none_alone : List (List ℕ) → Bool
+unfoldable pub is_none_alone : List (List ℕ) → Bool
 is_none_alone (word ∷ []) = bytes_eq word (codes "none")
 is_none_alone words = false
 
 -- COMMUNITY .., COMMUNITY .. additive, or none
-abbrev pub change_of : List (List ℕ) → Result Change FormFault
+unfoldable pub change_of : List (List ℕ) → Result Change FormFault
 change_of words =
     if is_none_alone words then Ok Clear
     else (if is_marked (codes "additive") words then communities_of (but_last words) >>= (λ comms. Ok (Append comms))
@@ -173,19 +182,14 @@ delete_form line (_ ∷ _ ∷ name ∷ word ∷ []) = bad_unless (bytes_eq word 
   Ok (item.Delete list))
 delete_form line _ = Err BadForm
 
--- AS numbers, which may repeat
-abbrev pub as_numbers_of : List (List ℕ) → Result (List ℕ) FormFault
-as_numbers_of [] = Ok []
-as_numbers_of (word ∷ words) = do
-  n ← or_bad (as_number_of word)
-  more ← as_numbers_of words
-  Ok (n ∷ more)
+abbrev pub is_as_number : List ℕ → Bool
+is_as_number word = is_some (as_number_of word)
 
--- set as-path prepend NUMBER .., 1 to 10 AS numbers
+-- set as-path prepend NUMBER .., 1 to 10 AS numbers, which may repeat
 unfoldable pub prepend_form : ℕ → List (List ℕ) → Result PolicyItem FormFault
-prepend_form line (_ ∷ _ ∷ _ ∷ words) = bad_unless (nat_le 1 (length words) && nat_le (length words) 10) (do
-  numbers ← as_numbers_of words
-  Ok (item.Prepend (record { numbers = numbers; line = line })))
+prepend_form line (_ ∷ _ ∷ _ ∷ words) =
+    bad_unless (nat_le 1 (length words) && nat_le (length words) 10 && list_all is_as_number words)
+        (Ok (item.Prepend (record { numbers = filter_map as_number_of words; line = line })))
 prepend_form line _ = Err BadForm
 
 -- ---- a line by its head

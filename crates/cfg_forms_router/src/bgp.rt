@@ -4,10 +4,10 @@ ghost use Rattle.cfg_ast.specs.Answers.{Reads};
 ghost use Rattle.cfg_ast.specs.Lines.{IsWordIn, texts};
 ghost use Rattle.cfg_ast.specs.RouterForms.{base_form, net_line, network_form, remote_as_form, peer_shut_form, sends_standard, peer_sends_form, is_inward, peer_list_form, peer_map_form};
 
-use crate::masks::{classful_len, exact_prefix, read_mask};
+use crate::masks::{classful_len, read_mask};
 use cfg_ast::FormFault::BadForm;
 use cfg_ast::{Base, FormFault, NetLine, RouterItem, Span};
-use cfg_words::{named, read_address, read_as_number, read_number, text};
+use cfg_words::{exact_prefix, named, read_address, read_as_number, read_number, text};
 use std::alloc::Global;
 
 #[tactic(auto, unfolding(cfg_ast::specs::RouterForms::base_form))]

@@ -1,7 +1,6 @@
 ghost use Rattle.std.specs.Prelude.{◌≡◌, ◌≤◌, IfSome};
-ghost use Rattle.cfg_ast.specs.Words.{mask_of, len_of_mask, mask_len_of, classful_len_of, bits_behind, exact_prefix};
+ghost use Rattle.cfg_ast.specs.Words.{mask_of, len_of_mask, mask_len_of, classful_len_of};
 
-use base_kit::Prefix;
 use cfg_words::read_address;
 
 fn mask_of(len: u8) -> u32
@@ -48,25 +47,5 @@ pub(crate) fn classful_len(addr: u32) -> Option<u8>
         Some(16)
     } else {
         Some(24)
-    }
-}
-
-fn bits_behind(len: u8, addr: u32) -> u64
-    requires { len ≤ 32 }
-    ensures { result ≡ bits_behind len addr }
-{
-    u64::from(addr) % (1u64 << (32 - len))
-}
-
-/// The prefix of that address and length, where no bits of the address stand behind the length.
-#[tactic(auto, unfolding(cfg_ast::specs::Words::exact_prefix))]
-pub(crate) fn exact_prefix(addr: u32, len: u8) -> Option<Prefix>
-    requires { len ≤ 32 }
-    ensures { result ≡ exact_prefix addr len }
-{
-    if bits_behind(len, addr) == 0 {
-        Some(Prefix::new(addr, len))
-    } else {
-        None
     }
 }

@@ -9,10 +9,12 @@
 mod heads;
 mod names;
 mod numbers;
+mod prefixes;
 mod tables;
 mod words;
 
 pub use heads::{policy_class, router_class};
-pub use names::{list_name, named};
+pub use names::{is_list_name, list_name, named};
 pub use numbers::{read_address, read_as_number, read_between, read_number};
+pub use prefixes::{cut_to, exact_prefix};
 pub use words::{copy_of, text};

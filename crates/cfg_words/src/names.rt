@@ -9,9 +9,9 @@ use base_kit::Text;
 use cfg_ast::{FormFault, Named};
 use std::alloc::Global;
 
-// Any word of 1 to 63 bytes.
+/// Whether the word may name a list or a route map: any word of 1 to 63 bytes.
 #[tactic(auto, unfolding(cfg_ast::specs::Words::is_list_name))]
-fn is_list_name(word: &[u8]) -> bool
+pub fn is_list_name(word: &[u8]) -> bool
     ensures { result ≡ is_list_name word.now }
 {
     1 <= word.len() && word.len() <= 63

@@ -1,0 +1,20 @@
+//! What lines of prefix lists, community lists and route maps say.
+//!
+//! `policy_item` reads one line of a running configuration, at the top or in an entry of a route map.
+//! It answers exactly the item that the definition gives, and exactly its fault where the line has one:
+//! a head in no table, a refused head, a form that the line does not fit, or, where the line is at no
+//! other fault, a well-known community. Only want of memory is free.
+#![tactic(auto)]
+
+mod communities;
+mod community_line;
+mod entry;
+mod item;
+mod map_head;
+mod marks;
+mod name_list;
+mod prefix_entry;
+mod shared;
+
+pub use cfg_ast::{FormFault, PolicyItem, PolicyScope};
+pub use item::policy_item;

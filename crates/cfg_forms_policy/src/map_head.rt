@@ -1,0 +1,48 @@
+ghost use Rattle.std.specs.Prelude.{◌≡◌};
+ghost use Rattle.std.specs.List.{AllByRecursion};
+ghost use Rattle.cfg_ast.specs.Answers.{Reads};
+ghost use Rattle.cfg_ast.specs.Lines.{IsWordIn, texts};
+ghost use Rattle.cfg_ast.specs.PolicyForms.{empty_entry, map_head_form};
+
+use crate::shared::is_permit;
+use cfg_ast::FormFault::BadForm;
+use cfg_ast::{FormFault, MapEntry, PolicyItem, Span};
+use cfg_words::{list_name, read_between, text};
+use std::alloc::Global;
+
+fn empty_entry(seq: u32, permit: bool, line: u32) -> MapEntry
+    ensures { result ≡ empty_entry seq permit line }
+{
+    MapEntry {
+        seq,
+        permit,
+        line,
+        prefixes: None,
+        comms: None,
+        exact: false,
+        lp: None,
+        change: None,
+        change_line: 0,
+        delete: None,
+        prepend: None,
+    }
+}
+
+#[tactic(auto, unfolding(cfg_ast::specs::PolicyForms::map_head_form))]
+pub(crate) fn map_head(
+    alloc: Global,
+    bytes: &[u8],
+    words: &[Span],
+    line: u32,
+) -> Result<PolicyItem, FormFault>
+    requires { AllByRecursion (IsWordIn bytes.now) words.now }
+    ensures { Reads result (map_head_form line (texts bytes.now words.now)) }
+{
+    let [_, name, act, number] = words else {
+        return Err(BadForm);
+    };
+    let permit = is_permit(text(bytes, *act)).ok_or(BadForm)?;
+    let seq = read_between(text(bytes, *number), 0, 65535).ok_or(BadForm)?;
+    let map = list_name(alloc, text(bytes, *name))?;
+    Ok(PolicyItem::MapHead(map, empty_entry(seq, permit, line)))
+}

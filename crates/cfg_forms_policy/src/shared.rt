@@ -1,0 +1,46 @@
+ghost use Rattle.std.specs.Prelude.{◌≡◌, MatchOption, IfSome, true, false};
+ghost use Rattle.std.specs.List.{AllByRecursion};
+ghost use Rattle.cfg_ast.specs.Lines.{IsWordIn, texts};
+ghost use Rattle.cfg_ast.specs.PolicyForms.{is_permit, is_group, is_marked, but_last};
+
+use cfg_ast::Span;
+use cfg_words::text;
+
+/// Reads `permit` as true and `deny` as false.
+#[tactic(auto, unfolding(cfg_ast::specs::PolicyForms::is_permit))]
+pub(crate) fn is_permit(word: &[u8]) -> Option<bool>
+    ensures { result ≡ is_permit word.now }
+{
+    if word == b"permit".as_slice() {
+        return Some(true);
+    }
+    if word == b"deny".as_slice() {
+        return Some(false);
+    }
+    None
+}
+
+/// Whether there are 1 to 32 words.
+pub(crate) fn is_group(bytes: &[u8], words: &[Span]) -> bool
+    ensures { result ≡ is_group (texts bytes.now words.now) }
+{
+    1 <= words.len() && words.len() <= 32
+}
+
+/// The words before a last word that is this mark, if it stands.
+#[tactic(auto, using(crate::proofs::LastWord::is_marked_last, crate::proofs::LastWord::texts_but_last, crate::proofs::LastWord::are_words_take))]
+pub(crate) fn before_mark<'a>(bytes: &[u8], words: &'a [Span], mark: &[u8]) -> Option<&'a [Span]>
+    requires { AllByRecursion (IsWordIn bytes.now) words.now }
+    ensures mark { MatchOption result (is_marked mark.now (texts bytes.now words.now) ≡ false) (λ front. is_marked mark.now (texts bytes.now words.now) ≡ true) }
+    ensures front { IfSome result (λ front. texts bytes.now front.now ≡ but_last (texts bytes.now words.now)) }
+    ensures within { IfSome result (λ front. AllByRecursion (IsWordIn bytes.now) front.now) }
+{
+    let [front @ .., last] = words else {
+        return None;
+    };
+    if text(bytes, *last) == mark {
+        Some(front)
+    } else {
+        None
+    }
+}
