@@ -9,6 +9,7 @@ pub mod Meaning
 pub mod Policy
 pub mod PolicyForms
 pub mod PrefixLists
+pub mod Printed
 pub mod Reading
 pub mod RouterFaults
 pub mod RouterForms

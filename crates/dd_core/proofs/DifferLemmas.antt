@@ -88,7 +88,7 @@ differ_step nodes store n i j smaller below below' inside inside' ne (is_choice 
       ]
     ]
 
-differ_below : (nodes : List Node) (store : IsStore nodes) (n i j : ℕ) → i < n → j < n → i < length nodes → j < length nodes → i ≢ j → DifferSomewhere nodes i j
+pub differ_below : (nodes : List Node) (store : IsStore nodes) (n i j : ℕ) → i < n → j < n → i < length nodes → j < length nodes → i ≢ j → DifferSomewhere nodes i j
 differ_below nodes store zero i j below below' inside inside' ne = absurd (omega arith)
 differ_below nodes store (suc n) i j below below' inside inside' ne = differ_step nodes store n i j (λ a b. differ_below nodes store n a b) below below' inside inside' ne (node_at nodes i inside) (node_at nodes j inside')
 

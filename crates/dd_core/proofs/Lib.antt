@@ -1,9 +1,12 @@
+pub mod DependLemmas
 pub mod DifferLemmas
 pub mod IteLemmas
+pub mod MarkLemmas
 pub mod MemoryLemmas
 pub mod NodeLemmas
 pub mod SetLemmas
 pub mod ShownLemmas
 pub mod StoreLemmas
+pub mod SupportLemmas
 pub mod TableLemmas
 pub mod ValueLemmas

@@ -15,7 +15,7 @@ use Rattle.std.proofs.lemmas.Option.{slice_get-get_or}
 abbrev pub updated : (ℕ → Bool) → ℕ → Bool → ℕ → Bool
 updated has variable b other = if other == variable then b else has other
 
-updated_same : (has : ℕ → Bool) (variable : ℕ) (b : Bool) → updated has variable b variable ≡ b
+pub updated_same : (has : ℕ → Bool) (variable : ℕ) (b : Bool) → updated has variable b variable ≡ b
 updated_same has variable b = grind (arith, nat_tests)
 
 updated_other : (has : ℕ → Bool) (variable : ℕ) (b : Bool) (other : ℕ) → variable < other → updated has variable b other ≡ has other

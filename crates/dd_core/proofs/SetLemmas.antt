@@ -83,7 +83,7 @@ ascending_chosen f place (c ∷ cs) outside up below = by (f place) (ascending_c
     by true rest = (above_chosen f c (place + 1) cs outside up.0 below.0, rest)
     by false rest = rest
 
-above_index : (n : ℕ) (xs : List ℕ) (i : ℕ) → AllAbove n xs → i < length xs → n < get_or xs i 0
+pub above_index : (n : ℕ) (xs : List ℕ) (i : ℕ) → AllAbove n xs → i < length xs → n < get_or xs i 0
 above_index n [] i all inside = absurd (omega arith)
 above_index n (x ∷ xs) zero all inside = all.0
 above_index n (x ∷ xs) (suc i) all inside = above_index n xs i all.1 (omega arith)

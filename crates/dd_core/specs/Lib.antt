@@ -1,3 +1,5 @@
+pub mod Marks
+pub mod Reach
 pub mod Remembering
 pub mod Sets
 pub mod Store

@@ -12,6 +12,7 @@
 mod build;
 mod ite;
 mod node_id;
+mod reach;
 mod store;
 mod table;
 mod variables;

@@ -1,10 +1,12 @@
 ghost use Rattle.std.specs.Prelude.{◌≡◌, ◌≤◌, ◌<◌, length, IfOk, IfSome, Ok, Some, ℕ, Bool, true, false, not, ◌&&◌, ◌||◌, List, slice_index};
 ghost use Rattle.base_kit.specs.Sets.{has, IsAscending};
+ghost use Rattle.dd_core.specs.Reach.{IsSupport, DependsOnOthers, IsSize};
 ghost use Rattle.dd_core.specs.Sets.{value_of, has_others, Means, Grows, IsIteOfSets, IsShown, DifferOnSet, fresh, constant_at, remembered, recalling};
 
 use crate::NodeId;
 use crate::build::choice;
 use crate::ite::remembered_ite;
+use crate::reach::{count_choices, marked_communities, reached, used_variables};
 use crate::table::{Node, Table};
 use crate::variables::{is_true, place_of};
 use base_kit::{Community, NoMemory, NumSet};
@@ -18,6 +20,7 @@ pub struct Store {
     universe: NumSet,
     table: Table,
     cache: Cache,
+    alloc: Global,
 }
 
 impl Model for Store {
@@ -57,6 +60,7 @@ impl Store {
             universe,
             table,
             cache,
+            alloc,
         })
     }
 
@@ -212,6 +216,37 @@ impl Store {
                 }
             }
         }
+    }
+
+    /// The communities of the universe on which the value depends.
+    pub fn support(&self, a: NodeId) -> Result<NumSet, NoMemory>
+        requires { a < length self.now.nodes }
+        ensures { IfOk result (IsSupport self.now a) }
+    {
+        let used = used_variables(self.alloc, &self.table, &self.universe, a.place())?;
+        let support = marked_communities(self.alloc, &self.universe, &used)?;
+        Ok(support)
+    }
+
+    /// Whether the value depends on a community outside the universe.
+    pub fn needs_others(&self, a: NodeId) -> Result<bool, NoMemory>
+        requires { a < length self.now.nodes }
+        ensures needed { IfOk result (λ needed. needed ≡ true → DependsOnOthers self.now a) }
+        ensures all { IfOk result (λ needed. DependsOnOthers self.now a → needed ≡ true) }
+    {
+        let used = used_variables(self.alloc, &self.table, &self.universe, a.place())?;
+        let others = self.universe.as_slice().len();
+        Ok(used[others])
+    }
+
+    /// The number of nodes that are reached from this one, itself included and constants left out.
+    pub fn size(&self, a: NodeId) -> Result<usize, NoMemory>
+        requires { a < length self.now.nodes }
+        ensures { IfOk result (IsSize self.now.nodes a) }
+    {
+        let marks = reached(self.alloc, &self.table, a.place())?;
+        let size = count_choices(&self.table, &marks);
+        Ok(size)
     }
 }
 

@@ -1,0 +1,216 @@
+-- The printed text of a network: the lines of each router, in one order, as a device shows its
+-- running configuration. Values are written as they are read: numbers in decimal, addresses as four
+-- numbers joined by points (RFC 1123 section 2.1), communities as two halves (RFC 1997).
+use Rattle.std.specs.Prelude.{ℕ, ◌+◌, ◌-◌, ◌*◌, ◌/◌, ◌%◌, Bool, true, false, List, [], ◌∷◌, ◌++◌, if◌then◌else◌, Option, Some, None, codes, bytes_eq, map, replicate}
+use Rattle.std.specs.List.{flat_map, join_with_byte, zip}
+use Rattle.std.specs.Option.{is_some}
+use Rattle.std.specs.Fmt.{decimal}
+use Rattle.base_kit.specs.Prefixes.{Prefix}
+use Rattle.cfg_ast.specs.Addresses.{Address}
+use Rattle.cfg_ast.specs.TextLines.{TextLine}
+use Rattle.cfg_ast.specs.Words.{mask_of, number_between}
+use Rattle.cfg_ast.specs.declared.network.Network.{Network}
+use Rattle.cfg_ast.specs.declared.network.Router.{Router}
+use Rattle.cfg_ast.specs.declared.network.Notes.{Notes}
+use Rattle.cfg_ast.specs.declared.network.Named.{Named}
+use Rattle.cfg_ast.specs.declared.interface.Interface.{Interface}
+use Rattle.cfg_ast.specs.declared.bgp.BgpProcess.{BgpProcess}
+use Rattle.cfg_ast.specs.declared.bgp.NetLine.{NetLine}
+use Rattle.cfg_ast.specs.declared.bgp.Neighbor.{Neighbor}
+use Rattle.cfg_ast.specs.declared.ospf.OspfProcess.{OspfProcess}
+use Rattle.cfg_ast.specs.declared.ospf.AreaLine.{AreaLine}
+use Rattle.cfg_ast.specs.declared.policy.PrefixList.{PrefixList}
+use Rattle.cfg_ast.specs.declared.policy.PrefixEntry.{PrefixEntry}
+use Rattle.cfg_ast.specs.declared.policy.CommunityList.{CommunityList}
+use Rattle.cfg_ast.specs.declared.policy.CommunityLine.{CommunityLine}
+use Rattle.cfg_ast.specs.declared.policy.RouteMap.{RouteMap}
+use Rattle.cfg_ast.specs.declared.policy.MapEntry.{MapEntry}
+use Rattle.cfg_ast.specs.declared.policy.Change.{Change}
+use Rattle.cfg_ast.specs.declared.policy.Change.TheVariants.{Clear, Replace, Append}
+
+-- ---- words
+
+-- an address: four numbers joined by points
+abbrev pub address_text : ℕ → List ℕ
+address_text addr =
+    join_with_byte 46 (decimal (addr / 16777216) ∷ decimal (addr / 65536 % 256) ∷ decimal (addr / 256 % 256) ∷ decimal (addr % 256) ∷ [])
+
+abbrev pub prefix_text : Prefix → List ℕ
+prefix_text prefix = address_text prefix.addr ++ 47 ∷ decimal prefix.len
+
+abbrev pub community_text : ℕ → List ℕ
+community_text community = decimal (community / 65536) ++ 58 ∷ decimal (community % 65536)
+
+abbrev pub act_text : Bool → List ℕ
+act_text permit = if permit then codes "permit" else codes "deny"
+
+-- ---- lines
+
+-- a line by its indentation and its words
+abbrev pub line : ℕ → List (List ℕ) → TextLine
+line indent words = record { number = 0; indent = indent; words = words }
+
+-- a line of a stanza
+abbrev pub inner : List (List ℕ) → TextLine
+inner words = line 1 words
+
+abbrev pub closing : TextLine
+closing = line 0 (codes "!" ∷ [])
+
+-- the line of something that may be absent
+abbrev pub line_of : {A : Type 0} → (A → TextLine) → Option A → List TextLine
+line_of write None = []
+line_of write (Some a) = write a ∷ []
+
+abbrev pub line_if : Bool → TextLine → List TextLine
+line_if b l = if b then l ∷ [] else []
+
+-- some lines, and a closing one if there are any
+abbrev pub closed : List TextLine → List TextLine
+closed [] = []
+closed (l ∷ ls) = (l ∷ ls) ++ closing ∷ []
+
+-- ---- interfaces
+
+abbrev pub address_line : Address → TextLine
+address_line a = inner (codes "ip" ∷ codes "address" ∷ address_text a.addr ∷ address_text (mask_of a.len) ∷ [])
+
+abbrev pub cost_line : ℕ → TextLine
+cost_line cost = inner (codes "ip" ∷ codes "ospf" ∷ codes "cost" ∷ decimal cost ∷ [])
+
+abbrev pub interface_lines : Interface → List TextLine
+interface_lines i =
+    line 0 (codes "interface" ∷ i.name ∷ [])
+    ∷ line_of address_line i.address ++ line_of cost_line i.cost ++ line_if i.shut (inner (codes "shutdown" ∷ [])) ++ closing ∷ []
+
+-- ---- BGP
+
+abbrev pub base_line : ℕ → TextLine
+base_line value = inner (codes "bgp" ∷ codes "default" ∷ codes "local-preference" ∷ decimal value ∷ [])
+
+abbrev pub network_line : NetLine → TextLine
+network_line n = inner (codes "network" ∷ address_text n.prefix.addr ∷ codes "mask" ∷ address_text (mask_of n.prefix.len) ∷ [])
+
+-- a line of a neighbour begins with its address
+abbrev pub neighbor_line : ℕ → List (List ℕ) → TextLine
+neighbor_line addr words = inner (codes "neighbor" ∷ address_text addr ∷ words)
+
+abbrev pub applied_line : ℕ → List ℕ → List ℕ → Named → TextLine
+applied_line addr what way named = neighbor_line addr (what ∷ named.name ∷ way ∷ [])
+
+abbrev pub neighbor_lines : Neighbor → List TextLine
+neighbor_lines n =
+    neighbor_line n.addr (codes "remote-as" ∷ decimal n.remote ∷ [])
+    ∷ line_if n.shut (neighbor_line n.addr (codes "shutdown" ∷ []))
+    ++ line_if n.sends (neighbor_line n.addr (codes "send-community" ∷ []))
+    ++ line_of (applied_line n.addr (codes "prefix-list") (codes "in")) n.list_in
+    ++ line_of (applied_line n.addr (codes "prefix-list") (codes "out")) n.list_out
+    ++ line_of (applied_line n.addr (codes "route-map") (codes "in")) n.map_in
+    ++ line_of (applied_line n.addr (codes "route-map") (codes "out")) n.map_out
+
+abbrev pub bgp_lines : BgpProcess → List TextLine
+bgp_lines b =
+    line 0 (codes "router" ∷ codes "bgp" ∷ decimal b.number ∷ [])
+    ∷ line_of (λ base. base_line base.value) b.base ++ map network_line b.networks ++ flat_map neighbor_lines b.neighbors ++ closing ∷ []
+
+-- ---- OSPF
+
+abbrev pub area_line : AreaLine → TextLine
+area_line a = inner (codes "network" ∷ address_text a.addr ∷ address_text a.wild ∷ codes "area" ∷ decimal a.area ∷ [])
+
+abbrev pub ospf_lines : OspfProcess → List TextLine
+ospf_lines o =
+    line 0 (codes "router" ∷ codes "ospf" ∷ decimal o.number ∷ [])
+    ∷ line_if o.passive_default (inner (codes "passive-interface" ∷ codes "default" ∷ []))
+    ++ map (λ name. inner (codes "passive-interface" ∷ name ∷ [])) o.passive
+    ++ map (λ name. inner (codes "no" ∷ codes "passive-interface" ∷ name ∷ [])) o.not_passive
+    ++ map area_line o.areas ++ closing ∷ []
+
+-- ---- lists
+
+abbrev pub bound_words : List ℕ → Option ℕ → List (List ℕ)
+bound_words name None = []
+bound_words name (Some n) = name ∷ decimal n ∷ []
+
+abbrev pub prefix_entry_line : List ℕ → PrefixEntry → TextLine
+prefix_entry_line name e =
+    line 0 (codes "ip" ∷ codes "prefix-list" ∷ name ∷ codes "seq" ∷ decimal e.seq ∷ act_text e.permit ∷ prefix_text e.prefix ∷ bound_words (codes "ge") e.ge ++ bound_words (codes "le") e.le)
+
+abbrev pub prefix_list_lines : List PrefixList → List TextLine
+prefix_list_lines lists = closed (flat_map (λ l. map (prefix_entry_line l.name) l.entries) lists)
+
+-- a list that is named by a number from 1 to 99 is written without `standard`
+abbrev pub community_list_name : List ℕ → List (List ℕ)
+community_list_name name = if is_some (number_between 1 99 name) then name ∷ [] else codes "standard" ∷ name ∷ []
+
+abbrev pub community_line : List ℕ → CommunityLine → TextLine
+community_line name c =
+    line 0 (codes "ip" ∷ codes "community-list" ∷ community_list_name name ++ act_text c.permit ∷ map community_text c.comms)
+
+abbrev pub community_list_lines : List CommunityList → List TextLine
+community_list_lines lists = closed (flat_map (λ l. map (community_line l.name) l.lines) lists)
+
+-- ---- route maps
+
+abbrev pub match_community_words : Bool → List (List ℕ) → List (List ℕ)
+match_community_words exact names = codes "match" ∷ codes "community" ∷ names ++ (if exact then codes "exact-match" ∷ [] else [])
+
+abbrev pub change_line : Change → TextLine
+change_line Clear = inner (codes "set" ∷ codes "community" ∷ codes "none" ∷ [])
+change_line (Replace comms) = inner (codes "set" ∷ codes "community" ∷ map community_text comms)
+change_line (Append comms) = inner (codes "set" ∷ codes "community" ∷ map community_text comms ++ codes "additive" ∷ [])
+
+abbrev pub map_entry_lines : List ℕ → MapEntry → List TextLine
+map_entry_lines name e =
+    line 0 (codes "route-map" ∷ name ∷ act_text e.permit ∷ decimal e.seq ∷ [])
+    ∷ line_of (λ l. inner (codes "match" ∷ codes "ip" ∷ codes "address" ∷ codes "prefix-list" ∷ l.names)) e.prefixes
+    ++ line_of (λ l. inner (match_community_words e.exact l.names)) e.comms
+    ++ line_of (λ lp. inner (codes "set" ∷ codes "local-preference" ∷ decimal lp ∷ [])) e.lp
+    ++ line_of change_line e.change
+    ++ line_of (λ d. inner (codes "set" ∷ codes "comm-list" ∷ d.name ∷ codes "delete" ∷ [])) e.delete
+    ++ line_of (λ p. inner (codes "set" ∷ codes "as-path" ∷ codes "prepend" ∷ map decimal p.numbers)) e.prepend
+    ++ closing ∷ []
+
+abbrev pub route_map_lines : RouteMap → List TextLine
+route_map_lines m = flat_map (map_entry_lines m.name) m.entries
+
+-- ---- routers
+
+abbrev pub lines_of_some : {A : Type 0} → (A → List TextLine) → Option A → List TextLine
+lines_of_some write None = []
+lines_of_some write (Some a) = write a
+
+abbrev pub member_line : List ℕ → TextLine
+member_line member = line 0 (codes "!" ∷ codes "member" ∷ member ∷ [])
+
+-- a router, and the names of those that it stands for
+unfoldable pub router_lines : Router → List (List ℕ) → List TextLine
+router_lines r members =
+    line 0 (codes "hostname" ∷ r.name ∷ [])
+    ∷ map member_line members ++ closing
+    ∷ flat_map interface_lines r.interfaces
+    ++ lines_of_some bgp_lines r.bgp
+    ++ lines_of_some ospf_lines r.ospf
+    ++ prefix_list_lines r.prefix_lists
+    ++ community_list_lines r.community_lists
+    ++ flat_map route_map_lines r.route_maps
+    ++ line 0 (codes "end" ∷ []) ∷ []
+
+abbrev pub routers_lines : List Router → List (List (List ℕ)) → List TextLine
+routers_lines [] members = []
+routers_lines (r ∷ rs) [] = router_lines r [] ++ routers_lines rs []
+routers_lines (r ∷ rs) (names ∷ members) = router_lines r names ++ routers_lines rs members
+
+-- the lines of the text
+abbrev pub printed_lines : Network → Notes → List TextLine
+printed_lines network notes = routers_lines network.routers notes.members
+
+-- ---- the text
+
+-- a line as bytes: blanks, the words with one blank between, and a newline
+abbrev pub line_text : TextLine → List ℕ
+line_text l = replicate l.indent 32 ++ join_with_byte 32 l.words ++ 10 ∷ []
+
+-- the whole text
+unfoldable pub printed : Network → Notes → List ℕ
+printed network notes = flat_map line_text (printed_lines network notes)
