@@ -142,92 +142,121 @@ module _ (B A : Problem) (R : ℕ → ℕ → Type 0) (m : IsMatching B A R) (gb
         };
       }
 
-  record Row (E : List (Option Route)) (limit row : ℕ) : Type 0 where
-    next : List (Option Route)
-    good : IsGood B A R next L
-    extends : Extends E next
-    filled : IsRowFilled R next L limit row
+  -- how the loop may choose the label of a router, so that the choice stays right while labels are added
+  pub record IsChoice (Pick : List (Option Route) → ℕ → Route → Type 0) : Type 0 where
+    pub make : (E : List (Option Route)) → IsGood B A R E L → (b a : ℕ) (s : Route) → R b a → label L a ≡ Some s → label E b ≡ None → IsFilled R E L (size_of s) → (c : Route) × Pick E b c × IsCandidate B E b c × (key_of B c ≡ key_of A s)
+    pub keep : (E E' : List (Option Route)) (b : ℕ) (c : Route) → Extends E E' → Pick E b c → Pick E' b c
 
-  more_filled : (E E' : List (Option Route)) (limit : ℕ) → Extends E E' → IsFilled R E L limit → IsFilled R E' L limit
-  more_filled E E' limit ext f = record { filled = λ b a s x e less. let r = f.filled b a s x e less in (r.0, ext.kept b r.0 r.1) }
+  module _ (Pick : List (Option Route) → ℕ → Route → Type 0) (choice : IsChoice Pick) where
+    record Row (E : List (Option Route)) (limit row : ℕ) : Type 0 where
+      next : List (Option Route)
+      good : IsGood B A R next L
+      extends : Extends E next
+      filled : IsRowFilled R next L limit row
+      picked : (b : ℕ) (r : Route) → label next b ≡ Some r → Pick next b r
 
-  -- the row grows by a router that has its label, or needs none
-  row_more : (E E' : List (Option Route)) (limit i : ℕ) → Extends E E' → IsRowFilled R E L limit i → ((a : ℕ) (s : Route) → R i a → label L a ≡ Some s → size_of s < limit → (r : Route) × (label E' i ≡ Some r)) → IsRowFilled R E' L limit (suc i)
-  row_more E E' limit i ext row here = record {
-    filled = λ b a s less x e small. elim (cases_eq b i) [
-      | inl same ↦ (let h = here a s (subst (λ v. R v a) same x) e small in (h.0, subst (λ v. label E' v ≡ Some h.0) (sym same) h.1))
-      | inr differ ↦ (let r = row.filled b a s (omega arith) x e small in (r.0, ext.kept b r.0 r.1))
-    ];
-  }
+    more_filled : (E E' : List (Option Route)) (limit : ℕ) → Extends E E' → IsFilled R E L limit → IsFilled R E' L limit
+    more_filled E E' limit ext f = record { filled = λ b a s x e less. let r = f.filled b a s x e less in (r.0, ext.kept b r.0 r.1) }
 
-  same_labels : (E : List (Option Route)) → Extends E E
-  same_labels E = record { kept = λ u r e. e }
+    -- the row grows by a router that has its label, or needs none
+    row_more : (E E' : List (Option Route)) (limit i : ℕ) → Extends E E' → IsRowFilled R E L limit i → ((a : ℕ) (s : Route) → R i a → label L a ≡ Some s → size_of s < limit → (r : Route) × (label E' i ≡ Some r)) → IsRowFilled R E' L limit (suc i)
+    row_more E E' limit i ext row here = record {
+      filled = λ b a s less x e small. elim (cases_eq b i) [
+        | inl same ↦ (let h = here a s (subst (λ v. R v a) same x) e small in (h.0, subst (λ v. label E' v ≡ Some h.0) (sym same) h.1))
+        | inr differ ↦ (let r = row.filled b a s (omega arith) x e small in (r.0, ext.kept b r.0 r.1))
+      ];
+    }
 
-  extends_on : (E E' E'' : List (Option Route)) → Extends E E' → Extends E' E'' → Extends E E''
-  extends_on E E' E'' f g = record { kept = λ u r e. g.kept u r (f.kept u r e) }
+    same_labels : (E : List (Option Route)) → Extends E E
+    same_labels E = record { kept = λ u r e. e }
 
-  -- a partner of one size, then all partners
-  same_size : (b a a' : ℕ) (s s' : Route) → R b a → R b a' → label L a ≡ Some s → label L a' ≡ Some s' → size_of s' ≡ size_of s
-  same_size b a a' s s' x y e e' =
-      let h = even.held b a a' s x y e in
-      let same : h.route ≡ s' = (let lh = h.labelled in cc) in
-      sym (ap size_of same) ∙ ap (λ (q : Key). q.size) h.keyed
+    extends_on : (E E' E'' : List (Option Route)) → Extends E E' → Extends E' E'' → Extends E E''
+    extends_on E E' E'' f g = record { kept = λ u r e. g.kept u r (f.kept u r e) }
 
-  one_row : (E : List (Option Route)) (k i : ℕ) → IsFilled R E L k → Row E (suc k) i → i < count B → Row E (suc k) (suc i)
-  one_row E k i before row inside =
-      let p = m.left i inside in
-      elim (cases_label (label L p.0)) [
-        | inl empty ↦ record {
-          next = row.next;
-          good = row.good;
-          extends = row.extends;
-          filled = row_more row.next row.next (suc k) i (same_labels row.next) row.filled (λ a s x e less.
-              let h = even.held i a p.0 s x p.1 e in let lh = h.labelled in absurd (cc));
-        }
-        | inr full ↦ elim (cases_lt (size_of full.0) (suc k)) [
-          | inr large ↦ record {
+    -- a partner of one size, then all partners
+    same_size : (b a a' : ℕ) (s s' : Route) → R b a → R b a' → label L a ≡ Some s → label L a' ≡ Some s' → size_of s' ≡ size_of s
+    same_size b a a' s s' x y e e' =
+        let h = even.held b a a' s x y e in
+        let same : h.route ≡ s' = (let lh = h.labelled in cc) in
+        sym (ap size_of same) ∙ ap (λ (q : Key). q.size) h.keyed
+
+    one_row : (E : List (Option Route)) (k i : ℕ) → IsFilled R E L k → Row E (suc k) i → i < count B → Row E (suc k) (suc i)
+    one_row E k i before row inside =
+        let p = m.left i inside in
+        elim (cases_label (label L p.0)) [
+          | inl empty ↦ record {
             next = row.next;
             good = row.good;
             extends = row.extends;
+            picked = row.picked;
             filled = row_more row.next row.next (suc k) i (same_labels row.next) row.filled (λ a s x e less.
-                let size = same_size i p.0 a full.0 s p.1 x full.1 e in absurd (omega arith));
+                let h = even.held i a p.0 s x p.1 e in let lh = h.labelled in absurd (cc));
           }
-          | inl small ↦ elim (cases_label (label row.next i)) [
-            | inr there ↦ record { next = row.next; good = row.good; extends = row.extends; filled = row_more row.next row.next (suc k) i (same_labels row.next) row.filled (λ a s x e less. there) }
-            | inl absent ↦
-                let shorter : IsFilled R row.next L (size_of full.0) = record { filled = λ b a s x e less. let r = before.filled b a s x e (omega arith) in (r.0, row.extends.kept b r.0 r.1) } in
-                let o = offered row.next row.good i p.0 full.0 p.1 full.1 absent shorter (st.held p.0 full.0 (m.right_in i p.0 p.1) full.1) in
-                let next = set row.next i (Some o.route) in
-                let ext = extended row.next i o.route absent in
-                let total = row.good.supported.fitting.total in
-                let put : label next i ≡ Some o.route = get_or-set_same row.next i (Some o.route) None (omega (arith, total)) in
-                record { next = next; good = set_good row.next row.good i p.0 o.route full.0 p.1 full.1 absent o.candidate o.keyed; extends = extends_on E row.next next row.extends ext; filled = row_more row.next next (suc k) i ext row.filled (λ a s x e less. (o.route, put)) }
+          | inr full ↦ elim (cases_lt (size_of full.0) (suc k)) [
+            | inr large ↦ record {
+              next = row.next;
+              good = row.good;
+              extends = row.extends;
+              picked = row.picked;
+              filled = row_more row.next row.next (suc k) i (same_labels row.next) row.filled (λ a s x e less.
+                  let size = same_size i p.0 a full.0 s p.1 x full.1 e in absurd (omega arith));
+            }
+            | inl small ↦ elim (cases_label (label row.next i)) [
+              | inr there ↦ record {
+                next = row.next;
+                good = row.good;
+                extends = row.extends;
+                picked = row.picked;
+                filled = row_more row.next row.next (suc k) i (same_labels row.next) row.filled (λ a s x e less. there);
+              }
+              | inl absent ↦
+                  let shorter : IsFilled R row.next L (size_of full.0) = record { filled = λ b a s x e less. let r = before.filled b a s x e (omega arith) in (r.0, row.extends.kept b r.0 r.1) } in
+                  let o = choice.make row.next row.good i p.0 full.0 p.1 full.1 absent shorter in
+                  let next = set row.next i (Some o.0) in
+                  let ext = extended row.next i o.0 absent in
+                  let total = row.good.supported.fitting.total in
+                  let put : label next i ≡ Some o.0 = get_or-set_same row.next i (Some o.0) None (omega (arith, total)) in
+                  record { next = next; good = set_good row.next row.good i p.0 o.0 full.0 p.1 full.1 absent o.2 o.3; extends = extends_on E row.next next row.extends ext; picked = λ b r e. elim (at_set row.next i b o.0 r (omega (arith, total)) e) [ inl n ↦ subst (λ v. Pick next v r) (sym n.0) (subst (Pick next i) n.1 (choice.keep row.next next i o.0 ext o.1)) | inr old ↦ choice.keep row.next next b r ext (row.picked b r old) ]; filled = row_more row.next next (suc k) i ext row.filled (λ a s x e less. (o.0, put)) }
+            ]
           ]
         ]
-      ]
 
-  rows : (E : List (Option Route)) (k i : ℕ) → IsGood B A R E L → IsFilled R E L k → i ≤ count B → Row E (suc k) i
-  rows E k zero good before h = record { next = E; good = good; extends = same_labels E; filled = record { filled = λ b a s less x e small. absurd (omega arith) } }
-  rows E k (suc i) good before h = one_row E k i before (rows E k i good before (omega arith)) (omega arith)
+    rows : (E : List (Option Route)) (k i : ℕ) → IsGood B A R E L → ((b : ℕ) (r : Route) → label E b ≡ Some r → Pick E b r) → IsFilled R E L k → i ≤ count B → Row E (suc k) i
+    rows E k zero good picked before h = record { next = E; good = good; picked = picked; extends = same_labels E; filled = record { filled = λ b a s less x e small. absurd (omega arith) } }
+    rows E k (suc i) good picked before h = one_row E k i before (rows E k i good picked before (omega arith)) (omega arith)
 
-  record Filling (limit : ℕ) : Type 0 where
-    labels : List (Option Route)
-    good : IsGood B A R labels L
-    filled : IsFilled R labels L limit
+    record Filling (limit : ℕ) : Type 0 where
+      labels : List (Option Route)
+      good : IsGood B A R labels L
+      picked : (b : ℕ) (r : Route) → label labels b ≡ Some r → Pick labels b r
+      filled : IsFilled R labels L limit
 
-  filling : (k : ℕ) → Filling k
-  filling zero = record {
-    labels = replicate (count B) None;
-    good = record {
-      supported = record { fitting = record { total = length-replicate (count B) None; routes = λ u r e. absurd (nothing B u r e) }; held = λ u r e. absurd (nothing B u r e) };
-      tied = record { held = λ b a r x e. absurd (nothing B b r e) };
-    };
-    filled = record { filled = λ b a s x e small. absurd (omega arith) };
-  }
-  filling (suc k) =
-      let f = filling k in
-      let r = rows f.labels k (count B) f.good f.filled (omega arith) in
-      record { labels = r.next; good = r.good; filled = record { filled = λ b a s x e small. r.filled.filled b a s (m.left_in b a x) x e small } }
+    filling : (k : ℕ) → Filling k
+    filling zero = record {
+      labels = replicate (count B) None;
+      good = record {
+        supported = record { fitting = record { total = length-replicate (count B) None; routes = λ u r e. absurd (nothing B u r e) }; held = λ u r e. absurd (nothing B u r e) };
+        tied = record { held = λ b a r x e. absurd (nothing B b r e) };
+      };
+      picked = λ b r e. absurd (nothing B b r e);
+      filled = record { filled = λ b a s x e small. absurd (omega arith) };
+    }
+    filling (suc k) =
+        let f = filling k in
+        let r = rows f.labels k (count B) f.good f.picked f.filled (omega arith) in
+        record { labels = r.next; good = r.good; picked = r.picked; filled = record { filled = λ b a s x e small. r.filled.filled b a s (m.left_in b a x) x e small } }
+
+    -- labels that are chosen so, with which all partners of labelled routers are filled
+    pub record ChosenLabels : Type 0 where
+      pub labels : List (Option Route)
+      pub good : IsGood B A R labels L
+      pub picked : (b : ℕ) (r : Route) → label labels b ≡ Some r → Pick labels b r
+      pub full : (b a : ℕ) (s : Route) → R b a → label L a ≡ Some s → (r : Route) × (label labels b ≡ Some r)
+
+    pub chosen_labels : ChosenLabels
+    chosen_labels =
+        let f = filling (bound_of L) in
+        record { labels = f.labels; good = f.good; picked = f.picked; full = λ b a s x e. f.filled.filled b a s x e (below_bound L a s e) }
 
   -- labels that are good, and none where the partners have none, are stable
   pub good_stable : (E : List (Option Route)) → IsGood B A R E L → ((b a : ℕ) (s : Route) → R b a → label L a ≡ Some s → (r : Route) × (label E b ≡ Some r)) → IsStable B E
@@ -270,8 +299,14 @@ module _ (B A : Problem) (R : ℕ → ℕ → Type 0) (m : IsMatching B A R) (gb
     },
   )
 
+  any_choice : IsChoice (λ E b c. Unit {0})
+  any_choice = record {
+    make = λ E good b a s x e empty before. (let o = offered E good b a s x e empty before (st.held a s (m.right_in b a x) e) in (o.route, tt, o.candidate, o.keyed));
+    keep = λ E E' b c ext p. tt;
+  }
+
   pub solved : Solved
   solved =
-      let f = filling (bound_of L) in
-      let t = finished f.labels f.good (λ b a s x e. f.filled.filled b a s x e (below_bound L a s e)) in
+      let f = chosen_labels (λ E b c. Unit {0}) any_choice in
+      let t = finished f.labels f.good f.full in
       record { labels = f.labels; stable = t.0; down = t.1; up = t.2 }

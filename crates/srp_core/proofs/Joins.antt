@@ -1,8 +1,7 @@
 -- The join of two admissible partitions is admissible.
-use Rattle.std.proofs.Common.{◌≡◌, ◌≢◌, ◌⊎◌, ℕ, zero, suc, ◌<◌, Bool, true, List, length, Option, refl, sym, ap, ◌∙◌, subst, inl, inr}
+use Rattle.std.proofs.Common.{◌≡◌, ◌≢◌, ℕ, zero, suc, ◌<◌, true, List, refl, sym, ap, ◌∙◌, subst, inl, inr}
 use Rattle.std.specs.Prelude.{Contains}
 use Rattle.base_kit.specs.declared.act_graph.Edge.{Edge}
-use Rattle.srp_core.specs.declared.route.Route.{Route}
 use Rattle.srp_core.specs.Problem.{Problem, count, initial, is_lone, act_of, IsProblem}
 use Rattle.srp_core.specs.Quotient.{group_of, Twin, IsAdmissible, AreTogetherInOne, AreLinked, IsJoin}
 use Rattle.srp_core.proofs.Steps.{alike_self}

@@ -24,3 +24,6 @@ pub mod GraphPartitions
 pub mod Colors
 pub mod OwnEdges
 pub mod Joins
+mod Example
+pub mod FoldExists
+pub mod LiftExists

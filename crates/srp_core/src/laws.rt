@@ -76,6 +76,13 @@ pub fn folds()
     ensures determined { (problem small : Problem) (groups : List ℕ) (labels lower others : List (Option Route)) → IsProblem problem → IsProblem small → IsAdmissible problem groups → IsQuotient problem groups small → problem.protocol ≡ OverBgp → IsStable problem labels → IsFold problem small groups labels lower → IsFold problem small groups labels others → lower ≡ others }
 {}
 
+/// In BGP labels that lifting asks for exist for every stable solution of the quotient, and labels that
+/// folding asks for exist for every stable solution of the problem.
+pub fn lifts_and_folds_exist()
+    ensures lift { (problem small : Problem) (groups : List ℕ) (lower : List (Option Route)) → IsProblem problem → IsProblem small → IsAdmissible problem groups → IsQuotient problem groups small → small.protocol ≡ OverBgp → IsStable small lower → (labels : List (Option Route)) × IsLift problem small groups lower labels }
+    ensures fold { (problem small : Problem) (groups : List ℕ) (labels : List (Option Route)) → IsProblem problem → IsProblem small → IsAdmissible problem groups → IsQuotient problem groups small → problem.protocol ≡ OverBgp → IsStable problem labels → (lower : List (Option Route)) × IsFold problem small groups labels lower }
+{}
+
 /// In OSPF members with the label of their group are stable and correspond.
 pub fn ospf_lifts()
     ensures stable { (problem small : Problem) (groups : List ℕ) (labels lower : List (Option Route)) → IsProblem problem → IsProblem small → IsAdmissible problem groups → IsQuotient problem groups small → small.protocol ≡ OverOspf → IsStable small lower → length labels ≡ count problem → ((u : ℕ) → u < count problem → label labels u ≡ label lower (group_of groups u)) → IsStable problem labels }

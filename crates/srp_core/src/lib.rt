@@ -15,6 +15,8 @@ pub mod laws;
 mod route;
 mod srp;
 mod starts;
+#[cfg(test)]
+mod tests;
 
 pub use labels::Labels;
 pub use route::{Act, Candidate, Route};
