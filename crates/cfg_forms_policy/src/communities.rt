@@ -7,7 +7,7 @@ ghost use Rattle.cfg_ast.specs.PolicyForms.{all_differ, communities_of};
 ghost use Rattle.cfg_ast.specs.Words.{is_colon, community_of, is_reserved, is_some_reserved, is_well_known_name, is_community, is_well_known, same_value, same_community};
 
 use crate::marks::{behind, has, place_of};
-use crate::shared::is_group;
+use crate::word_groups::is_group;
 use base_kit::{NoMemory, NumSet};
 use cfg_ast::{FormFault, Span};
 use cfg_words::{read_between, text};

@@ -4,8 +4,8 @@ ghost use Rattle.cfg_ast.specs.Answers.{Reads};
 ghost use Rattle.cfg_ast.specs.Lines.{IsWordIn, text_of, texts};
 ghost use Rattle.cfg_ast.specs.PolicyForms.{community_line, numbered_line, community_line_form};
 
+use crate::act::is_permit;
 use crate::communities::communities;
-use crate::shared::is_permit;
 use cfg_ast::FormFault::BadForm;
 use cfg_ast::{CommunityLine, FormFault, PolicyItem, Span};
 use cfg_words::{list_name, read_between, text};

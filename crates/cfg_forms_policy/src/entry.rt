@@ -7,7 +7,7 @@ ghost use Rattle.cfg_ast.specs.Words.{as_number_of};
 
 use crate::communities::communities;
 use crate::name_list::list_names;
-use crate::shared::before_mark;
+use crate::word_groups::before_mark;
 use base_kit::{List, NoMemory};
 use cfg_ast::FormFault::BadForm;
 use cfg_ast::{Change, FormFault, NameLine, PolicyItem, Prepend, Span};

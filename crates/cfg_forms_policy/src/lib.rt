@@ -6,6 +6,7 @@
 //! other fault, a well-known community. Only want of memory is free.
 #![tactic(auto)]
 
+mod act;
 mod communities;
 mod community_line;
 mod entry;
@@ -14,7 +15,10 @@ mod map_head;
 mod marks;
 mod name_list;
 mod prefix_entry;
-mod shared;
+mod word_groups;
 
 pub use cfg_ast::{FormFault, PolicyItem, PolicyScope};
 pub use item::policy_item;
+
+#[cfg(test)]
+mod tests;

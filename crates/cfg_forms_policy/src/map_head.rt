@@ -4,7 +4,7 @@ ghost use Rattle.cfg_ast.specs.Answers.{Reads};
 ghost use Rattle.cfg_ast.specs.Lines.{IsWordIn, texts};
 ghost use Rattle.cfg_ast.specs.PolicyForms.{empty_entry, map_head_form};
 
-use crate::shared::is_permit;
+use crate::act::is_permit;
 use cfg_ast::FormFault::BadForm;
 use cfg_ast::{FormFault, MapEntry, PolicyItem, Span};
 use cfg_words::{list_name, read_between, text};

@@ -5,7 +5,7 @@ ghost use Rattle.cfg_ast.specs.Lines.{IsWordIn, texts};
 ghost use Rattle.cfg_ast.specs.PolicyForms.{all_differ, list_names_of};
 ghost use Rattle.cfg_ast.specs.Words.{is_list_name};
 
-use crate::shared::is_group;
+use crate::word_groups::is_group;
 use base_kit::{List, NoMemory, Text};
 use cfg_ast::{FormFault, Span};
 use cfg_words::{copy_of, is_list_name, text};

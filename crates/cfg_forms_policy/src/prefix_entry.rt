@@ -5,8 +5,8 @@ ghost use Rattle.cfg_ast.specs.Lines.{IsWordIn, texts};
 ghost use Rattle.cfg_ast.specs.PolicyForms.{bounds_of, prefix_entry_form};
 ghost use Rattle.cfg_ast.specs.Words.{number_between, prefix_of};
 
+use crate::act::is_permit;
 use crate::marks::{behind, place_of};
-use crate::shared::is_permit;
 use base_kit::Prefix;
 use cfg_ast::FormFault::BadForm;
 use cfg_ast::{FormFault, PolicyItem, PrefixEntry, Span};

@@ -1,24 +1,10 @@
 ghost use Rattle.std.specs.Prelude.{◌≡◌, MatchOption, IfSome, true, false};
 ghost use Rattle.std.specs.List.{AllByRecursion};
 ghost use Rattle.cfg_ast.specs.Lines.{IsWordIn, texts};
-ghost use Rattle.cfg_ast.specs.PolicyForms.{is_permit, is_group, is_marked, but_last};
+ghost use Rattle.cfg_ast.specs.PolicyForms.{is_group, is_marked, but_last};
 
 use cfg_ast::Span;
 use cfg_words::text;
-
-/// Reads `permit` as true and `deny` as false.
-#[tactic(auto, unfolding(cfg_ast::specs::PolicyForms::is_permit))]
-pub(crate) fn is_permit(word: &[u8]) -> Option<bool>
-    ensures { result ≡ is_permit word.now }
-{
-    if word == b"permit".as_slice() {
-        return Some(true);
-    }
-    if word == b"deny".as_slice() {
-        return Some(false);
-    }
-    None
-}
 
 /// Whether there are 1 to 32 words.
 pub(crate) fn is_group(bytes: &[u8], words: &[Span]) -> bool
