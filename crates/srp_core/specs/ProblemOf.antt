@@ -7,13 +7,13 @@ use Rattle.base_kit.specs.declared.protocol.Protocol.TheVariants.{Bgp as OverBgp
 use Rattle.base_kit.specs.declared.act_graph.Edge.{Edge}
 use Rattle.base_kit.specs.Prefixes.{Prefix}
 use Rattle.base_kit.specs.Sets.{IsAscending}
-use Rattle.cfg_ast.specs.declared.bgp.Base.{Base}
 use Rattle.cfg_ast.specs.declared.bgp.BgpProcess.{BgpProcess}
 use Rattle.cfg_ast.specs.declared.bgp.Neighbor.{Neighbor}
 use Rattle.cfg_ast.specs.declared.network.Network.{Network}
 use Rattle.cfg_ast.specs.declared.network.Router.{Router}
 use Rattle.cfg_ast.specs.declared.topology.Link.{Link}
 use Rattle.cfg_ast.specs.Classes.{initial_route}
+use Rattle.cfg_ast.specs.Policy.{Received, default_preference, import_of_session}
 use Rattle.cfg_ast.specs.RouterFaults.{protocol_of}
 use Rattle.cfg_ast.specs.Topology.{links_of, neighbors_of, cost_of}
 use Rattle.route_maps.specs.declared.plain.Imported.{Imported}
@@ -28,13 +28,6 @@ use Rattle.srp_core.specs.Problem.{Problem, act_of, IsProblem}
 -- the AS number of the router's BGP process, 0 without one
 abbrev pub as_number_of : Router → ℕ
 as_number_of router = option_map_or (λ (process : BgpProcess). process.number) router.bgp 0
-
-abbrev pub base_of : BgpProcess → ℕ
-base_of process = option_map_or (λ (base : Base). base.value) process.base 100
-
--- the default preference of the router: that of its line, else 100
-abbrev pub default_preference : Router → ℕ
-default_preference router = option_map_or base_of router.bgp 100
 
 -- in BGP the default preference, an empty path and no communities; in OSPF the cost
 abbrev pub route_from : Router → Option ℕ → Route
@@ -63,9 +56,12 @@ high_imports d = record { low = d.exporter; high = d.importer; low_item = d.expo
 abbrev pub IsDirection : Network → Direction → Type 0
 IsDirection network d = (slice_get (links_of network) d.link ≡ Some (low_imports d)) ⊎ (slice_get (links_of network) d.link ≡ Some (high_imports d))
 
--- what a router imports over a session: from the exporter by its neighbour line, by the importer's own
-abbrev pub SessionImport : Type 0
-SessionImport = Router → Neighbor → Router → Neighbor → List ℕ → Option Imported
+abbrev pub imported_as : Received → Imported
+imported_as received = record { lp = received.lp; comms = received.comms; adds = received.adds }
+
+-- what the importer takes over a session, as plain maps would give it
+abbrev pub session_import : Prefix → Router → Neighbor → Router → Neighbor → List ℕ → Option Imported
+session_import prefix exporter out importer into comms = option_map imported_as (import_of_session prefix exporter out importer into comms)
 
 -- the routers and the neighbour lines at both ends of a session
 pub record SessionEnds (network : Network) (d : Direction) : Type 0 where
@@ -79,23 +75,23 @@ pub record SessionEnds (network : Network) (d : Direction) : Type 0 where
   pub importer_line_at : slice_get (neighbors_of importer) d.importer_item ≡ Some importer_line
 
 -- the importer does not originate the prefix, and imports some set of communities
-pub record CarriesRoutes (imports : SessionImport) (network : Network) (prefix : Prefix) (d : Direction) : Type 0 where
+pub record CarriesRoutes (network : Network) (prefix : Prefix) (d : Direction) : Type 0 where
   pub ends : SessionEnds network d
   pub unoriginated : start_route prefix ends.importer ≡ None
   pub comms : List ℕ
   pub is_set : IsAscending comms
   pub imported : Imported
-  pub accepted : imports ends.exporter ends.exporter_line ends.importer ends.importer_line comms ≡ Some imported
+  pub accepted : session_import prefix ends.exporter ends.exporter_line ends.importer ends.importer_line comms ≡ Some imported
 
 -- in OSPF each direction of an adjacency carries routes
-abbrev pub IsEdgeDirection : Protocol → SessionImport → Network → Prefix → Direction → Type 0
-IsEdgeDirection OverBgp imports network prefix d = CarriesRoutes imports network prefix d
-IsEdgeDirection OverOspf imports network prefix d = Unit {0}
+abbrev pub IsEdgeDirection : Protocol → Network → Prefix → Direction → Type 0
+IsEdgeDirection OverBgp network prefix d = CarriesRoutes network prefix d
+IsEdgeDirection OverOspf network prefix d = Unit {0}
 
 -- the maps import every set of communities as the session does
-pub record MeansSession (imports : SessionImport) (network : Network) (d : Direction) (out : Plain) (sends : Bool) (into : Plain) : Type 0 where
+pub record MeansSession (network : Network) (prefix : Prefix) (d : Direction) (out : Plain) (sends : Bool) (into : Plain) : Type 0 where
   pub ends : SessionEnds network d
-  pub same : (comms : List ℕ) → IsAscending comms → import_of out sends into comms ≡ imports ends.exporter ends.exporter_line ends.importer ends.importer_line comms
+  pub same : (comms : List ℕ) → IsAscending comms → import_of out sends into comms ≡ session_import prefix ends.exporter ends.exporter_line ends.importer ends.importer_line comms
 
 -- the cost is that of the importer's interface
 pub record MeansCost (network : Network) (d : Direction) (cost : ℕ) : Type 0 where
@@ -104,27 +100,27 @@ pub record MeansCost (network : Network) (d : Direction) (cost : ℕ) : Type 0 w
   pub same : cost_of importer d.importer_item ≡ Some cost
 
 -- the act does what the direction of the link does
-abbrev pub Means : SessionImport → Network → Direction → Act → Type 0
-Means imports network d (Import out sends into) = MeansSession imports network d out sends into
-Means imports network d (Cost cost) = MeansCost network d cost
+abbrev pub Means : Network → Prefix → Direction → Act → Type 0
+Means network prefix d (Import out sends into) = MeansSession network prefix d out sends into
+Means network prefix d (Cost cost) = MeansCost network d cost
 
 -- the edge stands for the direction of a link
-pub record StandsFor (problem : Problem) (imports : SessionImport) (network : Network) (prefix : Prefix) (edge : Edge) (d : Direction) : Type 0 where
+pub record StandsFor (problem : Problem) (network : Network) (prefix : Prefix) (edge : Edge) (d : Direction) : Type 0 where
   pub is_direction : IsDirection network d
-  pub is_edge : IsEdgeDirection problem.protocol imports network prefix d
+  pub is_edge : IsEdgeDirection problem.protocol network prefix d
   pub link : edge.link ≡ d.link
   pub importer : edge.importer ≡ d.importer
   pub exporter : edge.exporter ≡ d.exporter
-  pub means : Means imports network d (act_of problem edge)
+  pub means : Means network prefix d (act_of problem edge)
 
--- The problem of a network and a prefix, where `imports` says what sessions import for the prefix. Its
--- edges are exactly the directions of links that carry routes, each with an act that does the same; which
--- of the acts that act alike it has is free. Its rules say which routers are lone.
-pub record IsProblemBy (imports : SessionImport) (network : Network) (prefix : Prefix) (problem : Problem) : Type 0 where
+-- The problem of a network and a prefix. Its edges are exactly the directions of links that carry routes,
+-- each with an act that does the same; which of the acts that act alike it has is free. Its rules say
+-- which routers are lone.
+pub record IsProblemOf (network : Network) (prefix : Prefix) (problem : Problem) : Type 0 where
   pub rules : IsProblem problem
   pub protocol : protocol_of network ≡ Some problem.protocol
   pub names : problem.names ≡ map (λ (router : Router). router.name) network.routers
   pub numbers : problem.numbers ≡ map as_number_of network.routers
   pub init : problem.init ≡ map (start_route prefix) network.routers
-  pub edges_stand : (edge : Edge) → Contains problem.edges edge → (d : Direction) × StandsFor problem imports network prefix edge d
-  pub edges_all : (d : Direction) → IsDirection network d → IsEdgeDirection problem.protocol imports network prefix d → (edge : Edge) × Contains problem.edges edge × StandsFor problem imports network prefix edge d
+  pub edges_stand : (edge : Edge) → Contains problem.edges edge → (d : Direction) × StandsFor problem network prefix edge d
+  pub edges_all : (d : Direction) → IsDirection network d → IsEdgeDirection problem.protocol network prefix d → (edge : Edge) × Contains problem.edges edge × StandsFor problem network prefix edge d

@@ -21,15 +21,14 @@ fn has_solution_below(srp: &Srp, small: &Srp, groups: &[u32], labels: &Labels)
     laws::to_quotient();
 }
 
-// Labels that were folded are a solution of the quotient.
-fn is_solution_below(srp: &Srp, small: &Srp, groups: &[u32], labels: &Labels, lower: &Labels)
+// Another law in the same way: folded labels correspond.
+fn corresponds_when_folded(srp: &Srp, small: &Srp, groups: &[u32], labels: &Labels, lower: &Labels)
     requires bgp { srp.now.protocol ≡ OverBgp }
     requires admissible { IsAdmissible srp.now groups.now }
     requires quotient { IsQuotient srp.now groups.now small.now }
     requires stable { IsStable srp.now labels.now }
     requires fold { IsFold srp.now small.now groups.now labels.now lower.now }
-    ensures stable { IsStable small.now lower.now }
-    ensures correspond { Corresponds srp.now small.now groups.now labels.now lower.now }
+    ensures { Corresponds srp.now small.now groups.now labels.now lower.now }
 {
     let _routers = srp.count();
     let _groups = small.count();
