@@ -75,8 +75,15 @@ shared_as_lines n = map process_line (repeats same_number (bgp_processes n))
 abbrev pub internal_peers : BgpProcess → List Neighbor
 internal_peers process = filter (λ (neighbor : Neighbor). nat_eq neighbor.remote process.number) process.neighbors
 
+abbrev pub internal_peers_in : Option BgpProcess → List Neighbor
+internal_peers_in None = []
+internal_peers_in (Some process) = internal_peers process
+
+abbrev pub internal_peers_of : Router → List Neighbor
+internal_peers_of router = internal_peers_in router.bgp
+
 unfoldable pub internal_peer_lines : Network → List ℕ
-internal_peer_lines n = map neighbor_line (flat_map internal_peers (bgp_processes n))
+internal_peer_lines n = map neighbor_line (flat_map internal_peers_of n.routers)
 
 -- MixedProtocols: a `router` line of another protocol than the first `router` line
 
@@ -180,9 +187,12 @@ has_host_mask (Some a) = nat_eq a.len 32
 abbrev pub is_wide_loopback : Interface → Bool
 is_wide_loopback x = bytes_eq (type_of x) (codes "Loopback") && not (has_host_mask x.address)
 
--- the addresses of a router's interfaces in the area that have a fault
+-- the address of an interface in the area that has a fault
+abbrev pub area_address_with : (Interface → Bool) → Router → Interface → Option Address
+area_address_with has_fault router x = if is_in_area_interface router x && has_fault x then up_address x else None
+
 abbrev pub area_addresses_with : (Interface → Bool) → Router → List Address
-area_addresses_with has_fault router = filter_map up_address (filter (λ x. is_in_area_interface router x && has_fault x) router.interfaces)
+area_addresses_with has_fault router = filter_map (area_address_with has_fault router) router.interfaces
 
 unfoldable pub loopback_mask_lines : Network → List ℕ
 loopback_mask_lines n = map address_line (flat_map (area_addresses_with is_wide_loopback) n.routers)
@@ -208,8 +218,11 @@ too_many_neighbors_lines n = map neighbor_line (first_beyond 131072 (flat_map ne
 -- TooManyLinks: the `ip address` line at which the number of OSPF adjacent pairs, counted in the order
 -- of the lines, first exceeds 1,048,576
 
+abbrev pub active_address_on : Router → Interface → Option Address
+active_address_on router x = if is_active_interface router x then up_address x else None
+
 abbrev pub active_addresses_of : Router → List Address
-active_addresses_of router = filter_map up_address (filter (is_active_interface router) router.interfaces)
+active_addresses_of router = filter_map (active_address_on router) router.interfaces
 
 -- an `ip address` line, and the number of pairs that it adds
 pub record Added : Type 0 where

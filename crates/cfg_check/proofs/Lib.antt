@@ -1,0 +1,10 @@
+pub mod BlockLemmas
+pub mod Counted
+pub mod FirstFound
+pub mod LeastFault
+pub mod LeastOfList
+pub mod Numbers
+pub mod Repeats
+pub mod Seen
+pub mod SumLemmas
+pub mod Turns

@@ -1,0 +1,15 @@
+use Rattle.std.proofs.Common.{sym, ap, ◌∙◌}
+use Rattle.cfg_ast.specs.Meaning.{meaning_faults, refused_by, judged}
+use Rattle.cfg_check.proofs.LeastFault.{none_least}
+use Rattle.cfg_check.proofs.check.check_network.Goals as goal
+
+pub new-requires-clause-faultless : goal.new-requires-clause-faultless
+new-requires-clause-faultless c = none_least (meaning_faults c.args.network) (sym c.in_ok-fault.ensures ∙ c.in-None.is)
+
+pub returns-in-Some-clause-refused : goal.returns-in-Some-clause-refused
+unfolding judged
+returns-in-Some-clause-refused c = ap (refused_by c.args.network) (sym c.in_ok-fault.ensures ∙ c.in-Some.is)
+
+pub returns-in-None-clause-accepted : goal.returns-in-None-clause-accepted
+unfolding judged
+returns-in-None-clause-accepted c = ap (refused_by c.args.network) (sym c.in_ok-fault.ensures ∙ c.in-None.is)

@@ -1,0 +1,51 @@
+-- Subnets as blocks of addresses: how two of them overlap.
+use Rattle.std.specs.Prelude.{◌≡◌, ℕ, ◌+◌, ◌-◌, ◌/◌, ◌^◌, Bool, ◌&&◌, ◌||◌, List, nat_eq, nat_le}
+use Rattle.std.specs.List.{list_any, range_with_len}
+use Rattle.std.specs.HashSet.{HashSet, contains}
+use Rattle.std.specs.declared.hash.FoldHasher.{FoldHasher}
+use Rattle.std.specs.declared.hash.BuildHasherDefault.{BuildHasherDefault}
+use Rattle.cfg_ast.specs.Addresses.{Address}
+use Rattle.cfg_check.specs.declared.overlaps.Blocks.{Blocks}
+
+-- the number of the block of that length in which the address lies
+abbrev pub block_of : ℕ → Address → ℕ
+block_of len a = a.addr / 2 ^ (32 - len)
+
+-- the subnet is that block
+abbrev pub is_block : ℕ → ℕ → Address → Bool
+is_block len number a = nat_eq len a.len && nat_eq number (block_of a.len a)
+
+-- the subnet lies in that block
+abbrev pub is_around : ℕ → ℕ → Address → Bool
+is_around len number a = nat_le len a.len && nat_eq number (block_of len a)
+
+-- the subnet of `a` lies in that of `b`
+abbrev pub is_under : Address → Address → Bool
+is_under a b = nat_le b.len a.len && nat_eq (block_of b.len a) (block_of b.len b)
+
+abbrev pub same_pair : ℕ × ℕ → ℕ × ℕ → Bool
+same_pair p q = nat_eq p.0 q.0 && nat_eq p.1 q.1
+
+abbrev pub Pairs : Type 0
+Pairs = HashSet (ℕ × ℕ) (BuildHasherDefault FoldHasher)
+
+-- the subnet lies in one of the subnets
+abbrev pub lies_in_one : Blocks → Address → Bool
+lies_in_one blocks a = list_any (λ len. contains same_pair blocks.subnets (len, block_of len a)) (range_with_len 0 (a.len + 1))
+
+-- the subnet overlaps one of the subnets
+abbrev pub meets : Blocks → Address → Bool
+meets blocks a = lies_in_one blocks a || contains same_pair blocks.around (a.len, block_of a.len a)
+
+-- the blocks around the subnet were put in
+pub record AddsAround (old new : Pairs) (a : Address) : Type 0 where
+  pub each : (len number : ℕ) → contains same_pair new (len, number) ≡ (is_around len number a || contains same_pair old (len, number))
+
+-- the subnet was put in
+pub record AddsSubnet (old new : Pairs) (a : Address) : Type 0 where
+  pub each : (len number : ℕ) → contains same_pair new (len, number) ≡ (is_block len number a || contains same_pair old (len, number))
+
+-- the blocks are those of these subnets
+pub record IsKept (blocks : Blocks) (past : List Address) : Type 0 where
+  pub subnets : (len number : ℕ) → contains same_pair blocks.subnets (len, number) ≡ list_any (is_block len number) past
+  pub around : (len number : ℕ) → contains same_pair blocks.around (len, number) ≡ list_any (is_around len number) past

@@ -1,0 +1,4 @@
+pub mod Blocks
+pub mod LeastLine
+pub mod Processes
+pub mod Pairs

@@ -1,0 +1,57 @@
+ghost use Rattle.std.specs.Prelude.{◌≡◌, IfOk, IfErr, Ok};
+ghost use Rattle.cfg_ast.specs.Answers.{RefusesAs};
+ghost use Rattle.cfg_ast.specs.Meaning.{meaning_faults, least_fault, judged};
+ghost use Rattle.cfg_ast.specs.Reading.{IsGiven};
+
+use crate::addresses::shared_address;
+use crate::area::{loopback_mask, no_cost};
+use crate::checked::Checked;
+use crate::least::with_fault;
+use crate::limits::{too_many_neighbors, too_many_routers};
+use crate::names::shared_name;
+use crate::overlaps::overlapping_interfaces;
+use crate::pairs::too_many_links;
+use crate::processes::{internal_peer, mixed_protocols, other_area, shared_as};
+use base_kit::NoMemory;
+use cfg_ast::{Fault, Kind, Network, ReadRefusal};
+use std::alloc::Global;
+
+// The least fault of the meaning of the network.
+fn least_fault(alloc: Global, network: &Network) -> Result<Option<Fault>, NoMemory>
+    ensures { IfOk result (λ fault. fault ≡ least_fault (meaning_faults network.now)) }
+{
+    let routers = network.routers.as_slice();
+    let least = with_fault(None, Kind::SharedName, shared_name(alloc, routers)?);
+    let least = with_fault(least, Kind::SharedAs, shared_as(alloc, routers)?);
+    let least = with_fault(least, Kind::InternalPeer, internal_peer(routers));
+    let least = with_fault(least, Kind::MixedProtocols, mixed_protocols(routers));
+    let least = with_fault(least, Kind::OtherArea, other_area(routers));
+    let least = with_fault(least, Kind::SharedAddress, shared_address(alloc, routers)?);
+    let overlapping = overlapping_interfaces(alloc, routers)?;
+    let least = with_fault(least, Kind::OverlappingInterfaces, overlapping);
+    let least = with_fault(least, Kind::LoopbackMask, loopback_mask(routers));
+    let least = with_fault(least, Kind::NoCost, no_cost(routers));
+    let least = with_fault(least, Kind::TooManyRouters, too_many_routers(routers));
+    let least = with_fault(least, Kind::TooManyNeighbors, too_many_neighbors(routers));
+    let least = with_fault(least, Kind::TooManyLinks, too_many_links(alloc, routers)?);
+    Ok(least)
+}
+
+/// Checks the meaning of a network that some text gives.
+///
+/// A refusal is that of the least line at fault, and of several faults at one line of the least number
+/// of their kinds. On a refusal, want of memory included, the network is given up.
+pub fn check_network(alloc: Global, network: Network) -> Result<Checked, ReadRefusal>
+    requires { IsGiven network }
+    ensures ok { IfOk result (λ checked. checked.network ≡ network) }
+    ensures accepted { IfOk result (λ checked. judged network ≡ Ok network) }
+    ensures refused { IfErr result (λ refusal. RefusesAs refusal (judged network)) }
+{
+    match least_fault(alloc, &network)? {
+        Some(fault) => Err(ReadRefusal::At {
+            line: fault.line,
+            kind: fault.kind,
+        }),
+        None => Ok(Checked::new(network)),
+    }
+}

@@ -1,0 +1,47 @@
+ghost use Rattle.std.specs.Prelude.{◌≡◌, []};
+ghost use Rattle.cfg_ast.specs.Meaning.{meaning_faults};
+ghost use Rattle.cfg_ast.specs.RouterFaults.{protocol_of, area_of};
+ghost use Rattle.cfg_ast.specs.Reading.{IsGiven};
+
+use crate::processes::{first_area, first_protocol};
+use base_kit::Protocol;
+use cfg_ast::Network;
+
+/// A network that some text gives, and in whose meaning no fault stands.
+#[derive(Drop)]
+pub struct Checked {
+    network: Network,
+    pub ghost given: { ∥ IsGiven network ∥₁ },
+    pub ghost faultless: { ∥ meaning_faults network ≡ [] ∥₁ },
+}
+
+impl Checked {
+    pub(crate) fn new(network: Network) -> Checked
+        requires given { IsGiven network }
+        requires faultless { meaning_faults network ≡ [] }
+        ensures { result.network ≡ network }
+    {
+        Checked { network }
+    }
+
+    /// The network.
+    pub fn network(&self) -> &Network
+        ensures { result.now ≡ self.now.network }
+    {
+        &self.network
+    }
+
+    /// The protocol of the `router` lines, `None` where there are none.
+    pub fn protocol(&self) -> Option<Protocol>
+        ensures { result ≡ protocol_of self.now.network }
+    {
+        first_protocol(self.network.routers.as_slice())
+    }
+
+    /// The area of the OSPF `network` lines, `None` where there are none.
+    pub fn area(&self) -> Option<u32>
+        ensures { result ≡ area_of self.now.network }
+    {
+        first_area(self.network.routers.as_slice())
+    }
+}

@@ -1,0 +1,50 @@
+ghost use Rattle.std.specs.Prelude.{◌≡◌, None, Some, if◌then◌else◌};
+ghost use Rattle.cfg_ast.specs.Meaning.{is_before_fault, lesser_fault};
+ghost use Rattle.cfg_check.specs.LeastLine.{lesser_line, line_if, fault_at};
+
+use cfg_ast::{Fault, Kind};
+
+/// The lesser of two lines, where there are any.
+pub(crate) fn lesser_line(least: Option<u32>, line: Option<u32>) -> Option<u32>
+    ensures { result ≡ lesser_line least line }
+{
+    match (least, line) {
+        (None, line) => line,
+        (Some(x), None) => Some(x),
+        (Some(x), Some(y)) => Some(if y < x { y } else { x }),
+    }
+}
+
+/// The lesser of a line and another one that counts only where there is a fault.
+pub(crate) fn with_line_if(least: Option<u32>, at_fault: bool, line: u32) -> Option<u32>
+    ensures { result ≡ lesser_line least (line_if at_fault line) }
+{
+    if at_fault {
+        lesser_line(least, Some(line))
+    } else {
+        least
+    }
+}
+
+fn is_before(fault: Fault, other: Fault) -> bool
+    ensures { result ≡ is_before_fault fault other }
+{
+    fault.line < other.line
+        || (fault.line == other.line && fault.kind.number() < other.kind.number())
+}
+
+/// The lesser of a fault and the one of a kind at a line, where there are any.
+pub(crate) fn with_fault(least: Option<Fault>, kind: Kind, line: Option<u32>) -> Option<Fault>
+    ensures { result ≡ lesser_fault least (fault_at kind line) }
+{
+    let Some(line) = line else { return least };
+    let fault = Fault { line, kind };
+    let Some(other) = least else {
+        return Some(fault)
+    };
+    Some(if is_before(fault, other) {
+        fault
+    } else {
+        other
+    })
+}

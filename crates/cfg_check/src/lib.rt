@@ -1,0 +1,23 @@
+//! Whether a network may be used: the third pass of the reading.
+//!
+//! `check_network` looks for every fault that the meaning of lines can have, as a name, a number or an
+//! address that stands twice, or too many pairs of adjacent interfaces. It refuses the network by the
+//! least line at fault, and of several faults at one line by the least number of their kinds. Where
+//! there is none it gives a `Checked`, whose type keeps that some text gives its network and that no
+//! fault stands in it.
+#![tactic(auto)]
+
+mod addresses;
+mod area;
+mod check;
+mod checked;
+mod gather;
+mod least;
+mod limits;
+mod names;
+mod overlaps;
+mod pairs;
+mod processes;
+
+pub use check::check_network;
+pub use checked::Checked;

@@ -1,0 +1,107 @@
+ghost use Rattle.std.specs.Prelude.{◌≡◌, ◌≤◌, IfOk, OnOk, map, flat_map};
+ghost use Rattle.cfg_ast.specs.RouterFaults.{address_line, repeats, overlap, overlapping_in};
+ghost use Rattle.cfg_check.specs.LeastLine.{least_line};
+ghost use Rattle.cfg_check.specs.Blocks.{block_of, lies_in_one, meets, AddsAround, AddsSubnet};
+
+use crate::addresses::push_up_addresses;
+use crate::least::{lesser_line, with_line_if};
+use base_kit::NoMemory;
+use cfg_ast::{Address, Router};
+use std::alloc::Global;
+use std::collections::HashSet;
+
+/// The blocks of the subnets that were seen so far, each by its length and its number among the blocks
+/// of that length.
+#[derive(Drop)]
+pub(crate) struct Blocks {
+    /// The subnets themselves.
+    pub(crate) subnets: HashSet<(u8, u32)>,
+    /// All blocks in which one of them lies.
+    pub(crate) around: HashSet<(u8, u32)>,
+}
+
+// The number of the block of that length in which the address lies.
+fn block(address: Address, len: u8) -> u32
+    requires { len ≤ 32 }
+    ensures { result ≡ block_of len address }
+{
+    (u64::from(address.addr()) >> (32 - len)) as u32
+}
+
+// Whether the subnet lies in one of them.
+fn lies_in_one(blocks: &Blocks, address: Address) -> bool
+    ensures { result ≡ lies_in_one blocks.now address }
+{
+    for len in 0..address.len() + 1 {
+        if blocks.subnets.contains(&(len, block(address, len))) {
+            return true;
+        }
+    }
+    false
+}
+
+// Whether the subnet overlaps one of them.
+fn meets(blocks: &Blocks, address: Address) -> bool
+    ensures { result ≡ meets blocks.now address }
+{
+    let len = address.len();
+    lies_in_one(blocks, address) || blocks.around.contains(&(len, block(address, len)))
+}
+
+// Puts in the blocks in which the subnet lies.
+fn keep_around(around: &mut HashSet<(u8, u32)>, address: Address) -> Result<(), NoMemory>
+    ensures { OnOk result (AddsAround around.old around.new address) }
+{
+    for len in 0..address.len() + 1 {
+        around.insert((len, block(address, len)))?;
+    }
+    Ok(())
+}
+
+fn keep_subnet(subnets: &mut HashSet<(u8, u32)>, address: Address) -> Result<(), NoMemory>
+    ensures { OnOk result (AddsSubnet subnets.old subnets.new address) }
+{
+    let len = address.len();
+    subnets.insert((len, block(address, len)))?;
+    Ok(())
+}
+
+// The least line of an address whose subnet overlaps an earlier one.
+fn overlapping(alloc: Global, addresses: &[Address]) -> Result<Option<u32>, NoMemory>
+    ensures { IfOk result (λ line. line ≡ least_line (map address_line (repeats overlap addresses.now))) }
+{
+    let mut seen = Blocks {
+        subnets: HashSet::new(alloc),
+        around: HashSet::new(alloc),
+    };
+    let mut least = None;
+    for address in addresses {
+        least = with_line_if(least, meets(&seen, *address), address.line());
+        keep_subnet(&mut seen.subnets, *address)?;
+        keep_around(&mut seen.around, *address)?;
+    }
+    Ok(least)
+}
+
+fn overlapping_of(alloc: Global, router: &Router) -> Result<Option<u32>, NoMemory>
+    ensures { IfOk result (λ line. line ≡ least_line (map address_line (overlapping_in router.now))) }
+{
+    let mut addresses = Vec::new(alloc);
+    push_up_addresses(&mut addresses, router.interfaces.as_slice())?;
+    overlapping(alloc, addresses.as_slice())
+}
+
+/// The least `ip address` line of an up interface whose subnet overlaps that of an earlier up
+/// interface of its router.
+pub(crate) fn overlapping_interfaces(
+    alloc: Global,
+    routers: &[Router],
+) -> Result<Option<u32>, NoMemory>
+    ensures { IfOk result (λ line. line ≡ least_line (map address_line (flat_map overlapping_in routers.now))) }
+{
+    let mut least = None;
+    for router in routers {
+        least = lesser_line(least, overlapping_of(alloc, router)?);
+    }
+    Ok(least)
+}

@@ -1,0 +1,115 @@
+ghost use Rattle.std.specs.Prelude.{◌≡◌, ◌≤◌, IfOk, OnOk, map, length, []};
+ghost use Rattle.cfg_ast.specs.RouterFaults.{active_address_on, active_addresses_of, added_after, exceeding};
+ghost use Rattle.cfg_check.specs.LeastLine.{least_line};
+ghost use Rattle.cfg_check.specs.Pairs.{subnet_pair, bucket, counted, sum_or_line, PushesAt, AddsAll};
+
+use crate::gather::push_some;
+use base_kit::NoMemory;
+use cfg_ast::{Address, Interface, Router};
+use std::alloc::Global;
+use std::collections::HashMap;
+
+const MOST_PAIRS: u64 = 1048576;
+
+fn subnet_pair(address: Address) -> (u8, u32)
+    ensures { result ≡ subnet_pair address }
+{
+    let subnet = address.subnet();
+    (subnet.len(), subnet.addr())
+}
+
+fn active_address(router: &Router, interface: &Interface) -> Option<Address>
+    ensures { result ≡ active_address_on router.now interface.now }
+{
+    if router.has_active(interface) {
+        interface.up_address()
+    } else {
+        None
+    }
+}
+
+fn active_addresses(alloc: Global, router: &Router) -> Result<Vec<Address>, NoMemory>
+    ensures { IfOk result (λ found. found.items ≡ active_addresses_of router.now) }
+{
+    let mut found = Vec::new(alloc);
+    for interface in router.interfaces.as_slice() {
+        push_some(&mut found, active_address(router, interface))?;
+    }
+    Ok(found)
+}
+
+fn push_at(
+    alloc: Global,
+    seen: &mut HashMap<(u8, u32), Vec<Address>>,
+    pair: (u8, u32),
+    address: Address,
+) -> Result<(), NoMemory>
+    ensures { OnOk result (PushesAt seen.old seen.new pair address) }
+{
+    let mut same = seen.remove(&pair).unwrap_or(Vec::new(alloc));
+    same.push(address)?;
+    seen.insert(pair, same)?;
+    Ok(())
+}
+
+// Puts the addresses in, each behind those of its subnet.
+fn keep(
+    alloc: Global,
+    seen: &mut HashMap<(u8, u32), Vec<Address>>,
+    addresses: &[Address],
+) -> Result<(), NoMemory>
+    ensures { OnOk result (AddsAll seen.old seen.new addresses.now) }
+{
+    for address in addresses {
+        push_at(alloc, seen, subnet_pair(*address), *address)?;
+    }
+    Ok(())
+}
+
+// How many addresses of its subnet were seen.
+fn count(seen: &HashMap<(u8, u32), Vec<Address>>, address: Address) -> usize
+    ensures { result ≡ length (bucket seen.now (subnet_pair address)) }
+{
+    match seen.get(&subnet_pair(address)) {
+        Some(same) => same.len(),
+        None => 0,
+    }
+}
+
+// The sum with the pairs of these addresses, or the line at which it exceeds the limit.
+fn sum_of_pairs(
+    seen: &HashMap<(u8, u32), Vec<Address>>,
+    addresses: &[Address],
+    sum: u64,
+) -> Result<u64, u32>
+    requires { sum ≤ 1048576 }
+    ensures sum { result ≡ sum_or_line 1048576 sum (map (counted seen.now) addresses.now) }
+    ensures bound { IfOk result (λ more. more ≤ 1048576) }
+{
+    let mut sum = sum;
+    for address in addresses {
+        let pairs = count(seen, *address) as u64;
+        if MOST_PAIRS - sum < pairs {
+            return Err(address.line());
+        }
+        sum += pairs;
+    }
+    Ok(sum)
+}
+
+/// The `ip address` line at which the number of OSPF adjacent pairs first exceeds the limit.
+pub(crate) fn too_many_links(alloc: Global, routers: &[Router]) -> Result<Option<u32>, NoMemory>
+    ensures { IfOk result (λ line. line ≡ least_line (exceeding 1048576 0 (added_after [] routers.now))) }
+{
+    let mut seen: HashMap<(u8, u32), Vec<Address>> = HashMap::new(alloc);
+    let mut sum = 0;
+    for router in routers {
+        let addresses = active_addresses(alloc, router)?;
+        match sum_of_pairs(&seen, addresses.as_slice(), sum) {
+            Ok(more) => sum = more,
+            Err(line) => return Ok(Some(line)),
+        }
+        keep(alloc, &mut seen, addresses.as_slice())?;
+    }
+    Ok(None)
+}
