@@ -1,0 +1,10 @@
+use Rattle.std.proofs.Common.{sym, subst}
+use Rattle.std.specs.Prelude.{option_copied}
+use Rattle.specialize.specs.OnePrefix.{KeepsVerdict}
+use Rattle.specialize.proofs.Verdicts.{verdict_kept}
+use Rattle.specialize.proofs.maps.policy.Goals as goal
+
+pub returns-clause-verdict : goal.returns-clause-verdict
+returns-clause-verdict c =
+    subst (KeepsVerdict c.args.router.now (option_copied c.args.map) (option_copied c.args.list) c.args.p c.args.inbound) (sym c.in_ok-plain.ensures)
+    (verdict_kept c.args.router.now (option_copied c.args.map) (option_copied c.args.list) c.args.p c.args.inbound)

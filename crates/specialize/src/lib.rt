@@ -1,0 +1,13 @@
+//! What the route maps of a router mean for one prefix.
+//!
+//! `policy` gives the plain map of one direction of a session: the entries whose prefix match is absent
+//! or holds, without that match, the community lists written out; no entry where the prefix list denies
+//! the prefix; and one entry that permits all where there is no map. Inbound, the router's default
+//! preference is written into each permit without one, if it is not 100. For every set of communities
+//! the verdict is that of the router's prefix list followed by its map.
+#![tactic(auto)]
+
+mod copies;
+mod maps;
+
+pub use maps::policy;

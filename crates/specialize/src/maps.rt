@@ -1,0 +1,271 @@
+ghost use Rattle.std.specs.Prelude.{◌≡◌, ℕ, [], ◌∷◌, IfOk, option_copied, min, filter_map, if◌then◌else◌};
+ghost use Rattle.std.specs.List.{list_any};
+ghost use Rattle.cfg_ast.specs.Policy.{prefix_list_named, community_list_named, route_map_named, prefixes_permitted_by, prefixes_match, deletion_list, prepend_count, passes_list, default_preference};
+ghost use Rattle.specialize.specs.OnePrefix.{own_preference, preference_or, lists_named, plain_entry, whole_entry, plain_entries, entries_for, plain_of, KeepsVerdict};
+
+use crate::copies::{change_copy, list_copy};
+use base_kit::{List, NoMemory, Prefix, Text};
+use cfg_ast::{CommunityList, MapEntry, NameLine, Named, PrefixList, Prepend, RouteMap, Router};
+use prefix_lists::permits;
+use route_maps::{Plain, PlainEntry};
+use std::alloc::Global;
+
+fn find_prefix_list<'a>(router: &'a Router, name: &Text) -> Option<&'a PrefixList>
+    ensures { option_copied result ≡ prefix_list_named router.now name.now }
+{
+    router
+        .prefix_lists
+        .as_slice()
+        .iter()
+        .find(|list| list.name.as_str() == name.as_str())
+}
+
+fn find_community_list<'a>(router: &'a Router, name: &Text) -> Option<&'a CommunityList>
+    ensures { option_copied result ≡ community_list_named router.now name.now }
+{
+    router
+        .community_lists
+        .as_slice()
+        .iter()
+        .find(|list| list.name.as_str() == name.as_str())
+}
+
+fn find_map<'a>(router: &'a Router, name: &Text) -> Option<&'a RouteMap>
+    ensures { option_copied result ≡ route_map_named router.now name.now }
+{
+    router
+        .route_maps
+        .as_slice()
+        .iter()
+        .find(|map| map.name.as_str() == name.as_str())
+}
+
+fn list_permits(router: &Router, p: Prefix, name: &Text) -> bool
+    ensures { result ≡ prefixes_permitted_by router.now p name.now }
+{
+    match find_prefix_list(router, name) {
+        Some(list) => permits(list, p),
+        None => false,
+    }
+}
+
+fn any_list_permits(router: &Router, p: Prefix, names: &[Text]) -> bool
+    ensures { result ≡ list_any (prefixes_permitted_by router.now p) names.now }
+{
+    names.iter().any(|name| list_permits(router, p, name))
+}
+
+fn prefixes_match(router: &Router, p: Prefix, prefixes: &Option<NameLine>) -> bool
+    ensures { result ≡ prefixes_match router.now p prefixes.now }
+{
+    match prefixes {
+        Some(line) => any_list_permits(router, p, line.names.as_slice()),
+        None => true,
+    }
+}
+
+fn default_preference(router: &Router) -> u32
+    ensures { result ≡ default_preference router.now }
+{
+    match &router.bgp {
+        Some(process) => match process.base {
+            Some(base) => base.value,
+            None => 100,
+        },
+        None => 100,
+    }
+}
+
+fn own_preference(router: &Router, inbound: bool) -> Option<u32>
+    ensures { result ≡ own_preference router.now inbound }
+{
+    let preference = default_preference(router);
+    if inbound && preference != 100 {
+        Some(preference)
+    } else {
+        None
+    }
+}
+
+fn copies_named(
+    alloc: Global,
+    router: &Router,
+    names: &[Text],
+) -> Result<List<CommunityList>, NoMemory>
+    ensures { IfOk result (λ lists. lists ≡ filter_map (community_list_named router.now) names.now) }
+{
+    let mut lists = List::new(alloc);
+    for name in names {
+        if let Some(list) = find_community_list(router, name) {
+            lists.push(list_copy(alloc, list)?)?;
+        }
+    }
+    Ok(lists)
+}
+
+fn lists_named(
+    alloc: Global,
+    router: &Router,
+    comms: &Option<NameLine>,
+) -> Result<Option<List<CommunityList>>, NoMemory>
+    ensures { IfOk result (λ lists. lists ≡ lists_named router.now comms.now) }
+{
+    match comms {
+        Some(line) => Ok(Some(copies_named(alloc, router, line.names.as_slice())?)),
+        None => Ok(None),
+    }
+}
+
+fn deletion_list(
+    alloc: Global,
+    router: &Router,
+    delete: &Option<Named>,
+) -> Result<Option<CommunityList>, NoMemory>
+    ensures { IfOk result (λ list. list ≡ deletion_list router.now delete.now) }
+{
+    match delete {
+        Some(named) => match find_community_list(router, &named.name) {
+            Some(list) => Ok(Some(list_copy(alloc, list)?)),
+            None => Ok(None),
+        },
+        None => Ok(None),
+    }
+}
+
+fn count_of(prepend: &Option<Prepend>) -> u8
+    ensures { result ≡ min (prepend_count prepend.now) 255 }
+{
+    match prepend {
+        Some(line) => line.numbers.len().min(255) as u8,
+        None => 0,
+    }
+}
+
+fn preference(entry: &MapEntry, own: Option<u32>) -> Option<u32>
+    ensures { result ≡ (if entry.now.permit then preference_or entry.now.lp own else entry.now.lp) }
+{
+    match entry.lp {
+        Some(lp) => Some(lp),
+        None => { if entry.permit { own } else { None } }
+    }
+}
+
+fn plain_entry(
+    alloc: Global,
+    router: &Router,
+    own: Option<u32>,
+    entry: &MapEntry,
+) -> Result<PlainEntry, NoMemory>
+    ensures { IfOk result (λ plain. plain ≡ plain_entry router.now own entry.now) }
+{
+    Ok(PlainEntry {
+        seq: entry.seq,
+        permit: entry.permit,
+        lists: lists_named(alloc, router, &entry.comms)?,
+        lp: preference(entry, own),
+        change: change_copy(&entry.change)?,
+        delete: deletion_list(alloc, router, &entry.delete)?,
+        adds: count_of(&entry.prepend),
+        exact: entry.exact,
+    })
+}
+
+fn plain_entries(
+    alloc: Global,
+    router: &Router,
+    own: Option<u32>,
+    p: Prefix,
+    entries: &[MapEntry],
+) -> Result<List<PlainEntry>, NoMemory>
+    ensures { IfOk result (λ plain. plain ≡ plain_entries router.now own p entries.now) }
+{
+    let mut plain = List::new(alloc);
+    for entry in entries {
+        if prefixes_match(router, p, &entry.prefixes) {
+            plain.push(plain_entry(alloc, router, own, entry)?)?;
+        }
+    }
+    Ok(plain)
+}
+
+fn whole(alloc: Global, own: Option<u32>) -> Result<List<PlainEntry>, NoMemory>
+    ensures { IfOk result (λ plain. plain ≡ whole_entry own ∷ []) }
+{
+    let mut plain = List::new(alloc);
+    plain.push(PlainEntry {
+        seq: 10,
+        permit: true,
+        lists: None,
+        lp: own,
+        change: None,
+        delete: None,
+        adds: 0,
+        exact: false,
+    })?;
+    Ok(plain)
+}
+
+fn entries_for(
+    alloc: Global,
+    router: &Router,
+    own: Option<u32>,
+    p: Prefix,
+    map: Option<&Text>,
+) -> Result<List<PlainEntry>, NoMemory>
+    ensures { IfOk result (λ plain. plain ≡ entries_for router.now own p (option_copied map.entry)) }
+{
+    match map {
+        Some(name) => match find_map(router, name) {
+            Some(map) => plain_entries(alloc, router, own, p, map.entries.as_slice()),
+            None => Ok(List::new(alloc)),
+        },
+        None => whole(alloc, own),
+    }
+}
+
+fn passes_list(router: &Router, p: Prefix, list: Option<&Text>) -> bool
+    ensures { result ≡ passes_list router.now p (option_copied list.entry) }
+{
+    match list {
+        Some(name) => list_permits(router, p, name),
+        None => true,
+    }
+}
+
+fn map_for(
+    alloc: Global,
+    router: &Router,
+    map: Option<&Text>,
+    list: Option<&Text>,
+    p: Prefix,
+    inbound: bool,
+) -> Result<Plain, NoMemory>
+    ensures { IfOk result (λ plain. plain ≡ plain_of router.now (option_copied map.entry) (option_copied list.entry) p inbound) }
+{
+    if !passes_list(router, p, list) {
+        return Ok(Plain {
+            entries: List::new(alloc),
+        });
+    }
+    let own = own_preference(router, inbound);
+    let entries = entries_for(alloc, router, own, p, map)?;
+    Ok(Plain { entries })
+}
+
+/// The map of a router for one prefix, after a prefix list, inbound or outbound. Without a map all
+/// passes as it is; a map or list that the router does not define denies, and a deletion list that it
+/// does not define deletes nothing.
+pub fn policy(
+    alloc: Global,
+    router: &Router,
+    map: Option<&Text>,
+    list: Option<&Text>,
+    p: Prefix,
+    inbound: bool,
+) -> Result<Plain, NoMemory>
+    ensures plain { IfOk result (λ plain. plain ≡ plain_of router.now (option_copied map.entry) (option_copied list.entry) p inbound) }
+    ensures verdict { IfOk result (KeepsVerdict router.now (option_copied map.entry) (option_copied list.entry) p inbound) }
+{
+    let plain = map_for(alloc, router, map, list, p, inbound)?;
+    Ok(plain)
+}
