@@ -1,4 +1,9 @@
-pub mod AlikeLemmas
-pub mod LeaderLemmas
 pub mod NumberingLemmas
-pub mod RoundLemmas
+pub mod MemberLemmas
+pub mod ArrivalLemmas
+pub mod ClassLemmas
+pub mod QueueLemmas
+pub mod RenumberLemmas
+pub mod PlanLemmas
+pub mod DivisionLemmas
+pub mod RefineLemmas

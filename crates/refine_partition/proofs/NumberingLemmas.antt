@@ -1,15 +1,14 @@
--- One more router has its leader's number, or the next one where it leads itself.
-use Rattle.std.proofs.Common.{◌≡◌, ◌≢◌, ℕ, ◌<◌, ◌≤◌, ◌+◌, List, [], ◌∷◌, ◌++◌, length, get_or, All, Contains, refl, sym, ◌∙◌, ap, subst, arith, inl, inr}
+-- One more key has its number, or the next one where it is new.
+use Rattle.std.proofs.Common.{◌≡◌, ◌≢◌, ℕ, ◌<◌, ◌≤◌, ◌+◌, max, Option, Some, None, List, [], ◌∷◌, ◌++◌, length, Contains, refl, sym, ◌∙◌, ap, subst, arith, inl, inr}
 use Rattle.std.specs.Prelude.{slice_index, ◌⊎◌}
-use Rattle.std.proofs.lemmas.Grind.{common_steps}
-use Rattle.std.proofs.lemmas.Bool.{cases_lt}
-use Rattle.std.proofs.lemmas.List.{length_push, get_or_push, get_or_append_left, get_or_default, get_or_read}
+use Rattle.std.proofs.lemmas.Bool.{cases_lt, cases_eq}
+use Rattle.std.proofs.lemmas.List.{length_push, get_or_push, get_or_append_left, get_or_default}
 use Rattle.std.proofs.lemmas.List.Elements.{All-push, All-weaker, All-get_or, Contains-append_left, Contains-push}
 use Rattle.base_kit.specs.Partition.{IsNumbered}
-use Rattle.refine_partition.specs.Numbering.{AreOwnLeaders, IsNumbering}
+use Rattle.refine_partition.specs.Numbering.{IsNumbering}
 
-pub no_numbers : (leaders : List ℕ) → IsNumbering leaders [] 0
-no_numbers leaders = record {
+pub no_numbers : (keys : List ℕ) → IsNumbering keys [] 0
+no_numbers keys = record {
   numbered = record {
     below = λ k d inside. absurd (omega arith);
     used = λ group inside. absurd (omega arith);
@@ -48,56 +47,65 @@ in_order_push numbers count more y numbered smaller v group inside below =
           (u, omega arith, earlier numbers y u before ∙ same)
     ]
 
--- equal numbers and equal leaders go together when a router of both is added
-apart_push : (numbers leaders : List ℕ) (y : ℕ) → ((u v : ℕ) → u < length numbers → v < length numbers → slice_index numbers u ≡ slice_index numbers v → slice_index leaders u ≡ slice_index leaders v) → ((u : ℕ) → u < length numbers → slice_index numbers u ≡ y → slice_index leaders u ≡ slice_index leaders (length numbers)) → (u v : ℕ) → u < length (numbers ++ y ∷ []) → v < length (numbers ++ y ∷ []) → slice_index (numbers ++ y ∷ []) u ≡ slice_index (numbers ++ y ∷ []) v → slice_index leaders u ≡ slice_index leaders v
-apart_push numbers leaders y apart new u v hu hv same =
+-- equal numbers and equal keys go together when a router of both is added
+apart_push : (numbers keys : List ℕ) (y : ℕ) → ((u v : ℕ) → u < length numbers → v < length numbers → slice_index numbers u ≡ slice_index numbers v → slice_index keys u ≡ slice_index keys v) → ((u : ℕ) → u < length numbers → slice_index numbers u ≡ y → slice_index keys u ≡ slice_index keys (length numbers)) → (u v : ℕ) → u < length (numbers ++ y ∷ []) → v < length (numbers ++ y ∷ []) → slice_index (numbers ++ y ∷ []) u ≡ slice_index (numbers ++ y ∷ []) v → slice_index keys u ≡ slice_index keys v
+apart_push numbers keys y apart new u v hu hv same =
     elim (last_or_earlier numbers y u hu) [
       | inl eu ↦ elim (last_or_earlier numbers y v hv) [
         | inl ev ↦ apart u v eu ev (sym (earlier numbers y u eu) ∙ same ∙ earlier numbers y v ev)
-        | inr e ↦ new u eu (sym (earlier numbers y u eu) ∙ same ∙ newest numbers y v e) ∙ sym (ap (λ n. slice_index leaders n) e)
+        | inr e ↦ new u eu (sym (earlier numbers y u eu) ∙ same ∙ newest numbers y v e) ∙ sym (ap (λ n. slice_index keys n) e)
       ]
       | inr e ↦ elim (last_or_earlier numbers y v hv) [
-        | inl ev ↦ ap (λ n. slice_index leaders n) e ∙ sym (new v ev (sym (earlier numbers y v ev) ∙ sym same ∙ newest numbers y u e))
-        | inr e' ↦ ap (λ n. slice_index leaders n) (e ∙ sym e')
+        | inl ev ↦ ap (λ n. slice_index keys n) e ∙ sym (new v ev (sym (earlier numbers y v ev) ∙ sym same ∙ newest numbers y u e))
+        | inr e' ↦ ap (λ n. slice_index keys n) (e ∙ sym e')
       ]
     ]
 
-together_push : (numbers leaders : List ℕ) (y : ℕ) → ((u v : ℕ) → u < length numbers → v < length numbers → slice_index leaders u ≡ slice_index leaders v → slice_index numbers u ≡ slice_index numbers v) → ((u : ℕ) → u < length numbers → slice_index leaders u ≡ slice_index leaders (length numbers) → slice_index numbers u ≡ y) → (u v : ℕ) → u < length (numbers ++ y ∷ []) → v < length (numbers ++ y ∷ []) → slice_index leaders u ≡ slice_index leaders v → slice_index (numbers ++ y ∷ []) u ≡ slice_index (numbers ++ y ∷ []) v
-together_push numbers leaders y together new u v hu hv same =
+together_push : (numbers keys : List ℕ) (y : ℕ) → ((u v : ℕ) → u < length numbers → v < length numbers → slice_index keys u ≡ slice_index keys v → slice_index numbers u ≡ slice_index numbers v) → ((u : ℕ) → u < length numbers → slice_index keys u ≡ slice_index keys (length numbers) → slice_index numbers u ≡ y) → (u v : ℕ) → u < length (numbers ++ y ∷ []) → v < length (numbers ++ y ∷ []) → slice_index keys u ≡ slice_index keys v → slice_index (numbers ++ y ∷ []) u ≡ slice_index (numbers ++ y ∷ []) v
+together_push numbers keys y together new u v hu hv same =
     elim (last_or_earlier numbers y u hu) [
       | inl eu ↦ elim (last_or_earlier numbers y v hv) [
         | inl ev ↦ earlier numbers y u eu ∙ together u v eu ev same ∙ sym (earlier numbers y v ev)
-        | inr e ↦ earlier numbers y u eu ∙ new u eu (same ∙ ap (λ n. slice_index leaders n) e) ∙ sym (newest numbers y v e)
+        | inr e ↦ earlier numbers y u eu ∙ new u eu (same ∙ ap (λ n. slice_index keys n) e) ∙ sym (newest numbers y v e)
       ]
       | inr e ↦ elim (last_or_earlier numbers y v hv) [
-        | inl ev ↦ newest numbers y u e ∙ sym (new v ev (sym same ∙ ap (λ n. slice_index leaders n) e)) ∙ sym (earlier numbers y v ev)
+        | inl ev ↦ newest numbers y u e ∙ sym (new v ev (sym same ∙ ap (λ n. slice_index keys n) e)) ∙ sym (earlier numbers y v ev)
         | inr e' ↦ newest numbers y u e ∙ sym (newest numbers y v e')
       ]
     ]
-
-pub leader_number : (leaders numbers : List ℕ) (count leader : ℕ) → AreOwnLeaders leaders → IsNumbering leaders numbers count → length numbers < length leaders → leader ≡ slice_index leaders (length numbers) → leader < length numbers → IsNumbering leaders (numbers ++ slice_index numbers leader ∷ []) count
-leader_number leaders numbers count leader own numbering more is led =
-    let y : ℕ = slice_index numbers leader in
-    let led_too : slice_index leaders leader ≡ slice_index leaders (length numbers) = ap (λ n. slice_index leaders n) is ∙ own.led (length numbers) more in
-    record {
-      numbered = record {
-        below = All-push (λ g. g < count) numbers y numbering.numbered.below (All-get_or (λ g. g < count) numbers leader 0 led numbering.numbered.below);
-        used = λ group inside. Contains-append_left numbers (y ∷ []) group (numbering.numbered.used group inside);
-        in_order = in_order_push numbers count 0 y numbering.numbered (λ group below. let (u, before, e) = numbering.numbered.in_order leader group led below in (u, omega arith, e));
-      };
-      small = let more = length_push numbers y in let small = numbering.small in omega arith;
-      apart = apart_push numbers leaders y numbering.apart (λ u inside same. numbering.apart u leader inside led same ∙ led_too);
-      together = together_push numbers leaders y numbering.together (λ u inside same. numbering.together u leader inside led (same ∙ sym led_too));
-    }
 
 -- a number in use, as a router
 used_at : (numbers : List ℕ) (group : ℕ) → Contains numbers group → (u : ℕ) × (u < length numbers) × (slice_index numbers u ≡ group)
 used_at numbers group (k, inside, at) = (k, inside, get_or_default numbers k 0 group inside ∙ at)
 
-pub next_number : (leaders numbers : List ℕ) (count : ℕ) → AreOwnLeaders leaders → IsNumbering leaders numbers count → length numbers < length leaders → slice_index leaders (length numbers) ≡ length numbers → IsNumbering leaders (numbers ++ count ∷ []) (count + 1)
-next_number leaders numbers count own numbering more led =
+-- numbers of the first keys, with the names that they have
+pub record Numbering (keys numbers : List ℕ) (count : ℕ) (names : ℕ → Option ℕ) : Type 0 where
+  pub numbering : IsNumbering keys numbers count
+  pub named : (key number : ℕ) → names key ≡ Some number → (u : ℕ) × (u < length numbers) × (slice_index keys u ≡ key) × (slice_index numbers u ≡ number)
+  pub known : (u : ℕ) → u < length numbers → names (slice_index keys u) ≡ Some (slice_index numbers u)
+
+pub none_numbered : (keys : List ℕ) (names : ℕ → Option ℕ) → ((key : ℕ) → names key ≡ None) → Numbering keys [] 0 names
+none_numbered keys names none = record {
+  numbering = no_numbers keys;
+  named = λ key number is. let no = none key in absurd cc;
+  known = λ u inside. absurd (omega arith);
+}
+
+known_number : (keys numbers : List ℕ) (count u number : ℕ) → IsNumbering keys numbers count → u < length numbers → slice_index keys u ≡ slice_index keys (length numbers) → slice_index numbers u ≡ number → IsNumbering keys (numbers ++ number ∷ []) count
+known_number keys numbers count u number numbering inside same is = record {
+  numbered = record {
+    below = All-push (λ g. g < count) numbers number numbering.numbered.below (subst (λ g. g < count) is (All-get_or (λ g. g < count) numbers u 0 inside numbering.numbered.below));
+    used = λ group within. Contains-append_left numbers (number ∷ []) group (numbering.numbered.used group within);
+    in_order = in_order_push numbers count 0 number numbering.numbered (λ group below. let (w, before, e) = numbering.numbered.in_order u group inside (omega arith) in (w, omega arith, e));
+  };
+  small = let more = length_push numbers number in let small = numbering.small in omega arith;
+  apart = apart_push numbers keys number numbering.apart (λ w hw e. numbering.apart w u hw inside (e ∙ sym is) ∙ same);
+  together = together_push numbers keys number numbering.together (λ w hw e. numbering.together w u hw inside (e ∙ sym same) ∙ is);
+}
+
+fresh_number : (keys numbers : List ℕ) (count : ℕ) → IsNumbering keys numbers count → ((u : ℕ) → u < length numbers → slice_index keys u ≢ slice_index keys (length numbers)) → IsNumbering keys (numbers ++ count ∷ []) (count + 1)
+fresh_number keys numbers count numbering new =
     let smaller : (u : ℕ) → u < length numbers → slice_index numbers u < count = λ u inside. All-get_or (λ g. g < count) numbers u 0 inside numbering.numbered.below in
-    let not_led : (u : ℕ) → u < length numbers → slice_index leaders u < length numbers = λ u inside. let le = own.not_above u (omega arith) in omega arith in
     record {
       numbered = record {
         below = All-push (λ g. g < count + 1) numbers count (All-weaker (λ g. g < count) (λ g. g < count + 1) (λ g lt. omega arith) numbers numbering.numbered.below) (omega arith);
@@ -108,20 +116,49 @@ next_number leaders numbers count own numbering more led =
         in_order = in_order_push numbers count 0 count numbering.numbered (λ group below. used_at numbers group (numbering.numbered.used group below));
       };
       small = let more = length_push numbers count in let small = numbering.small in omega arith;
-      apart = apart_push numbers leaders count numbering.apart (λ u inside same. let lt = smaller u inside in absurd (omega arith));
-      together = together_push numbers leaders count numbering.together (λ u inside same. let lt = not_led u inside in absurd (omega arith));
+      apart = apart_push numbers keys count numbering.apart (λ u inside same. let lt = smaller u inside in absurd (omega arith));
+      together = together_push numbers keys count numbering.together (λ u inside same. absurd (new u inside same));
     }
 
--- the same, in the terms of the code
-pub led_pushed : (leaders numbers after : List ℕ) (count router y : ℕ) → AreOwnLeaders leaders → IsNumbering leaders numbers count → length numbers < length leaders → router ≡ length numbers → slice_index leaders router < router → y ≡ get_or numbers (slice_index leaders router) y → after ≡ numbers ++ y ∷ [] → IsNumbering leaders after count
-led_pushed leaders numbers after count router y own numbering more is led read e =
-    let is_leader : slice_index leaders router ≡ slice_index leaders (length numbers) = ap (λ n. slice_index leaders n) is in
-    let inside : slice_index leaders router < length numbers = omega arith in
-    let value : y ≡ slice_index numbers (slice_index leaders router) = get_or_read numbers (slice_index leaders router) y inside read 0 in
-    rw (e, value) (leader_number leaders numbers count (slice_index leaders router) own numbering more is_leader inside)
-
-pub leader_pushed : (leaders numbers after : List ℕ) (count router : ℕ) → AreOwnLeaders leaders → IsNumbering leaders numbers count → length numbers < length leaders → router ≡ length numbers → router ≤ slice_index leaders router → after ≡ numbers ++ count ∷ [] → IsNumbering leaders after (count + 1)
-leader_pushed leaders numbers after count router own numbering more is above e =
-    let below = own.not_above (length numbers) more in
-    let same = ap (λ n. slice_index leaders n) is in
-    rw e (next_number leaders numbers count own numbering more (omega arith))
+-- one more key
+pub numbered_next : (keys numbers : List ℕ) (count count' number : ℕ) (names names' : ℕ → Option ℕ) → Numbering keys numbers count names → names' (slice_index keys (length numbers)) ≡ Some number → ((other : ℕ) → other ≢ slice_index keys (length numbers) → names' other ≡ names other) → ((names (slice_index keys (length numbers)) ≡ Some number) ⊎ ((names (slice_index keys (length numbers)) ≡ None) × (number ≡ count))) → count' ≡ max count (number + 1) → Numbering keys (numbers ++ number ∷ []) count' names'
+numbered_next keys numbers count count' number names names' so_far named others was counts =
+    let key : ℕ = slice_index keys (length numbers) in
+    let more = length_push numbers number in
+    record {
+      numbering = elim was [
+        | inl old ↦
+            let (u, inside, same, is) = so_far.named key number old in
+            let lt : slice_index numbers u < count = All-get_or (λ g. g < count) numbers u 0 inside so_far.numbering.numbered.below in
+            let e : count ≡ count' = omega arith in
+            subst (λ n. IsNumbering keys (numbers ++ number ∷ []) n) e (known_number keys numbers count u number so_far.numbering inside same is)
+        | inr new ↦
+            let is : count ≡ number = sym new.1 in
+            let e : count + 1 ≡ count' = omega arith in
+            let fresh = fresh_number keys numbers count so_far.numbering (λ u inside same. let known = so_far.known u inside in let known' : names key ≡ Some (slice_index numbers u) = ap names (sym same) ∙ known in let none = new.0 in absurd cc) in
+            subst (λ n. IsNumbering keys (numbers ++ number ∷ []) n) e (subst (λ y. IsNumbering keys (numbers ++ y ∷ []) (count + 1)) is fresh)
+      ];
+      named = λ other n found. elim (cases_eq other key) [
+        | inl e ↦
+            let found' : names' key ≡ Some n = ap names' (sym e) ∙ found in
+            (length numbers, omega arith, sym e, newest numbers number (length numbers) refl ∙ cc)
+        | inr ne ↦
+            let (u, inside, at, is) = so_far.named other n (sym (others other ne) ∙ found) in
+            (u, omega arith, at, earlier numbers number u inside ∙ is)
+      ];
+      known = λ u inside. elim (last_or_earlier numbers number u inside) [
+        | inl old ↦
+            let known = so_far.known u old in
+            let at = earlier numbers number u old in
+            elim (cases_eq (slice_index keys u) key) [
+              | inl e ↦
+                  let known' : names key ≡ Some (slice_index numbers u) = ap names (sym e) ∙ known in
+                  elim was [
+                    | inl was_named ↦ ap names' e ∙ named ∙ sym was_named ∙ known' ∙ ap (λ n. Some n) (sym at)
+                    | inr new ↦ let none = new.0 in absurd cc
+                  ]
+              | inr ne ↦ others _ ne ∙ known ∙ ap (λ n. Some n) (sym at)
+            ]
+        | inr e ↦ ap names' (ap (slice_index keys) e) ∙ named ∙ ap (λ n. Some n) (sym (newest numbers number u e))
+      ];
+    }

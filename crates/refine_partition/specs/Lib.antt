@@ -1,4 +1,14 @@
-pub mod Alike
 pub mod Inside
 pub mod Numbering
-pub mod Round
+pub mod Splits
+pub mod Index
+pub mod Members
+pub mod Arrivals
+pub mod Classes
+pub mod Touched
+pub mod Renumbering
+pub mod Planned
+pub mod Kept
+pub mod Splitting
+pub mod SplittingInside
+pub mod Pending

@@ -1,15 +1,23 @@
--- Numbers for groups that are named by their least members.
-use Rattle.std.specs.Prelude.{◌≡◌, ℕ, ◌<◌, ◌≤◌, List, length, slice_index}
+-- Numbers for keys, in the order in which the keys first stand.
+use Rattle.std.specs.Prelude.{◌≡◌, ◌≢◌, ℕ, ◌<◌, ◌≤◌, List, length, slice_index, nat_eq, Some, None, ◌⊎◌}
+use Rattle.std.specs.declared.hash.FoldHasher.{FoldHasher}
+use Rattle.std.specs.declared.hash.BuildHasherDefault.{BuildHasherDefault}
+use Rattle.std.specs.HashMap.{get, HashMap}
 use Rattle.base_kit.specs.Partition.{IsNumbered}
 
--- each router's leader is not above it, and leads itself
-pub record AreOwnLeaders (leaders : List ℕ) : Type 0 where
-  pub not_above : (u : ℕ) → u < length leaders → slice_index leaders u ≤ u
-  pub led : (u : ℕ) → u < length leaders → slice_index leaders (slice_index leaders u) ≡ slice_index leaders u
+-- the numbers of keys
+abbrev pub KeyNames : Type 0
+KeyNames = HashMap ℕ ℕ (BuildHasherDefault FoldHasher)
 
--- the first routers have numbers below `count`, equal where their leaders are
-pub record IsNumbering (leaders numbers : List ℕ) (count : ℕ) : Type 0 where
+-- the key has the number, which is the next one if it had none, and all others keep theirs
+pub record IsKeyNamed (old new : KeyNames) (key next number : ℕ) : Type 0 where
+  pub named : get nat_eq new key ≡ Some number
+  pub others : (other : ℕ) → other ≢ key → get nat_eq new other ≡ get nat_eq old other
+  pub was : (get nat_eq old key ≡ Some number) ⊎ ((get nat_eq old key ≡ None) × (number ≡ next))
+
+-- the first places have numbers below `count`, equal where their keys are
+pub record IsNumbering (keys numbers : List ℕ) (count : ℕ) : Type 0 where
   pub numbered : IsNumbered numbers count
   pub small : count ≤ length numbers
-  pub apart : (u v : ℕ) → u < length numbers → v < length numbers → slice_index numbers u ≡ slice_index numbers v → slice_index leaders u ≡ slice_index leaders v
-  pub together : (u v : ℕ) → u < length numbers → v < length numbers → slice_index leaders u ≡ slice_index leaders v → slice_index numbers u ≡ slice_index numbers v
+  pub apart : (u v : ℕ) → u < length numbers → v < length numbers → slice_index numbers u ≡ slice_index numbers v → slice_index keys u ≡ slice_index keys v
+  pub together : (u v : ℕ) → u < length numbers → v < length numbers → slice_index keys u ≡ slice_index keys v → slice_index numbers u ≡ slice_index numbers v

@@ -1,9 +1,11 @@
-//! Partitions of routers into numbered groups.
+//! Partitions of routers into numbered groups, and the coarsest admissible one.
 
 ghost use Rattle.std.specs.Prelude.{◌≡◌, ◌<◌, ◌≤◌, ◌+◌, ◌*◌, ◌^◌, IfOk, Contains, length, slice_index};
 ghost use Rattle.base_kit.specs.Partition.{IsNumbered, IsCoarsest, members_of};
 
-use crate::coarsest_numbers;
+use crate::blocks::blocks_of;
+use crate::numbering::numbers_of;
+use crate::pending::refined;
 use base_kit::{ActGraph, NoMemory, Steps};
 use std::alloc::Global;
 use std::marker::Model;
@@ -27,17 +29,6 @@ impl Model for Partition {
     ghost view = { λ p. p.numbers.items };
 
     ghost invariant = { IsPartition };
-}
-
-/// The members of a group, ascending.
-fn members_in(alloc: Global, numbers: &[u32], group: u32) -> Result<Vec<u32>, NoMemory>
-    requires fits { length numbers.now < 2 ^ 32 }
-    ensures { IfOk result (λ v. v.items ≡ members_of numbers.now group) }
-{
-    let members = (0..numbers.len() as u32)
-        .filter(|router| numbers[*router as usize] == group)
-        .collect(alloc)?;
-    Ok(members)
 }
 
 impl Partition {
@@ -71,10 +62,7 @@ fn from_numbers(alloc: Global, numbers: Vec<u32>, count: u32) -> Result<Partitio
     requires numbered { IsNumbered numbers.items count }
     ensures { IfOk result (λ p. p ≡ numbers.items) }
 {
-    let mut blocks = Vec::new(alloc);
-    for group in 0..count {
-        blocks.push(members_in(alloc, &numbers, group)?)?;
-    }
+    let blocks = blocks_of(alloc, &numbers, count)?;
     Ok(Partition {
         numbers,
         count,
@@ -92,7 +80,9 @@ pub fn coarsest<L: Ledger>(
     ensures coarsest { IfOk result (λ p. IsCoarsest graph.now p) }
     ensures turns { turns.new ≤ turns.old + 2 * graph.now.count }
 {
-    let (numbers, count) = coarsest_numbers(alloc, graph)?;
+    let _count = graph.count;
+    let splitting = refined(alloc, graph, turns)?;
+    let (numbers, count) = numbers_of(alloc, splitting.numbers())?;
     let partition = from_numbers(alloc, numbers, count)?;
     Ok(partition)
 }

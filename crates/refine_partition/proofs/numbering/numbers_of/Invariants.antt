@@ -1,0 +1,10 @@
+use Rattle.std.proofs.Common.{◌≡◌, length, nat_eq}
+use Rattle.std.specs.HashMap.{get}
+use Rattle.refine_partition.proofs.NumberingLemmas.{Numbering}
+use Rattle.refine_partition.proofs.numbering.numbers_of.Given as goal
+
+abbrev pub invariant-loop-key : goal.invariant-loop-key
+invariant-loop-key l = record {
+  total : length l.numbers.items ≡ l.key-index;
+  so_far : Numbering l.keys l.numbers.items l.count (λ key. get nat_eq l.names key);
+}

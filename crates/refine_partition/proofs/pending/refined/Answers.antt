@@ -1,0 +1,59 @@
+use Rattle.std.proofs.Common.{rules, ◌≡◌, [], ◌∷◌, ◌++◌, false, slice_set, length, subst, ap, ◌∙◌, arith}
+use Rattle.std.proofs.lemmas.List.{length_push}
+use Rattle.std.proofs.Math.ListN.{length-set}
+use Rattle.refine_partition.specs.Pending.{IsRefining}
+use Rattle.refine_partition.proofs.RefineLemmas.{refining_start, refining_turn, refining_end, marked_all, marked_taken, left_known, taken_or_left}
+use Rattle.refine_partition.proofs.pending.refined.Goals as goal
+
+pub loop-block-init : goal.loop-block-init
+loop-block-init g c =
+    let start = c.in_ok-splitting.ensures.start in
+    let all = rw c.blocks-2.ensures at c.in_ok-queue.ensures in
+    let few = start.few in
+    let size = all.few in
+    record {
+      of_graph = c.in_ok-splitting.ensures.of_graph;
+      refining = refining_start _ _ _ _ start all.all all.known;
+      size = all.size;
+      marked = marked_all _ _ _ all;
+      bound = omega arith;
+    }
+
+pub add_pieces-requires-clause-marked : goal.add_pieces-requires-clause-marked
+add_pieces-requires-clause-marked g c =
+    let popped : c.loop-block.queue.items ≡ c.pop_back.new.self.items ++ c.in-Some.block ∷ [] = c.in-Some.ensures.items in
+    let known = left_known _ _ _ _ popped c.loop-block.invariant.refining.known in
+    let lt = known.1 in
+    let size = c.loop-block.invariant.size in
+    marked_taken _ _ _ _ c.loop-block.invariant.marked popped (omega arith)
+
+pub loop-block-preserved : goal.loop-block-preserved
+loop-block-preserved g c =
+    let popped : c.loop-block.queue.items ≡ c.pop_back.new.self.items ++ c.in-Some.block ∷ [] = c.in-Some.ensures.items in
+    let before = c.loop-block.invariant in
+    let known = left_known _ _ _ _ popped before.refining.known in
+    let size : length c.loop-block.waits.items ≡ c.loop-block.splitting.count = before.size in
+    let divided = c.in_ok-origins.ensures.ok in
+    let added = c.in_ok-add_pieces.ensures in
+    let marks : length (slice_set c.loop-block.waits.items c.in-Some.block false) ≡ c.loop-block.splitting.count = length-set _ _ _ ∙ size in
+    let waiting = rw (marks, c.deref.ensures.value) at added.waiting in
+    let refining = refining_turn _ _ _ _ _ _ _ _ _ _ before.refining (taken_or_left _ _ _ popped) known.0 divided waiting in
+    let longer = ap length popped ∙ length_push _ _ in
+    let few = waiting.few in
+    let bound = before.bound in
+    let tick = c.in_ok-origins.ensures.tick in
+    let grows = divided.size in
+    let most = divided.few in
+    let small = before.refining.small in
+    record {
+      of_graph = c.in_ok-origins.ensures.of_graph;
+      refining = refining;
+      size = added.size;
+      marked = added.marked;
+      bound = omega arith;
+    }
+
+pub returns-clause-coarsest : goal.returns-clause-coarsest
+returns-clause-coarsest g c =
+    let none : c.loop-block.queue.items ≡ [] = search rules in
+    refining_end _ _ _ (subst (IsRefining c.args.graph.now c.loop-block.splitting.numbers c.loop-block.splitting.count) none c.loop-block.invariant.refining)

@@ -1,0 +1,13 @@
+use Rattle.refine_partition.proofs.PlanLemmas.{planned as planned_by, queue_is}
+use Rattle.refine_partition.proofs.plan.planned.Goals as goal
+
+pub renumbered-requires-clause-queue : goal.renumbered-requires-clause-queue
+renumbered-requires-clause-queue c = rw c.deref-6.ensures.value (queue_is _ _ _ c.in_ok-queue.ensures)
+
+pub returns : goal.returns
+returns c = planned_by _ _ _ _ _ _ _ _ _ _ _ c.requires.one_number_each c.requires.numbered c.in_ok-arrivals.ensures.arrivals
+    (rw c.deref-2.ensures.value at c.in_ok-classes.ensures)
+    c.in_ok-touched.ensures.in_order
+    (rw c.deref-3.ensures.value at c.in_ok-touched.ensures.touched)
+    (rw c.deref-4.ensures.value at c.in_ok-queue.ensures)
+    (rw (c.deref-5.ensures.value, c.deref-6.ensures.value) at c.in_ok-renumbering.ensures)

@@ -1,0 +1,43 @@
+use Rattle.std.proofs.Common.{◌≡◌, ℕ, ◌<◌, [], length, get_or, take, Some, None, sym, ◌∙◌, refl, arith}
+use Rattle.std.specs.Prelude.{slice_index}
+use Rattle.std.proofs.lemmas.List.{take_all, get_or_default, get_or-set_same, get_or-set_other}
+use Rattle.std.proofs.Math.ListN.{length-set}
+use Rattle.std.proofs.lemmas.List.Elements.{All-take}
+use Rattle.refine_partition.proofs.RenumberLemmas.{few_numbers, renumbered_none, renumbered_next, renumbered_all}
+use Rattle.refine_partition.proofs.renumbering.renumbered.Goals as goal
+
+pub overflow_cast-before : goal.overflow_cast-before
+overflow_cast-before c =
+    let given = c.requires.given in
+    let few = few_numbers _ _ (take 0 c.args.queue.now) _ _ c.args.numbers.now [] (λ class. None) given (λ k d inside. absurd (omega arith)) (renumbered_none c.args.numbers.now c.args.classes.now c.args.queue.now _ (λ class. None) (λ class. refl) given.below) in
+    let fits = c.requires.fits in
+    omega arith
+
+pub next_number-requires : goal.next_number-requires
+next_number-requires c =
+    let few = few_numbers _ _ _ _ _ _ _ _ c.requires.given (All-take (λ u. u < length c.args.numbers.now) c.loop-router.router-index c.args.queue.now c.requires.queue.below) c.loop-router.invariant.so_far in
+    let fits = c.requires.fits in
+    omega arith
+
+pub loop-router-preserved : goal.loop-router-preserved
+loop-router-preserved c =
+    let given = c.requires.given in
+    let here = c.loop-router-test.true in
+    let router : ℕ = slice_index c.args.queue.now c.loop-router.router-index in
+    let class : ℕ = slice_index c.args.classes.now router in
+    let names = c.loop-router.names.items in
+    let inside : router < length c.args.numbers.now = c.requires.queue.below c.loop-router.router-index 0 here in
+    let total = given.total in
+    let size = c.loop-router.invariant.names in
+    let known : class < c.args.class_count = given.class_below router 0 (omega arith) in
+    let known' : class < length names = omega arith in
+    let read : get_or names class None ≡ c.index.result.now = get_or_default names class None _ known' ∙ sym c.index.ensures in
+    let chosen = rw (sym read) at c.in_ok-number.ensures in
+    record {
+      names = length-set names class (Some c.in_ok-number.number) ∙ size;
+      so_far = renumbered_next _ _ _ _ _ _ _ _ _ (λ x. get_or names x None) _ _ _ _ given c.requires.queue here c.loop-router.invariant.so_far refl c.is_least-least.ensures.least c.is_least-least.ensures.not_least chosen
+          (get_or-set_same names class (Some c.in_ok-number.number) None known') (λ other ne. get_or-set_other names class other (Some c.in_ok-number.number) None ne);
+    }
+
+pub returns : goal.returns
+returns c = rw (take_all c.loop-router.router-index c.args.queue.now c.loop-router-test.false) at (renumbered_all _ _ _ _ _ _ _ c.loop-router.invariant.so_far)

@@ -1,0 +1,43 @@
+-- Routers in classes by the acts of their edges into one block.
+use Rattle.std.specs.Prelude.{◌≡◌, ◌≢◌, ℕ, ◌+◌, ◌<◌, ◌≤◌, List, length, slice_index, nat_eq, All, Any, Contains, ◌⊎◌, Some, None}
+use Rattle.std.specs.declared.hash.FoldHasher.{FoldHasher}
+use Rattle.std.specs.declared.hash.BuildHasherDefault.{BuildHasherDefault}
+use Rattle.std.specs.HashMap.{get, HashMap}
+use Rattle.refine_partition.specs.declared.imports.Import.{Import}
+
+-- the names of classes
+abbrev pub Names : Type 0
+Names = HashMap ℕ ℕ (BuildHasherDefault FoldHasher)
+
+-- the class has the name, which is the next one if it had none, and all others keep theirs
+pub record IsNamed (old new : Names) (class next name : ℕ) : Type 0 where
+  pub named : get nat_eq new class ≡ Some name
+  pub others : (other : ℕ) → other ≢ class → get nat_eq new other ≡ get nat_eq old other
+  pub was : (get nat_eq old class ≡ Some name) ⊎ ((get nat_eq old class ≡ None) × (name ≡ next))
+
+-- the importers moved to classes from `fresh` on, those of one class to one class
+pub record IsSeparated (old new : List ℕ) (movers : List Import) (fresh next : ℕ) : Type 0 where
+  pub total : length new ≡ length old
+  pub low : fresh ≤ next
+  pub few : next ≤ fresh + length movers
+  pub below : All (λ class. class < next) new
+  pub moved : All (λ m. fresh ≤ slice_index new m.importer) movers
+  pub only : (u : ℕ) → u < length old → fresh ≤ slice_index new u → Any (λ m. m.importer ≡ u) movers
+  pub stay : (u : ℕ) → u < length old → slice_index new u < fresh → slice_index new u ≡ slice_index old u
+  pub together : (u v : ℕ) → u < length old → v < length old → fresh ≤ slice_index new u → fresh ≤ slice_index new v → slice_index old u ≡ slice_index old v → slice_index new u ≡ slice_index new v
+  pub apart : (u v : ℕ) → u < length old → v < length old → fresh ≤ slice_index new u → slice_index new u ≡ slice_index new v → slice_index old u ≡ slice_index old v
+
+-- the same acts are listed for both routers
+pub record SameArrivals (arrivals : List Import) (u v : ℕ) : Type 0 where
+  pub there : (act : ℕ) → Contains arrivals (record { importer = u; act = act }) → Contains arrivals (record { importer = v; act = act })
+  pub back : (act : ℕ) → Contains arrivals (record { importer = v; act = act }) → Contains arrivals (record { importer = u; act = act })
+
+-- two routers are in one class where their numbers are equal and the same acts are listed for both
+pub record AreClasses (numbers : List ℕ) (arrivals : List Import) (count : ℕ) (classes : List ℕ) (next : ℕ) : Type 0 where
+  pub total : length classes ≡ length numbers
+  pub low : count ≤ next
+  pub few : next ≤ count + length arrivals
+  pub below : All (λ class. class < next) classes
+  pub together : (u v : ℕ) → u < length numbers → v < length numbers → slice_index numbers u ≡ slice_index numbers v → SameArrivals arrivals u v → slice_index classes u ≡ slice_index classes v
+  pub same : (u v : ℕ) → u < length numbers → v < length numbers → slice_index classes u ≡ slice_index classes v → slice_index numbers u ≡ slice_index numbers v
+  pub alike : (u v : ℕ) → u < length numbers → v < length numbers → slice_index classes u ≡ slice_index classes v → SameArrivals arrivals u v

@@ -1,0 +1,17 @@
+-- The members of all blocks.
+use Rattle.std.specs.Prelude.{◌≡◌, ℕ, ◌<◌, List, length, slice_index, slice_index_or, filter, ◌==◌, Vec}
+use Rattle.std.specs.List.{range_with_len}
+use Rattle.std.specs.declared.alloc.Global.{Global}
+use Rattle.base_kit.specs.Partition.{members_of}
+
+-- the members of a block among the first routers, ascending
+abbrev pub members_among : ℕ → List ℕ → ℕ → List ℕ
+members_among count numbers block = filter (λ router. slice_index numbers router == block) (range_with_len 0 count)
+
+-- each block has its members among the first routers
+pub record AreBlocksAmong (count : ℕ) (numbers : List ℕ) (blocks : List (Vec ℕ Global)) : Type 0 where
+  pub each : (block : ℕ) (d : Vec ℕ Global) → block < length blocks → (slice_index_or blocks block d).items ≡ members_among count numbers block
+
+-- each block has its members
+pub record AreBlocks (numbers : List ℕ) (blocks : List (Vec ℕ Global)) : Type 0 where
+  pub each : (block : ℕ) (d : Vec ℕ Global) → block < length blocks → (slice_index_or blocks block d).items ≡ members_of numbers block

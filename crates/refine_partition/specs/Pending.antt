@@ -1,0 +1,46 @@
+-- The blocks that wait for their turn.
+use Rattle.std.specs.Prelude.{◌≡◌, ◌≢◌, ℕ, ◌+◌, ◌*◌, ◌<◌, ◌≤◌, List, length, slice_index, slice_index_or, Bool, true, false, Contains, All, ◌⊎◌}
+use Rattle.base_kit.specs.declared.act_graph.ActGraph.{ActGraph}
+use Rattle.base_kit.specs.Partition.{color, IsAdmissible, Refines}
+use Rattle.refine_partition.specs.Splits.{ActAlike}
+
+-- a block that is marked as waiting stands in the queue
+pub record AreMarked (queue : List ℕ) (waits : List Bool) : Type 0 where
+  pub marked : (block : ℕ) → block < length waits → slice_index_or waits block false ≡ true → Contains queue block
+
+-- all blocks wait, each once
+pub record AreAllWaiting (count : ℕ) (queue : List ℕ) (waits : List Bool) : Type 0 where
+  pub size : length waits ≡ count
+  pub few : length queue ≡ count
+  pub all : (block : ℕ) → block < count → Contains queue block
+  pub known : All (λ block. block < count) queue
+
+-- the block waits too, with all that waited before
+pub record IsWaiting (old new : List ℕ) (block : ℕ) : Type 0 where
+  pub waits : Contains new block
+  pub kept : (other : ℕ) → Contains old other → Contains new other
+  pub only : (other : ℕ) → Contains new other → Contains old other ⊎ (other ≡ block)
+  pub few : length new ≤ length old + 1
+
+-- all pieces of the divided blocks wait, with all that waited before
+pub record ArePiecesWaiting (old new : List ℕ) (before : ℕ) (origins : List ℕ) : Type 0 where
+  pub further : (k : ℕ) → k < length origins → Contains new (before + k)
+  pub divided : (k : ℕ) → k < length origins → Contains new (slice_index origins k)
+  pub kept : (other : ℕ) → Contains old other → Contains new other
+  pub known : (bound : ℕ) → All (λ block. block < bound) old → All (λ block. block < bound) origins → before + length origins ≤ bound → All (λ block. block < bound) new
+  pub few : length new ≤ length old + 2 * length origins
+
+-- the members of each other block have edges of the same acts into this one
+pub record IsEven (graph : ActGraph) (numbers : List ℕ) (block : ℕ) : Type 0 where
+  pub alike : (u v : ℕ) → u < graph.count → v < graph.count → slice_index numbers u ≡ slice_index numbers v → slice_index numbers u ≢ block → ActAlike graph.edges numbers block u v
+
+-- Between turns: each block has one color, every admissible partition refines the blocks, and where a
+-- block does not wait all others are even towards it.
+pub record IsRefining (graph : ActGraph) (numbers : List ℕ) (count : ℕ) (queue : List ℕ) : Type 0 where
+  pub total : length numbers ≡ graph.count
+  pub below : (u : ℕ) → u < graph.count → slice_index numbers u < count
+  pub small : count ≤ graph.count
+  pub colors : (u v : ℕ) → u < graph.count → v < graph.count → slice_index numbers u ≡ slice_index numbers v → color graph u ≡ color graph v
+  pub refined : (others : List ℕ) → IsAdmissible graph others → Refines graph.count others numbers
+  pub even : (block : ℕ) → block < count → ¬ Contains queue block → IsEven graph numbers block
+  pub known : All (λ block. block < count) queue

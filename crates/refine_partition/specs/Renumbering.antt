@@ -1,0 +1,40 @@
+-- New numbers for the pieces of divided blocks.
+use Rattle.std.specs.Prelude.{◌≡◌, ◌≢◌, ℕ, ◌+◌, ◌<◌, ◌≤◌, List, [], ◌∷◌, ◌++◌, length, slice_index, Bool, true, false, Option, Some, None, Contains, All, Vec, ◌⊎◌}
+use Rattle.std.specs.declared.alloc.Global.{Global}
+use Rattle.refine_partition.specs.Members.{AreBlocks}
+use Rattle.refine_partition.specs.Splits.{StandsBefore}
+
+-- the number of a class that has one, or of the least member's piece, or of a further piece
+abbrev pub IsNextNumber : Option ℕ → ℕ → Bool → ℕ → List ℕ → List ℕ → ℕ → Type 0
+IsNextNumber named block is_least before origins origins' number =
+    ((named ≡ Some number) × (origins' ≡ origins))
+    ⊎ (((named ≡ None) × (is_least ≡ true) × (number ≡ block) × (origins' ≡ origins))
+    ⊎ ((named ≡ None) × (is_least ≡ false) × (number ≡ before + length origins) × (origins' ≡ origins ++ block ∷ [])))
+
+-- The numbers after the first routers of the queue were renumbered: the least member's class keeps the
+-- block's number, further classes have the next ones in the order in which the queue meets them.
+pub record IsRenumbered (numbers classes queue : List ℕ) (before : ℕ) (next origins : List ℕ) : Type 0 where
+  pub total : length next ≡ length numbers
+  pub rest : (u : ℕ) → u < length numbers → ¬ Contains queue u → slice_index next u ≡ slice_index numbers u
+  pub together : (u v : ℕ) → Contains queue u → Contains queue v → slice_index classes u ≡ slice_index classes v → slice_index next u ≡ slice_index next v
+  pub apart : (u v : ℕ) → Contains queue u → Contains queue v → slice_index next u ≡ slice_index next v → slice_index classes u ≡ slice_index classes v
+  pub kept : (u : ℕ) → Contains queue u → slice_index next u < before → slice_index next u ≡ slice_index numbers u
+  pub below : (u : ℕ) → Contains queue u → slice_index next u < before + length origins
+  pub origin : (u k : ℕ) → Contains queue u → slice_index next u ≡ before + k → slice_index origins k ≡ slice_index numbers u
+  pub least : (v : ℕ) → v < length numbers → ((u : ℕ) → u < v → slice_index numbers u ≢ slice_index numbers v) → slice_index next v ≡ slice_index numbers v
+  pub used : (k : ℕ) → k < length origins → (u : ℕ) × Contains queue u × (slice_index next u ≡ before + k)
+  pub in_order : (i number : ℕ) → i < length queue → before ≤ number → number < slice_index next (slice_index queue i) → (j : ℕ) × (j < i) × (slice_index next (slice_index queue j) ≡ number)
+
+-- classes that divide numbered blocks, none of which is empty
+pub record IsRefined (numbers : List ℕ) (blocks : List (Vec ℕ Global)) (classes : List ℕ) (class_count : ℕ) : Type 0 where
+  pub members : AreBlocks numbers blocks
+  pub below : All (λ number. number < length blocks) numbers
+  pub nonempty : (block : ℕ) → block < length blocks → (u : ℕ) × (u < length numbers) × (slice_index numbers u ≡ block)
+  pub total : length classes ≡ length numbers
+  pub class_below : All (λ class. class < class_count) classes
+  pub same : (u v : ℕ) → u < length numbers → v < length numbers → slice_index classes u ≡ slice_index classes v → slice_index numbers u ≡ slice_index numbers v
+
+-- routers in the order of their blocks, each once
+pub record IsQueueOf (numbers queue : List ℕ) : Type 0 where
+  pub below : All (λ u. u < length numbers) queue
+  pub in_order : (i j : ℕ) → i < j → j < length queue → StandsBefore numbers (slice_index queue i) (slice_index queue j)

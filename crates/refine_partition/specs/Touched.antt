@@ -1,0 +1,26 @@
+-- The blocks that edges reach, and their members.
+use Rattle.std.specs.Prelude.{◌≡◌, ℕ, ◌<◌, List, length, slice_index, All, Contains}
+use Rattle.refine_partition.specs.declared.imports.Import.{Import}
+use Rattle.refine_partition.specs.Splits.{StandsBefore}
+
+-- the block of an importer
+pub record IsTouched (numbers : List ℕ) (arrivals : List Import) (block : ℕ) : Type 0 where
+  pub arrival : Import
+  pub listed : Contains arrivals arrival
+  pub is : slice_index numbers arrival.importer ≡ block
+
+-- the blocks of the importers, and only those
+pub record AreTouched (numbers : List ℕ) (arrivals : List Import) (blocks : List ℕ) : Type 0 where
+  pub only : All (IsTouched numbers arrivals) blocks
+  pub all : All (λ a. Contains blocks (slice_index numbers a.importer)) arrivals
+
+-- the router is in one of the blocks
+pub record IsWithin (numbers blocks : List ℕ) (router : ℕ) : Type 0 where
+  pub below : router < length numbers
+  pub block : Contains blocks (slice_index numbers router)
+
+-- the members of the blocks, in the order of the blocks and within each block ascending
+pub record IsQueue (numbers blocks routers : List ℕ) : Type 0 where
+  pub only : All (IsWithin numbers blocks) routers
+  pub all : (router : ℕ) → IsWithin numbers blocks router → Contains routers router
+  pub in_order : (i j : ℕ) → i < j → j < length routers → StandsBefore numbers (slice_index routers i) (slice_index routers j)

@@ -1,0 +1,93 @@
+//! Routers in classes by the acts of their edges into one block.
+
+ghost use Rattle.std.specs.Prelude.{◌≡◌, ℕ, ◌<◌, ◌≤◌, ◌+◌, ◌^◌, All, IfOk, length, slice_index_or};
+ghost use Rattle.std.specs.List.Sorted.{IsNonDecreasingBy};
+ghost use Rattle.refine_partition.specs.Arrivals.{act_of};
+ghost use Rattle.refine_partition.specs.Classes.{IsNamed, IsSeparated, AreClasses};
+ghost use Rattle.refine_partition.specs.declared.imports.Import.{Import as AnImport};
+
+use crate::imports::Import;
+use base_kit::NoMemory;
+use std::alloc::Global;
+use std::collections::HashMap;
+
+/// The name of the class, which is the next one where the class has none yet.
+fn name_of(names: &mut HashMap<usize, usize>, class: usize, next: usize) -> Result<usize, NoMemory>
+    ensures { IfOk result (λ name. IsNamed names.old names.new class next name) }
+{
+    if let Some(name) = names.get(&class).copied() {
+        return Ok(name);
+    }
+    names.insert(class, next)?;
+    Ok(next)
+}
+
+/// Moves the importers out of their classes, those of one class into one fresh class, and gives the
+/// first number above all classes.
+fn separate(
+    alloc: Global,
+    classes: &mut Vec<usize>,
+    movers: &[Import],
+    fresh: usize,
+) -> Result<usize, NoMemory>
+    requires in_range { All (λ m. m.importer < length classes.old.items) movers.now }
+    requires below { All (λ class. class < fresh) classes.old.items }
+    requires fits { fresh + length movers.now < 2 ^ 64 }
+    ensures { IfOk result (λ next. IsSeparated classes.old.items classes.new.items movers.now fresh next) }
+{
+    let mut names = HashMap::new(alloc);
+    let mut next = fresh;
+    for mover in movers {
+        let class = classes[mover.importer as usize];
+        if class < fresh {
+            let name = name_of(&mut names, class, next)?;
+            classes[mover.importer as usize] = name;
+            next = next.max(name + 1);
+        }
+    }
+    Ok(next)
+}
+
+/// The end of the edges that act as the one at `start` does.
+fn run_end(arrivals: &[Import], start: usize) -> usize
+    requires inside { start < length arrivals.now }
+    requires in_order { IsNonDecreasingBy act_of arrivals.now }
+    ensures more { start < result }
+    ensures within { result ≤ length arrivals.now }
+    ensures same { (i : ℕ) (d : AnImport) → start ≤ i → i < result → act_of (slice_index_or arrivals.now i d) ≡ act_of (slice_index_or arrivals.now start d) }
+    ensures after { (j : ℕ) (d : AnImport) → result ≤ j → j < length arrivals.now → act_of (slice_index_or arrivals.now start d) < act_of (slice_index_or arrivals.now j d) }
+{
+    let act = arrivals[start].act;
+    let mut end = start + 1;
+    while end < arrivals.len() && arrivals[end].act == act {
+        end += 1;
+    }
+    end
+}
+
+/// The class of each router, and the first number above all classes: two routers are in one class
+/// where their numbers are equal and their edges have the same acts.
+pub fn classes_of(
+    alloc: Global,
+    numbers: &[u32],
+    arrivals: &[Import],
+    count: u32,
+) -> Result<(Vec<usize>, usize), NoMemory>
+    requires below { All (λ number. number < count) numbers.now }
+    requires in_range { All (λ a. a.importer < length numbers.now) arrivals.now }
+    requires in_order { IsNonDecreasingBy act_of arrivals.now }
+    ensures { IfOk result (λ r. AreClasses numbers.now arrivals.now count r.0.items r.1) }
+{
+    let mut classes = Vec::new(alloc);
+    for number in numbers {
+        classes.push(*number as usize)?;
+    }
+    let mut next = count as usize;
+    let mut start = 0;
+    while start < arrivals.len() {
+        let end = run_end(arrivals, start);
+        next = separate(alloc, &mut classes, &arrivals[start..end], next)?;
+        start = end;
+    }
+    Ok((classes, next))
+}

@@ -1,0 +1,101 @@
+//! Refinement by a list of pending blocks.
+
+ghost use Rattle.std.specs.Prelude.{◌≡◌, ℕ, ◌<◌, ◌≤◌, ◌+◌, ◌*◌, All, Contains, IfOk, OnOk, length, slice_index};
+ghost use Rattle.base_kit.specs.Partition.{IsCoarsest};
+ghost use Rattle.refine_partition.specs.Pending.{AreAllWaiting, AreMarked, IsWaiting, ArePiecesWaiting};
+
+use crate::splitting::Splitting;
+use base_kit::{ActGraph, NoMemory, Steps};
+use std::alloc::Global;
+use std::collections::VecDeque;
+use std::sync::ledger::Ledger;
+
+/// Puts a block into the queue: a large one where its turn comes last.
+fn enqueue(queue: &mut VecDeque<u32>, block: u32, is_large: bool) -> Result<(), NoMemory>
+    ensures { OnOk result (IsWaiting queue.old.items queue.new.items block) }
+{
+    if is_large {
+        queue.push_front(block)?;
+        return Ok(());
+    }
+    queue.push_back(block)?;
+    Ok(())
+}
+
+/// Lets a block wait, if it does not yet.
+fn wait(
+    queue: &mut VecDeque<u32>,
+    waits: &mut Vec<bool>,
+    block: u32,
+    is_large: bool,
+) -> Result<(), NoMemory>
+    requires known { block < length waits.old.items }
+    requires marked { AreMarked queue.old.items waits.old.items }
+    ensures size { length waits.new.items ≡ length waits.old.items }
+    ensures marked { OnOk result (AreMarked queue.new.items waits.new.items) }
+    ensures waiting { OnOk result (IsWaiting queue.old.items queue.new.items block) }
+{
+    if waits[block as usize] {
+        return Ok(());
+    }
+    enqueue(queue, block, is_large)?;
+    waits[block as usize] = true;
+    Ok(())
+}
+
+/// All blocks wait.
+fn all_waiting(alloc: Global, count: u32) -> Result<(VecDeque<u32>, Vec<bool>), NoMemory>
+    ensures { IfOk result (λ r. AreAllWaiting count r.0.items r.1.items) }
+{
+    let mut queue = VecDeque::new(alloc);
+    let mut waits = Vec::new(alloc);
+    for block in 0..count {
+        queue.push_back(block)?;
+        waits.push(true)?;
+    }
+    Ok((queue, waits))
+}
+
+/// Lets all pieces of the divided blocks wait, the larger ones last.
+fn add_pieces(
+    queue: &mut VecDeque<u32>,
+    waits: &mut Vec<bool>,
+    splitting: &Splitting,
+    origins: &[u32],
+) -> Result<(), NoMemory>
+    requires known { All (λ origin. origin < length waits.old.items) origins.now }
+    requires size { length waits.old.items + length origins.now ≡ splitting.now.count }
+    requires marked { AreMarked queue.old.items waits.old.items }
+    ensures size { OnOk result (length waits.new.items ≡ splitting.now.count) }
+    ensures marked { OnOk result (AreMarked queue.new.items waits.new.items) }
+    ensures waiting { OnOk result (ArePiecesWaiting queue.old.items queue.new.items (length waits.old.items) origins.now) }
+{
+    let _count = splitting.blocks();
+    for origin in origins {
+        let piece = waits.len() as u32;
+        waits.push(false)?;
+        let is_larger = splitting.block(*origin).len() > splitting.block(piece).len();
+        wait(queue, waits, *origin, is_larger)?;
+        wait(queue, waits, piece, !is_larger)?;
+    }
+    Ok(())
+}
+
+/// The splitting after all turns.
+pub fn refined<L: Ledger>(
+    alloc: Global,
+    graph: &ActGraph,
+    turns: &mut Steps<L>,
+) -> Result<Splitting, NoMemory>
+    ensures coarsest { IfOk result (λ s. IsCoarsest graph.now s.numbers) }
+    ensures turns { turns.new ≤ turns.old + 2 * graph.now.count }
+{
+    let mut splitting = Splitting::start(alloc, graph)?;
+    let (mut queue, mut waits) = all_waiting(alloc, splitting.blocks())?;
+    while let Some(block) = queue.pop_back() {
+        waits[block as usize] = false;
+        let origins = splitting.split_from(alloc, graph, block, turns)?;
+        add_pieces(&mut queue, &mut waits, &splitting, &origins)?;
+    }
+    Ok(splitting)
+}

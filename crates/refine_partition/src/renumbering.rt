@@ -1,0 +1,83 @@
+//! New numbers for the pieces of divided blocks.
+
+ghost use Rattle.std.specs.Prelude.{◌≡◌, ◌≢◌, ℕ, ◌<◌, ◌^◌, ◌↔◌, All, IfOk, IsTrue, ◌+◌, ◌≤◌, false, length, slice_index};
+ghost use Rattle.refine_partition.specs.Members.{AreBlocks};
+ghost use Rattle.refine_partition.specs.Renumbering.{IsNextNumber, IsRefined, IsQueueOf, IsRenumbered};
+
+use base_kit::NoMemory;
+use std::alloc::Global;
+
+/// The number of each router's block after a split, and for each further piece the number of the block
+/// that it is a piece of.
+#[derive(Drop)]
+pub struct Renumbering {
+    pub numbers: Vec<u32>,
+    pub origins: Vec<u32>,
+}
+
+/// The number of the next router: that of its class, or its block's where it is the least member, or
+/// that of a further piece.
+fn next_number(
+    origins: &mut Vec<u32>,
+    named: Option<u32>,
+    block: u32,
+    is_least: bool,
+    before: u32,
+) -> Result<u32, NoMemory>
+    requires { before + length origins.old.items < 2 ^ 32 }
+    ensures { IfOk result (λ number. IsNextNumber named block is_least before origins.old.items origins.new.items number) }
+{
+    if let Some(number) = named {
+        return Ok(number);
+    }
+    if is_least {
+        return Ok(block);
+    }
+    let number = before + origins.len() as u32;
+    origins.push(block)?;
+    Ok(number)
+}
+
+/// Whether the router is the least member of its block.
+fn is_least(numbers: &[u32], blocks: &[Vec<u32>], router: u32) -> bool
+    requires blocks { AreBlocks numbers.now blocks.now }
+    requires in_range { router < length numbers.now }
+    requires known { slice_index numbers.now router < length blocks.now }
+    ensures least { IsTrue result → (u : ℕ) → u < router → slice_index numbers.now u ≢ slice_index numbers.now router }
+    ensures not_least { result ≡ false → (u : ℕ) × (u < router) × (slice_index numbers.now u ≡ slice_index numbers.now router) }
+{
+    let block = &blocks[numbers[router as usize] as usize];
+    block[0] == router
+}
+
+/// The numbers after the routers of the queue were renumbered by their classes.
+pub fn renumbered(
+    alloc: Global,
+    numbers: &[u32],
+    blocks: &[Vec<u32>],
+    classes: &[usize],
+    class_count: usize,
+    queue: &[u32],
+) -> Result<Renumbering, NoMemory>
+    requires given { IsRefined numbers.now blocks.now classes.now class_count }
+    requires fits { length numbers.now < 2 ^ 32 }
+    requires queue { IsQueueOf numbers.now queue.now }
+    ensures { IfOk result (λ r. IsRenumbered numbers.now classes.now queue.now (length blocks.now) r.numbers.items r.origins.items) }
+{
+    let before = blocks.len() as u32;
+    let mut names = vec![in alloc; None; class_count]?;
+    let mut next = Vec::from_slice(alloc, numbers)?;
+    let mut origins = Vec::new(alloc);
+    for router in queue {
+        let block = numbers[*router as usize];
+        let class = classes[*router as usize];
+        let least = is_least(numbers, blocks, *router);
+        let number = next_number(&mut origins, names[class], block, least, before)?;
+        names[class] = Some(number);
+        next[*router as usize] = number;
+    }
+    Ok(Renumbering {
+        numbers: next,
+        origins,
+    })
+}

@@ -1,0 +1,48 @@
+//! The blocks that edges reach, and their members.
+
+ghost use Rattle.std.specs.Prelude.{◌≡◌, ◌<◌, All, IfOk, length};
+ghost use Rattle.std.specs.List.Sorted.{IsStrictlyIncreasing};
+ghost use Rattle.refine_partition.specs.Members.{AreBlocks};
+ghost use Rattle.refine_partition.specs.Touched.{AreTouched, IsQueue};
+
+use crate::imports::Import;
+use base_kit::NoMemory;
+use std::alloc::Global;
+
+/// The numbers of the blocks of the importers, ascending.
+pub fn touched_blocks(
+    alloc: Global,
+    numbers: &[u32],
+    arrivals: &[Import],
+) -> Result<Vec<u32>, NoMemory>
+    requires in_range { All (λ a. a.importer < length numbers.now) arrivals.now }
+    ensures in_order { IfOk result (λ v. IsStrictlyIncreasing v.items) }
+    ensures touched { IfOk result (λ v. AreTouched numbers.now arrivals.now v.items) }
+{
+    let mut blocks = Vec::new(alloc);
+    for arrival in arrivals {
+        blocks.push(numbers[arrival.importer as usize])?;
+    }
+    blocks.sort()?;
+    blocks.dedup();
+    Ok(blocks)
+}
+
+/// The members of these blocks, in the order of the blocks and within each block ascending.
+pub fn queue_of(
+    alloc: Global,
+    numbers: &[u32],
+    blocks: &[Vec<u32>],
+    touched: &[u32],
+) -> Result<Vec<u32>, NoMemory>
+    requires blocks { AreBlocks numbers.now blocks.now }
+    requires in_range { All (λ block. block < length blocks.now) touched.now }
+    requires in_order { IsStrictlyIncreasing touched.now }
+    ensures { IfOk result (λ v. IsQueue numbers.now touched.now v.items) }
+{
+    let mut queue = Vec::new(alloc);
+    for block in touched {
+        queue.extend_from_slice(&blocks[*block as usize])?;
+    }
+    Ok(queue)
+}
