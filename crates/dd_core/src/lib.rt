@@ -15,6 +15,8 @@ mod node_id;
 mod reach;
 mod store;
 mod table;
+#[cfg(test)]
+mod tests;
 mod variables;
 
 pub use node_id::NodeId;
