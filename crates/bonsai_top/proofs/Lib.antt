@@ -1,0 +1,7 @@
+mod Limits
+mod Lines
+mod Named
+mod Readings
+mod Refusals
+mod Runs
+mod Texts

@@ -1,0 +1,38 @@
+-- The commands, and which of the files that the words name each of them reads.
+use Rattle.std.specs.Prelude.{◌≡◌, ℕ, Bool, true, false, List, Option, Some, None}
+use Rattle.std.specs.Option.{option_and_then}
+use Rattle.io_kit.specs.Ends.{Rose}
+use Rattle.bonsai_top.specs.declared.command.Form.{Form}
+use Rattle.bonsai_top.specs.declared.command.Form.TheVariants as form
+use Rattle.bonsai_top.specs.declared.command.Command.{Command}
+use Rattle.bonsai_top.specs.declared.command.Command.TheVariants as command
+use Rattle.bonsai_top.specs.Words.{form_of}
+
+-- The command of a form. A form whose command is not built yet names none.
+abbrev pub built : Form → Option Command
+built form.Classes = Some command.Classes
+built other = None
+
+-- the command that the words name
+unfoldable pub command_of : List (List ℕ) → Option Command
+command_of words = option_and_then built (form_of words)
+
+-- whether a command reads the first file
+abbrev pub reads_first : Command → Bool
+reads_first command.Classes = true
+
+-- whether it reads the second one
+abbrev pub reads_second : Command → Bool
+reads_second command.Classes = false
+
+abbrev pub is_read : (Command → Bool) → Option Command → Bool
+is_read reads None = false
+is_read reads (Some command) = reads command
+
+-- the command reads the first file, and its count of faults rose
+abbrev pub FirstRose : Option Command → ℕ → ℕ → Type 0
+FirstRose command before now = (is_read reads_first command ≡ true) × Rose before now
+
+-- the command reads the second file, and its count of faults rose
+abbrev pub SecondRose : Option Command → ℕ → ℕ → Type 0
+SecondRose command before now = (is_read reads_second command ≡ true) × Rose before now

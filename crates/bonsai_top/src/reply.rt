@@ -1,0 +1,18 @@
+/// What a command has come to, before it is told.
+#[derive(Drop)]
+pub enum Reply {
+    /// The whole output.
+    Output(Vec<u8>),
+    /// Why the input is refused.
+    Refusal(Vec<u8>),
+    /// Which router is not stable, and why.
+    NotStable(Vec<u8>),
+    /// The words name no command.
+    Misuse,
+    /// The first file could not be read.
+    ReadFailed,
+    /// The second file could not be read.
+    SecondFailed,
+    /// Memory ran out.
+    NoMemory,
+}

@@ -1,0 +1,52 @@
+ghost use Rattle.std.specs.Prelude.{◌≡◌, ◌⊎◌, None, IfSome, IsSome};
+ghost use Rattle.io_kit.specs.Ends.{Rose};
+ghost use Rattle.bonsai_top.specs.Words.{texts, file_of, second_of};
+ghost use Rattle.bonsai_top.specs.Commands.{command_of, FirstRose, SecondRose};
+ghost use Rattle.bonsai_top.specs.Outcomes.{outcome};
+ghost use Rattle.bonsai_top.specs.Meets.{RunMeets};
+
+use crate::Status;
+use crate::command::{file_word, read_words, second_word};
+use crate::reply::Reply;
+use crate::tell::tell;
+use crate::work::work;
+use io_kit::{Sink, Source};
+use std::alloc::Global;
+
+/// Does what the words ask for: reads the files that they name, and writes the output to `out`, or a
+/// line to `err` that says why there is none.
+pub fn run<S: Source, O: Sink, E: Sink>(
+    alloc: Global,
+    words: &[String],
+    files: &mut S,
+    out: &mut O,
+    err: &mut E,
+) -> Status
+    // Where the files are told, the words and the contents determine the outcome.
+    ensures meets { IfSome (outcome (texts words.now) (S.contents files.old)) (λ o. RunMeets o (file_of (texts words.now)) (second_of (texts words.now)) result
+        (FirstRose (command_of (texts words.now)) (S.faults files.old (file_of (texts words.now))) (S.faults files.new (file_of (texts words.now))))
+        (SecondRose (command_of (texts words.now)) (S.faults files.old (second_of (texts words.now))) (S.faults files.new (second_of (texts words.now))))
+        (O.taken out.old) (O.taken out.new) (Rose (O.faults out.old) (O.faults out.new))
+        (E.taken err.old) (E.taken err.new) (Rose (E.faults err.old) (E.faults err.new))) }
+
+    // Words that name no command, and these alone, are misuse, and then no file is touched.
+    ensures usage { command_of (texts words.now) ≡ None → (result ≡ Status.Usage) ⊎ (result ≡ Status.WriteFault) }
+    ensures usage_only { result ≡ Status.Usage → command_of (texts words.now) ≡ None }
+    ensures unread { command_of (texts words.now) ≡ None → files.new ≡ files.old }
+
+    // A fault has its cause, whether the files are told or not.
+    ensures read_fault { result ≡ Status.ReadFault → IsSome (command_of (texts words.now))
+        × (FirstRose (command_of (texts words.now)) (S.faults files.old (file_of (texts words.now))) (S.faults files.new (file_of (texts words.now)))
+        ⊎ SecondRose (command_of (texts words.now)) (S.faults files.old (second_of (texts words.now))) (S.faults files.new (second_of (texts words.now)))) }
+    ensures write_fault { result ≡ Status.WriteFault → Rose (E.faults err.old) (E.faults err.new) ⊎ Rose (O.faults out.old) (O.faults out.new) }
+{
+    match read_words(words) {
+        None => tell(out, err, &Reply::Misuse, "", ""),
+        Some(command) => {
+            let first = file_word(words);
+            let second = second_word(words);
+            let reply = work(alloc, command, first, second, files);
+            tell(out, err, &reply, first, second)
+        }
+    }
+}

@@ -1,0 +1,102 @@
+ghost use Rattle.std.specs.Prelude.{◌≡◌, ◌≤◌, ◌<◌, ◌^◌, length, codes, Some};
+ghost use Rattle.cfg_ast.specs.Reading.{reading_of};
+ghost use Rattle.bonsai_top.specs.Commands.{FirstRose, SecondRose};
+ghost use Rattle.bonsai_top.specs.Outcome.{refused};
+ghost use Rattle.bonsai_top.specs.Outcomes.{answer_of, over_reading, outcome_of, text_limit};
+ghost use Rattle.bonsai_top.specs.Replies.{Answers, Refuses};
+
+mod classes;
+
+use crate::command::Command;
+use crate::kinds::line_reason;
+use crate::reply::Reply;
+use cfg_ast::ReadRefusal;
+use cfg_check::{Checked, check_network};
+use cfg_parse::read_network;
+use io_kit::{InFault, Source, read_all};
+use std::alloc::Global;
+
+// A text has at most this many bytes.
+const TEXT_LIMIT: usize = 16_777_216;
+
+/// A refusal for this reason.
+pub fn refusal(alloc: Global, reason: &str) -> Reply
+    ensures { Answers result (Some (refused reason.now)) ⊥ ⊥ }
+{
+    match Vec::from_slice(alloc, reason.as_bytes()) {
+        Ok(bytes) => Reply::Refusal(bytes),
+        Err(_) => Reply::NoMemory,
+    }
+}
+
+// A refusal of the text, by its line and kind.
+fn text_refusal(alloc: Global, refusal: ReadRefusal) -> Reply
+    ensures { Refuses result refusal }
+{
+    match refusal {
+        ReadRefusal::At { line, kind } => match line_reason(alloc, line, kind) {
+            Ok(reason) => Reply::Refusal(reason),
+            Err(_) => Reply::NoMemory,
+        },
+        ReadRefusal::Memory => Reply::NoMemory,
+    }
+}
+
+// What a command writes of a network that has no fault.
+fn answer<S: Source>(
+    alloc: Global,
+    command: Command,
+    checked: &Checked,
+    second: &str,
+    files: &mut S,
+) -> Reply
+    requires { length checked.now.network.routers < 2 ^ 32 }
+    ensures { Answers result (answer_of command checked.now.network (S.contents files.old second.now)) ⊥
+        (SecondRose (Some command) (S.faults files.old second.now) (S.faults files.new second.now)) }
+{
+    match command {
+        Command::Classes => classes::answer(alloc, checked),
+    }
+}
+
+// Reads the network of a text, and does the command's work on it.
+fn over_text<S: Source>(
+    alloc: Global,
+    command: Command,
+    text: &[u8],
+    second: &str,
+    files: &mut S,
+) -> Reply
+    requires { length text.now ≤ text_limit }
+    ensures { Answers result (over_reading command (S.contents files.old second.now) (reading_of text.now)) ⊥
+        (SecondRose (Some command) (S.faults files.old second.now) (S.faults files.new second.now)) }
+{
+    let network = match read_network(alloc, text) {
+        Ok(network) => network,
+        Err(refusal) => return text_refusal(alloc, refusal),
+    };
+    match check_network(alloc, network) {
+        Ok(checked) => answer(alloc, command, &checked, second, files),
+        Err(refusal) => text_refusal(alloc, refusal),
+    }
+}
+
+/// Reads the first file, and does the command's work.
+pub fn work<S: Source>(
+    alloc: Global,
+    command: Command,
+    first: &str,
+    second: &str,
+    files: &mut S,
+) -> Reply
+    ensures { Answers result (outcome_of command (S.contents files.old first.now) (S.contents files.old second.now))
+        (FirstRose (Some command) (S.faults files.old first.now) (S.faults files.new first.now))
+        (SecondRose (Some command) (S.faults files.old second.now) (S.faults files.new second.now)) }
+{
+    match read_all(alloc, files, first, TEXT_LIMIT) {
+        Ok(text) => over_text(alloc, command, &text, second, files),
+        Err(InFault::TooLong) => refusal(alloc, "FileTooLong"),
+        Err(InFault::Failed) => Reply::ReadFailed,
+        Err(InFault::Memory) => Reply::NoMemory,
+    }
+}
