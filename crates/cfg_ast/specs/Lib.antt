@@ -8,6 +8,7 @@ pub mod Lists
 pub mod Meaning
 pub mod Policy
 pub mod PolicyForms
+pub mod PolicyLines
 pub mod PrefixLists
 pub mod Printed
 pub mod Reading

@@ -7,6 +7,13 @@ use Rattle.cfg_ast.specs.declared.network.Router.{Router}
 use Rattle.cfg_ast.specs.declared.interface.Interface.{Interface}
 use Rattle.cfg_ast.specs.declared.bgp.BgpProcess.{BgpProcess}
 use Rattle.cfg_ast.specs.declared.ospf.OspfProcess.{OspfProcess}
+use Rattle.cfg_ast.specs.declared.policy.PrefixEntry.{PrefixEntry}
+use Rattle.cfg_ast.specs.declared.policy.MapEntry.{MapEntry}
+use Rattle.cfg_ast.specs.declared.items.PolicyScope.TheVariants as policy_scope
+use Rattle.cfg_ast.specs.declared.items.PolicyItem.{PolicyItem}
+use Rattle.cfg_ast.specs.declared.items.PolicyItem.TheVariants as policy
+use Rattle.cfg_ast.specs.PolicyForms.{policy_item_of}
+use Rattle.cfg_ast.specs.PolicyLines.{is_policy_line, has_prefix_entry, with_prefix_entry, with_community_line, has_map_entry, with_map_entry, set_entry}
 use Rattle.cfg_ast.specs.declared.policy.PrefixList.{PrefixList}
 use Rattle.cfg_ast.specs.declared.policy.CommunityList.{CommunityList}
 use Rattle.cfg_ast.specs.declared.policy.RouteMap.{RouteMap}
@@ -30,6 +37,7 @@ pub data Stanza : Type 0 where
   in_interface : Interface → Stanza
   in_bgp : BgpProcess → Stanza
   in_ospf : OspfProcess → Stanza
+  in_entry : List ℕ → MapEntry → Stanza
 
 -- the router whose lines are being read
 pub record Draft : Type 0 where
@@ -70,6 +78,7 @@ closing ignored d = record d { stanza = closed }
 closing (in_interface i) d = record d { interfaces = d.interfaces ++ i ∷ []; stanza = closed }
 closing (in_bgp b) d = record d { bgp = Some b; stanza = closed }
 closing (in_ospf o) d = record d { ospf = Some o; stanza = closed }
+closing (in_entry name e) d = record d { route_maps = with_map_entry name e d.route_maps; stanza = closed }
 
 -- a top line closes the open stanza
 unfoldable pub with_closed : Draft → Draft
@@ -135,8 +144,29 @@ ends_router _ = false
 unfoldable pub take_top : ℕ → RouterItem → State → Result State ReadRefusal
 take_top n said s = if ends_router said then end_router n s else take_line n said s.draft >>= (λ (d : Draft). Ok (record { routers = s.routers; draft = d }))
 
-unfoldable pub step_top : State → TextLine → Result State ReadRefusal
-step_top s l = said_at l.number (router_item_of scope.Top l.number l.words) >>= (λ (said : RouterItem). take_top l.number said (record s { draft = with_closed s.draft }))
+-- ---- top lines of lists and route maps
+
+abbrev pub add_prefix_entry : ℕ → List ℕ → PrefixEntry → Draft → Result Draft ReadRefusal
+add_prefix_entry n name e d = once n (has_prefix_entry d.prefix_lists name e.seq) (record d { prefix_lists = with_prefix_entry name e d.prefix_lists })
+
+abbrev pub open_entry : ℕ → List ℕ → MapEntry → Draft → Result Draft ReadRefusal
+open_entry n name e d = once n (has_map_entry d.route_maps name e.seq) (record d { stanza = in_entry name e })
+
+unfoldable pub take_policy : ℕ → PolicyItem → Draft → Result Draft ReadRefusal
+take_policy n (policy.PrefixEntry name e) d = add_prefix_entry n name e d
+take_policy n (policy.CommunityLine name line) d = Ok (record d { community_lists = with_community_line name line d.community_lists })
+take_policy n (policy.MapHead name e) d = open_entry n name e d
+take_policy n policy.Ignored d = Ok (record d { stanza = ignored })
+take_policy n _ d = Ok d
+
+unfoldable pub step_policy : State → TextLine → Result State ReadRefusal
+step_policy s l = said_at l.number (policy_item_of policy_scope.Top l.number l.words) >>= (λ (said : PolicyItem). take_policy l.number said (with_closed s.draft) >>= (λ (d : Draft). Ok (record { routers = s.routers; draft = d })))
+
+unfoldable pub step_router : State → TextLine → Result State ReadRefusal
+step_router s l = said_at l.number (router_item_of scope.Top l.number l.words) >>= (λ (said : RouterItem). take_top l.number said (record s { draft = with_closed s.draft }))
+
+abbrev pub step_top : State → TextLine → Result State ReadRefusal
+step_top s l = if is_policy_line l.words then step_policy s l else step_router s l
 
 -- ---- lines of stanzas
 
@@ -146,6 +176,7 @@ take_inner l ignored = Ok ignored
 take_inner l (in_interface i) = said_at l.number (router_item_of scope.Interface l.number l.words) >>= (λ (said : RouterItem). set_interface l.number said i >>= (λ (j : Interface). Ok (in_interface j)))
 take_inner l (in_bgp b) = said_at l.number (router_item_of scope.Bgp l.number l.words) >>= (λ (said : RouterItem). set_bgp l.number said b >>= (λ (c : BgpProcess). Ok (in_bgp c)))
 take_inner l (in_ospf o) = said_at l.number (router_item_of scope.Ospf l.number l.words) >>= (λ (said : RouterItem). Ok (in_ospf (set_ospf said o)))
+take_inner l (in_entry name e) = said_at l.number (policy_item_of policy_scope.Entry l.number l.words) >>= (λ (said : PolicyItem). set_entry l.number said e >>= (λ (f : MapEntry). Ok (in_entry name f)))
 
 abbrev pub step_inner : State → TextLine → Result State ReadRefusal
 step_inner s l = take_inner l s.draft.stanza >>= (λ (stanza : Stanza). Ok (record s { draft = record s.draft { stanza = stanza } }))

@@ -2,7 +2,7 @@
 use Rattle.std.specs.Prelude.{◌≡◌, Result, Ok, Err}
 use Rattle.cfg_ast.specs.declared.refusal.ReadRefusal.{ReadRefusal}
 use Rattle.cfg_ast.specs.Answers.{RefusesAs}
-use Rattle.cfg_ast.specs.Reading.{Stanza, closed, ignored, in_interface, in_bgp, in_ospf}
+use Rattle.cfg_ast.specs.Reading.{Stanza, closed, ignored, in_interface, in_bgp, in_ospf, in_entry}
 use Rattle.cfg_parse.specs.declared.draft.Open.{Open}
 use Rattle.cfg_parse.specs.declared.draft.Open.TheVariants as open_stanza
 
@@ -12,6 +12,7 @@ stanza_of open_stanza.Ignored = ignored
 stanza_of (open_stanza.Interface i) = in_interface i
 stanza_of (open_stanza.Bgp b) = in_bgp b
 stanza_of (open_stanza.Ospf o) = in_ospf o
+stanza_of (open_stanza.Entry name e) = in_entry name e
 
 -- the stanza is that of the definition, or memory ran out
 abbrev pub GivesOpen : Result Open ReadRefusal → Result Stanza ReadRefusal → Type 0

@@ -1,9 +1,10 @@
-ghost use Rattle.std.specs.Prelude.{◌≡◌, ◌<◌, Ok, IfOk, length, slice_index_or, slice_set, None, Some, is_some, vec_len, nat_eq};
+ghost use Rattle.std.specs.Prelude.{◌≡◌, ◌<◌, Ok, IfOk, length, slice_index_or, slice_set, None, Some, is_some, nat_eq};
 ghost use Rattle.std.specs.List.{position};
 ghost use Rattle.cfg_ast.specs.Answers.{Gives};
 ghost use Rattle.cfg_parse.specs.Neighbors.{change_at};
 ghost use Rattle.cfg_ast.specs.Stanzas.{has_network, has_neighbor, new_neighbor, set_neighbor, at_neighbor, set_bgp, with_peer, set_list, set_map, peer_of, set_process, set_base, add_network, add_neighbor};
 
+use crate::exchange::exchange;
 use crate::stanza::{misplaced, once};
 use base_kit::{List, Prefix};
 use cfg_ast::{Base, BgpProcess, Named, Neighbor, NetLine, ReadRefusal, RouterItem};
@@ -86,15 +87,6 @@ fn set_neighbor(number: u32, item: RouterItem, mut peer: Neighbor) -> Result<Nei
         _ => {}
     }
     Ok(peer)
-}
-
-// Puts a neighbour in the place of another one, which it gives back.
-fn exchange(peers: &mut Vec<Neighbor>, place: usize, peer: Neighbor) -> Neighbor
-    requires { place < vec_len peers.old }
-    ensures new { peers.new.items ≡ slice_set peers.old.items place peer }
-    ensures old { result ≡ slice_index_or peers.old.items place result }
-{
-    std::mem::replace(&mut peers[place], peer)
 }
 
 fn place_of(peers: &[Neighbor], addr: u32) -> Option<usize>

@@ -1,9 +1,11 @@
 ghost use Rattle.std.specs.Prelude.{◌≡◌, IfOk};
 ghost use Rattle.cfg_ast.specs.Reading.{no_draft, at_start, with_closed};
 
-use base_kit::{List, NoMemory};
+use crate::route_maps::with_map_entry;
+use base_kit::{List, NoMemory, Text};
 use cfg_ast::{
-    BgpProcess, CommunityList, Interface, Named, OspfProcess, PrefixList, RouteMap, Router,
+    BgpProcess, CommunityList, Interface, MapEntry, Named, OspfProcess, PrefixList, RouteMap,
+    Router,
 };
 use std::alloc::Global;
 use std::marker::Model;
@@ -16,6 +18,7 @@ pub(crate) enum Open {
     Interface(Interface),
     Bgp(BgpProcess),
     Ospf(OspfProcess),
+    Entry(Text, MapEntry),
 }
 
 /// The router whose lines are being read.
@@ -81,7 +84,7 @@ pub(crate) fn at_start(alloc: Global) -> State
 
 /// The draft after its open stanza is closed.
 #[tactic(auto, unfolding(cfg_ast::specs::Reading::with_closed))]
-pub(crate) fn with_closed(draft: Draft) -> Result<Draft, NoMemory>
+pub(crate) fn with_closed(alloc: Global, draft: Draft) -> Result<Draft, NoMemory>
     ensures { IfOk result (λ d. d ≡ with_closed draft) }
 {
     let Draft {
@@ -91,7 +94,7 @@ pub(crate) fn with_closed(draft: Draft) -> Result<Draft, NoMemory>
         mut ospf,
         prefix_lists,
         community_lists,
-        route_maps,
+        mut route_maps,
         stanza,
     } = draft;
     match stanza {
@@ -100,6 +103,7 @@ pub(crate) fn with_closed(draft: Draft) -> Result<Draft, NoMemory>
         Open::Interface(interface) => interfaces.push(interface)?,
         Open::Bgp(process) => bgp = Some(process),
         Open::Ospf(process) => ospf = Some(process),
+        Open::Entry(name, entry) => route_maps = with_map_entry(alloc, name, entry, route_maps)?,
     }
     Ok(Draft {
         name,

@@ -6,10 +6,16 @@
 #![tactic(auto)]
 
 mod bgp;
+mod community_lists;
 mod draft;
+mod entry;
+mod exchange;
 mod interface;
 mod ospf;
+mod policy;
+mod prefix_lists;
 mod reading;
+mod route_maps;
 mod stanza;
 mod top;
 

@@ -3,24 +3,48 @@ ghost use Rattle.std.specs.List.{AllByRecursion};
 ghost use Rattle.cfg_ast.specs.Answers.{Gives};
 ghost use Rattle.cfg_ast.specs.Lines.{IsLineIn, IsWordIn, texts};
 ghost use Rattle.cfg_ast.specs.TextLines.{text_line};
-ghost use Rattle.cfg_ast.specs.Reading.{at_start, step_top, step_inner, step, steps, is_end, end_at, ending, texts_of, network_of_lines, network_of_text};
+ghost use Rattle.cfg_ast.specs.Reading.{at_start, step_policy, step_router, step_top, step_inner, step, steps, is_end, end_at, ending, texts_of, network_of_lines, network_of_text};
 
 use crate::draft::{Draft, State, at_start, with_closed};
-use crate::stanza::{said_in, take_inner};
+use crate::policy::{is_policy_line, take_policy};
+use crate::stanza::{policy_said_in, said_in, take_inner};
 use crate::top::take_top;
-use cfg_ast::{Kind, Line, Network, ReadRefusal, Scope, Span};
+use cfg_ast::{Kind, Line, Network, PolicyScope, ReadRefusal, Scope, Span};
 use cfg_lex::lines;
 use std::alloc::Global;
 
-#[tactic(auto, unfolding(cfg_ast::specs::Reading::step_top))]
+#[tactic(auto, unfolding(cfg_ast::specs::Reading::step_router))]
+fn step_router(alloc: Global, bytes: &[u8], line: &Line, state: State) -> Result<State, ReadRefusal>
+    requires { IsLineIn bytes.now line.now }
+    ensures { Gives result (step_router state (text_line bytes.now line.now)) }
+{
+    let State { routers, draft } = state;
+    let item = said_in(alloc, bytes, line, Scope::Top)?;
+    let draft = with_closed(alloc, draft)?;
+    take_top(alloc, line.number, item, State { routers, draft })
+}
+
+#[tactic(auto, unfolding(cfg_ast::specs::Reading::step_policy))]
+fn step_policy(alloc: Global, bytes: &[u8], line: &Line, state: State) -> Result<State, ReadRefusal>
+    requires { IsLineIn bytes.now line.now }
+    ensures { Gives result (step_policy state (text_line bytes.now line.now)) }
+{
+    let State { routers, draft } = state;
+    let item = policy_said_in(alloc, bytes, line, PolicyScope::Top)?;
+    let draft = with_closed(alloc, draft)?;
+    let draft = take_policy(alloc, line.number, item, draft)?;
+    Ok(State { routers, draft })
+}
+
 fn step_top(alloc: Global, bytes: &[u8], line: &Line, state: State) -> Result<State, ReadRefusal>
     requires { IsLineIn bytes.now line.now }
     ensures { Gives result (step_top state (text_line bytes.now line.now)) }
 {
-    let State { routers, draft } = state;
-    let item = said_in(alloc, bytes, line, Scope::Top)?;
-    let draft = with_closed(draft)?;
-    take_top(alloc, line.number, item, State { routers, draft })
+    if is_policy_line(bytes, line.words.as_slice()) {
+        step_policy(alloc, bytes, line, state)
+    } else {
+        step_router(alloc, bytes, line, state)
+    }
 }
 
 fn step_inner(alloc: Global, bytes: &[u8], line: &Line, state: State) -> Result<State, ReadRefusal>

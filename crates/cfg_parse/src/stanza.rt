@@ -2,18 +2,21 @@ ghost use Rattle.std.specs.Prelude.{◌≡◌};
 ghost use Rattle.cfg_ast.specs.Answers.{Gives};
 ghost use Rattle.cfg_ast.specs.Lines.{IsLineIn, texts};
 ghost use Rattle.cfg_ast.specs.TextLines.{text_line};
+ghost use Rattle.cfg_ast.specs.PolicyForms.{policy_item_of};
 ghost use Rattle.cfg_ast.specs.RouterForms.{router_item_of};
 ghost use Rattle.cfg_ast.specs.Reading.{take_inner};
 ghost use Rattle.cfg_ast.specs.Stanzas.{once, said_at};
 ghost use Rattle.cfg_parse.specs.Open.{stanza_of, GivesOpen};
 ghost use Rattle.cfg_ast.specs.declared.refusal.ReadRefusal.TheVariants.{At};
-ghost use Rattle.cfg_ast.specs.declared.refusal.Kind.TheVariants.{Misplaced};
+ghost use Rattle.cfg_ast.specs.declared.refusal.Kind.TheVariants.{Misplaced, Repeated};
 
 use crate::bgp::set_bgp;
 use crate::draft::Open;
+use crate::entry::set_entry;
 use crate::interface::set_interface;
 use crate::ospf::set_ospf;
-use cfg_ast::{FormFault, Kind, Line, ReadRefusal, RouterItem, Scope};
+use cfg_ast::{FormFault, Kind, Line, PolicyItem, PolicyScope, ReadRefusal, RouterItem, Scope};
+use cfg_forms_policy::policy_item;
 use cfg_forms_router::router_item;
 use std::alloc::Global;
 
@@ -22,12 +25,18 @@ pub(crate) fn once(number: u32, is_given: bool) -> Result<(), ReadRefusal>
     ensures { result ≡ once number is_given tt }
 {
     if is_given {
-        return Err(ReadRefusal::At {
-            line: number,
-            kind: Kind::Repeated,
-        });
+        return Err(repeated(number));
     }
     Ok(())
+}
+
+pub(crate) fn repeated(number: u32) -> ReadRefusal
+    ensures { result ≡ At number Repeated }
+{
+    ReadRefusal::At {
+        line: number,
+        kind: Kind::Repeated,
+    }
 }
 
 pub(crate) fn misplaced(number: u32) -> ReadRefusal
@@ -51,6 +60,39 @@ pub(crate) fn said_in(
 {
     let number = line.number;
     match router_item(alloc, bytes, line, scope) {
+        Ok(item) => Ok(item),
+        Err(FormFault::UnknownLine) => Err(ReadRefusal::At {
+            line: number,
+            kind: Kind::UnknownLine,
+        }),
+        Err(FormFault::Unsupported) => Err(ReadRefusal::At {
+            line: number,
+            kind: Kind::Unsupported,
+        }),
+        Err(FormFault::BadForm) => Err(ReadRefusal::At {
+            line: number,
+            kind: Kind::BadForm,
+        }),
+        Err(FormFault::WellKnown) => Err(ReadRefusal::At {
+            line: number,
+            kind: Kind::WellKnown,
+        }),
+        Err(FormFault::Memory) => Err(ReadRefusal::Memory),
+    }
+}
+
+/// What a line of a list or a route map says, or its fault at its line.
+pub(crate) fn policy_said_in(
+    alloc: Global,
+    bytes: &[u8],
+    line: &Line,
+    scope: PolicyScope,
+) -> Result<PolicyItem, ReadRefusal>
+    requires { IsLineIn bytes.now line.now }
+    ensures { Gives result (said_at line.now.number (policy_item_of scope line.now.number (texts bytes.now line.now.words))) }
+{
+    let number = line.number;
+    match policy_item(alloc, bytes, line, scope) {
         Ok(item) => Ok(item),
         Err(FormFault::UnknownLine) => Err(ReadRefusal::At {
             line: number,
@@ -97,6 +139,10 @@ pub(crate) fn take_inner(
         Open::Ospf(process) => {
             let item = said_in(alloc, bytes, line, Scope::Ospf)?;
             Ok(Open::Ospf(set_ospf(item, process)?))
+        }
+        Open::Entry(name, entry) => {
+            let item = policy_said_in(alloc, bytes, line, PolicyScope::Entry)?;
+            Ok(Open::Entry(name, set_entry(line.number, item, entry)?))
         }
     }
 }

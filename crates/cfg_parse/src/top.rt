@@ -90,7 +90,8 @@ fn open_ospf(alloc: Global, line: u32, number: u32, mut draft: Draft) -> Result<
     Ok(draft)
 }
 
-fn ignore(mut draft: Draft) -> Draft
+/// The draft in an ignored stanza.
+pub(crate) fn ignore(mut draft: Draft) -> Draft
     ensures { result ≡ record draft { stanza = ignored } }
 {
     draft.stanza = Open::Ignored;

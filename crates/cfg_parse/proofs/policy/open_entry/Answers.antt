@@ -1,0 +1,10 @@
+use Rattle.std.proofs.Common.{◌≡◌, true, refl, sym, ap, ◌∙◌}
+use Rattle.cfg_ast.specs.PolicyLines.{has_map_entry}
+use Rattle.cfg_ast.specs.Reading.{Draft}
+use Rattle.cfg_parse.proofs.policy.open_entry.Goals as goal
+
+pub returns-then-has_map_entry : goal.returns-then-has_map_entry
+returns-then-has_map_entry c =
+    let v = c.draft.view_is in
+    let stands : has_map_entry c.draft.inside.route_maps c.args.name c.args.entry.seq ≡ true = sym (rw (c.as_slice.ensures, c.as_str.ensures) at c.has_map_entry.ensures) ∙ c.if-has_map_entry.true in
+    rw (c.repeated.ensures, ← ap (λ (d : Draft). d.route_maps) v, stands) refl

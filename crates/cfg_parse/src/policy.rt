@@ -1,0 +1,135 @@
+ghost use Rattle.std.specs.Prelude.{◌≡◌, IfOk, bytes_eq, codes};
+ghost use Rattle.std.specs.List.{AllByRecursion};
+ghost use Rattle.cfg_ast.specs.Answers.{Gives};
+ghost use Rattle.cfg_ast.specs.Lines.{IsWordIn, texts, text_of};
+ghost use Rattle.cfg_ast.specs.PolicyLines.{is_policy_line, is_list_word, with_community_line};
+ghost use Rattle.cfg_ast.specs.Reading.{ignored, add_prefix_entry, open_entry, take_policy};
+
+use crate::community_lists::with_community_line;
+use crate::draft::{Draft, Open};
+use crate::prefix_lists::{has_prefix_entry, with_prefix_entry};
+use crate::route_maps::has_map_entry;
+use crate::stanza::{once, repeated};
+use crate::top::ignore;
+use base_kit::{NoMemory, Text};
+use cfg_ast::{CommunityLine, MapEntry, PolicyItem, PrefixEntry, ReadRefusal, Span};
+use std::alloc::Global;
+
+fn is_route_map(bytes: &[u8], word: &Span) -> bool
+    requires { IsWordIn bytes.now word.now }
+    ensures { result ≡ bytes_eq (text_of bytes.now word.now) (codes "route-map") }
+{
+    &bytes[word.from as usize..word.upto as usize] == b"route-map".as_slice()
+}
+
+fn is_ip(bytes: &[u8], word: &Span) -> bool
+    requires { IsWordIn bytes.now word.now }
+    ensures { result ≡ bytes_eq (text_of bytes.now word.now) (codes "ip") }
+{
+    &bytes[word.from as usize..word.upto as usize] == b"ip".as_slice()
+}
+
+fn is_prefix_list(bytes: &[u8], word: &Span) -> bool
+    requires { IsWordIn bytes.now word.now }
+    ensures { result ≡ bytes_eq (text_of bytes.now word.now) (codes "prefix-list") }
+{
+    &bytes[word.from as usize..word.upto as usize] == b"prefix-list".as_slice()
+}
+
+fn is_community_list(bytes: &[u8], word: &Span) -> bool
+    requires { IsWordIn bytes.now word.now }
+    ensures { result ≡ bytes_eq (text_of bytes.now word.now) (codes "community-list") }
+{
+    &bytes[word.from as usize..word.upto as usize] == b"community-list".as_slice()
+}
+
+fn is_list_word(bytes: &[u8], words: &[Span]) -> bool
+    requires { AllByRecursion (IsWordIn bytes.now) words.now }
+    ensures { result ≡ is_list_word (texts bytes.now words.now) }
+{
+    match words {
+        [] => false,
+        [word, ..] => is_prefix_list(bytes, word) || is_community_list(bytes, word),
+    }
+}
+
+/// Whether a top line of these words is read as a line of a list or a route map.
+#[tactic(auto, unfolding(cfg_ast::specs::PolicyLines::is_policy_line))]
+pub(crate) fn is_policy_line(bytes: &[u8], words: &[Span]) -> bool
+    requires { AllByRecursion (IsWordIn bytes.now) words.now }
+    ensures { result ≡ is_policy_line (texts bytes.now words.now) }
+{
+    match words {
+        [] => false,
+        [word, others @ ..] => {
+            is_route_map(bytes, word) || (is_ip(bytes, word) && is_list_word(bytes, others))
+        }
+    }
+}
+
+fn add_prefix_entry(
+    alloc: Global,
+    number: u32,
+    name: Text,
+    entry: PrefixEntry,
+    mut draft: Draft,
+) -> Result<Draft, ReadRefusal>
+    ensures { Gives result (add_prefix_entry number name entry draft) }
+{
+    once(
+        number,
+        has_prefix_entry(draft.prefix_lists.as_slice(), name.as_str(), entry.seq),
+    )?;
+    draft.prefix_lists = with_prefix_entry(alloc, name, entry, draft.prefix_lists)?;
+    Ok(draft)
+}
+
+fn add_community_line(
+    alloc: Global,
+    name: Text,
+    line: CommunityLine,
+    mut draft: Draft,
+) -> Result<Draft, NoMemory>
+    ensures { IfOk result (λ d. d ≡ record draft { community_lists = with_community_line name line draft.community_lists }) }
+{
+    draft.community_lists = with_community_line(alloc, name, line, draft.community_lists)?;
+    Ok(draft)
+}
+
+fn open_entry(
+    number: u32,
+    name: Text,
+    entry: MapEntry,
+    mut draft: Draft,
+) -> Result<Draft, ReadRefusal>
+    ensures { Gives result (open_entry number name entry draft) }
+{
+    if has_map_entry(draft.route_maps.as_slice(), name.as_str(), entry.seq) {
+        return Err(repeated(number));
+    }
+    draft.stanza = Open::Entry(name, entry);
+    Ok(draft)
+}
+
+/// The draft after a top line of a list or a route map.
+#[tactic(auto, unfolding(cfg_ast::specs::Reading::take_policy))]
+pub(crate) fn take_policy(
+    alloc: Global,
+    number: u32,
+    item: PolicyItem,
+    draft: Draft,
+) -> Result<Draft, ReadRefusal>
+    ensures { Gives result (take_policy number item draft) }
+{
+    match item {
+        PolicyItem::PrefixEntry(name, entry) => {
+            add_prefix_entry(alloc, number, name, entry, draft)
+        }
+        PolicyItem::CommunityLine(name, line) => {
+            Ok(add_community_line(alloc, name, line, draft)?)
+        }
+        PolicyItem::MapHead(name, entry) => open_entry(number, name, entry, draft),
+        PolicyItem::Ignored => Ok(ignore(draft)),
+        _ => Ok(draft),
+    }
+}
