@@ -189,7 +189,7 @@ is_as_number word = is_some (as_number_of word)
 unfoldable pub prepend_form : ℕ → List (List ℕ) → Result PolicyItem FormFault
 prepend_form line (_ ∷ _ ∷ _ ∷ words) =
     bad_unless (nat_le 1 (length words) && nat_le (length words) 10 && list_all is_as_number words)
-        (Ok (item.Prepend (record { numbers = filter_map as_number_of words; line = line })))
+    (Ok (item.Prepend (record { numbers = filter_map as_number_of words; line = line })))
 prepend_form line _ = Err BadForm
 
 -- ---- a line by its head
