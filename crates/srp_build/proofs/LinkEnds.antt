@@ -1,0 +1,118 @@
+-- The links of an OSPF network join interfaces of two routers that have costs.
+use Rattle.std.proofs.Common.{◌≡◌, ◌≢◌, ℕ, zero, suc, ◌+◌, ◌<◌, ◌≤◌, Bool, true, false, cond, ◌&&◌, List, [], ◌∷◌, ◌++◌, map, length, ◌⊎◌, inl, inr, Option, Some, None, refl, sym, ◌∙◌, ap, subst, arith}
+use Rattle.std.specs.Prelude.{Contains, filter, flat_map, slice_get, nat_eq, nat_lt, option_and_then, if◌then◌else◌}
+use Rattle.std.specs.Option.{option_map_or}
+use Rattle.std.specs.List.{enumerate_from}
+use Rattle.std.proofs.lemmas.Bool.Decides.{nat_tests}
+use Rattle.base_kit.proofs.Elements.{In, contains_in, map_in, filter_in, append_in, flat_map_in, enumerate_in, get_in}
+use Rattle.cfg_ast.specs.Addresses.{Address}
+use Rattle.cfg_ast.specs.declared.bgp.BgpProcess.{BgpProcess}
+use Rattle.cfg_ast.specs.declared.bgp.Neighbor.{Neighbor}
+use Rattle.cfg_ast.specs.declared.interface.Interface.{Interface}
+use Rattle.cfg_ast.specs.declared.network.Network.{Network}
+use Rattle.cfg_ast.specs.declared.network.Router.{Router}
+use Rattle.cfg_ast.specs.declared.topology.Link.{Link}
+use Rattle.cfg_ast.specs.Topology.{Place, place_on, places_on, places, interfaces_of, neighbors_of, links_from, links_joining, link_between, is_session, are_adjacent, share_area_subnet, both_in_one_subnet, active_address, is_active_interface, is_in_area_interface, is_passive_in, cost_of_interface, cost_of, sessions_of, adjacencies_of, links_of}
+use Rattle.srp_build.specs.Ospf.{IsOspf, IsPriced, HasCost}
+
+pub record IsPlace {X : Type 0} (items : Router → List X) (n : Network) (p : Place X) : Type 0 where
+  pub at : slice_get n.routers p.router ≡ Some p.owner
+  pub item : slice_get (items p.owner) p.item ≡ Some p.value
+
+place_at : {X : Type 0} (items : Router → List X) (n : Network) (p : Place X) → In (places items n) p → IsPlace items n p
+unfolding places
+place_at {X} items n p h =
+    let on = flat_map_in (places_on items) (enumerate_from 0 n.routers) p h in
+    let router = enumerate_in n.routers 0 on.0.0 on.0.1 on.1 in
+    let made = map_in (place_on on.0.0 on.0.1) (enumerate_from 0 (items on.0.1)) p on.2 in
+    let item = enumerate_in (items on.0.1) 0 made.0.0 made.0.1 made.1 in
+    let number : router.0 ≡ p.router = (let a : on.0.0 ≡ router.0 = (let e = router.1 in omega arith) in sym a ∙ ap (λ (q : Place X). q.router) made.2) in
+    let owner : on.0.1 ≡ p.owner = ap (λ (q : Place X). q.owner) made.2 in
+    let place : item.0 ≡ p.item = (let a : made.0.0 ≡ item.0 = (let e = item.1 in omega arith) in sym a ∙ ap (λ (q : Place X). q.item) made.2) in
+    record {
+      at = sym (ap (slice_get n.routers) number) ∙ router.2 ∙ ap (λ (r : Router). Some r) owner;
+      item = ap (λ (r : Router). slice_get (items r) p.item) (sym owner) ∙ sym (ap (slice_get (items on.0.1)) place) ∙ item.2 ∙ ap (λ (x : X). Some x) (ap (λ (q : Place X). q.value) made.2);
+    }
+
+-- a link that joins two places
+pub record IsJoining {X : Type 0} (items : Router → List X) (joins : Place X → Place X → Bool) (n : Network) (l : Link) : Type 0 where
+  pub low : Place X
+  pub high : Place X
+  pub low_at : IsPlace items n low
+  pub high_at : IsPlace items n high
+  pub joined : joins low high ≡ true
+  pub is : link_between low high ≡ l
+
+joining : {X : Type 0} (items : Router → List X) (joins : Place X → Place X → Bool) (n : Network) (l : Link) → In (links_joining joins (places items n)) l → IsJoining items joins n l
+joining {X} items joins n l h =
+    let at = flat_map_in (links_from joins (places items n)) (places items n) l h in
+    let made = map_in (link_between at.0) (filter (joins at.0) (places items n)) l at.2 in
+    let kept = filter_in (joins at.0) (places items n) made.0 made.1 in
+    record { low = at.0; high = made.0; low_at = place_at items n at.0 at.1; high_at = place_at items n made.0 kept.0; joined = kept.1; is = made.2 }
+
+and_first : (a b : Bool) → (a && b) ≡ true → a ≡ true
+and_first true b h = refl
+and_first false b h = absurd cc
+
+and_second : (a b : Bool) → (a && b) ≡ true → b ≡ true
+and_second true b h = h
+and_second false b h = absurd cc
+
+no_neighbors : (n : Network) → IsOspf n → (p : Place Neighbor) → IsPlace neighbors_of n p → ⊥
+no_neighbors n ospf p at =
+    let none = ospf.unmixed p.owner (contains_in n.routers p.owner (get_in n.routers p.router p.owner at.at)) in
+    let empty : neighbors_of p.owner ≡ [] = ap (λ (o : Option BgpProcess). option_map_or (λ (process : BgpProcess). process.neighbors) o []) none in
+    let nothing : slice_get {X = Neighbor} [] p.item ≡ Some p.value = ap (λ (l : List Neighbor). slice_get l p.item) (sym empty) ∙ at.item in
+    get_in [] p.item p.value nothing
+
+no_session : (n : Network) → IsOspf n → (l : Link) → In (sessions_of n) l → ⊥
+unfolding sessions_of
+no_session n ospf l h = let at = joining neighbors_of is_session n l h in no_neighbors n ospf at.low at.low_at
+
+adjacency : (n : Network) (l : Link) → In (adjacencies_of n) l → IsJoining interfaces_of are_adjacent n l
+unfolding adjacencies_of
+adjacency n l h = joining interfaces_of are_adjacent n l h
+
+link_joining : (n : Network) → IsOspf n → (l : Link) → In (links_of n) l → IsJoining interfaces_of are_adjacent n l
+unfolding links_of
+link_joining n ospf l h = elim (append_in (sessions_of n) (adjacencies_of n) l h) [
+  | inl session ↦ absurd (no_session n ospf l session)
+  | inr adjacent ↦ adjacency n l adjacent
+]
+
+picked : (b : Bool) (o : Option Address) (a : Address) → cond b o None ≡ Some a → b ≡ true
+picked true o a h = refl
+picked false o a h = absurd cc
+
+both_some : (o u : Option Address) → both_in_one_subnet o u ≡ true → ((a : Address) × (o ≡ Some a)) × ((b : Address) × (u ≡ Some b))
+both_some (Some a) (Some b) h = ((a, refl), (b, refl))
+both_some (Some a) None h = absurd cc
+both_some None u h = absurd cc
+
+priced_at : (n : Network) → IsOspf n → (p : Place Interface) → IsPlace interfaces_of n p → (a : Address) → active_address p ≡ Some a → (cost : ℕ) × IsPriced n p.router p.item cost
+priced_at n ospf p at a active =
+    let is_active = picked (is_active_interface p.owner p.value) p.value.address a active in
+    let in_area = and_first (is_in_area_interface p.owner p.value) _ is_active in
+    let has = ospf.priced p.owner p.value (contains_in n.routers p.owner (get_in n.routers p.router p.owner at.at)) (contains_in p.owner.interfaces p.value (get_in p.owner.interfaces p.item p.value at.item)) in_area in
+    (has.cost, record { router = p.owner; at = at.at; is = ap (λ (o : Option Interface). option_and_then cost_of_interface o) at.item ∙ has.is; positive = has.positive })
+
+-- both ends of a link: two routers, and the costs of their interfaces
+pub record HasEnds (n : Network) (l : Link) : Type 0 where
+  pub apart : l.low < l.high
+  pub low_cost : ℕ
+  pub low : IsPriced n l.low l.low_item low_cost
+  pub high_cost : ℕ
+  pub high : IsPriced n l.high l.high_item high_cost
+
+ends_of : (n : Network) → IsOspf n → (p q : Place Interface) → IsPlace interfaces_of n p → IsPlace interfaces_of n q → are_adjacent p q ≡ true → HasEnds n (link_between p q)
+ends_of n ospf p q p_at q_at joined =
+    let less : nat_lt p.router q.router ≡ true = and_first (nat_lt p.router q.router) (share_area_subnet p q) joined in
+    let both = both_some (active_address p) (active_address q) (and_second (nat_lt p.router q.router) (share_area_subnet p q) joined) in
+    let low = priced_at n ospf p p_at both.0.0 both.0.1 in
+    let high = priced_at n ospf q q_at both.1.0 both.1.1 in
+    record { apart = grind (arith, nat_tests); low_cost = low.0; low = low.1; high_cost = high.0; high = high.1 }
+
+pub link_ends : (n : Network) → IsOspf n → (l : Link) → In (links_of n) l → HasEnds n l
+link_ends n ospf l h =
+    let at = link_joining n ospf l h in
+    subst (λ (k : Link). HasEnds n k) at.is (ends_of n ospf at.low at.high at.low_at at.high_at at.joined)

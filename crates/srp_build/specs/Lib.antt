@@ -1,0 +1,6 @@
+pub mod ByKey
+pub mod Hops
+pub mod Numbering
+pub mod Ospf
+pub mod Problem
+pub mod Starts
