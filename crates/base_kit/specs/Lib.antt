@@ -1,3 +1,4 @@
+pub mod Join
 pub mod Numbers
 pub mod Partition
 pub mod Prefixes

@@ -8,6 +8,7 @@ use Rattle.std.proofs.lemmas.List.Elements.{All-get_or, All-contains, All-push, 
 use Rattle.base_kit.specs.declared.act_graph.Edge.{Edge}
 use Rattle.base_kit.specs.declared.act_graph.ActGraph.{ActGraph}
 use Rattle.base_kit.specs.Partition.{HasTwinIfOutgoing, IsMirroredAt, IsAdmissible, Refines, IsCoarsest}
+use Rattle.base_kit.proofs.Mirrors.{mirrored_coarser}
 use Rattle.refine_partition.specs.Splits.{HasAct, ActAlike, IsStart}
 use Rattle.refine_partition.specs.Planned.{IsDivided}
 use Rattle.refine_partition.specs.Pending.{AreAllWaiting, AreMarked, IsWaiting, IsEven, IsRefining, ArePiecesWaiting}
@@ -129,17 +130,6 @@ refining_end graph numbers count refining = record {
     };
   };
   refined = refining.refined;
-}
-
--- what is mirrored in a partition is mirrored in a coarser one
-mirrored_coarser : (edges : List Edge) (finer coarser : List ℕ) (count u v : ℕ) → All (λ e. e.exporter < count) edges → Refines count finer coarser → u < count → IsMirroredAt edges finer u v → IsMirroredAt edges coarser u v
-unfolding IsMirroredAt
-mirrored_coarser edges finer coarser count u v exporters refines hu mirrored k d inside = record {
-  twin = λ imports leaves.
-      let exporter = exporters k d inside in
-      let (j, other, within, at, (importer, act, into)) = (mirrored k d inside).twin imports (λ e. leaves (refines _ u exporter hu e)) in
-      let exporter' = rw at at (exporters j other within) in
-      (j, other, within, at, (importer, act, refines _ _ exporter' exporter into));
 }
 
 -- numbers that are equal where the blocks are give the same partition

@@ -21,3 +21,6 @@ mod touched;
 
 pub use partition::{Partition, coarsest};
 pub use splitting::Splitting;
+
+#[cfg(test)]
+mod tests;
