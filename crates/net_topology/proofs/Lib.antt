@@ -1,0 +1,6 @@
+pub mod Adjacent
+pub mod Joined
+pub mod PlaceSteps
+pub mod PushedItems
+pub mod SessionLemmas
+pub mod Shares

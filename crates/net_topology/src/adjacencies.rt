@@ -1,0 +1,128 @@
+ghost use Rattle.std.specs.Prelude.{◌≡◌, ◌++◌, map, filter, filter_map, flat_map, IfOk, OnOk};
+ghost use Rattle.std.specs.List.{enumerate_from};
+ghost use Rattle.cfg_ast.specs.Topology.{place_on, adjacencies_of};
+ghost use Rattle.net_topology.specs.Spots.{active_address_on, spot_on, spot_of, spots, spot_link, is_later, pair_of, links_in};
+ghost use Rattle.net_topology.specs.Buckets.{IsIndex};
+
+use crate::buckets::{items_at, push_at};
+use crate::places::place;
+use base_kit::{List, NoMemory};
+use cfg_ast::{Address, Interface, Link, Network, Router};
+use std::alloc::Global;
+use std::collections::HashMap;
+
+/// An active interface by its place, with the length and the first address of its subnet.
+#[derive(Clone, Copy)]
+pub(crate) struct Spot {
+    pub(crate) router: u32,
+    pub(crate) item: u32,
+    pub(crate) len: u32,
+    pub(crate) first: u32,
+}
+
+fn active_address(router: &Router, interface: &Interface) -> Option<Address>
+    ensures { result ≡ active_address_on router.now interface.now }
+{
+    if router.has_active(interface) {
+        interface.address
+    } else {
+        None
+    }
+}
+
+fn spot_at(router: u32, item: u32, owner: &Router, interface: &Interface) -> Option<Spot>
+    ensures { result ≡ spot_on router item owner.now interface.now }
+{
+    let address = active_address(owner, interface)?;
+    let subnet = address.subnet();
+    Some(Spot {
+        router,
+        item,
+        len: u32::from(subnet.len()),
+        first: subnet.addr(),
+    })
+}
+
+fn push_spots(found: &mut Vec<Spot>, router: u32, owner: &Router) -> Result<(), NoMemory>
+    ensures { OnOk result (found.new.items ≡ found.old.items ++ filter_map spot_of (map (place_on router owner.now) (enumerate_from 0 owner.now.interfaces))) }
+{
+    let interfaces = owner.interfaces.as_slice();
+    for i in 0..interfaces.len() {
+        let item = place(i)?;
+        if let Some(spot) = spot_at(router, item, owner, &interfaces[i]) {
+            found.push(spot)?;
+        }
+    }
+    Ok(())
+}
+
+fn spots(alloc: Global, network: &Network) -> Result<Vec<Spot>, NoMemory>
+    ensures { IfOk result (λ found. found.items ≡ spots network.now) }
+{
+    let mut found = Vec::new(alloc);
+    let routers = network.routers.as_slice();
+    for r in 0..routers.len() {
+        let router = place(r)?;
+        push_spots(&mut found, router, &routers[r])?;
+    }
+    Ok(found)
+}
+
+// The spots of each subnet, in order.
+fn index(alloc: Global, spots: &[Spot]) -> Result<HashMap<(u32, u32), Vec<Spot>>, NoMemory>
+    ensures { IfOk result (λ index. IsIndex pair_of index spots.now) }
+{
+    let mut index: HashMap<(u32, u32), Vec<Spot>> = HashMap::new(alloc);
+    for spot in spots {
+        push_at(alloc, &mut index, (spot.len, spot.first), *spot)?;
+    }
+    Ok(index)
+}
+
+fn push_links(found: &mut List<Link>, p: &Spot, others: &[Spot]) -> Result<(), NoMemory>
+    ensures { OnOk result (found.new ≡ found.old ++ map (spot_link p.now) (filter (is_later p.now) others.now)) }
+{
+    for q in others {
+        if p.router < q.router {
+            found.push(Link {
+                low: p.router,
+                high: q.router,
+                low_item: p.item,
+                high_item: q.item,
+            })?;
+        }
+    }
+    Ok(())
+}
+
+fn push_links_of(
+    found: &mut List<Link>,
+    p: &Spot,
+    spots: &[Spot],
+    index: &HashMap<(u32, u32), Vec<Spot>>,
+) -> Result<(), NoMemory>
+    requires { IsIndex pair_of index.now spots.now }
+    ensures { OnOk result (found.new ≡ found.old ++ links_in spots.now p.now) }
+{
+    push_links(found, p, items_at(index, (p.len, p.first)))
+}
+
+fn links_of(alloc: Global, spots: &[Spot]) -> Result<List<Link>, NoMemory>
+    ensures { IfOk result (λ links. links ≡ flat_map (links_in spots.now) spots.now) }
+{
+    let index = index(alloc, spots)?;
+    let mut found = List::new(alloc);
+    for p in spots {
+        push_links_of(&mut found, p, spots, &index)?;
+    }
+    Ok(found)
+}
+
+/// The OSPF adjacencies of the network, in order.
+#[tactic(auto, using(crate::proofs::Adjacent::adjacencies_by_index))]
+pub(crate) fn adjacencies(alloc: Global, network: &Network) -> Result<List<Link>, NoMemory>
+    ensures { IfOk result (λ links. links ≡ adjacencies_of network.now) }
+{
+    let spots = spots(alloc, network)?;
+    links_of(alloc, spots.as_slice())
+}

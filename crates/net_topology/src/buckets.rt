@@ -1,0 +1,33 @@
+ghost use Rattle.std.specs.Prelude.{◌≡◌, OnOk};
+ghost use Rattle.net_topology.specs.Buckets.{bucket, PushesAt};
+
+use base_kit::NoMemory;
+use std::alloc::Global;
+use std::collections::HashMap;
+
+/// Puts the item last at that pair.
+pub(crate) fn push_at<T>(
+    alloc: Global,
+    index: &mut HashMap<(u32, u32), Vec<T>>,
+    pair: (u32, u32),
+    item: T,
+) -> Result<(), NoMemory>
+where
+    T: Drop,
+    ensures { OnOk result (PushesAt index.old index.new pair item) }
+{
+    let mut same = index.remove(&pair).unwrap_or(Vec::new(alloc));
+    same.push(item)?;
+    index.insert(pair, same)?;
+    Ok(())
+}
+
+/// The items at that pair, in order.
+pub(crate) fn items_at<T>(index: &HashMap<(u32, u32), Vec<T>>, pair: (u32, u32)) -> &[T]
+    ensures { result.now ≡ bucket index.now pair }
+{
+    match index.get(&pair) {
+        Some(items) => items.as_slice(),
+        None => &[],
+    }
+}

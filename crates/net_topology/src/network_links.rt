@@ -1,0 +1,31 @@
+ghost use Rattle.std.specs.Prelude.{◌≡◌, ◌++◌, IfOk, OnOk};
+ghost use Rattle.cfg_ast.specs.Topology.{links_of};
+
+use crate::adjacencies::adjacencies;
+use crate::sessions::sessions;
+use base_kit::{List, NoMemory};
+use cfg_ast::Link;
+use cfg_check::Checked;
+use std::alloc::Global;
+
+fn append(links: &mut List<Link>, more: &[Link]) -> Result<(), NoMemory>
+    ensures { OnOk result (links.new ≡ links.old ++ more.now) }
+{
+    for link in more {
+        links.push(*link)?;
+    }
+    Ok(())
+}
+
+/// The links of a network: its BGP sessions or its OSPF adjacencies, in the order of their ends, the
+/// earlier end first. Only want of memory is an error.
+#[tactic(auto, unfolding(cfg_ast::specs::Topology::links_of))]
+pub fn links(alloc: Global, net: &Checked) -> Result<List<Link>, NoMemory>
+    ensures { IfOk result (λ links. links ≡ links_of net.now.network) }
+{
+    let network = net.network();
+    let mut links = sessions(alloc, network)?;
+    let adjacencies = adjacencies(alloc, network)?;
+    append(&mut links, adjacencies.as_slice())?;
+    Ok(links)
+}
