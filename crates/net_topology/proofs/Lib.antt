@@ -1,4 +1,5 @@
 pub mod Adjacent
+pub mod AloneLemmas
 pub mod Joined
 pub mod PlaceSteps
 pub mod PushedItems

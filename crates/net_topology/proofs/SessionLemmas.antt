@@ -53,17 +53,17 @@ is_peer_in p s (Some process) e f =
     let parts = in_process p.router p.item p.value process p.value.shut s refl f in
     record { process = process; bgp = e; open_ = parts.0; peer = parts.1 }
 
-is_peer : (p : Place Neighbor) (s : Peer) → peer_of p ≡ Some s → IsPeer p s
+pub is_peer : (p : Place Neighbor) (s : Peer) → peer_of p ≡ Some s → IsPeer p s
 is_peer p s e = is_peer_in p s p.owner.bgp refl e
 
-number_at : (owner : Router) (process : BgpProcess) (number : ℕ) → owner.bgp ≡ Some process → has_number owner number ≡ nat_eq process.number number
+pub number_at : (owner : Router) (process : BgpProcess) (number : ℕ) → owner.bgp ≡ Some process → has_number owner number ≡ nat_eq process.number number
 number_at owner process number e = ap (λ (o : Option BgpProcess). option_map_or (λ (process : BgpProcess). nat_eq process.number number) o false) e
 
 sessions_same : (u v m r n k : ℕ) (a b c d share : Bool) → a ≡ false → b ≡ false → c ≡ nat_eq n r → d ≡ nat_eq m k
     → (nat_lt u v && (not (nat_eq u v) && (not a && (not b && (c && (d && share)))))) ≡ ((nat_eq r n && nat_eq m k) && (nat_lt u v && share))
 sessions_same u v m r n k a b c d share e f g h = grind (arith, nat_tests)
 
-share_is : (routers : List Router) (u v a b : ℕ) (x y : Router) → slice_get routers u ≡ Some x → slice_get routers v ≡ Some y → share_at (slice_get routers u) a (slice_get routers v) b ≡ share_subnet x a y b
+pub share_is : (routers : List Router) (u v a b : ℕ) (x y : Router) → slice_get routers u ≡ Some x → slice_get routers v ≡ Some y → share_at (slice_get routers u) a (slice_get routers v) b ≡ share_subnet x a y b
 share_is routers u v a b x y e f = ap (λ (o : Option Router). share_at o a (slice_get routers v) b) e ∙ ap (λ (o : Option Router). share_at (Some x) a o b) f
 
 -- the peer that a process gives a place
@@ -83,7 +83,7 @@ both routers p q s t at_p at_q a b =
     ∙ ap (λ (z : Peer). is_near z (made q b.process) && is_later routers z (made q b.process)) a.peer
     ∙ ap (λ (z : Peer). is_near s z && is_later routers s z) b.peer
 
-and_false : (b : Bool) → (b && false) ≡ false
+pub and_false : (b : Bool) → (b && false) ≡ false
 and_false true = refl
 and_false false = refl
 
@@ -104,7 +104,7 @@ closed : (shut : Bool) (process : BgpProcess) (number : ℕ) (s : Peer) → cond
 closed true process number s e = refl
 closed false process number s e = cc
 
-no_peer_in : (p : Place Neighbor) (o : Option BgpProcess) (number : ℕ) → option_and_then (peer_of_process p.router p.item p.value) o ≡ None → (not p.value.shut && option_map_or (λ (process : BgpProcess). nat_eq process.number number) o false) ≡ false
+pub no_peer_in : (p : Place Neighbor) (o : Option BgpProcess) (number : ℕ) → option_and_then (peer_of_process p.router p.item p.value) o ≡ None → (not p.value.shut && option_map_or (λ (process : BgpProcess). nat_eq process.number number) o false) ≡ false
 no_peer_in p None number e = and_false (not p.value.shut)
 no_peer_in p (Some process) number e = closed p.value.shut process number (made p process) e
 

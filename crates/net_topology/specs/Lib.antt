@@ -1,3 +1,4 @@
+pub mod Alone
 pub mod Buckets
 pub mod Peers
 pub mod Spots

@@ -22,7 +22,7 @@ pub(crate) struct Peer {
     pub(crate) addr: u32,
 }
 
-fn peer_on(router: u32, item: u32, owner: &Router, neighbor: &Neighbor) -> Option<Peer>
+pub(crate) fn peer_on(router: u32, item: u32, owner: &Router, neighbor: &Neighbor) -> Option<Peer>
     ensures { result ≡ peer_on router item owner.now neighbor.now }
 {
     let process = owner.bgp.as_ref()?;
@@ -38,7 +38,7 @@ fn peer_on(router: u32, item: u32, owner: &Router, neighbor: &Neighbor) -> Optio
     })
 }
 
-fn neighbors(owner: &Router) -> &[Neighbor]
+pub(crate) fn neighbors(owner: &Router) -> &[Neighbor]
     ensures { result.now ≡ neighbors_of owner.now }
 {
     match &owner.bgp {
@@ -60,7 +60,7 @@ fn push_peers(found: &mut Vec<Peer>, router: u32, owner: &Router) -> Result<(), 
     Ok(())
 }
 
-fn peers(alloc: Global, network: &Network) -> Result<Vec<Peer>, NoMemory>
+pub(crate) fn peers(alloc: Global, network: &Network) -> Result<Vec<Peer>, NoMemory>
     ensures { IfOk result (λ found. found.items ≡ peers network.now) }
 {
     let mut found = Vec::new(alloc);
@@ -73,7 +73,10 @@ fn peers(alloc: Global, network: &Network) -> Result<Vec<Peer>, NoMemory>
 }
 
 // The peers by the numbers of their routers and of the routers that they name, in order.
-fn index(alloc: Global, peers: &[Peer]) -> Result<HashMap<(u32, u32), Vec<Peer>>, NoMemory>
+pub(crate) fn index(
+    alloc: Global,
+    peers: &[Peer],
+) -> Result<HashMap<(u32, u32), Vec<Peer>>, NoMemory>
     ensures { IfOk result (λ index. IsIndex own_pair index peers.now) }
 {
     let mut index: HashMap<(u32, u32), Vec<Peer>> = HashMap::new(alloc);
@@ -138,7 +141,7 @@ fn share_subnet(router: &Router, addr: u32, other: &Router, far: u32) -> bool
 }
 
 // Whether each of two peers has an address of the other's router, both in one subnet.
-fn shares(routers: &[Router], p: &Peer, q: &Peer) -> bool
+pub(crate) fn shares(routers: &[Router], p: &Peer, q: &Peer) -> bool
     ensures { result ≡ shares routers.now p.now q.now }
 {
     let Some(near) = routers.get(p.router as usize) else {
