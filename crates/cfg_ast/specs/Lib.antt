@@ -1,6 +1,7 @@
 pub mod Addresses
 pub mod Answers
 pub mod Classes
+pub mod FormFaults
 pub mod FormSteps
 pub mod Heads
 pub mod Lines

@@ -1,3 +1,11 @@
+pub mod AddedItems
+pub mod BgpLines
 pub mod Changed
+pub mod EmptyHeads
+pub mod FormFaults
+pub mod Given
 pub mod Neighbors
+pub mod Peers
+pub mod StanzaLines
 pub mod Steps
+pub mod TopLines

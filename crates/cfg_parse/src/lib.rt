@@ -2,7 +2,8 @@
 //!
 //! `read_network` reads a text line by line: it gives the network of the text, or refuses the text at
 //! the first line with a fault of its own or of its form. Its contract is the definition
-//! `network_of_text`.
+//! `network_of_text`. The laws of `laws` say the same of refusals without the reader's state: a text is
+//! refused with the fault of the first line that has one, each line judged by the lines before it.
 #![tactic(auto)]
 
 mod bgp;
@@ -11,6 +12,7 @@ mod draft;
 mod entry;
 mod exchange;
 mod interface;
+pub mod laws;
 mod ospf;
 mod policy;
 mod prefix_lists;
