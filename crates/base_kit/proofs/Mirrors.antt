@@ -1,10 +1,10 @@
 -- Mirroring from router to router and from partition to partition, and the join of admissible partitions.
-use Rattle.std.proofs.Common.{◌≡◌, ◌≢◌, ℕ, ◌<◌, List, [], ◌∷◌, length, slice_index_or, All, Any, refl, sym, ◌∙◌, ap, subst, arith, inl, inr}
-use Rattle.std.specs.Prelude.{slice_index, ◌⊎◌}
+use Rattle.std.proofs.Common.{◌≡◌, ℕ, ◌<◌, List, [], ◌∷◌, slice_index_or, All, refl, sym, ◌∙◌, ap, subst, arith, inl, inr}
+use Rattle.std.specs.Prelude.{slice_index}
 use Rattle.std.proofs.lemmas.Grind.{common_steps}
 use Rattle.base_kit.specs.declared.act_graph.Edge.{Edge}
 use Rattle.base_kit.specs.declared.act_graph.ActGraph.{ActGraph}
-use Rattle.base_kit.specs.Partition.{color, HasTwin, HasTwinIfOutgoing, IsMirroredAt, IsAdmissible, Refines, IsCoarsest}
+use Rattle.base_kit.specs.Partition.{color, HasTwinIfOutgoing, IsMirroredAt, IsAdmissible, Refines}
 use Rattle.base_kit.specs.Join.{IsChain, IsJoin}
 
 pub mirrored_refl : (edges : List Edge) (groups : List ℕ) (u : ℕ) → IsMirroredAt edges groups u u
