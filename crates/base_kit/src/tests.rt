@@ -7,6 +7,8 @@ fn lists_and_texts_grow(rt: HostRuntime) -> Result<(), Fail> {
     let mut list = List::new(rt.alloc());
     list.push(3u32)?;
     assert_eq!(rt; list.as_slice(), [3u32].as_slice());
+    list.insert(0, 2)?;
+    assert_eq!(rt; list.as_slice(), [2, 3].as_slice());
     let mut text = Text::new(rt.alloc());
     text.push_str("ab")?;
     assert_eq!(rt; text.as_str(), "ab");
