@@ -18,4 +18,5 @@ pub mod RouterForms
 pub mod Stanzas
 pub mod TextLines
 pub mod Topology
+pub mod WellFormed
 pub mod Words
