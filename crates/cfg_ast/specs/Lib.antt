@@ -1,5 +1,6 @@
 pub mod Addresses
 pub mod Answers
+pub mod Bare
 pub mod Classes
 pub mod FormFaults
 pub mod FormSteps
@@ -7,6 +8,7 @@ pub mod Heads
 pub mod Lines
 pub mod Lists
 pub mod Meaning
+pub mod Members
 pub mod Policy
 pub mod PolicyForms
 pub mod PolicyLines

@@ -1,8 +1,8 @@
 -- The printed text of a network: the lines of each router, in one order, as a device shows its
 -- running configuration. Values are written as they are read: numbers in decimal, addresses as four
 -- numbers joined by points (RFC 1123 section 2.1), communities as two halves (RFC 1997).
-use Rattle.std.specs.Prelude.{ℕ, ◌+◌, ◌-◌, ◌*◌, ◌/◌, ◌%◌, Bool, true, false, List, [], ◌∷◌, ◌++◌, if◌then◌else◌, Option, Some, None, codes, bytes_eq, map, replicate}
-use Rattle.std.specs.List.{flat_map, join_with_byte, zip}
+use Rattle.std.specs.Prelude.{ℕ, ◌/◌, ◌%◌, Bool, List, [], ◌∷◌, ◌++◌, if◌then◌else◌, Option, Some, None, codes, map, replicate}
+use Rattle.std.specs.List.{flat_map, join_with_byte}
 use Rattle.std.specs.Option.{is_some}
 use Rattle.std.specs.Fmt.{decimal}
 use Rattle.base_kit.specs.Prefixes.{Prefix}
@@ -31,14 +31,14 @@ use Rattle.cfg_ast.specs.declared.policy.Change.TheVariants.{Clear, Replace, App
 -- ---- words
 
 -- an address: four numbers joined by points
-abbrev pub address_text : ℕ → List ℕ
+unfoldable pub address_text : ℕ → List ℕ
 address_text addr =
     join_with_byte 46 (decimal (addr / 16777216) ∷ decimal (addr / 65536 % 256) ∷ decimal (addr / 256 % 256) ∷ decimal (addr % 256) ∷ [])
 
-abbrev pub prefix_text : Prefix → List ℕ
+unfoldable pub prefix_text : Prefix → List ℕ
 prefix_text prefix = address_text prefix.addr ++ 47 ∷ decimal prefix.len
 
-abbrev pub community_text : ℕ → List ℕ
+unfoldable pub community_text : ℕ → List ℕ
 community_text community = decimal (community / 65536) ++ 58 ∷ decimal (community % 65536)
 
 abbrev pub act_text : Bool → List ℕ
@@ -72,33 +72,33 @@ closed (l ∷ ls) = (l ∷ ls) ++ closing ∷ []
 
 -- ---- interfaces
 
-abbrev pub address_line : Address → TextLine
+unfoldable pub address_line : Address → TextLine
 address_line a = inner (codes "ip" ∷ codes "address" ∷ address_text a.addr ∷ address_text (mask_of a.len) ∷ [])
 
-abbrev pub cost_line : ℕ → TextLine
+unfoldable pub cost_line : ℕ → TextLine
 cost_line cost = inner (codes "ip" ∷ codes "ospf" ∷ codes "cost" ∷ decimal cost ∷ [])
 
-abbrev pub interface_lines : Interface → List TextLine
+unfoldable pub interface_lines : Interface → List TextLine
 interface_lines i =
     line 0 (codes "interface" ∷ i.name ∷ [])
     ∷ line_of address_line i.address ++ line_of cost_line i.cost ++ line_if i.shut (inner (codes "shutdown" ∷ [])) ++ closing ∷ []
 
 -- ---- BGP
 
-abbrev pub base_line : ℕ → TextLine
+unfoldable pub base_line : ℕ → TextLine
 base_line value = inner (codes "bgp" ∷ codes "default" ∷ codes "local-preference" ∷ decimal value ∷ [])
 
-abbrev pub network_line : NetLine → TextLine
+unfoldable pub network_line : NetLine → TextLine
 network_line n = inner (codes "network" ∷ address_text n.prefix.addr ∷ codes "mask" ∷ address_text (mask_of n.prefix.len) ∷ [])
 
 -- a line of a neighbour begins with its address
-abbrev pub neighbor_line : ℕ → List (List ℕ) → TextLine
+unfoldable pub neighbor_line : ℕ → List (List ℕ) → TextLine
 neighbor_line addr words = inner (codes "neighbor" ∷ address_text addr ∷ words)
 
 abbrev pub applied_line : ℕ → List ℕ → List ℕ → Named → TextLine
 applied_line addr what way named = neighbor_line addr (what ∷ named.name ∷ way ∷ [])
 
-abbrev pub neighbor_lines : Neighbor → List TextLine
+unfoldable pub neighbor_lines : Neighbor → List TextLine
 neighbor_lines n =
     neighbor_line n.addr (codes "remote-as" ∷ decimal n.remote ∷ [])
     ∷ line_if n.shut (neighbor_line n.addr (codes "shutdown" ∷ []))
@@ -108,17 +108,17 @@ neighbor_lines n =
     ++ line_of (applied_line n.addr (codes "route-map") (codes "in")) n.map_in
     ++ line_of (applied_line n.addr (codes "route-map") (codes "out")) n.map_out
 
-abbrev pub bgp_lines : BgpProcess → List TextLine
+unfoldable pub bgp_lines : BgpProcess → List TextLine
 bgp_lines b =
     line 0 (codes "router" ∷ codes "bgp" ∷ decimal b.number ∷ [])
     ∷ line_of (λ base. base_line base.value) b.base ++ map network_line b.networks ++ flat_map neighbor_lines b.neighbors ++ closing ∷ []
 
 -- ---- OSPF
 
-abbrev pub area_line : AreaLine → TextLine
+unfoldable pub area_line : AreaLine → TextLine
 area_line a = inner (codes "network" ∷ address_text a.addr ∷ address_text a.wild ∷ codes "area" ∷ decimal a.area ∷ [])
 
-abbrev pub ospf_lines : OspfProcess → List TextLine
+unfoldable pub ospf_lines : OspfProcess → List TextLine
 ospf_lines o =
     line 0 (codes "router" ∷ codes "ospf" ∷ decimal o.number ∷ [])
     ∷ line_if o.passive_default (inner (codes "passive-interface" ∷ codes "default" ∷ []))
@@ -128,11 +128,11 @@ ospf_lines o =
 
 -- ---- lists
 
-abbrev pub bound_words : List ℕ → Option ℕ → List (List ℕ)
+unfoldable pub bound_words : List ℕ → Option ℕ → List (List ℕ)
 bound_words name None = []
 bound_words name (Some n) = name ∷ decimal n ∷ []
 
-abbrev pub prefix_entry_line : List ℕ → PrefixEntry → TextLine
+unfoldable pub prefix_entry_line : List ℕ → PrefixEntry → TextLine
 prefix_entry_line name e =
     line 0 (codes "ip" ∷ codes "prefix-list" ∷ name ∷ codes "seq" ∷ decimal e.seq ∷ act_text e.permit ∷ prefix_text e.prefix ∷ bound_words (codes "ge") e.ge ++ bound_words (codes "le") e.le)
 
@@ -143,7 +143,7 @@ prefix_list_lines lists = closed (flat_map (λ l. map (prefix_entry_line l.name)
 abbrev pub community_list_name : List ℕ → List (List ℕ)
 community_list_name name = if is_some (number_between 1 99 name) then name ∷ [] else codes "standard" ∷ name ∷ []
 
-abbrev pub community_line : List ℕ → CommunityLine → TextLine
+unfoldable pub community_line : List ℕ → CommunityLine → TextLine
 community_line name c =
     line 0 (codes "ip" ∷ codes "community-list" ∷ community_list_name name ++ act_text c.permit ∷ map community_text c.comms)
 
@@ -155,12 +155,12 @@ community_list_lines lists = closed (flat_map (λ l. map (community_line l.name)
 abbrev pub match_community_words : Bool → List (List ℕ) → List (List ℕ)
 match_community_words exact names = codes "match" ∷ codes "community" ∷ names ++ (if exact then codes "exact-match" ∷ [] else [])
 
-abbrev pub change_line : Change → TextLine
+unfoldable pub change_line : Change → TextLine
 change_line Clear = inner (codes "set" ∷ codes "community" ∷ codes "none" ∷ [])
 change_line (Replace comms) = inner (codes "set" ∷ codes "community" ∷ map community_text comms)
 change_line (Append comms) = inner (codes "set" ∷ codes "community" ∷ map community_text comms ++ codes "additive" ∷ [])
 
-abbrev pub map_entry_lines : List ℕ → MapEntry → List TextLine
+unfoldable pub map_entry_lines : List ℕ → MapEntry → List TextLine
 map_entry_lines name e =
     line 0 (codes "route-map" ∷ name ∷ act_text e.permit ∷ decimal e.seq ∷ [])
     ∷ line_of (λ l. inner (codes "match" ∷ codes "ip" ∷ codes "address" ∷ codes "prefix-list" ∷ l.names)) e.prefixes
@@ -180,7 +180,7 @@ abbrev pub lines_of_some : {A : Type 0} → (A → List TextLine) → Option A �
 lines_of_some write None = []
 lines_of_some write (Some a) = write a
 
-abbrev pub member_line : List ℕ → TextLine
+unfoldable pub member_line : List ℕ → TextLine
 member_line member = line 0 (codes "!" ∷ codes "member" ∷ member ∷ [])
 
 -- a router, and the names of those that it stands for
