@@ -70,7 +70,7 @@ no_fault bs p none = grind (arith, nat_tests)
 pub few : (bs : List ℕ) (p : Piece) → kind_at bs p ≡ None → p.number ≤ 1000000
 few bs p none = grind (arith, nat_tests)
 
-line_lies : (bs : List ℕ) (p : Piece) → Lies bs p → kind_at bs p ≡ None → IsLineIn bs (line_of bs p)
+pub line_lies : (bs : List ℕ) (p : Piece) → Lies bs p → kind_at bs p ≡ None → IsLineIn bs (line_of bs p)
 line_lies bs p lies none =
     recursion_from_All (IsWordIn bs) (words_between bs p.from p.upto) (λ k d lt. word_in bs p.from p.upto (get_or (words_between bs p.from p.upto) k d) lies.front lies.inside (no_fault bs p none) (words_lie bs p.from p.upto lies.front k d lt))
 

@@ -8,7 +8,7 @@ use base_kit::{List, NoMemory};
 use cfg_ast::{Kind, Line, ReadRefusal};
 use std::alloc::Global;
 
-fn kind_at(bytes: &[u8], number: u32, from: usize, upto: usize) -> Option<Kind>
+pub(crate) fn kind_at(bytes: &[u8], number: u32, from: usize, upto: usize) -> Option<Kind>
     requires front { from ≤ upto }
     requires end { upto ≤ length bytes.now }
     ensures { result ≡ kind_at bytes.now (record { number = number; from = from; upto = upto }) }

@@ -8,11 +8,15 @@
 #![tactic(auto)]
 
 mod cutting;
+mod faults;
+mod following;
 mod places;
 mod words;
 
 pub use cfg_ast::{FormFault, Line, Span};
 pub use cutting::lines;
+pub use faults::sound;
+pub use following::{Place, line_from};
 
 #[cfg(test)]
 mod tests;

@@ -1,4 +1,4 @@
-use Rattle.std.proofs.Common.{◌≡◌, ◌+◌, ◌<◌, true, sym, ap, ◌∙◌, arith, None, Some, length}
+use Rattle.std.proofs.Common.{◌≡◌, ◌+◌, sym, ap, ◌∙◌, arith, Some}
 use Rattle.cfg_ast.specs.Lines.{begins_line, kind_at}
 use Rattle.cfg_ast.proofs.Pieces.{Cut, line_read, line_faulty, lines_done, begins_next}
 use Rattle.cfg_ast.proofs.Within.{lines_lie}

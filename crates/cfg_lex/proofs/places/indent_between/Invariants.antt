@@ -1,4 +1,4 @@
-use Rattle.std.proofs.Common.{◌≡◌, ◌-◌, ◌≤◌, length, not, slice_index}
+use Rattle.std.proofs.Common.{◌≡◌, ◌-◌, ◌≤◌, not}
 use Rattle.cfg_ast.specs.Lines.{first_at, blank_at}
 use Rattle.cfg_lex.proofs.places.indent_between.Given as goal
 

@@ -1,4 +1,4 @@
-use Rattle.std.proofs.Common.{◌≡◌, ◌-◌, ◌≤◌, length, not, slice_index}
+use Rattle.std.proofs.Common.{◌≡◌, ◌-◌, ◌≤◌, not, slice_index}
 use Rattle.cfg_ast.specs.Lines.{first_at, is_plain}
 use Rattle.cfg_lex.proofs.places.odd_from.Given as goal
 

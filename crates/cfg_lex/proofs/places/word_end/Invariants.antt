@@ -1,4 +1,4 @@
-use Rattle.std.proofs.Common.{◌≡◌, ◌-◌, ◌≤◌, length}
+use Rattle.std.proofs.Common.{◌≡◌, ◌-◌, ◌≤◌}
 use Rattle.cfg_ast.specs.Lines.{first_at, blank_at}
 use Rattle.cfg_lex.proofs.places.word_end.Given as goal
 

@@ -1,4 +1,4 @@
-use Rattle.std.proofs.Common.{◌≡◌, ◌-◌, ◌≤◌, ◌++◌, length}
+use Rattle.std.proofs.Common.{◌≡◌, ◌-◌, ◌≤◌, ◌++◌}
 use Rattle.cfg_ast.specs.Lines.{words_between}
 use Rattle.cfg_lex.proofs.words.words_between.Given as goal
 
