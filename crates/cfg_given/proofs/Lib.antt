@@ -1,0 +1,13 @@
+pub mod BgpSteps
+pub mod Communities
+pub mod DraftSteps
+pub mod Each
+pub mod Given
+pub mod Lists
+pub mod ListSteps
+pub mod PolicyItems
+pub mod RouterItems
+pub mod StanzaSteps
+pub mod TextWords
+pub mod Values
+pub mod WellFormed

@@ -1,0 +1,23 @@
+//! Laws of the networks that some text gives.
+//!
+//! A network that the reader gives is as the grammar of its lines has it. A caller that holds such a
+//! network calls the law that it needs, and knows what the law says of its network.
+#![tactic(auto)]
+
+ghost use Rattle.cfg_given.specs.Laws.{GivenCostsArePositive, GivenIsWellFormed, GivenRoutersAreWellFormed};
+
+/// A text gives only networks that are as the grammar has them: names are names, numbers lie in their
+/// ranges, what may stand once stands once, and entries ascend.
+pub fn given_is_well_formed()
+    ensures { GivenIsWellFormed }
+{}
+
+/// Each router of such a network is as the grammar has it.
+pub fn given_routers_are_well_formed()
+    ensures { GivenRoutersAreWellFormed }
+{}
+
+/// The cost of an interface of such a network is at least 1, be it given or that of its type.
+pub fn given_costs_are_positive()
+    ensures { GivenCostsArePositive }
+{}
