@@ -1,5 +1,6 @@
 pub mod BlockLemmas
 pub mod Counted
+pub mod Faultless
 pub mod FirstFound
 pub mod LeastFault
 pub mod LeastOfList

@@ -1,4 +1,5 @@
 pub mod Blocks
+pub mod Faultless
 pub mod LeastLine
-pub mod Processes
 pub mod Pairs
+pub mod Processes

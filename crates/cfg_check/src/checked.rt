@@ -1,7 +1,7 @@
-ghost use Rattle.std.specs.Prelude.{◌≡◌, []};
-ghost use Rattle.cfg_ast.specs.Meaning.{meaning_faults};
+ghost use Rattle.std.specs.Prelude.{◌≡◌, ◌≤◌, length};
 ghost use Rattle.cfg_ast.specs.RouterFaults.{protocol_of, area_of};
 ghost use Rattle.cfg_ast.specs.Reading.{IsGiven};
+ghost use Rattle.cfg_check.specs.Faultless.{IsFaultless};
 
 use crate::processes::{first_area, first_protocol};
 use base_kit::Protocol;
@@ -12,21 +12,24 @@ use cfg_ast::Network;
 pub struct Checked {
     network: Network,
     pub ghost given: { ∥ IsGiven network ∥₁ },
-    pub ghost faultless: { ∥ meaning_faults network ≡ [] ∥₁ },
+    pub ghost faultless: { IsFaultless network },
 }
 
 impl Checked {
     pub(crate) fn new(network: Network) -> Checked
         requires given { IsGiven network }
-        requires faultless { meaning_faults network ≡ [] }
+        requires faultless { IsFaultless network }
         ensures { result.network ≡ network }
     {
         Checked { network }
     }
 
-    /// The network.
+    /// The network. No fault of any kind stands in it, so it has few routers.
+    #[tactic(auto, using(crate::proofs::Faultless::few_routers))]
     pub fn network(&self) -> &Network
-        ensures { result.now ≡ self.now.network }
+        ensures same { result.now ≡ self.now.network }
+        ensures faultless { IsFaultless result.now }
+        ensures few_routers { length result.now.routers ≤ 4096 }
     {
         &self.network
     }

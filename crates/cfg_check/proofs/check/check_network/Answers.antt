@@ -1,10 +1,11 @@
 use Rattle.std.proofs.Common.{sym, ap, ◌∙◌}
 use Rattle.cfg_ast.specs.Meaning.{meaning_faults, refused_by, judged}
+use Rattle.cfg_check.proofs.Faultless.{faultless_of}
 use Rattle.cfg_check.proofs.LeastFault.{none_least}
 use Rattle.cfg_check.proofs.check.check_network.Goals as goal
 
 pub new-requires-clause-faultless : goal.new-requires-clause-faultless
-new-requires-clause-faultless c = none_least (meaning_faults c.args.network) (sym c.in_ok-fault.ensures ∙ c.in-None.is)
+new-requires-clause-faultless c = faultless_of c.args.network (none_least (meaning_faults c.args.network) (sym c.in_ok-fault.ensures ∙ c.in-None.is))
 
 pub returns-in-Some-clause-refused : goal.returns-in-Some-clause-refused
 unfolding judged
