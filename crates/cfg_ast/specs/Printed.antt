@@ -14,6 +14,7 @@ use Rattle.cfg_ast.specs.declared.network.Router.{Router}
 use Rattle.cfg_ast.specs.declared.network.Notes.{Notes}
 use Rattle.cfg_ast.specs.declared.network.Named.{Named}
 use Rattle.cfg_ast.specs.declared.interface.Interface.{Interface}
+use Rattle.cfg_ast.specs.declared.bgp.Base.{Base}
 use Rattle.cfg_ast.specs.declared.bgp.BgpProcess.{BgpProcess}
 use Rattle.cfg_ast.specs.declared.bgp.NetLine.{NetLine}
 use Rattle.cfg_ast.specs.declared.bgp.Neighbor.{Neighbor}
@@ -23,6 +24,8 @@ use Rattle.cfg_ast.specs.declared.policy.PrefixList.{PrefixList}
 use Rattle.cfg_ast.specs.declared.policy.PrefixEntry.{PrefixEntry}
 use Rattle.cfg_ast.specs.declared.policy.CommunityList.{CommunityList}
 use Rattle.cfg_ast.specs.declared.policy.CommunityLine.{CommunityLine}
+use Rattle.cfg_ast.specs.declared.policy.NameLine.{NameLine}
+use Rattle.cfg_ast.specs.declared.policy.Prepend.{Prepend}
 use Rattle.cfg_ast.specs.declared.policy.RouteMap.{RouteMap}
 use Rattle.cfg_ast.specs.declared.policy.MapEntry.{MapEntry}
 use Rattle.cfg_ast.specs.declared.policy.Change.{Change}
@@ -78,31 +81,44 @@ address_line a = inner (codes "ip" ∷ codes "address" ∷ address_text a.addr �
 unfoldable pub cost_line : ℕ → TextLine
 cost_line cost = inner (codes "ip" ∷ codes "ospf" ∷ codes "cost" ∷ decimal cost ∷ [])
 
+abbrev pub shutdown_line : TextLine
+shutdown_line = inner (codes "shutdown" ∷ [])
+
 unfoldable pub interface_lines : Interface → List TextLine
 interface_lines i =
     line 0 (codes "interface" ∷ i.name ∷ [])
-    ∷ line_of address_line i.address ++ line_of cost_line i.cost ++ line_if i.shut (inner (codes "shutdown" ∷ [])) ++ closing ∷ []
+    ∷ line_of address_line i.address ++ line_of cost_line i.cost ++ line_if i.shut shutdown_line ++ closing ∷ []
 
 -- ---- BGP
 
-unfoldable pub base_line : ℕ → TextLine
-base_line value = inner (codes "bgp" ∷ codes "default" ∷ codes "local-preference" ∷ decimal value ∷ [])
+unfoldable pub base_line : Base → TextLine
+base_line base = inner (codes "bgp" ∷ codes "default" ∷ codes "local-preference" ∷ decimal base.value ∷ [])
 
 unfoldable pub network_line : NetLine → TextLine
 network_line n = inner (codes "network" ∷ address_text n.prefix.addr ∷ codes "mask" ∷ address_text (mask_of n.prefix.len) ∷ [])
 
 -- a line of a neighbour begins with its address
-unfoldable pub neighbor_line : ℕ → List (List ℕ) → TextLine
+abbrev pub neighbor_line : ℕ → List (List ℕ) → TextLine
 neighbor_line addr words = inner (codes "neighbor" ∷ address_text addr ∷ words)
 
-abbrev pub applied_line : ℕ → List ℕ → List ℕ → Named → TextLine
+unfoldable pub remote_line : ℕ → ℕ → TextLine
+remote_line addr remote = neighbor_line addr (codes "remote-as" ∷ decimal remote ∷ [])
+
+unfoldable pub peer_shut_line : ℕ → TextLine
+peer_shut_line addr = neighbor_line addr (codes "shutdown" ∷ [])
+
+unfoldable pub peer_sends_line : ℕ → TextLine
+peer_sends_line addr = neighbor_line addr (codes "send-community" ∷ [])
+
+-- a prefix list or a route map that is applied to what comes in, or to what goes out
+unfoldable pub applied_line : ℕ → List ℕ → List ℕ → Named → TextLine
 applied_line addr what way named = neighbor_line addr (what ∷ named.name ∷ way ∷ [])
 
 unfoldable pub neighbor_lines : Neighbor → List TextLine
 neighbor_lines n =
-    neighbor_line n.addr (codes "remote-as" ∷ decimal n.remote ∷ [])
-    ∷ line_if n.shut (neighbor_line n.addr (codes "shutdown" ∷ []))
-    ++ line_if n.sends (neighbor_line n.addr (codes "send-community" ∷ []))
+    remote_line n.addr n.remote
+    ∷ line_if n.shut (peer_shut_line n.addr)
+    ++ line_if n.sends (peer_sends_line n.addr)
     ++ line_of (applied_line n.addr (codes "prefix-list") (codes "in")) n.list_in
     ++ line_of (applied_line n.addr (codes "prefix-list") (codes "out")) n.list_out
     ++ line_of (applied_line n.addr (codes "route-map") (codes "in")) n.map_in
@@ -111,9 +127,18 @@ neighbor_lines n =
 unfoldable pub bgp_lines : BgpProcess → List TextLine
 bgp_lines b =
     line 0 (codes "router" ∷ codes "bgp" ∷ decimal b.number ∷ [])
-    ∷ line_of (λ base. base_line base.value) b.base ++ map network_line b.networks ++ flat_map neighbor_lines b.neighbors ++ closing ∷ []
+    ∷ line_of base_line b.base ++ map network_line b.networks ++ flat_map neighbor_lines b.neighbors ++ closing ∷ []
 
 -- ---- OSPF
+
+abbrev pub passive_default_line : TextLine
+passive_default_line = inner (codes "passive-interface" ∷ codes "default" ∷ [])
+
+abbrev pub passive_line : List ℕ → TextLine
+passive_line name = inner (codes "passive-interface" ∷ name ∷ [])
+
+abbrev pub not_passive_line : List ℕ → TextLine
+not_passive_line name = inner (codes "no" ∷ codes "passive-interface" ∷ name ∷ [])
 
 unfoldable pub area_line : AreaLine → TextLine
 area_line a = inner (codes "network" ∷ address_text a.addr ∷ address_text a.wild ∷ codes "area" ∷ decimal a.area ∷ [])
@@ -121,10 +146,7 @@ area_line a = inner (codes "network" ∷ address_text a.addr ∷ address_text a.
 unfoldable pub ospf_lines : OspfProcess → List TextLine
 ospf_lines o =
     line 0 (codes "router" ∷ codes "ospf" ∷ decimal o.number ∷ [])
-    ∷ line_if o.passive_default (inner (codes "passive-interface" ∷ codes "default" ∷ []))
-    ++ map (λ name. inner (codes "passive-interface" ∷ name ∷ [])) o.passive
-    ++ map (λ name. inner (codes "no" ∷ codes "passive-interface" ∷ name ∷ [])) o.not_passive
-    ++ map area_line o.areas ++ closing ∷ []
+    ∷ line_if o.passive_default passive_default_line ++ map passive_line o.passive ++ map not_passive_line o.not_passive ++ map area_line o.areas ++ closing ∷ []
 
 -- ---- lists
 
@@ -152,23 +174,39 @@ community_list_lines lists = closed (flat_map (λ l. map (community_line l.name)
 
 -- ---- route maps
 
-abbrev pub match_community_words : Bool → List (List ℕ) → List (List ℕ)
-match_community_words exact names = codes "match" ∷ codes "community" ∷ names ++ (if exact then codes "exact-match" ∷ [] else [])
+unfoldable pub map_head_line : List ℕ → MapEntry → TextLine
+map_head_line name e = line 0 (codes "route-map" ∷ name ∷ act_text e.permit ∷ decimal e.seq ∷ [])
+
+unfoldable pub match_prefixes_line : NameLine → TextLine
+match_prefixes_line l = inner (codes "match" ∷ codes "ip" ∷ codes "address" ∷ codes "prefix-list" ∷ l.names)
+
+-- the mark stands behind the names
+unfoldable pub match_comms_line : Bool → NameLine → TextLine
+match_comms_line exact l = inner (codes "match" ∷ codes "community" ∷ l.names ++ (if exact then codes "exact-match" ∷ [] else []))
+
+unfoldable pub lp_line : ℕ → TextLine
+lp_line lp = inner (codes "set" ∷ codes "local-preference" ∷ decimal lp ∷ [])
 
 unfoldable pub change_line : Change → TextLine
 change_line Clear = inner (codes "set" ∷ codes "community" ∷ codes "none" ∷ [])
 change_line (Replace comms) = inner (codes "set" ∷ codes "community" ∷ map community_text comms)
 change_line (Append comms) = inner (codes "set" ∷ codes "community" ∷ map community_text comms ++ codes "additive" ∷ [])
 
+unfoldable pub delete_line : Named → TextLine
+delete_line list = inner (codes "set" ∷ codes "comm-list" ∷ list.name ∷ codes "delete" ∷ [])
+
+unfoldable pub prepend_line : Prepend → TextLine
+prepend_line p = inner (codes "set" ∷ codes "as-path" ∷ codes "prepend" ∷ map decimal p.numbers)
+
 unfoldable pub map_entry_lines : List ℕ → MapEntry → List TextLine
 map_entry_lines name e =
-    line 0 (codes "route-map" ∷ name ∷ act_text e.permit ∷ decimal e.seq ∷ [])
-    ∷ line_of (λ l. inner (codes "match" ∷ codes "ip" ∷ codes "address" ∷ codes "prefix-list" ∷ l.names)) e.prefixes
-    ++ line_of (λ l. inner (match_community_words e.exact l.names)) e.comms
-    ++ line_of (λ lp. inner (codes "set" ∷ codes "local-preference" ∷ decimal lp ∷ [])) e.lp
+    map_head_line name e
+    ∷ line_of match_prefixes_line e.prefixes
+    ++ line_of (match_comms_line e.exact) e.comms
+    ++ line_of lp_line e.lp
     ++ line_of change_line e.change
-    ++ line_of (λ d. inner (codes "set" ∷ codes "comm-list" ∷ d.name ∷ codes "delete" ∷ [])) e.delete
-    ++ line_of (λ p. inner (codes "set" ∷ codes "as-path" ∷ codes "prepend" ∷ map decimal p.numbers)) e.prepend
+    ++ line_of delete_line e.delete
+    ++ line_of prepend_line e.prepend
     ++ closing ∷ []
 
 abbrev pub route_map_lines : RouteMap → List TextLine
@@ -211,6 +249,9 @@ printed_lines network notes = routers_lines network.routers notes.members
 abbrev pub line_text : TextLine → List ℕ
 line_text l = replicate l.indent 32 ++ join_with_byte 32 l.words ++ 10 ∷ []
 
+abbrev pub lines_text : List TextLine → List ℕ
+lines_text ls = flat_map line_text ls
+
 -- the whole text
 unfoldable pub printed : Network → Notes → List ℕ
-printed network notes = flat_map line_text (printed_lines network notes)
+printed network notes = lines_text (printed_lines network notes)

@@ -16,6 +16,7 @@ mod top;
 
 pub use cfg_ast::{FormFault, RouterItem, Scope};
 pub use item::router_item;
+pub use names::is_router_name;
 
 #[cfg(test)]
 mod tests;

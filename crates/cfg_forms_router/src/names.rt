@@ -39,7 +39,7 @@ fn are_router_bytes(word: &[u8]) -> bool
 /// Whether the word may name a router: 1 to 63 letters, digits, `-`, `_` and `.`, of which the first
 /// is a letter or a digit.
 #[tactic(auto, unfolding(cfg_ast::specs::Words::is_router_name))]
-pub(crate) fn is_router_name(word: &[u8]) -> bool
+pub fn is_router_name(word: &[u8]) -> bool
     ensures { result ≡ is_router_name word.now }
 {
     is_name_long(word) && begins_with_letter_or_digit(word) && are_router_bytes(word)
