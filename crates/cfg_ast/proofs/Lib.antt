@@ -1,3 +1,4 @@
+pub mod AllLines
 pub mod ClassFacts
 pub mod Pieces
 pub mod Places

@@ -18,10 +18,11 @@ in_range a n = λ k d lt.
     let here : get_or (range_with_len a n) k d ≡ a + k = get_or-range_with_len a n k d (omega (arith, length-range_with_len a n)) in
     (omega arith, omega (arith, length-range_with_len a n))
 
-abbrev IsBetween : ℕ → ℕ → Span → Type 0
+-- the word stands between the two places
+abbrev pub IsBetween : ℕ → ℕ → Span → Type 0
 IsBetween from upto w = (from ≤ w.from) × (w.from ≤ w.upto) × (w.upto ≤ upto)
 
-words_lie : (bs : List ℕ) (from upto : ℕ) → from ≤ upto → All (IsBetween from upto) (words_between bs from upto)
+pub words_lie : (bs : List ℕ) (from upto : ℕ) → from ≤ upto → All (IsBetween from upto) (words_between bs from upto)
 unfolding words_between
 words_lie bs from upto le =
     let places = All-filter (begins_word bs from) (λ i. (from ≤ i) × (i < from + (upto - from))) (range_with_len from (upto - from)) (in_range from (upto - from)) in

@@ -1,8 +1,9 @@
 -- The names on the `! member` lines of a text, router by router. To one who reads the network such a
 -- line is a comment, and a text is read for its members whatever faults it has.
-use Rattle.std.specs.Prelude.{ℕ, Bool, ◌&&◌, List, [], ◌∷◌, ◌==◌, map, filter_map, if◌then◌else◌, Option, Some, None, codes, bytes_eq}
-use Rattle.std.specs.List.{slice_split}
+use Rattle.std.specs.Prelude.{ℕ, ◌≤◌, Bool, ◌&&◌, List, [], ◌∷◌, length, ◌==◌, map, filter_map, if◌then◌else◌, Option, Some, None, codes, bytes_eq}
+use Rattle.std.specs.List.{slice_split, AllByRecursion}
 use Rattle.cfg_ast.specs.declared.line.Line.{Line}
+use Rattle.cfg_ast.specs.declared.line.Span.{Span}
 use Rattle.cfg_ast.specs.Lines.{pieces_from, line_of}
 use Rattle.cfg_ast.specs.TextLines.{TextLine, text_line}
 use Rattle.cfg_ast.specs.Words.{is_router_name}
@@ -11,6 +12,14 @@ use Rattle.cfg_ast.specs.Reading.{is_end}
 -- all lines of a text, those that are skipped among them, however many and however long
 abbrev pub all_lines_of : List ℕ → List Line
 all_lines_of bs = map (line_of bs) (pieces_from bs 1 0)
+
+-- the word lies in the text
+abbrev pub IsSpanIn : List ℕ → Span → Type 0
+IsSpanIn bs w = (w.from ≤ w.upto) × (w.upto ≤ length bs)
+
+-- the words of the line lie in the text
+abbrev pub AreSpansIn : List ℕ → Line → Type 0
+AreSpansIn bs line = AllByRecursion (IsSpanIn bs) line.words
 
 -- the top line `end`
 abbrev pub is_end_line : TextLine → Bool

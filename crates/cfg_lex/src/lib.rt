@@ -7,12 +7,14 @@
 //! also says that every word lies in the text and is ASCII, which the readers of lines ask for.
 #![tactic(auto)]
 
+mod all_lines;
 mod cutting;
 mod faults;
 mod following;
 mod places;
 mod words;
 
+pub use all_lines::every_line;
 pub use cfg_ast::{FormFault, Line, Span};
 pub use cutting::lines;
 pub use faults::sound;
