@@ -1,0 +1,13 @@
+//! Laws of printing and reading: what is printed of a network is read back.
+//!
+//! The laws speak of the definitions alone, the printed text and the network of a text. A caller that
+//! has both by contract calls the law that it needs.
+#![tactic(auto)]
+
+ghost use Rattle.cfg_round_trip.specs.Laws.{NumbersAreAside};
+
+/// Lines that are the same but for their numbers give networks that are the same but for the numbers
+/// of their lines.
+pub fn numbers_are_aside()
+    ensures { NumbersAreAside }
+{}
