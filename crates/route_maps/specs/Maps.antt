@@ -1,43 +1,27 @@
 -- The verdicts of route maps on a set of communities (RFC 1997), and the import over a BGP session
 -- (RFC 4271 section 9.1; section 5.1.5 for the preference that is not sent).
-use Rattle.std.specs.Prelude.{ℕ, Bool, true, false, not, List, [], ◌∷◌, Option, Some, None, filter, if◌then◌else◌}
+use Rattle.std.specs.Prelude.{ℕ, Bool, true, List, [], ◌∷◌, Option, Some, None, if◌then◌else◌}
 use Rattle.std.specs.List.{list_any}
 use Rattle.std.specs.Option.{unwrap_or}
-use Rattle.base_kit.specs.Sets.{has, with_numbers}
 use Rattle.cfg_ast.specs.declared.policy.CommunityList.{CommunityList}
+use Rattle.cfg_ast.specs.Policy.{list_answer, without_deleted_by, after_change}
 use Rattle.route_maps.specs.declared.plain.PlainEntry.{PlainEntry}
 use Rattle.route_maps.specs.declared.plain.Plain.{Plain}
 use Rattle.route_maps.specs.declared.plain.Imported.{Imported}
-use Rattle.cfg_ast.specs.declared.policy.Change.{Change}
-use Rattle.cfg_ast.specs.declared.policy.Change.TheVariants.{Clear, Replace, Append}
 use Rattle.route_maps.specs.declared.plain.Verdict.{Verdict}
 use Rattle.route_maps.specs.declared.plain.Verdict.TheVariants.{Deny, Permit}
-use Rattle.cfg_ast.specs.Lists.{community_list_permits, community_list_permits_exactly}
-
-abbrev pub answer_of : Bool → List ℕ → CommunityList → Bool
-answer_of exact comms list = if exact then community_list_permits_exactly list comms else community_list_permits list comms
 
 -- a match line holds where one of its lists permits, and an entry without a match line holds
 abbrev pub lists_hold : Bool → List ℕ → Option (List CommunityList) → Bool
 lists_hold exact comms None = true
-lists_hold exact comms (Some lists) = list_any (answer_of exact comms) lists
+lists_hold exact comms (Some lists) = list_any (list_answer exact comms) lists
 
 abbrev pub entry_holds : List ℕ → PlainEntry → Bool
 entry_holds comms entry = lists_hold entry.exact comms entry.lists
 
--- the communities that the deletion list permits one by one are removed
-abbrev pub undeleted : Option CommunityList → List ℕ → List ℕ
-undeleted None comms = comms
-undeleted (Some list) comms = filter (λ c. not (community_list_permits list (c ∷ []))) comms
-
-abbrev pub changed : Option Change → List ℕ → List ℕ
-changed None comms = comms
-changed (Some Clear) comms = []
-changed (Some (Replace by)) comms = by
-changed (Some (Append more)) comms = with_numbers more comms
-
+-- first the deletion, and then the change
 abbrev pub comms_after : PlainEntry → List ℕ → List ℕ
-comms_after entry comms = changed entry.change (undeleted entry.delete comms)
+comms_after entry comms = after_change entry.change (without_deleted_by entry.delete comms)
 
 abbrev pub entry_verdict : PlainEntry → List ℕ → Verdict
 entry_verdict entry comms = if entry.permit then Permit entry.lp (comms_after entry comms) entry.adds else Deny

@@ -6,7 +6,7 @@ use crate::verdict::apply;
 use base_kit::{NoMemory, NumSet};
 use std::alloc::Global;
 
-fn received(
+fn accepted(
     alloc: Global,
     into: &Plain,
     comms: &NumSet,
@@ -44,9 +44,9 @@ pub fn import(
             ..
         } => {
             if sends {
-                received(alloc, into, &sent, adds)
+                accepted(alloc, into, &sent, adds)
             } else {
-                received(alloc, into, &NumSet::new(alloc), adds)
+                accepted(alloc, into, &NumSet::new(alloc), adds)
             }
         }
     }

@@ -1,8 +1,9 @@
 ghost use Rattle.std.specs.Prelude.{◌≡◌, ◌∷◌, [], IfOk, if◌then◌else◌, not, filter};
 ghost use Rattle.std.specs.List.{list_any};
-ghost use Rattle.cfg_ast.specs.Lists.{community_list_permits};
 ghost use Rattle.base_kit.specs.Sets.{with_numbers};
-ghost use Rattle.route_maps.specs.Maps.{answer_of, entry_holds, undeleted, changed, comms_after, entry_verdict, verdict};
+ghost use Rattle.cfg_ast.specs.Lists.{community_list_permits};
+ghost use Rattle.cfg_ast.specs.Policy.{list_answer, without_deleted_by, after_change};
+ghost use Rattle.route_maps.specs.Maps.{entry_holds, comms_after, entry_verdict, verdict};
 
 use crate::plain::{Plain, PlainEntry, Verdict};
 use base_kit::{List, NoMemory, NumSet};
@@ -11,7 +12,7 @@ use community_lists::{permits, permits_alone, permits_exact};
 use std::alloc::Global;
 
 fn answer(list: &CommunityList, exact: bool, comms: &NumSet) -> bool
-    ensures { result ≡ answer_of exact comms.now list.now }
+    ensures { result ≡ list_answer exact comms.now list.now }
 {
     if exact {
         permits_exact(list, comms)
@@ -21,7 +22,7 @@ fn answer(list: &CommunityList, exact: bool, comms: &NumSet) -> bool
 }
 
 fn any_permits(lists: &List<CommunityList>, exact: bool, comms: &NumSet) -> bool
-    ensures { result ≡ list_any (answer_of exact comms.now) lists.now }
+    ensures { result ≡ list_any (list_answer exact comms.now) lists.now }
 {
     lists
         .as_slice()
@@ -55,7 +56,7 @@ fn without_deleted(
     delete: &Option<CommunityList>,
     comms: &NumSet,
 ) -> Result<NumSet, NoMemory>
-    ensures { IfOk result (λ s. s ≡ undeleted delete.now comms.now) }
+    ensures { IfOk result (λ s. s ≡ without_deleted_by delete.now comms.now) }
 {
     match delete {
         Some(list) => not_permitted(alloc, list, comms),
@@ -74,7 +75,7 @@ fn with_all(more: &NumSet, comms: NumSet) -> Result<NumSet, NoMemory>
 }
 
 fn change_of(alloc: Global, change: &Option<Change>, comms: NumSet) -> Result<NumSet, NoMemory>
-    ensures { IfOk result (λ s. s ≡ changed change.now comms) }
+    ensures { IfOk result (λ s. s ≡ after_change change.now comms) }
 {
     match change {
         Some(Change::Clear) => Ok(NumSet::new(alloc)),

@@ -1,1 +1,2 @@
 pub mod OnePrefix
+pub mod Sessions

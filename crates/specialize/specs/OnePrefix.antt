@@ -1,7 +1,6 @@
 -- What a route map of a router means for one prefix.
-use Rattle.std.specs.Prelude.{◌≡◌, ℕ, Bool, true, false, not, ◌&&◌, List, [], ◌∷◌, Option, Some, None, map, filter, filter_map, nat_eq, nat_le, min, if◌then◌else◌}
+use Rattle.std.specs.Prelude.{◌≡◌, ℕ, Bool, true, false, not, ◌&&◌, List, [], ◌∷◌, Option, Some, None, map, filter, filter_map, nat_eq, min, if◌then◌else◌}
 use Rattle.std.specs.Option.{option_map, option_map_or}
-use Rattle.std.specs.List.{list_all}
 use Rattle.base_kit.specs.Prefixes.{Prefix}
 use Rattle.cfg_ast.specs.declared.network.Router.{Router}
 use Rattle.cfg_ast.specs.declared.policy.CommunityList.{CommunityList}
@@ -60,15 +59,8 @@ abbrev pub verdict_with : Option ℕ → Option Permitted → Verdict
 verdict_with own None = Deny
 verdict_with own (Some permitted) = Permit (preference_or permitted.lp own) permitted.comms permitted.adds
 
--- no entry puts more than 255 numbers before a path
-abbrev pub are_counts_small : List MapEntry → Bool
-are_counts_small entries = list_all (λ (entry : MapEntry). nat_le (prepend_count entry.prepend) 255) entries
-
-abbrev pub has_small_counts : Router → Bool
-has_small_counts router = list_all (λ (map : RouteMap). are_counts_small map.entries) router.route_maps
-
 -- For every set of communities the plain map's verdict is that of the router's prefix list followed by
 -- its map, where a permit without a preference gets the router's own.
 abbrev pub KeepsVerdict : Router → Option (List ℕ) → Option (List ℕ) → Prefix → Bool → Plain → Type 0
 KeepsVerdict router map list p inbound plain =
-    has_small_counts router ≡ true → (comms : List ℕ) → verdict plain.entries comms ≡ verdict_with (own_preference router inbound) (passed_by router p list map comms)
+    (comms : List ℕ) → verdict plain.entries comms ≡ verdict_with (own_preference router inbound) (passed_by router p list map comms)

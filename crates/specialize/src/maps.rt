@@ -1,6 +1,7 @@
 ghost use Rattle.std.specs.Prelude.{◌≡◌, ℕ, [], ◌∷◌, IfOk, option_copied, min, filter_map, if◌then◌else◌};
 ghost use Rattle.std.specs.List.{list_any};
 ghost use Rattle.cfg_ast.specs.Policy.{prefix_list_named, community_list_named, route_map_named, prefixes_permitted_by, prefixes_match, deletion_list, prepend_count, passes_list, default_preference};
+ghost use Rattle.cfg_ast.specs.WellFormed.{IsWellFormedRouter};
 ghost use Rattle.specialize.specs.OnePrefix.{own_preference, preference_or, lists_named, plain_entry, whole_entry, plain_entries, entries_for, plain_of, KeepsVerdict};
 
 use crate::copies::{change_copy, list_copy};
@@ -254,7 +255,8 @@ fn map_for(
 
 /// The map of a router for one prefix, after a prefix list, inbound or outbound. Without a map all
 /// passes as it is; a map or list that the router does not define denies, and a deletion list that it
-/// does not define deletes nothing.
+/// does not define deletes nothing. Inbound, a permit without a preference gets the router's default
+/// one, if it is not 100.
 pub fn policy(
     alloc: Global,
     router: &Router,
@@ -264,7 +266,7 @@ pub fn policy(
     inbound: bool,
 ) -> Result<Plain, NoMemory>
     ensures plain { IfOk result (λ plain. plain ≡ plain_of router.now (option_copied map.entry) (option_copied list.entry) p inbound) }
-    ensures verdict { IfOk result (KeepsVerdict router.now (option_copied map.entry) (option_copied list.entry) p inbound) }
+    ensures verdict { IsWellFormedRouter router.now → IfOk result (KeepsVerdict router.now (option_copied map.entry) (option_copied list.entry) p inbound) }
 {
     let plain = map_for(alloc, router, map, list, p, inbound)?;
     Ok(plain)

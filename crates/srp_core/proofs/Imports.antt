@@ -6,11 +6,12 @@ use Rattle.cfg_ast.specs.declared.policy.Change.{Change}
 use Rattle.cfg_ast.specs.declared.policy.Change.TheVariants.{Clear, Replace, Append}
 use Rattle.cfg_ast.specs.declared.policy.CommunityList.{CommunityList}
 use Rattle.cfg_ast.specs.Lists.{community_list_permits}
+use Rattle.cfg_ast.specs.Policy.{without_deleted_by, after_change}
 use Rattle.route_maps.specs.declared.plain.PlainEntry.{PlainEntry}
 use Rattle.route_maps.specs.declared.plain.Imported.{Imported}
 use Rattle.route_maps.specs.declared.plain.Verdict.{Verdict}
 use Rattle.route_maps.specs.declared.plain.Verdict.TheVariants.{Deny, Permit}
-use Rattle.route_maps.specs.Maps.{entry_holds, undeleted, changed, comms_after, entry_verdict, verdict, accepted, received}
+use Rattle.route_maps.specs.Maps.{entry_holds, comms_after, entry_verdict, verdict, accepted, received}
 use Rattle.srp_core.specs.declared.route.Act.{Act}
 use Rattle.srp_core.specs.declared.route.Act.TheVariants.{Import, Cost}
 use Rattle.srp_core.specs.Acts.{import_by, ChangesToSet, MapsToSets, KeepsSets}
@@ -20,11 +21,11 @@ abbrev GivesSet : Verdict → Type 0
 GivesSet Deny = Unit {0}
 GivesSet (Permit lp comms adds) = IsAscending comms
 
-undeleted_set : (delete : Option CommunityList) (comms : List ℕ) → IsAscending comms → IsAscending (undeleted delete comms)
+undeleted_set : (delete : Option CommunityList) (comms : List ℕ) → IsAscending comms → IsAscending (without_deleted_by delete comms)
 undeleted_set None comms up = up
 undeleted_set (Some list) comms up = ascending_filter (λ c. not (community_list_permits list (c ∷ []))) comms up
 
-changed_set : (change : Option Change) (comms : List ℕ) → ChangesToSet change → IsAscending comms → IsAscending (changed change comms)
+changed_set : (change : Option Change) (comms : List ℕ) → ChangesToSet change → IsAscending comms → IsAscending (after_change change comms)
 changed_set None comms to up = up
 changed_set (Some Clear) comms to up = tt
 changed_set (Some (Replace by)) comms to up = to
@@ -35,7 +36,7 @@ permitted_set true lp comms adds up = up
 permitted_set false lp comms adds up = tt
 
 entry_set : (entry : PlainEntry) (comms : List ℕ) → ChangesToSet entry.change → IsAscending comms → GivesSet (entry_verdict entry comms)
-entry_set entry comms to up = permitted_set entry.permit entry.lp (comms_after entry comms) entry.adds (changed_set entry.change (undeleted entry.delete comms) to (undeleted_set entry.delete comms up))
+entry_set entry comms to up = permitted_set entry.permit entry.lp (comms_after entry comms) entry.adds (changed_set entry.change (without_deleted_by entry.delete comms) to (undeleted_set entry.delete comms up))
 
 verdict_set : (entries : List PlainEntry) (comms : List ℕ) → MapsToSets entries → IsAscending comms → GivesSet (verdict entries comms)
 verdict_set [] comms to up = tt

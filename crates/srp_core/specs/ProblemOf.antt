@@ -13,12 +13,13 @@ use Rattle.cfg_ast.specs.declared.network.Network.{Network}
 use Rattle.cfg_ast.specs.declared.network.Router.{Router}
 use Rattle.cfg_ast.specs.declared.topology.Link.{Link}
 use Rattle.cfg_ast.specs.Classes.{initial_route}
-use Rattle.cfg_ast.specs.Policy.{Received, default_preference, import_of_session}
+use Rattle.cfg_ast.specs.Policy.{default_preference}
 use Rattle.cfg_ast.specs.RouterFaults.{protocol_of}
 use Rattle.cfg_ast.specs.Topology.{links_of, neighbors_of, cost_of}
 use Rattle.route_maps.specs.declared.plain.Imported.{Imported}
 use Rattle.route_maps.specs.declared.plain.Plain.{Plain}
 use Rattle.route_maps.specs.Maps.{import_of}
+use Rattle.route_maps.specs.Sessions.{session_import}
 use Rattle.srp_core.specs.declared.route.Route.{Route}
 use Rattle.srp_core.specs.declared.route.Route.TheVariants.{Bgp, Ospf}
 use Rattle.srp_core.specs.declared.route.Act.{Act}
@@ -55,13 +56,6 @@ high_imports d = record { low = d.exporter; high = d.importer; low_item = d.expo
 -- one of the two directions of a link of the network
 abbrev pub IsDirection : Network → Direction → Type 0
 IsDirection network d = (slice_get (links_of network) d.link ≡ Some (low_imports d)) ⊎ (slice_get (links_of network) d.link ≡ Some (high_imports d))
-
-abbrev pub imported_as : Received → Imported
-imported_as received = record { lp = received.lp; comms = received.comms; adds = received.adds }
-
--- what the importer takes over a session, as plain maps would give it
-abbrev pub session_import : Prefix → Router → Neighbor → Router → Neighbor → List ℕ → Option Imported
-session_import prefix exporter out importer into comms = option_map imported_as (import_of_session prefix exporter out importer into comms)
 
 -- the routers and the neighbour lines at both ends of a session
 pub record SessionEnds (network : Network) (d : Direction) : Type 0 where

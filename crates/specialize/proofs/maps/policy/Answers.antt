@@ -5,6 +5,6 @@ use Rattle.specialize.proofs.Verdicts.{verdict_kept}
 use Rattle.specialize.proofs.maps.policy.Goals as goal
 
 pub returns-clause-verdict : goal.returns-clause-verdict
-returns-clause-verdict c =
+returns-clause-verdict c well =
     subst (KeepsVerdict c.args.router.now (option_copied c.args.map) (option_copied c.args.list) c.args.p c.args.inbound) (sym c.in_ok-plain.ensures)
-    (verdict_kept c.args.router.now (option_copied c.args.map) (option_copied c.args.list) c.args.p c.args.inbound)
+    (verdict_kept c.args.router.now (option_copied c.args.map) (option_copied c.args.list) c.args.p c.args.inbound well)
