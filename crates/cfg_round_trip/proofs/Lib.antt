@@ -1,7 +1,9 @@
 pub mod Bare
 pub mod BareForms
 pub mod BareLists
-pub mod BareSteps
 pub mod BareStanzas
+pub mod BareSteps
+pub mod LineBytes
 pub mod Numbers
 pub mod PrintedLines
+pub mod TextLines
