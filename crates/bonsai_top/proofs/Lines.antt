@@ -12,7 +12,8 @@ pub tells_line : (status result : Status) (line : List ℕ) (out err_old err_new
 tells_line status result line out err_old err_new count before now is all part cause = record {
   status = is;
   out_part = part_nothing out [];
-  out_all = λ done. took_nothing out;
+  out_all = λ told. took_nothing out;
+  out_none = λ other. took_nothing out;
   err_all = all;
   err_part = λ fault. inl part;
   cause = λ fault. inl (cause fault);

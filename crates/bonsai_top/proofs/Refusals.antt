@@ -1,5 +1,5 @@
 -- A text that is refused.
-use Rattle.std.proofs.Common.{◌≡◌, ℕ, List, sym, ap, subst, Option, Result, Err}
+use Rattle.std.proofs.Common.{◌≡◌, ℕ, List, sym, subst, Option, Result, Err}
 use Rattle.cfg_ast.specs.declared.refusal.ReadRefusal.{ReadRefusal}
 use Rattle.cfg_ast.specs.declared.refusal.ReadRefusal.TheVariants as read_refusal
 use Rattle.cfg_ast.specs.declared.network.Network.{Network}
@@ -7,14 +7,14 @@ use Rattle.cfg_ast.specs.Answers.{RefusesAs}
 use Rattle.cfg_ast.specs.Reading.{reading_of}
 use Rattle.bonsai_top.specs.declared.command.Command.{Command}
 use Rattle.bonsai_top.specs.declared.reply.Reply.{Reply}
-use Rattle.bonsai_top.specs.Outcomes.{over_reading}
+use Rattle.bonsai_top.specs.Outcomes.{IsOutcomeOfReading}
 use Rattle.bonsai_top.specs.Replies.{Answers, Refuses}
 use Rattle.bonsai_top.proofs.Texts.{answers_as}
 
 -- where one step of the reading refuses, the reading does
 pub answers_refused : (reply : Reply) (command : Command) (second : Option (List ℕ)) (text : List ℕ) (e : ReadRefusal) (step : Result Network ReadRefusal) (rose : Type 0)
-    → (step ≡ Err e → reading_of text ≡ Err e) → RefusesAs e step → Refuses reply e → Answers reply (over_reading command second (reading_of text)) ⊥ rose
+    → (step ≡ Err e → reading_of text ≡ Err e) → RefusesAs e step → Refuses reply e → Answers reply (IsOutcomeOfReading command second (reading_of text)) ⊥ rose
 answers_refused reply command second text (read_refusal.At line kind) step rose reads refused answers =
-    answers_as reply _ _ ⊥ ⊥ ⊥ rose (sym (ap (over_reading command second) (reads refused))) (λ e. e) (λ e. absurd e) answers
+    answers_as reply _ _ ⊥ ⊥ ⊥ rose (λ o is. subst (λ (r : Result Network ReadRefusal). IsOutcomeOfReading command second r o) (sym (reads refused)) is) (λ e. e) (λ e. absurd e) answers
 answers_refused reply command second text read_refusal.Memory step rose reads refused answers =
-    subst (λ (r : Reply). Answers r (over_reading command second (reading_of text)) ⊥ rose) (sym answers) tt
+    subst (λ (r : Reply). Answers r (IsOutcomeOfReading command second (reading_of text)) ⊥ rose) (sym answers) tt

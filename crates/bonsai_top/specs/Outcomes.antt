@@ -1,5 +1,5 @@
--- The outcome of the words over the contents of the files.
-use Rattle.std.specs.Prelude.{ℕ, List, length, codes, Option, Some, None, Result, Ok, Err, if◌then◌else◌, nat_lt}
+-- The outcomes that the words allow over the contents of the files.
+use Rattle.std.specs.Prelude.{◌≡◌, ◌≤◌, ◌<◌, ◌⊎◌, ℕ, List, length, codes, Option, Some, None, IfSome, Result, Ok, Err}
 use Rattle.cfg_ast.specs.declared.network.Network.{Network}
 use Rattle.cfg_ast.specs.declared.refusal.ReadRefusal.{ReadRefusal}
 use Rattle.cfg_ast.specs.declared.refusal.ReadRefusal.TheVariants as read_refusal
@@ -13,32 +13,32 @@ use Rattle.bonsai_top.specs.Kinds.{line_reason}
 use Rattle.bonsai_top.specs.ClassLines.{classes_text}
 
 -- what a command is to write of a network, with the second file where it is told
-abbrev pub answer_of : Command → Network → Option (List ℕ) → Option Outcome
-answer_of command.Classes network second = Some (done (classes_text network))
+abbrev pub IsAnswerTo : Command → Network → Option (List ℕ) → Outcome → Type 0
+IsAnswerTo command.Classes network second o = o ≡ done (classes_text network)
 
 -- the answer of a network, or the line and kind that refuse the text
-abbrev pub over_reading : Command → Option (List ℕ) → Result Network ReadRefusal → Option Outcome
-over_reading command second (Ok network) = answer_of command network second
-over_reading command second (Err (read_refusal.At line kind)) = Some (refused (line_reason line kind))
-over_reading command second (Err read_refusal.Memory) = None
+abbrev pub IsOutcomeOfReading : Command → Option (List ℕ) → Result Network ReadRefusal → Outcome → Type 0
+IsOutcomeOfReading command second (Ok network) o = IsAnswerTo command network second o
+IsOutcomeOfReading command second (Err (read_refusal.At line kind)) o = o ≡ refused (line_reason line kind)
+IsOutcomeOfReading command second (Err read_refusal.Memory) o = ⊥
 
 -- a text has at most this many bytes
 abbrev pub text_limit : ℕ
 text_limit = 16777216
 
 -- a command over the text of its first file
-unfoldable pub over_text : Command → Option (List ℕ) → List ℕ → Option Outcome
-over_text command second text = if nat_lt text_limit (length text) then Some (refused (codes "FileTooLong")) else over_reading command second (reading_of text)
+abbrev pub IsOutcomeOfText : Command → Option (List ℕ) → List ℕ → Outcome → Type 0
+IsOutcomeOfText command second text o =
+    ((text_limit < length text) × (o ≡ refused (codes "FileTooLong"))) ⊎ ((length text ≤ text_limit) × IsOutcomeOfReading command second (reading_of text) o)
 
--- a command over its files, as far as they are told
-abbrev pub outcome_of : Command → Option (List ℕ) → Option (List ℕ) → Option Outcome
-outcome_of command None second = None
-outcome_of command (Some text) second = over_text command second text
+-- a command over its files; one that decides and is not told allows any outcome
+abbrev pub IsOutcomeOf : Command → Option (List ℕ) → Option (List ℕ) → Outcome → Type 0
+IsOutcomeOf command first second o = IfSome first (λ text. IsOutcomeOfText command second text o)
 
-abbrev pub outcome_at : Option Command → Option (List ℕ) → Option (List ℕ) → Option Outcome
-outcome_at None first second = Some usage
-outcome_at (Some command) first second = outcome_of command first second
+abbrev pub IsOutcomeAt : Option Command → Option (List ℕ) → Option (List ℕ) → Outcome → Type 0
+IsOutcomeAt None first second o = o ≡ usage
+IsOutcomeAt (Some command) first second o = IsOutcomeOf command first second o
 
--- The outcome of the words over the files: none where a file that decides it is not told.
-unfoldable pub outcome : List (List ℕ) → (List ℕ → Option (List ℕ)) → Option Outcome
-outcome words contents = outcome_at (command_of words) (contents (file_of words)) (contents (second_of words))
+-- What the words allow over the contents of the files, as far as these are told.
+unfoldable pub IsOutcome : List (List ℕ) → (List ℕ → Option (List ℕ)) → Outcome → Type 0
+IsOutcome words contents o = IsOutcomeAt (command_of words) (contents (file_of words)) (contents (second_of words)) o

@@ -1,5 +1,5 @@
 -- What a command has come to, and what is to be told of it.
-use Rattle.std.specs.Prelude.{◌≡◌, ℕ, List, Option, Some, IfSome}
+use Rattle.std.specs.Prelude.{◌≡◌, ℕ, List}
 use Rattle.cfg_ast.specs.declared.refusal.ReadRefusal.{ReadRefusal}
 use Rattle.cfg_ast.specs.declared.refusal.ReadRefusal.TheVariants as read_refusal
 use Rattle.bonsai_top.specs.declared.reply.Reply.{Reply}
@@ -17,17 +17,21 @@ told_by ReadFailed first second = read_fault first
 told_by SecondFailed first second = read_fault second
 told_by NoMemory first second = out_of_memory
 
--- A reply to a command has its cause: it is the outcome of the command, or a fault of one of the files, or want of memory.
-abbrev pub Answers : Reply → Option Outcome → Type 0 → Type 0 → Type 0
-Answers (Output bytes) o first_rose second_rose = IfSome o (λ p. p ≡ done bytes.items)
-Answers (Refusal reason) o first_rose second_rose = IfSome o (λ p. p ≡ refused reason.items)
-Answers (NotStable reason) o first_rose second_rose = IfSome o (λ p. p ≡ not_stable reason.items)
-Answers Misuse o first_rose second_rose = ⊥
-Answers ReadFailed o first_rose second_rose = first_rose
-Answers SecondFailed o first_rose second_rose = second_rose
-Answers NoMemory o first_rose second_rose = Unit {0}
+-- only that outcome
+abbrev pub Only : Outcome → Outcome → Type 0
+Only allowed o = o ≡ allowed
+
+-- A reply to a command has its cause: it is an outcome that is allowed, or a fault of one of the files, or want of memory.
+abbrev pub Answers : Reply → (Outcome → Type 0) → Type 0 → Type 0 → Type 0
+Answers (Output bytes) IsAllowed first_rose second_rose = IsAllowed (done bytes.items)
+Answers (Refusal reason) IsAllowed first_rose second_rose = IsAllowed (refused reason.items)
+Answers (NotStable reason) IsAllowed first_rose second_rose = IsAllowed (not_stable reason.items)
+Answers Misuse IsAllowed first_rose second_rose = ⊥
+Answers ReadFailed IsAllowed first_rose second_rose = first_rose
+Answers SecondFailed IsAllowed first_rose second_rose = second_rose
+Answers NoMemory IsAllowed first_rose second_rose = Unit {0}
 
 -- A refusal of the text is answered by its line and kind, and want of memory as such.
 abbrev pub Refuses : Reply → ReadRefusal → Type 0
-Refuses reply (read_refusal.At line kind) = Answers reply (Some (refused (line_reason line kind))) ⊥ ⊥
+Refuses reply (read_refusal.At line kind) = Answers reply (Only (refused (line_reason line kind))) ⊥ ⊥
 Refuses reply read_refusal.Memory = reply ≡ NoMemory

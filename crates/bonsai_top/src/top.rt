@@ -1,8 +1,8 @@
-ghost use Rattle.std.specs.Prelude.{◌≡◌, ◌⊎◌, None, IfSome, IsSome};
+ghost use Rattle.std.specs.Prelude.{◌≡◌, ◌⊎◌, None, IsSome};
 ghost use Rattle.io_kit.specs.Ends.{Rose};
 ghost use Rattle.bonsai_top.specs.Words.{texts, file_of, second_of};
 ghost use Rattle.bonsai_top.specs.Commands.{command_of, FirstRose, SecondRose};
-ghost use Rattle.bonsai_top.specs.Outcomes.{outcome};
+ghost use Rattle.bonsai_top.specs.Outcomes.{IsOutcome};
 ghost use Rattle.bonsai_top.specs.Meets.{RunMeets};
 
 use crate::Status;
@@ -22,12 +22,12 @@ pub fn run<S: Source, O: Sink, E: Sink>(
     out: &mut O,
     err: &mut E,
 ) -> Status
-    // Where the files are told, the words and the contents determine the outcome.
-    ensures meets { IfSome (outcome (texts words.now) (S.contents files.old)) (λ o. RunMeets o (file_of (texts words.now)) (second_of (texts words.now)) result
+    // An outcome that the words allow over the contents is told, as far as these are told, or a fault
+    // that has its cause, or want of memory.
+    ensures meets { RunMeets (IsOutcome (texts words.now) (S.contents files.old)) (file_of (texts words.now)) (second_of (texts words.now))
         (FirstRose (command_of (texts words.now)) (S.faults files.old (file_of (texts words.now))) (S.faults files.new (file_of (texts words.now))))
-        (SecondRose (command_of (texts words.now)) (S.faults files.old (second_of (texts words.now))) (S.faults files.new (second_of (texts words.now))))
-        (O.taken out.old) (O.taken out.new) (Rose (O.faults out.old) (O.faults out.new))
-        (E.taken err.old) (E.taken err.new) (Rose (E.faults err.old) (E.faults err.new))) }
+        (SecondRose (command_of (texts words.now)) (S.faults files.old (second_of (texts words.now))) (S.faults files.new (second_of (texts words.now)))) result
+        (O.taken out.old) (O.taken out.new) (O.faults out.old) (O.faults out.new) (E.taken err.old) (E.taken err.new) (E.faults err.old) (E.faults err.new) }
 
     // Words that name no command, and these alone, are misuse, and then no file is touched.
     ensures usage { command_of (texts words.now) ≡ None → (result ≡ Status.Usage) ⊎ (result ≡ Status.WriteFault) }

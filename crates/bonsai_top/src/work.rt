@@ -2,8 +2,8 @@ ghost use Rattle.std.specs.Prelude.{◌≡◌, ◌≤◌, ◌<◌, ◌^◌, leng
 ghost use Rattle.cfg_ast.specs.Reading.{reading_of};
 ghost use Rattle.bonsai_top.specs.Commands.{FirstRose, SecondRose};
 ghost use Rattle.bonsai_top.specs.Outcome.{refused};
-ghost use Rattle.bonsai_top.specs.Outcomes.{answer_of, over_reading, outcome_of, text_limit};
-ghost use Rattle.bonsai_top.specs.Replies.{Answers, Refuses};
+ghost use Rattle.bonsai_top.specs.Outcomes.{IsAnswerTo, IsOutcomeOfReading, IsOutcomeOf, text_limit};
+ghost use Rattle.bonsai_top.specs.Replies.{Answers, Only, Refuses};
 
 mod classes;
 
@@ -21,7 +21,7 @@ const TEXT_LIMIT: usize = 16_777_216;
 
 /// A refusal for this reason.
 pub fn refusal(alloc: Global, reason: &str) -> Reply
-    ensures { Answers result (Some (refused reason.now)) ⊥ ⊥ }
+    ensures { Answers result (Only (refused reason.now)) ⊥ ⊥ }
 {
     match Vec::from_slice(alloc, reason.as_bytes()) {
         Ok(bytes) => Reply::Refusal(bytes),
@@ -51,7 +51,7 @@ fn answer<S: Source>(
     files: &mut S,
 ) -> Reply
     requires { length checked.now.network.routers < 2 ^ 32 }
-    ensures { Answers result (answer_of command checked.now.network (S.contents files.old second.now)) ⊥
+    ensures { Answers result (IsAnswerTo command checked.now.network (S.contents files.old second.now)) ⊥
         (SecondRose (Some command) (S.faults files.old second.now) (S.faults files.new second.now)) }
 {
     match command {
@@ -68,7 +68,7 @@ fn over_text<S: Source>(
     files: &mut S,
 ) -> Reply
     requires { length text.now ≤ text_limit }
-    ensures { Answers result (over_reading command (S.contents files.old second.now) (reading_of text.now)) ⊥
+    ensures { Answers result (IsOutcomeOfReading command (S.contents files.old second.now) (reading_of text.now)) ⊥
         (SecondRose (Some command) (S.faults files.old second.now) (S.faults files.new second.now)) }
 {
     let network = match read_network(alloc, text) {
@@ -89,7 +89,7 @@ pub fn work<S: Source>(
     second: &str,
     files: &mut S,
 ) -> Reply
-    ensures { Answers result (outcome_of command (S.contents files.old first.now) (S.contents files.old second.now))
+    ensures { Answers result (IsOutcomeOf command (S.contents files.old first.now) (S.contents files.old second.now))
         (FirstRose (Some command) (S.faults files.old first.now) (S.faults files.new first.now))
         (SecondRose (Some command) (S.faults files.old second.now) (S.faults files.new second.now)) }
 {

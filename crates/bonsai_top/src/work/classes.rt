@@ -1,8 +1,8 @@
-ghost use Rattle.std.specs.Prelude.{◌≡◌, ◌<◌, ◌^◌, ◌++◌, length, Some, IfOk, OnOk, flat_map, string_bytes};
+ghost use Rattle.std.specs.Prelude.{◌≡◌, ◌<◌, ◌^◌, ◌++◌, length, IfOk, OnOk, flat_map, string_bytes};
 ghost use Rattle.std.specs.List.{enumerate_from};
 ghost use Rattle.bonsai_top.specs.ClassLines.{name_at, pair_text, address_text, prefix_word, origin_word, class_line, class_lines, classes_text};
 ghost use Rattle.bonsai_top.specs.Outcome.{done};
-ghost use Rattle.bonsai_top.specs.Replies.{Answers};
+ghost use Rattle.bonsai_top.specs.Replies.{Answers, Only};
 
 use crate::reply::Reply;
 use base_kit::Prefix;
@@ -106,7 +106,7 @@ fn class_lines(
 /// The line of each class.
 pub fn answer(alloc: Global, checked: &Checked) -> Reply
     requires { length checked.now.network.routers < 2 ^ 32 }
-    ensures { Answers result (Some (done (classes_text checked.now.network))) ⊥ ⊥ }
+    ensures { Answers result (Only (done (classes_text checked.now.network))) ⊥ ⊥ }
 {
     let network = checked.network();
     let Ok(classes) = classes_of(alloc, network) else {

@@ -1,34 +1,35 @@
-use Rattle.std.proofs.Common.{sym, subst, Option, IfSome}
-use Rattle.bonsai_top.specs.Outcome.{Outcome}
+use Rattle.std.proofs.Common.{sym, inl}
 use Rattle.bonsai_top.specs.Commands.{FirstRose, SecondRose, command_of}
+use Rattle.bonsai_top.specs.Outcome.{usage}
+use Rattle.bonsai_top.specs.Outcomes.{IsOutcome}
 use Rattle.bonsai_top.specs.Words.{file_of, second_of, texts}
 use Rattle.bonsai_top.proofs.Named.{outcome_misuse, answers_words}
-use Rattle.bonsai_top.proofs.Runs.{run_meets, usage_meets, Meets}
+use Rattle.bonsai_top.proofs.Runs.{run_meets, meets}
 use Rattle.bonsai_top.proofs.top.run.Goals as goal
 
 pub returns-in-Some-clause-meets : goal.returns-in-Some-clause-meets
 returns-in-Some-clause-meets g c =
     let words = texts c.args.words.now in
+    let contents = g.S.Source.contents c.args.files.now in
     let old = g.S.Source.faults c.args.files.now in
     let new = g.S.Source.faults c.work-reply.new.files in
     let first = c.file_word-first.result.now in
     let second = c.second_word-second.result.now in
     rw (← c.file_word-first.ensures, ← c.second_word-second.ensures)
-    (run_meets first second c.tell-in-Some.result (FirstRose (command_of words) (old first) (new first)) (SecondRose (command_of words) (old second) (new second))
+    (run_meets (IsOutcome words contents) first second (FirstRose (command_of words) (old first) (new first)) (SecondRose (command_of words) (old second) (new second)) c.tell-in-Some.result
     _ _ (g.O.Sink.faults c.args.out.now) (g.O.Sink.faults c.tell-in-Some.new.out) _ _ (g.E.Sink.faults c.args.err.now) (g.E.Sink.faults c.tell-in-Some.new.err)
-    c.work-reply.result _
-    (answers_words c.work-reply.result words (g.S.Source.contents c.args.files.now) c.in-Some.command first second (old first) (new first) (old second) (new second)
+    c.work-reply.result
+    (answers_words c.work-reply.result words contents c.in-Some.command first second (old first) (new first) (old second) (new second)
     (sym c.in-Some.ensures) c.file_word-first.ensures c.second_word-second.ensures c.work-reply.ensures)
     c.tell-in-Some.ensures)
 
 pub returns-in-None-clause-meets : goal.returns-in-None-clause-meets
 returns-in-None-clause-meets g c =
     let words = texts c.args.words.now in
+    let contents = g.S.Source.contents c.args.files.now in
     let files = g.S.Source.faults c.args.files.now in
     let first = file_of words in
     let second = second_of words in
-    subst (λ (o : Option Outcome). IfSome o (Meets first second c.tell.result (FirstRose (command_of words) (files first) (files first)) (SecondRose (command_of words) (files second) (files second))
-    (g.O.Sink.taken c.args.out.now) (g.O.Sink.taken c.tell.new.out) (g.O.Sink.faults c.args.out.now) (g.O.Sink.faults c.tell.new.out)
-    (g.E.Sink.taken c.args.err.now) (g.E.Sink.taken c.tell.new.err) (g.E.Sink.faults c.args.err.now) (g.E.Sink.faults c.tell.new.err)))
-    (sym (outcome_misuse words (g.S.Source.contents c.args.files.now) (sym c.in-None.ensures)))
-    (usage_meets first second c.tell.result _ _ _ _ (g.O.Sink.faults c.args.out.now) (g.O.Sink.faults c.tell.new.out) _ _ (g.E.Sink.faults c.args.err.now) (g.E.Sink.faults c.tell.new.err) c.tell.ensures)
+    meets (IsOutcome words contents) first second (FirstRose (command_of words) (files first) (files first)) (SecondRose (command_of words) (files second) (files second)) c.tell.result
+    _ _ (g.O.Sink.faults c.args.out.now) (g.O.Sink.faults c.tell.new.out) _ _ (g.E.Sink.faults c.args.err.now) (g.E.Sink.faults c.tell.new.err)
+    usage (inl (outcome_misuse words contents (sym c.in-None.ensures))) c.tell.ensures

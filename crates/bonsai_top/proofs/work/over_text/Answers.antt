@@ -3,7 +3,7 @@ use Rattle.cfg_ast.specs.declared.network.Network.{Network}
 use Rattle.cfg_ast.specs.declared.refusal.ReadRefusal.{ReadRefusal}
 use Rattle.cfg_ast.specs.Meaning.{judged}
 use Rattle.cfg_ast.specs.Reading.{network_of_text}
-use Rattle.bonsai_top.specs.Outcomes.{over_reading}
+use Rattle.bonsai_top.specs.Outcomes.{IsOutcomeOfReading}
 use Rattle.bonsai_top.proofs.Limits.{few_routers}
 use Rattle.bonsai_top.proofs.Readings.{reading_judged, reading_refused}
 use Rattle.bonsai_top.proofs.Refusals.{answers_refused}
@@ -26,7 +26,7 @@ returns-in-Ok-check_network g c =
     let second = g.S.Source.contents c.args.files.now c.args.second.now in
     let checked = c.in-Ok-check_network.ensures in
     let read = reading_judged text c.in-Ok.network _ c.in-Ok.ensures (checked.accepted ∙ ap accepted_as (sym checked.ok)) in
-    answers_as c.answer.result _ _ ⊥ ⊥ _ _ (sym (ap (over_reading c.args.command second) read)) (λ e. e) (λ e. e) c.answer.ensures
+    answers_as c.answer.result _ _ ⊥ ⊥ _ _ (λ o is. subst (λ (r : Result Network ReadRefusal). IsOutcomeOfReading c.args.command second r o) (sym read) is) (λ e. e) (λ e. e) c.answer.ensures
 
 -- the network has a fault
 pub returns-in-Err-check_network : goal.returns-in-Err-check_network
