@@ -1,4 +1,3 @@
-mod Limits
 mod Lines
 mod Named
 mod Readings

@@ -2,7 +2,7 @@
 use Rattle.std.proofs.Common.{◌≡◌, ℕ, List, refl, sym, subst, Option, Some, None}
 use Rattle.bonsai_top.specs.declared.command.Command.{Command}
 use Rattle.bonsai_top.specs.declared.reply.Reply.{Reply}
-use Rattle.bonsai_top.specs.Outcome.{Outcome, usage}
+use Rattle.bonsai_top.specs.Outcome.{usage}
 use Rattle.bonsai_top.specs.Words.{file_of, second_of}
 use Rattle.bonsai_top.specs.Commands.{command_of, FirstRose, SecondRose}
 use Rattle.bonsai_top.specs.Outcomes.{IsOutcomeOf, IsOutcomeAt, IsOutcome}

@@ -1,6 +1,5 @@
 -- From a reply that has its cause and was told, to what the whole call does.
 use Rattle.std.proofs.Common.{◌≡◌, ◌≢◌, ◌⊎◌, inl, inr, ⊎_elim, ℕ, List, refl, ◌∙◌, ap, Option}
-use Rattle.io_kit.specs.Ends.{Rose}
 use Rattle.bonsai_top.specs.declared.status.Status.{Status}
 use Rattle.bonsai_top.specs.declared.status.Status.TheVariants.{WriteFault, Memory}
 use Rattle.bonsai_top.specs.declared.reply.Reply.{Reply}

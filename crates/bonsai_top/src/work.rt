@@ -1,4 +1,4 @@
-ghost use Rattle.std.specs.Prelude.{◌≡◌, ◌≤◌, ◌<◌, ◌^◌, length, codes, Some};
+ghost use Rattle.std.specs.Prelude.{◌≡◌, ◌≤◌, length, codes, Some};
 ghost use Rattle.cfg_ast.specs.Reading.{reading_of};
 ghost use Rattle.bonsai_top.specs.Commands.{FirstRose, SecondRose};
 ghost use Rattle.bonsai_top.specs.Outcome.{refused};
@@ -50,7 +50,6 @@ fn answer<S: Source>(
     second: &str,
     files: &mut S,
 ) -> Reply
-    requires { length checked.now.network.routers < 2 ^ 32 }
     ensures { Answers result (IsAnswerTo command checked.now.network (S.contents files.old second.now)) ⊥
         (SecondRose (Some command) (S.faults files.old second.now) (S.faults files.new second.now)) }
 {

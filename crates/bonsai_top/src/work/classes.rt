@@ -1,4 +1,4 @@
-ghost use Rattle.std.specs.Prelude.{◌≡◌, ◌<◌, ◌^◌, ◌++◌, length, IfOk, OnOk, flat_map, string_bytes};
+ghost use Rattle.std.specs.Prelude.{◌≡◌, ◌++◌, IfOk, OnOk, flat_map, string_bytes};
 ghost use Rattle.std.specs.List.{enumerate_from};
 ghost use Rattle.bonsai_top.specs.ClassLines.{name_at, pair_text, address_text, prefix_word, origin_word, class_line, class_lines, classes_text};
 ghost use Rattle.bonsai_top.specs.Outcome.{done};
@@ -105,7 +105,6 @@ fn class_lines(
 
 /// The line of each class.
 pub fn answer(alloc: Global, checked: &Checked) -> Reply
-    requires { length checked.now.network.routers < 2 ^ 32 }
     ensures { Answers result (Only (done (classes_text checked.now.network))) ⊥ ⊥ }
 {
     let network = checked.network();

@@ -1,10 +1,9 @@
-use Rattle.std.proofs.Common.{sym, ap, ◌∙◌, subst, length, ◌<◌, ◌^◌, Result, Ok}
+use Rattle.std.proofs.Common.{sym, ap, ◌∙◌, subst, Result, Ok}
 use Rattle.cfg_ast.specs.declared.network.Network.{Network}
 use Rattle.cfg_ast.specs.declared.refusal.ReadRefusal.{ReadRefusal}
 use Rattle.cfg_ast.specs.Meaning.{judged}
 use Rattle.cfg_ast.specs.Reading.{network_of_text}
 use Rattle.bonsai_top.specs.Outcomes.{IsOutcomeOfReading}
-use Rattle.bonsai_top.proofs.Limits.{few_routers}
 use Rattle.bonsai_top.proofs.Readings.{reading_judged, reading_refused}
 use Rattle.bonsai_top.proofs.Refusals.{answers_refused}
 use Rattle.bonsai_top.proofs.Texts.{answers_as}
@@ -34,9 +33,3 @@ returns-in-Err-check_network g c =
     let text = c.args.text.now in
     answers_refused c.text_refusal-in-Err-check_network.result c.args.command _ text c.in-Err-check_network.refusal (judged c.in-Ok.network) _ (λ e. reading_judged text c.in-Ok.network _ c.in-Ok.ensures e)
     c.in-Err-check_network.ensures.refused c.text_refusal-in-Err-check_network.ensures
-
--- so it has few routers
-pub answer-requires : goal.answer-requires
-answer-requires g c =
-    let checked = c.in-Ok-check_network.ensures in
-    subst (λ (n : Network). length n.routers < 2 ^ 32) (sym checked.ok) (few_routers c.in-Ok.network checked.accepted)
