@@ -1,34 +1,34 @@
 -- The parts put together are the problem of an OSPF network.
-use Rattle.std.proofs.Common.{◌≡◌, ◌≢◌, ℕ, zero, suc, ◌+◌, ◌*◌, ◌<◌, ◌≤◌, ◌^◌, Bool, true, false, List, [], ◌∷◌, map, length, get_or, Option, Some, None, refl, sym, ◌∙◌, ap, subst, arith, ◌⊎◌, inl, inr, true≢false}
+use Rattle.std.proofs.Common.{◌≡◌, ◌≢◌, ℕ, zero, suc, ◌<◌, true, false, List, [], ◌∷◌, map, length, Option, Some, None, refl, sym, ◌∙◌, ap, subst, arith, inl, inr, true≢false}
 use Rattle.std.specs.Prelude.{All, Contains, slice_get, slice_index_or}
 use Rattle.std.proofs.Math.ListN.{get_or-map}
 use Rattle.std.proofs.lemmas.List.{length-map}
 use Rattle.base_kit.specs.declared.act_graph.Edge.{Edge}
-use Rattle.base_kit.specs.declared.protocol.Protocol.TheVariants.{Bgp as OverBgp, Ospf as OverOspf}
+use Rattle.base_kit.specs.declared.protocol.Protocol.TheVariants.{Ospf as OverOspf}
 use Rattle.base_kit.specs.Prefixes.{Prefix}
-use Rattle.base_kit.proofs.Elements.{In, contains_in, in_contains, map_in, get_in, in_get}
+use Rattle.base_kit.proofs.Elements.{In, contains_in, in_contains, map_in, get_in}
 use Rattle.cfg_ast.specs.declared.classes.Origin.{Origin}
 use Rattle.cfg_ast.specs.declared.network.Network.{Network}
 use Rattle.cfg_ast.specs.declared.network.Router.{Router}
 use Rattle.cfg_ast.specs.declared.topology.Link.{Link}
 use Rattle.cfg_ast.specs.Topology.{links_of}
 use Rattle.srp_core.specs.declared.route.Route.{Route}
-use Rattle.srp_core.specs.declared.route.Route.TheVariants.{Ospf}
 use Rattle.srp_core.specs.declared.route.Act.{Act}
 use Rattle.srp_core.specs.declared.route.Act.TheVariants.{Cost}
 use Rattle.srp_core.specs.Routes.{path_of, comms_of, IsRouteOf}
 use Rattle.srp_core.specs.Acts.{import_by, ActsAlike, KeepsSets, IsActOf}
-use Rattle.srp_core.specs.Problem.{Problem, count, initial, is_lone, act_of, IsEdgeOf, Precedes, AreOrdered, IsLone, IsProblem}
-use Rattle.srp_core.specs.ProblemOf.{as_number_of, start_route, Direction, low_imports, high_imports, IsDirection, IsEdgeDirection, MeansCost, Means, StandsFor, IsProblemOf}
+use Rattle.srp_core.specs.Problem.{Problem, count, initial, is_lone, act_of, IsEdgeOf, Precedes, AreOrdered, IsProblem}
+use Rattle.srp_core.specs.ProblemOf.{as_number_of, start_route, Direction, low_imports, high_imports, IsDirection, Means, StandsFor, IsProblemOf}
 use Rattle.srp_build.specs.declared.hops.Hop.{Hop}
 use Rattle.srp_build.specs.Hops.{into_low, into_high, hops_of, cost_at, AreInside, sorted_by_ends}
-use Rattle.srp_build.specs.Numbering.{edge_with, IsEdgeOfHop, AreEdgesOf, IsCostOf, NumbersHops, AreDistinct}
+use Rattle.srp_build.specs.ActOrder.{AreByFirstUse}
+use Rattle.srp_build.specs.Numbering.{edge_with, IsEdgeOfHop, AreEdgesOf, NumbersHops, AreDistinct}
 use Rattle.srp_build.specs.Ospf.{IsOspf, IsPriced}
 use Rattle.srp_build.specs.Problem.{problem_with}
-use Rattle.srp_build.specs.Starts.{starts_from, none_lone}
+use Rattle.srp_build.specs.Starts.{starts_from}
 use Rattle.srp_build.proofs.LinkEnds.{HasEnds, link_ends}
 use Rattle.srp_build.proofs.OspfRoutes.{IsCostRoute, start_is_cost, start_at, none_marked, get_within, priced_cost}
-use Rattle.srp_build.proofs.SortedHops.{IsOrdered, BeforeHop, IsHopOf, hop_of, low_hop, high_hop, AreApart, all_from, sorted_stand, sorted_in, in_sorted, length-hops_of}
+use Rattle.srp_build.proofs.SortedHops.{IsOrdered, BeforeHop, IsHopOf, hop_of, low_hop, high_hop, all_from, sorted_stand, sorted_in, in_sorted, length-hops_of}
 
 -- ---- edges and directions
 
@@ -331,3 +331,6 @@ few_hops n routers links hops ospf links_are len =
     let b = ap (λ (l : List Link). length l) links_are in
     let c = ospf.few_links in
     omega arith
+
+pub acts_by_first_use : (costs : List ℕ) (edges : List Edge) → AreByFirstUse edges (length costs) → AreByFirstUse edges (length (map Cost costs))
+acts_by_first_use costs edges order = subst (λ (k : ℕ). AreByFirstUse edges k) (sym (length-map costs Cost)) order

@@ -1,7 +1,10 @@
 mod Built
 mod CostPlaces
+mod LinkCounts
 mod LinkEnds
+mod OspfChecked
 mod OspfRoutes
+mod PairCounts
 mod SortedByKey
 mod SortedHops
 mod StartsOfClass

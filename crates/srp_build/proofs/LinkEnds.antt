@@ -1,10 +1,10 @@
 -- The links of an OSPF network join interfaces of two routers that have costs.
-use Rattle.std.proofs.Common.{◌≡◌, ◌≢◌, ℕ, zero, suc, ◌+◌, ◌<◌, ◌≤◌, Bool, true, false, cond, ◌&&◌, List, [], ◌∷◌, ◌++◌, map, length, ◌⊎◌, inl, inr, Option, Some, None, refl, sym, ◌∙◌, ap, subst, arith}
-use Rattle.std.specs.Prelude.{Contains, filter, flat_map, slice_get, nat_eq, nat_lt, option_and_then, if◌then◌else◌}
+use Rattle.std.proofs.Common.{◌≡◌, ℕ, ◌<◌, Bool, true, false, cond, ◌&&◌, List, [], ◌∷◌, ◌++◌, inl, Option, Some, None, refl, sym, ◌∙◌, ap, subst, arith}
+use Rattle.std.specs.Prelude.{Contains, filter, slice_get, nat_lt, option_and_then}
 use Rattle.std.specs.Option.{option_map_or}
 use Rattle.std.specs.List.{enumerate_from}
 use Rattle.std.proofs.lemmas.Bool.Decides.{nat_tests}
-use Rattle.base_kit.proofs.Elements.{In, contains_in, map_in, filter_in, append_in, flat_map_in, enumerate_in, get_in}
+use Rattle.base_kit.proofs.Elements.{In, contains_in, map_in, filter_in, flat_map_in, enumerate_in, get_in}
 use Rattle.cfg_ast.specs.Addresses.{Address}
 use Rattle.cfg_ast.specs.declared.bgp.BgpProcess.{BgpProcess}
 use Rattle.cfg_ast.specs.declared.bgp.Neighbor.{Neighbor}
@@ -12,8 +12,8 @@ use Rattle.cfg_ast.specs.declared.interface.Interface.{Interface}
 use Rattle.cfg_ast.specs.declared.network.Network.{Network}
 use Rattle.cfg_ast.specs.declared.network.Router.{Router}
 use Rattle.cfg_ast.specs.declared.topology.Link.{Link}
-use Rattle.cfg_ast.specs.Topology.{Place, place_on, places_on, places, interfaces_of, neighbors_of, links_from, links_joining, link_between, is_session, are_adjacent, share_area_subnet, both_in_one_subnet, active_address, is_active_interface, is_in_area_interface, is_passive_in, cost_of_interface, cost_of, sessions_of, adjacencies_of, links_of}
-use Rattle.srp_build.specs.Ospf.{IsOspf, IsPriced, HasCost}
+use Rattle.cfg_ast.specs.Topology.{Place, place_on, places_on, places, interfaces_of, neighbors_of, links_from, links_joining, link_between, is_session, are_adjacent, share_area_subnet, both_in_one_subnet, active_address, is_active_interface, is_in_area_interface, cost_of_interface, sessions_of, adjacencies_of, links_of}
+use Rattle.srp_build.specs.Ospf.{IsOspf, IsPriced}
 
 pub record IsPlace {X : Type 0} (items : Router → List X) (n : Network) (p : Place X) : Type 0 where
   pub at : slice_get n.routers p.router ≡ Some p.owner
@@ -58,27 +58,36 @@ and_second : (a b : Bool) → (a && b) ≡ true → b ≡ true
 and_second true b h = h
 and_second false b h = absurd cc
 
-no_neighbors : (n : Network) → IsOspf n → (p : Place Neighbor) → IsPlace neighbors_of n p → ⊥
-no_neighbors n ospf p at =
-    let none = ospf.unmixed p.owner (contains_in n.routers p.owner (get_in n.routers p.router p.owner at.at)) in
+-- no router has a BGP process
+abbrev pub IsUnmixed : Network → Type 0
+IsUnmixed n = (router : Router) → Contains n.routers router → router.bgp ≡ None
+
+no_neighbors : (n : Network) → IsUnmixed n → (p : Place Neighbor) → IsPlace neighbors_of n p → ⊥
+no_neighbors n unmixed p at =
+    let none = unmixed p.owner (contains_in n.routers p.owner (get_in n.routers p.router p.owner at.at)) in
     let empty : neighbors_of p.owner ≡ [] = ap (λ (o : Option BgpProcess). option_map_or (λ (process : BgpProcess). process.neighbors) o []) none in
     let nothing : slice_get {X = Neighbor} [] p.item ≡ Some p.value = ap (λ (l : List Neighbor). slice_get l p.item) (sym empty) ∙ at.item in
     get_in [] p.item p.value nothing
 
-no_session : (n : Network) → IsOspf n → (l : Link) → In (sessions_of n) l → ⊥
+no_session : (n : Network) → IsUnmixed n → (l : Link) → In (sessions_of n) l → ⊥
 unfolding sessions_of
-no_session n ospf l h = let at = joining neighbors_of is_session n l h in no_neighbors n ospf at.low at.low_at
+no_session n unmixed l h = let at = joining neighbors_of is_session n l h in no_neighbors n unmixed at.low at.low_at
+
+nothing_in : (ls : List Link) → ((l : Link) → In ls l → ⊥) → ls ≡ []
+nothing_in [] none = refl
+nothing_in (l ∷ ls) none = absurd (none l (inl refl))
+
+-- all links are adjacencies
+pub links_are_adjacencies : (n : Network) → IsUnmixed n → links_of n ≡ adjacencies_of n
+unfolding links_of
+links_are_adjacencies n unmixed = ap (λ (l : List Link). l ++ adjacencies_of n) (nothing_in (sessions_of n) (no_session n unmixed))
 
 adjacency : (n : Network) (l : Link) → In (adjacencies_of n) l → IsJoining interfaces_of are_adjacent n l
 unfolding adjacencies_of
 adjacency n l h = joining interfaces_of are_adjacent n l h
 
 link_joining : (n : Network) → IsOspf n → (l : Link) → In (links_of n) l → IsJoining interfaces_of are_adjacent n l
-unfolding links_of
-link_joining n ospf l h = elim (append_in (sessions_of n) (adjacencies_of n) l h) [
-  | inl session ↦ absurd (no_session n ospf l session)
-  | inr adjacent ↦ adjacency n l adjacent
-]
+link_joining n ospf l h = adjacency n l (subst (λ (ls : List Link). In ls l) (links_are_adjacencies n ospf.unmixed) h)
 
 picked : (b : Bool) (o : Option Address) (a : Address) → cond b o None ≡ Some a → b ≡ true
 picked true o a h = refl

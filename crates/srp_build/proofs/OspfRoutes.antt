@@ -1,20 +1,20 @@
 -- Initial routes of OSPF routers, costs of interfaces, and lists of marks.
-use Rattle.std.proofs.Common.{◌≡◌, ◌≢◌, ℕ, zero, suc, ◌+◌, ◌<◌, ◌≤◌, Bool, true, false, cond, ◌&&◌, List, [], ◌∷◌, map, length, get_or, Option, Some, None, refl, sym, ◌∙◌, ap, subst, arith, ◌⊎◌, inl, inr}
-use Rattle.std.specs.Prelude.{Contains, find, slice_get, slice_index_or, option_and_then}
+use Rattle.std.proofs.Common.{◌≡◌, ℕ, zero, suc, ◌<◌, Bool, true, false, cond, ◌&&◌, List, [], ◌∷◌, map, length, Option, Some, None, refl, sym, ◌∙◌, ap, arith, inl, inr}
+use Rattle.std.specs.Prelude.{find, slice_get, slice_index_or, option_and_then}
 use Rattle.std.specs.Option.{option_map, unwrap_or}
 use Rattle.base_kit.specs.Prefixes.{Prefix}
-use Rattle.base_kit.proofs.Elements.{In, contains_in, in_contains}
+use Rattle.base_kit.proofs.Elements.{In, contains_in}
 use Rattle.cfg_ast.specs.declared.bgp.BgpProcess.{BgpProcess}
 use Rattle.cfg_ast.specs.declared.interface.Interface.{Interface}
 use Rattle.cfg_ast.specs.declared.network.Network.{Network}
 use Rattle.cfg_ast.specs.declared.network.Router.{Router}
-use Rattle.cfg_ast.specs.Classes.{initial_route, area_interface_in, is_up_in, route_from as origin_from}
+use Rattle.cfg_ast.specs.Classes.{area_interface_in, is_up_in, route_from as origin_from}
 use Rattle.cfg_ast.specs.Topology.{is_in_area_interface, cost_of_interface, cost_of}
 use Rattle.srp_core.specs.declared.route.Route.{Route}
 use Rattle.srp_core.specs.declared.route.Route.TheVariants.{Ospf}
 use Rattle.srp_core.specs.ProblemOf.{route_from, start_route}
 use Rattle.srp_build.specs.Hops.{cost_at}
-use Rattle.srp_build.specs.Ospf.{IsOspf, IsPriced, HasCost}
+use Rattle.srp_build.specs.Ospf.{IsOspf, IsPriced}
 use Rattle.srp_build.specs.Starts.{none_lone}
 
 found_step : {X : Type 0} (p : X → Bool) (y : X) (ys : List X) (x : X) (b : Bool) → p y ≡ b → (find p ys ≡ Some x → In ys x × (p x ≡ true)) → cond b (Some y) (find p ys) ≡ Some x → In (y ∷ ys) x × (p x ≡ true)

@@ -1,3 +1,4 @@
+pub mod ActOrder
 pub mod ByKey
 pub mod Hops
 pub mod Numbering

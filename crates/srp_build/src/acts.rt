@@ -40,6 +40,7 @@ impl Costs {
     fn number(&mut self, cost: u16) -> Result<usize, NoMemory>
         ensures found { IfOk result (λ place. slice_get self.new place ≡ Some cost) }
         ensures grown { OnOk result ((self.new ≡ self.old) ⊎ (self.new ≡ self.old ++ cost ∷ [])) }
+        ensures distinct { AreDistinct self.new }
     {
         let (place, _) = self.items.insert_full(cost)?;
         Ok(place)

@@ -1,4 +1,4 @@
-use Rattle.std.proofs.Common.{arith, refl}
+use Rattle.std.proofs.Common.{refl}
 use Rattle.srp_build.proofs.CostPlaces.{numbers_next}
 use Rattle.srp_build.proofs.acts.number_hops.Goals as goal
 
