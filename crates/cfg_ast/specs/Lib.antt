@@ -10,6 +10,7 @@ pub mod Lists
 pub mod Meaning
 pub mod Members
 pub mod Policy
+pub mod PolicyFaults
 pub mod PolicyForms
 pub mod PolicyLines
 pub mod PrefixLists

@@ -6,6 +6,7 @@ use Rattle.cfg_ast.specs.declared.refusal.Fault.{Fault}
 use Rattle.cfg_ast.specs.declared.refusal.ReadRefusal.{ReadRefusal}
 use Rattle.cfg_ast.specs.declared.refusal.ReadRefusal.TheVariants as read_refusal
 use Rattle.cfg_ast.specs.declared.network.Network.{Network}
+use Rattle.cfg_ast.specs.PolicyFaults.{undefined_map_lines, undefined_list_lines, delete_list_lines, too_many_communities_lines, prepend_form_lines, prepend_in_lines}
 use Rattle.cfg_ast.specs.RouterFaults.{shared_name_lines, shared_as_lines, internal_peer_lines, mixed_protocol_lines, other_area_lines, shared_address_lines, overlapping_lines, loopback_mask_lines, no_cost_lines, too_many_routers_lines, too_many_neighbors_lines, too_many_links_lines}
 
 -- the number of a kind: its place in the list of all kinds, from 1
@@ -52,13 +53,19 @@ meaning_faults n =
     ++ faults_at kind.InternalPeer (internal_peer_lines n)
     ++ faults_at kind.MixedProtocols (mixed_protocol_lines n)
     ++ faults_at kind.OtherArea (other_area_lines n)
+    ++ faults_at kind.UndefinedMap (undefined_map_lines n)
+    ++ faults_at kind.UndefinedList (undefined_list_lines n)
+    ++ faults_at kind.DeleteListForm (delete_list_lines n)
     ++ faults_at kind.SharedAddress (shared_address_lines n)
     ++ faults_at kind.OverlappingInterfaces (overlapping_lines n)
     ++ faults_at kind.LoopbackMask (loopback_mask_lines n)
     ++ faults_at kind.NoCost (no_cost_lines n)
     ++ faults_at kind.TooManyRouters (too_many_routers_lines n)
+    ++ faults_at kind.TooManyCommunities (too_many_communities_lines n)
     ++ faults_at kind.TooManyNeighbors (too_many_neighbors_lines n)
     ++ faults_at kind.TooManyLinks (too_many_links_lines n)
+    ++ faults_at kind.PrependForm (prepend_form_lines n)
+    ++ faults_at kind.PrependIn (prepend_in_lines n)
 
 -- a fault comes before another one by its line, and on one line by the number of its kind
 abbrev pub is_before_fault : Fault → Fault → Bool

@@ -29,8 +29,8 @@ pub use lookups::{active, in_area, ospf_cost, subnet, up};
 pub use network::{Named, Network, Notes, Router};
 pub use ospf::{AreaLine, OspfProcess};
 pub use policy::{
-    Change, CommunityLine, CommunityList, MapEntry, NameLine, PrefixEntry, PrefixList, Prepend,
-    RouteMap,
+    Change, CommunityLine, CommunityList, MapEntry, Mention, NameLine, PrefixEntry, PrefixList,
+    Prepend, RouteMap,
 };
 pub use refusal::{Fault, FormFault, Kind, ReadRefusal};
 pub use topology::{Link, Unmatched};

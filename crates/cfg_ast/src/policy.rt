@@ -81,3 +81,10 @@ pub enum Change {
     /// It adds these.
     Append(NumSet),
 }
+
+/// A community that a line names, with the number of that line.
+#[derive(Clone, Copy, Debug, PartialEq, Eq)]
+pub struct Mention {
+    pub community: u32,
+    pub line: u32,
+}

@@ -1,9 +1,12 @@
 pub mod BlockLemmas
+pub mod CommunityCounts
 pub mod Counted
 pub mod Faultless
 pub mod FirstFound
 pub mod LeastFault
 pub mod LeastOfList
+pub mod NameTurns
+pub mod NamedLines
 pub mod Numbers
 pub mod Repeats
 pub mod Seen

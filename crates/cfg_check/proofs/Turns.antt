@@ -1,5 +1,5 @@
 -- Turns of loops that keep the least line of what they went over.
-use Rattle.std.proofs.Common.{◌≡◌, ◌<◌, ℕ, ◌+◌, Bool, true, false, List, [], ◌∷◌, ◌++◌, map, filter, filter_map, flat_map, length, get_or, take, Option, Some, None, refl, sym, ap, ◌∙◌, append_assoc}
+use Rattle.std.proofs.Common.{◌≡◌, ◌<◌, ℕ, ◌+◌, Bool, true, false, if◌then◌else◌, List, [], ◌∷◌, ◌++◌, map, filter, filter_map, flat_map, length, get_or, take, Option, Some, None, refl, sym, ap, ◌∙◌, append_assoc}
 use Rattle.std.specs.Option.{option_map, option_to_list}
 use Rattle.std.specs.List.{cons_option}
 use Rattle.std.proofs.lemmas.List.{take_more, map-append}
@@ -108,3 +108,26 @@ pub flat_more : {X Y : Type 0} (f : X → List Y) (xs : List X) (i : ℕ) (x : X
 flat_more {X} {Y} f xs i x found more ys below here so_far is pushed =
     pushed ∙ ap (λ (l : List Y). l ++ ys) so_far ∙ ap (λ (l : List Y). flat_map f (take i xs) ++ l) (is ∙ sym (no_more (f x)))
     ∙ sym (ap (λ (l : List X). flat_map f l) (taken xs i x below here) ∙ flat_map-append f (take i xs) (x ∷ []))
+
+-- the least line of all that the items have, where they have lines
+pub lines_step : {X : Type 0} (f : X → List ℕ) (xs : List X) (i : ℕ) (x : X) (least fault : Option ℕ) → i < length xs → x ≡ get_or xs i x
+    → least ≡ least_line (flat_map f (take i xs)) → fault ≡ least_line (f x) → lesser_line least fault ≡ least_line (flat_map f (take (i + 1) xs))
+lines_step {X} f xs i x least fault below here so_far is =
+    ap (λ o. lesser_line o fault) so_far ∙ ap (lesser_line (least_line (flat_map f (take i xs)))) is
+    ∙ sym (ap (λ (l : List X). least_line (flat_map f l)) (taken xs i x below here)
+    ∙ ap least_line (flat_map-append f (take i xs) (x ∷ []) ∙ ap (λ (l : List ℕ). flat_map f (take i xs) ++ l) (no_more (f x)))
+    ∙ least_line-append (flat_map f (take i xs)) (f x))
+
+pub line_if_least : (b : Bool) (line : ℕ) → line_if b line ≡ least_line (if b then line ∷ [] else [])
+line_if_least true line = refl
+line_if_least false line = refl
+
+-- the least line of two lists
+pub both_lines : (xs ys : List ℕ) (a b : Option ℕ) → a ≡ least_line xs → b ≡ least_line ys → lesser_line a b ≡ least_line (xs ++ ys)
+both_lines xs ys a b p q = ap (λ o. lesser_line o b) p ∙ ap (lesser_line (least_line xs)) q ∙ sym (least_line-append xs ys)
+
+-- the same behind what stood before
+pub flat_onto : {X Y : Type 0} (f : X → List Y) (before : List Y) (xs : List X) (i : ℕ) (x : X) (found more ys : List Y) → i < length xs → x ≡ get_or xs i x → found ≡ before ++ flat_map f (take i xs) → ys ≡ f x → more ≡ found ++ ys → more ≡ before ++ flat_map f (take (i + 1) xs)
+flat_onto {X} {Y} f before xs i x found more ys below here so_far is pushed =
+    pushed ∙ ap (λ (l : List Y). l ++ ys) so_far ∙ append_assoc before (flat_map f (take i xs)) ys
+    ∙ ap (λ (l : List Y). before ++ l) (flat_more f xs i x (flat_map f (take i xs)) (flat_map f (take i xs) ++ ys) ys below here refl is refl)

@@ -6,12 +6,16 @@ ghost use Rattle.cfg_ast.specs.Reading.{IsGiven};
 use crate::addresses::shared_address;
 use crate::area::{loopback_mask, no_cost};
 use crate::checked::Checked;
+use crate::communities::{all_communities, too_many_communities};
+use crate::deletions::delete_list_form;
 use crate::least::with_fault;
 use crate::limits::{too_many_neighbors, too_many_routers};
 use crate::names::shared_name;
 use crate::overlaps::overlapping_interfaces;
 use crate::pairs::too_many_links;
+use crate::prepends::{prepend_form, prepend_in};
 use crate::processes::{internal_peer, mixed_protocols, other_area, shared_as};
+use crate::undefined::{undefined_list, undefined_map};
 use base_kit::NoMemory;
 use cfg_ast::{Fault, Kind, Network, ReadRefusal};
 use std::alloc::Global;
@@ -26,14 +30,25 @@ fn least_fault(alloc: Global, network: &Network) -> Result<Option<Fault>, NoMemo
     let least = with_fault(least, Kind::InternalPeer, internal_peer(routers));
     let least = with_fault(least, Kind::MixedProtocols, mixed_protocols(routers));
     let least = with_fault(least, Kind::OtherArea, other_area(routers));
+    let least = with_fault(least, Kind::UndefinedMap, undefined_map(alloc, routers)?);
+    let least = with_fault(least, Kind::UndefinedList, undefined_list(alloc, routers)?);
+    let least = with_fault(
+        least,
+        Kind::DeleteListForm,
+        delete_list_form(alloc, routers)?,
+    );
     let least = with_fault(least, Kind::SharedAddress, shared_address(alloc, routers)?);
     let overlapping = overlapping_interfaces(alloc, routers)?;
     let least = with_fault(least, Kind::OverlappingInterfaces, overlapping);
     let least = with_fault(least, Kind::LoopbackMask, loopback_mask(routers));
     let least = with_fault(least, Kind::NoCost, no_cost(routers));
     let least = with_fault(least, Kind::TooManyRouters, too_many_routers(routers));
+    let communities = too_many_communities(alloc, routers)?;
+    let least = with_fault(least, Kind::TooManyCommunities, communities);
     let least = with_fault(least, Kind::TooManyNeighbors, too_many_neighbors(routers));
     let least = with_fault(least, Kind::TooManyLinks, too_many_links(alloc, routers)?);
+    let least = with_fault(least, Kind::PrependForm, prepend_form(routers));
+    let least = with_fault(least, Kind::PrependIn, prepend_in(alloc, routers)?);
     Ok(least)
 }
 
@@ -52,6 +67,9 @@ pub fn check_network(alloc: Global, network: Network) -> Result<Checked, ReadRef
             line: fault.line,
             kind: fault.kind,
         }),
-        None => Ok(Checked::new(network)),
+        None => {
+            let communities = all_communities(alloc, network.routers.as_slice())?;
+            Ok(Checked::new(network, communities))
+        }
     }
 }

@@ -11,13 +11,18 @@ mod addresses;
 mod area;
 mod check;
 mod checked;
+mod communities;
+mod deletions;
 mod gather;
 mod least;
 mod limits;
+mod name_sets;
 mod names;
 mod overlaps;
 mod pairs;
+mod prepends;
 mod processes;
+mod undefined;
 
 pub use check::check_network;
 pub use checked::Checked;

@@ -20,7 +20,8 @@ pub(crate) fn too_many_routers(routers: &[Router]) -> Option<u32>
     Some(routers[MOST_ROUTERS].line)
 }
 
-fn neighbors(router: &Router) -> &[Neighbor]
+/// The neighbours of the router.
+pub(crate) fn neighbors(router: &Router) -> &[Neighbor]
     ensures { result.now ≡ neighbors_of router.now }
 {
     match &router.bgp {

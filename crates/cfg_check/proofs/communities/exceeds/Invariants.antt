@@ -1,0 +1,11 @@
+use Rattle.std.proofs.Common.{take, ◌≤◌}
+use Rattle.std.specs.HashSet.{hash_set_len}
+use Rattle.cfg_ast.specs.PolicyFaults.{communities_in, mentions_up_to}
+use Rattle.cfg_check.specs.Communities.{HasNumbers}
+use Rattle.cfg_check.proofs.communities.exceeds.Given as goal
+
+abbrev pub invariant-loop-mention : goal.invariant-loop-mention
+invariant-loop-mention l = record {
+  seen : HasNumbers l.seen (communities_in (mentions_up_to (take l.mention-index l.mentions) l.line));
+  few : hash_set_len l.seen ≤ 1024;
+}

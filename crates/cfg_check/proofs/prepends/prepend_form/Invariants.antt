@@ -1,0 +1,7 @@
+use Rattle.std.proofs.Common.{◌≡◌, take, flat_map}
+use Rattle.cfg_ast.specs.PolicyFaults.{foreign_prepends_of}
+use Rattle.cfg_check.specs.LeastLine.{least_line}
+use Rattle.cfg_check.proofs.prepends.prepend_form.Given as goal
+
+abbrev pub invariant-loop-router : goal.invariant-loop-router
+invariant-loop-router l = l.least ≡ least_line (flat_map foreign_prepends_of (take l.router-index l.routers))

@@ -1,0 +1,8 @@
+use Rattle.std.proofs.Common.{◌≡◌, take, flat_map}
+use Rattle.cfg_ast.specs.PolicyFaults.{map_lines_naming}
+use Rattle.cfg_check.specs.NameSets.{lacks_name}
+use Rattle.cfg_check.specs.LeastLine.{least_line}
+use Rattle.cfg_check.proofs.undefined.undefined_maps_in.Given as goal
+
+abbrev pub invariant-loop-neighbor : goal.invariant-loop-neighbor
+invariant-loop-neighbor l = l.least ≡ least_line (flat_map (map_lines_naming (lacks_name l.names)) (take l.neighbor-index l.neighbors))
