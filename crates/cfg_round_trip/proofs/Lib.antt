@@ -4,6 +4,10 @@ pub mod BareLists
 pub mod BareStanzas
 pub mod BareSteps
 pub mod LineBytes
+pub mod MemberLaw
 pub mod Numbers
+pub mod OtherLines
 pub mod PrintedLines
+pub mod PrintedNetwork
+pub mod PrintedWords
 pub mod TextLines

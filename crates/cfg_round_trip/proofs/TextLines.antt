@@ -1,18 +1,16 @@
 -- The lines of a printed text are the lines that were printed, but for their numbers.
-use Rattle.std.proofs.Common.{◌≡◌, ℕ, zero, suc, ◌+◌, ◌-◌, ◌<◌, ◌≤◌, Bool, true, false, cond, not, ◌&&◌, List, [], ◌∷◌, ◌++◌, length, get_or, take, drop, map, filter, slice_index, All, refl, sym, ap, ◌∙◌, arith, append_assoc, length-append, inl, inr, Option, Some, None, Result, Ok, Err}
+use Rattle.std.proofs.Common.{◌≡◌, ℕ, zero, suc, ◌+◌, ◌-◌, ◌<◌, ◌≤◌, Bool, true, false, cond, not, ◌&&◌, List, [], ◌∷◌, ◌++◌, length, get_or, take, drop, map, filter, slice_index, refl, sym, ap, ◌∙◌, arith, append_assoc, length-append, None, Ok}
 use Rattle.std.specs.Prelude.{◌==◌, nat_lt}
-use Rattle.std.specs.List.{AllByRecursion, slice_range, filter_map}
+use Rattle.std.specs.List.{AllByRecursion, slice_range}
 use Rattle.std.proofs.Math.ListN.{get_or-append, length-drop, length-take}
 use Rattle.std.proofs.Math.Seq.{get_or-drop, get_or-take, drop-drop, get_or-append_seam, take-append_seam, drop-append_seam}
-use Rattle.std.proofs.lemmas.Bool.{ne_eqb, cases_Bool}
 use Rattle.std.proofs.lemmas.Bool.Decides.{nat_tests}
 use Rattle.std.proofs.lemmas.List.Elements.{All-from_recursion}
 use Rattle.cfg_ast.specs.TextLines.{TextLine, text_line}
 use Rattle.cfg_ast.specs.declared.line.Line.{Line}
 use Rattle.cfg_ast.specs.declared.line.Span.{Span}
-use Rattle.cfg_ast.specs.declared.refusal.Kind.{Kind}
 use Rattle.cfg_ast.specs.declared.refusal.ReadRefusal.{ReadRefusal}
-use Rattle.cfg_ast.specs.Lines.{first_at, is_blank, is_plain, blank_at, newline_at, begins_line, newline_from, without_return, Piece, piece_at, pieces_from, words_between, indent_between, odd_from, kind_at, at_line, line_faults, unless_refused, lines_in, lines_of, line_of, are_kept, is_kept, text_of, texts}
+use Rattle.cfg_ast.specs.Lines.{first_at, is_plain, blank_at, newline_at, begins_line, newline_from, without_return, Piece, piece_at, pieces_from, words_between, indent_between, odd_from, kind_at, line_faults, unless_refused, lines_in, lines_of, line_of, are_kept, is_kept, text_of, texts}
 use Rattle.cfg_ast.specs.Reading.{texts_of}
 use Rattle.cfg_ast.specs.Printed.{line_text, lines_text}
 use Rattle.cfg_ast.specs.Members.{all_lines_of}
@@ -20,10 +18,9 @@ use Rattle.cfg_ast.specs.Bare.{bare_line}
 use Rattle.cfg_ast.specs.WellFormed.{IsBetween}
 use Rattle.cfg_ast.proofs.Places.{first_here, first_next, first_end}
 use Rattle.cfg_ast.proofs.Pieces.{pieces_next, pieces_end, begins_next}
-use Rattle.cfg_ast.proofs.Within.{words_lie}
 use Rattle.cfg_ast.proofs.SameWords.{same_words}
 use Rattle.cfg_round_trip.proofs.PrintedLines.{IsPrintedWord, IsPrintedLine, are_read, is_read}
-use Rattle.cfg_round_trip.proofs.LineBytes.{line_body, text_is_body, body_prints, body_words, Dented, body_dented}
+use Rattle.cfg_round_trip.proofs.LineBytes.{line_body, text_is_body, body_prints, body_words, body_dented}
 
 -- ---- the first place
 
@@ -171,7 +168,7 @@ goes_further bs from l ls on =
     let place : end_of from l + 1 ≡ from + (length body + 1) = omega arith in
     record {
       text = ap (λ (k : ℕ). drop k bs) place ∙ sym (drop-drop (length body + 1) from bs) ∙ ap (drop (length body + 1)) (s.goes_on ∙ sym (append_assoc body (10 ∷ []) (lines_text ls)))
-      ∙ ap (λ (k : ℕ). drop k ((body ++ 10 ∷ []) ++ lines_text ls)) (sym front) ∙ drop-append_seam (body ++ 10 ∷ []) (lines_text ls);
+          ∙ ap (λ (k : ℕ). drop k ((body ++ 10 ∷ []) ++ lines_text ls)) (sym front) ∙ drop-append_seam (body ++ 10 ∷ []) (lines_text ls);
       inside = omega (arith, s.inside);
     }
 

@@ -4,7 +4,11 @@
 //! has both by contract calls the law that it needs.
 #![tactic(auto)]
 
+mod members;
+
 ghost use Rattle.cfg_round_trip.specs.Laws.{NumbersAreAside};
+
+pub use members::members_are_read_back;
 
 /// Lines that are the same but for their numbers give networks that are the same but for the numbers
 /// of their lines.
