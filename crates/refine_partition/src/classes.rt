@@ -65,6 +65,17 @@ fn run_end(arrivals: &[Import], start: usize) -> usize
     end
 }
 
+/// The numbers, wide enough for the names of classes.
+fn widened(alloc: Global, numbers: &[u32]) -> Result<Vec<usize>, NoMemory>
+    ensures { IfOk result (λ classes. classes.items ≡ numbers.now) }
+{
+    let mut classes = vec![in alloc; 0; numbers.len()]?;
+    for router in 0..numbers.len() {
+        classes[router] = numbers[router] as usize;
+    }
+    Ok(classes)
+}
+
 /// The class of each router, and the first number above all classes: two routers are in one class
 /// where their numbers are equal and their edges have the same acts.
 pub fn classes_of(
@@ -78,10 +89,7 @@ pub fn classes_of(
     requires in_order { IsNonDecreasingBy act_of arrivals.now }
     ensures { IfOk result (λ r. AreClasses numbers.now arrivals.now count r.0.items r.1) }
 {
-    let mut classes = Vec::new(alloc);
-    for number in numbers {
-        classes.push(*number as usize)?;
-    }
+    let mut classes = widened(alloc, numbers)?;
     let mut next = count as usize;
     let mut start = 0;
     while start < arrivals.len() {

@@ -4,9 +4,6 @@ use Rattle.refine_partition.specs.Classes.{AreClasses}
 use Rattle.refine_partition.specs.declared.imports.Import.{Import}
 use Rattle.refine_partition.proofs.classes.classes_of.Given as goal
 
-abbrev pub invariant-loop-number : goal.invariant-loop-number
-invariant-loop-number l = l.classes.items ≡ take l.number-index l.numbers
-
 abbrev pub invariant-loop-start : goal.invariant-loop-start
 invariant-loop-start l = record {
   within : l.start ≤ length l.arrivals;
