@@ -1,7 +1,7 @@
 -- The plain maps of both ends of a session import what the session does.
 use Rattle.std.proofs.Common.{◌≡◌, ℕ, Bool, true, false, cond, not, [], Option, Some, None, refl, ◌∙◌, ap, arith}
 use Rattle.std.specs.Prelude.{nat_eq, unwrap_or, option_map}
-use Rattle.std.specs.Option.{option_and_then}
+use Rattle.std.specs.Option.{option_and_then, option_or}
 use Rattle.std.proofs.lemmas.Bool.Decides.{nat_tests}
 use Rattle.base_kit.specs.Prefixes.{Prefix}
 use Rattle.cfg_ast.specs.declared.bgp.Neighbor.{Neighbor}
@@ -10,7 +10,7 @@ use Rattle.cfg_ast.specs.Policy.{Permitted, passed_by, default_preference, name_
 use Rattle.cfg_ast.specs.WellFormed.{IsWellFormedRouter}
 use Rattle.route_maps.specs.Maps.{accepted, received}
 use Rattle.route_maps.specs.Sessions.{imported_as}
-use Rattle.specialize.specs.OnePrefix.{own_preference, preference_or, verdict_with}
+use Rattle.specialize.specs.OnePrefix.{own_preference, verdict_with}
 use Rattle.specialize.specs.Sessions.{in_map, ImportAsSession}
 use Rattle.specialize.proofs.Verdicts.{verdict_kept}
 
@@ -21,7 +21,7 @@ default_written default = step (nat_eq default 100) refl where
   step true is = grind (arith, nat_tests)
   step false is = refl
 
-own_or_default : (router : Router) (lp : Option ℕ) → unwrap_or (preference_or lp (own_preference router true)) 100 ≡ unwrap_or lp (default_preference router)
+own_or_default : (router : Router) (lp : Option ℕ) → unwrap_or (option_or lp (own_preference router true)) 100 ≡ unwrap_or lp (default_preference router)
 own_or_default router (Some lp) = refl
 own_or_default router None = default_written (default_preference router)
 

@@ -1,7 +1,7 @@
 -- The map for one prefix keeps the verdict.
 use Rattle.std.proofs.Common.{◌≡◌, ℕ, ◌≤◌, Bool, true, false, cond, ◌&&◌, ◌||◌, List, [], ◌∷◌, length, Option, Some, None, map, refl, ◌∙◌, ap, arith}
-use Rattle.std.specs.Prelude.{filter, filter_map, find, min, bytes_eq, IfSome}
-use Rattle.std.specs.Option.{option_map_or, option_and_then}
+use Rattle.std.specs.Prelude.{filter, filter_map, min, bytes_eq, IfSome}
+use Rattle.std.specs.Option.{option_map_or, option_and_then, option_or}
 use Rattle.std.specs.List.{list_any, cons_option, AllByRecursion}
 use Rattle.base_kit.specs.Prefixes.{Prefix}
 use Rattle.cfg_ast.specs.declared.network.Router.{Router}
@@ -13,9 +13,9 @@ use Rattle.cfg_ast.specs.declared.policy.RouteMap.{RouteMap}
 use Rattle.cfg_ast.specs.Policy.{community_list_named, route_map_named, list_answer, comms_permitted_by, comms_match, prefixes_match, prepend_count, comms_set, permitted_by_entry, verdict_of, passes_list, passed_by_map}
 use Rattle.cfg_ast.specs.WellFormed.{IsWellFormedPrepend, IsWellFormedMapEntry, IsWellFormedRouteMap, IsWellFormedRouter}
 use Rattle.route_maps.specs.declared.plain.Verdict.TheVariants.{Deny, Permit}
-use Rattle.route_maps.specs.Maps.{lists_hold, verdict}
+use Rattle.route_maps.specs.Maps.{lists_hold, entry_verdict, verdict}
 use Rattle.specialize.proofs.Found.{found_holds}
-use Rattle.specialize.specs.OnePrefix.{own_preference, preference_or, lists_named, plain_entry, plain_entries, entries_for, plain_of, verdict_with, KeepsVerdict}
+use Rattle.specialize.specs.OnePrefix.{own_preference, lists_named, plain_entry, plain_entries, entries_for, plain_of, verdict_with, KeepsVerdict}
 
 any_named : (router : Router) (exact : Bool) (comms : List ℕ) (names : List (List ℕ)) → list_any (list_answer exact comms) (filter_map (community_list_named router) names) ≡ list_any (comms_permitted_by router exact comms) names
 any_named router exact comms [] = refl
@@ -33,18 +33,18 @@ whole_count : (prepend : Option Prepend) → IfSome prepend IsWellFormedPrepend 
 whole_count None form = refl
 whole_count (Some line) form = let few : length line.numbers ≤ 10 = form.count.1 in omega arith
 
--- what an entry that holds says
+-- what an entry that holds says, for a permit and for a denial
 entry_said : (router : Router) (own : Option ℕ) (comms : List ℕ) (entry : MapEntry) (permit : Bool) → IsWellFormedMapEntry entry
-    → cond permit (Permit (cond permit (preference_or entry.lp own) entry.lp) (comms_set router entry comms) (min (prepend_count entry.prepend) 255)) Deny
+    → cond permit (Permit (cond permit (option_or entry.lp own) entry.lp) (comms_set router entry comms) (min (prepend_count entry.prepend) 255)) Deny
     ≡ verdict_with own (cond permit (Some (record { lp = entry.lp; comms = comms_set router entry comms; adds = prepend_count entry.prepend })) None)
 entry_said router own comms entry false form = refl
-entry_said router own comms entry true form = ap (λ n. Permit (preference_or entry.lp own) (comms_set router entry comms) n) (whole_count entry.prepend form.prepend)
+entry_said router own comms entry true form = ap (λ n. Permit (option_or entry.lp own) (comms_set router entry comms) n) (whole_count entry.prepend form.prepend)
 
 entries_said : (router : Router) (own : Option ℕ) (p : Prefix) (comms : List ℕ) (entries : List MapEntry) → AllByRecursion IsWellFormedMapEntry entries → verdict (plain_entries router own p entries) comms ≡ verdict_with own (verdict_of router p entries comms)
 entries_said router own p comms [] forms = refl
 entries_said router own p comms (entry ∷ entries) forms =
     step (prefixes_match router p entry.prefixes) (comms_match router entry.exact comms entry.comms) refl (entries_said router own p comms entries forms.1) where
-      first : cond entry.permit (Permit (cond entry.permit (preference_or entry.lp own) entry.lp) (comms_set router entry comms) (min (prepend_count entry.prepend) 255)) Deny ≡ verdict_with own (permitted_by_entry router comms entry)
+      first : entry_verdict (plain_entry router own entry) comms ≡ verdict_with own (permitted_by_entry router comms entry)
       first = entry_said router own comms entry entry.permit forms.0
 
       step : (a h : Bool) → comms_match router entry.exact comms entry.comms ≡ h → verdict (plain_entries router own p entries) comms ≡ verdict_with own (verdict_of router p entries comms)
@@ -52,10 +52,10 @@ entries_said router own p comms (entry ∷ entries) forms =
           ≡ verdict_with own (cond (a && h) (permitted_by_entry router comms entry) (verdict_of router p entries comms))
       step false h holds rest = rest
       step true true holds rest =
-          ap (λ b. cond b (cond entry.permit (Permit (cond entry.permit (preference_or entry.lp own) entry.lp) (comms_set router entry comms) (min (prepend_count entry.prepend) 255)) Deny) (verdict (plain_entries router own p entries) comms)) (matches_named router entry.exact comms entry.comms ∙ holds)
+          ap (λ b. cond b (entry_verdict (plain_entry router own entry) comms) (verdict (plain_entries router own p entries) comms)) (matches_named router entry.exact comms entry.comms ∙ holds)
           ∙ first
       step true false holds rest =
-          ap (λ b. cond b (cond entry.permit (Permit (cond entry.permit (preference_or entry.lp own) entry.lp) (comms_set router entry comms) (min (prepend_count entry.prepend) 255)) Deny) (verdict (plain_entries router own p entries) comms)) (matches_named router entry.exact comms entry.comms ∙ holds)
+          ap (λ b. cond b (entry_verdict (plain_entry router own entry) comms) (verdict (plain_entries router own p entries) comms)) (matches_named router entry.exact comms entry.comms ∙ holds)
           ∙ rest
 
 map_said : (router : Router) (own : Option ℕ) (p : Prefix) (map : Option (List ℕ)) (comms : List ℕ) → IsWellFormedRouter router → verdict (entries_for router own p map) comms ≡ verdict_with own (passed_by_map router p map comms)

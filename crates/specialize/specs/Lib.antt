@@ -1,2 +1,3 @@
 pub mod OnePrefix
+pub mod Printable
 pub mod Sessions

@@ -1,6 +1,6 @@
 -- What a route map of a router means for one prefix.
 use Rattle.std.specs.Prelude.{◌≡◌, ℕ, Bool, true, false, not, ◌&&◌, List, [], ◌∷◌, Option, Some, None, map, filter, filter_map, nat_eq, min, if◌then◌else◌}
-use Rattle.std.specs.Option.{option_map, option_map_or}
+use Rattle.std.specs.Option.{option_map, option_map_or, option_or}
 use Rattle.base_kit.specs.Prefixes.{Prefix}
 use Rattle.cfg_ast.specs.declared.network.Router.{Router}
 use Rattle.cfg_ast.specs.declared.policy.CommunityList.{CommunityList}
@@ -18,10 +18,6 @@ use Rattle.route_maps.specs.Maps.{verdict}
 abbrev pub own_preference : Router → Bool → Option ℕ
 own_preference router inbound = if inbound && not (nat_eq (default_preference router) 100) then Some (default_preference router) else None
 
-abbrev pub preference_or : Option ℕ → Option ℕ → Option ℕ
-preference_or (Some lp) own = Some lp
-preference_or None own = own
-
 -- the lists that the router has under the names of a match line
 abbrev pub lists_named : Router → Option NameLine → Option (List CommunityList)
 lists_named router comms = option_map (λ (line : NameLine). filter_map (community_list_named router) line.names) comms
@@ -32,7 +28,7 @@ plain_entry router own entry = record {
   seq = entry.seq;
   permit = entry.permit;
   lists = lists_named router entry.comms;
-  lp = if entry.permit then preference_or entry.lp own else entry.lp;
+  lp = if entry.permit then option_or entry.lp own else entry.lp;
   change = entry.change;
   delete = deletion_list router entry.delete;
   adds = min (prepend_count entry.prepend) 255;
@@ -57,7 +53,7 @@ plain_of router map list p inbound = record { entries = if passes_list router p 
 
 abbrev pub verdict_with : Option ℕ → Option Permitted → Verdict
 verdict_with own None = Deny
-verdict_with own (Some permitted) = Permit (preference_or permitted.lp own) permitted.comms permitted.adds
+verdict_with own (Some permitted) = Permit (option_or permitted.lp own) permitted.comms permitted.adds
 
 -- For every set of communities the plain map's verdict is that of the router's prefix list followed by
 -- its map, where a permit without a preference gets the router's own.

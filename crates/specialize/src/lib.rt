@@ -4,8 +4,9 @@
 //! or holds, without that match, the community lists written out; no entry where the prefix list denies
 //! the prefix; and one entry that permits all where there is no map. Inbound, the router's default
 //! preference is written into each permit without one, if it is not 100. For every set of communities
-//! the verdict is that of the router's prefix list followed by its map. The module `laws` says what the
-//! maps of both ends of a session import together.
+//! the verdict is that of the router's prefix list followed by its map, and the maps of a checked
+//! network's routers can be printed. The module `laws` says what the maps of both ends of a session
+//! import together.
 #![tactic(auto)]
 
 mod copies;

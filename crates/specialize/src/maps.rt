@@ -1,8 +1,11 @@
 ghost use Rattle.std.specs.Prelude.{◌≡◌, ℕ, [], ◌∷◌, IfOk, option_copied, min, filter_map, if◌then◌else◌};
 ghost use Rattle.std.specs.List.{list_any};
+ghost use Rattle.std.specs.Option.{option_or};
 ghost use Rattle.cfg_ast.specs.Policy.{prefix_list_named, community_list_named, route_map_named, prefixes_permitted_by, prefixes_match, deletion_list, prepend_count, passes_list, default_preference};
 ghost use Rattle.cfg_ast.specs.WellFormed.{IsWellFormedRouter};
-ghost use Rattle.specialize.specs.OnePrefix.{own_preference, preference_or, lists_named, plain_entry, whole_entry, plain_entries, entries_for, plain_of, KeepsVerdict};
+ghost use Rattle.route_maps.specs.Printable.{IsPrintable};
+ghost use Rattle.specialize.specs.OnePrefix.{own_preference, lists_named, plain_entry, whole_entry, plain_entries, entries_for, plain_of, KeepsVerdict};
+ghost use Rattle.specialize.specs.Printable.{HasPrintableMaps};
 
 use crate::copies::{change_copy, list_copy};
 use base_kit::{List, NoMemory, Prefix, Text};
@@ -143,11 +146,12 @@ fn count_of(prepend: &Option<Prepend>) -> u8
 }
 
 fn preference(entry: &MapEntry, own: Option<u32>) -> Option<u32>
-    ensures { result ≡ (if entry.now.permit then preference_or entry.now.lp own else entry.now.lp) }
+    ensures { result ≡ (if entry.now.permit then option_or entry.now.lp own else entry.now.lp) }
 {
-    match entry.lp {
-        Some(lp) => Some(lp),
-        None => { if entry.permit { own } else { None } }
+    if entry.permit {
+        entry.lp.or(own)
+    } else {
+        entry.lp
     }
 }
 
@@ -266,6 +270,7 @@ pub fn policy(
     inbound: bool,
 ) -> Result<Plain, NoMemory>
     ensures plain { IfOk result (λ plain. plain ≡ plain_of router.now (option_copied map.entry) (option_copied list.entry) p inbound) }
+    ensures printable { HasPrintableMaps router.now → IfOk result IsPrintable }
     ensures verdict { IsWellFormedRouter router.now → IfOk result (KeepsVerdict router.now (option_copied map.entry) (option_copied list.entry) p inbound) }
 {
     let plain = map_for(alloc, router, map, list, p, inbound)?;
