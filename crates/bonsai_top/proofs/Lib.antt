@@ -1,6 +1,12 @@
+mod LineSteps
 mod Lines
 mod Named
+mod NoClasses
+mod NumberedOnce
+mod OneGrouping
+mod OneOutcome
 mod Readings
 mod Refusals
 mod Runs
+mod SameProblem
 mod Texts

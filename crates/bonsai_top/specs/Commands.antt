@@ -11,6 +11,7 @@ use Rattle.bonsai_top.specs.Words.{form_of}
 -- The command of a form. A form whose command is not built yet names none.
 abbrev pub built : Form → Option Command
 built form.Classes = Some command.Classes
+built (form.Groups class) = Some (command.Groups class)
 built other = None
 
 -- the command that the words name
@@ -20,10 +21,12 @@ command_of words = option_and_then built (form_of words)
 -- whether a command reads the first file
 abbrev pub reads_first : Command → Bool
 reads_first command.Classes = true
+reads_first (command.Groups class) = true
 
 -- whether it reads the second one
 abbrev pub reads_second : Command → Bool
 reads_second command.Classes = false
+reads_second (command.Groups class) = false
 
 abbrev pub is_read : (Command → Bool) → Option Command → Bool
 is_read reads None = false

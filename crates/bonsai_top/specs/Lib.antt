@@ -1,7 +1,11 @@
 pub mod ClassLines
+pub mod ClassNumbers
 pub mod Commands
+pub mod GroupLines
+pub mod Groups
 pub mod Kinds
 pub mod Meets
+pub mod OneOutcome
 pub mod Outcome
 pub mod Outcomes
 pub mod Replies

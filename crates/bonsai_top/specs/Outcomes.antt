@@ -11,10 +11,12 @@ use Rattle.bonsai_top.specs.Commands.{command_of}
 use Rattle.bonsai_top.specs.Outcome.{Outcome, done, refused, usage}
 use Rattle.bonsai_top.specs.Kinds.{line_reason}
 use Rattle.bonsai_top.specs.ClassLines.{classes_text}
+use Rattle.bonsai_top.specs.GroupLines.{IsGroupsAnswer}
 
 -- what a command is to write of a network, with the second file where it is told
 abbrev pub IsAnswerTo : Command → Network → Option (List ℕ) → Outcome → Type 0
 IsAnswerTo command.Classes network second o = o ≡ done (classes_text network)
+IsAnswerTo (command.Groups class) network second o = IsGroupsAnswer network class o
 
 -- the answer of a network, or the line and kind that refuse the text
 abbrev pub IsOutcomeOfReading : Command → Option (List ℕ) → Result Network ReadRefusal → Outcome → Type 0

@@ -28,6 +28,7 @@ pub enum Form {
 #[derive(Clone, Copy, Debug, PartialEq, Eq)]
 pub enum Command {
     Classes,
+    Groups(u32),
 }
 
 // A number of at most nine digits.
@@ -128,6 +129,7 @@ fn built(form: Form) -> Option<Command>
 {
     match form {
         Form::Classes => Some(Command::Classes),
+        Form::Groups(class) => Some(Command::Groups(class)),
         _ => None,
     }
 }

@@ -1,6 +1,6 @@
 use crate::{Status, run};
-use base_kit::List;
-use io_kit::{MemSink, MemSource, SureSink, SureSource};
+use base_kit::{List, Text};
+use io_kit::{MemFile, MemSink, MemSource, SureSink, SureSource};
 use std::alloc::{AllocError, Global};
 use std::test::Fail;
 
@@ -17,6 +17,18 @@ fn words(alloc: Global, list: &[&str]) -> Result<Vec<String>, AllocError> {
 
 fn no_files(alloc: Global) -> MemSource {
     MemSource::new(List::new(alloc), List::new(alloc))
+}
+
+/// Two OSPF routers on one link, of which the first has a loopback too.
+const TWO_ROUTERS: &[u8] =
+    b"hostname R1\ninterface Loopback0\n ip address 1.1.1.1 255.255.255.255\ninterface GigabitEthernet0/0\n ip address 10.0.12.1 255.255.255.252\nrouter ospf 1\n network 0.0.0.0 255.255.255.255 area 0\nend\nhostname R2\ninterface GigabitEthernet0/0\n ip address 10.0.12.2 255.255.255.252\nrouter ospf 1\n network 0.0.0.0 255.255.255.255 area 0\nend\n";
+
+fn two_routers(alloc: Global) -> Result<List<MemFile>, Fail> {
+    let name = Text::copy_of(alloc, "F")?;
+    let bytes = List::from_vec(Vec::from_slice(alloc, TWO_ROUTERS)?);
+    let mut files = List::new(alloc);
+    files.push(MemFile { name, bytes })?;
+    Ok(files)
 }
 
 #[test]
@@ -78,5 +90,44 @@ fn a_name_that_a_sure_source_does_not_hold_is_empty(rt: HostRuntime) -> Result<(
     );
     assert!(rt; out.taken().is_empty());
     assert!(rt; err.taken().is_empty());
+    Ok(())
+}
+
+#[test]
+fn groups_of_a_class_are_listed(rt: HostRuntime) -> Result<(), Fail> {
+    let alloc = rt.alloc();
+    let cases: [(&str, Status, &[u8], &[u8]); 4] = [
+        ("1", Status::Done, b"group 1 origin: R1\ngroup 2: R2\n", b""),
+        ("2", Status::Done, b"group 1 origin: R1 R2\n", b""),
+        ("3", Status::Refused, b"", b"refused: NoClass 3\n"),
+        ("0", Status::Refused, b"", b"refused: NoClass 0\n"),
+    ];
+    for (number, status, output, line) in cases {
+        let mut files = MemSource::new(two_routers(alloc)?, List::new(alloc));
+        let mut out = MemSink::new(alloc, 10, 64, List::new(alloc))?;
+        let mut err = MemSink::new(alloc, 10, 64, List::new(alloc))?;
+        let list = words(alloc, &["groups", "F", number])?;
+        assert_eq!(rt; run(alloc, &list, &mut files, &mut out, &mut err), status);
+        assert_eq!(rt; out.taken(), output);
+        assert_eq!(rt; err.taken(), line);
+    }
+    Ok(())
+}
+
+#[test]
+fn a_source_that_fails_at_once_is_named(rt: HostRuntime) -> Result<(), Fail> {
+    let alloc = rt.alloc();
+    let mut failing = List::new(alloc);
+    failing.push(1)?;
+    let mut files = MemSource::new(two_routers(alloc)?, failing);
+    let mut out = MemSink::new(alloc, 10, 64, List::new(alloc))?;
+    let mut err = MemSink::new(alloc, 10, 64, List::new(alloc))?;
+    let list = words(alloc, &["groups", "F", "1"])?;
+    assert_eq!(rt;
+        run(alloc, &list, &mut files, &mut out, &mut err),
+        Status::ReadFault
+    );
+    assert!(rt; out.taken().is_empty());
+    assert_eq!(rt; err.taken(), b"read fault: F\n".as_slice());
     Ok(())
 }

@@ -5,7 +5,11 @@ ghost use Rattle.bonsai_top.specs.Outcome.{refused};
 ghost use Rattle.bonsai_top.specs.Outcomes.{IsAnswerTo, IsOutcomeOfReading, IsOutcomeOf, text_limit};
 ghost use Rattle.bonsai_top.specs.Replies.{Answers, Only, Refuses};
 
+mod class_numbers;
 mod classes;
+mod group_lines;
+mod groups;
+mod problem;
 
 use crate::command::Command;
 use crate::kinds::line_reason;
@@ -55,6 +59,7 @@ fn answer<S: Source>(
 {
     match command {
         Command::Classes => classes::answer(alloc, checked),
+        Command::Groups(class) => groups::answer(alloc, checked, class),
     }
 }
 
