@@ -35,7 +35,7 @@ interface_step n _ i said is = (is, refl)
 
 -- ---- an OSPF process
 
-bytes_other : (m n : List ℕ) → bytes_eq m n ≡ false → bytes_eq n m ≡ false
+pub bytes_other : (m n : List ℕ) → bytes_eq m n ≡ false → bytes_eq n m ≡ false
 bytes_other m n other = elim (cases_Bool (bytes_eq n m)) [
   | inl same ↦ let back : bytes_eq m n ≡ true = (bytes_eq-Decides m n).1 (sym ((bytes_eq-Decides n m).0 same)) in absurd cc
   | inr not ↦ not
@@ -61,7 +61,7 @@ number_swap m n = elim (cases_Bool (m == n)) [
   | inr other ↦ other ∙ sym (ne_eqb n m (λ e. eqb-false m n other (sym e)))
 ]
 
-area_swap : (a b : AreaLine) → same_area a b ≡ same_area b a
+pub area_swap : (a b : AreaLine) → same_area a b ≡ same_area b a
 area_swap a b = rw (number_swap a.addr b.addr, number_swap a.wild b.wild, number_swap a.area b.area) refl
 
 abbrev AreAreas : List AreaLine → Type 0

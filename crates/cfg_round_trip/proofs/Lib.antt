@@ -3,11 +3,15 @@ pub mod BareForms
 pub mod BareLists
 pub mod BareStanzas
 pub mod BareSteps
+pub mod HeadsBack
+pub mod ItemsBack
 pub mod LineBytes
 pub mod MemberLaw
 pub mod Numbers
 pub mod OtherLines
+pub mod PolicyItemsBack
 pub mod PrintedLines
 pub mod PrintedNetwork
 pub mod PrintedWords
 pub mod TextLines
+pub mod WordsBack
