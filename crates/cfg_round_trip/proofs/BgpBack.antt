@@ -1,6 +1,6 @@
 -- The printed lines of a BGP process are read as it.
-use Rattle.std.proofs.Common.{◌≡◌, ℕ, Bool, true, false, List, [], ◌∷◌, ◌++◌, map, Option, Some, None, Result, Ok, Err, refl, sym, ap, ◌∙◌, append_assoc}
-use Rattle.std.specs.Prelude.{IfSome, codes, ◌==◌, if◌then◌else◌}
+use Rattle.std.proofs.Common.{◌≡◌, ℕ, Bool, true, false, List, [], ◌∷◌, ◌++◌, map, Option, Some, None, Result, Ok, refl, sym, ap, ◌∙◌, append_assoc}
+use Rattle.std.specs.Prelude.{IfSome, codes, ◌==◌}
 use Rattle.std.specs.Option.{option_map}
 use Rattle.std.specs.List.{AllByRecursion, IsDistinct, list_any, flat_map}
 use Rattle.std.proofs.lemmas.Bool.{eq-eqb, or_parts}
@@ -16,8 +16,8 @@ use Rattle.cfg_ast.specs.declared.items.RouterItem.TheVariants as item
 use Rattle.cfg_ast.specs.declared.refusal.ReadRefusal.{ReadRefusal}
 use Rattle.cfg_ast.specs.TextLines.{TextLine}
 use Rattle.cfg_ast.specs.RouterForms.{router_item_of}
-use Rattle.cfg_ast.specs.Stanzas.{has_network, has_neighbor, new_neighbor, set_neighbor, at_neighbor, peer_of, set_process, set_bgp}
-use Rattle.cfg_ast.specs.Reading.{Stanza, in_bgp, take_inner}
+use Rattle.cfg_ast.specs.Stanzas.{has_network, has_neighbor, set_neighbor, at_neighbor, peer_of, set_process, set_bgp}
+use Rattle.cfg_ast.specs.Reading.{in_bgp, take_inner}
 use Rattle.cfg_ast.specs.Printed.{line_of, line_if, closing, base_line, network_line, remote_line, peer_shut_line, peer_sends_line, applied_line, neighbor_lines}
 use Rattle.cfg_ast.specs.Bare.{bare_named, bare_base, bare_net, bare_neighbor, bare_bgp}
 use Rattle.cfg_ast.specs.WellFormed.{IsBetween, IsNumber, IsWellFormedBase, IsWellFormedNamed, IsWellFormedNetLine, same_net, IsWellFormedNeighbor, same_neighbor, IsWellFormedBgp}

@@ -1,6 +1,6 @@
 -- The printed lines of an entry of a route map are read as it.
-use Rattle.std.proofs.Common.{◌≡◌, ℕ, Bool, true, false, List, [], ◌∷◌, ◌++◌, map, Option, Some, None, Result, Ok, Err, refl, sym, ap, ◌∙◌}
-use Rattle.std.specs.Prelude.{IfSome, codes}
+use Rattle.std.proofs.Common.{◌≡◌, ℕ, Bool, true, false, List, [], ◌∷◌, ◌++◌, Option, Some, None, Ok, refl, sym, ap, ◌∙◌}
+use Rattle.std.specs.Prelude.{IfSome}
 use Rattle.std.specs.Option.{option_map}
 use Rattle.cfg_ast.specs.declared.network.Named.{Named}
 use Rattle.cfg_ast.specs.declared.policy.NameLine.{NameLine}
@@ -13,7 +13,7 @@ use Rattle.cfg_ast.specs.declared.items.PolicyItem.{PolicyItem}
 use Rattle.cfg_ast.specs.TextLines.{TextLine}
 use Rattle.cfg_ast.specs.PolicyForms.{policy_item_of}
 use Rattle.cfg_ast.specs.PolicyLines.{set_entry}
-use Rattle.cfg_ast.specs.Reading.{Stanza, in_entry, take_inner}
+use Rattle.cfg_ast.specs.Reading.{in_entry, take_inner}
 use Rattle.cfg_ast.specs.Printed.{line_of, closing, match_prefixes_line, match_comms_line, lp_line, change_line, delete_line, prepend_line}
 use Rattle.cfg_ast.specs.Bare.{bare_named, bare_name_line, bare_prepend, bare_map_entry}
 use Rattle.cfg_ast.specs.WellFormed.{IsNumber, IsWellFormedNamed, IsWellFormedNameLine, IsMarkRight, IsWellFormedChange, IsWellFormedPrepend, IsWellFormedMapEntry}

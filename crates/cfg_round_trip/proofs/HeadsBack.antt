@@ -1,11 +1,10 @@
 -- The heads of the lines that are printed.
-use Rattle.std.proofs.Common.{◌≡◌, ℕ, Bool, true, false, List, [], ◌∷◌, Option, Some, None, refl, sym, ap, ◌∙◌}
+use Rattle.std.proofs.Common.{◌≡◌, ℕ, false, List, [], ◌∷◌, Some, refl}
 use Rattle.std.specs.Prelude.{codes, bytes_eq, is_some}
 use Rattle.cfg_ast.specs.declared.items.Scope.{Scope}
 use Rattle.cfg_ast.specs.declared.items.Scope.TheVariants as scope
 use Rattle.cfg_ast.specs.declared.items.PolicyScope.{PolicyScope}
 use Rattle.cfg_ast.specs.declared.items.PolicyScope.TheVariants as policy_scope
-use Rattle.cfg_ast.specs.declared.heads.HeadClass.{HeadClass}
 use Rattle.cfg_ast.specs.declared.heads.HeadClass.TheVariants.{Router, Policy}
 use Rattle.cfg_ast.specs.declared.heads.RouterForm.{RouterForm}
 use Rattle.cfg_ast.specs.declared.heads.RouterForm.TheVariants as form

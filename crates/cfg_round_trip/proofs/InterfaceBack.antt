@@ -1,6 +1,6 @@
 -- The printed lines of an interface are read as it.
-use Rattle.std.proofs.Common.{◌≡◌, ℕ, Bool, true, false, List, [], ◌∷◌, ◌++◌, map, Option, Some, None, Result, Ok, Err, refl, sym, ap, ◌∙◌}
-use Rattle.std.specs.Prelude.{IfSome, codes, if◌then◌else◌}
+use Rattle.std.proofs.Common.{◌≡◌, ℕ, Bool, true, false, List, [], ◌∷◌, ◌++◌, Option, Some, None, Ok, refl}
+use Rattle.std.specs.Prelude.{IfSome}
 use Rattle.std.specs.Option.{option_map}
 use Rattle.cfg_ast.specs.Addresses.{Address}
 use Rattle.cfg_ast.specs.declared.interface.Interface.{Interface}
@@ -9,8 +9,8 @@ use Rattle.cfg_ast.specs.declared.items.RouterItem.{RouterItem}
 use Rattle.cfg_ast.specs.TextLines.{TextLine}
 use Rattle.cfg_ast.specs.RouterForms.{router_item_of}
 use Rattle.cfg_ast.specs.Stanzas.{set_interface}
-use Rattle.cfg_ast.specs.Reading.{Stanza, in_interface, Draft, take_inner}
-use Rattle.cfg_ast.specs.Printed.{line_of, line_if, closing, address_line, cost_line, shutdown_line, interface_lines}
+use Rattle.cfg_ast.specs.Reading.{in_interface, take_inner}
+use Rattle.cfg_ast.specs.Printed.{line_of, line_if, closing, address_line, cost_line, shutdown_line}
 use Rattle.cfg_ast.specs.Bare.{bare_address, bare_interface}
 use Rattle.cfg_ast.specs.WellFormed.{IsBetween, IsWellFormedAddress, IsWellFormedInterface}
 use Rattle.cfg_round_trip.proofs.ItemsBack.{address_item, cost_item, shutdown_item}

@@ -1,11 +1,8 @@
 -- What a printed router line says.
-use Rattle.std.proofs.Common.{◌≡◌, ℕ, ◌≤◌, Bool, true, false, List, [], ◌∷◌, Option, Some, None, Result, Ok, Err, refl, sym, ap, ◌∙◌, arith, inl, inr}
-use Rattle.std.specs.Prelude.{codes, bytes_eq, ◌==◌, if◌then◌else◌}
+use Rattle.std.proofs.Common.{◌≡◌, ℕ, Bool, true, false, List, [], ◌∷◌, Option, Some, Result, Ok, refl, sym, ap, ◌∙◌, arith, inl, inr}
+use Rattle.std.specs.Prelude.{codes, bytes_eq, if◌then◌else◌}
 use Rattle.std.specs.Fmt.{decimal}
-use Rattle.std.specs.Option.{option_or}
-use Rattle.std.specs.List.{AllByRecursion, list_any}
-use Rattle.std.specs.Char.{is_ascii_digit}
-use Rattle.std.proofs.lemmas.Bool.{eq-eqb, and_parts, cases_Bool}
+use Rattle.std.proofs.lemmas.Bool.{eq-eqb, cases_Bool}
 use Rattle.std.proofs.lemmas.Slice.Eq.{bytes_eq-Decides}
 use Rattle.base_kit.specs.Prefixes.{Prefix}
 use Rattle.cfg_ast.specs.Addresses.{Address}
@@ -14,7 +11,6 @@ use Rattle.cfg_ast.specs.declared.bgp.Base.{Base}
 use Rattle.cfg_ast.specs.declared.bgp.NetLine.{NetLine}
 use Rattle.cfg_ast.specs.declared.ospf.AreaLine.{AreaLine}
 use Rattle.cfg_ast.specs.declared.heads.HeadClass.{HeadClass}
-use Rattle.cfg_ast.specs.declared.heads.HeadClass.TheVariants.{Router}
 use Rattle.cfg_ast.specs.declared.heads.RouterForm.{RouterForm}
 use Rattle.cfg_ast.specs.declared.heads.RouterForm.TheVariants as form
 use Rattle.cfg_ast.specs.declared.items.Scope.{Scope}
@@ -22,7 +18,7 @@ use Rattle.cfg_ast.specs.declared.items.Scope.TheVariants as scope
 use Rattle.cfg_ast.specs.declared.items.RouterItem.{RouterItem}
 use Rattle.cfg_ast.specs.declared.items.RouterItem.TheVariants as item
 use Rattle.cfg_ast.specs.declared.refusal.FormFault.{FormFault}
-use Rattle.cfg_ast.specs.Words.{is_router_name, is_interface_name, exact_prefix, bits_behind, mask_of, address_word, number_word}
+use Rattle.cfg_ast.specs.Words.{is_router_name, is_interface_name, exact_prefix, bits_behind, mask_of}
 use Rattle.cfg_ast.specs.FormSteps.{named_of}
 use Rattle.cfg_ast.specs.RouterForms.{hostname_form, interface_form, bgp_form, ospf_form, end_form, ip_address_form, cost_form, shutdown_form, base_form, net_line, network_form, remote_as_form, peer_shut_form, peer_sends_form, is_inward, peer_list_form, peer_map_form, area_of, area_form, passive_form, not_passive_form, router_form, router_item_by, router_item_of}
 use Rattle.cfg_ast.specs.Printed.{address_text, address_line, cost_line, shutdown_line, base_line, network_line, remote_line, peer_shut_line, peer_sends_line, applied_line, passive_default_line, passive_line, not_passive_line, area_line}

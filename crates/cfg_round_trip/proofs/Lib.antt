@@ -11,6 +11,7 @@ pub mod ItemsBack
 pub mod LineBytes
 pub mod ListsBack
 pub mod MemberLaw
+pub mod NetworkBack
 pub mod Numbers
 pub mod OspfBack
 pub mod OtherLines
@@ -20,5 +21,8 @@ pub mod PrintedLines
 pub mod PrintedNetwork
 pub mod PrintedWords
 pub mod ReadBack
+pub mod RouteMapsBack
+pub mod RouterBack
 pub mod TextLines
+pub mod Twice
 pub mod WordsBack

@@ -1,20 +1,11 @@
 -- The printed lines of lists and route maps are read as these, list by list.
-use Rattle.std.proofs.Common.{◌≡◌, ℕ, ◌+◌, ◌<◌, ◌≤◌, Bool, true, false, ◌&&◌, List, [], ◌∷◌, ◌++◌, length, map, Option, Some, None, Result, Ok, Err, refl, sym, ap, ◌∙◌, arith, append_assoc}
-use Rattle.std.specs.Prelude.{codes, bytes_eq, nat_lt, ◌==◌, if◌then◌else◌}
-use Rattle.std.specs.List.{AllByRecursion, IsDistinct, list_any, flat_map}
+use Rattle.std.proofs.Common.{◌≡◌, ℕ, ◌<◌, Bool, true, false, ◌&&◌, List, [], ◌∷◌, ◌++◌, map, refl, arith, append_assoc}
+use Rattle.std.specs.Prelude.{bytes_eq, nat_lt, ◌==◌}
+use Rattle.std.specs.List.{AllByRecursion, list_any}
 use Rattle.std.proofs.lemmas.Bool.{or_parts, or_from, and_left, and_right, ne_eqb, le-ltb}
-use Rattle.std.proofs.lemmas.List.{append-nil}
 use Rattle.std.proofs.lemmas.Slice.Eq.{bytes_eq-Decides}
-use Rattle.base_kit.specs.Sets.{AllAbove, IsAscending}
-use Rattle.cfg_ast.specs.declared.policy.PrefixEntry.{PrefixEntry}
-use Rattle.cfg_ast.specs.declared.policy.PrefixList.{PrefixList}
-use Rattle.cfg_ast.specs.declared.policy.CommunityLine.{CommunityLine}
-use Rattle.cfg_ast.specs.declared.policy.CommunityList.{CommunityList}
-use Rattle.cfg_ast.specs.declared.policy.MapEntry.{MapEntry}
-use Rattle.cfg_ast.specs.declared.policy.RouteMap.{RouteMap}
-use Rattle.cfg_ast.specs.TextLines.{TextLine}
+use Rattle.base_kit.specs.Sets.{AllAbove}
 use Rattle.cfg_ast.specs.PolicyLines.{changed_or_new, put_before}
-use Rattle.cfg_round_trip.proofs.ReadBack.{Inner}
 
 -- ---- one item changed, or a new one
 

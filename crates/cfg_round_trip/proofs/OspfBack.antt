@@ -1,6 +1,6 @@
 -- The printed lines of an OSPF process are read as it.
-use Rattle.std.proofs.Common.{◌≡◌, ℕ, Bool, true, false, List, [], ◌∷◌, ◌++◌, map, Option, Some, None, Result, Ok, Err, refl, sym, ap, ◌∙◌, append_assoc}
-use Rattle.std.specs.Prelude.{codes, bytes_eq, if◌then◌else◌}
+use Rattle.std.proofs.Common.{◌≡◌, ℕ, Bool, true, false, List, [], ◌∷◌, ◌++◌, map, Ok, refl, sym, ap, ◌∙◌, append_assoc}
+use Rattle.std.specs.Prelude.{bytes_eq}
 use Rattle.std.specs.List.{AllByRecursion, IsDistinct, list_any}
 use Rattle.std.proofs.lemmas.List.{append-nil}
 use Rattle.cfg_ast.specs.declared.ospf.AreaLine.{AreaLine}
@@ -10,7 +10,7 @@ use Rattle.cfg_ast.specs.declared.items.RouterItem.{RouterItem}
 use Rattle.cfg_ast.specs.TextLines.{TextLine}
 use Rattle.cfg_ast.specs.RouterForms.{router_item_of}
 use Rattle.cfg_ast.specs.Stanzas.{with_text, same_area, with_area, set_ospf}
-use Rattle.cfg_ast.specs.Reading.{Stanza, in_ospf, take_inner}
+use Rattle.cfg_ast.specs.Reading.{in_ospf, take_inner}
 use Rattle.cfg_ast.specs.Printed.{line_if, closing, passive_default_line, passive_line, not_passive_line, area_line}
 use Rattle.cfg_ast.specs.Bare.{bare_area, bare_ospf}
 use Rattle.cfg_ast.specs.WellFormed.{IsInterfaceName, IsWellFormedArea, IsWellFormedOspf}

@@ -1,16 +1,14 @@
 -- What a printed line of a list or a route map says.
-use Rattle.std.proofs.Common.{◌≡◌, ◌≢◌, ℕ, zero, suc, ◌+◌, ◌-◌, ◌/◌, ◌%◌, ◌*◌, ◌<◌, ◌≤◌, Bool, true, false, ◌&&◌, ◌||◌, not, List, [], ◌∷◌, ◌++◌, length, map, take, get_or, Option, Some, None, Result, Ok, Err, refl, sym, ap, ◌∙◌, arith, inl, inr}
-use Rattle.std.specs.Prelude.{IfSome, codes, bytes_eq, nat_le, ◌==◌, if◌then◌else◌}
+use Rattle.std.proofs.Common.{◌≡◌, ℕ, suc, ◌-◌, ◌/◌, ◌%◌, ◌<◌, ◌≤◌, Bool, true, false, ◌&&◌, ◌||◌, not, List, [], ◌∷◌, ◌++◌, length, map, take, get_or, Option, Some, None, Result, Ok, refl, sym, ap, ◌∙◌, arith, inl, inr}
+use Rattle.std.specs.Prelude.{codes, bytes_eq, nat_le, ◌==◌, if◌then◌else◌}
 use Rattle.std.specs.Fmt.{decimal}
 use Rattle.std.specs.Option.{is_some, option_and_then}
 use Rattle.std.specs.List.{AllByRecursion, IsDistinct, list_all, list_any, filter_map}
-use Rattle.std.proofs.lemmas.Bool.{le-leb, lt-leb, leb-true, ne_eqb, and_parts, and_from, or_from, cases_Bool, cases_lt, not_from_false}
-use Rattle.std.proofs.lemmas.Bool.Decides.{nat_tests}
+use Rattle.std.proofs.lemmas.Bool.{le-leb, lt-leb, leb-true, ne_eqb, and_parts, and_from, or_from, cases_Bool, not_from_false}
 use Rattle.std.proofs.lemmas.List.{length-map, append-nil}
 use Rattle.std.proofs.lemmas.Slice.Eq.{bytes_eq-Decides}
 use Rattle.std.proofs.Math.Seq.{take-append_seam}
-use Rattle.base_kit.specs.Numbers.{number_of, number_up_to, is_numeral, is_digit, value_from}
-use Rattle.base_kit.specs.Prefixes.{Prefix}
+use Rattle.base_kit.specs.Numbers.{is_numeral, is_digit, value_from}
 use Rattle.base_kit.specs.Sets.{has, with_numbers, AllAbove, IsAscending}
 use Rattle.base_kit.proofs.SetFacts.{has-with_numbers, ascending_with_numbers, one_list}
 use Rattle.cfg_ast.specs.declared.network.Named.{Named}
@@ -22,7 +20,6 @@ use Rattle.cfg_ast.specs.declared.policy.Change.{Change}
 use Rattle.cfg_ast.specs.declared.policy.Change.TheVariants.{Clear, Replace, Append}
 use Rattle.cfg_ast.specs.declared.policy.MapEntry.{MapEntry}
 use Rattle.cfg_ast.specs.declared.heads.HeadClass.{HeadClass}
-use Rattle.cfg_ast.specs.declared.heads.HeadClass.TheVariants.{Policy}
 use Rattle.cfg_ast.specs.declared.heads.PolicyForm.{PolicyForm}
 use Rattle.cfg_ast.specs.declared.heads.PolicyForm.TheVariants as form
 use Rattle.cfg_ast.specs.declared.items.PolicyScope.{PolicyScope}
@@ -30,14 +27,14 @@ use Rattle.cfg_ast.specs.declared.items.PolicyScope.TheVariants as scope
 use Rattle.cfg_ast.specs.declared.items.PolicyItem.{PolicyItem}
 use Rattle.cfg_ast.specs.declared.items.PolicyItem.TheVariants as item
 use Rattle.cfg_ast.specs.declared.refusal.FormFault.{FormFault}
-use Rattle.cfg_ast.specs.Words.{is_list_name, number_word, number_between, if_between, as_number_of, community_of, is_community, is_well_known_name, is_some_reserved, is_well_known, same_value, same_community}
-use Rattle.cfg_ast.specs.FormSteps.{list_name_of, named_of}
+use Rattle.cfg_ast.specs.Words.{is_list_name, number_word, number_between, if_between, as_number_of, community_of, is_community, is_well_known_name, is_well_known, same_community}
+use Rattle.cfg_ast.specs.FormSteps.{list_name_of}
 use Rattle.cfg_ast.specs.PolicyForms.{is_permit, all_differ, is_group, list_names_of, communities_of, is_marked, but_last, bounds_of, prefix_entry_form, community_line, numbered_line, community_line_form, empty_entry, map_head_form, match_prefixes_form, comms_match, marked_match, match_comms_form, lp_form, is_none_alone, change_of, set_comms_form, delete_form, is_as_number, prepend_form, policy_form, policy_item_by, policy_item_of}
-use Rattle.cfg_ast.specs.Printed.{act_text, prefix_text, community_text, bound_words, prefix_entry_line, community_list_name, community_line as printed_community_line, map_head_line, match_prefixes_line, match_comms_line, lp_line, change_line, delete_line, prepend_line}
+use Rattle.cfg_ast.specs.Printed.{act_text, prefix_text, community_text, bound_words, prefix_entry_line, community_line as printed_community_line, map_head_line, match_prefixes_line, match_comms_line, lp_line, change_line, delete_line, prepend_line}
 use Rattle.cfg_ast.specs.Bare.{bare_named, bare_prefix_entry, bare_community_line, bare_name_line, bare_prepend}
-use Rattle.cfg_ast.specs.WellFormed.{IsBetween, IsNumber, IsListName, IsPrefix, IsCommunitySet, IsWellFormedNamed, AreBounds, IsWellFormedPrefixEntry, IsWellFormedNameLine, IsMarkRight, IsWellFormedChange, IsWellFormedPrepend}
+use Rattle.cfg_ast.specs.WellFormed.{IsBetween, IsNumber, IsListName, IsCommunitySet, IsWellFormedNamed, AreBounds, IsWellFormedPrefixEntry, IsWellFormedNameLine, IsMarkRight, IsWellFormedChange, IsWellFormedPrepend}
 use Rattle.cfg_given.proofs.Each.{all_weaker}
-use Rattle.cfg_round_trip.proofs.WordsBack.{IsDigit, decimal_digits, AreDigits, number_back, between_back, as_number_back, prefix_back, community_back}
+use Rattle.cfg_round_trip.proofs.WordsBack.{IsDigit, decimal_digits, number_back, between_back, as_number_back, prefix_back, community_back}
 use Rattle.cfg_round_trip.proofs.HeadsBack.{IsPolicyHeadOf, prefix_list_head, standard_head, numbered_head, map_head, match_prefixes_head, match_comms_head, lp_head, comms_head, delete_head, prepend_head}
 use Rattle.cfg_round_trip.proofs.ItemsBack.{named_back}
 

@@ -1,9 +1,9 @@
 -- The printed lines of prefix lists and community lists are read as these.
-use Rattle.std.proofs.Common.{◌≡◌, ℕ, ◌+◌, ◌<◌, ◌≤◌, Bool, true, false, ◌&&◌, List, [], ◌∷◌, ◌++◌, length, map, Option, Some, None, Result, Ok, Err, refl, sym, ap, ◌∙◌, arith}
-use Rattle.std.specs.Prelude.{codes, bytes_eq, nat_lt, ◌==◌, if◌then◌else◌}
+use Rattle.std.proofs.Common.{◌≡◌, ℕ, ◌<◌, ◌≤◌, false, List, [], ◌∷◌, ◌++◌, length, map, Option, refl, sym, ap, ◌∙◌, arith}
+use Rattle.std.specs.Prelude.{nat_lt}
 use Rattle.std.specs.List.{AllByRecursion, IsDistinct, list_any, flat_map}
 use Rattle.std.proofs.lemmas.List.{append-nil}
-use Rattle.base_kit.specs.Sets.{AllAbove, IsAscending}
+use Rattle.base_kit.specs.Sets.{IsAscending}
 use Rattle.cfg_ast.specs.declared.network.Named.{Named}
 use Rattle.cfg_ast.specs.declared.interface.Interface.{Interface}
 use Rattle.cfg_ast.specs.declared.bgp.BgpProcess.{BgpProcess}
@@ -12,7 +12,6 @@ use Rattle.cfg_ast.specs.declared.policy.PrefixEntry.{PrefixEntry}
 use Rattle.cfg_ast.specs.declared.policy.PrefixList.{PrefixList}
 use Rattle.cfg_ast.specs.declared.policy.CommunityLine.{CommunityLine}
 use Rattle.cfg_ast.specs.declared.policy.CommunityList.{CommunityList}
-use Rattle.cfg_ast.specs.declared.policy.MapEntry.{MapEntry}
 use Rattle.cfg_ast.specs.declared.policy.RouteMap.{RouteMap}
 use Rattle.cfg_ast.specs.declared.items.PolicyItem.TheVariants as item
 use Rattle.cfg_ast.specs.TextLines.{TextLine}
@@ -22,7 +21,7 @@ use Rattle.cfg_ast.specs.Printed.{closing, closed as closed_lines, prefix_entry_
 use Rattle.cfg_ast.specs.Bare.{bare_prefix_entry, bare_prefix_list, bare_community_line, bare_community_list}
 use Rattle.cfg_ast.specs.WellFormed.{IsListName, IsWellFormedPrefixEntry, prefix_seqs, IsWellFormedPrefixList, same_prefix_list, IsWellFormedCommunityLine, IsWellFormedCommunityList, same_community_list}
 use Rattle.cfg_round_trip.proofs.PolicyItemsBack.{prefix_entry_item, community_item}
-use Rattle.cfg_round_trip.proofs.ReadBack.{Top, policy_top, Reads, reads_none, reads_then, reads_line, reads_skipped, AreNew, new_to_none, new_to_more}
+use Rattle.cfg_round_trip.proofs.ReadBack.{policy_top, Reads, reads_none, reads_then, reads_line, reads_skipped, AreNew, new_to_none, new_to_more}
 use Rattle.cfg_round_trip.proofs.ListsBack.{new_last, change_last, put_last, AreBelow, below_none, below_more, none_later, none_same, no_name_no_number, last_no_number, same_bytes, grown}
 
 -- a router of these parts, of which no stanza is open

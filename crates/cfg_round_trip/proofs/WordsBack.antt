@@ -1,18 +1,17 @@
 -- What is written of a number, an address, a prefix or a community is read as it.
-use Rattle.std.proofs.Common.{◌≡◌, ◌≢◌, ℕ, zero, suc, ◌+◌, ◌-◌, ◌*◌, ◌/◌, ◌%◌, ◌^◌, ◌<◌, ◌≤◌, Bool, true, false, ◌&&◌, ◌||◌, not, List, [], ◌∷◌, ◌++◌, length, get_or, take, drop, Option, Some, None, refl, sym, ap, ◌∙◌, arith, add-one, inl, inr}
-use Rattle.std.specs.Prelude.{nat_eq, nat_le, ◌==◌, if◌then◌else◌, is_some}
+use Rattle.std.proofs.Common.{◌≡◌, ◌≢◌, ℕ, zero, suc, ◌+◌, ◌-◌, ◌*◌, ◌/◌, ◌%◌, ◌^◌, ◌<◌, ◌≤◌, Bool, true, false, ◌||◌, List, [], ◌∷◌, ◌++◌, length, get_or, take, drop, Option, Some, None, refl, sym, ap, ◌∙◌, arith, inl, inr}
+use Rattle.std.specs.Prelude.{nat_eq, nat_le}
 use Rattle.std.specs.Fmt.{decimal}
 use Rattle.std.specs.List.{AllByRecursion, list_all, list_any, range_with_len, position_or_len, before_first, after_first, join_with_byte}
 use Rattle.std.specs.Option.{option_eq}
-use Rattle.std.proofs.lemmas.Bool.{le-leb, eq-eqb, ne_eqb, eqb-true, and_from, and_parts, cases_lt, true≢false}
-use Rattle.std.proofs.lemmas.Bool.Decides.{nat_tests}
+use Rattle.std.proofs.lemmas.Bool.{le-leb, ne_eqb, eqb-true, and_from, cases_lt, true≢false}
 use Rattle.std.proofs.lemmas.Fmt.{decimal_by_steps}
 use Rattle.std.proofs.Math.Nat.{div-div-eq-div-mul}
 use Rattle.std.proofs.Math.Seq.{take-append_seam, drop-append-add}
-use Rattle.base_kit.specs.Numbers.{is_digit, value_from, is_numeral, number_up_to, parts_at_points, before_first as before_part, address_of_numbers, address_of_parts, address_of}
+use Rattle.base_kit.specs.Numbers.{is_digit, value_from, is_numeral, number_up_to, parts_at_points, before_first as before_part, address_of_parts, address_of}
 use Rattle.base_kit.specs.Prefixes.{Prefix}
 use Rattle.base_kit.proofs.Words.{is_plain_digits, a_number}
-use Rattle.cfg_ast.specs.Words.{number_word, number_between, if_between, as_number_of, address_word, mask_of, len_of_mask, mask_len_of, bits_behind, cut_to, is_slash, prefix_of, is_colon, community_of_halves, community_of}
+use Rattle.cfg_ast.specs.Words.{number_word, number_between, as_number_of, address_word, mask_of, len_of_mask, mask_len_of, bits_behind, cut_to, is_slash, prefix_of, is_colon, community_of}
 use Rattle.cfg_ast.specs.Printed.{address_text, prefix_text, community_text}
 use Rattle.cfg_ast.specs.WellFormed.{IsBetween, IsNumber, IsPrefix}
 use Rattle.cfg_given.proofs.Each.{all_weaker, all_pass}
@@ -191,9 +190,13 @@ is_point = (omega arith, omega arith, λ e. omega arith)
 
 four_bytes : (a b c d : ℕ) → a < 2 ^ 64 → b < 2 ^ 64 → c < 2 ^ 64 → d < 2 ^ 64 → AllByRecursion IsAddressByte (join_with_byte 46 (decimal a ∷ decimal b ∷ decimal c ∷ decimal d ∷ []))
 four_bytes a b c d ha hb hc hd =
-    all_append IsAddressByte (decimal a) _ (digits_bytes a ha) (is_point,
-    all_append IsAddressByte (decimal b) _ (digits_bytes b hb) (is_point,
-    all_append IsAddressByte (decimal c) _ (digits_bytes c hc) (is_point, digits_bytes d hd)))
+    all_append IsAddressByte (decimal a) _ (digits_bytes a ha) (
+      is_point,
+      all_append IsAddressByte (decimal b) _ (digits_bytes b hb) (
+        is_point,
+        all_append IsAddressByte (decimal c) _ (digits_bytes c hc) (is_point, digits_bytes d hd),
+      ),
+    )
 
 pub address_bytes : (addr : ℕ) → IsNumber addr → AllByRecursion IsAddressByte (address_text addr)
 unfolding address_text

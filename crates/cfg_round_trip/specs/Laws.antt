@@ -1,10 +1,30 @@
 -- What is read back of what is printed.
-use Rattle.std.specs.Prelude.{◌≡◌, List, map, Ok}
+use Rattle.std.specs.Prelude.{◌≡◌, ◌≤◌, ◌==◌, List, length, map, filter, Ok}
+use Rattle.std.specs.List.{AllByRecursion}
 use Rattle.cfg_ast.specs.declared.network.Network.{Network}
+use Rattle.cfg_ast.specs.declared.network.Notes.{Notes}
 use Rattle.cfg_ast.specs.TextLines.{TextLine}
-use Rattle.cfg_ast.specs.Reading.{network_of_lines}
+use Rattle.cfg_ast.specs.Reading.{network_of_lines, network_of_text}
+use Rattle.cfg_ast.specs.Printed.{line_text, printed_lines, printed}
 use Rattle.cfg_ast.specs.Bare.{bare, bare_line}
+use Rattle.cfg_ast.specs.WellFormed.{IsWellFormed}
+use Rattle.cfg_round_trip.specs.Notes.{AreNotes}
 
 -- Lines that are the same but for their numbers give networks that are.
 abbrev pub NumbersAreAside : Type 0
 NumbersAreAside = (ls ms : List TextLine) → map bare_line ls ≡ map bare_line ms → (n : Network) → network_of_lines ls ≡ Ok n → (m : Network) × (network_of_lines ms ≡ Ok m) × (bare m ≡ bare n)
+
+-- a text of at most 1,000,000 lines
+abbrev pub HasFewLines : Network → Notes → Type 0
+HasFewLines network notes = length (filter (λ b. b == 10) (printed network notes)) ≤ 1000000
+
+-- of at most 1,024 bytes each, but for the newline
+abbrev pub HasShortLines : Network → Notes → Type 0
+HasShortLines network notes = AllByRecursion (λ (l : TextLine). length (line_text l) ≤ 1025) (printed_lines network notes)
+
+-- What is printed of a well-formed network is read as it but for the numbers of lines, where the text
+-- keeps the limits of a text that is read.
+abbrev pub PrintedIsReadBack : Type 0
+PrintedIsReadBack =
+    (network : Network) (notes : Notes) → IsWellFormed network → AreNotes network notes → HasFewLines network notes → HasShortLines network notes
+    → (m : Network) × (network_of_text (printed network notes) ≡ Ok m) × (bare m ≡ bare network)

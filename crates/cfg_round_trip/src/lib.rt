@@ -6,7 +6,7 @@
 
 mod members;
 
-ghost use Rattle.cfg_round_trip.specs.Laws.{NumbersAreAside};
+ghost use Rattle.cfg_round_trip.specs.Laws.{NumbersAreAside, PrintedIsReadBack};
 
 pub use members::members_are_read_back;
 
@@ -14,4 +14,10 @@ pub use members::members_are_read_back;
 /// of their lines.
 pub fn numbers_are_aside()
     ensures { NumbersAreAside }
+{}
+
+/// What is printed of a well-formed network is read as it but for the numbers of lines, where the text
+/// has at most 1,000,000 lines and each at most 1,024 bytes.
+pub fn printed_is_read_back()
+    ensures { PrintedIsReadBack }
 {}
