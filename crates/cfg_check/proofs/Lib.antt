@@ -1,3 +1,4 @@
+pub mod AreaLookups
 pub mod BlockLemmas
 pub mod CommunityCounts
 pub mod Counted

@@ -1,3 +1,4 @@
+pub mod AreaLines
 pub mod Blocks
 pub mod Communities
 pub mod Faultless

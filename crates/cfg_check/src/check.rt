@@ -40,8 +40,8 @@ fn least_fault(alloc: Global, network: &Network) -> Result<Option<Fault>, NoMemo
     let least = with_fault(least, Kind::SharedAddress, shared_address(alloc, routers)?);
     let overlapping = overlapping_interfaces(alloc, routers)?;
     let least = with_fault(least, Kind::OverlappingInterfaces, overlapping);
-    let least = with_fault(least, Kind::LoopbackMask, loopback_mask(routers));
-    let least = with_fault(least, Kind::NoCost, no_cost(routers));
+    let least = with_fault(least, Kind::LoopbackMask, loopback_mask(alloc, routers)?);
+    let least = with_fault(least, Kind::NoCost, no_cost(alloc, routers)?);
     let least = with_fault(least, Kind::TooManyRouters, too_many_routers(routers));
     let communities = too_many_communities(alloc, routers)?;
     let least = with_fault(least, Kind::TooManyCommunities, communities);

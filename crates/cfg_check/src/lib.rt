@@ -9,6 +9,7 @@
 
 mod addresses;
 mod area;
+mod area_index;
 mod check;
 mod checked;
 mod communities;
@@ -24,5 +25,6 @@ mod prepends;
 mod processes;
 mod undefined;
 
+pub use area_index::AreaIndex;
 pub use check::check_network;
 pub use checked::Checked;

@@ -1,8 +1,9 @@
-ghost use Rattle.std.specs.Prelude.{◌≡◌, ◌≤◌, IfOk, OnOk, map, length, []};
+ghost use Rattle.std.specs.Prelude.{◌≡◌, ◌≤◌, IfOk, OnOk, map, filter_map, length, []};
 ghost use Rattle.cfg_ast.specs.RouterFaults.{active_address_on, active_addresses_of, added_after, exceeding};
 ghost use Rattle.cfg_check.specs.LeastLine.{least_line};
 ghost use Rattle.cfg_check.specs.Pairs.{subnet_pair, bucket, counted, sum_or_line, PushesAt, AddsAll};
 
+use crate::area_index::AreaIndex;
 use crate::gather::push_some;
 use base_kit::NoMemory;
 use cfg_ast::{Address, Interface, Router};
@@ -18,23 +19,35 @@ fn subnet_pair(address: Address) -> (u8, u32)
     (subnet.len(), subnet.addr())
 }
 
-fn active_address(router: &Router, interface: &Interface) -> Option<Address>
-    ensures { result ≡ active_address_on router.now interface.now }
+fn active_address(index: &AreaIndex, interface: &Interface) -> Option<Address>
+    ensures { result ≡ active_address_on index.now.router.now interface.now }
 {
-    if router.has_active(interface) {
+    if index.has_active(interface) {
         interface.up_address()
     } else {
         None
     }
 }
 
+fn active_addresses_in(
+    alloc: Global,
+    index: &AreaIndex,
+    interfaces: &[Interface],
+) -> Result<Vec<Address>, NoMemory>
+    ensures { IfOk result (λ found. found.items ≡ filter_map (active_address_on index.now.router.now) interfaces.now) }
+{
+    let mut found = Vec::new(alloc);
+    for interface in interfaces {
+        push_some(&mut found, active_address(index, interface))?;
+    }
+    Ok(found)
+}
+
 fn active_addresses(alloc: Global, router: &Router) -> Result<Vec<Address>, NoMemory>
     ensures { IfOk result (λ found. found.items ≡ active_addresses_of router.now) }
 {
-    let mut found = Vec::new(alloc);
-    for interface in router.interfaces.as_slice() {
-        push_some(&mut found, active_address(router, interface))?;
-    }
+    let index = AreaIndex::of(alloc, router)?;
+    let found = active_addresses_in(alloc, &index, router.interfaces.as_slice())?;
     Ok(found)
 }
 

@@ -150,7 +150,8 @@ pub(crate) fn mixed_protocols(routers: &[Router]) -> Option<u32>
     other_protocol(routers, protocol)
 }
 
-fn areas(router: &Router) -> &[AreaLine]
+/// The OSPF `network` lines of the router.
+pub(crate) fn areas(router: &Router) -> &[AreaLine]
     ensures { result.now ≡ areas_of router.now }
 {
     match &router.ospf {

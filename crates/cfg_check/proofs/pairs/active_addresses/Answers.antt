@@ -1,6 +1,11 @@
+use Rattle.std.proofs.Common.{List, filter_map, ap, ◌∙◌}
+use Rattle.cfg_ast.specs.declared.interface.Interface.{Interface}
+use Rattle.cfg_ast.specs.declared.network.Router.{Router}
 use Rattle.cfg_ast.specs.RouterFaults.{active_address_on}
-use Rattle.cfg_check.proofs.Turns.{picked_more}
 use Rattle.cfg_check.proofs.pairs.active_addresses.Goals as goal
 
-pub loop-interface-preserved : goal.loop-interface-preserved
-loop-interface-preserved c = picked_more (active_address_on c.args.router.now) c.as_slice-interface-items.result.now c.loop-interface.interface-index c.interface-item.result c.loop-interface.found.items c.push_some.new.found.items c.active_address.result c.loop-interface-test.true c.interface-item.is c.loop-interface.invariant c.active_address.ensures c.in_ok-push_some.ensures
+pub returns : goal.returns
+returns c =
+    c.in_ok-found.ensures
+    ∙ ap (λ (router : Router). filter_map (active_address_on router) c.as_slice.result.now) c.in_ok-index.ensures
+    ∙ ap (λ (xs : List Interface). filter_map (active_address_on c.args.router.now) xs) c.as_slice.ensures
