@@ -9,6 +9,8 @@
 
 mod plain;
 mod session;
+#[cfg(test)]
+mod tests;
 mod verdict;
 
 pub use plain::{Imported, Plain, PlainEntry, Verdict};

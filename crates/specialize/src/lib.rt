@@ -12,5 +12,7 @@
 mod copies;
 pub mod laws;
 mod maps;
+#[cfg(test)]
+mod tests;
 
 pub use maps::policy;
