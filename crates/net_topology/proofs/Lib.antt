@@ -4,4 +4,4 @@ pub mod Joined
 pub mod PlaceSteps
 pub mod PushedItems
 pub mod SessionLemmas
-pub mod Shares
+pub mod UpLemmas

@@ -1,15 +1,12 @@
 -- Neighbours that are not shut down, by the AS numbers of both ends.
-use Rattle.std.specs.Prelude.{ℕ, Bool, false, ◌&&◌, List, Option, Some, None, map, filter, filter_map, nat_eq, nat_lt, slice_get, if◌then◌else◌}
-use Rattle.std.specs.Option.{option_and_then, option_map_or}
-use Rattle.std.specs.List.{list_any}
-use Rattle.cfg_ast.specs.Addresses.{Address}
+use Rattle.std.specs.Prelude.{ℕ, Bool, false, ◌&&◌, List, Option, Some, None, map, filter, filter_map, nat_lt, slice_get, if◌then◌else◌}
+use Rattle.std.specs.Option.{option_and_then}
 use Rattle.cfg_ast.specs.declared.bgp.BgpProcess.{BgpProcess}
 use Rattle.cfg_ast.specs.declared.bgp.Neighbor.{Neighbor}
-use Rattle.cfg_ast.specs.declared.interface.Interface.{Interface}
 use Rattle.cfg_ast.specs.declared.network.Network.{Network}
 use Rattle.cfg_ast.specs.declared.network.Router.{Router}
 use Rattle.cfg_ast.specs.declared.topology.Link.{Link}
-use Rattle.cfg_ast.specs.Topology.{Place, places, neighbors_of, up_address, same_subnet, up_addresses_at, share_subnet}
+use Rattle.cfg_ast.specs.Topology.{Place, places, neighbors_of, share_subnet}
 use Rattle.net_topology.specs.Buckets.{same_pair}
 use Rattle.net_topology.specs.declared.sessions.Peer.{Peer}
 
@@ -33,12 +30,6 @@ own_pair s = (s.number, s.remote)
 -- each of two peers names the number of the other's router
 abbrev pub is_near : Peer → Peer → Bool
 is_near s t = same_pair (s.remote, s.number) (own_pair t)
-
-abbrev pub is_beside : ℕ → Address → Interface → Bool
-is_beside addr other x = option_map_or (λ (a : Address). nat_eq a.addr addr && same_subnet other a) (up_address x) false
-
-abbrev pub leads_to : ℕ → Router → ℕ → Interface → Bool
-leads_to addr other far x = option_map_or (λ (a : Address). nat_eq a.addr addr && list_any (same_subnet a) (up_addresses_at other far)) (up_address x) false
 
 abbrev pub share_at : Option Router → ℕ → Option Router → ℕ → Bool
 share_at None a v b = false

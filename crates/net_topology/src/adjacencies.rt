@@ -8,6 +8,7 @@ use crate::buckets::{items_at, push_at};
 use crate::places::place;
 use base_kit::{List, NoMemory};
 use cfg_ast::{Address, Interface, Link, Network, Router};
+use cfg_check::AreaIndex;
 use std::alloc::Global;
 use std::collections::HashMap;
 
@@ -20,20 +21,20 @@ pub(crate) struct Spot {
     pub(crate) first: u32,
 }
 
-fn active_address(router: &Router, interface: &Interface) -> Option<Address>
-    ensures { result ≡ active_address_on router.now interface.now }
+fn active_address(index: &AreaIndex, interface: &Interface) -> Option<Address>
+    ensures { result ≡ active_address_on index.now.router.now interface.now }
 {
-    if router.has_active(interface) {
+    if index.has_active(interface) {
         interface.address
     } else {
         None
     }
 }
 
-fn spot_at(router: u32, item: u32, owner: &Router, interface: &Interface) -> Option<Spot>
-    ensures { result ≡ spot_on router item owner.now interface.now }
+fn spot_at(router: u32, item: u32, index: &AreaIndex, interface: &Interface) -> Option<Spot>
+    ensures { result ≡ spot_on router item index.now.router.now interface.now }
 {
-    let address = active_address(owner, interface)?;
+    let address = active_address(index, interface)?;
     let subnet = address.subnet();
     Some(Spot {
         router,
@@ -43,17 +44,33 @@ fn spot_at(router: u32, item: u32, owner: &Router, interface: &Interface) -> Opt
     })
 }
 
-fn push_spots(found: &mut Vec<Spot>, router: u32, owner: &Router) -> Result<(), NoMemory>
-    ensures { OnOk result (found.new.items ≡ found.old.items ++ filter_map spot_of (map (place_on router owner.now) (enumerate_from 0 owner.now.interfaces))) }
+fn push_spots_in(
+    found: &mut Vec<Spot>,
+    router: u32,
+    index: &AreaIndex,
+    interfaces: &[Interface],
+) -> Result<(), NoMemory>
+    ensures { OnOk result (found.new.items ≡ found.old.items ++ filter_map spot_of (map (place_on router index.now.router.now) (enumerate_from 0 interfaces.now))) }
 {
-    let interfaces = owner.interfaces.as_slice();
     for i in 0..interfaces.len() {
         let item = place(i)?;
-        if let Some(spot) = spot_at(router, item, owner, &interfaces[i]) {
+        if let Some(spot) = spot_at(router, item, index, &interfaces[i]) {
             found.push(spot)?;
         }
     }
     Ok(())
+}
+
+fn push_spots(
+    alloc: Global,
+    found: &mut Vec<Spot>,
+    router: u32,
+    owner: &Router,
+) -> Result<(), NoMemory>
+    ensures { OnOk result (found.new.items ≡ found.old.items ++ filter_map spot_of (map (place_on router owner.now) (enumerate_from 0 owner.now.interfaces))) }
+{
+    let index = AreaIndex::of(alloc, owner)?;
+    push_spots_in(found, router, &index, owner.interfaces.as_slice())
 }
 
 fn spots(alloc: Global, network: &Network) -> Result<Vec<Spot>, NoMemory>
@@ -63,7 +80,7 @@ fn spots(alloc: Global, network: &Network) -> Result<Vec<Spot>, NoMemory>
     let routers = network.routers.as_slice();
     for r in 0..routers.len() {
         let router = place(r)?;
-        push_spots(&mut found, router, &routers[r])?;
+        push_spots(alloc, &mut found, router, &routers[r])?;
     }
     Ok(found)
 }

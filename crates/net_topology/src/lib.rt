@@ -2,8 +2,8 @@
 //!
 //! `links` gives the BGP sessions and the OSPF adjacencies of a checked network, in the order of their
 //! ends, exactly as the definition that goes over all pairs of neighbours and of interfaces. The pairs
-//! are found by indexes over subnets and over AS numbers, so that the time grows with the number of
-//! links and not with that of all pairs. `unmatched` gives the neighbours that are part of no session.
+//! are found by indexes over subnets, AS numbers and addresses, so that the time grows with the number
+//! of links and not with that of all pairs. `unmatched` gives the neighbours that are part of no session.
 #![tactic(auto)]
 
 mod adjacencies;
@@ -12,6 +12,7 @@ mod network_links;
 mod places;
 mod sessions;
 mod unmatched_neighbors;
+mod ups;
 
 pub use cfg_ast::{Link, Unmatched};
 pub use network_links::links;
