@@ -19,9 +19,17 @@ pub and_after : {A B : Type 0} (Q : A → Type 0) (P : B → Type 0) (o : Option
 and_after Q P (Some x) f is rest = rest x is
 and_after Q P None f is rest = tt
 
-pub anything : {A : Type 0} (o : Option A) → IfSome o (λ x. Unit {0})
+-- any value will do
+abbrev pub IsAny : {A : Type 0} → A → Type 0
+IsAny x = Unit {0}
+
+pub anything : {A : Type 0} (o : Option A) → IfSome o (IsAny {A = A})
 anything (Some x) = tt
 anything None = tt
+
+pub any_result : {A E : Type 0} (r : Result A E) → IfOk r (IsAny {A = A})
+any_result (Ok x) = tt
+any_result (Err fault) = tt
 
 -- ---- forms
 

@@ -4,7 +4,9 @@ pub mod DraftSteps
 pub mod Each
 pub mod Given
 pub mod Lists
+pub mod LineOrder
 pub mod ListSteps
+pub mod PlaceOrder
 pub mod PolicyItems
 pub mod RouterItems
 pub mod StanzaSteps

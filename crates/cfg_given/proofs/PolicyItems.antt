@@ -1,5 +1,5 @@
 -- What lines of lists and route maps say lies in its range, form by form.
-use Rattle.std.proofs.Common.{◌≡◌, ℕ, ◌-◌, Bool, true, false, ◌&&◌, List, [], ◌∷◌, length, Option, Some, None, refl, ap, ◌∙◌, arith}
+use Rattle.std.proofs.Common.{◌≡◌, ℕ, ◌-◌, true, false, ◌&&◌, List, [], ◌∷◌, length, Option, Some, None, refl, ap, ◌∙◌, arith}
 use Rattle.std.specs.Prelude.{IfSome, IfOk, codes, bytes_eq, nat_le}
 use Rattle.std.specs.Option.{is_some}
 use Rattle.std.specs.List.{AllByRecursion, list_all}
@@ -15,7 +15,7 @@ use Rattle.cfg_ast.specs.Words.{as_number_of, number_between}
 use Rattle.cfg_ast.specs.Heads.{class_in, policy_heads_of}
 use Rattle.cfg_ast.specs.PolicyForms.{is_permit, is_marked, but_last, bounds_of, prefix_entry_form, community_line, numbered_line, community_line_form, map_head_form, match_prefixes_form, comms_match, marked_match, match_comms_form, lp_form, is_none_alone, change_of, set_comms_form, delete_form, is_as_number, prepend_form, policy_form, policy_item_by, policy_item_of}
 use Rattle.cfg_ast.specs.WellFormed.{IsBetween, IsNumber, IsListName, IsPrefix, IsCommunitySet, IsWellFormedNamed, AreBounds, IsWellFormedPrefixEntry, IsWellFormedCommunityLine, IsWellFormedNameLine, IsMarkRight, IsWellFormedChange, IsWellFormedPrepend, IsWellFormedMapEntry}
-use Rattle.cfg_given.proofs.Given.{given, after, fits, either, anything}
+use Rattle.cfg_given.proofs.Given.{given, after, fits, either, IsAny, anything}
 use Rattle.cfg_given.proofs.Each.{all_take, all_pass, all_filter_map, length-filter_map}
 use Rattle.cfg_given.proofs.Values.{a_number, between, an_as_number, a_prefix}
 use Rattle.cfg_given.proofs.RouterItems.{IsWord, AreWords, a_named}
@@ -32,9 +32,6 @@ IsPolicyItem (item.Comms change) = IsWellFormedChange change
 IsPolicyItem (item.Delete list) = IsWellFormedNamed list
 IsPolicyItem (item.Prepend prepend) = IsWellFormedPrepend prepend
 IsPolicyItem item.Ignored = Unit {0}
-
-abbrev IsAny : Bool → Type 0
-IsAny b = Unit {0}
 
 -- ---- top lines
 

@@ -1,5 +1,5 @@
 -- What router lines say lies in its range, form by form.
-use Rattle.std.proofs.Common.{◌≡◌, ℕ, Bool, true, List, [], ◌∷◌, Option, Some, None}
+use Rattle.std.proofs.Common.{◌≡◌, ℕ, true, List, [], ◌∷◌, Option, Some, None}
 use Rattle.std.specs.Prelude.{IfOk, codes, bytes_eq}
 use Rattle.std.specs.List.{AllByRecursion}
 use Rattle.cfg_ast.specs.declared.heads.HeadClass.{HeadClass}
@@ -14,7 +14,7 @@ use Rattle.cfg_ast.specs.FormSteps.{named_of}
 use Rattle.cfg_ast.specs.Heads.{class_in, heads_of}
 use Rattle.cfg_ast.specs.RouterForms.{hostname_form, interface_form, bgp_form, ospf_form, end_form, ip_address_form, cost_form, shutdown_form, base_form, net_line, network_form, remote_as_form, peer_shut_form, sends_standard, peer_sends_form, is_inward, peer_list_form, peer_map_form, area_form, passive_form, not_passive_form, router_form, router_item_by, router_item_of}
 use Rattle.cfg_ast.specs.WellFormed.{IsBetween, IsNumber, IsInterfaceName, IsWellFormedAddress, IsWellFormedNetLine, IsWellFormedNamed, IsWellFormedArea}
-use Rattle.cfg_given.proofs.Given.{given, after, fits, either, anything}
+use Rattle.cfg_given.proofs.Given.{given, after, fits, either, IsAny, anything}
 use Rattle.cfg_given.proofs.Values.{a_number, between, an_as_number, an_address, an_area, a_mask_len, a_class_len, IsSomePrefix, an_exact_prefix}
 
 -- each byte of a word prints and is no blank
@@ -133,9 +133,6 @@ unfolding peer_sends_form
 peer_sends_case (_ ∷ address ∷ _ ∷ []) = given IsNumber IsRouterItem _ _ (an_address address) (λ addr is. tt)
 peer_sends_case (_ ∷ address ∷ _ ∷ word ∷ []) = fits IsRouterItem (sends_standard word) _ (λ e. given IsNumber IsRouterItem _ _ (an_address address) (λ addr is. tt))
 peer_sends_case _ = tt
-
-abbrev IsAny : Bool → Type 0
-IsAny b = Unit {0}
 
 peer_list_case : (line : ℕ) (words : List (List ℕ)) → AreWords words → IfOk (peer_list_form line words) IsRouterItem
 unfolding peer_list_form

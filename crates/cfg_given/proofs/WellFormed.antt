@@ -15,20 +15,13 @@ use Rattle.cfg_ast.specs.Topology.{default_costs, is_row_of, default_cost_of, ty
 use Rattle.cfg_ast.specs.WellFormed.{IsBetween, IsWellFormedInterface, IsWellFormedRouter, IsWellFormed}
 use Rattle.cfg_given.specs.Laws.{GivenIsWellFormed, GivenRoutersAreWellFormed, GivenCostsArePositive}
 use Rattle.cfg_given.proofs.Each.{all_find}
-use Rattle.cfg_given.proofs.Given.{then_step}
+use Rattle.cfg_given.proofs.Given.{IsAny, any_result, then_step}
 use Rattle.cfg_given.proofs.DraftSteps.{IsState, start_is, IsLineOfWords, all_steps}
 use Rattle.cfg_given.proofs.TextWords.{lines_words}
 
-abbrev IsAny : Unit {0} → Type 0
-IsAny x = Unit {0}
-
-ends : (r : Result (Unit {0}) ReadRefusal) → IfOk r IsAny
-ends (Ok x) = tt
-ends (Err fault) = tt
-
 of_lines : (ls : List TextLine) → AllByRecursion IsLineOfWords ls → IfOk (network_of_lines ls) IsWellFormed
 unfolding network_of_lines
-of_lines ls are = then_step IsState IsWellFormed (steps at_start ls) _ (all_steps ls at_start are start_is) (λ s is. then_step IsAny IsWellFormed (ending ls) _ (ends (ending ls)) (λ x any. record { routers = is.routers }))
+of_lines ls are = then_step IsState IsWellFormed (steps at_start ls) _ (all_steps ls at_start are start_is) (λ s is. then_step IsAny IsWellFormed (ending ls) _ (any_result (ending ls)) (λ x any. record { routers = is.routers }))
 
 of_result : (bs : List ℕ) (r : Result (List Line) ReadRefusal) → lines_of bs ≡ r → IfOk (r >>= (λ (ls : List Line). network_of_lines (texts_of bs ls))) IsWellFormed
 of_result bs (Err fault) e = tt

@@ -4,7 +4,7 @@
 //! network calls the law that it needs, and knows what the law says of its network.
 #![tactic(auto)]
 
-ghost use Rattle.cfg_given.specs.Laws.{GivenCostsArePositive, GivenIsWellFormed, GivenRoutersAreWellFormed};
+ghost use Rattle.cfg_given.specs.Laws.{GivenCostsArePositive, GivenIsWellFormed, GivenPlacesAreInOrder, GivenRoutersAreWellFormed};
 
 /// A text gives only networks that are as the grammar has them: names are names, numbers lie in their
 /// ranges, what may stand once stands once, and entries ascend.
@@ -20,4 +20,10 @@ pub fn given_routers_are_well_formed()
 /// The cost of an interface of such a network is at least 1, be it given or that of its type.
 pub fn given_costs_are_positive()
     ensures { GivenCostsArePositive }
+{}
+
+/// The interfaces of such a network stand in the order of their lines, router by router, and so do its
+/// neighbours; there are at most 1,000,000 of each.
+pub fn given_places_are_in_order()
+    ensures { GivenPlacesAreInOrder }
 {}

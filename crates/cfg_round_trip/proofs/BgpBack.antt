@@ -1,5 +1,5 @@
 -- The printed lines of a BGP process are read as it.
-use Rattle.std.proofs.Common.{◌≡◌, ℕ, Bool, true, false, List, [], ◌∷◌, ◌++◌, map, Option, Some, None, Result, Ok, refl, sym, ap, ◌∙◌, append_assoc}
+use Rattle.std.proofs.Common.{◌≡◌, ℕ, Bool, true, false, List, [], ◌∷◌, ◌++◌, map, Option, Some, None, Result, Ok, refl, sym, ap, ◌∙◌}
 use Rattle.std.specs.Prelude.{IfSome, codes, ◌==◌}
 use Rattle.std.specs.Option.{option_map}
 use Rattle.std.specs.List.{AllByRecursion, IsDistinct, list_any, flat_map}
@@ -22,7 +22,7 @@ use Rattle.cfg_ast.specs.Printed.{line_of, line_if, closing, base_line, network_
 use Rattle.cfg_ast.specs.Bare.{bare_named, bare_base, bare_net, bare_neighbor, bare_bgp}
 use Rattle.cfg_ast.specs.WellFormed.{IsBetween, IsNumber, IsWellFormedBase, IsWellFormedNamed, IsWellFormedNetLine, same_net, IsWellFormedNeighbor, same_neighbor, IsWellFormedBgp}
 use Rattle.cfg_round_trip.proofs.ItemsBack.{base_item, network_item, remote_item, peer_shut_item, peer_sends_item, peer_list_item, peer_map_item}
-use Rattle.cfg_round_trip.proofs.ReadBack.{at_stanza, Inner, inner_none, inner_then, inner_line, inner_closing, AreNew, new_to_none, new_to_more}
+use Rattle.cfg_round_trip.proofs.ReadBack.{at_stanza, Inner, inner_none, inner_then, inner_line, inner_closing, AreNew, new_to_none, new_to_more, grown}
 
 taken : (l : TextLine) (b c : BgpProcess) (said : RouterItem) → router_item_of scope.Bgp l.number l.words ≡ Ok said → set_bgp l.number said b ≡ Ok c → take_inner l (in_bgp b) ≡ Ok (in_bgp c)
 unfolding take_inner
@@ -35,9 +35,6 @@ base_stage : (number : ℕ) (o : Option Base) → IfSome o IsWellFormedBase → 
 unfolding base_line set_bgp set_process
 base_stage number None is = inner_none _
 base_stage number (Some base) is = inner_line (base_line base) _ _ refl refl (taken (base_line base) _ _ _ (base_item base is) refl)
-
-grown : {X : Type 0} (done : List X) (x : X) (rest : List X) → (done ++ x ∷ []) ++ rest ≡ done ++ x ∷ rest
-grown done x rest = append_assoc done (x ∷ []) rest
 
 -- ---- networks
 

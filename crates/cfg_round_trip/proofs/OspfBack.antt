@@ -1,5 +1,5 @@
 -- The printed lines of an OSPF process are read as it.
-use Rattle.std.proofs.Common.{◌≡◌, ℕ, Bool, true, false, List, [], ◌∷◌, ◌++◌, map, Ok, refl, sym, ap, ◌∙◌, append_assoc}
+use Rattle.std.proofs.Common.{◌≡◌, ℕ, Bool, true, false, List, [], ◌∷◌, ◌++◌, map, Ok, refl, sym, ap, ◌∙◌}
 use Rattle.std.specs.Prelude.{bytes_eq}
 use Rattle.std.specs.List.{AllByRecursion, IsDistinct, list_any}
 use Rattle.std.proofs.lemmas.List.{append-nil}
@@ -17,7 +17,7 @@ use Rattle.cfg_ast.specs.WellFormed.{IsInterfaceName, IsWellFormedArea, IsWellFo
 use Rattle.cfg_given.proofs.Each.{all_weaker}
 use Rattle.cfg_given.proofs.StanzaSteps.{bytes_other, area_swap}
 use Rattle.cfg_round_trip.proofs.ItemsBack.{passive_default_item, passive_item, not_passive_item, area_item}
-use Rattle.cfg_round_trip.proofs.ReadBack.{at_stanza, Inner, inner_none, inner_then, inner_line, inner_closing, AreNew, new_to_none, new_to_more}
+use Rattle.cfg_round_trip.proofs.ReadBack.{at_stanza, Inner, inner_none, inner_then, inner_line, inner_closing, AreNew, new_to_none, new_to_more, grown}
 
 taken : (l : TextLine) (o p : OspfProcess) (said : RouterItem) → router_item_of scope.Ospf l.number l.words ≡ Ok said → set_ospf said o ≡ p → take_inner l (in_ospf o) ≡ Ok (in_ospf p)
 unfolding take_inner
@@ -43,9 +43,6 @@ name_is_new done name new = rw new refl
 
 names_swap : (name : List ℕ) (names : List (List ℕ)) → AllByRecursion (λ other. bytes_eq name other ≡ false) names → AllByRecursion (λ other. same_name name other ≡ false) names
 names_swap name names differ = all_weaker (λ other. bytes_eq name other ≡ false) (λ other. same_name name other ≡ false) (λ other apart. bytes_other name other apart) names differ
-
-grown : {X : Type 0} (done : List X) (x : X) (rest : List X) → (done ++ x ∷ []) ++ rest ≡ done ++ x ∷ rest
-grown done x rest = append_assoc done (x ∷ []) rest
 
 passive_stage : (number : ℕ) (default : Bool) (done names : List (List ℕ)) → AllByRecursion IsInterfaceName names → IsDistinct bytes_eq names → AreNew same_name done names
     → Inner (map passive_line names) (in_ospf (process_with number default done [] [])) (in_ospf (process_with number default (done ++ names) [] []))

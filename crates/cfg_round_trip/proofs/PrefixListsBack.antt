@@ -21,8 +21,8 @@ use Rattle.cfg_ast.specs.Printed.{closing, closed as closed_lines, prefix_entry_
 use Rattle.cfg_ast.specs.Bare.{bare_prefix_entry, bare_prefix_list, bare_community_line, bare_community_list}
 use Rattle.cfg_ast.specs.WellFormed.{IsListName, IsWellFormedPrefixEntry, prefix_seqs, IsWellFormedPrefixList, same_prefix_list, IsWellFormedCommunityLine, IsWellFormedCommunityList, same_community_list}
 use Rattle.cfg_round_trip.proofs.PolicyItemsBack.{prefix_entry_item, community_item}
-use Rattle.cfg_round_trip.proofs.ReadBack.{policy_top, Reads, reads_none, reads_then, reads_line, reads_skipped, AreNew, new_to_none, new_to_more}
-use Rattle.cfg_round_trip.proofs.ListsBack.{new_last, change_last, put_last, AreBelow, below_none, below_more, none_later, none_same, no_name_no_number, last_no_number, same_bytes, grown}
+use Rattle.cfg_round_trip.proofs.ReadBack.{policy_top, Reads, reads_none, reads_then, reads_line, reads_skipped, AreNew, new_to_none, new_to_more, grown}
+use Rattle.cfg_round_trip.proofs.ListsBack.{new_last, change_last, put_last, AreBelow, below_none, below_more, none_later, none_same, no_name_no_number, last_no_number, same_bytes}
 
 -- a router of these parts, of which no stanza is open
 abbrev pub draft_of : Option Named → List Interface → Option BgpProcess → Option OspfProcess → List PrefixList → List CommunityList → List RouteMap → Draft

@@ -1,5 +1,5 @@
 -- How printed lines are read, piece by piece.
-use Rattle.std.proofs.Common.{◌≡◌, Bool, true, false, List, [], ◌∷◌, ◌++◌, filter, Result, Ok, Err, refl, ap, ◌∙◌}
+use Rattle.std.proofs.Common.{◌≡◌, Bool, true, false, List, [], ◌∷◌, ◌++◌, filter, Result, Ok, Err, refl, ap, ◌∙◌, append_assoc}
 use Rattle.std.specs.List.{AllByRecursion, list_any}
 use Rattle.std.proofs.lemmas.Bool.{or_parts}
 use Rattle.std.proofs.lemmas.List.Elements.{filter-append}
@@ -135,3 +135,6 @@ any_push test (y ∷ ys) x none here =
 pub new_to_more : {X : Type 0} (same : X → X → Bool) (done : List X) (x : X) (ys : List X) → AreNew same done ys → AllByRecursion (λ (y : X). same x y ≡ false) ys → AreNew same (done ++ x ∷ []) ys
 new_to_more same done x [] new differ = tt
 new_to_more {X} same done x (y ∷ ys) new differ = (any_push (λ (z : X). same z y) done x new.0 differ.0, new_to_more same done x ys new.1 differ.1)
+
+pub grown : {X : Type 0} (done : List X) (x : X) (rest : List X) → (done ++ x ∷ []) ++ rest ≡ done ++ x ∷ rest
+grown done x rest = append_assoc done (x ∷ []) rest

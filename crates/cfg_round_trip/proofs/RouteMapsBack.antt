@@ -20,8 +20,8 @@ use Rattle.cfg_ast.specs.Printed.{map_head_line, map_entry_lines, route_map_line
 use Rattle.cfg_ast.specs.Bare.{bare_map_entry, bare_route_map}
 use Rattle.cfg_ast.specs.WellFormed.{IsListName, IsWellFormedMapEntry, map_seqs, IsWellFormedRouteMap, same_route_map}
 use Rattle.cfg_round_trip.proofs.PolicyItemsBack.{map_head_item}
-use Rattle.cfg_round_trip.proofs.ReadBack.{policy_top, Reads, reads_none, reads_then, reads_stanza, AreNew, new_to_none, new_to_more}
-use Rattle.cfg_round_trip.proofs.ListsBack.{new_last, change_last, put_last, AreBelow, below_none, below_more, none_later, none_same, no_name_no_number, last_no_number, same_bytes, grown}
+use Rattle.cfg_round_trip.proofs.ReadBack.{policy_top, Reads, reads_none, reads_then, reads_stanza, AreNew, new_to_none, new_to_more, grown}
+use Rattle.cfg_round_trip.proofs.ListsBack.{new_last, change_last, put_last, AreBelow, below_none, below_more, none_later, none_same, no_name_no_number, last_no_number, same_bytes}
 use Rattle.cfg_round_trip.proofs.EntryBack.{entry_rest, entry_inner}
 use Rattle.cfg_round_trip.proofs.PrefixListsBack.{draft_of}
 

@@ -20,8 +20,7 @@ use Rattle.cfg_ast.specs.Bare.{bare_interface, bare_bgp, bare_ospf, bare_prefix_
 use Rattle.cfg_ast.specs.WellFormed.{IsWellFormedInterface, same_interface, IsWellFormedBgp, IsWellFormedOspf, IsWellFormedRouter}
 use Rattle.cfg_round_trip.proofs.ItemsBack.{hostname_item, interface_item, bgp_item, ospf_item, end_item}
 use Rattle.cfg_round_trip.proofs.PrintedLines.{is_read}
-use Rattle.cfg_round_trip.proofs.ReadBack.{at_draft, then_steps, one_step, router_top, Reads, reads_none, reads_then, reads_line, reads_stanza, reads_skipped, AreNew, new_to_none, new_to_more}
-use Rattle.cfg_round_trip.proofs.ListsBack.{grown}
+use Rattle.cfg_round_trip.proofs.ReadBack.{at_draft, then_steps, one_step, router_top, Reads, reads_none, reads_then, reads_line, reads_stanza, reads_skipped, AreNew, new_to_none, new_to_more, grown}
 use Rattle.cfg_round_trip.proofs.InterfaceBack.{interface_rest, interface_inner}
 use Rattle.cfg_round_trip.proofs.BgpBack.{bgp_rest, bgp_inner}
 use Rattle.cfg_round_trip.proofs.OspfBack.{ospf_rest, ospf_inner}
