@@ -1,18 +1,17 @@
 -- The entries of a map by prefix, as an ascending list.
-use Rattle.std.proofs.Common.{◌≡◌, ℕ, Bool, true, false, cond, List, [], ◌∷◌, map, Option, Some, None, ◌⊎◌, inl, inr, refl, sym, ◌∙◌, ap, subst, arith, true≢false, unwrap_or, ◌||◌}
-use Rattle.std.specs.Prelude.{nat_eq, is_some}
+use Rattle.std.proofs.Common.{◌≡◌, Bool, true, false, cond, List, [], ◌∷◌, map, Option, Some, None, inl, inr, refl, sym, ◌∙◌, ap, true≢false, unwrap_or, ◌||◌}
+use Rattle.std.specs.Prelude.{is_some}
 use Rattle.std.specs.Map.{lookup, keys_of}
 use Rattle.std.specs.BTreeMap.{BTreeMap, get, is_at, IsOrdered}
-use Rattle.std.specs.List.{AllByRecursion, list_any}
+use Rattle.std.specs.List.{AllByRecursion}
 use Rattle.std.specs.List.Sorted.{IsStrictlySortedBy}
-use Rattle.std.specs.Ordering.{is_eq, is_lt}
+use Rattle.std.specs.Ordering.{is_lt}
 use Rattle.std.specs.declared.cmp.Ordering.TheVariants.{Less}
-use Rattle.std.proofs.lemmas.Bool.Decides.{nat_tests}
 use Rattle.base_kit.specs.Prefixes.{Prefix}
 use Rattle.cfg_ast.specs.declared.classes.Origin.{Origin}
 use Rattle.cfg_ast.specs.declared.network.Network.{Network}
 use Rattle.cfg_ast.specs.Classes.{same_prefix, is_before, has_prefix, AllAfter, AreAscending, originated, origins_of}
-use Rattle.cfg_ast.proofs.PrefixSets.{one_prefix, same_prefix-self, not_same_before, same_prefix-sym, cases_prefix, has_not_before, AllAfter-trans}
+use Rattle.cfg_ast.proofs.PrefixSets.{one_prefix, same_prefix-self, not_same_before, cases_prefix, has_not_before, AllAfter-trans}
 use Rattle.cfg_ast.proofs.ClassFacts.{originated_ascends}
 use Rattle.dest_classes.specs.Routes.{prefix_order}
 use Rattle.dest_classes.proofs.Noted.{some_of}

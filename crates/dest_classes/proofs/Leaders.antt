@@ -1,5 +1,5 @@
 -- Items put into groups one after the other: each group is led by its first item.
-use Rattle.std.proofs.Common.{◌≡◌, ℕ, Bool, true, false, cond, not, ◌&&◌, ◌||◌, List, [], ◌∷◌, ◌++◌, map, refl, sym, ◌∙◌, ap, subst, true≢false, append_assoc, append-nil}
+use Rattle.std.proofs.Common.{◌≡◌, Bool, true, false, cond, not, ◌&&◌, ◌||◌, List, [], ◌∷◌, ◌++◌, map, refl, sym, ◌∙◌, ap, subst, true≢false, append_assoc, append-nil}
 use Rattle.std.specs.Prelude.{filter}
 use Rattle.std.specs.List.{list_any}
 use Rattle.std.proofs.lemmas.List.Folds.{list_any-append}
@@ -8,10 +8,10 @@ use Rattle.std.proofs.lemmas.List.Elements.{filter-append}
 use Rattle.base_kit.specs.Prefixes.{Prefix}
 use Rattle.cfg_ast.specs.declared.network.Network.{Network}
 use Rattle.cfg_ast.specs.declared.classes.Origin.{Origin}
-use Rattle.cfg_ast.specs.Classes.{is_before, AllAfter, AreAscending, IsSameClass, is_same_class, is_least, originated, origins_of, class_of, classes_of}
+use Rattle.cfg_ast.specs.Classes.{is_before, AllAfter, AreAscending, is_same_class, is_least, originated, origins_of, class_of, classes_of}
 use Rattle.cfg_ast.proofs.PrefixSets.{not_before_self, not_before_back}
 use Rattle.cfg_ast.proofs.ClassFacts.{one_class, is_one_class, originated_ascends}
-use Rattle.dest_classes.specs.Groups.{Traits, traits_of, same_traits, Group, with_member, with_members, class_from}
+use Rattle.dest_classes.specs.Groups.{traits_of, same_traits, Group, with_member, with_members, class_from}
 
 or_false : (b : Bool) → (b || false) ≡ b
 or_false true = refl

@@ -1,5 +1,5 @@
 -- What is noted of a prefix are its originators.
-use Rattle.std.proofs.Common.{◌≡◌, ℕ, ◌+◌, ◌<◌, ◌≤◌, suc, Bool, true, false, cond, List, [], ◌∷◌, ◌++◌, Option, Some, None, refl, sym, ◌∙◌, ap, arith, append_assoc, append-nil, length, length-append, ◌-◌, zero, eq-eqb, true≢false}
+use Rattle.std.proofs.Common.{◌≡◌, ℕ, ◌+◌, ◌<◌, suc, Bool, true, false, cond, List, [], ◌∷◌, ◌++◌, Option, Some, None, refl, sym, ◌∙◌, ap, arith, append_assoc, append-nil, length, length-append, ◌-◌, zero, eq-eqb, true≢false}
 use Rattle.std.specs.Prelude.{filter_map, find, nat_eq, slice_get, unwrap_or}
 use Rattle.std.specs.Option.{option_map, option_map_or}
 use Rattle.std.specs.List.{enumerate_from, cons_option}
@@ -12,7 +12,7 @@ use Rattle.cfg_ast.specs.declared.network.Router.{Router}
 use Rattle.cfg_ast.specs.declared.network.Network.{Network}
 use Rattle.cfg_ast.specs.Classes.{same_prefix, initial_route, origin_at, origins_of}
 use Rattle.dest_classes.specs.declared.routes.Route.{Route}
-use Rattle.dest_classes.specs.Routes.{routes_on, ends_at, with_origin, noted, all_noted, noted_from}
+use Rattle.dest_classes.specs.Routes.{routes_on, ends_at, with_origin, all_noted, noted_from}
 use Rattle.dest_classes.proofs.Starts.{leads_to, start_in, initial_is}
 
 -- a list, if it has an item

@@ -1,5 +1,5 @@
 -- The originated prefixes are those that have an originator.
-use Rattle.std.proofs.Common.{◌≡◌, ℕ, ◌+◌, Bool, true, false, cond, ◌&&◌, ◌||◌, List, [], ◌∷◌, ◌++◌, Option, Some, None, refl, sym, ◌∙◌, ap, true≢false}
+use Rattle.std.proofs.Common.{◌≡◌, ℕ, ◌+◌, Bool, true, false, cond, ◌&&◌, ◌||◌, List, [], ◌∷◌, Option, Some, None, refl, sym, ◌∙◌, ap, true≢false}
 use Rattle.std.specs.Prelude.{filter, filter_map, flat_map, find, is_some}
 use Rattle.std.specs.Option.{option_map, option_map_or}
 use Rattle.std.specs.List.{list_any, enumerate_from, cons_option}
@@ -10,7 +10,7 @@ use Rattle.cfg_ast.specs.declared.classes.Origin.{Origin}
 use Rattle.cfg_ast.specs.declared.interface.Interface.{Interface}
 use Rattle.cfg_ast.specs.declared.network.Network.{Network}
 use Rattle.cfg_ast.specs.declared.network.Router.{Router}
-use Rattle.cfg_ast.specs.Classes.{same_prefix, has_prefix, up_subnet, is_up_in, is_announced, route_from, initial_route, originated_by, originated, origin_at, origins_of}
+use Rattle.cfg_ast.specs.Classes.{same_prefix, has_prefix, up_subnet, is_up_in, route_from, initial_route, originated_by, originated, origin_at, origins_of}
 use Rattle.cfg_ast.specs.Topology.{is_in_area_interface, cost_of_interface}
 use Rattle.cfg_ast.proofs.PrefixSets.{one_prefix, has-with_prefixes}
 use Rattle.dest_classes.proofs.Noted.{some_of}

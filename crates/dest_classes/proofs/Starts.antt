@@ -1,19 +1,18 @@
 -- A router's initial route to a prefix is the first of its routes to it.
-use Rattle.std.proofs.Common.{◌≡◌, ℕ, Bool, true, false, cond, true≢false, ◌&&◌, ◌||◌, List, [], ◌∷◌, Option, Some, None, refl, sym, ◌∙◌, ap, arith, inl, inr}
-use Rattle.std.specs.Prelude.{filter_map, find, nat_eq}
+use Rattle.std.proofs.Common.{◌≡◌, ℕ, Bool, true, false, cond, true≢false, ◌&&◌, ◌||◌, List, [], ◌∷◌, Option, Some, None, refl, sym, ◌∙◌, ap}
+use Rattle.std.specs.Prelude.{filter_map, find}
 use Rattle.std.specs.List.{list_any, cons_option}
 use Rattle.std.specs.Option.{option_map, option_map_or}
-use Rattle.std.proofs.lemmas.Bool.Decides.{nat_tests}
 use Rattle.base_kit.specs.Prefixes.{Prefix}
 use Rattle.cfg_ast.specs.declared.bgp.BgpProcess.{BgpProcess}
 use Rattle.cfg_ast.specs.declared.bgp.NetLine.{NetLine}
 use Rattle.cfg_ast.specs.declared.interface.Interface.{Interface}
 use Rattle.cfg_ast.specs.declared.network.Router.{Router}
-use Rattle.cfg_ast.specs.Classes.{same_prefix, up_subnet, is_up_in, is_announced, area_interface_in, route_from, initial_route}
+use Rattle.cfg_ast.specs.Classes.{same_prefix, up_subnet, is_up_in, route_from, initial_route}
 use Rattle.cfg_ast.specs.Topology.{is_in_area_interface, cost_of_interface}
 use Rattle.cfg_ast.proofs.PrefixSets.{one_prefix}
 use Rattle.dest_classes.specs.declared.routes.Route.{Route}
-use Rattle.dest_classes.specs.Routes.{is_named, route_to, route_at, routes_on}
+use Rattle.dest_classes.specs.Routes.{is_named, route_to, routes_on}
 
 abbrev pub leads_to : Prefix → Route → Bool
 leads_to p route = same_prefix p route.prefix

@@ -1,15 +1,17 @@
 //! The destination classes of a network.
 //!
-//! `classes_of` gives the classes of the prefixes that the routers originate, numbered by their least
+//! `classes` gives the classes of the prefixes that the routers originate, numbered by their least
 //! prefixes, exactly as they are defined: two prefixes are in one class where the same routers originate
 //! them with the same initial routes and all prefix lists of all routers answer both alike. The code
 //! goes once over the interfaces, orders the prefixes, and puts each into the group of its signature;
 //! the definition goes over all pairs.
 #![tactic(auto)]
 
-mod classes;
 mod groups;
+mod laws;
+mod network_classes;
 mod routes;
 
 pub use cfg_ast::{DestClass, Origin};
-pub use classes::{class_ascends, class_of_each_member, classes_of, same_class_is_decided};
+pub use laws::{class_ascends, class_of_each_member, same_class_is_decided};
+pub use network_classes::{classes, classes_of};

@@ -1,4 +1,4 @@
-ghost use Rattle.std.specs.Prelude.{◌≡◌, ◌<◌, ◌^◌, None, IfOk, OnOk, option_copied, length};
+ghost use Rattle.std.specs.Prelude.{◌≡◌, ◌<◌, ◌^◌, None, IfOk, OnOk, option_copied, filter_map, length};
 ghost use Rattle.std.specs.BTreeMap.{get};
 ghost use Rattle.std.specs.BTreeSet.{contains};
 ghost use Rattle.std.specs.List.{enumerate_from};
@@ -7,6 +7,7 @@ ghost use Rattle.dest_classes.specs.Routes.{prefix_order, is_named, AreNamed, ro
 
 use base_kit::{List, NoMemory, Prefix};
 use cfg_ast::{BgpProcess, Interface, Network, Origin, Router};
+use cfg_check::AreaIndex;
 use std::alloc::Global;
 use std::collections::{BTreeMap, BTreeSet};
 
@@ -62,12 +63,12 @@ fn named_in_bgp(alloc: Global, router: &Router) -> Result<Option<BTreeSet<Prefix
 
 // What an interface makes its router originate.
 fn route_at(
-    router: &Router,
+    index: &AreaIndex,
     named: Option<&BTreeSet<Prefix>>,
     interface: &Interface,
 ) -> Option<Route>
-    requires { AreNamed router.now.bgp (option_copied named) }
-    ensures { result ≡ route_at router.now interface.now }
+    requires { AreNamed index.now.router.now.bgp (option_copied named) }
+    ensures { result ≡ route_at index.now.router.now interface.now }
 {
     let prefix = interface.up_address()?.subnet();
     match named {
@@ -78,7 +79,7 @@ fn route_at(
             Some(Route { prefix, cost: None })
         }
         None => {
-            if !router.has_in_area(interface) {
+            if !index.has_in_area(interface) {
                 return None;
             }
             Some(Route {
@@ -87,6 +88,26 @@ fn route_at(
             })
         }
     }
+}
+
+// Notes what the interfaces make their router originate.
+fn note_interfaces(
+    alloc: Global,
+    originators: &mut Originators,
+    place: u32,
+    index: &AreaIndex,
+    named: Option<&BTreeSet<Prefix>>,
+    interfaces: &[Interface],
+) -> Result<(), NoMemory>
+    requires { AreNamed index.now.router.now.bgp (option_copied named) }
+    ensures { OnOk result ((p : Block) → get prefix_order originators.new p ≡ all_noted p place (filter_map (route_at index.now.router.now) interfaces.now) (get prefix_order originators.old p)) }
+{
+    for interface in interfaces {
+        if let Some(route) = route_at(index, named, interface) {
+            note(alloc, originators, place, route)?;
+        }
+    }
+    Ok(())
 }
 
 // Notes all prefixes that a router originates.
@@ -99,11 +120,16 @@ fn note_router(
     ensures { OnOk result ((p : Block) → get prefix_order originators.new p ≡ all_noted p place (routes_on router.now) (get prefix_order originators.old p)) }
 {
     let named = named_in_bgp(alloc, router)?;
-    for interface in router.interfaces.as_slice() {
-        if let Some(route) = route_at(router, named.as_ref(), interface) {
-            note(alloc, originators, place, route)?;
-        }
-    }
+    let index = AreaIndex::of(alloc, router)?;
+    let interfaces = router.interfaces.as_slice();
+    note_interfaces(
+        alloc,
+        originators,
+        place,
+        &index,
+        named.as_ref(),
+        interfaces,
+    )?;
     Ok(())
 }
 

@@ -1,10 +1,9 @@
-use Rattle.std.proofs.Common.{◌≡◌, ◌∙◌, [], ap, map}
-use Rattle.cfg_ast.specs.Classes.{originated, origins_of}
+use Rattle.std.proofs.Common.{◌∙◌, [], ap, map}
 use Rattle.dest_classes.specs.Groups.{class_from, with_members}
 use Rattle.dest_classes.proofs.Keys.{entries_are}
 use Rattle.dest_classes.proofs.Leaders.{classes_are}
 use Rattle.dest_classes.proofs.Noted.{noted_is}
-use Rattle.dest_classes.proofs.classes.classes_of.Goals as goal
+use Rattle.dest_classes.proofs.network_classes.classes_of.Goals as goal
 
 pub returns : goal.returns
 returns c =

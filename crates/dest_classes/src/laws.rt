@@ -1,0 +1,17 @@
+ghost use Rattle.cfg_ast.specs.Classes.{SameClassIsDecided, ClassOfEachMember, ClassAscends};
+
+/// Law: two prefixes are in one class exactly where they have the same originators with the same
+/// initial routes, and the same answers.
+pub fn same_class_is_decided()
+    ensures { SameClassIsDecided }
+{}
+
+/// Law: a class is that of each of its members.
+pub fn class_of_each_member()
+    ensures { ClassOfEachMember }
+{}
+
+/// Law: the prefixes of a class are different and ascend.
+pub fn class_ascends()
+    ensures { ClassAscends }
+{}
