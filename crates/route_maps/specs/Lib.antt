@@ -1,3 +1,4 @@
 pub mod Maps
 pub mod Printable
 pub mod Sessions
+pub mod Within

@@ -1,12 +1,10 @@
 -- What a router's in maps mean for a prefix puts no AS numbers before a path.
-use Rattle.std.proofs.Common.{◌≡◌, ℕ, Bool, true, false, cond, ◌&&◌, List, [], Option, Some, None, All, refl, ◌∙◌}
-use Rattle.std.specs.Prelude.{filter, Contains, IfSome, is_some, bytes_eq, min}
-use Rattle.std.specs.Option.{option_map_or}
-use Rattle.std.specs.List.{AllByRecursion}
+use Rattle.std.proofs.Common.{◌≡◌, ℕ, Bool, true, false, ◌&&◌, List, [], Option, Some, None, refl, ◌∙◌}
+use Rattle.std.specs.Prelude.{Contains, is_some, bytes_eq, min}
 use Rattle.std.proofs.lemmas.Cmp.{nat_list_eq_equiv}
-use Rattle.std.proofs.lemmas.List.Elements.{All-nil, All-cons, All-map, All-filter, All-weaker, All-from_recursion}
+use Rattle.std.proofs.lemmas.List.Elements.{All-from_recursion}
 use Rattle.base_kit.specs.Prefixes.{Prefix}
-use Rattle.cfg_ast.specs.Policy.{name_of, prefixes_match, prepend_count, passes_list, route_map_named}
+use Rattle.cfg_ast.specs.Policy.{name_of, prepend_count}
 use Rattle.cfg_ast.specs.PolicyFaults.{line_naming, prepends_in_map, has_prepending_map, map_in_naming, prepending_maps_in_of, prepend_in_lines}
 use Rattle.cfg_ast.specs.Topology.{neighbors_of}
 use Rattle.cfg_ast.specs.declared.bgp.Neighbor.{Neighbor}
@@ -17,8 +15,9 @@ use Rattle.cfg_ast.specs.declared.policy.MapEntry.{MapEntry}
 use Rattle.cfg_ast.specs.declared.policy.Prepend.{Prepend}
 use Rattle.cfg_ast.specs.declared.policy.RouteMap.{RouteMap}
 use Rattle.route_maps.specs.declared.plain.PlainEntry.{PlainEntry}
-use Rattle.specialize.proofs.Found.{found_holds, found_passes, none_pass, contained_empty, unless_given}
-use Rattle.specialize.specs.OnePrefix.{own_preference, plain_entry, whole_entry, plain_entries, entries_for}
+use Rattle.specialize.proofs.Entries.{HoldsOfEntries, plain_holds}
+use Rattle.specialize.proofs.Found.{contained_holds, none_pass, contained_empty, unless_given}
+use Rattle.specialize.specs.OnePrefix.{own_preference}
 use Rattle.specialize.specs.Sessions.{in_map, AddsNothing}
 
 abbrev IsUnadded : PlainEntry → Type 0
@@ -28,40 +27,27 @@ no_count : (prepend : Option Prepend) → is_some prepend ≡ false → min (pre
 no_count None none = refl
 no_count (Some line) none = absurd (cc)
 
-entries_add_nothing : (router : Router) (own : Option ℕ) (p : Prefix) (entries : List MapEntry) → AllByRecursion (λ (entry : MapEntry). is_some entry.prepend ≡ false) entries → All IsUnadded (plain_entries router own p entries)
-entries_add_nothing router own p entries none =
-    let kept = λ (entry : MapEntry). prefixes_match router p entry.prefixes in
-    let adds_nothing = λ (entry : MapEntry). IsUnadded (plain_entry router own entry) in
-    All-map IsUnadded (plain_entry router own) (filter kept entries)
-    (All-filter kept adds_nothing entries (All-weaker (λ (entry : MapEntry). is_some entry.prepend ≡ false) adds_nothing (λ entry absent. no_count entry.prepend absent) entries (All-from_recursion (λ (entry : MapEntry). is_some entry.prepend ≡ false) entries none)))
-
 second_false : (a b : Bool) → b ≡ true → (a && b) ≡ false → a ≡ false
 second_false true b is none = absurd (cc)
 second_false false b is none = refl
 
--- a map that is found under a name that no prepending map has
-map_adds_nothing : (router : Router) (own : Option ℕ) (p : Prefix) (name : List ℕ) → has_prepending_map router name ≡ false → All IsUnadded (entries_for router own p (Some name))
-map_adds_nothing router own p name none =
-    step (route_map_named router name)
-    (found_holds (λ (m : RouteMap). (prepends_in_map m && bytes_eq name m.name) ≡ false) (λ (m : RouteMap). bytes_eq m.name name) router.route_maps (none_pass (λ (m : RouteMap). prepends_in_map m && bytes_eq name m.name) router.route_maps none))
-    (found_passes (λ (m : RouteMap). bytes_eq m.name name) router.route_maps)
-  where
-    step : (o : Option RouteMap) → IfSome o (λ (m : RouteMap). (prepends_in_map m && bytes_eq name m.name) ≡ false) → IfSome o (λ (m : RouteMap). bytes_eq m.name name ≡ true) → All IsUnadded (option_map_or (λ (m : RouteMap). plain_entries router own p m.entries) o [])
-    step None fault named = All-nil IsUnadded
-    step (Some m) fault named =
-        let clear = second_false (prepends_in_map m) (bytes_eq name m.name) (nat_list_eq_equiv.symm name m.name ∙ named) fault in
-        entries_add_nothing router own p m.entries (none_pass (λ (entry : MapEntry). is_some entry.prepend) m.entries clear)
+-- a map under a name that no prepending map has does not prepend
+clear_map : (router : Router) (name : List ℕ) (m : RouteMap) → has_prepending_map router name ≡ false → Contains router.route_maps m → bytes_eq m.name name ≡ true → prepends_in_map m ≡ false
+clear_map router name m none contained named =
+    let test = λ (other : RouteMap). prepends_in_map other && bytes_eq name other.name in
+    second_false (prepends_in_map m) (bytes_eq name m.name) (nat_list_eq_equiv.symm name m.name ∙ named) (contained_holds (λ (other : RouteMap). test other ≡ false) router.route_maps m (none_pass test router.route_maps none) contained)
 
-named_adds_nothing : (router : Router) (own : Option ℕ) (p : Prefix) (named : Option Named) → line_naming (has_prepending_map router) named ≡ [] → All IsUnadded (entries_for router own p (name_of named))
-named_adds_nothing router own p None none = All-cons IsUnadded (whole_entry own) [] refl (All-nil IsUnadded)
-named_adds_nothing router own p (Some named) none = map_adds_nothing router own p named.name (unless_given (has_prepending_map router named.name) named.line none)
-
-in_map_adds_nothing : (p : Prefix) (router : Router) (line : Neighbor) → Contains (neighbors_of router) line → prepending_maps_in_of router ≡ [] → AddsNothing (in_map p router line)
-in_map_adds_nothing p router line contained none = step (passes_list router p (name_of line.list_in)) where
-  step : (b : Bool) → All IsUnadded (cond b (entries_for router (own_preference router true) p (name_of line.map_in)) [])
-  step true = named_adds_nothing router (own_preference router true) p line.map_in (contained_empty (map_in_naming (has_prepending_map router)) (neighbors_of router) line none contained)
-  step false = All-nil IsUnadded
+named_adds_nothing : (router : Router) (own : Option ℕ) (named : Option Named) → line_naming (has_prepending_map router) named ≡ [] → HoldsOfEntries IsUnadded router own (name_of named)
+named_adds_nothing router own None none m given entry in_map = absurd given.named
+named_adds_nothing router own (Some named) none m given entry in_map =
+    let clear = clear_map router named.name m (unless_given (has_prepending_map router named.name) named.line none) given.contained given.named in
+    let test = λ (other : MapEntry). is_some other.prepend in
+    no_count entry.prepend (contained_holds (λ (other : MapEntry). test other ≡ false) m.entries entry (none_pass test m.entries clear) in_map)
 
 pub in_maps_add_nothing : (network : Network) (router : Router) (line : Neighbor) → prepend_in_lines network ≡ [] → Contains network.routers router → Contains (neighbors_of router) line → (p : Prefix) → AddsNothing (in_map p router line)
 unfolding prepend_in_lines
-in_maps_add_nothing network router line none in_network in_router p = in_map_adds_nothing p router line in_router (contained_empty prepending_maps_in_of network.routers router none in_network)
+in_maps_add_nothing network router line none in_network in_router p =
+    let in_router_none = contained_empty prepending_maps_in_of network.routers router none in_network in
+    let in_line_none = contained_empty (map_in_naming (has_prepending_map router)) (neighbors_of router) line in_router_none in_router in
+    All-from_recursion IsUnadded (in_map p router line).entries
+    (plain_holds IsUnadded router (name_of line.map_in) (name_of line.list_in) p true refl (named_adds_nothing router (own_preference router true) line.map_in in_line_none))

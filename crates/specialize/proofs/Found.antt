@@ -25,6 +25,9 @@ found_passes {X} test (item ∷ items) = step (test item) refl (found_passes tes
 pub each_contained : {X : Type 0} (P : X → Type 0) (items : List X) → ((item : X) → Contains items item → P item) → AllByRecursion P items
 each_contained P items holds = recursion_from_All P items (λ k d below. holds _ (All-contains_itself items k d below))
 
+pub found_contained : {X : Type 0} (test : X → Bool) (items : List X) → IfSome (find test items) (Contains items)
+found_contained test items = found_holds (Contains items) test items (each_contained (Contains items) items (λ item contained. contained))
+
 pub contained_holds : {X : Type 0} (P : X → Type 0) (items : List X) (item : X) → AllByRecursion P items → Contains items item → P item
 contained_holds P items item all contained = All-contains P items item (All-from_recursion P items all) contained
 

@@ -21,8 +21,9 @@ use Rattle.cfg_ast.specs.declared.policy.NameLine.{NameLine}
 use Rattle.cfg_ast.specs.declared.policy.Prepend.{Prepend}
 use Rattle.cfg_ast.specs.declared.policy.RouteMap.{RouteMap}
 use Rattle.route_maps.specs.Printable.{IsPrintableList, NamesOne, IsPrintableDeletion, ArePrintableLists, IsPrintableEntry, plain_seqs, IsPrintable}
-use Rattle.specialize.proofs.Found.{found_holds, found_passes, each_contained, contained_holds, any_contained, none_pass, first_empty, second_empty, each_empty, contained_empty, unless_given}
-use Rattle.specialize.specs.OnePrefix.{own_preference, lists_named, plain_entry, plain_entries, entries_for, plain_of}
+use Rattle.specialize.proofs.Entries.{plain_holds}
+use Rattle.specialize.proofs.Found.{found_holds, found_contained, found_passes, contained_holds, any_contained, none_pass, first_empty, second_empty, each_empty, contained_empty, unless_given}
+use Rattle.specialize.specs.OnePrefix.{own_preference, lists_named, plain_entry, whole_entry, plain_entries, entries_for, plain_of}
 use Rattle.specialize.specs.Printable.{HasPrintableMaps}
 
 -- ---- the lists of a match line
@@ -102,7 +103,7 @@ printable_deletion router m entry has in_router in_map = by_name entry.delete re
       let test = λ (list : CommunityList). bytes_eq list.name named.name in
       found named (community_list_named router named.name) is
       (found_holds IsWellFormedCommunityList test router.community_lists has.well_formed.community_lists)
-      (found_holds (Contains router.community_lists) test router.community_lists (each_contained (Contains router.community_lists) router.community_lists (λ list contained. contained)))
+      (found_contained test router.community_lists)
       (found_passes test router.community_lists)
 
 -- ---- an entry
@@ -132,14 +133,6 @@ printable_entry router own m entry has in_router in_map form = record {
 
 -- ---- a map
 
-entries_kept : (router : Router) (own : Option ℕ) (p : Prefix) (entries : List MapEntry) → AllByRecursion (λ entry. IsPrintableEntry (plain_entry router own entry)) entries → AllByRecursion IsPrintableEntry (plain_entries router own p entries)
-entries_kept router own p [] all = tt
-entries_kept router own p (entry ∷ entries) all = step (prefixes_match router p entry.prefixes) (entries_kept router own p entries all.1) where
-  step : (b : Bool) → AllByRecursion IsPrintableEntry (plain_entries router own p entries)
-      → AllByRecursion IsPrintableEntry (map (plain_entry router own) (cond b (entry ∷ filter (λ (e : MapEntry). prefixes_match router p e.prefixes) entries) (filter (λ (e : MapEntry). prefixes_match router p e.prefixes) entries)))
-  step true rest = (all.0, rest)
-  step false rest = rest
-
 above_kept : (router : Router) (own : Option ℕ) (p : Prefix) (n : ℕ) (entries : List MapEntry) → AllAbove n (map_seqs entries) → AllAbove n (plain_seqs (plain_entries router own p entries))
 above_kept router own p n [] above = tt
 above_kept router own p n (entry ∷ entries) above = step (prefixes_match router p entry.prefixes) (above_kept router own p n entries above.1) where
@@ -156,33 +149,31 @@ ascending_kept router own p (entry ∷ entries) up = step (prefixes_match router
   step true rest = (above_kept router own p entry.seq entries up.0, rest)
   step false rest = rest
 
-printable_map : (router : Router) (own : Option ℕ) (p : Prefix) (m : RouteMap) → HasPrintableMaps router → Contains router.route_maps m → IsPrintable (record { entries = plain_entries router own p m.entries })
-printable_map router own p m has in_router =
-    let form : IsWellFormedRouteMap m = contained_holds IsWellFormedRouteMap router.route_maps m has.well_formed.route_maps in_router in
-    record {
-      entries = entries_kept router own p m.entries (each_contained (λ (entry : MapEntry). IsPrintableEntry (plain_entry router own entry)) m.entries (λ entry in_map. printable_entry router own m entry has in_router in_map (contained_holds IsWellFormedMapEntry m.entries entry form.entries in_map)));
-      ascending = ascending_kept router own p m.entries form.ascending;
-    }
+ascending_entries : (router : Router) (own : Option ℕ) (p : Prefix) (name : Option (List ℕ)) → IsWellFormedRouter router → IsAscending (plain_seqs (entries_for router own p name))
+ascending_entries router own p None form = (tt, tt)
+ascending_entries router own p (Some name) form = step (route_map_named router name) (found_holds IsWellFormedRouteMap (λ (m : RouteMap). bytes_eq m.name name) router.route_maps form.route_maps) where
+  step : (o : Option RouteMap) → IfSome o IsWellFormedRouteMap → IsAscending (plain_seqs (option_map_or (λ (m : RouteMap). plain_entries router own p m.entries) o []))
+  step None found = tt
+  step (Some m) found = ascending_kept router own p m.entries found.ascending
 
-no_entries : IsPrintable (record { entries = [] })
-no_entries = record { entries = tt; ascending = tt }
+ascending_plain : (router : Router) (name list : Option (List ℕ)) (p : Prefix) (inbound : Bool) → IsWellFormedRouter router → IsAscending (plain_seqs (plain_of router name list p inbound).entries)
+ascending_plain router name list p inbound form = step (passes_list router p list) where
+  step : (b : Bool) → IsAscending (plain_seqs (cond b (entries_for router (own_preference router inbound) p name) []))
+  step true = ascending_entries router (own_preference router inbound) p name form
+  step false = tt
 
-printable_entries : (router : Router) (own : Option ℕ) (p : Prefix) (name : Option (List ℕ)) → HasPrintableMaps router → IsPrintable (record { entries = entries_for router own p name })
-printable_entries router own p None has = record {
-  entries = (record { seq = omega arith; lists = tt; change = tt; delete = tt; adds = omega arith }, tt);
-  ascending = (tt, tt);
-}
-printable_entries router own p (Some name) has =
-    step (route_map_named router name) (found_holds (Contains router.route_maps) (λ (m : RouteMap). bytes_eq m.name name) router.route_maps (each_contained (Contains router.route_maps) router.route_maps (λ m contained. contained))) where
-      step : (o : Option RouteMap) → IfSome o (Contains router.route_maps) → IsPrintable (record { entries = option_map_or (λ (m : RouteMap). plain_entries router own p m.entries) o [] })
-      step None found = no_entries
-      step (Some m) found = printable_map router own p m has found
+printable_whole : (own : Option ℕ) → IsPrintableEntry (whole_entry own)
+printable_whole own = record { seq = omega arith; lists = tt; change = tt; delete = tt; adds = omega arith }
 
 pub printable_plain : (router : Router) (name list : Option (List ℕ)) (p : Prefix) (inbound : Bool) → HasPrintableMaps router → IsPrintable (plain_of router name list p inbound)
-printable_plain router name list p inbound has = step (passes_list router p list) where
-  step : (b : Bool) → IsPrintable (record { entries = cond b (entries_for router (own_preference router inbound) p name) [] })
-  step true = printable_entries router (own_preference router inbound) p name has
-  step false = no_entries
+printable_plain router name list p inbound has =
+    let own = own_preference router inbound in
+    record {
+      entries = plain_holds IsPrintableEntry router name list p inbound (printable_whole own) (λ m named entry in_map.
+          let form = contained_holds IsWellFormedRouteMap router.route_maps m has.well_formed.route_maps named.contained in
+          printable_entry router own m entry has named.contained in_map (contained_holds IsWellFormedMapEntry m.entries entry form.entries in_map));
+      ascending = ascending_plain router name list p inbound has.well_formed;
+    }
 
 pub printable_maps : (network : Network) (router : Router) → IsWellFormed network → undefined_list_lines network ≡ [] → delete_list_lines network ≡ [] → Contains network.routers router → HasPrintableMaps router
 unfolding undefined_list_lines delete_list_lines

@@ -6,7 +6,7 @@
 //! preference is written into each permit without one, if it is not 100. For every set of communities
 //! the verdict is that of the router's prefix list followed by its map, and the maps of a checked
 //! network's routers can be printed. The module `laws` says what the maps of both ends of a session
-//! import together.
+//! import together, and which communities they name.
 #![tactic(auto)]
 
 mod copies;
