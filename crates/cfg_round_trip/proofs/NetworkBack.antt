@@ -12,7 +12,8 @@ use Rattle.cfg_ast.specs.Reading.{no_draft, steps, end_at, ending, network_of_li
 use Rattle.cfg_ast.specs.Printed.{router_lines, routers_lines, printed_lines, line_text, lines_text, printed}
 use Rattle.cfg_ast.specs.Bare.{bare_line, bare_router, bare}
 use Rattle.cfg_ast.specs.WellFormed.{IsWellFormedRouter, IsWellFormed}
-use Rattle.cfg_round_trip.specs.Laws.{PrintedIsReadBack}
+use Rattle.cfg_given.proofs.WellFormed.{given_is_well_formed}
+use Rattle.cfg_round_trip.specs.Laws.{PrintedIsReadBack, GivenIsReadBack}
 use Rattle.cfg_round_trip.proofs.Numbers.{numbers_are_aside}
 use Rattle.cfg_round_trip.proofs.PrintedLines.{is_read}
 use Rattle.cfg_round_trip.proofs.PrintedNetwork.{printed_lines_are_lines}
@@ -111,4 +112,7 @@ printed_is_read_back network notes is are few short =
     let kept = texts_of (lines_text ls) back.0 in
     let same : map bare_line (filter is_read ls) ≡ map bare_line kept = sym (back.2 ∙ read_bare ls) in
     let read = numbers_are_aside (filter is_read ls) kept same (bare network) (lines_network network notes is) in
-    (read.0, rw back.1 read.1, read.2 ∙ bare_twice network)
+    record { read = read.0; reads = rw back.1 read.1; same = read.2 ∙ bare_twice network }
+
+pub given_is_read_back : GivenIsReadBack
+given_is_read_back network notes given are few short = printed_is_read_back network notes (given_is_well_formed network given) are few short

@@ -4,7 +4,7 @@ use Rattle.std.specs.List.{AllByRecursion}
 use Rattle.cfg_ast.specs.declared.network.Network.{Network}
 use Rattle.cfg_ast.specs.declared.network.Notes.{Notes}
 use Rattle.cfg_ast.specs.TextLines.{TextLine}
-use Rattle.cfg_ast.specs.Reading.{network_of_lines, network_of_text}
+use Rattle.cfg_ast.specs.Reading.{network_of_lines, network_of_text, IsGiven}
 use Rattle.cfg_ast.specs.Printed.{line_text, printed_lines, printed}
 use Rattle.cfg_ast.specs.Bare.{bare, bare_line}
 use Rattle.cfg_ast.specs.WellFormed.{IsWellFormed}
@@ -22,9 +22,17 @@ HasFewLines network notes = length (filter (λ b. b == 10) (printed network note
 abbrev pub HasShortLines : Network → Notes → Type 0
 HasShortLines network notes = AllByRecursion (λ (l : TextLine). length (line_text l) ≤ 1025) (printed_lines network notes)
 
--- What is printed of a well-formed network is read as it but for the numbers of lines, where the text
--- keeps the limits of a text that is read.
+-- the printed text is read as the network, but for the numbers of lines
+pub record IsReadBack (network : Network) (notes : Notes) : Type 0 where
+  pub read : Network
+  pub reads : network_of_text (printed network notes) ≡ Ok read
+  pub same : bare read ≡ bare network
+
+-- What is printed of a well-formed network is read back, where the text keeps the limits of a text that
+-- is read.
 abbrev pub PrintedIsReadBack : Type 0
-PrintedIsReadBack =
-    (network : Network) (notes : Notes) → IsWellFormed network → AreNotes network notes → HasFewLines network notes → HasShortLines network notes
-    → (m : Network) × (network_of_text (printed network notes) ≡ Ok m) × (bare m ≡ bare network)
+PrintedIsReadBack = (network : Network) (notes : Notes) → IsWellFormed network → AreNotes network notes → HasFewLines network notes → HasShortLines network notes → IsReadBack network notes
+
+-- So is what is printed of a network that some text gives.
+abbrev pub GivenIsReadBack : Type 0
+GivenIsReadBack = (network : Network) (notes : Notes) → IsGiven network → AreNotes network notes → HasFewLines network notes → HasShortLines network notes → IsReadBack network notes

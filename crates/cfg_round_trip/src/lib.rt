@@ -6,7 +6,7 @@
 
 mod members;
 
-ghost use Rattle.cfg_round_trip.specs.Laws.{NumbersAreAside, PrintedIsReadBack};
+ghost use Rattle.cfg_round_trip.specs.Laws.{GivenIsReadBack, NumbersAreAside, PrintedIsReadBack};
 
 pub use members::members_are_read_back;
 
@@ -20,4 +20,9 @@ pub fn numbers_are_aside()
 /// has at most 1,000,000 lines and each at most 1,024 bytes.
 pub fn printed_is_read_back()
     ensures { PrintedIsReadBack }
+{}
+
+/// The same of each network that a text gives.
+pub fn given_is_read_back()
+    ensures { GivenIsReadBack }
 {}

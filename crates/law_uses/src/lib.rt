@@ -1,8 +1,11 @@
-//! How a crate uses the laws of routing problems: by calling them.
+//! How a crate uses laws: by calling them.
 //!
-//! Each function here gets its promise from one call of a law of `srp_core`, with no proof of its own. A
-//! caller reads a problem once, as by `count`, so that its rules are known.
+//! Each function here gets its promise from calls of laws, with no proof of its own. The laws of
+//! `srp_core` speak of routing problems: a caller reads a problem once, as by `count`, so that its rules
+//! are known. Those of `cfg_given` and `cfg_round_trip` speak of networks that a text gives.
 #![tactic(auto)]
+
+pub mod texts;
 
 ghost use Rattle.std.specs.Prelude.{◌≡◌};
 ghost use Rattle.base_kit.specs.declared.protocol.Protocol.TheVariants.{Bgp as OverBgp};

@@ -1,0 +1,27 @@
+ghost use Rattle.cfg_ast.specs.Reading.{IsGiven};
+ghost use Rattle.cfg_given.specs.Laws.{PlacesAreInOrder};
+ghost use Rattle.cfg_round_trip.specs.Laws.{HasFewLines, HasShortLines, IsReadBack};
+ghost use Rattle.cfg_round_trip.specs.Notes.{AreNotes};
+
+use cfg_ast::{Network, Notes};
+use cfg_given::given_places_are_in_order;
+use cfg_round_trip::given_is_read_back;
+
+/// The interfaces and neighbours of a network that a text gives stand in the order of their lines.
+pub fn is_in_order(network: &Network)
+    requires given { IsGiven network.now }
+    ensures { PlacesAreInOrder network.now }
+{
+    given_places_are_in_order();
+}
+
+/// What is printed of such a network is read as it but for the numbers of lines.
+pub fn reads_back(network: &Network, notes: &Notes)
+    requires given { IsGiven network.now }
+    requires noted { AreNotes network.now notes.now }
+    requires few { HasFewLines network.now notes.now }
+    requires short { HasShortLines network.now notes.now }
+    ensures { IsReadBack network.now notes.now }
+{
+    given_is_read_back();
+}
