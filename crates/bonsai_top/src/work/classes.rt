@@ -8,7 +8,7 @@ use crate::reply::Reply;
 use base_kit::Prefix;
 use cfg_ast::{DestClass, Network, Origin};
 use cfg_check::Checked;
-use dest_classes::classes_of;
+use dest_classes::classes;
 use std::alloc::{AllocError, Global};
 use std::fmt::Write;
 
@@ -107,11 +107,10 @@ fn class_lines(
 pub fn answer(alloc: Global, checked: &Checked) -> Reply
     ensures { Answers result (Only (done (classes_text checked.now.network))) ⊥ ⊥ }
 {
-    let network = checked.network();
-    let Ok(classes) = classes_of(alloc, network) else {
+    let Ok(classes) = classes(alloc, checked) else {
         return Reply::NoMemory;
     };
-    match class_lines(alloc, network, classes.as_slice()) {
+    match class_lines(alloc, checked.network(), classes.as_slice()) {
         Ok(bytes) => Reply::Output(bytes),
         Err(_) => Reply::NoMemory,
     }

@@ -1,13 +1,10 @@
 ghost use Rattle.std.specs.Prelude.{◌≡◌, IfOk, Contains, None, Some};
-ghost use Rattle.std.specs.Option.{option_map};
 ghost use Rattle.base_kit.specs.declared.protocol.Protocol.TheVariants.{Ospf};
 ghost use Rattle.cfg_ast.specs.Classes.{classes_of};
-ghost use Rattle.cfg_ast.specs.RouterFaults.{bgp_processes, process_line, protocol_of};
+ghost use Rattle.cfg_ast.specs.RouterFaults.{protocol_of};
 ghost use Rattle.bonsai_top.specs.ClassNumbers.{class_at, IsOfClass};
 ghost use Rattle.bonsai_top.specs.GroupLines.{first_bgp_line, AreGroupLines, IsGroupsOf, IsGroupsAnswer};
-ghost use Rattle.bonsai_top.specs.Replies.{Answers, Refuses};
-ghost use Rattle.cfg_ast.specs.declared.refusal.ReadRefusal.TheVariants as read_refusal;
-ghost use Rattle.cfg_ast.specs.declared.refusal.Kind.TheVariants as kind;
+ghost use Rattle.bonsai_top.specs.Replies.{Answers};
 
 use super::class_numbers::{class_at, no_class};
 use super::group_lines::group_lines;
@@ -15,9 +12,9 @@ use super::problem::{coarsest_of, problem_of};
 use super::text_refusal;
 use crate::reply::Reply;
 use base_kit::{NoMemory, Protocol};
-use cfg_ast::{DestClass, Kind, Network, ReadRefusal, Router};
+use cfg_ast::{DestClass, Kind, Network, ReadRefusal};
 use cfg_check::Checked;
-use dest_classes::classes_of;
+use dest_classes::classes;
 use std::alloc::Global;
 
 // The first `router bgp` line.
@@ -61,7 +58,7 @@ fn answer_of_number(alloc: Global, checked: &Checked, number: u32) -> Reply
     requires { protocol_of checked.now.network ≡ Some Ospf }
     ensures { Answers result (IsOfClass (class_at (classes_of checked.now.network) number) number (IsGroupsOf checked.now.network)) ⊥ ⊥ }
 {
-    let Ok(classes) = classes_of(alloc, checked.network()) else {
+    let Ok(classes) = classes(alloc, checked) else {
         return Reply::NoMemory;
     };
     match class_at(classes.as_slice(), number) {
