@@ -1,0 +1,73 @@
+ghost use Rattle.std.specs.Prelude.{◌≡◌, ◌++◌, OnOk, string_bytes, flat_map};
+ghost use Rattle.cfg_ast.specs.Printed.{line_text, lines_text, line_of, line_if, address_line, cost_line, shutdown_line, interface_lines};
+
+use crate::words::{mask_of, put_address};
+use base_kit::List;
+use cfg_ast::{Address, Interface};
+use std::alloc::AllocError;
+use std::fmt::Write;
+
+#[tactic(auto, unfolding(cfg_ast::specs::Printed::address_line))]
+fn put_address_line(text: &mut String, address: &Address) -> Result<(), AllocError>
+    ensures { OnOk result (string_bytes text.new ≡ string_bytes text.old ++ line_text (address_line address.now)) }
+{
+    text.push_str(" ip address ")?;
+    put_address(text, address.addr())?;
+    text.push_str(" ")?;
+    put_address(text, mask_of(address.len()))?;
+    text.push_str("\n")
+}
+
+fn put_some_address(text: &mut String, address: &Option<Address>) -> Result<(), AllocError>
+    ensures { OnOk result (string_bytes text.new ≡ string_bytes text.old ++ lines_text (line_of address_line address.now)) }
+{
+    match address {
+        Some(address) => put_address_line(text, address),
+        None => Ok(()),
+    }
+}
+
+#[tactic(auto, unfolding(cfg_ast::specs::Printed::cost_line))]
+fn put_some_cost(text: &mut String, cost: Option<u16>) -> Result<(), AllocError>
+    ensures { OnOk result (string_bytes text.new ≡ string_bytes text.old ++ lines_text (line_of cost_line cost)) }
+{
+    match cost {
+        Some(cost) => write!(text, " ip ospf cost {cost}\n"),
+        None => Ok(()),
+    }
+}
+
+fn put_shutdown(text: &mut String, shut: bool) -> Result<(), AllocError>
+    ensures { OnOk result (string_bytes text.new ≡ string_bytes text.old ++ lines_text (line_if shut shutdown_line)) }
+{
+    if shut {
+        return text.push_str(" shutdown\n");
+    }
+    Ok(())
+}
+
+#[tactic(auto, unfolding(cfg_ast::specs::Printed::interface_lines))]
+fn put_interface(text: &mut String, interface: &Interface) -> Result<(), AllocError>
+    ensures { OnOk result (string_bytes text.new ≡ string_bytes text.old ++ lines_text (interface_lines interface.now)) }
+{
+    let name = interface.name.as_str();
+    write!(text, "interface {name}\n")?;
+    put_some_address(text, &interface.address)?;
+    put_some_cost(text, interface.cost)?;
+    put_shutdown(text, interface.shut)?;
+    text.push_str("!\n")
+}
+
+/// Appends the lines of each interface.
+pub(crate) fn put_interfaces(
+    text: &mut String,
+    interfaces: &List<Interface>,
+) -> Result<(), AllocError>
+    ensures { OnOk result (string_bytes text.new ≡ string_bytes text.old ++ lines_text (flat_map interface_lines interfaces.now)) }
+{
+    let items = interfaces.as_slice();
+    for interface in items {
+        put_interface(text, interface)?;
+    }
+    Ok(())
+}

@@ -1,0 +1,20 @@
+//! The text of a network.
+//!
+//! `text` prints a network, and for each router the names of those that it stands for, exactly as the
+//! definition `printed` says, in one pass. What it prints is read back as the same network but for the
+//! numbers of lines, and the names as the members of the routers.
+#![tactic(auto)]
+
+mod bgp;
+mod interfaces;
+mod lists;
+mod ospf;
+mod print;
+mod refusal;
+mod route_maps;
+mod routers;
+mod words;
+
+pub use print::text;
+pub use refusal::PrintRefusal;
+pub use words::{put_address, put_community, put_prefix};

@@ -1,0 +1,94 @@
+ghost use Rattle.std.specs.Prelude.{◌≡◌, ◌++◌, ◌∷◌, [], codes, OnOk, string_bytes, map};
+ghost use Rattle.std.specs.Fmt.{decimal};
+ghost use Rattle.cfg_ast.specs.Printed.{line, line_text, lines_text, line_if, passive_default_line, passive_line, not_passive_line, area_line, ospf_lines};
+
+use crate::words::{put, put_address, put_closing, put_name};
+use base_kit::{List, Text};
+use cfg_ast::{AreaLine, OspfProcess};
+use std::alloc::AllocError;
+use std::fmt::Write;
+
+fn put_passive_default(text: &mut String, is_default: bool) -> Result<(), AllocError>
+    ensures { OnOk result (string_bytes text.new ≡ string_bytes text.old ++ lines_text (line_if is_default passive_default_line)) }
+{
+    if is_default {
+        return text.push_str(" passive-interface default\n");
+    }
+    Ok(())
+}
+
+fn put_passive_line(text: &mut String, name: &Text) -> Result<(), AllocError>
+    ensures { OnOk result (string_bytes text.new ≡ string_bytes text.old ++ line_text (passive_line name.now)) }
+{
+    put(text, " passive-interface")?;
+    put_name(text, name)?;
+    put(text, "\n")
+}
+
+fn put_passive(text: &mut String, names: &List<Text>) -> Result<(), AllocError>
+    ensures { OnOk result (string_bytes text.new ≡ string_bytes text.old ++ lines_text (map passive_line names.now)) }
+{
+    let items = names.as_slice();
+    for name in items {
+        put_passive_line(text, name)?;
+    }
+    Ok(())
+}
+
+fn put_not_passive_line(text: &mut String, name: &Text) -> Result<(), AllocError>
+    ensures { OnOk result (string_bytes text.new ≡ string_bytes text.old ++ line_text (not_passive_line name.now)) }
+{
+    put(text, " no passive-interface")?;
+    put_name(text, name)?;
+    put(text, "\n")
+}
+
+fn put_not_passive(text: &mut String, names: &List<Text>) -> Result<(), AllocError>
+    ensures { OnOk result (string_bytes text.new ≡ string_bytes text.old ++ lines_text (map not_passive_line names.now)) }
+{
+    let items = names.as_slice();
+    for name in items {
+        put_not_passive_line(text, name)?;
+    }
+    Ok(())
+}
+
+#[tactic(auto, unfolding(cfg_ast::specs::Printed::area_line))]
+fn put_area(text: &mut String, area: &AreaLine) -> Result<(), AllocError>
+    ensures { OnOk result (string_bytes text.new ≡ string_bytes text.old ++ line_text (area_line area.now)) }
+{
+    let number = area.area;
+    text.push_str(" network ")?;
+    put_address(text, area.addr)?;
+    text.push_str(" ")?;
+    put_address(text, area.wild)?;
+    write!(text, " area {number}\n")
+}
+
+fn put_areas(text: &mut String, areas: &List<AreaLine>) -> Result<(), AllocError>
+    ensures { OnOk result (string_bytes text.new ≡ string_bytes text.old ++ lines_text (map area_line areas.now)) }
+{
+    let items = areas.as_slice();
+    for area in items {
+        put_area(text, area)?;
+    }
+    Ok(())
+}
+
+fn put_head(text: &mut String, number: u32) -> Result<(), AllocError>
+    ensures { OnOk result (string_bytes text.new ≡ string_bytes text.old ++ lines_text (line 0 (codes "router" ∷ codes "ospf" ∷ decimal number ∷ []) ∷ [])) }
+{
+    write!(text, "router ospf {number}\n")
+}
+
+/// Appends the lines of an OSPF process.
+pub(crate) fn put_ospf(text: &mut String, process: &OspfProcess) -> Result<(), AllocError>
+    ensures { OnOk result (string_bytes text.new ≡ string_bytes text.old ++ lines_text (ospf_lines process.now)) }
+{
+    put_head(text, process.number)?;
+    put_passive_default(text, process.passive_default)?;
+    put_passive(text, &process.passive)?;
+    put_not_passive(text, &process.not_passive)?;
+    put_areas(text, &process.areas)?;
+    put_closing(text)
+}
