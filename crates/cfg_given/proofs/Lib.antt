@@ -8,6 +8,7 @@ pub mod LineOrder
 pub mod ListSteps
 pub mod PlaceOrder
 pub mod PolicyItems
+pub mod Propositions
 pub mod RouterItems
 pub mod StanzaSteps
 pub mod TextWords

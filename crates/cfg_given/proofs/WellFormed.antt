@@ -13,10 +13,12 @@ use Rattle.cfg_ast.specs.Stanzas.{◌>>=◌}
 use Rattle.cfg_ast.specs.Reading.{at_start, steps, ending, network_of_lines, texts_of, network_of_text}
 use Rattle.cfg_ast.specs.Topology.{default_costs, is_row_of, default_cost_of, type_of}
 use Rattle.cfg_ast.specs.WellFormed.{IsBetween, IsWellFormedInterface, IsWellFormedRouter, IsWellFormed}
-use Rattle.cfg_given.specs.Laws.{GivenIsWellFormed, GivenRoutersAreWellFormed, GivenCostsArePositive}
+use Rattle.cfg_given.specs.Laws.{GivenIsWellFormed, KnownIsWellFormed, GivenRoutersAreWellFormed, GivenCostsArePositive}
 use Rattle.cfg_given.proofs.Each.{all_find}
 use Rattle.cfg_given.proofs.Given.{IsAny, any_result, then_step}
 use Rattle.cfg_given.proofs.DraftSteps.{IsState, start_is, IsLineOfWords, all_steps}
+use Rattle.std.proofs.Math.Logic.{∥∥₁_elim}
+use Rattle.cfg_given.proofs.Propositions.{IsWellFormed-prop}
 use Rattle.cfg_given.proofs.TextWords.{lines_words}
 
 of_lines : (ls : List TextLine) → AllByRecursion IsLineOfWords ls → IfOk (network_of_lines ls) IsWellFormed
@@ -32,6 +34,9 @@ unfolding network_of_text
 given_is_well_formed network (bs, e) = IfOk-at_ok IsWellFormed e (of_result bs (lines_of bs) refl)
 
 -- ---- what follows
+
+pub known_is_well_formed : KnownIsWellFormed
+known_is_well_formed network known = ∥∥₁_elim known (IsWellFormed-prop network) (λ given. given_is_well_formed network given)
 
 pub given_routers_are_well_formed : GivenRoutersAreWellFormed
 given_routers_are_well_formed network is r in_network = All-contains IsWellFormedRouter network.routers r (All-from_recursion IsWellFormedRouter network.routers (given_is_well_formed network is).routers) in_network

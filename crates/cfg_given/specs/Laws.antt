@@ -13,6 +13,10 @@ use Rattle.cfg_ast.specs.WellFormed.{IsWellFormed, IsWellFormedRouter}
 abbrev pub GivenIsWellFormed : Type 0
 GivenIsWellFormed = (network : Network) → IsGiven network → IsWellFormed network
 
+-- The same where it is only known that some text gives the network.
+abbrev pub KnownIsWellFormed : Type 0
+KnownIsWellFormed = (network : Network) → ∥ IsGiven network ∥₁ → IsWellFormed network
+
 -- The same of each of its routers.
 abbrev pub GivenRoutersAreWellFormed : Type 0
 GivenRoutersAreWellFormed = (network : Network) → IsGiven network → (router : Router) → Contains network.routers router → IsWellFormedRouter router

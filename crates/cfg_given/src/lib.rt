@@ -4,12 +4,17 @@
 //! network calls the law that it needs, and knows what the law says of its network.
 #![tactic(auto)]
 
-ghost use Rattle.cfg_given.specs.Laws.{GivenCostsArePositive, GivenIsWellFormed, GivenPlacesAreInOrder, GivenRoutersAreWellFormed};
+ghost use Rattle.cfg_given.specs.Laws.{GivenCostsArePositive, GivenIsWellFormed, GivenPlacesAreInOrder, GivenRoutersAreWellFormed, KnownIsWellFormed};
 
 /// A text gives only networks that are as the grammar has them: names are names, numbers lie in their
 /// ranges, what may stand once stands once, and entries ascend.
 pub fn given_is_well_formed()
     ensures { GivenIsWellFormed }
+{}
+
+/// The same where it is only known that some text gives the network, as of a checked one.
+pub fn known_is_well_formed()
+    ensures { KnownIsWellFormed }
 {}
 
 /// Each router of such a network is as the grammar has it.
