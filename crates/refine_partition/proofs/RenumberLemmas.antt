@@ -206,8 +206,9 @@ stands_before numbers queue k w queued here (i, inside, at) =
 pub place_of : (done : List ℕ) (w : ℕ) → Contains done w → (j : ℕ) × (j < length done) × (slice_index done j ≡ w)
 place_of done w (j, inside, at) = (j, inside, get_or_default done j 0 w inside ∙ at)
 
-pub renumbered_next : (numbers classes queue : List ℕ) (blocks : List (Vec ℕ Global)) (class_count k : ℕ) (next origins origins' : List ℕ) (names names' : ℕ → Option ℕ) (block number : ℕ) (least : Bool) → IsRefined numbers blocks classes class_count → IsQueueOf numbers queue → k < length queue → Renumbering numbers classes (take k queue) (length blocks) next origins names → block ≡ slice_index numbers (slice_index queue k) → (least ≡ true → (u : ℕ) → u < slice_index queue k → slice_index numbers u ≢ slice_index numbers (slice_index queue k)) → (least ≡ false → (u : ℕ) × (u < slice_index queue k) × (slice_index numbers u ≡ slice_index numbers (slice_index queue k))) → IsNextNumber (names (slice_index classes (slice_index queue k))) block least (length blocks) origins origins' number → names' (slice_index classes (slice_index queue k)) ≡ Some number → ((other : ℕ) → other ≢ slice_index classes (slice_index queue k) → names' other ≡ names other) → Renumbering numbers classes (take (k + 1) queue) (length blocks) (slice_set next (slice_index queue k) number) origins' names'
-renumbered_next numbers classes queue blocks class_count k next origins origins' names names' block number least given queued here so_far is_block is_least is_not_least chosen named others =
+pub renumbered_next : (numbers classes queue : List ℕ) (blocks : List (Vec ℕ Global)) (class_count k : ℕ) (next origins origins' : List ℕ) (names names' : ℕ → Option ℕ) (number : ℕ) → IsRefined numbers blocks classes class_count → IsQueueOf numbers queue → k < length queue → Renumbering numbers classes (take k queue) (length blocks) next origins names → IsNextNumber (names (slice_index classes (slice_index queue k))) numbers (slice_index queue k) (length blocks) origins origins' number → names' (slice_index classes (slice_index queue k)) ≡ Some number → ((other : ℕ) → other ≢ slice_index classes (slice_index queue k) → names' other ≡ names other) → Renumbering numbers classes (take (k + 1) queue) (length blocks) (slice_set next (slice_index queue k) number) origins' names'
+renumbered_next numbers classes queue blocks class_count k next origins origins' names names' number given queued here so_far chosen named others =
+    let block : ℕ = slice_index numbers (slice_index queue k) in
     let router : ℕ = slice_index queue k in
     let class : ℕ = slice_index classes router in
     let done : List ℕ = take k queue in
@@ -238,14 +239,14 @@ renumbered_next numbers classes queue blocks class_count k next origins origins'
           (λ q le less. let (i, at_i, is_w) = place_of done w found in
           let (j, before_i, e) = so_far.in_order i q at_i le (let e' = ap (slice_index next) is_w in omega arith) in (j, omega arith, e))
       | inr (inl own) ↦
-          let is : number ≡ slice_index numbers router = own.2 ∙ is_block in
+          let is : number ≡ slice_index numbers router = own.2 in
           renumbered_more numbers classes done before next origins origins' names names' router class number so_far inside stands refl named others
           (inr (
             own.0,
             λ w found same.
                 let kept = so_far.kept w found (omega arith) in
                 let together : slice_index numbers w ≡ slice_index numbers router = sym kept ∙ same ∙ is in
-                is_least own.1 w (not_first w found together) together,
+                own.1 w (not_first w found together) together,
           ))
           (λ small. is)
           (omega arith)
@@ -262,11 +263,11 @@ renumbered_next numbers classes queue blocks class_count k next origins origins'
           (inr (new.0, λ w found same. let lt = so_far.below w found in absurd (omega arith)))
           (λ small. absurd (omega arith))
           (omega arith)
-          (λ j at_j. ap (λ (xs : List ℕ). slice_index xs j) new.3 ∙ get_or_push origins block 0 j (omega arith) ∙ is_block)
+          (λ j at_j. ap (λ (xs : List ℕ). slice_index xs j) new.3 ∙ get_or_push origins block 0 j (omega arith))
           (omega arith)
           (λ j within. ap (λ (xs : List ℕ). slice_index xs j) new.3 ∙ get_or_append_left origins (block ∷ []) 0 j within)
           (λ j le within. omega arith)
-          (λ first. let (u, less, same) = is_not_least new.1 in absurd (first u less same))
+          (λ first. let (u, less, same) = new.1 in absurd (first u less same))
           (λ q le less.
           let (w, found, e) = so_far.used (q - before) (omega arith) in
           let (j, at_j, is_w) = place_of done w found in

@@ -1,15 +1,23 @@
 -- New numbers for the pieces of divided blocks.
-use Rattle.std.specs.Prelude.{◌≡◌, ◌≢◌, ℕ, ◌+◌, ◌<◌, ◌≤◌, List, [], ◌∷◌, ◌++◌, length, slice_index, Bool, true, false, Option, Some, None, Contains, All, Vec, ◌⊎◌}
+use Rattle.std.specs.Prelude.{◌≡◌, ◌≢◌, ℕ, ◌+◌, ◌<◌, ◌≤◌, List, [], ◌∷◌, ◌++◌, length, slice_index, Option, Some, None, Contains, All, Vec, ◌⊎◌}
 use Rattle.std.specs.declared.alloc.Global.{Global}
 use Rattle.refine_partition.specs.Members.{AreBlocks}
 use Rattle.refine_partition.specs.Splits.{StandsBefore}
 
+-- no router before this one is in its block
+abbrev pub IsFirstOfBlock : List ℕ → ℕ → Type 0
+IsFirstOfBlock numbers router = (u : ℕ) → u < router → slice_index numbers u ≢ slice_index numbers router
+
+-- a router before this one is in its block
+abbrev pub HasEarlierMember : List ℕ → ℕ → Type 0
+HasEarlierMember numbers router = (u : ℕ) × (u < router) × (slice_index numbers u ≡ slice_index numbers router)
+
 -- the number of a class that has one, or of the least member's piece, or of a further piece
-abbrev pub IsNextNumber : Option ℕ → ℕ → Bool → ℕ → List ℕ → List ℕ → ℕ → Type 0
-IsNextNumber named block is_least before origins origins' number =
+abbrev pub IsNextNumber : Option ℕ → List ℕ → ℕ → ℕ → List ℕ → List ℕ → ℕ → Type 0
+IsNextNumber named numbers router before origins origins' number =
     ((named ≡ Some number) × (origins' ≡ origins))
-    ⊎ (((named ≡ None) × (is_least ≡ true) × (number ≡ block) × (origins' ≡ origins))
-    ⊎ ((named ≡ None) × (is_least ≡ false) × (number ≡ before + length origins) × (origins' ≡ origins ++ block ∷ [])))
+    ⊎ (((named ≡ None) × IsFirstOfBlock numbers router × (number ≡ slice_index numbers router) × (origins' ≡ origins))
+    ⊎ ((named ≡ None) × HasEarlierMember numbers router × (number ≡ before + length origins) × (origins' ≡ origins ++ slice_index numbers router ∷ [])))
 
 -- The numbers after the first routers of the queue were renumbered: the least member's class keeps the
 -- block's number, further classes have the next ones in the order in which the queue meets them.

@@ -15,29 +15,6 @@ pub struct Renumbering {
     pub origins: Vec<u32>,
 }
 
-/// The number of the next router: that of its class, or its block's where it is the least member, or
-/// that of a further piece.
-fn next_number(
-    origins: &mut Vec<u32>,
-    named: Option<u32>,
-    block: u32,
-    is_least: bool,
-    before: u32,
-) -> Result<u32, NoMemory>
-    requires { before + length origins.old.items < 2 ^ 32 }
-    ensures { IfOk result (λ number. IsNextNumber named block is_least before origins.old.items origins.new.items number) }
-{
-    if let Some(number) = named {
-        return Ok(number);
-    }
-    if is_least {
-        return Ok(block);
-    }
-    let number = before + origins.len() as u32;
-    origins.push(block)?;
-    Ok(number)
-}
-
 /// Whether the router is the least member of its block.
 fn is_least(numbers: &[u32], blocks: &[Vec<u32>], router: u32) -> bool
     requires blocks { AreBlocks numbers.now blocks.now }
@@ -48,6 +25,34 @@ fn is_least(numbers: &[u32], blocks: &[Vec<u32>], router: u32) -> bool
 {
     let block = &blocks[numbers[router as usize] as usize];
     block[0] == router
+}
+
+/// The number of the next router: that of its class, or its block's where it is the least member, or
+/// that of a further piece.
+fn next_number(
+    origins: &mut Vec<u32>,
+    named: Option<u32>,
+    numbers: &[u32],
+    blocks: &[Vec<u32>],
+    router: u32,
+    before: u32,
+) -> Result<u32, NoMemory>
+    requires blocks { AreBlocks numbers.now blocks.now }
+    requires in_range { router < length numbers.now }
+    requires known { slice_index numbers.now router < length blocks.now }
+    requires fits { before + length origins.old.items < 2 ^ 32 }
+    ensures { IfOk result (λ number. IsNextNumber named numbers.now router before origins.old.items origins.new.items number) }
+{
+    if let Some(number) = named {
+        return Ok(number);
+    }
+    let block = numbers[router as usize];
+    if is_least(numbers, blocks, router) {
+        return Ok(block);
+    }
+    let number = before + origins.len() as u32;
+    origins.push(block)?;
+    Ok(number)
 }
 
 /// The numbers after the routers of the queue were renumbered by their classes.
@@ -69,10 +74,8 @@ pub fn renumbered(
     let mut next = Vec::from_slice(alloc, numbers)?;
     let mut origins = Vec::new(alloc);
     for router in queue {
-        let block = numbers[*router as usize];
         let class = classes[*router as usize];
-        let least = is_least(numbers, blocks, *router);
-        let number = next_number(&mut origins, names[class], block, least, before)?;
+        let number = next_number(&mut origins, names[class], numbers, blocks, *router, before)?;
         names[class] = Some(number);
         next[*router as usize] = number;
     }

@@ -1,4 +1,4 @@
-use Rattle.std.proofs.Common.{length, ◌-◌, ◌≡◌, ℕ, ◌<◌, ◌≤◌, take, slice_index_or}
+use Rattle.std.proofs.Common.{length, ◌-◌, ℕ, ◌<◌, ◌≤◌, take, slice_index_or}
 use Rattle.refine_partition.specs.Arrivals.{act_of}
 use Rattle.refine_partition.specs.Classes.{AreClasses}
 use Rattle.refine_partition.specs.declared.imports.Import.{Import}

@@ -13,8 +13,8 @@ overflow_cast-before c =
     let fits = c.requires.fits in
     omega arith
 
-pub next_number-requires : goal.next_number-requires
-next_number-requires c =
+pub next_number-requires-clause-fits : goal.next_number-requires-clause-fits
+next_number-requires-clause-fits c =
     let few = few_numbers _ _ _ _ _ _ _ _ c.requires.given (All-take (λ u. u < length c.args.numbers.now) c.loop-router.router-index c.args.queue.now c.requires.queue.below) c.loop-router.invariant.so_far in
     let fits = c.requires.fits in
     omega arith
@@ -35,7 +35,7 @@ loop-router-preserved c =
     let chosen = rw (sym read) at c.in_ok-number.ensures in
     record {
       names = length-set names class (Some c.in_ok-number.number) ∙ size;
-      so_far = renumbered_next _ _ _ _ _ _ _ _ _ (λ x. get_or names x None) _ _ _ _ given c.requires.queue here c.loop-router.invariant.so_far refl c.is_least-least.ensures.least c.is_least-least.ensures.not_least chosen
+      so_far = renumbered_next _ _ _ _ _ _ _ _ _ (λ x. get_or names x None) _ _ given c.requires.queue here c.loop-router.invariant.so_far chosen
           (get_or-set_same names class (Some c.in_ok-number.number) None known') (λ other ne. get_or-set_other names class other (Some c.in_ok-number.number) None ne);
     }
 
