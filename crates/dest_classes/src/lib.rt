@@ -14,4 +14,4 @@ mod routes;
 
 pub use cfg_ast::{DestClass, Origin};
 pub use laws::{class_ascends, class_of_each_member, same_class_is_decided};
-pub use network_classes::{classes, classes_of};
+pub use network_classes::classes;

@@ -8,8 +8,8 @@ use cfg_ast::{DestClass, Network};
 use cfg_check::Checked;
 use std::alloc::Global;
 
-/// The classes of a network with few routers.
-pub fn classes_of(alloc: Global, net: &Network) -> Result<List<DestClass>, NoMemory>
+// The classes of a network with few routers.
+fn classes_of(alloc: Global, net: &Network) -> Result<List<DestClass>, NoMemory>
     requires { length net.now.routers < 2 ^ 32 }
     ensures { IfOk result (λ classes. classes ≡ classes_of net.now) }
 {
