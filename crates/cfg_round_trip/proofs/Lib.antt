@@ -23,6 +23,10 @@ pub mod PrintedWords
 pub mod ReadBack
 pub mod RouteMapsBack
 pub mod RouterBack
+pub mod ShortLines
+pub mod ShortNames
+pub mod ShortSteps
+pub mod ShortTexts
 pub mod TextLines
 pub mod Twice
 pub mod WordsBack

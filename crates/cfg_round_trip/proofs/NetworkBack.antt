@@ -12,13 +12,18 @@ use Rattle.cfg_ast.specs.Reading.{no_draft, steps, end_at, ending, network_of_li
 use Rattle.cfg_ast.specs.Printed.{router_lines, routers_lines, printed_lines, line_text, lines_text, printed}
 use Rattle.cfg_ast.specs.Bare.{bare_line, bare_router, bare}
 use Rattle.cfg_ast.specs.WellFormed.{IsWellFormedRouter, IsWellFormed}
-use Rattle.cfg_given.proofs.WellFormed.{given_is_well_formed}
-use Rattle.cfg_round_trip.specs.Laws.{PrintedIsReadBack, GivenIsReadBack}
+use Rattle.std.specs.List.{AllByRecursion-prop}
+use Rattle.std.proofs.Props.{props}
+use Rattle.std.proofs.Math.Logic.{∥∥₁_elim}
+use Rattle.cfg_given.proofs.WellFormed.{given_is_well_formed, known_is_well_formed}
+use Rattle.cfg_round_trip.specs.Laws.{PrintedIsReadBack, GivenLinesAreShort, GivenIsReadBack}
 use Rattle.cfg_round_trip.proofs.Numbers.{numbers_are_aside}
 use Rattle.cfg_round_trip.proofs.PrintedLines.{is_read}
 use Rattle.cfg_round_trip.proofs.PrintedNetwork.{printed_lines_are_lines}
 use Rattle.cfg_round_trip.proofs.ReadBack.{at_draft, then_steps}
 use Rattle.cfg_round_trip.proofs.RouterBack.{router_front, end_line, router_back}
+use Rattle.cfg_round_trip.proofs.ShortLines.{lines_are_short}
+use Rattle.cfg_round_trip.proofs.ShortSteps.{given_is_short}
 use Rattle.cfg_round_trip.proofs.TextLines.{lines_back}
 use Rattle.cfg_round_trip.proofs.Twice.{bare_twice}
 
@@ -114,5 +119,11 @@ printed_is_read_back network notes is are few short =
     let read = numbers_are_aside (filter is_read ls) kept same (bare network) (lines_network network notes is) in
     record { read = read.0; reads = rw back.1 read.1; same = read.2 ∙ bare_twice network }
 
+-- ---- networks that some text gives
+
+pub given_lines_are_short : GivenLinesAreShort
+given_lines_are_short network notes known are =
+    ∥∥₁_elim known (AllByRecursion-prop (λ (l : TextLine). length (line_text l) ≤ 1025) (λ l. hlevel props) (printed_lines network notes)) (λ given. lines_are_short network notes (given_is_well_formed network given) (given_is_short network given) are)
+
 pub given_is_read_back : GivenIsReadBack
-given_is_read_back network notes given are few short = printed_is_read_back network notes (given_is_well_formed network given) are few short
+given_is_read_back network notes known are few = printed_is_read_back network notes (known_is_well_formed network known) are few (given_lines_are_short network notes known are)

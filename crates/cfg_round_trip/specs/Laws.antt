@@ -33,6 +33,11 @@ pub record IsReadBack (network : Network) (notes : Notes) : Type 0 where
 abbrev pub PrintedIsReadBack : Type 0
 PrintedIsReadBack = (network : Network) (notes : Notes) → IsWellFormed network → AreNotes network notes → HasFewLines network notes → HasShortLines network notes → IsReadBack network notes
 
--- So is what is printed of a network that some text gives.
+-- The lines that are printed of a network that some text gives are short.
+abbrev pub GivenLinesAreShort : Type 0
+GivenLinesAreShort = (network : Network) (notes : Notes) → ∥ IsGiven network ∥₁ → AreNotes network notes → HasShortLines network notes
+
+-- What is printed of a network that some text gives is read back, if it has no more lines than a text
+-- that is read.
 abbrev pub GivenIsReadBack : Type 0
-GivenIsReadBack = (network : Network) (notes : Notes) → IsGiven network → AreNotes network notes → HasFewLines network notes → HasShortLines network notes → IsReadBack network notes
+GivenIsReadBack = (network : Network) (notes : Notes) → ∥ IsGiven network ∥₁ → AreNotes network notes → HasFewLines network notes → IsReadBack network notes

@@ -6,7 +6,7 @@
 
 mod members;
 
-ghost use Rattle.cfg_round_trip.specs.Laws.{GivenIsReadBack, NumbersAreAside, PrintedIsReadBack};
+ghost use Rattle.cfg_round_trip.specs.Laws.{GivenIsReadBack, GivenLinesAreShort, NumbersAreAside, PrintedIsReadBack};
 
 pub use members::members_are_read_back;
 
@@ -22,7 +22,13 @@ pub fn printed_is_read_back()
     ensures { PrintedIsReadBack }
 {}
 
-/// The same of each network that a text gives.
+/// The lines that are printed of a network that a text gives, as of a checked one, have at most 1,024
+/// bytes.
+pub fn given_lines_are_short()
+    ensures { GivenLinesAreShort }
+{}
+
+/// What is printed of such a network is read back, if it has at most 1,000,000 lines.
 pub fn given_is_read_back()
     ensures { GivenIsReadBack }
 {}

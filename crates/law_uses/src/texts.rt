@@ -1,6 +1,6 @@
 ghost use Rattle.cfg_ast.specs.Reading.{IsGiven};
 ghost use Rattle.cfg_given.specs.Laws.{PlacesAreInOrder};
-ghost use Rattle.cfg_round_trip.specs.Laws.{HasFewLines, HasShortLines, IsReadBack};
+ghost use Rattle.cfg_round_trip.specs.Laws.{HasFewLines, IsReadBack};
 ghost use Rattle.cfg_round_trip.specs.Notes.{AreNotes};
 
 use cfg_ast::{Network, Notes};
@@ -17,10 +17,9 @@ pub fn is_in_order(network: &Network)
 
 /// What is printed of such a network is read as it but for the numbers of lines.
 pub fn reads_back(network: &Network, notes: &Notes)
-    requires given { IsGiven network.now }
+    requires known { ∥ IsGiven network.now ∥₁ }
     requires noted { AreNotes network.now notes.now }
     requires few { HasFewLines network.now notes.now }
-    requires short { HasShortLines network.now notes.now }
     ensures { IsReadBack network.now notes.now }
 {
     given_is_read_back();
