@@ -27,6 +27,7 @@ pub mod ShortLines
 pub mod ShortNames
 pub mod ShortSteps
 pub mod ShortTexts
+pub mod ShortWords
 pub mod TextLines
 pub mod Twice
 pub mod WordsBack
