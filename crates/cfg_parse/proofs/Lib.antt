@@ -4,6 +4,7 @@ pub mod Changed
 pub mod EmptyHeads
 pub mod FormFaults
 pub mod Given
+pub mod MemberLines
 pub mod Neighbors
 pub mod Peers
 pub mod StanzaLines

@@ -1,2 +1,3 @@
+pub mod MemberSteps
 pub mod Neighbors
 pub mod Open

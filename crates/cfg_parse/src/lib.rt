@@ -4,6 +4,8 @@
 //! the first line with a fault of its own or of its form. Its contract is the definition
 //! `network_of_text`. The laws of `laws` say the same of refusals without the reader's state: a text is
 //! refused with the fault of the first line that has one, each line judged by the lines before it.
+//!
+//! `read_members` gives the names on the member lines of a text, which reading a network skips.
 #![tactic(auto)]
 
 mod bgp;
@@ -13,6 +15,7 @@ mod entry;
 mod exchange;
 mod interface;
 pub mod laws;
+mod members;
 mod ospf;
 mod policy;
 mod prefix_lists;
@@ -21,4 +24,5 @@ mod route_maps;
 mod stanza;
 mod top;
 
+pub use members::read_members;
 pub use reading::read_network;
