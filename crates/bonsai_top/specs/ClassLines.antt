@@ -1,5 +1,5 @@
 -- The text of the command `classes`: a line for each class, in order.
-use Rattle.std.specs.Prelude.{ℕ, ◌/◌, ◌%◌, List, [], ◌++◌, codes, decimal, flat_map, slice_get, Option, Some, None}
+use Rattle.std.specs.Prelude.{ℕ, List, [], ◌++◌, codes, decimal, flat_map, slice_get, Option, Some, None}
 use Rattle.std.specs.List.{enumerate_from}
 use Rattle.std.specs.Option.{option_map_or}
 use Rattle.base_kit.specs.Prefixes.{Prefix}
@@ -8,21 +8,15 @@ use Rattle.cfg_ast.specs.declared.network.Router.{Router}
 use Rattle.cfg_ast.specs.declared.classes.DestClass.{DestClass}
 use Rattle.cfg_ast.specs.declared.classes.Origin.{Origin}
 use Rattle.cfg_ast.specs.Classes.{classes_of}
+use Rattle.cfg_ast.specs.Printed.{prefix_text}
 
 -- the name of a router by its place
 abbrev pub name_at : Network → ℕ → List ℕ
 name_at network place = option_map_or (λ (router : Router). router.name) (slice_get network.routers place) []
 
-abbrev pub pair_text : ℕ → List ℕ
-pair_text pair = decimal (pair / 256) ++ codes "." ++ decimal (pair % 256)
-
--- an address in dotted form
-abbrev pub address_text : ℕ → List ℕ
-address_text a = pair_text (a / 65536) ++ codes "." ++ pair_text (a % 65536)
-
 -- a prefix behind a blank
 abbrev pub prefix_word : Prefix → List ℕ
-prefix_word p = codes " " ++ address_text p.addr ++ codes "/" ++ decimal p.len
+prefix_word p = codes " " ++ prefix_text p
 
 abbrev pub cost_suffix : Option ℕ → List ℕ
 cost_suffix None = []

@@ -1,6 +1,6 @@
 ghost use Rattle.std.specs.Prelude.{◌≡◌, ◌++◌, IfOk, OnOk, flat_map, string_bytes};
 ghost use Rattle.std.specs.List.{enumerate_from};
-ghost use Rattle.bonsai_top.specs.ClassLines.{name_at, pair_text, address_text, prefix_word, origin_word, class_line, class_lines, classes_text};
+ghost use Rattle.bonsai_top.specs.ClassLines.{name_at, prefix_word, origin_word, class_line, class_lines, classes_text};
 ghost use Rattle.bonsai_top.specs.Outcome.{done};
 ghost use Rattle.bonsai_top.specs.Replies.{Answers, Only};
 
@@ -8,6 +8,7 @@ use crate::reply::Reply;
 use base_kit::Prefix;
 use cfg_ast::{DestClass, Network, Origin};
 use cfg_check::Checked;
+use cfg_print::put_prefix;
 use dest_classes::classes;
 use std::alloc::{AllocError, Global};
 use std::fmt::Write;
@@ -21,29 +22,11 @@ fn name_at(network: &Network, place: u32) -> &str
     }
 }
 
-fn put_pair(text: &mut String, pair: u32) -> Result<(), AllocError>
-    ensures { OnOk result (string_bytes text.new ≡ string_bytes text.old ++ pair_text pair) }
-{
-    let high = pair / 256;
-    let low = pair % 256;
-    write!(text, "{high}.{low}")
-}
-
-fn put_address(text: &mut String, addr: u32) -> Result<(), AllocError>
-    ensures { OnOk result (string_bytes text.new ≡ string_bytes text.old ++ address_text addr) }
-{
-    put_pair(text, addr / 65_536)?;
-    text.push_str(".")?;
-    put_pair(text, addr % 65_536)
-}
-
-fn put_prefix(text: &mut String, prefix: &Prefix) -> Result<(), AllocError>
+fn put_prefix_word(text: &mut String, prefix: &Prefix) -> Result<(), AllocError>
     ensures { OnOk result (string_bytes text.new ≡ string_bytes text.old ++ prefix_word prefix.now) }
 {
-    let len = prefix.len();
     text.push_str(" ")?;
-    put_address(text, prefix.addr())?;
-    write!(text, "/{len}")
+    put_prefix(text, prefix)
 }
 
 fn put_origin(text: &mut String, network: &Network, origin: &Origin) -> Result<(), AllocError>
@@ -60,7 +43,7 @@ fn put_prefixes(text: &mut String, prefixes: &[Prefix]) -> Result<(), AllocError
     ensures { OnOk result (string_bytes text.new ≡ string_bytes text.old ++ flat_map prefix_word prefixes.now) }
 {
     for prefix in prefixes {
-        put_prefix(text, prefix)?;
+        put_prefix_word(text, prefix)?;
     }
     Ok(())
 }
