@@ -238,36 +238,36 @@ renumbered_next numbers classes queue blocks class_count k next origins origins'
           (λ first. absurd (first w (not_first w found together) together))
           (λ q le less. let (i, at_i, is_w) = place_of done w found in
           let (j, before_i, e) = so_far.in_order i q at_i le (let e' = ap (slice_index next) is_w in omega arith) in (j, omega arith, e))
-      | inr (inl own) ↦
-          let is : number ≡ slice_index numbers router = own.2 in
+      | inr (none, inl own) ↦
+          let is : number ≡ slice_index numbers router = own.1 in
           renumbered_more numbers classes done before next origins origins' names names' router class number so_far inside stands refl named others
           (inr (
-            own.0,
+            none,
             λ w found same.
                 let kept = so_far.kept w found (omega arith) in
                 let together : slice_index numbers w ≡ slice_index numbers router = sym kept ∙ same ∙ is in
-                own.1 w (not_first w found together) together,
+                own.0 w (not_first w found together) together,
           ))
           (λ small. is)
           (omega arith)
           (λ j at_j. absurd (omega arith))
-          (let e = ap length own.3 in omega arith)
-          (λ j within. ap (λ (xs : List ℕ). slice_index xs j) own.3)
-          (λ j le within. let e = ap length own.3 in absurd (omega arith))
+          (let e = ap length own.2 in omega arith)
+          (λ j within. ap (λ (xs : List ℕ). slice_index xs j) own.2)
+          (λ j le within. let e = ap length own.2 in absurd (omega arith))
           (λ first. is)
           (λ q le less. absurd (omega arith))
-      | inr (inr new) ↦
-          let is : number ≡ before + length origins = new.2 in
-          let size : length origins' ≡ length origins + 1 = ap length new.3 ∙ length_push origins block in
+      | inr (none, inr new) ↦
+          let is : number ≡ before + length origins = new.1 in
+          let size : length origins' ≡ length origins + 1 = ap length new.2 ∙ length_push origins block in
           renumbered_more numbers classes done before next origins origins' names names' router class number so_far inside stands refl named others
-          (inr (new.0, λ w found same. let lt = so_far.below w found in absurd (omega arith)))
+          (inr (none, λ w found same. let lt = so_far.below w found in absurd (omega arith)))
           (λ small. absurd (omega arith))
           (omega arith)
-          (λ j at_j. ap (λ (xs : List ℕ). slice_index xs j) new.3 ∙ get_or_push origins block 0 j (omega arith))
+          (λ j at_j. ap (λ (xs : List ℕ). slice_index xs j) new.2 ∙ get_or_push origins block 0 j (omega arith))
           (omega arith)
-          (λ j within. ap (λ (xs : List ℕ). slice_index xs j) new.3 ∙ get_or_append_left origins (block ∷ []) 0 j within)
+          (λ j within. ap (λ (xs : List ℕ). slice_index xs j) new.2 ∙ get_or_append_left origins (block ∷ []) 0 j within)
           (λ j le within. omega arith)
-          (λ first. let (u, less, same) = new.1 in absurd (first u less same))
+          (λ first. let (u, less, same) = new.0 in absurd (first u less same))
           (λ q le less.
           let (w, found, e) = so_far.used (q - before) (omega arith) in
           let (j, at_j, is_w) = place_of done w found in

@@ -1,5 +1,5 @@
 -- New numbers for the pieces of divided blocks.
-use Rattle.std.specs.Prelude.{◌≡◌, ◌≢◌, ℕ, ◌+◌, ◌<◌, ◌≤◌, List, [], ◌∷◌, ◌++◌, length, slice_index, Option, Some, None, Contains, All, Vec, ◌⊎◌}
+use Rattle.std.specs.Prelude.{◌≡◌, ◌≢◌, ℕ, ◌+◌, ◌<◌, ◌≤◌, List, [], ◌∷◌, ◌++◌, length, slice_index, slice_index_or, Option, Some, None, Contains, All, Vec, ◌⊎◌}
 use Rattle.std.specs.declared.alloc.Global.{Global}
 use Rattle.refine_partition.specs.Members.{AreBlocks}
 use Rattle.refine_partition.specs.Splits.{StandsBefore}
@@ -12,12 +12,26 @@ IsFirstOfBlock numbers router = (u : ℕ) → u < router → slice_index numbers
 abbrev pub HasEarlierMember : List ℕ → ℕ → Type 0
 HasEarlierMember numbers router = (u : ℕ) × (u < router) × (slice_index numbers u ≡ slice_index numbers router)
 
--- the number of a class that has one, or of the least member's piece, or of a further piece
+-- the number of the least member's piece, or of a further piece
+abbrev pub IsFreshNumber : List ℕ → ℕ → ℕ → List ℕ → List ℕ → ℕ → Type 0
+IsFreshNumber numbers router before origins origins' number =
+    (IsFirstOfBlock numbers router × (number ≡ slice_index numbers router) × (origins' ≡ origins))
+    ⊎ (HasEarlierMember numbers router × (number ≡ before + length origins) × (origins' ≡ origins ++ slice_index numbers router ∷ []))
+
+-- the number of a class that has one, or a fresh one
 abbrev pub IsNextNumber : Option ℕ → List ℕ → ℕ → ℕ → List ℕ → List ℕ → ℕ → Type 0
 IsNextNumber named numbers router before origins origins' number =
-    ((named ≡ Some number) × (origins' ≡ origins))
-    ⊎ (((named ≡ None) × IsFirstOfBlock numbers router × (number ≡ slice_index numbers router) × (origins' ≡ origins))
-    ⊎ ((named ≡ None) × HasEarlierMember numbers router × (number ≡ before + length origins) × (origins' ≡ origins ++ slice_index numbers router ∷ [])))
+    ((named ≡ Some number) × (origins' ≡ origins)) ⊎ ((named ≡ None) × IsFreshNumber numbers router before origins origins' number)
+
+-- the number of a class, if it has one
+abbrev pub name_at : List (Option ℕ) → ℕ → Option ℕ
+name_at names class = slice_index_or names class None
+
+-- the class has that number, and all others have what they had
+pub record IsNamedNow (old new : List (Option ℕ)) (class number : ℕ) : Type 0 where
+  pub size : length new ≡ length old
+  pub named : name_at new class ≡ Some number
+  pub others : (other : ℕ) → other ≢ class → name_at new other ≡ name_at old other
 
 -- The numbers after the first routers of the queue were renumbered: the least member's class keeps the
 -- block's number, further classes have the next ones in the order in which the queue meets them.

@@ -27,12 +27,8 @@ fn members_with(
 ) -> Result<Vec<u32>, NoMemory>
     ensures { IfOk result (λ v. v.items ≡ filter (is_numbered numbers.now number) members.now) }
 {
-    let mut found = Vec::new(alloc);
-    for router in members {
-        if has_number(numbers, *router, number) {
-            found.push(*router)?;
-        }
-    }
+    let mut found = Vec::from_slice(alloc, members)?;
+    found.retain(|router| has_number(numbers, *router, number));
     Ok(found)
 }
 

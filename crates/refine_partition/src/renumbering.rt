@@ -2,7 +2,7 @@
 
 ghost use Rattle.std.specs.Prelude.{◌≡◌, ◌≢◌, ℕ, ◌<◌, ◌^◌, ◌↔◌, All, IfOk, IsTrue, ◌+◌, ◌≤◌, false, length, slice_index};
 ghost use Rattle.refine_partition.specs.Members.{AreBlocks};
-ghost use Rattle.refine_partition.specs.Renumbering.{IsNextNumber, IsRefined, IsQueueOf, IsRenumbered};
+ghost use Rattle.refine_partition.specs.Renumbering.{name_at, IsFreshNumber, IsNextNumber, IsNamedNow, IsRefined, IsQueueOf, IsRenumbered};
 
 use base_kit::NoMemory;
 use std::alloc::Global;
@@ -27,11 +27,10 @@ fn is_least(numbers: &[u32], blocks: &[Vec<u32>], router: u32) -> bool
     block[0] == router
 }
 
-/// The number of the next router: that of its class, or its block's where it is the least member, or
-/// that of a further piece.
-fn next_number(
+/// The number of a class that has none yet: its block's where the router is the least member, or that
+/// of a further piece.
+fn fresh_number(
     origins: &mut Vec<u32>,
-    named: Option<u32>,
     numbers: &[u32],
     blocks: &[Vec<u32>],
     router: u32,
@@ -41,17 +40,40 @@ fn next_number(
     requires in_range { router < length numbers.now }
     requires known { slice_index numbers.now router < length blocks.now }
     requires fits { before + length origins.old.items < 2 ^ 32 }
-    ensures { IfOk result (λ number. IsNextNumber named numbers.now router before origins.old.items origins.new.items number) }
+    ensures { IfOk result (λ number. IsFreshNumber numbers.now router before origins.old.items origins.new.items number) }
 {
-    if let Some(number) = named {
-        return Ok(number);
-    }
     let block = numbers[router as usize];
     if is_least(numbers, blocks, router) {
         return Ok(block);
     }
     let number = before + origins.len() as u32;
     origins.push(block)?;
+    Ok(number)
+}
+
+/// The number of the next router: that of its class, or a fresh one, which its class then has.
+fn next_number(
+    origins: &mut Vec<u32>,
+    names: &mut Vec<Option<u32>>,
+    class: usize,
+    numbers: &[u32],
+    blocks: &[Vec<u32>],
+    router: u32,
+    before: u32,
+) -> Result<u32, NoMemory>
+    requires class { class < length names.old.items }
+    requires blocks { AreBlocks numbers.now blocks.now }
+    requires in_range { router < length numbers.now }
+    requires known { slice_index numbers.now router < length blocks.now }
+    requires fits { before + length origins.old.items < 2 ^ 32 }
+    ensures next { IfOk result (λ number. IsNextNumber (name_at names.old.items class) numbers.now router before origins.old.items origins.new.items number) }
+    ensures named { IfOk result (λ number. IsNamedNow names.old.items names.new.items class number) }
+{
+    if let Some(number) = names[class] {
+        return Ok(number);
+    }
+    let number = fresh_number(origins, numbers, blocks, router, before)?;
+    names[class] = Some(number);
     Ok(number)
 }
 
@@ -75,8 +97,15 @@ pub fn renumbered(
     let mut origins = Vec::new(alloc);
     for router in queue {
         let class = classes[*router as usize];
-        let number = next_number(&mut origins, names[class], numbers, blocks, *router, before)?;
-        names[class] = Some(number);
+        let number = next_number(
+            &mut origins,
+            &mut names,
+            class,
+            numbers,
+            blocks,
+            *router,
+            before,
+        )?;
         next[*router as usize] = number;
     }
     Ok(Renumbering {

@@ -1,7 +1,6 @@
-use Rattle.std.proofs.Common.{◌≡◌, ℕ, ◌<◌, [], length, get_or, take, Some, None, sym, ◌∙◌, refl, arith}
+use Rattle.std.proofs.Common.{ℕ, ◌<◌, [], length, get_or, take, None, ◌∙◌, refl, arith}
 use Rattle.std.specs.Prelude.{slice_index}
-use Rattle.std.proofs.lemmas.List.{take_all, get_or_default, get_or-set_same, get_or-set_other}
-use Rattle.std.proofs.Math.ListN.{length-set}
+use Rattle.std.proofs.lemmas.List.{take_all}
 use Rattle.std.proofs.lemmas.List.Elements.{All-take}
 use Rattle.refine_partition.proofs.RenumberLemmas.{few_numbers, renumbered_none, renumbered_next, renumbered_all}
 use Rattle.refine_partition.proofs.renumbering.renumbered.Goals as goal
@@ -25,18 +24,13 @@ loop-router-preserved c =
     let here = c.loop-router-test.true in
     let router : ℕ = slice_index c.args.queue.now c.loop-router.router-index in
     let class : ℕ = slice_index c.args.classes.now router in
-    let names = c.loop-router.names.items in
-    let inside : router < length c.args.numbers.now = c.requires.queue.below c.loop-router.router-index 0 here in
     let total = given.total in
     let size = c.loop-router.invariant.names in
-    let known : class < c.args.class_count = given.class_below router 0 (omega arith) in
-    let known' : class < length names = omega arith in
-    let read : get_or names class None ≡ c.index.result.now = get_or_default names class None _ known' ∙ sym c.index.ensures in
-    let chosen = rw (sym read) at c.in_ok-number.ensures in
+    let named = c.in_ok-number.ensures.named in
+    let inside : router < length c.args.numbers.now = c.requires.queue.below c.loop-router.router-index 0 here in
     record {
-      names = length-set names class (Some c.in_ok-number.number) ∙ size;
-      so_far = renumbered_next _ _ _ _ _ _ _ _ _ (λ x. get_or names x None) _ _ given c.requires.queue here c.loop-router.invariant.so_far chosen
-          (get_or-set_same names class (Some c.in_ok-number.number) None known') (λ other ne. get_or-set_other names class other (Some c.in_ok-number.number) None ne);
+      names = named.size ∙ size;
+      so_far = renumbered_next _ _ _ _ _ _ _ _ _ (λ x. get_or c.loop-router.names.items x None) _ _ given c.requires.queue here c.loop-router.invariant.so_far c.in_ok-number.ensures.next named.named named.others;
     }
 
 pub returns : goal.returns
