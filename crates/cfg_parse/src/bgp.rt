@@ -1,130 +1,63 @@
-ghost use Rattle.std.specs.Prelude.{◌≡◌, ◌<◌, Ok, IfOk, length, slice_index_or, slice_set, None, Some, is_some, nat_eq};
-ghost use Rattle.std.specs.List.{position};
+ghost use Rattle.std.specs.Prelude.{◌≡◌};
 ghost use Rattle.cfg_ast.specs.Answers.{Gives};
-ghost use Rattle.cfg_parse.specs.Neighbors.{change_at};
-ghost use Rattle.cfg_ast.specs.Stanzas.{has_network, has_neighbor, new_neighbor, set_neighbor, at_neighbor, set_bgp, with_peer, set_list, set_map, peer_of, set_process, set_base, add_network, add_neighbor};
+ghost use Rattle.cfg_ast.specs.Reading.{new_bgp};
+ghost use Rattle.cfg_ast.specs.Stanzas.{set_bgp, with_peer, peer_of, set_process, set_base, add_network, add_neighbor};
 
-use crate::exchange::exchange;
-use crate::stanza::{misplaced, once};
-use base_kit::{List, Prefix};
-use cfg_ast::{Base, BgpProcess, Named, Neighbor, NetLine, ReadRefusal, RouterItem};
+use crate::neighbors::{Neighbors, new_neighbor};
+use crate::networks::Networks;
+use crate::stanza::once;
+use cfg_ast::{Base, BgpProcess, NetLine, ReadRefusal, RouterItem};
+use std::alloc::Global;
+use std::marker::Model;
 
-#[tactic(auto, unfolding(cfg_ast::specs::Stanzas::has_network))]
-fn has_network(nets: &[NetLine], prefix: Prefix) -> bool
-    ensures { result ≡ has_network nets.now prefix }
-{
-    nets.iter().any(|net| net.prefix.addr() == prefix.addr() && net.prefix.len() == prefix.len())
-}
-
-#[tactic(auto, unfolding(cfg_ast::specs::Stanzas::has_neighbor))]
-fn has_neighbor(peers: &[Neighbor], addr: u32) -> bool
-    ensures { result ≡ has_neighbor peers.now addr }
-{
-    peers.iter().any(|peer| peer.addr == addr)
-}
-
-fn new_neighbor(number: u32, addr: u32, remote: u32) -> Neighbor
-    ensures { result ≡ new_neighbor number addr remote }
-{
-    Neighbor {
-        addr,
-        remote,
-        line: number,
-        shut: false,
-        sends: false,
-        list_in: None,
-        list_out: None,
-        map_in: None,
-        map_out: None,
-    }
-}
-
-fn set_list(
+/// A BGP process whose lines are being read.
+#[derive(Drop)]
+pub(crate) struct BgpDraft {
     number: u32,
-    list: Named,
-    inward: bool,
-    mut peer: Neighbor,
-) -> Result<Neighbor, ReadRefusal>
-    ensures { Gives result (set_list number list inward peer) }
-{
-    if inward {
-        once(number, peer.list_in.is_some())?;
-        peer.list_in = Some(list);
-    } else {
-        once(number, peer.list_out.is_some())?;
-        peer.list_out = Some(list);
+    line: u32,
+    base: Option<Base>,
+    networks: Networks,
+    neighbors: Neighbors,
+}
+
+impl Model for BgpDraft {
+    ghost use Rattle.cfg_ast.specs.declared.bgp.BgpProcess.{BgpProcess};
+
+    ghost Value = { BgpProcess };
+
+    ghost view = { λ b. record { number = b.number; line = b.line; base = b.base; networks = b.networks; neighbors = b.neighbors } };
+}
+
+impl BgpDraft {
+    pub(crate) fn new(alloc: Global, line: u32, number: u32) -> BgpDraft
+        ensures { result ≡ new_bgp line number }
+    {
+        BgpDraft {
+            number,
+            line,
+            base: None,
+            networks: Networks::new(alloc),
+            neighbors: Neighbors::new(alloc),
+        }
     }
-    Ok(peer)
-}
 
-fn set_map(
-    number: u32,
-    map: Named,
-    inward: bool,
-    mut peer: Neighbor,
-) -> Result<Neighbor, ReadRefusal>
-    ensures { Gives result (set_map number map inward peer) }
-{
-    if inward {
-        once(number, peer.map_in.is_some())?;
-        peer.map_in = Some(map);
-    } else {
-        once(number, peer.map_out.is_some())?;
-        peer.map_out = Some(map);
-    }
-    Ok(peer)
-}
-
-#[tactic(auto, unfolding(cfg_ast::specs::Stanzas::set_neighbor))]
-fn set_neighbor(number: u32, item: RouterItem, mut peer: Neighbor) -> Result<Neighbor, ReadRefusal>
-    ensures { Gives result (set_neighbor number item peer) }
-{
-    match item {
-        RouterItem::PeerShut(_) => peer.shut = true,
-        RouterItem::PeerSends(_) => peer.sends = true,
-        RouterItem::PeerList { list, inward, .. } => return set_list(number, list, inward, peer),
-        RouterItem::PeerMap { map, inward, .. } => return set_map(number, map, inward, peer),
-        _ => {}
-    }
-    Ok(peer)
-}
-
-fn place_of(peers: &[Neighbor], addr: u32) -> Option<usize>
-    ensures { result ≡ position (λ p. nat_eq p.addr addr) peers.now }
-{
-    peers.iter().position(|peer| peer.addr == addr)
-}
-
-// Changes the neighbour in its place.
-#[tactic(auto, using(crate::proofs::Neighbors::other_default, crate::proofs::Neighbors::twice_set))]
-fn change_at(
-    number: u32,
-    item: RouterItem,
-    peers: List<Neighbor>,
-    place: usize,
-) -> Result<List<Neighbor>, ReadRefusal>
-    requires { place < length peers }
-    ensures { Gives result (change_at number item peers place) }
-{
-    let mut peers = peers.into_vec();
-    let vacant = new_neighbor(0, 0, 0);
-    let peer = exchange(&mut peers, place, vacant);
-    let peer = set_neighbor(number, item, peer)?;
-    exchange(&mut peers, place, peer);
-    Ok(List::from_vec(peers))
-}
-
-fn at_neighbor(
-    number: u32,
-    addr: u32,
-    item: RouterItem,
-    peers: List<Neighbor>,
-) -> Result<List<Neighbor>, ReadRefusal>
-    ensures { Gives result (at_neighbor number addr (set_neighbor number item) peers) }
-{
-    match place_of(peers.as_slice(), addr) {
-        Some(place) => change_at(number, item, peers, place),
-        None => Err(misplaced(number)),
+    pub(crate) fn into_process(self) -> BgpProcess
+        ensures { result ≡ self }
+    {
+        let BgpDraft {
+            number,
+            line,
+            base,
+            networks,
+            neighbors,
+        } = self;
+        BgpProcess {
+            number,
+            line,
+            base,
+            networks: networks.into_list(),
+            neighbors: neighbors.into_list(),
+        }
     }
 }
 
@@ -132,11 +65,11 @@ fn set_peer(
     number: u32,
     addr: u32,
     item: RouterItem,
-    mut process: BgpProcess,
-) -> Result<BgpProcess, ReadRefusal>
+    mut process: BgpDraft,
+) -> Result<BgpDraft, ReadRefusal>
     ensures { Gives result (with_peer number addr item process) }
 {
-    process.neighbors = at_neighbor(number, addr, item, process.neighbors)?;
+    process.neighbors = process.neighbors.changed(number, addr, item)?;
     Ok(process)
 }
 
@@ -152,15 +85,11 @@ fn peer_of(item: &RouterItem) -> Option<u32>
     }
 }
 
-fn add_network(
-    number: u32,
-    net: &NetLine,
-    mut process: BgpProcess,
-) -> Result<BgpProcess, ReadRefusal>
+fn add_network(number: u32, net: &NetLine, mut process: BgpDraft) -> Result<BgpDraft, ReadRefusal>
     ensures { Gives result (add_network number net.now process) }
 {
-    once(number, has_network(process.networks.as_slice(), net.prefix))?;
-    process.networks.push(*net)?;
+    once(number, process.networks.has(net.prefix))?;
+    process.networks = process.networks.with(*net)?;
     Ok(process)
 }
 
@@ -168,16 +97,16 @@ fn add_neighbor(
     number: u32,
     addr: u32,
     remote: u32,
-    mut process: BgpProcess,
-) -> Result<BgpProcess, ReadRefusal>
+    mut process: BgpDraft,
+) -> Result<BgpDraft, ReadRefusal>
     ensures { Gives result (add_neighbor number addr remote process) }
 {
-    once(number, has_neighbor(process.neighbors.as_slice(), addr))?;
-    process.neighbors.push(new_neighbor(number, addr, remote))?;
+    once(number, process.neighbors.has(addr))?;
+    process.neighbors = process.neighbors.with(new_neighbor(number, addr, remote))?;
     Ok(process)
 }
 
-fn set_base(number: u32, base: Base, mut process: BgpProcess) -> Result<BgpProcess, ReadRefusal>
+fn set_base(number: u32, base: Base, mut process: BgpDraft) -> Result<BgpDraft, ReadRefusal>
     ensures { Gives result (set_base number base process) }
 {
     once(number, process.base.is_some())?;
@@ -186,11 +115,7 @@ fn set_base(number: u32, base: Base, mut process: BgpProcess) -> Result<BgpProce
 }
 
 #[tactic(auto, unfolding(cfg_ast::specs::Stanzas::set_process))]
-fn set_process(
-    number: u32,
-    item: &RouterItem,
-    process: BgpProcess,
-) -> Result<BgpProcess, ReadRefusal>
+fn set_process(number: u32, item: &RouterItem, process: BgpDraft) -> Result<BgpDraft, ReadRefusal>
     ensures { Gives result (set_process number item.now process) }
 {
     match item {
@@ -209,8 +134,8 @@ fn set_process(
 pub(crate) fn set_bgp(
     number: u32,
     item: RouterItem,
-    process: BgpProcess,
-) -> Result<BgpProcess, ReadRefusal>
+    process: BgpDraft,
+) -> Result<BgpDraft, ReadRefusal>
     ensures { Gives result (set_bgp number item process) }
 {
     match peer_of(&item) {

@@ -1,12 +1,14 @@
 ghost use Rattle.std.specs.Prelude.{◌≡◌, IfOk};
 ghost use Rattle.cfg_ast.specs.Reading.{no_draft, at_start, with_closed};
 
-use crate::route_maps::with_map_entry;
+use crate::bgp::BgpDraft;
+use crate::community_lists::CommunityLists;
+use crate::interfaces::Interfaces;
+use crate::ospf::OspfDraft;
+use crate::prefix_lists::PrefixLists;
+use crate::route_maps::RouteMaps;
 use base_kit::{List, NoMemory, Text};
-use cfg_ast::{
-    BgpProcess, CommunityList, Interface, MapEntry, Named, OspfProcess, PrefixList, RouteMap,
-    Router,
-};
+use cfg_ast::{BgpProcess, Interface, MapEntry, Named, OspfProcess, Router};
 use std::alloc::Global;
 use std::marker::Model;
 
@@ -16,8 +18,8 @@ pub(crate) enum Open {
     Closed,
     Ignored,
     Interface(Interface),
-    Bgp(BgpProcess),
-    Ospf(OspfProcess),
+    Bgp(BgpDraft),
+    Ospf(OspfDraft),
     Entry(Text, MapEntry),
 }
 
@@ -25,12 +27,12 @@ pub(crate) enum Open {
 #[derive(Drop)]
 pub(crate) struct Draft {
     pub(crate) name: Option<Named>,
-    pub(crate) interfaces: List<Interface>,
+    pub(crate) interfaces: Interfaces,
     pub(crate) bgp: Option<BgpProcess>,
     pub(crate) ospf: Option<OspfProcess>,
-    pub(crate) prefix_lists: List<PrefixList>,
-    pub(crate) community_lists: List<CommunityList>,
-    pub(crate) route_maps: List<RouteMap>,
+    pub(crate) prefix_lists: PrefixLists,
+    pub(crate) community_lists: CommunityLists,
+    pub(crate) route_maps: RouteMaps,
     pub(crate) stanza: Open,
 }
 
@@ -63,12 +65,12 @@ pub(crate) fn no_draft(alloc: Global) -> Draft
 {
     Draft {
         name: None,
-        interfaces: List::new(alloc),
+        interfaces: Interfaces::new(alloc),
         bgp: None,
         ospf: None,
-        prefix_lists: List::new(alloc),
-        community_lists: List::new(alloc),
-        route_maps: List::new(alloc),
+        prefix_lists: PrefixLists::new(alloc),
+        community_lists: CommunityLists::new(alloc),
+        route_maps: RouteMaps::new(alloc),
         stanza: Open::Closed,
     }
 }
@@ -100,10 +102,10 @@ pub(crate) fn with_closed(alloc: Global, draft: Draft) -> Result<Draft, NoMemory
     match stanza {
         Open::Closed => {}
         Open::Ignored => {}
-        Open::Interface(interface) => interfaces.push(interface)?,
-        Open::Bgp(process) => bgp = Some(process),
-        Open::Ospf(process) => ospf = Some(process),
-        Open::Entry(name, entry) => route_maps = with_map_entry(alloc, name, entry, route_maps)?,
+        Open::Interface(interface) => interfaces = interfaces.with(alloc, interface)?,
+        Open::Bgp(process) => bgp = Some(process.into_process()),
+        Open::Ospf(process) => ospf = Some(process.into_process()),
+        Open::Entry(name, entry) => route_maps = route_maps.with_entry(alloc, name, entry)?,
     }
     Ok(Draft {
         name,

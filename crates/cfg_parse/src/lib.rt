@@ -8,14 +8,20 @@
 //! `read_members` gives the names on the member lines of a text, which reading a network skips.
 #![tactic(auto)]
 
+mod areas;
 mod bgp;
 mod community_lists;
 mod draft;
 mod entry;
 mod exchange;
 mod interface;
+mod interfaces;
+mod keys;
 pub mod laws;
 mod members;
+mod names;
+mod neighbors;
+mod networks;
 mod ospf;
 mod policy;
 mod prefix_lists;

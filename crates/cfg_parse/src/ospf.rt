@@ -1,66 +1,95 @@
-ghost use Rattle.std.specs.Prelude.{◌≡◌, true, OnOk, IfOk, bytes_eq};
-ghost use Rattle.std.specs.List.{list_any};
-ghost use Rattle.cfg_ast.specs.Stanzas.{with_text, with_area, same_area, set_ospf};
+ghost use Rattle.std.specs.Prelude.{◌≡◌, true, IfOk};
+ghost use Rattle.cfg_ast.specs.Reading.{new_ospf};
+ghost use Rattle.cfg_ast.specs.Stanzas.{with_text, with_area, set_ospf};
 
-use base_kit::{List, NoMemory, Text};
+use crate::areas::Areas;
+use crate::names::Names;
+use base_kit::{NoMemory, Text};
 use cfg_ast::{AreaLine, OspfProcess, RouterItem};
+use std::alloc::Global;
+use std::marker::Model;
 
-fn has_text(names: &[Text], name: &str) -> bool
-    ensures { result ≡ list_any (bytes_eq name.now) names.now }
-{
-    names.iter().any(|other| name == other.as_str())
+/// An OSPF process whose lines are being read.
+#[derive(Drop)]
+pub(crate) struct OspfDraft {
+    number: u32,
+    line: u32,
+    passive_default: bool,
+    passive: Names,
+    not_passive: Names,
+    areas: Areas,
 }
 
-fn has_area(areas: &[AreaLine], area: &AreaLine) -> bool
-    ensures { result ≡ list_any (same_area area.now) areas.now }
-{
-    areas.iter().any(|other| {
-        area.addr == other.addr && area.wild == other.wild && area.area == other.area
-    })
+impl Model for OspfDraft {
+    ghost use Rattle.cfg_ast.specs.declared.ospf.OspfProcess.{OspfProcess};
+
+    ghost Value = { OspfProcess };
+
+    ghost view = { λ o. record { number = o.number; line = o.line; passive_default = o.passive_default; passive = o.passive; not_passive = o.not_passive; areas = o.areas } };
 }
 
-#[tactic(auto, unfolding(cfg_ast::specs::Stanzas::with_text))]
-fn add_text(names: &mut List<Text>, name: Text) -> Result<(), NoMemory>
-    ensures { OnOk result (names.new ≡ with_text names.old name) }
-{
-    if !has_text(names.as_slice(), name.as_str()) {
-        names.push(name)?;
+impl OspfDraft {
+    pub(crate) fn new(alloc: Global, line: u32, number: u32) -> OspfDraft
+        ensures { result ≡ new_ospf line number }
+    {
+        OspfDraft {
+            number,
+            line,
+            passive_default: false,
+            passive: Names::new(alloc),
+            not_passive: Names::new(alloc),
+            areas: Areas::new(alloc),
+        }
     }
-    Ok(())
-}
 
-#[tactic(auto, unfolding(cfg_ast::specs::Stanzas::with_area))]
-fn add_area(areas: &mut List<AreaLine>, area: AreaLine) -> Result<(), NoMemory>
-    ensures { OnOk result (areas.new ≡ with_area areas.old area) }
-{
-    if !has_area(areas.as_slice(), &area) {
-        areas.push(area)?;
+    pub(crate) fn into_process(self) -> OspfProcess
+        ensures { result ≡ self }
+    {
+        let OspfDraft {
+            number,
+            line,
+            passive_default,
+            passive,
+            not_passive,
+            areas,
+        } = self;
+        OspfProcess {
+            number,
+            line,
+            passive_default,
+            passive: passive.into_list(),
+            not_passive: not_passive.into_list(),
+            areas: areas.into_list(),
+        }
     }
-    Ok(())
 }
 
-fn with_area(area: AreaLine, mut process: OspfProcess) -> Result<OspfProcess, NoMemory>
+fn with_area(area: AreaLine, mut process: OspfDraft) -> Result<OspfDraft, NoMemory>
     ensures { IfOk result (λ p. p ≡ record process { areas = with_area process.areas area }) }
 {
-    add_area(&mut process.areas, area)?;
+    process.areas = process.areas.with(area)?;
     Ok(process)
 }
 
-fn with_passive(name: Text, mut process: OspfProcess) -> Result<OspfProcess, NoMemory>
+fn with_passive(alloc: Global, name: Text, mut process: OspfDraft) -> Result<OspfDraft, NoMemory>
     ensures { IfOk result (λ p. p ≡ record process { passive = with_text process.passive name }) }
 {
-    add_text(&mut process.passive, name)?;
+    process.passive = process.passive.with(alloc, name)?;
     Ok(process)
 }
 
-fn with_not_passive(name: Text, mut process: OspfProcess) -> Result<OspfProcess, NoMemory>
+fn with_not_passive(
+    alloc: Global,
+    name: Text,
+    mut process: OspfDraft,
+) -> Result<OspfDraft, NoMemory>
     ensures { IfOk result (λ p. p ≡ record process { not_passive = with_text process.not_passive name }) }
 {
-    add_text(&mut process.not_passive, name)?;
+    process.not_passive = process.not_passive.with(alloc, name)?;
     Ok(process)
 }
 
-fn with_passive_default(mut process: OspfProcess) -> OspfProcess
+fn with_passive_default(mut process: OspfDraft) -> OspfDraft
     ensures { result ≡ record process { passive_default = true } }
 {
     process.passive_default = true;
@@ -69,14 +98,18 @@ fn with_passive_default(mut process: OspfProcess) -> OspfProcess
 
 /// The process with what one of its lines says.
 #[tactic(auto, unfolding(cfg_ast::specs::Stanzas::set_ospf))]
-pub(crate) fn set_ospf(item: RouterItem, process: OspfProcess) -> Result<OspfProcess, NoMemory>
+pub(crate) fn set_ospf(
+    alloc: Global,
+    item: RouterItem,
+    process: OspfDraft,
+) -> Result<OspfDraft, NoMemory>
     ensures { IfOk result (λ p. p ≡ set_ospf item process) }
 {
     match item {
         RouterItem::Area(area) => with_area(area, process),
         RouterItem::PassiveDefault => Ok(with_passive_default(process)),
-        RouterItem::Passive(name) => with_passive(name, process),
-        RouterItem::NotPassive(name) => with_not_passive(name, process),
+        RouterItem::Passive(name) => with_passive(alloc, name, process),
+        RouterItem::NotPassive(name) => with_not_passive(alloc, name, process),
         _ => Ok(process),
     }
 }

@@ -5,11 +5,8 @@ ghost use Rattle.cfg_ast.specs.Lines.{IsWordIn, texts, text_of};
 ghost use Rattle.cfg_ast.specs.PolicyLines.{is_policy_line, is_list_word, with_community_line};
 ghost use Rattle.cfg_ast.specs.Reading.{ignored, add_prefix_entry, open_entry, take_policy};
 
-use crate::community_lists::with_community_line;
 use crate::draft::{Draft, Open};
-use crate::prefix_lists::{has_prefix_entry, with_prefix_entry};
-use crate::route_maps::has_map_entry;
-use crate::stanza::{once, repeated};
+use crate::stanza::repeated;
 use crate::top::ignore;
 use base_kit::{NoMemory, Text};
 use cfg_ast::{CommunityLine, MapEntry, PolicyItem, PrefixEntry, ReadRefusal, Span};
@@ -76,11 +73,10 @@ fn add_prefix_entry(
 ) -> Result<Draft, ReadRefusal>
     ensures { Gives result (add_prefix_entry number name entry draft) }
 {
-    once(
-        number,
-        has_prefix_entry(draft.prefix_lists.as_slice(), name.as_str(), entry.seq),
-    )?;
-    draft.prefix_lists = with_prefix_entry(alloc, name, entry, draft.prefix_lists)?;
+    if draft.prefix_lists.has_entry(name.as_str(), entry.seq) {
+        return Err(repeated(number));
+    }
+    draft.prefix_lists = draft.prefix_lists.with_entry(alloc, name, entry)?;
     Ok(draft)
 }
 
@@ -92,7 +88,7 @@ fn add_community_line(
 ) -> Result<Draft, NoMemory>
     ensures { IfOk result (λ d. d ≡ record draft { community_lists = with_community_line name line draft.community_lists }) }
 {
-    draft.community_lists = with_community_line(alloc, name, line, draft.community_lists)?;
+    draft.community_lists = draft.community_lists.with_line(alloc, name, line)?;
     Ok(draft)
 }
 
@@ -104,7 +100,7 @@ fn open_entry(
 ) -> Result<Draft, ReadRefusal>
     ensures { Gives result (open_entry number name entry draft) }
 {
-    if has_map_entry(draft.route_maps.as_slice(), name.as_str(), entry.seq) {
+    if draft.route_maps.has_entry(name.as_str(), entry.seq) {
         return Err(repeated(number));
     }
     draft.stanza = Open::Entry(name, entry);

@@ -1,58 +1,49 @@
-ghost use Rattle.std.specs.Prelude.{◌≡◌, ◌<◌, ◌∷◌, ◌++◌, [], IfOk, OnOk, length, slice_index_or, slice_set, nat_lt, nat_eq, bytes_eq};
+ghost use Rattle.std.specs.Prelude.{◌≡◌, ◌<◌, ◌∷◌, ◌++◌, [], IfOk, None, length, slice_index_or, slice_set};
 ghost use Rattle.std.specs.List.{position};
-ghost use Rattle.cfg_ast.specs.PolicyLines.{has_seq, has_prefix_entry, is_prefix_list, put_before, put_prefix_entry, with_prefix_entry};
+ghost use Rattle.cfg_ast.specs.PolicyLines.{has_prefix_entry, is_prefix_list, put_prefix_entry, with_prefix_entry};
+ghost use Rattle.cfg_parse.specs.Indexes.{seq_of_prefix_entry};
+ghost use Rattle.cfg_parse.specs.InOrder.{by_seq, with_last_prefix_entry};
 
 use crate::exchange::exchange;
+use crate::keys::{key_of, place_in};
 use base_kit::{List, NoMemory, Text};
 use cfg_ast::{PrefixEntry, PrefixList};
 use std::alloc::Global;
+use std::collections::{BTreeMap, BTreeSet};
+use std::marker::Model;
 
-fn place_of(lists: &[PrefixList], name: &str) -> Option<usize>
-    ensures { result ≡ position (is_prefix_list name.now) lists.now }
-{
-    lists.iter().position(|list| list.name.as_str() == name)
+/// The prefix lists of a router, the entries of each in the order of the text, with the place of each
+/// list by its name, and the sequence numbers of the entries at each place.
+#[derive(Drop)]
+pub(crate) struct PrefixLists {
+    lists: List<PrefixList>,
+    places: BTreeMap<String, usize>,
+    seqs: BTreeSet<(usize, u32)>,
 }
 
-// The first entry of a larger sequence number.
-fn place_before(entries: &[PrefixEntry], seq: u32) -> Option<usize>
-    ensures { result ≡ position (λ e. nat_lt seq e.seq) entries.now }
-{
-    entries.iter().position(|entry| seq < entry.seq)
+impl Model for PrefixLists {
+    ghost use Rattle.std.specs.Prelude.{List, map};
+    ghost use Rattle.cfg_ast.specs.declared.policy.PrefixList.{PrefixList};
+    ghost use Rattle.cfg_parse.specs.Indexes.{ArePrefixListsIndexed};
+    ghost use Rattle.cfg_parse.specs.InOrder.{prefix_list_in_order};
+
+    ghost Value = { List PrefixList };
+
+    ghost view = { λ a. map prefix_list_in_order a.lists };
+
+    ghost invariant = { λ a. ArePrefixListsIndexed a.places a.seqs a.lists };
 }
 
-fn put_entry(entries: &mut List<PrefixEntry>, entry: PrefixEntry) -> Result<(), NoMemory>
-    ensures { OnOk result (entries.new ≡ put_before (λ x. nat_lt entry.seq x.seq) entry entries.old) }
-{
-    match place_before(entries.as_slice(), entry.seq) {
-        Some(place) => entries.insert(place, entry),
-        None => entries.push(entry),
-    }
-}
-
-fn has_seq(entries: &[PrefixEntry], seq: u32) -> bool
-    ensures { result ≡ has_seq entries.now seq }
-{
-    entries.iter().any(|entry| entry.seq == seq)
-}
-
-/// Whether the list of this name has an entry of this sequence number.
-#[tactic(auto, unfolding(cfg_ast::specs::PolicyLines::has_prefix_entry))]
-pub(crate) fn has_prefix_entry(lists: &[PrefixList], name: &str, seq: u32) -> bool
-    ensures { result ≡ has_prefix_entry lists.now name.now seq }
-{
-    lists.iter().any(|list| list.name.as_str() == name && has_seq(list.entries.as_slice(), seq))
-}
-
-// Puts an entry into the list of this place.
+// Puts an entry last into the list of this place.
 #[tactic(auto, using(crate::proofs::Changed::other_prefix_list, crate::proofs::Changed::twice_set))]
-fn put_at(
+fn put_last(
     alloc: Global,
     place: usize,
     entry: PrefixEntry,
     lists: List<PrefixList>,
 ) -> Result<List<PrefixList>, NoMemory>
     requires { place < length lists }
-    ensures { IfOk result (λ all. all ≡ slice_set lists place (put_prefix_entry entry (slice_index_or lists place (record { name = []; entries = [] })))) }
+    ensures { IfOk result (λ all. all ≡ slice_set lists place (with_last_prefix_entry entry (slice_index_or lists place (record { name = []; entries = [] })))) }
 {
     let mut lists = lists.into_vec();
     let vacant = PrefixList {
@@ -60,36 +51,139 @@ fn put_at(
         entries: List::new(alloc),
     };
     let mut list = exchange(&mut lists, place, vacant);
-    put_entry(&mut list.entries, entry)?;
+    list.entries.push(entry)?;
     exchange(&mut lists, place, list);
     Ok(List::from_vec(lists))
 }
 
-fn begin(
-    alloc: Global,
-    name: Text,
-    entry: PrefixEntry,
-    mut lists: List<PrefixList>,
-) -> Result<List<PrefixList>, NoMemory>
-    ensures { IfOk result (λ all. all ≡ lists ++ (record { name = name; entries = entry ∷ [] }) ∷ []) }
+// A list of one entry, with room for no more.
+fn new_list(alloc: Global, name: Text, entry: PrefixEntry) -> Result<PrefixList, NoMemory>
+    ensures { IfOk result (λ list. list ≡ record { name = name; entries = entry ∷ [] }) }
 {
-    let mut entries = List::new(alloc);
+    let mut entries = Vec::with_capacity(alloc, 1)?;
     entries.push(entry)?;
-    lists.push(PrefixList { name, entries })?;
-    Ok(lists)
+    Ok(PrefixList {
+        name,
+        entries: List::from_vec(entries),
+    })
 }
 
-/// The prefix lists with an entry in the one of its name, which it may begin.
-pub(crate) fn with_prefix_entry(
-    alloc: Global,
-    name: Text,
-    entry: PrefixEntry,
-    lists: List<PrefixList>,
-) -> Result<List<PrefixList>, NoMemory>
-    ensures { IfOk result (λ all. all ≡ with_prefix_entry name entry lists) }
+// The entries by sequence number, those of one number in the order of the text.
+fn in_order(alloc: Global, entries: List<PrefixEntry>) -> Result<List<PrefixEntry>, NoMemory>
+    ensures { IfOk result (λ all. all ≡ by_seq seq_of_prefix_entry entries) }
 {
-    match place_of(lists.as_slice(), name.as_str()) {
-        Some(place) => put_at(alloc, place, entry, lists),
-        None => begin(alloc, name, entry, lists),
+    let mut sorted: BTreeMap<(u32, usize), PrefixEntry> = BTreeMap::new(alloc);
+    for (place, entry) in entries.into_vec().into_iter().enumerate() {
+        sorted.insert((entry.seq, place), entry)?;
+    }
+    let mut items = List::new(alloc);
+    for (_, entry) in sorted {
+        items.push(entry)?;
+    }
+    Ok(items)
+}
+
+impl PrefixLists {
+    pub(crate) fn new(alloc: Global) -> Self
+        ensures { result ≡ [] }
+    {
+        PrefixLists {
+            lists: List::new(alloc),
+            places: BTreeMap::new(alloc),
+            seqs: BTreeSet::new(alloc),
+        }
+    }
+
+    fn place_of(&self, name: &str) -> Option<usize>
+        ensures { result ≡ position (is_prefix_list name.now) self.now }
+    {
+        place_in(&self.places, name)
+    }
+
+    /// Whether the list of this name has an entry of this sequence number.
+    pub(crate) fn has_entry(&self, name: &str, seq: u32) -> bool
+        ensures { result ≡ has_prefix_entry self.now name.now seq }
+    {
+        match place_in(&self.places, name) {
+            Some(place) => self.seqs.contains(&(place, seq)),
+            None => false,
+        }
+    }
+
+    fn with_last(
+        self,
+        alloc: Global,
+        place: usize,
+        entry: PrefixEntry,
+    ) -> Result<PrefixLists, NoMemory>
+        requires { place < length self }
+        ensures { IfOk result (λ all. all ≡ slice_set self place (put_prefix_entry entry (slice_index_or self place (record { name = []; entries = [] })))) }
+    {
+        let PrefixLists {
+            lists,
+            places,
+            mut seqs,
+        } = self;
+        seqs.insert((place, entry.seq))?;
+        let lists = put_last(alloc, place, entry, lists)?;
+        Ok(PrefixLists {
+            lists,
+            places,
+            seqs,
+        })
+    }
+
+    fn with_list(
+        self,
+        alloc: Global,
+        name: Text,
+        entry: PrefixEntry,
+    ) -> Result<PrefixLists, NoMemory>
+        requires { position (is_prefix_list name) self ≡ None }
+        ensures { IfOk result (λ all. all ≡ self ++ (record { name = name; entries = entry ∷ [] }) ∷ []) }
+    {
+        let PrefixLists {
+            mut lists,
+            mut places,
+            mut seqs,
+        } = self;
+        places.insert(key_of(alloc, name.as_str())?, lists.len())?;
+        seqs.insert((lists.len(), entry.seq))?;
+        lists.push(new_list(alloc, name, entry)?)?;
+        Ok(PrefixLists {
+            lists,
+            places,
+            seqs,
+        })
+    }
+
+    /// The lists with an entry in the one of its name, which it may begin.
+    pub(crate) fn with_entry(
+        self,
+        alloc: Global,
+        name: Text,
+        entry: PrefixEntry,
+    ) -> Result<PrefixLists, NoMemory>
+        ensures { IfOk result (λ all. all ≡ with_prefix_entry name entry self) }
+    {
+        match self.place_of(name.as_str()) {
+            Some(place) => self.with_last(alloc, place, entry),
+            None => self.with_list(alloc, name, entry),
+        }
+    }
+
+    /// The lists, the entries of each by sequence number.
+    pub(crate) fn into_list(self, alloc: Global) -> Result<List<PrefixList>, NoMemory>
+        ensures { IfOk result (λ lists. lists ≡ self) }
+    {
+        let PrefixLists { lists, .. } = self;
+        let mut found = List::new(alloc);
+        for list in lists.into_vec() {
+            found.push(PrefixList {
+                name: list.name,
+                entries: in_order(alloc, list.entries)?,
+            })?;
+        }
+        Ok(found)
     }
 }

@@ -1,16 +1,17 @@
-ghost use Rattle.std.specs.Prelude.{◌≡◌, ◌≤◌, All, Some, length};
+ghost use Rattle.std.specs.Prelude.{◌≡◌, ◌≤◌, Some, Ok, true, is_ok, length};
 ghost use Rattle.std.specs.List.{AllByRecursion};
 ghost use Rattle.cfg_ast.specs.Answers.{Gives};
-ghost use Rattle.cfg_ast.specs.Lines.{IsLineIn, IsWordIn, texts};
+ghost use Rattle.cfg_ast.specs.Lines.{IsLineIn, IsWordIn, texts, lines_of};
 ghost use Rattle.cfg_ast.specs.TextLines.{text_line};
-ghost use Rattle.cfg_ast.specs.Reading.{at_start, step_policy, step_router, step_top, step_inner, step, steps, is_end, end_at, ending, texts_of, network_of_lines, network_of_text};
+ghost use Rattle.cfg_ast.specs.Reading.{at_start, step_policy, step_router, step_top, step_inner, step, is_end, end_at, network_of_lines, network_of_text};
+ghost use Rattle.cfg_parse.specs.Rest.{answer_of, state_after};
 
 use crate::draft::{Draft, State, at_start, with_closed};
 use crate::policy::{is_policy_line, take_policy};
 use crate::stanza::{policy_said_in, said_in, take_inner};
 use crate::top::take_top;
 use cfg_ast::{Kind, Line, Network, PolicyScope, ReadRefusal, Scope, Span};
-use cfg_lex::lines;
+use cfg_lex::{Place, line_from, sound};
 use std::alloc::Global;
 
 #[tactic(auto, unfolding(cfg_ast::specs::Reading::step_router))]
@@ -90,18 +91,6 @@ fn step(alloc: Global, bytes: &[u8], line: &Line, state: State) -> Result<State,
     }
 }
 
-#[tactic(auto, using(crate::proofs::Steps::steps_ok, crate::proofs::Steps::steps_err, crate::proofs::Steps::steps_end))]
-fn read_steps(alloc: Global, bytes: &[u8], lines: &[Line]) -> Result<State, ReadRefusal>
-    requires { All (IsLineIn bytes.now) lines.now }
-    ensures { Gives result (steps at_start (texts_of bytes.now lines.now)) }
-{
-    let mut state = at_start(alloc);
-    for line in lines {
-        state = step(alloc, bytes, line, state)?;
-    }
-    Ok(state)
-}
-
 fn is_end(bytes: &[u8], words: &[Span]) -> bool
     requires { AllByRecursion (IsWordIn bytes.now) words.now }
     ensures { result ≡ is_end (texts bytes.now words.now) }
@@ -112,29 +101,46 @@ fn is_end(bytes: &[u8], words: &[Span]) -> bool
     &bytes[word.from as usize..word.upto as usize] == b"end".as_slice()
 }
 
-// The last line must be the top line `end`.
-fn end_at(bytes: &[u8], last: &Line) -> Result<(), ReadRefusal>
+// The number of a line that is not the top line `end`.
+fn unended(bytes: &[u8], last: &Line) -> Option<u32>
     requires { IsLineIn bytes.now last.now }
-    ensures { result ≡ end_at (Some (text_line bytes.now last.now)) }
+    ensures { answer_of result ≡ end_at (Some (text_line bytes.now last.now)) }
 {
     if last.indent == 0 && is_end(bytes, last.words.as_slice()) {
-        return Ok(());
+        return None;
     }
-    Err(ReadRefusal::At {
-        line: last.number,
-        kind: Kind::NoEnd,
-    })
+    Some(last.number)
 }
 
-#[tactic(auto, using(crate::proofs::Steps::ending_none, crate::proofs::Steps::ending_some))]
-fn ending(bytes: &[u8], lines: &[Line]) -> Result<(), ReadRefusal>
-    requires { All (IsLineIn bytes.now) lines.now }
-    ensures { result ≡ ending (texts_of bytes.now lines.now) }
+// The text must end with the top line `end`, if it has a line.
+fn ended(last: Option<u32>) -> Result<(), ReadRefusal>
+    ensures { result ≡ answer_of last }
 {
-    match lines.last() {
-        Some(last) => end_at(bytes, last),
+    match last {
         None => Ok(()),
+        Some(line) => Err(ReadRefusal::At {
+            line,
+            kind: Kind::NoEnd,
+        }),
     }
+}
+
+// The state after all lines, read one by one.
+fn read_lines(alloc: Global, bytes: &[u8]) -> Result<State, ReadRefusal>
+    requires short { length bytes.now ≤ 16777216 }
+    requires sound { is_ok (lines_of bytes.now) ≡ true }
+    ensures { Gives result (state_after bytes.now at_start (Ok tt) (lines_of bytes.now)) }
+{
+    let mut place = Place { number: 0, from: 0 };
+    let mut state = at_start(alloc);
+    let mut last = None;
+    while let Some((line, next)) = line_from(alloc, bytes, place)? {
+        state = step(alloc, bytes, &line, state)?;
+        last = unended(bytes, &line);
+        place = next;
+    }
+    ended(last)?;
+    Ok(state)
 }
 
 /// The network of a text of running configurations.
@@ -152,9 +158,7 @@ pub fn read_network(alloc: Global, bytes: &[u8]) -> Result<Network, ReadRefusal>
     requires { length bytes.now ≤ 16777216 }
     ensures { Gives result (network_of_text bytes.now) }
 {
-    let lines = lines(alloc, bytes)?;
-    let state = read_steps(alloc, bytes, lines.as_slice())?;
-    ending(bytes, lines.as_slice())?;
-    let State { routers, .. } = state;
+    sound(bytes)?;
+    let State { routers, .. } = read_lines(alloc, bytes)?;
     Ok(Network { routers })
 }

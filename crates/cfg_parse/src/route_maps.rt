@@ -1,58 +1,49 @@
-ghost use Rattle.std.specs.Prelude.{◌≡◌, ◌<◌, ◌∷◌, ◌++◌, [], IfOk, OnOk, length, slice_index_or, slice_set, nat_lt, nat_eq, bytes_eq};
+ghost use Rattle.std.specs.Prelude.{◌≡◌, ◌<◌, ◌∷◌, ◌++◌, [], IfOk, None, length, slice_index_or, slice_set};
 ghost use Rattle.std.specs.List.{position};
-ghost use Rattle.cfg_ast.specs.PolicyLines.{has_entry_seq, has_map_entry, is_route_map, put_before, put_map_entry, with_map_entry};
+ghost use Rattle.cfg_ast.specs.PolicyLines.{has_map_entry, is_route_map, put_map_entry, with_map_entry};
+ghost use Rattle.cfg_parse.specs.Indexes.{seq_of_map_entry};
+ghost use Rattle.cfg_parse.specs.InOrder.{by_seq, with_last_map_entry};
 
 use crate::exchange::exchange;
+use crate::keys::{key_of, place_in};
 use base_kit::{List, NoMemory, Text};
 use cfg_ast::{MapEntry, RouteMap};
 use std::alloc::Global;
+use std::collections::{BTreeMap, BTreeSet};
+use std::marker::Model;
 
-fn place_of(maps: &[RouteMap], name: &str) -> Option<usize>
-    ensures { result ≡ position (is_route_map name.now) maps.now }
-{
-    maps.iter().position(|map| map.name.as_str() == name)
+/// The route maps of a router, the entries of each in the order of the text, with the place of each
+/// map by its name, and the sequence numbers of the entries at each place.
+#[derive(Drop)]
+pub(crate) struct RouteMaps {
+    maps: List<RouteMap>,
+    places: BTreeMap<String, usize>,
+    seqs: BTreeSet<(usize, u32)>,
 }
 
-// The first entry of a larger sequence number.
-fn place_before(entries: &[MapEntry], seq: u32) -> Option<usize>
-    ensures { result ≡ position (λ e. nat_lt seq e.seq) entries.now }
-{
-    entries.iter().position(|entry| seq < entry.seq)
+impl Model for RouteMaps {
+    ghost use Rattle.std.specs.Prelude.{List, map};
+    ghost use Rattle.cfg_ast.specs.declared.policy.RouteMap.{RouteMap};
+    ghost use Rattle.cfg_parse.specs.Indexes.{AreRouteMapsIndexed};
+    ghost use Rattle.cfg_parse.specs.InOrder.{route_map_in_order};
+
+    ghost Value = { List RouteMap };
+
+    ghost view = { λ a. map route_map_in_order a.maps };
+
+    ghost invariant = { λ a. AreRouteMapsIndexed a.places a.seqs a.maps };
 }
 
-fn put_entry(entries: &mut List<MapEntry>, entry: MapEntry) -> Result<(), NoMemory>
-    ensures { OnOk result (entries.new ≡ put_before (λ x. nat_lt entry.seq x.seq) entry entries.old) }
-{
-    match place_before(entries.as_slice(), entry.seq) {
-        Some(place) => entries.insert(place, entry),
-        None => entries.push(entry),
-    }
-}
-
-fn has_seq(entries: &[MapEntry], seq: u32) -> bool
-    ensures { result ≡ has_entry_seq entries.now seq }
-{
-    entries.iter().any(|entry| entry.seq == seq)
-}
-
-/// Whether the map of this name has an entry of this sequence number.
-#[tactic(auto, unfolding(cfg_ast::specs::PolicyLines::has_map_entry))]
-pub(crate) fn has_map_entry(maps: &[RouteMap], name: &str, seq: u32) -> bool
-    ensures { result ≡ has_map_entry maps.now name.now seq }
-{
-    maps.iter().any(|map| map.name.as_str() == name && has_seq(map.entries.as_slice(), seq))
-}
-
-// Puts an entry into the map of this place.
+// Puts an entry last into the map of this place.
 #[tactic(auto, using(crate::proofs::Changed::other_route_map, crate::proofs::Changed::twice_set))]
-fn put_at(
+fn put_last(
     alloc: Global,
     place: usize,
     entry: MapEntry,
     maps: List<RouteMap>,
 ) -> Result<List<RouteMap>, NoMemory>
     requires { place < length maps }
-    ensures { IfOk result (λ all. all ≡ slice_set maps place (put_map_entry entry (slice_index_or maps place (record { name = []; entries = [] })))) }
+    ensures { IfOk result (λ all. all ≡ slice_set maps place (with_last_map_entry entry (slice_index_or maps place (record { name = []; entries = [] })))) }
 {
     let mut maps = maps.into_vec();
     let vacant = RouteMap {
@@ -60,36 +51,121 @@ fn put_at(
         entries: List::new(alloc),
     };
     let mut map = exchange(&mut maps, place, vacant);
-    put_entry(&mut map.entries, entry)?;
+    map.entries.push(entry)?;
     exchange(&mut maps, place, map);
     Ok(List::from_vec(maps))
 }
 
-fn begin(
-    alloc: Global,
-    name: Text,
-    entry: MapEntry,
-    mut maps: List<RouteMap>,
-) -> Result<List<RouteMap>, NoMemory>
-    ensures { IfOk result (λ all. all ≡ maps ++ (record { name = name; entries = entry ∷ [] }) ∷ []) }
+// A map of one entry, with room for no more.
+fn new_map(alloc: Global, name: Text, entry: MapEntry) -> Result<RouteMap, NoMemory>
+    ensures { IfOk result (λ map. map ≡ record { name = name; entries = entry ∷ [] }) }
 {
-    let mut entries = List::new(alloc);
+    let mut entries = Vec::with_capacity(alloc, 1)?;
     entries.push(entry)?;
-    maps.push(RouteMap { name, entries })?;
-    Ok(maps)
+    Ok(RouteMap {
+        name,
+        entries: List::from_vec(entries),
+    })
 }
 
-/// The route maps with an entry in the one of its name, which it may begin.
-pub(crate) fn with_map_entry(
-    alloc: Global,
-    name: Text,
-    entry: MapEntry,
-    maps: List<RouteMap>,
-) -> Result<List<RouteMap>, NoMemory>
-    ensures { IfOk result (λ all. all ≡ with_map_entry name entry maps) }
+// The entries by sequence number, those of one number in the order of the text.
+fn in_order(alloc: Global, entries: List<MapEntry>) -> Result<List<MapEntry>, NoMemory>
+    ensures { IfOk result (λ all. all ≡ by_seq seq_of_map_entry entries) }
 {
-    match place_of(maps.as_slice(), name.as_str()) {
-        Some(place) => put_at(alloc, place, entry, maps),
-        None => begin(alloc, name, entry, maps),
+    let mut sorted: BTreeMap<(u32, usize), MapEntry> = BTreeMap::new(alloc);
+    for (place, entry) in entries.into_vec().into_iter().enumerate() {
+        sorted.insert((entry.seq, place), entry)?;
+    }
+    let mut items = List::new(alloc);
+    for (_, entry) in sorted {
+        items.push(entry)?;
+    }
+    Ok(items)
+}
+
+impl RouteMaps {
+    pub(crate) fn new(alloc: Global) -> Self
+        ensures { result ≡ [] }
+    {
+        RouteMaps {
+            maps: List::new(alloc),
+            places: BTreeMap::new(alloc),
+            seqs: BTreeSet::new(alloc),
+        }
+    }
+
+    fn place_of(&self, name: &str) -> Option<usize>
+        ensures { result ≡ position (is_route_map name.now) self.now }
+    {
+        place_in(&self.places, name)
+    }
+
+    /// Whether the map of this name has an entry of this sequence number.
+    pub(crate) fn has_entry(&self, name: &str, seq: u32) -> bool
+        ensures { result ≡ has_map_entry self.now name.now seq }
+    {
+        match place_in(&self.places, name) {
+            Some(place) => self.seqs.contains(&(place, seq)),
+            None => false,
+        }
+    }
+
+    fn with_last(self, alloc: Global, place: usize, entry: MapEntry) -> Result<RouteMaps, NoMemory>
+        requires { place < length self }
+        ensures { IfOk result (λ all. all ≡ slice_set self place (put_map_entry entry (slice_index_or self place (record { name = []; entries = [] })))) }
+    {
+        let RouteMaps {
+            maps,
+            places,
+            mut seqs,
+        } = self;
+        seqs.insert((place, entry.seq))?;
+        let maps = put_last(alloc, place, entry, maps)?;
+        Ok(RouteMaps { maps, places, seqs })
+    }
+
+    fn with_map(self, alloc: Global, name: Text, entry: MapEntry) -> Result<RouteMaps, NoMemory>
+        requires { position (is_route_map name) self ≡ None }
+        ensures { IfOk result (λ all. all ≡ self ++ (record { name = name; entries = entry ∷ [] }) ∷ []) }
+    {
+        let RouteMaps {
+            mut maps,
+            mut places,
+            mut seqs,
+        } = self;
+        places.insert(key_of(alloc, name.as_str())?, maps.len())?;
+        seqs.insert((maps.len(), entry.seq))?;
+        maps.push(new_map(alloc, name, entry)?)?;
+        Ok(RouteMaps { maps, places, seqs })
+    }
+
+    /// The maps with an entry in the one of its name, which it may begin.
+    pub(crate) fn with_entry(
+        self,
+        alloc: Global,
+        name: Text,
+        entry: MapEntry,
+    ) -> Result<RouteMaps, NoMemory>
+        ensures { IfOk result (λ all. all ≡ with_map_entry name entry self) }
+    {
+        match self.place_of(name.as_str()) {
+            Some(place) => self.with_last(alloc, place, entry),
+            None => self.with_map(alloc, name, entry),
+        }
+    }
+
+    /// The maps, the entries of each by sequence number.
+    pub(crate) fn into_list(self, alloc: Global) -> Result<List<RouteMap>, NoMemory>
+        ensures { IfOk result (λ maps. maps ≡ self) }
+    {
+        let RouteMaps { maps, .. } = self;
+        let mut found = List::new(alloc);
+        for map in maps.into_vec() {
+            found.push(RouteMap {
+                name: map.name,
+                entries: in_order(alloc, map.entries)?,
+            })?;
+        }
+        Ok(found)
     }
 }

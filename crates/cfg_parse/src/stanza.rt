@@ -138,7 +138,7 @@ pub(crate) fn take_inner(
         }
         Open::Ospf(process) => {
             let item = said_in(alloc, bytes, line, Scope::Ospf)?;
-            Ok(Open::Ospf(set_ospf(item, process)?))
+            Ok(Open::Ospf(set_ospf(alloc, item, process)?))
         }
         Open::Entry(name, entry) => {
             let item = policy_said_in(alloc, bytes, line, PolicyScope::Entry)?;

@@ -1,22 +1,15 @@
 ghost use Rattle.std.specs.Prelude.{◌≡◌};
 ghost use Rattle.cfg_ast.specs.Answers.{Gives};
 ghost use Rattle.cfg_ast.specs.Stanzas.{once};
-ghost use Rattle.cfg_ast.specs.Reading.{has_interface, new_interface, new_bgp, new_ospf, take_hostname, open_interface, open_bgp, open_ospf, ignored, router_of, end_router, ends_router, take_line, take_top};
+ghost use Rattle.cfg_ast.specs.Reading.{new_interface, take_hostname, open_interface, open_bgp, open_ospf, ignored, router_of, end_router, ends_router, take_line, take_top};
 
+use crate::bgp::BgpDraft;
 use crate::draft::{Draft, Open, State, no_draft};
-use crate::stanza::once;
-use base_kit::{List, Text};
-use cfg_ast::{BgpProcess, Interface, Kind, Named, OspfProcess, ReadRefusal, Router, RouterItem};
+use crate::ospf::OspfDraft;
+use crate::stanza::{once, repeated};
+use base_kit::Text;
+use cfg_ast::{Interface, Kind, Named, ReadRefusal, Router, RouterItem};
 use std::alloc::Global;
-
-#[tactic(auto, unfolding(cfg_ast::specs::Reading::has_interface))]
-fn has_interface(interfaces: &[Interface], name: &str) -> bool
-    ensures { result ≡ has_interface interfaces.now name.now }
-{
-    interfaces
-        .iter()
-        .any(|interface| interface.name.as_str() == name)
-}
 
 fn new_interface(number: u32, name: Text) -> Interface
     ensures { result ≡ new_interface number name }
@@ -27,31 +20,6 @@ fn new_interface(number: u32, name: Text) -> Interface
         address: None,
         cost: None,
         shut: false,
-    }
-}
-
-fn new_bgp(alloc: Global, line: u32, number: u32) -> BgpProcess
-    ensures { result ≡ new_bgp line number }
-{
-    BgpProcess {
-        number,
-        line,
-        base: None,
-        networks: List::new(alloc),
-        neighbors: List::new(alloc),
-    }
-}
-
-fn new_ospf(alloc: Global, line: u32, number: u32) -> OspfProcess
-    ensures { result ≡ new_ospf line number }
-{
-    OspfProcess {
-        number,
-        line,
-        passive_default: false,
-        passive: List::new(alloc),
-        not_passive: List::new(alloc),
-        areas: List::new(alloc),
     }
 }
 
@@ -66,10 +34,9 @@ fn take_hostname(number: u32, name: Text, mut draft: Draft) -> Result<Draft, Rea
 fn open_interface(number: u32, name: Text, mut draft: Draft) -> Result<Draft, ReadRefusal>
     ensures { Gives result (open_interface number name draft) }
 {
-    once(
-        number,
-        has_interface(draft.interfaces.as_slice(), name.as_str()),
-    )?;
+    if draft.interfaces.has(name.as_str()) {
+        return Err(repeated(number));
+    }
     draft.stanza = Open::Interface(new_interface(number, name));
     Ok(draft)
 }
@@ -78,7 +45,7 @@ fn open_bgp(alloc: Global, line: u32, number: u32, mut draft: Draft) -> Result<D
     ensures { Gives result (open_bgp line number draft) }
 {
     once(line, draft.bgp.is_some())?;
-    draft.stanza = Open::Bgp(new_bgp(alloc, line, number));
+    draft.stanza = Open::Bgp(BgpDraft::new(alloc, line, number));
     Ok(draft)
 }
 
@@ -86,7 +53,7 @@ fn open_ospf(alloc: Global, line: u32, number: u32, mut draft: Draft) -> Result<
     ensures { Gives result (open_ospf line number draft) }
 {
     once(line, draft.ospf.is_some())?;
-    draft.stanza = Open::Ospf(new_ospf(alloc, line, number));
+    draft.stanza = Open::Ospf(OspfDraft::new(alloc, line, number));
     Ok(draft)
 }
 
@@ -98,7 +65,7 @@ pub(crate) fn ignore(mut draft: Draft) -> Draft
     draft
 }
 
-fn router_of(number: u32, draft: Draft) -> Result<Router, ReadRefusal>
+fn router_of(alloc: Global, number: u32, draft: Draft) -> Result<Router, ReadRefusal>
     ensures { Gives result (router_of number draft) }
 {
     let Draft {
@@ -115,12 +82,12 @@ fn router_of(number: u32, draft: Draft) -> Result<Router, ReadRefusal>
         Some(host) => Ok(Router {
             name: host.name,
             line: host.line,
-            interfaces,
+            interfaces: interfaces.into_list(),
             bgp,
             ospf,
-            prefix_lists,
-            community_lists,
-            route_maps,
+            prefix_lists: prefix_lists.into_list(alloc)?,
+            community_lists: community_lists.into_list(),
+            route_maps: route_maps.into_list(alloc)?,
         }),
         None => Err(ReadRefusal::At {
             line: number,
@@ -162,7 +129,7 @@ fn end_router(alloc: Global, number: u32, state: State) -> Result<State, ReadRef
     ensures { Gives result (end_router number state) }
 {
     let State { mut routers, draft } = state;
-    routers.push(router_of(number, draft)?)?;
+    routers.push(router_of(alloc, number, draft)?)?;
     Ok(State {
         routers,
         draft: no_draft(alloc),
