@@ -1,5 +1,5 @@
 -- Neighbours that are part of no session, by an index against all pairs.
-use Rattle.std.proofs.Common.{◌≡◌, ℕ, Bool, true, false, not, cond, ◌&&◌, ◌||◌, List, [], ◌∷◌, map, filter, filter_map, flat_map, nat_eq, Option, Some, None, refl, sym, ◌∙◌, ap, arith}
+use Rattle.std.proofs.Common.{◌≡◌, ℕ, Bool, true, false, not, cond, ◌&&◌, ◌||◌, List, [], ◌∷◌, map, filter, filter_map, flat_map, nat_eq, Option, Some, None, refl, ◌∙◌, ap, arith}
 use Rattle.std.specs.List.{list_any, cons_option, enumerate_from}
 use Rattle.std.proofs.lemmas.Bool.Decides.{nat_tests}
 use Rattle.cfg_ast.specs.declared.bgp.BgpProcess.{BgpProcess}
@@ -8,28 +8,31 @@ use Rattle.cfg_ast.specs.declared.network.Network.{Network}
 use Rattle.cfg_ast.specs.declared.network.Router.{Router}
 use Rattle.cfg_ast.specs.declared.topology.Unmatched.{Unmatched}
 use Rattle.cfg_ast.specs.Topology.{Place, places, places_on, neighbors_of, has_number, share_subnet, are_peers, unmatched_at, unmatched_of}
-use Rattle.net_topology.specs.declared.sessions.Peer.{Peer}
-use Rattle.net_topology.specs.Peers.{peer_of, peers, is_near}
+use Rattle.cfg_check.specs.Faultless.{IsFaultless}
+use Rattle.net_topology.specs.declared.peers.Peer.{Peer}
+use Rattle.net_topology.specs.Peers.{peer_of, peers}
+use Rattle.net_topology.specs.Ups.{ups_of}
 use Rattle.net_topology.specs.Alone.{faces, has_session, unmatched_if, unmatched_spot}
+use Rattle.net_topology.proofs.Apart.{AreApart, ups_apart}
+use Rattle.net_topology.proofs.Ends.{share_is}
 use Rattle.net_topology.proofs.Joined.{AreGood}
-use Rattle.net_topology.proofs.SessionLemmas.{IsPlace, IsPeer, made, all_places, is_peer, number_at, share_is, no_peer_in, and_false}
+use Rattle.net_topology.proofs.SessionLemmas.{IsPlace, IsPeer, made, all_places, is_peer, is_reached, number_at, no_peer_in, and_false}
 
-peers_same : (u v m r n k : ℕ) (a b c d share : Bool) → a ≡ false → b ≡ false → c ≡ nat_eq n r → d ≡ nat_eq m k
-    → (not (nat_eq u v) && (not a && (not b && (c && (d && share))))) ≡ ((nat_eq r n && nat_eq m k) && (not (nat_eq u v) && share))
-peers_same u v m r n k a b c d share e f g h = grind (arith, nat_tests)
+peers_same : (u v m r n k : ℕ) (a b c d share reach : Bool) → a ≡ false → b ≡ false → c ≡ nat_eq n r → d ≡ nat_eq m k → share ≡ reach
+    → (not (nat_eq u v) && (not a && (not b && (c && (d && share))))) ≡ (reach && (not (nat_eq u v) && (nat_eq r n && nat_eq m k)))
+peers_same u v m r n k a b c d share reach e f g h i = grind (arith, nat_tests)
 
-both_made : (routers : List Router) (p q : Place Neighbor) (x y : BgpProcess) → IsPlace routers p → IsPlace routers q → p.owner.bgp ≡ Some x → q.owner.bgp ≡ Some y → p.value.shut ≡ false → q.value.shut ≡ false
-    → are_peers p q ≡ (is_near (made p x) (made q y) && faces routers (made p x) (made q y))
-both_made routers p q x y at_p at_q e f g h =
-    peers_same p.router q.router x.number p.value.remote y.number q.value.remote p.value.shut q.value.shut (has_number q.owner p.value.remote) (has_number p.owner q.value.remote) (share_subnet p.owner q.value.addr q.owner p.value.addr)
-    g h (number_at q.owner y p.value.remote f) (number_at p.owner x q.value.remote e)
-    ∙ ap (λ (t : Bool). is_near (made p x) (made q y) && (not (nat_eq p.router q.router) && t)) (sym (share_is routers p.router q.router q.value.addr p.value.addr p.owner q.owner at_p at_q))
+both_made : (routers : List Router) (p q : Place Neighbor) (x y : BgpProcess) → AreApart (ups_of routers) → IsPlace routers p → IsPlace routers q → p.owner.bgp ≡ Some x → q.owner.bgp ≡ Some y → p.value.shut ≡ false → q.value.shut ≡ false
+    → are_peers p q ≡ (is_reached routers (made p x) (made q y) && faces (made p x) (made q y))
+both_made routers p q x y apart at_p at_q e f g h =
+    peers_same p.router q.router x.number p.value.remote y.number q.value.remote p.value.shut q.value.shut (has_number q.owner p.value.remote) (has_number p.owner q.value.remote) (share_subnet p.owner q.value.addr q.owner p.value.addr) (is_reached routers (made p x) (made q y))
+    g h (number_at q.owner y p.value.remote f) (number_at p.owner x q.value.remote e) (share_is routers (made p x) (made q y) p.owner q.owner apart at_p at_q)
 
-both : (routers : List Router) (p q : Place Neighbor) (s t : Peer) → IsPlace routers p → IsPlace routers q → IsPeer p s → IsPeer q t → are_peers p q ≡ (is_near s t && faces routers s t)
-both routers p q s t at_p at_q a b =
-    both_made routers p q a.process b.process at_p at_q a.bgp b.bgp a.open_ b.open_
-    ∙ ap (λ (z : Peer). is_near z (made q b.process) && faces routers z (made q b.process)) a.peer
-    ∙ ap (λ (z : Peer). is_near s z && faces routers s z) b.peer
+both : (routers : List Router) (p q : Place Neighbor) (s t : Peer) → AreApart (ups_of routers) → IsPlace routers p → IsPlace routers q → IsPeer p s → IsPeer q t → are_peers p q ≡ (is_reached routers s t && faces s t)
+both routers p q s t apart at_p at_q a b =
+    both_made routers p q a.process b.process apart at_p at_q a.bgp b.bgp a.open_ b.open_
+    ∙ ap (λ (z : Peer). is_reached routers z (made q b.process) && faces z (made q b.process)) a.peer
+    ∙ ap (λ (z : Peer). is_reached routers s z && faces s z) b.peer
 
 shut_left : (u v : ℕ) (a b c d share : Bool) → (not a && d) ≡ false → (not (nat_eq u v) && (not a && (not b && (c && (d && share))))) ≡ false
 shut_left u v true b c d share e = and_false (not (nat_eq u v))
@@ -58,30 +61,30 @@ kept : (f : Peer → Bool) (t : Peer) (a b : Bool) (rest : List Peer) (all : Boo
 kept f t a true rest all e g = ap (λ (x : Bool). x || all) e ∙ ap (λ (x : Bool). f t || x) g
 kept f t a false rest all e g = ap (λ (x : Bool). x || all) e ∙ g
 
-one_more : (routers : List Router) (p q : Place Neighbor) (s : Peer) (o : Option Peer) (qs : List (Place Neighbor)) (ss : List Peer) → IsPlace routers p → IsPlace routers q → peer_of p ≡ Some s → peer_of q ≡ o
-    → list_any (are_peers p) qs ≡ list_any (faces routers s) (filter (is_near s) ss) → list_any (are_peers p) (q ∷ qs) ≡ list_any (faces routers s) (filter (is_near s) (cons_option o ss))
-one_more routers p q s None qs ss g h e f ih = ap (λ (b : Bool). b || list_any (are_peers p) qs) (no_right p q f) ∙ ih
-one_more routers p q s (Some t) qs ss g h e f ih = kept (faces routers s) t (are_peers p q) (is_near s t) (filter (is_near s) ss) (list_any (are_peers p) qs) (both routers p q s t g h (is_peer p s e) (is_peer q t f)) ih
+one_more : (routers : List Router) (p q : Place Neighbor) (s : Peer) (o : Option Peer) (qs : List (Place Neighbor)) (ss : List Peer) → AreApart (ups_of routers) → IsPlace routers p → IsPlace routers q → peer_of p ≡ Some s → peer_of q ≡ o
+    → list_any (are_peers p) qs ≡ list_any (faces s) (filter (is_reached routers s) ss) → list_any (are_peers p) (q ∷ qs) ≡ list_any (faces s) (filter (is_reached routers s) (cons_option o ss))
+one_more routers p q s None qs ss apart g h e f ih = ap (λ (b : Bool). b || list_any (are_peers p) qs) (no_right p q f) ∙ ih
+one_more routers p q s (Some t) qs ss apart g h e f ih = kept (faces s) t (are_peers p q) (is_reached routers s t) (filter (is_reached routers s) ss) (list_any (are_peers p) qs) (both routers p q s t apart g h (is_peer p s e) (is_peer q t f)) ih
 
-any_peer : (routers : List Router) (p : Place Neighbor) (s : Peer) (qs : List (Place Neighbor)) → IsPlace routers p → AreGood (IsPlace routers) qs → peer_of p ≡ Some s → list_any (are_peers p) qs ≡ list_any (faces routers s) (filter (is_near s) (filter_map peer_of qs))
-any_peer routers p s [] g all e = refl
-any_peer routers p s (q ∷ qs) g all e = one_more routers p q s (peer_of q) qs (filter_map peer_of qs) g all.0 e refl (any_peer routers p s qs g all.1 e)
+any_peer : (routers : List Router) (p : Place Neighbor) (s : Peer) (qs : List (Place Neighbor)) → AreApart (ups_of routers) → IsPlace routers p → AreGood (IsPlace routers) qs → peer_of p ≡ Some s → list_any (are_peers p) qs ≡ list_any (faces s) (filter (is_reached routers s) (filter_map peer_of qs))
+any_peer routers p s [] apart g all e = refl
+any_peer routers p s (q ∷ qs) apart g all e = one_more routers p q s (peer_of q) qs (filter_map peer_of qs) apart g all.0 e refl (any_peer routers p s qs apart g all.1 e)
 
-by_peer : (routers : List Router) (p : Place Neighbor) (o : Option Peer) (qs : List (Place Neighbor)) → IsPlace routers p → AreGood (IsPlace routers) qs → peer_of p ≡ o → list_any (are_peers p) qs ≡ has_session routers (filter_map peer_of qs) o
-by_peer routers p None qs g all e = none_peers p qs e
-by_peer routers p (Some s) qs g all e = any_peer routers p s qs g all e
+by_peer : (routers : List Router) (p : Place Neighbor) (o : Option Peer) (qs : List (Place Neighbor)) → AreApart (ups_of routers) → IsPlace routers p → AreGood (IsPlace routers) qs → peer_of p ≡ o → list_any (are_peers p) qs ≡ has_session (ups_of routers) (filter_map peer_of qs) o
+by_peer routers p None qs apart g all e = none_peers p qs e
+by_peer routers p (Some s) qs apart g all e = any_peer routers p s qs apart g all e
 
 listed : (b : Bool) (p : Place Neighbor) (rest : List (Place Neighbor)) (more : List Unmatched) → map unmatched_at rest ≡ more → map unmatched_at (cond (not b) (p ∷ rest) rest) ≡ cons_option (unmatched_if b (unmatched_at p)) more
 listed true p rest more e = e
 listed false p rest more e = ap (λ (l : List Unmatched). unmatched_at p ∷ l) e
 
-all_listed : (routers : List Router) (qs ps : List (Place Neighbor)) → AreGood (IsPlace routers) qs → AreGood (IsPlace routers) ps
-    → map unmatched_at (filter (λ p. not (list_any (are_peers p) qs)) ps) ≡ filter_map (unmatched_spot routers (filter_map peer_of qs)) ps
-all_listed routers qs [] all these = refl
-all_listed routers qs (p ∷ ps) all these =
-    listed (list_any (are_peers p) qs) p (filter (λ p. not (list_any (are_peers p) qs)) ps) (filter_map (unmatched_spot routers (filter_map peer_of qs)) ps) (all_listed routers qs ps all these.1)
-    ∙ ap (λ (b : Bool). cons_option (unmatched_if b (unmatched_at p)) (filter_map (unmatched_spot routers (filter_map peer_of qs)) ps)) (by_peer routers p (peer_of p) qs these.0 all refl)
+all_listed : (routers : List Router) (qs ps : List (Place Neighbor)) → AreApart (ups_of routers) → AreGood (IsPlace routers) qs → AreGood (IsPlace routers) ps
+    → map unmatched_at (filter (λ p. not (list_any (are_peers p) qs)) ps) ≡ filter_map (unmatched_spot (ups_of routers) (filter_map peer_of qs)) ps
+all_listed routers qs [] apart all these = refl
+all_listed routers qs (p ∷ ps) apart all these =
+    listed (list_any (are_peers p) qs) p (filter (λ p. not (list_any (are_peers p) qs)) ps) (filter_map (unmatched_spot (ups_of routers) (filter_map peer_of qs)) ps) (all_listed routers qs ps apart all these.1)
+    ∙ ap (λ (b : Bool). cons_option (unmatched_if b (unmatched_at p)) (filter_map (unmatched_spot (ups_of routers) (filter_map peer_of qs)) ps)) (by_peer routers p (peer_of p) qs apart these.0 all refl)
 
-pub unmatched_by_index : (n : Network) → unmatched_of n ≡ filter_map (unmatched_spot n.routers (peers n)) (flat_map (places_on neighbors_of) (enumerate_from 0 n.routers))
+pub unmatched_by_index : (n : Network) → IsFaultless n → unmatched_of n ≡ filter_map (unmatched_spot (ups_of n.routers) (peers n)) (flat_map (places_on neighbors_of) (enumerate_from 0 n.routers))
 unfolding unmatched_of peers places
-unmatched_by_index n = all_listed n.routers (places neighbors_of n) (places neighbors_of n) (all_places n) (all_places n)
+unmatched_by_index n faultless = all_listed n.routers (places neighbors_of n) (places neighbors_of n) (ups_apart n faultless) (all_places n) (all_places n)

@@ -1,7 +1,10 @@
 pub mod Adjacent
 pub mod AloneLemmas
+pub mod Apart
+pub mod Ends
 pub mod Joined
+pub mod Lookups
 pub mod PlaceSteps
 pub mod PushedItems
 pub mod SessionLemmas
-pub mod UpLemmas
+pub mod UpFacts

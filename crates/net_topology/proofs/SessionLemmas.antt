@@ -1,5 +1,5 @@
--- The index over AS numbers finds the sessions.
-use Rattle.std.proofs.Common.{◌≡◌, ℕ, suc, ◌+◌, Bool, true, false, not, cond, ◌&&◌, List, [], ◌∷◌, ◌++◌, map, flat_map, nat_lt, nat_eq, Option, Some, None, refl, sym, ◌∙◌, ap, subst, arith}
+-- The index over the ends of neighbour lines finds the sessions.
+use Rattle.std.proofs.Common.{◌≡◌, ℕ, suc, ◌+◌, Bool, true, false, not, cond, ◌&&◌, List, [], ◌∷◌, ◌++◌, map, flat_map, nat_lt, nat_eq, Option, Some, None, refl, ◌∙◌, ap, subst, arith}
 use Rattle.std.specs.Prelude.{slice_get}
 use Rattle.std.specs.Option.{option_and_then, option_map_or}
 use Rattle.std.specs.List.{enumerate_from}
@@ -9,8 +9,12 @@ use Rattle.cfg_ast.specs.declared.bgp.Neighbor.{Neighbor}
 use Rattle.cfg_ast.specs.declared.network.Network.{Network}
 use Rattle.cfg_ast.specs.declared.network.Router.{Router}
 use Rattle.cfg_ast.specs.Topology.{Place, places, places_on, place_on, neighbors_of, has_number, share_subnet, is_session, sessions_of}
-use Rattle.net_topology.specs.declared.sessions.Peer.{Peer}
-use Rattle.net_topology.specs.Peers.{peer_of_process, peer_of, peers, is_near, share_at, is_later, peer_link, sessions_in}
+use Rattle.cfg_check.specs.Faultless.{IsFaultless}
+use Rattle.net_topology.specs.declared.peers.Peer.{Peer}
+use Rattle.net_topology.specs.Peers.{peer_of_process, peer_of, peers, other_end, reaches, is_later, peer_link, sessions_in}
+use Rattle.net_topology.specs.Ups.{ups_of}
+use Rattle.net_topology.proofs.Apart.{AreApart, ups_apart}
+use Rattle.net_topology.proofs.Ends.{share_is}
 use Rattle.net_topology.proofs.Joined.{IsIndexed, AreGood, joined_by_index}
 
 -- the place is one of these routers
@@ -59,29 +63,29 @@ is_peer p s e = is_peer_in p s p.owner.bgp refl e
 pub number_at : (owner : Router) (process : BgpProcess) (number : ℕ) → owner.bgp ≡ Some process → has_number owner number ≡ nat_eq process.number number
 number_at owner process number e = ap (λ (o : Option BgpProcess). option_map_or (λ (process : BgpProcess). nat_eq process.number number) o false) e
 
-sessions_same : (u v m r n k : ℕ) (a b c d share : Bool) → a ≡ false → b ≡ false → c ≡ nat_eq n r → d ≡ nat_eq m k
-    → (nat_lt u v && (not (nat_eq u v) && (not a && (not b && (c && (d && share)))))) ≡ ((nat_eq r n && nat_eq m k) && (nat_lt u v && share))
-sessions_same u v m r n k a b c d share e f g h = grind (arith, nat_tests)
-
-pub share_is : (routers : List Router) (u v a b : ℕ) (x y : Router) → slice_get routers u ≡ Some x → slice_get routers v ≡ Some y → share_at (slice_get routers u) a (slice_get routers v) b ≡ share_subnet x a y b
-share_is routers u v a b x y e f = ap (λ (o : Option Router). share_at o a (slice_get routers v) b) e ∙ ap (λ (o : Option Router). share_at (Some x) a o b) f
+sessions_same : (u v m r n k : ℕ) (a b c d share reach : Bool) → a ≡ false → b ≡ false → c ≡ nat_eq n r → d ≡ nat_eq m k → share ≡ reach
+    → (nat_lt u v && (not (nat_eq u v) && (not a && (not b && (c && (d && share)))))) ≡ (reach && (nat_lt u v && (nat_eq r n && nat_eq m k)))
+sessions_same u v m r n k a b c d share reach e f g h i = grind (arith, nat_tests)
 
 -- the peer that a process gives a place
 abbrev pub made : Place Neighbor → BgpProcess → Peer
 made p process = record { router = p.router; item = p.item; number = process.number; remote = p.value.remote; addr = p.value.addr }
 
-both_made : (routers : List Router) (p q : Place Neighbor) (x y : BgpProcess) → IsPlace routers p → IsPlace routers q → p.owner.bgp ≡ Some x → q.owner.bgp ≡ Some y → p.value.shut ≡ false → q.value.shut ≡ false
-    → is_session p q ≡ (is_near (made p x) (made q y) && is_later routers (made p x) (made q y))
-both_made routers p q x y at_p at_q e f g h =
-    sessions_same p.router q.router x.number p.value.remote y.number q.value.remote p.value.shut q.value.shut (has_number q.owner p.value.remote) (has_number p.owner q.value.remote) (share_subnet p.owner q.value.addr q.owner p.value.addr)
-    g h (number_at q.owner y p.value.remote f) (number_at p.owner x q.value.remote e)
-    ∙ ap (λ (t : Bool). is_near (made p x) (made q y) && (nat_lt p.router q.router && t)) (sym (share_is routers p.router q.router q.value.addr p.value.addr p.owner q.owner at_p at_q))
+-- the peer at the end of another, by the index
+abbrev pub is_reached : List Router → Peer → Peer → Bool
+is_reached routers s t = reaches (other_end (ups_of routers) s) t
 
-both : (routers : List Router) (p q : Place Neighbor) (s t : Peer) → IsPlace routers p → IsPlace routers q → IsPeer p s → IsPeer q t → is_session p q ≡ (is_near s t && is_later routers s t)
-both routers p q s t at_p at_q a b =
-    both_made routers p q a.process b.process at_p at_q a.bgp b.bgp a.open_ b.open_
-    ∙ ap (λ (z : Peer). is_near z (made q b.process) && is_later routers z (made q b.process)) a.peer
-    ∙ ap (λ (z : Peer). is_near s z && is_later routers s z) b.peer
+both_made : (routers : List Router) (p q : Place Neighbor) (x y : BgpProcess) → AreApart (ups_of routers) → IsPlace routers p → IsPlace routers q → p.owner.bgp ≡ Some x → q.owner.bgp ≡ Some y → p.value.shut ≡ false → q.value.shut ≡ false
+    → is_session p q ≡ (is_reached routers (made p x) (made q y) && is_later (made p x) (made q y))
+both_made routers p q x y apart at_p at_q e f g h =
+    sessions_same p.router q.router x.number p.value.remote y.number q.value.remote p.value.shut q.value.shut (has_number q.owner p.value.remote) (has_number p.owner q.value.remote) (share_subnet p.owner q.value.addr q.owner p.value.addr) (is_reached routers (made p x) (made q y))
+    g h (number_at q.owner y p.value.remote f) (number_at p.owner x q.value.remote e) (share_is routers (made p x) (made q y) p.owner q.owner apart at_p at_q)
+
+both : (routers : List Router) (p q : Place Neighbor) (s t : Peer) → AreApart (ups_of routers) → IsPlace routers p → IsPlace routers q → IsPeer p s → IsPeer q t → is_session p q ≡ (is_reached routers s t && is_later s t)
+both routers p q s t apart at_p at_q a b =
+    both_made routers p q a.process b.process apart at_p at_q a.bgp b.bgp a.open_ b.open_
+    ∙ ap (λ (z : Peer). is_reached routers z (made q b.process) && is_later z (made q b.process)) a.peer
+    ∙ ap (λ (z : Peer). is_reached routers s z && is_later s z) b.peer
 
 pub and_false : (b : Bool) → (b && false) ≡ false
 and_false true = refl
@@ -108,14 +112,14 @@ pub no_peer_in : (p : Place Neighbor) (o : Option BgpProcess) (number : ℕ) →
 no_peer_in p None number e = and_false (not p.value.shut)
 no_peer_in p (Some process) number e = closed p.value.shut process number (made p process) e
 
-peers_indexed : (routers : List Router) → IsIndexed (IsPlace routers) peer_of is_session is_near (is_later routers) peer_link
-peers_indexed routers = record {
+peers_indexed : (routers : List Router) → AreApart (ups_of routers) → IsIndexed (IsPlace routers) peer_of is_session (is_reached routers) is_later peer_link
+peers_indexed routers apart = record {
   left = λ p q e. shut_left p.router q.router p.value.shut q.value.shut (has_number q.owner p.value.remote) (has_number p.owner q.value.remote) (share_subnet p.owner q.value.addr q.owner p.value.addr) (no_peer_in p p.owner.bgp q.value.remote e);
   right = λ p q e. shut_right p.router q.router p.value.shut q.value.shut (has_number q.owner p.value.remote) (has_number p.owner q.value.remote) (share_subnet p.owner q.value.addr q.owner p.value.addr) (no_peer_in q q.owner.bgp p.value.remote e);
-  both = λ p q s t g h e f. both routers p q s t g h (is_peer p s e) (is_peer q t f);
+  both = λ p q s t g h e f. both routers p q s t apart g h (is_peer p s e) (is_peer q t f);
   same = λ p q s t e f. ap (λ (z : Peer). peer_link z (made q (is_peer q t f).process)) (is_peer p s e).peer ∙ ap (λ (z : Peer). peer_link s z) (is_peer q t f).peer;
 }
 
-pub sessions_by_index : (n : Network) → sessions_of n ≡ flat_map (sessions_in n.routers (peers n)) (peers n)
+pub sessions_by_index : (n : Network) → IsFaultless n → sessions_of n ≡ flat_map (sessions_in (ups_of n.routers) (peers n)) (peers n)
 unfolding sessions_of peers
-sessions_by_index n = joined_by_index (IsPlace n.routers) peer_of is_session is_near (is_later n.routers) peer_link (peers_indexed n.routers) (places neighbors_of n) (all_places n)
+sessions_by_index n faultless = joined_by_index (IsPlace n.routers) peer_of is_session (is_reached n.routers) is_later peer_link (peers_indexed n.routers (ups_apart n faultless)) (places neighbors_of n) (all_places n)

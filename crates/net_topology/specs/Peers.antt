@@ -1,14 +1,17 @@
--- Neighbours that are not shut down, by the AS numbers of both ends.
-use Rattle.std.specs.Prelude.{ℕ, Bool, false, ◌&&◌, List, Option, Some, None, map, filter, filter_map, nat_lt, slice_get, if◌then◌else◌}
-use Rattle.std.specs.Option.{option_and_then}
+-- Neighbours that are not shut down, and the ends of their sessions.
+use Rattle.std.specs.Prelude.{ℕ, Bool, false, ◌&&◌, List, Option, Some, None, map, filter, filter_map, nat_eq, nat_lt, if◌then◌else◌}
+use Rattle.std.specs.Option.{option_and_then, option_map}
 use Rattle.cfg_ast.specs.declared.bgp.BgpProcess.{BgpProcess}
 use Rattle.cfg_ast.specs.declared.bgp.Neighbor.{Neighbor}
 use Rattle.cfg_ast.specs.declared.network.Network.{Network}
 use Rattle.cfg_ast.specs.declared.network.Router.{Router}
 use Rattle.cfg_ast.specs.declared.topology.Link.{Link}
-use Rattle.cfg_ast.specs.Topology.{Place, places, neighbors_of, share_subnet}
+use Rattle.cfg_ast.specs.Topology.{Place, places, neighbors_of}
 use Rattle.net_topology.specs.Buckets.{same_pair}
-use Rattle.net_topology.specs.declared.sessions.Peer.{Peer}
+use Rattle.net_topology.specs.Ups.{addr_of, attachment_of, same_attachment, last_with}
+use Rattle.net_topology.specs.declared.peers.Peer.{Peer}
+use Rattle.net_topology.specs.declared.ups.Attachment.{Attachment}
+use Rattle.net_topology.specs.declared.ups.Up.{Up}
 
 abbrev pub peer_of_process : ℕ → ℕ → Neighbor → BgpProcess → Option Peer
 peer_of_process r i x process = if x.shut then None else Some (record { router = r; item = i; number = process.number; remote = x.remote; addr = x.addr })
@@ -23,29 +26,36 @@ peer_of p = peer_on p.router p.item p.owner p.value
 unfoldable pub peers : Network → List Peer
 peers n = filter_map peer_of (places neighbors_of n)
 
--- the numbers of its router and of the router that it names
-abbrev pub own_pair : Peer → ℕ × ℕ
-own_pair s = (s.number, s.remote)
+-- its router, and the address that it names
+abbrev pub own_end : Peer → ℕ × ℕ
+own_end s = (s.router, s.addr)
 
--- each of two peers names the number of the other's router
-abbrev pub is_near : Peer → Peer → Bool
-is_near s t = same_pair (s.remote, s.number) (own_pair t)
+-- the router in the subnet of an interface of another router
+abbrev pub beside : ℕ → Up → Attachment
+beside router far = record { router = router; len = far.at.len; first = far.at.first }
 
-abbrev pub share_at : Option Router → ℕ → Option Router → ℕ → Bool
-share_at None a v b = false
-share_at (Some u) a None b = false
-share_at (Some u) a (Some v) b = share_subnet u a v b
+abbrev pub end_from : List Up → ℕ → Up → Option (ℕ × ℕ)
+end_from ups router far = option_map (λ (near : Up). (far.at.router, near.addr)) (last_with same_attachment attachment_of ups (beside router far))
 
--- each of two peers has an address of the other's router, both in one subnet
-abbrev pub shares : List Router → Peer → Peer → Bool
-shares routers s t = share_at (slice_get routers s.router) t.addr (slice_get routers t.router) s.addr
+-- the router that has the address that a peer names, and the address of the peer's own router in the
+-- same subnet, which the other end of a session must name
+abbrev pub other_end : List Up → Peer → Option (ℕ × ℕ)
+other_end ups s = option_and_then (end_from ups s.router) (last_with nat_eq addr_of ups s.addr)
 
-abbrev pub is_later : List Router → Peer → Peer → Bool
-is_later routers s t = nat_lt s.router t.router && shares routers s t
+abbrev pub reaches : Option (ℕ × ℕ) → Peer → Bool
+reaches None t = false
+reaches (Some end) t = same_pair end (own_end t)
+
+-- each of two peers names the AS number of the other's router
+abbrev pub name_each_other : Peer → Peer → Bool
+name_each_other s t = nat_eq s.remote t.number && nat_eq s.number t.remote
+
+abbrev pub is_later : Peer → Peer → Bool
+is_later s t = nat_lt s.router t.router && name_each_other s t
 
 abbrev pub peer_link : Peer → Peer → Link
 peer_link s t = record { low = s.router; high = t.router; low_item = s.item; high_item = t.item }
 
 -- the sessions of a peer with those of later routers
-abbrev pub sessions_in : List Router → List Peer → Peer → List Link
-sessions_in routers all s = map (peer_link s) (filter (is_later routers s) (filter (is_near s) all))
+abbrev pub sessions_in : List Up → List Peer → Peer → List Link
+sessions_in ups all s = map (peer_link s) (filter (is_later s) (filter (reaches (other_end ups s)) all))

@@ -1,17 +1,19 @@
--- The addresses of up interfaces, by their routers and addresses.
-use Rattle.std.specs.Prelude.{ℕ, Bool, ◌&&◌, not, List, Option, filter_map, flat_map, nat_eq, nat_lt}
-use Rattle.std.specs.Option.{option_map}
-use Rattle.std.specs.List.{list_any, enumerate_from}
+-- The addresses of up interfaces, each found by itself and by where it is attached.
+use Rattle.std.specs.Prelude.{◌≡◌, ℕ, Bool, ◌&&◌, List, [], ◌∷◌, Option, None, Some, filter_map, flat_map, nat_eq, if◌then◌else◌}
+use Rattle.std.specs.Option.{option_map, option_or}
+use Rattle.std.specs.List.{enumerate_from}
+use Rattle.std.specs.HashMap.{HashMap, get}
+use Rattle.std.specs.declared.hash.FoldHasher.{FoldHasher}
+use Rattle.std.specs.declared.hash.BuildHasherDefault.{BuildHasherDefault}
 use Rattle.cfg_ast.specs.Addresses.{Address}
 use Rattle.cfg_ast.specs.declared.interface.Interface.{Interface}
 use Rattle.cfg_ast.specs.declared.network.Router.{Router}
 use Rattle.cfg_ast.specs.Topology.{up_address, first_address}
-use Rattle.net_topology.specs.Buckets.{Index, bucket}
-use Rattle.net_topology.specs.declared.sessions.Peer.{Peer}
+use Rattle.net_topology.specs.declared.ups.Attachment.{Attachment}
 use Rattle.net_topology.specs.declared.ups.Up.{Up}
 
 abbrev pub up_at : ℕ → Address → Up
-up_at r a = record { router = r; addr = a.addr; len = a.len; first = first_address a }
+up_at r a = record { addr = a.addr; at = record { router = r; len = a.len; first = first_address a } }
 
 abbrev pub up_on : ℕ → Interface → Option Up
 up_on r x = option_map (up_at r) (up_address x)
@@ -23,22 +25,24 @@ ups_on (r, owner) = filter_map (up_on r) owner.interfaces
 unfoldable pub ups_of : List Router → List Up
 ups_of routers = flat_map ups_on (enumerate_from 0 routers)
 
-abbrev pub end_of : Up → ℕ × ℕ
-end_of x = (x.router, x.addr)
+abbrev pub addr_of : Up → ℕ
+addr_of x = x.addr
 
-abbrev pub joins : Up → Up → Bool
-joins x y = nat_eq x.len y.len && nat_eq x.first y.first
+abbrev pub attachment_of : Up → Attachment
+attachment_of x = x.at
 
--- some address of the first list is in the subnet of one of the second
-abbrev pub any_joins : List Up → List Up → Bool
-any_joins nears fars = list_any (λ near. list_any (joins near) fars) nears
+abbrev pub same_attachment : Attachment → Attachment → Bool
+same_attachment a b = nat_eq a.router b.router && (nat_eq a.len b.len && nat_eq a.first b.first)
 
--- each of two peers has an address of the other's router, both in one subnet
-abbrev pub shares_by : Index Up → Peer → Peer → Bool
-shares_by ups s t = any_joins (bucket ups (s.router, t.addr)) (bucket ups (t.router, s.addr))
+-- the last item that passes the test
+abbrev pub last_where : {X : Type 0} → (X → Bool) → List X → Option X
+last_where test [] = None
+last_where test (x ∷ xs) = option_or (last_where test xs) (if test x then Some x else None)
 
-abbrev pub is_later_by : Index Up → Peer → Peer → Bool
-is_later_by ups s t = nat_lt s.router t.router && shares_by ups s t
+-- the last of the items that has a key
+abbrev pub last_with : {K : Type 0} → (K → K → Bool) → (Up → K) → List Up → K → Option Up
+last_with same key_of ups key = last_where (λ x. same key (key_of x)) ups
 
-abbrev pub faces_by : Index Up → Peer → Peer → Bool
-faces_by ups s t = not (nat_eq s.router t.router) && shares_by ups s t
+-- the map has the last of the items with each key
+pub record IsLookup {K : Type 0} (same : K → K → Bool) (key_of : Up → K) (lookup : HashMap K Up (BuildHasherDefault FoldHasher)) (ups : List Up) : Type 0 where
+  pub each : (key : K) → get same lookup key ≡ last_with same key_of ups key

@@ -1,49 +1,36 @@
 ghost use Rattle.std.specs.Prelude.{◌≡◌, ◌++◌, map, filter_map, flat_map, IfOk, OnOk};
 ghost use Rattle.std.specs.List.{enumerate_from, list_any};
 ghost use Rattle.cfg_ast.specs.Topology.{place_on, places_on, neighbors_of, unmatched_of};
-ghost use Rattle.net_topology.specs.Buckets.{IsIndex};
-ghost use Rattle.net_topology.specs.Peers.{peer_on, own_pair};
-ghost use Rattle.net_topology.specs.Alone.{has_session, unmatched_if, unmatched_spot};
-ghost use Rattle.net_topology.specs.Ups.{ups_of, end_of, faces_by};
+ghost use Rattle.net_topology.specs.Alone.{faces, has_session, unmatched_if, unmatched_spot};
 
-use crate::buckets::items_at;
+use crate::peers::{Peer, Peers, name_each_other, neighbors, peer_on};
 use crate::places::place;
-use crate::sessions::{Peer, index, neighbors, peer_on, peers};
-use crate::ups::{Up, shares, up_index};
+use crate::ups::Ups;
 use base_kit::{List, NoMemory};
-use cfg_ast::{Neighbor, Router, Unmatched};
+use cfg_ast::{Router, Unmatched};
 use cfg_check::Checked;
 use std::alloc::Global;
-use std::collections::HashMap;
 
-fn faces(ups: &HashMap<(u32, u32), Vec<Up>>, p: &Peer, q: &Peer) -> bool
-    ensures { result ≡ faces_by ups.now p.now q.now }
+fn faces(p: &Peer, q: &Peer) -> bool
+    ensures { result ≡ faces p.now q.now }
 {
-    p.router != q.router && shares(ups, p, q)
+    p.router != q.router && name_each_other(p, q)
 }
 
-fn one_faces(ups: &HashMap<(u32, u32), Vec<Up>>, p: &Peer, others: &[Peer]) -> bool
-    ensures { result ≡ list_any (faces_by ups.now p.now) others.now }
+fn one_faces(p: &Peer, others: &[Peer]) -> bool
+    ensures { result ≡ list_any (faces p.now) others.now }
 {
-    others.iter().any(|q| faces(ups, p, q))
+    others.iter().any(|q| faces(p, q))
 }
 
 // Whether the peer is part of a session.
-fn has_session(
-    routers: &[Router],
-    ups: &HashMap<(u32, u32), Vec<Up>>,
-    peers: &[Peer],
-    index: &HashMap<(u32, u32), Vec<Peer>>,
-    peer: Option<Peer>,
-) -> bool
-    requires ups { IsIndex end_of ups.now (ups_of routers.now) }
-    requires index { IsIndex own_pair index.now peers.now }
-    ensures { result ≡ has_session routers.now peers.now peer }
+fn has_session(ups: &Ups, peers: &Peers, peer: Option<Peer>) -> bool
+    ensures { result ≡ has_session ups.now.all.items peers.now.all.items peer }
 {
     let Some(p) = peer else {
         return false;
     };
-    one_faces(ups, &p, items_at(index, (p.remote, p.number)))
+    one_faces(&p, peers.at(ups.other_end(&p)))
 }
 
 fn unmatched_if(matched: bool, router: u32, addr: u32) -> Option<Unmatched>
@@ -58,23 +45,19 @@ fn unmatched_if(matched: bool, router: u32, addr: u32) -> Option<Unmatched>
 
 fn push_unmatched(
     found: &mut List<Unmatched>,
-    routers: &[Router],
-    ups: &HashMap<(u32, u32), Vec<Up>>,
-    peers: &[Peer],
-    index: &HashMap<(u32, u32), Vec<Peer>>,
+    ups: &Ups,
+    peers: &Peers,
     router: u32,
     owner: &Router,
 ) -> Result<(), NoMemory>
-    requires ups { IsIndex end_of ups.now (ups_of routers.now) }
-    requires index { IsIndex own_pair index.now peers.now }
-    ensures { OnOk result (found.new ≡ found.old ++ filter_map (unmatched_spot routers.now peers.now) (map (place_on router owner.now) (enumerate_from 0 (neighbors_of owner.now)))) }
+    ensures { OnOk result (found.new ≡ found.old ++ filter_map (unmatched_spot ups.now.all.items peers.now.all.items) (map (place_on router owner.now) (enumerate_from 0 (neighbors_of owner.now)))) }
 {
     let neighbors = neighbors(owner);
     for i in 0..neighbors.len() {
         let item = place(i)?;
         let neighbor = &neighbors[i];
         let peer = peer_on(router, item, owner, neighbor);
-        let matched = has_session(routers, ups, peers, index, peer);
+        let matched = has_session(ups, peers, peer);
         if let Some(x) = unmatched_if(matched, router, neighbor.addr) {
             found.push(x)?;
         }
@@ -85,24 +68,15 @@ fn push_unmatched(
 fn unmatched_among(
     alloc: Global,
     routers: &[Router],
-    peers: &[Peer],
+    ups: &Ups,
+    peers: &Peers,
 ) -> Result<List<Unmatched>, NoMemory>
-    ensures { IfOk result (λ found. found ≡ filter_map (unmatched_spot routers.now peers.now) (flat_map (places_on neighbors_of) (enumerate_from 0 routers.now))) }
+    ensures { IfOk result (λ found. found ≡ filter_map (unmatched_spot ups.now.all.items peers.now.all.items) (flat_map (places_on neighbors_of) (enumerate_from 0 routers.now))) }
 {
-    let ups = up_index(alloc, routers)?;
-    let index = index(alloc, peers)?;
     let mut found = List::new(alloc);
     for r in 0..routers.len() {
         let router = place(r)?;
-        push_unmatched(
-            &mut found,
-            routers,
-            &ups,
-            peers,
-            &index,
-            router,
-            &routers[r],
-        )?;
+        push_unmatched(&mut found, ups, peers, router, &routers[r])?;
     }
     Ok(found)
 }
@@ -114,6 +88,8 @@ pub fn unmatched(alloc: Global, net: &Checked) -> Result<List<Unmatched>, NoMemo
     ensures { IfOk result (λ found. found ≡ unmatched_of net.now.network) }
 {
     let network = net.network();
-    let peers = peers(alloc, network)?;
-    unmatched_among(alloc, network.routers.as_slice(), peers.as_slice())
+    let routers = network.routers.as_slice();
+    let ups = Ups::of(alloc, routers)?;
+    let peers = Peers::of(alloc, network)?;
+    unmatched_among(alloc, routers, &ups, &peers)
 }

@@ -1,23 +1,38 @@
-ghost use Rattle.std.specs.Prelude.{◌≡◌, ◌++◌, IfOk, OnOk};
-ghost use Rattle.std.specs.List.{list_any};
-ghost use Rattle.net_topology.specs.Buckets.{IsIndex};
-ghost use Rattle.net_topology.specs.Ups.{up_at, up_on, ups_on, ups_of, end_of, joins, any_joins, shares_by};
+ghost use Rattle.std.specs.Prelude.{◌≡◌, ◌++◌, IfOk, OnOk, nat_eq};
+ghost use Rattle.net_topology.specs.Ups.{up_at, up_on, ups_on, ups_of, addr_of, attachment_of, same_attachment, IsLookup};
+ghost use Rattle.net_topology.specs.Peers.{other_end};
 
-use crate::buckets::{items_at, push_at};
+use crate::peers::Peer;
 use crate::places::place;
-use crate::sessions::Peer;
 use base_kit::NoMemory;
 use cfg_ast::{Address, Interface, Router};
 use std::alloc::Global;
 use std::collections::HashMap;
 
-/// The address of an up interface, with its router and the length and the first address of its subnet.
-#[derive(Clone, Copy)]
-pub(crate) struct Up {
+/// A router in a subnet, which goes by its length and its first address.
+#[derive(Clone, Copy, PartialEq, Eq, Hash)]
+pub(crate) struct Attachment {
     pub(crate) router: u32,
-    pub(crate) addr: u32,
     pub(crate) len: u32,
     pub(crate) first: u32,
+}
+
+/// The address of an up interface, and where it is attached.
+#[derive(Clone, Copy)]
+pub(crate) struct Up {
+    pub(crate) addr: u32,
+    pub(crate) at: Attachment,
+}
+
+/// The addresses of all up interfaces, each found by itself and by where it is attached. In a network
+/// without faults no two are one, and no two are attached at one place.
+#[derive(Drop)]
+pub(crate) struct Ups {
+    pub(crate) all: Vec<Up>,
+    pub(crate) by_addr: HashMap<u32, Up>,
+    pub(crate) by_attachment: HashMap<Attachment, Up>,
+    pub ghost addrs: { IsLookup nat_eq addr_of by_addr all.items },
+    pub ghost attachments: { IsLookup same_attachment attachment_of by_attachment all.items },
 }
 
 fn up_at(router: u32, address: Address) -> Up
@@ -25,10 +40,12 @@ fn up_at(router: u32, address: Address) -> Up
 {
     let subnet = address.subnet();
     Up {
-        router,
         addr: address.addr(),
-        len: u32::from(subnet.len()),
-        first: subnet.addr(),
+        at: Attachment {
+            router,
+            len: u32::from(subnet.len()),
+            first: subnet.addr(),
+        },
     }
 }
 
@@ -51,7 +68,7 @@ fn push_ups(found: &mut Vec<Up>, router: u32, owner: &Router) -> Result<(), NoMe
     Ok(())
 }
 
-fn ups(alloc: Global, routers: &[Router]) -> Result<Vec<Up>, NoMemory>
+fn all_ups(alloc: Global, routers: &[Router]) -> Result<Vec<Up>, NoMemory>
     ensures { IfOk result (λ found. found.items ≡ ups_of routers.now) }
 {
     let mut found = Vec::new(alloc);
@@ -62,50 +79,51 @@ fn ups(alloc: Global, routers: &[Router]) -> Result<Vec<Up>, NoMemory>
     Ok(found)
 }
 
-fn index(alloc: Global, ups: &[Up]) -> Result<HashMap<(u32, u32), Vec<Up>>, NoMemory>
-    ensures { IfOk result (λ index. IsIndex end_of index ups.now) }
+fn by_addr(alloc: Global, ups: &[Up]) -> Result<HashMap<u32, Up>, NoMemory>
+    ensures { IfOk result (λ lookup. IsLookup nat_eq addr_of lookup ups.now) }
 {
-    let mut index: HashMap<(u32, u32), Vec<Up>> = HashMap::new(alloc);
+    let mut lookup: HashMap<u32, Up> = HashMap::new(alloc);
     for up in ups {
-        push_at(alloc, &mut index, (up.router, up.addr), *up)?;
+        lookup.insert(up.addr, *up)?;
     }
-    Ok(index)
+    Ok(lookup)
 }
 
-/// The addresses of all up interfaces, by router and address, in order.
-pub(crate) fn up_index(
-    alloc: Global,
-    routers: &[Router],
-) -> Result<HashMap<(u32, u32), Vec<Up>>, NoMemory>
-    ensures { IfOk result (λ index. IsIndex end_of index (ups_of routers.now)) }
+fn by_attachment(alloc: Global, ups: &[Up]) -> Result<HashMap<Attachment, Up>, NoMemory>
+    ensures { IfOk result (λ lookup. IsLookup same_attachment attachment_of lookup ups.now) }
 {
-    let ups = ups(alloc, routers)?;
-    index(alloc, ups.as_slice())
+    let mut lookup: HashMap<Attachment, Up> = HashMap::new(alloc);
+    for up in ups {
+        lookup.insert(up.at, *up)?;
+    }
+    Ok(lookup)
 }
 
-fn joins(near: &Up, far: &Up) -> bool
-    ensures { result ≡ joins near.now far.now }
-{
-    near.len == far.len && near.first == far.first
-}
+impl Ups {
+    pub(crate) fn of(alloc: Global, routers: &[Router]) -> Result<Ups, NoMemory>
+        ensures { IfOk result (λ ups. ups.all.items ≡ ups_of routers.now) }
+    {
+        let all = all_ups(alloc, routers)?;
+        let by_addr = by_addr(alloc, all.as_slice())?;
+        let by_attachment = by_attachment(alloc, all.as_slice())?;
+        Ok(Ups {
+            all,
+            by_addr,
+            by_attachment,
+        })
+    }
 
-fn one_joins(near: &Up, fars: &[Up]) -> bool
-    ensures { result ≡ list_any (joins near.now) fars.now }
-{
-    fars.iter().any(|far| joins(near, far))
-}
-
-fn any_joins(nears: &[Up], fars: &[Up]) -> bool
-    ensures { result ≡ any_joins nears.now fars.now }
-{
-    nears.iter().any(|near| one_joins(near, fars))
-}
-
-/// Whether each of two peers has an address of the other's router, both in one subnet.
-pub(crate) fn shares(ups: &HashMap<(u32, u32), Vec<Up>>, p: &Peer, q: &Peer) -> bool
-    ensures { result ≡ shares_by ups.now p.now q.now }
-{
-    let nears = items_at(ups, (p.router, q.addr));
-    let fars = items_at(ups, (q.router, p.addr));
-    any_joins(nears, fars)
+    /// The router and the address of the neighbour line at which a session of the peer ends: that router
+    /// has the address that the peer names, and the peer's own router has this one in the same subnet.
+    pub(crate) fn other_end(&self, p: &Peer) -> Option<(u32, u32)>
+        ensures { result ≡ other_end self.now.all.items p.now }
+    {
+        let far = self.by_addr.get(&p.addr).copied()?;
+        let near = self.by_attachment.get(&Attachment {
+            router: p.router,
+            len: far.at.len,
+            first: far.at.first,
+        });
+        Some((far.at.router, near.copied()?.addr))
+    }
 }

@@ -4,7 +4,7 @@ use Rattle.cfg_ast.specs.declared.network.Router.{Router}
 use Rattle.cfg_ast.specs.Topology.{places_on, place_on, neighbors_of}
 use Rattle.net_topology.specs.Peers.{peer_of}
 use Rattle.net_topology.proofs.PlaceSteps.{router_turn, peers_first}
-use Rattle.net_topology.proofs.sessions.peers.Goals as goal
+use Rattle.net_topology.proofs.peers.all_peers.Goals as goal
 
 pub loop-r-init : goal.loop-r-init
 loop-r-init c =

@@ -2,7 +2,7 @@ use Rattle.std.proofs.Common.{◌≡◌, ◌++◌, drop, filter_map, flat_map}
 use Rattle.std.specs.List.{enumerate_from}
 use Rattle.cfg_ast.specs.Topology.{places_on, neighbors_of}
 use Rattle.net_topology.specs.Peers.{peer_of, peers}
-use Rattle.net_topology.proofs.sessions.peers.Given as goal
+use Rattle.net_topology.proofs.peers.all_peers.Given as goal
 
 abbrev pub invariant-loop-r : goal.invariant-loop-r
 invariant-loop-r l = l.found.items ++ filter_map peer_of (flat_map (places_on neighbors_of) (enumerate_from l.r (drop l.r l.routers))) ≡ peers l.network

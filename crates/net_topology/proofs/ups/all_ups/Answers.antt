@@ -1,8 +1,8 @@
 use Rattle.std.proofs.Common.{ap, ◌∙◌, ◌++◌, flat_map}
 use Rattle.std.specs.List.{enumerate_from}
 use Rattle.net_topology.specs.Ups.{ups_on}
-use Rattle.net_topology.proofs.UpLemmas.{ups_turn, ups_first}
-use Rattle.net_topology.proofs.ups.ups.Goals as goal
+use Rattle.net_topology.proofs.UpFacts.{ups_turn, ups_first}
+use Rattle.net_topology.proofs.ups.all_ups.Goals as goal
 
 pub loop-r-init : goal.loop-r-init
 loop-r-init c = ap (λ xs. xs ++ flat_map ups_on (enumerate_from 0 c.args.routers.now)) c.new-found.ensures.items ∙ ups_first c.args.routers.now

@@ -1,7 +1,0 @@
-use Rattle.std.proofs.Common.{take}
-use Rattle.net_topology.specs.Peers.{own_pair}
-use Rattle.net_topology.specs.Buckets.{IsIndex}
-use Rattle.net_topology.proofs.sessions.index.Given as goal
-
-abbrev pub invariant-loop-peer : goal.invariant-loop-peer
-invariant-loop-peer l = IsIndex own_pair l.index (take l.peer-index l.peers)
