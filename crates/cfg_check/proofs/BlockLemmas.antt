@@ -53,7 +53,8 @@ range_next i n below = ap (range_with_len i) (let e : n - i ≡ suc (n - (i + 1)
 pub any_next : (f : ℕ → Bool) (i n : ℕ) → i < n → f i ≡ false → list_any f (range_with_len (i + 1) (n - (i + 1))) ≡ list_any f (range_with_len i (n - i))
 any_next f i n below fails = ap (λ (t : Bool). t || list_any f (range_with_len (i + 1) (n - (i + 1)))) (sym fails) ∙ sym (ap (λ (ks : List ℕ). list_any f ks) (range_next i n below))
 
-any_same : {X : Type 0} (p q : X → Bool) → ((x : X) → p x ≡ q x) → (xs : List X) → list_any p xs ≡ list_any q xs
+-- tests that answer alike find alike
+pub any_same : {X : Type 0} (p q : X → Bool) → ((x : X) → p x ≡ q x) → (xs : List X) → list_any p xs ≡ list_any q xs
 any_same p q same [] = refl
 any_same p q same (x ∷ xs) = rw (same x, any_same p q same xs) refl
 

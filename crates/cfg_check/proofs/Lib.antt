@@ -1,3 +1,4 @@
+pub mod AreaBits
 pub mod AreaLookups
 pub mod BlockLemmas
 pub mod CommunityCounts

@@ -1,4 +1,5 @@
 pub mod AreaLines
+pub mod AreaTables
 pub mod Blocks
 pub mod Communities
 pub mod Faultless

@@ -9,6 +9,15 @@ use base_kit::NoMemory;
 use cfg_ast::{Interface, Router};
 use std::alloc::Global;
 
+/// The faults of up interfaces in the area, each by its least `ip address` line.
+#[derive(Clone, Copy)]
+pub(crate) struct AreaFaults {
+    /// A loopback whose mask is not /32.
+    pub(crate) wide_loopback: Option<u32>,
+    /// An interface that has no cost.
+    pub(crate) no_cost: Option<u32>,
+}
+
 fn is_wide_loopback(interface: &Interface) -> bool
     ensures { result ≡ is_wide_loopback interface.now }
 {
@@ -24,7 +33,7 @@ fn is_wide_loopback(interface: &Interface) -> bool
 fn wide_loopback_at(index: &AreaIndex, interface: &Interface) -> Option<u32>
     ensures { result ≡ option_map address_line (area_address_with is_wide_loopback index.now.router.now interface.now) }
 {
-    if !index.has_in_area(interface) || !is_wide_loopback(interface) {
+    if !is_wide_loopback(interface) || !index.has_in_area(interface) {
         return None;
     }
     let address = interface.up_address()?;
@@ -41,28 +50,10 @@ fn wide_loopback_in(index: &AreaIndex, interfaces: &[Interface]) -> Option<u32>
     least
 }
 
-fn wide_loopback_of(alloc: Global, router: &Router) -> Result<Option<u32>, NoMemory>
-    ensures { IfOk result (λ line. line ≡ least_line (map address_line (area_addresses_with is_wide_loopback router.now))) }
-{
-    let index = AreaIndex::of(alloc, router)?;
-    Ok(wide_loopback_in(&index, router.interfaces.as_slice()))
-}
-
-/// The least `ip address` line of an up loopback in the area whose mask is not /32.
-pub(crate) fn loopback_mask(alloc: Global, routers: &[Router]) -> Result<Option<u32>, NoMemory>
-    ensures { IfOk result (λ line. line ≡ least_line (map address_line (flat_map (area_addresses_with is_wide_loopback) routers.now))) }
-{
-    let mut least = None;
-    for router in routers {
-        least = lesser_line(least, wide_loopback_of(alloc, router)?);
-    }
-    Ok(least)
-}
-
 fn no_cost_at(index: &AreaIndex, interface: &Interface) -> Option<u32>
     ensures { result ≡ option_map address_line (area_address_with has_no_cost index.now.router.now interface.now) }
 {
-    if !index.has_in_area(interface) || interface.cost().is_some() {
+    if interface.cost().is_some() || !index.has_in_area(interface) {
         return None;
     }
     let address = interface.up_address()?;
@@ -79,20 +70,32 @@ fn no_cost_in(index: &AreaIndex, interfaces: &[Interface]) -> Option<u32>
     least
 }
 
-fn no_cost_of(alloc: Global, router: &Router) -> Result<Option<u32>, NoMemory>
-    ensures { IfOk result (λ line. line ≡ least_line (map address_line (area_addresses_with has_no_cost router.now))) }
+fn area_faults_of(alloc: Global, router: &Router) -> Result<AreaFaults, NoMemory>
+    ensures wide_loopback { IfOk result (λ faults. faults.wide_loopback ≡ least_line (map address_line (area_addresses_with is_wide_loopback router.now))) }
+    ensures no_cost { IfOk result (λ faults. faults.no_cost ≡ least_line (map address_line (area_addresses_with has_no_cost router.now))) }
 {
     let index = AreaIndex::of(alloc, router)?;
-    Ok(no_cost_in(&index, router.interfaces.as_slice()))
+    let interfaces = router.interfaces.as_slice();
+    Ok(AreaFaults {
+        wide_loopback: wide_loopback_in(&index, interfaces),
+        no_cost: no_cost_in(&index, interfaces),
+    })
 }
 
-/// The least `ip address` line of an up interface in the area that has no cost.
-pub(crate) fn no_cost(alloc: Global, routers: &[Router]) -> Result<Option<u32>, NoMemory>
-    ensures { IfOk result (λ line. line ≡ least_line (map address_line (flat_map (area_addresses_with has_no_cost) routers.now))) }
+/// The faults of all routers' interfaces in the area.
+pub(crate) fn area_faults(alloc: Global, routers: &[Router]) -> Result<AreaFaults, NoMemory>
+    ensures wide_loopback { IfOk result (λ faults. faults.wide_loopback ≡ least_line (map address_line (flat_map (area_addresses_with is_wide_loopback) routers.now))) }
+    ensures no_cost { IfOk result (λ faults. faults.no_cost ≡ least_line (map address_line (flat_map (area_addresses_with has_no_cost) routers.now))) }
 {
-    let mut least = None;
+    let mut wide_loopback = None;
+    let mut no_cost = None;
     for router in routers {
-        least = lesser_line(least, no_cost_of(alloc, router)?);
+        let faults = area_faults_of(alloc, router)?;
+        wide_loopback = lesser_line(wide_loopback, faults.wide_loopback);
+        no_cost = lesser_line(no_cost, faults.no_cost);
     }
-    Ok(least)
+    Ok(AreaFaults {
+        wide_loopback,
+        no_cost,
+    })
 }

@@ -4,7 +4,7 @@ ghost use Rattle.cfg_ast.specs.Meaning.{meaning_faults, least_fault, judged};
 ghost use Rattle.cfg_ast.specs.Reading.{IsGiven};
 
 use crate::addresses::shared_address;
-use crate::area::{loopback_mask, no_cost};
+use crate::area::area_faults;
 use crate::checked::Checked;
 use crate::communities::{all_communities, too_many_communities};
 use crate::deletions::delete_list_form;
@@ -40,8 +40,9 @@ fn least_fault(alloc: Global, network: &Network) -> Result<Option<Fault>, NoMemo
     let least = with_fault(least, Kind::SharedAddress, shared_address(alloc, routers)?);
     let overlapping = overlapping_interfaces(alloc, routers)?;
     let least = with_fault(least, Kind::OverlappingInterfaces, overlapping);
-    let least = with_fault(least, Kind::LoopbackMask, loopback_mask(alloc, routers)?);
-    let least = with_fault(least, Kind::NoCost, no_cost(alloc, routers)?);
+    let in_area = area_faults(alloc, routers)?;
+    let least = with_fault(least, Kind::LoopbackMask, in_area.wide_loopback);
+    let least = with_fault(least, Kind::NoCost, in_area.no_cost);
     let least = with_fault(least, Kind::TooManyRouters, too_many_routers(routers));
     let communities = too_many_communities(alloc, routers)?;
     let least = with_fault(least, Kind::TooManyCommunities, communities);

@@ -1,7 +1,0 @@
-use Rattle.std.proofs.Common.{◌≡◌, take, map, flat_map}
-use Rattle.cfg_ast.specs.RouterFaults.{address_line, is_wide_loopback, area_addresses_with}
-use Rattle.cfg_check.specs.LeastLine.{least_line}
-use Rattle.cfg_check.proofs.area.loopback_mask.Given as goal
-
-abbrev pub invariant-loop-router : goal.invariant-loop-router
-invariant-loop-router l = l.least ≡ least_line (map address_line (flat_map (area_addresses_with is_wide_loopback) (take l.router-index l.routers)))
