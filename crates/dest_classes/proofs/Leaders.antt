@@ -2,28 +2,27 @@
 use Rattle.std.proofs.Common.{◌≡◌, Bool, true, false, cond, not, ◌&&◌, ◌||◌, List, [], ◌∷◌, ◌++◌, map, refl, sym, ◌∙◌, ap, subst, true≢false, append_assoc, append-nil}
 use Rattle.std.specs.Prelude.{filter}
 use Rattle.std.specs.List.{list_any}
+use Rattle.std.specs.Bool.{beq}
 use Rattle.std.proofs.lemmas.List.Folds.{list_any-append}
 use Rattle.std.proofs.lemmas.List.{map-append}
 use Rattle.std.proofs.lemmas.List.Elements.{filter-append}
 use Rattle.base_kit.specs.Prefixes.{Prefix}
 use Rattle.cfg_ast.specs.declared.network.Network.{Network}
 use Rattle.cfg_ast.specs.declared.classes.Origin.{Origin}
-use Rattle.cfg_ast.specs.Classes.{is_before, AllAfter, AreAscending, is_same_class, is_least, originated, origins_of, class_of, classes_of}
+use Rattle.cfg_ast.specs.declared.policy.PrefixList.{PrefixList}
+use Rattle.cfg_ast.specs.Classes.{is_before, AllAfter, AreAscending, is_same_class, is_least, same_items, same_origin, originated, origins_of, answers_of, class_of, classes_of}
 use Rattle.cfg_ast.proofs.PrefixSets.{not_before_self, not_before_back}
 use Rattle.cfg_ast.proofs.ClassFacts.{one_class, is_one_class, originated_ascends}
 use Rattle.dest_classes.specs.Groups.{traits_of, same_traits, Group, with_member, with_members, class_from}
+use Rattle.dest_classes.proofs.Bools.{by_both}
+use Rattle.dest_classes.proofs.Same.{alike_to}
 
 or_false : (b : Bool) → (b || false) ≡ b
 or_false true = refl
 or_false false = refl
 
-by_both : (a b : Bool) → (a ≡ true → b ≡ true) → (b ≡ true → a ≡ true) → a ≡ b
-by_both true true f g = refl
-by_both true false f g = sym (f refl)
-by_both false true f g = g refl
-by_both false false f g = refl
-
-module _ (network : Network) where
+-- groups by what some lists answer, which answer alike exactly where all do
+module _ (network : Network) (lists : List PrefixList) (asked : (p q : Prefix) → alike_to lists p q ≡ same_items beq (answers_of network p) (answers_of network q)) where
   abbrev alike : Prefix → Prefix → Bool
   alike p q = is_same_class network p q
 
@@ -45,7 +44,7 @@ module _ (network : Network) where
   alike_same p q r e = by_both (alike r p) (alike r q) (λ f. alike_trans r p q f e) (λ f. alike_trans r q p f (alike_back p q e))
 
   abbrev group_in : List Prefix → Prefix → Group
-  group_in ps p = record { traits = traits_of network p; prefixes = filter (alike p) ps }
+  group_in ps p = record { traits = traits_of network lists p; prefixes = filter (alike p) ps }
 
   -- the leaders once one more prefix came
   abbrev led_by : List Prefix → Prefix → List Prefix
@@ -64,9 +63,9 @@ module _ (network : Network) where
   abbrev AreLed : List Prefix → List Prefix → Type 0
   AreLed ps leaders = (q : Prefix) → list_any (alike q) ps ≡ list_any (alike q) leaders
 
-  traits_alike : (p q : Prefix) → same_traits (traits_of network p) (traits_of network q) ≡ alike p q
+  traits_alike : (p q : Prefix) → same_traits (traits_of network lists p) (traits_of network lists q) ≡ alike p q
   unfolding is_same_class
-  traits_alike p q = refl
+  traits_alike p q = ap (λ b. same_items same_origin (origins_of network p) (origins_of network q) && b) (asked p q)
 
   any_same : (p q : Prefix) → alike p q ≡ true → (ls : List Prefix) → list_any (alike p) ls ≡ list_any (alike q) ls
   any_same p q e [] = refl
@@ -76,7 +75,7 @@ module _ (network : Network) where
   grown done x l b e = filter-append (alike l) done (x ∷ []) ∙ ap (λ c. filter (alike l) done ++ cond c (x ∷ []) []) e
 
   abbrev with_prefixes_in : Prefix → List Prefix → Group
-  with_prefixes_in l ps = record { traits = traits_of network l; prefixes = ps }
+  with_prefixes_in l ps = record { traits = traits_of network lists l; prefixes = ps }
 
   not_grown : (done : List Prefix) (x l : Prefix) → alike l x ≡ false → group_in done l ≡ group_in (done ++ x ∷ []) l
   not_grown done x l e = ap (with_prefixes_in l) (sym (grown done x l false e ∙ append-nil (filter (alike l) done)))
@@ -95,7 +94,7 @@ module _ (network : Network) where
       ap (λ g. g ∷ map (group_in done) ls) (not_grown done x l (alike_sym l x ∙ first_false (alike x l) (list_any (alike x) ls) none)) ∙ ap (λ gs. group_in (done ++ x ∷ []) l ∷ gs) (none_grown done x ls (second_false (alike x l) (list_any (alike x) ls) none))
 
   abbrev put : List Prefix → Prefix → List Prefix → List Group
-  put done x ls = with_member (traits_of network x) x (map (group_in done) ls)
+  put done x ls = with_member (traits_of network lists x) x (map (group_in done) ls)
 
   -- where no leader is alike, a new group comes last
   not_led : (done : List Prefix) (x : Prefix) (ls : List Prefix) → list_any (alike x) ls ≡ false → put done x ls ≡ map (group_in (done ++ x ∷ [])) ls ++ with_prefixes_in x (x ∷ []) ∷ []
@@ -156,10 +155,10 @@ module _ (network : Network) where
   abbrev entry_of : Prefix → Prefix × List Origin
   entry_of p = (p, origins_of network p)
 
-  members_are : (more done ls : List Prefix) → AreApart ls → AreLed done ls → with_members network (map entry_of more) (map (group_in done) ls) ≡ map (group_in (done ++ more)) (leaders_from ls more)
+  members_are : (more done ls : List Prefix) → AreApart ls → AreLed done ls → with_members lists (map entry_of more) (map (group_in done) ls) ≡ map (group_in (done ++ more)) (leaders_from ls more)
   members_are [] done ls apart are_led = ap (λ ps. map (group_in ps) ls) (sym (append-nil done))
   members_are (x ∷ more) done ls apart are_led =
-      ap (with_members network (map entry_of more)) (put_is done x ls apart are_led)
+      ap (with_members lists (map entry_of more)) (put_is done x ls apart are_led)
       ∙ members_are more (done ++ x ∷ []) (led_by ls x) (apart_led x ls apart) (one_more_led done x ls are_led)
       ∙ ap (λ ps. map (group_in ps) (leaders_from (led_by ls x) more)) (append_assoc done (x ∷ []) more)
 
@@ -201,7 +200,7 @@ module _ (network : Network) where
   each_class all [] same = refl
   each_class all (p ∷ ps) same = ap (λ qs. class_from (with_prefixes_in p (filter (alike p) qs)) ∷ map class_from (map (group_in all) ps)) same ∙ ap (λ cs. class_of network p ∷ cs) (each_class all ps same)
 
-  pub classes_are : map class_from (with_members network (map entry_of (originated network)) []) ≡ classes_of network
+  pub classes_are : map class_from (with_members lists (map entry_of (originated network)) []) ≡ classes_of network
   unfolding classes_of
   classes_are =
       ap (map class_from) (members_are (originated network) [] [] tt (λ q. refl) ∙ ap (map (group_in (originated network))) (leaders_are (originated network) [] (originated network) refl (originated_ascends network) (λ q. refl)))

@@ -1,7 +1,10 @@
+pub mod Bools
 pub mod Entries
 pub mod Keys
 pub mod Leaders
 pub mod Noted
 pub mod Order
 pub mod Originated
+pub mod Rules
+pub mod Same
 pub mod Starts

@@ -1,11 +1,11 @@
-ghost use Rattle.std.specs.Prelude.{◌≡◌, [], ◌∷◌, ◌++◌, IfOk, OnOk, map, flat_map, unwrap_or};
-ghost use Rattle.cfg_ast.specs.Classes.{lists_on, answers_of};
-ghost use Rattle.cfg_ast.specs.PrefixLists.{prefix_list_permits};
+ghost use Rattle.std.specs.Prelude.{◌≡◌, [], ◌∷◌, ◌++◌, IfOk, OnOk, map, unwrap_or};
 ghost use Rattle.indexmap.specs.IndexMap.{insert_entry, get};
 ghost use Rattle.std.specs.BTreeMap.{IsOrdered};
+ghost use Rattle.dest_classes.specs.Lists.{lists_asked, answers_to};
 ghost use Rattle.dest_classes.specs.Routes.{prefix_order};
 ghost use Rattle.dest_classes.specs.Groups.{same_signature, Traits, shown_group, shown_signature, with_member, with_members, class_from};
 
+use crate::lists::lists_asked;
 use crate::routes::Originators;
 use base_kit::{List, NoMemory, Prefix};
 use cfg_ast::{DestClass, Network, Origin, PrefixList};
@@ -13,7 +13,7 @@ use indexmap::IndexMap;
 use prefix_lists::permits;
 use std::alloc::Global;
 
-/// What tells classes apart: the originators of a prefix, with their initial routes, and what all
+/// What tells classes apart: the originators of a prefix, with their initial routes, and what the
 /// prefix lists answer.
 #[derive(PartialEq, Eq, Hash, Drop)]
 pub struct Signature {
@@ -24,22 +24,9 @@ pub struct Signature {
 /// The prefixes of each signature, by the first prefix that has it.
 pub type Groups = IndexMap<Signature, List<Prefix>>;
 
-// All prefix lists of all routers.
-fn lists_of<'a>(alloc: Global, net: &'a Network) -> Result<Vec<&'a PrefixList>, NoMemory>
-    ensures { IfOk result (λ v. map (λ list. list.now) v.items ≡ flat_map lists_on net.now.routers) }
-{
-    let mut lists = Vec::new(alloc);
-    for router in net.routers.as_slice() {
-        for list in router.prefix_lists.as_slice() {
-            lists.push(list)?;
-        }
-    }
-    Ok(lists)
-}
-
-// What all lists answer to a prefix.
+// What the lists answer to a prefix.
 fn answers_to(alloc: Global, lists: &[&PrefixList], prefix: Prefix) -> Result<Vec<bool>, NoMemory>
-    ensures { IfOk result (λ v. v.items ≡ map (λ list. prefix_list_permits list prefix) (map (λ list. list.now) lists.now)) }
+    ensures { IfOk result (λ v. v.items ≡ answers_to (map (λ list. list.now) lists.now) prefix) }
 {
     let mut answers = Vec::new(alloc);
     for list in lists {
@@ -66,10 +53,10 @@ fn add(
 
 /// The prefixes of the map, in its order, in their groups.
 pub fn groups_of(alloc: Global, net: &Network, originators: Originators) -> Result<Groups, NoMemory>
-    ensures groups { IfOk result (λ groups. map shown_group groups.entries ≡ with_members net.now originators.entries []) }
+    ensures groups { IfOk result (λ groups. map shown_group groups.entries ≡ with_members (lists_asked net.now) originators.entries []) }
     ensures ordered { OnOk result (IsOrdered prefix_order originators) }
 {
-    let lists = lists_of(alloc, net)?;
+    let lists = lists_asked(alloc, net)?;
     let mut groups = IndexMap::new(alloc);
     for (prefix, origins) in originators {
         let signature = Signature {

@@ -9,6 +9,7 @@
 
 mod groups;
 mod laws;
+mod lists;
 mod network_classes;
 mod routes;
 

@@ -1,6 +1,6 @@
 use Rattle.std.proofs.Common.{◌≡◌, ◌++◌, map, drop, flat_map}
 use Rattle.cfg_ast.specs.Classes.{lists_on}
-use Rattle.dest_classes.proofs.groups.lists_of.Given as goal
+use Rattle.dest_classes.proofs.lists.lists_of.Given as goal
 
 abbrev pub invariant-loop-router : goal.invariant-loop-router
 invariant-loop-router l = map (λ list. list.now) l.lists.items ++ flat_map lists_on (drop l.router-index l.net.routers) ≡ flat_map lists_on l.net.routers

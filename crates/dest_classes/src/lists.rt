@@ -1,0 +1,93 @@
+ghost use Rattle.std.specs.Prelude.{◌≡◌, IfOk, OnOk, map, flat_map};
+ghost use Rattle.cfg_ast.specs.Classes.{lists_on};
+ghost use Rattle.dest_classes.specs.Lists.{rule_of, rules_of, AreSaid, with_list, different, lists_asked};
+
+use base_kit::NoMemory;
+use cfg_ast::{Network, PrefixEntry, PrefixList};
+use std::alloc::Global;
+use std::collections::HashSet;
+
+/// What an entry of a prefix list says, its number and its line aside.
+#[derive(Clone, Copy, PartialEq, Eq, Hash)]
+pub struct Rule {
+    pub permit: bool,
+    pub addr: u32,
+    pub len: u8,
+    pub ge: Option<u8>,
+    pub le: Option<u8>,
+}
+
+fn rule_of(entry: &PrefixEntry) -> Rule
+    ensures { result ≡ rule_of entry.now }
+{
+    Rule {
+        permit: entry.permit,
+        addr: entry.prefix.addr(),
+        len: entry.prefix.len(),
+        ge: entry.ge,
+        le: entry.le,
+    }
+}
+
+fn rules_of(alloc: Global, list: &PrefixList) -> Result<Vec<Rule>, NoMemory>
+    ensures { IfOk result (λ v. v.items ≡ rules_of list.now) }
+{
+    let rules = list
+        .entries
+        .as_slice()
+        .iter()
+        .map(|entry| rule_of(entry))
+        .collect(alloc)?;
+    Ok(rules)
+}
+
+// Asks a list, unless one that is asked says the same.
+fn ask<'a>(
+    alloc: Global,
+    said: &mut HashSet<Vec<Rule>>,
+    asked: &mut Vec<&'a PrefixList>,
+    list: &'a PrefixList,
+) -> Result<(), NoMemory>
+    requires { AreSaid said.old (map (λ list. list.now) asked.old.items) }
+    ensures asked { OnOk result (map (λ list. list.now) asked.new.items ≡ with_list list.now (map (λ list. list.now) asked.old.items)) }
+    ensures said { OnOk result (AreSaid said.new (map (λ list. list.now) asked.new.items)) }
+{
+    if said.insert(rules_of(alloc, list)?)? {
+        asked.push(list)?;
+    }
+    Ok(())
+}
+
+// The lists, each once of those that say the same.
+fn different<'a>(alloc: Global, lists: &[&'a PrefixList]) -> Result<Vec<&'a PrefixList>, NoMemory>
+    ensures { IfOk result (λ v. map (λ list. list.now) v.items ≡ different (map (λ list. list.now) lists.now)) }
+{
+    let mut said = HashSet::new(alloc);
+    let mut asked = Vec::new(alloc);
+    for list in lists {
+        ask(alloc, &mut said, &mut asked, list)?;
+    }
+    Ok(asked)
+}
+
+// All prefix lists of all routers.
+fn lists_of<'a>(alloc: Global, net: &'a Network) -> Result<Vec<&'a PrefixList>, NoMemory>
+    ensures { IfOk result (λ v. map (λ list. list.now) v.items ≡ flat_map lists_on net.now.routers) }
+{
+    let mut lists = Vec::new(alloc);
+    for router in net.routers.as_slice() {
+        for list in router.prefix_lists.as_slice() {
+            lists.push(list)?;
+        }
+    }
+    Ok(lists)
+}
+
+/// The prefix lists of all routers, each once of those that say the same.
+pub fn lists_asked<'a>(alloc: Global, net: &'a Network) -> Result<Vec<&'a PrefixList>, NoMemory>
+    ensures { IfOk result (λ v. map (λ list. list.now) v.items ≡ lists_asked net.now) }
+{
+    let lists = lists_of(alloc, net)?;
+    let asked = different(alloc, lists.as_slice())?;
+    Ok(asked)
+}
