@@ -13,9 +13,9 @@ use Rattle.cfg_ast.specs.declared.policy.PrefixList.{PrefixList}
 use Rattle.cfg_ast.specs.Classes.{is_before, AllAfter, AreAscending, is_same_class, is_least, same_items, same_origin, originated, origins_of, answers_of, class_of, classes_of}
 use Rattle.cfg_ast.proofs.PrefixSets.{not_before_self, not_before_back}
 use Rattle.cfg_ast.proofs.ClassFacts.{one_class, is_one_class, originated_ascends}
-use Rattle.dest_classes.specs.Groups.{traits_of, same_traits, Group, with_member, with_members, class_from}
+use Rattle.dest_classes.specs.Kinds.{alike_to}
+use Rattle.dest_classes.proofs.Traits.{traits_of, same_traits, Likes, with_like, with_likes, class_of_likes}
 use Rattle.dest_classes.proofs.Bools.{by_both}
-use Rattle.dest_classes.proofs.Same.{alike_to}
 
 or_false : (b : Bool) → (b || false) ≡ b
 or_false true = refl
@@ -43,7 +43,7 @@ module _ (network : Network) (lists : List PrefixList) (asked : (p q : Prefix) �
   alike_same : (p q r : Prefix) → alike p q ≡ true → alike r p ≡ alike r q
   alike_same p q r e = by_both (alike r p) (alike r q) (λ f. alike_trans r p q f e) (λ f. alike_trans r q p f (alike_back p q e))
 
-  abbrev group_in : List Prefix → Prefix → Group
+  abbrev group_in : List Prefix → Prefix → Likes
   group_in ps p = record { traits = traits_of network lists p; prefixes = filter (alike p) ps }
 
   -- the leaders once one more prefix came
@@ -74,7 +74,7 @@ module _ (network : Network) (lists : List PrefixList) (asked : (p q : Prefix) �
   grown : (done : List Prefix) (x l : Prefix) (b : Bool) → alike l x ≡ b → filter (alike l) (done ++ x ∷ []) ≡ filter (alike l) done ++ cond b (x ∷ []) []
   grown done x l b e = filter-append (alike l) done (x ∷ []) ∙ ap (λ c. filter (alike l) done ++ cond c (x ∷ []) []) e
 
-  abbrev with_prefixes_in : Prefix → List Prefix → Group
+  abbrev with_prefixes_in : Prefix → List Prefix → Likes
   with_prefixes_in l ps = record { traits = traits_of network lists l; prefixes = ps }
 
   not_grown : (done : List Prefix) (x l : Prefix) → alike l x ≡ false → group_in done l ≡ group_in (done ++ x ∷ []) l
@@ -93,8 +93,8 @@ module _ (network : Network) (lists : List PrefixList) (asked : (p q : Prefix) �
   none_grown done x (l ∷ ls) none =
       ap (λ g. g ∷ map (group_in done) ls) (not_grown done x l (alike_sym l x ∙ first_false (alike x l) (list_any (alike x) ls) none)) ∙ ap (λ gs. group_in (done ++ x ∷ []) l ∷ gs) (none_grown done x ls (second_false (alike x l) (list_any (alike x) ls) none))
 
-  abbrev put : List Prefix → Prefix → List Prefix → List Group
-  put done x ls = with_member (traits_of network lists x) x (map (group_in done) ls)
+  abbrev put : List Prefix → Prefix → List Prefix → List Likes
+  put done x ls = with_like (traits_of network lists x) x (map (group_in done) ls)
 
   -- where no leader is alike, a new group comes last
   not_led : (done : List Prefix) (x : Prefix) (ls : List Prefix) → list_any (alike x) ls ≡ false → put done x ls ≡ map (group_in (done ++ x ∷ [])) ls ++ with_prefixes_in x (x ∷ []) ∷ []
@@ -155,10 +155,10 @@ module _ (network : Network) (lists : List PrefixList) (asked : (p q : Prefix) �
   abbrev entry_of : Prefix → Prefix × List Origin
   entry_of p = (p, origins_of network p)
 
-  members_are : (more done ls : List Prefix) → AreApart ls → AreLed done ls → with_members lists (map entry_of more) (map (group_in done) ls) ≡ map (group_in (done ++ more)) (leaders_from ls more)
+  members_are : (more done ls : List Prefix) → AreApart ls → AreLed done ls → with_likes lists (map entry_of more) (map (group_in done) ls) ≡ map (group_in (done ++ more)) (leaders_from ls more)
   members_are [] done ls apart are_led = ap (λ ps. map (group_in ps) ls) (sym (append-nil done))
   members_are (x ∷ more) done ls apart are_led =
-      ap (with_members lists (map entry_of more)) (put_is done x ls apart are_led)
+      ap (with_likes lists (map entry_of more)) (put_is done x ls apart are_led)
       ∙ members_are more (done ++ x ∷ []) (led_by ls x) (apart_led x ls apart) (one_more_led done x ls are_led)
       ∙ ap (λ ps. map (group_in ps) (leaders_from (led_by ls x) more)) (append_assoc done (x ∷ []) more)
 
@@ -196,12 +196,12 @@ module _ (network : Network) (lists : List PrefixList) (asked : (p q : Prefix) �
             joined (list_any (alike x) (filter (is_least_in all) done)) (filter (is_least_in all) done)
             ∙ ap (λ b. filter (is_least_in all) done ++ cond (not b) (x ∷ []) []) (sym earlier) ∙ sym (filter-append (is_least_in all) done (x ∷ []))
 
-  each_class : (all ls : List Prefix) → all ≡ originated network → map class_from (map (group_in all) ls) ≡ map (class_of network) ls
+  each_class : (all ls : List Prefix) → all ≡ originated network → map class_of_likes (map (group_in all) ls) ≡ map (class_of network) ls
   each_class all [] same = refl
-  each_class all (p ∷ ps) same = ap (λ qs. class_from (with_prefixes_in p (filter (alike p) qs)) ∷ map class_from (map (group_in all) ps)) same ∙ ap (λ cs. class_of network p ∷ cs) (each_class all ps same)
+  each_class all (p ∷ ps) same = ap (λ qs. class_of_likes (with_prefixes_in p (filter (alike p) qs)) ∷ map class_of_likes (map (group_in all) ps)) same ∙ ap (λ cs. class_of network p ∷ cs) (each_class all ps same)
 
-  pub classes_are : map class_from (with_members lists (map entry_of (originated network)) []) ≡ classes_of network
+  pub classes_are : map class_of_likes (with_likes lists (map entry_of (originated network)) []) ≡ classes_of network
   unfolding classes_of
   classes_are =
-      ap (map class_from) (members_are (originated network) [] [] tt (λ q. refl) ∙ ap (map (group_in (originated network))) (leaders_are (originated network) [] (originated network) refl (originated_ascends network) (λ q. refl)))
+      ap (map class_of_likes) (members_are (originated network) [] [] tt (λ q. refl) ∙ ap (map (group_in (originated network))) (leaders_are (originated network) [] (originated network) refl (originated_ascends network) (λ q. refl)))
       ∙ each_class (originated network) (filter (is_least network) (originated network)) refl

@@ -1,10 +1,16 @@
+pub mod Asked
 pub mod Bools
 pub mod Entries
 pub mod Keys
 pub mod Leaders
+pub mod Likes
 pub mod Noted
 pub mod Order
 pub mod Originated
+pub mod Places
 pub mod Rules
 pub mod Same
 pub mod Starts
+pub mod Traits
+pub mod Turns
+pub mod Words

@@ -1,9 +1,8 @@
 -- Rules are compared by what they say, so a set has what lists say.
-use Rattle.std.proofs.Common.{◌≡◌, ℕ, Bool, true, cond, ◌||◌, List, [], ◌∷◌, ◌++◌, Option, refl, sym, ◌∙◌, ap, subst, rules, arith}
-use Rattle.std.specs.HashSet.{HashSet, contains, Updates}
+use Rattle.std.proofs.Common.{◌≡◌, ℕ, Bool, true, cond, List, [], ◌∷◌, ◌++◌, Option, Bor, sym, ◌∙◌, ap, rules}
+use Rattle.std.specs.HashSet.{HashSet, Updates}
 use Rattle.std.specs.Global.{Vec}
 use Rattle.std.specs.List.{list_any}
-use Rattle.std.proofs.lemmas.Bool.Decides.{nat_tests}
 use Rattle.std.proofs.lemmas.List.Folds.{list_any-append}
 use Rattle.cfg_ast.specs.declared.policy.PrefixList.{PrefixList}
 use Rattle.cfg_ast.specs.Classes.{same_items}
@@ -11,6 +10,10 @@ use Rattle.cfg_ast.proofs.ClassFacts.{Tells, items_tell}
 use Rattle.dest_classes.specs.declared.lists.Rule.{Rule}
 use Rattle.dest_classes.specs.Lists.{same_rule, same_rules, rules_of, says, AreSaid}
 use Rattle.dest_classes.proofs.Bools.{by_both, last_first}
+
+-- the list that a reference points to
+abbrev pub at_now : Bor PrefixList → PrefixList
+at_now list = list.now
 
 made : Bool → ℕ → ℕ → Option ℕ → Option ℕ → Rule
 made permit addr len ge le = record { permit = permit; addr = addr; len = len; ge = ge; le = le }

@@ -13,11 +13,8 @@ use Rattle.dest_classes.specs.declared.lists.Rule.{Rule}
 use Rattle.cfg_ast.proofs.ClassFacts.{items_tell}
 use Rattle.dest_classes.proofs.Rules.{rules_tell}
 use Rattle.dest_classes.proofs.Bools.{both_assoc, both_true, both_implied, first_of_both, second_of_both}
-use Rattle.dest_classes.specs.Lists.{same_rule, rule_of, rules_of, says, with_list, with_lists, different, lists_asked, answers_to}
-
--- all these lists answer both prefixes alike
-abbrev pub alike_to : List PrefixList → Prefix → Prefix → Bool
-alike_to lists p q = same_items beq (answers_to lists p) (answers_to lists q)
+use Rattle.dest_classes.specs.Kinds.{alike_to}
+use Rattle.dest_classes.specs.Lists.{same_rule, rule_of, rules_of, says, with_list, with_lists, lists_asked}
 
 -- what rules answer
 abbrev rule_holds : Rule → Prefix → Bool

@@ -1,52 +1,37 @@
 -- Prefixes in groups by what tells classes apart.
-use Rattle.std.specs.Prelude.{Bool, ◌&&◌, List, [], ◌∷◌, ◌++◌, if◌then◌else◌}
-use Rattle.std.specs.Bool.{beq}
+use Rattle.std.specs.Prelude.{ℕ, Bool, ◌&&◌, List, [], ◌∷◌, ◌++◌, nat_eq, if◌then◌else◌}
 use Rattle.base_kit.specs.Prefixes.{Prefix}
 use Rattle.cfg_ast.specs.declared.classes.DestClass.{DestClass}
 use Rattle.cfg_ast.specs.declared.classes.Origin.{Origin}
-use Rattle.cfg_ast.specs.declared.network.Network.{Network}
-use Rattle.cfg_ast.specs.declared.policy.PrefixList.{PrefixList}
-use Rattle.cfg_ast.specs.Classes.{same_items, same_origin, origins_of}
+use Rattle.cfg_ast.specs.Classes.{same_items, same_origin}
 use Rattle.dest_classes.specs.declared.groups.Signature.{Signature}
+use Rattle.dest_classes.specs.declared.kinds.Member.{Member}
 use Rattle.dest_classes.specs.contracts.groups.SignaturePartialEq.TheImpl as signature_eq
-use Rattle.dest_classes.specs.Lists.{answers_to}
 
 -- how `==` compares signatures
 abbrev pub same_signature : Signature → Signature → Bool
 same_signature = (signature_eq.ghosts).eq
 
--- the originators of a prefix with their initial routes, and what the prefix lists answer
-pub record Traits : Type 0 where
-  pub origins : List Origin
-  pub answers : List Bool
-
-abbrev pub same_traits : Traits → Traits → Bool
-same_traits a b = same_items same_origin a.origins b.origins && same_items beq a.answers b.answers
-
-abbrev pub traits_of : Network → List PrefixList → Prefix → Traits
-traits_of network lists p = record { origins = origins_of network p; answers = answers_to lists p }
-
-abbrev pub shown_signature : Signature → Traits
-shown_signature s = record { origins = s.origins.items; answers = s.answers.items }
-
--- a group: its traits, and its prefixes
+-- the prefixes with these originators and of this kind
 pub record Group : Type 0 where
-  pub traits : Traits
+  pub origins : List Origin
+  pub kind : ℕ
   pub prefixes : List Prefix
 
 abbrev pub shown_group : Signature × List Prefix → Group
-shown_group e = record { traits = shown_signature e.0; prefixes = e.1 }
+shown_group e = record { origins = e.0.origins.items; kind = e.0.kind; prefixes = e.1 }
 
--- a prefix put into the group of its traits, or into a new one at the end
-abbrev pub with_member : Traits → Prefix → List Group → List Group
-with_member traits p [] = record { traits = traits; prefixes = p ∷ [] } ∷ []
-with_member traits p (group ∷ groups) =
-    if same_traits traits group.traits then record group { prefixes = group.prefixes ++ p ∷ [] } ∷ groups else group ∷ with_member traits p groups
+abbrev pub belongs : Member → Group → Bool
+belongs member group = same_items same_origin member.origins group.origins && nat_eq member.kind group.kind
 
--- the same for all prefixes in turn, each with its originators
-abbrev pub with_members : List PrefixList → List (Prefix × List Origin) → List Group → List Group
-with_members lists [] groups = groups
-with_members lists ((p, origins) ∷ rest) groups = with_members lists rest (with_member (record { origins = origins; answers = answers_to lists p }) p groups)
+-- a member put into its group, or into a new one at the end
+abbrev pub with_member : Member → List Group → List Group
+with_member member [] = record { origins = member.origins; kind = member.kind; prefixes = member.prefix ∷ [] } ∷ []
+with_member member (group ∷ groups) = if belongs member group then record group { prefixes = group.prefixes ++ member.prefix ∷ [] } ∷ groups else group ∷ with_member member groups
+
+abbrev pub with_members : List Member → List Group → List Group
+with_members [] groups = groups
+with_members (member ∷ members) groups = with_members members (with_member member groups)
 
 abbrev pub class_from : Group → DestClass
-class_from group = record { prefixes = group.prefixes; origins = group.traits.origins }
+class_from group = record { prefixes = group.prefixes; origins = group.origins }

@@ -1,3 +1,4 @@
 pub mod Groups
+pub mod Kinds
 pub mod Lists
 pub mod Routes

@@ -1,39 +1,22 @@
 ghost use Rattle.std.specs.Prelude.{◌≡◌, [], ◌∷◌, ◌++◌, IfOk, OnOk, map, unwrap_or};
 ghost use Rattle.indexmap.specs.IndexMap.{insert_entry, get};
-ghost use Rattle.std.specs.BTreeMap.{IsOrdered};
-ghost use Rattle.dest_classes.specs.Lists.{lists_asked, answers_to};
-ghost use Rattle.dest_classes.specs.Routes.{prefix_order};
-ghost use Rattle.dest_classes.specs.Groups.{same_signature, Traits, shown_group, shown_signature, with_member, with_members, class_from};
+ghost use Rattle.dest_classes.specs.Groups.{same_signature, shown_group, with_members, class_from};
 
-use crate::lists::lists_asked;
-use crate::routes::Originators;
+use crate::kinds::Member;
 use base_kit::{List, NoMemory, Prefix};
-use cfg_ast::{DestClass, Network, Origin, PrefixList};
+use cfg_ast::{DestClass, Origin};
 use indexmap::IndexMap;
-use prefix_lists::permits;
 use std::alloc::Global;
 
-/// What tells classes apart: the originators of a prefix, with their initial routes, and what the
-/// prefix lists answer.
+/// What tells classes apart: the originators of a prefix, with their initial routes, and its kind.
 #[derive(PartialEq, Eq, Hash, Drop)]
 pub struct Signature {
     pub origins: Vec<Origin>,
-    pub answers: Vec<bool>,
+    pub kind: usize,
 }
 
 /// The prefixes of each signature, by the first prefix that has it.
 pub type Groups = IndexMap<Signature, List<Prefix>>;
-
-// What the lists answer to a prefix.
-fn answers_to(alloc: Global, lists: &[&PrefixList], prefix: Prefix) -> Result<Vec<bool>, NoMemory>
-    ensures { IfOk result (λ v. v.items ≡ answers_to (map (λ list. list.now) lists.now) prefix) }
-{
-    let mut answers = Vec::new(alloc);
-    for list in lists {
-        answers.push(permits(list, prefix))?;
-    }
-    Ok(answers)
-}
 
 // Puts a prefix into the group of its signature.
 fn add(
@@ -51,17 +34,20 @@ fn add(
     Ok(())
 }
 
-/// The prefixes of the map, in its order, in their groups.
-pub fn groups_of(alloc: Global, net: &Network, originators: Originators) -> Result<Groups, NoMemory>
-    ensures groups { IfOk result (λ groups. map shown_group groups.entries ≡ with_members (lists_asked net.now) originators.entries []) }
-    ensures ordered { OnOk result (IsOrdered prefix_order originators) }
+/// The members, in their order, in their groups.
+pub fn groups_of(alloc: Global, members: Vec<Member>) -> Result<Groups, NoMemory>
+    ensures { IfOk result (λ groups. map shown_group groups.entries ≡ with_members members.items []) }
 {
-    let lists = lists_asked(alloc, net)?;
     let mut groups = IndexMap::new(alloc);
-    for (prefix, origins) in originators {
+    for member in members {
+        let Member {
+            prefix,
+            origins,
+            kind,
+        } = member;
         let signature = Signature {
             origins: origins.into_vec(),
-            answers: answers_to(alloc, lists.as_slice(), prefix)?,
+            kind,
         };
         add(alloc, &mut groups, signature, prefix)?;
     }

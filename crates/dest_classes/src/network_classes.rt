@@ -2,19 +2,21 @@ ghost use Rattle.std.specs.Prelude.{◌≡◌, ◌<◌, ◌^◌, IfOk, length};
 ghost use Rattle.cfg_ast.specs.Classes.{classes_of};
 
 use crate::groups;
+use crate::kinds::members_of;
 use crate::routes::originators;
 use base_kit::{List, NoMemory};
 use cfg_ast::{DestClass, Network};
 use cfg_check::Checked;
 use std::alloc::Global;
 
-// The classes of a network with few routers.
-fn classes_of(alloc: Global, net: &Network) -> Result<List<DestClass>, NoMemory>
+/// The classes of a network with few routers.
+pub fn classes_of(alloc: Global, net: &Network) -> Result<List<DestClass>, NoMemory>
     requires { length net.now.routers < 2 ^ 32 }
     ensures { IfOk result (λ classes. classes ≡ classes_of net.now) }
 {
     let originators = originators(alloc, net)?;
-    let groups = groups::groups_of(alloc, net, originators)?;
+    let members = members_of(alloc, net, originators)?;
+    let groups = groups::groups_of(alloc, members)?;
     let classes = groups::classes_of(alloc, groups)?;
     Ok(classes)
 }

@@ -1,12 +1,8 @@
-use Rattle.std.proofs.Common.{List, [], ◌∷◌, Bor, ap, map, sym, subst, ◌∙◌}
+use Rattle.std.proofs.Common.{[], ◌∷◌, ap, map, sym, subst, ◌∙◌}
 use Rattle.std.proofs.lemmas.List.{map-append}
-use Rattle.cfg_ast.specs.declared.policy.PrefixList.{PrefixList}
 use Rattle.dest_classes.specs.Lists.{AreSaid}
-use Rattle.dest_classes.proofs.Rules.{said_more}
+use Rattle.dest_classes.proofs.Rules.{at_now, said_more}
 use Rattle.dest_classes.proofs.lists.ask.Goals as goal
-
-abbrev at_now : Bor PrefixList → PrefixList
-at_now list = list.now
 
 pub returns-in_ok-push-clause-said : goal.returns-in_ok-push-clause-said
 returns-in_ok-push-clause-said c =
