@@ -1,13 +1,15 @@
 -- Lines read one by one.
 use Rattle.std.proofs.Common.{◌≡◌, ℕ, suc, ◌-◌, true, List, [], ◌∷◌, length, Some, Result, Ok, Err, refl, sym, ap, ◌∙◌, arith, true≢false}
 use Rattle.std.specs.Result.{is_ok}
-use Rattle.std.specs.List.{slice_get}
+use Rattle.std.specs.List.{slice_get, AllByRecursion}
 use Rattle.cfg_ast.specs.declared.line.Line.{Line}
+use Rattle.cfg_ast.specs.declared.line.Span.{Span}
 use Rattle.cfg_ast.specs.declared.network.Network.{Network}
 use Rattle.cfg_ast.specs.declared.refusal.ReadRefusal.{ReadRefusal}
 use Rattle.cfg_ast.specs.declared.refusal.ReadRefusal.TheVariants as refusal
 use Rattle.cfg_ast.specs.Answers.{RefusesAs}
-use Rattle.cfg_ast.specs.Lines.{lines_of}
+use Rattle.cfg_ast.specs.Lines.{lines_of, IsWordIn}
+use Rattle.cfg_ast.specs.Members.{IsSpanIn}
 use Rattle.cfg_ast.specs.TextLines.{TextLine, text_line}
 use Rattle.cfg_ast.specs.Stanzas.{◌>>=◌}
 use Rattle.cfg_ast.specs.Reading.{State, at_start, step, steps, texts_of, end_at, ending, network_of_lines, network_of_text}
@@ -16,6 +18,10 @@ use Rattle.cfg_lex.specs.Places.{lines_from, put_first, IsFirst}
 use Rattle.cfg_parse.specs.Rest.{ended_by, read_on, state_after}
 
 -- ---- one line
+
+pub words_are_spans : (bs : List ℕ) (ws : List Span) → AllByRecursion (IsWordIn bs) ws → AllByRecursion (IsSpanIn bs) ws
+words_are_spans bs [] within = tt
+words_are_spans bs (w ∷ ws) within = ((within.0.0, within.0.1), words_are_spans bs ws within.1)
 
 ok_by : (bs : List ℕ) (s t : State) (said : Result (Unit {0}) ReadRefusal) (line : Line) (r : Result (List Line) ReadRefusal) → step s (text_line bs line) ≡ Ok t → state_after bs s said (put_first line r) ≡ state_after bs t (end_at (Some (text_line bs line))) r
 unfolding steps ended_by

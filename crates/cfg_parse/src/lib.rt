@@ -12,6 +12,7 @@ mod areas;
 mod bgp;
 mod community_lists;
 mod draft;
+mod end_line;
 mod entry;
 mod exchange;
 mod interface;

@@ -1,11 +1,11 @@
 ghost use Rattle.std.specs.Prelude.{◌≡◌, ◌≤◌, IfOk, All, length, map};
 ghost use Rattle.cfg_ast.specs.Lines.{text_of, texts};
 ghost use Rattle.cfg_ast.specs.TextLines.{text_line};
-ghost use Rattle.cfg_ast.specs.Reading.{is_end};
-ghost use Rattle.cfg_ast.specs.Members.{IsSpanIn, AreSpansIn, is_end_line, member_on, members_in, members_of};
+ghost use Rattle.cfg_ast.specs.Members.{IsSpanIn, AreSpansIn, member_on, members_in, members_of};
 ghost use Rattle.std.specs.List.{AllByRecursion};
 ghost use Rattle.cfg_parse.specs.MemberSteps.{with_member, with_line};
 
+use crate::end_line::is_end_line;
 use base_kit::{List, NoMemory, Text};
 use cfg_ast::{Line, Span};
 use cfg_forms_router::is_router_name;
@@ -25,23 +25,6 @@ fn word<'a>(bytes: &'a [u8], span: &Span) -> &'a [u8]
     ensures { result.now ≡ text_of bytes.now span.now }
 {
     &bytes[span.from as usize..span.upto as usize]
-}
-
-fn is_end(bytes: &[u8], words: &[Span]) -> bool
-    requires { AllByRecursion (IsSpanIn bytes.now) words.now }
-    ensures { result ≡ is_end (texts bytes.now words.now) }
-{
-    let [first] = words else {
-        return false;
-    };
-    word(bytes, first) == b"end".as_slice()
-}
-
-fn is_end_line(bytes: &[u8], line: &Line) -> bool
-    requires { AreSpansIn bytes.now line.now }
-    ensures { result ≡ is_end_line (text_line bytes.now line.now) }
-{
-    line.indent == 0 && is_end(bytes, line.words.as_slice())
 }
 
 // The name on a member line.

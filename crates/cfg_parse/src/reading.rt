@@ -1,16 +1,16 @@
 ghost use Rattle.std.specs.Prelude.{◌≡◌, ◌≤◌, Some, Ok, true, is_ok, length};
-ghost use Rattle.std.specs.List.{AllByRecursion};
 ghost use Rattle.cfg_ast.specs.Answers.{Gives};
-ghost use Rattle.cfg_ast.specs.Lines.{IsLineIn, IsWordIn, texts, lines_of};
+ghost use Rattle.cfg_ast.specs.Lines.{IsLineIn, lines_of};
 ghost use Rattle.cfg_ast.specs.TextLines.{text_line};
-ghost use Rattle.cfg_ast.specs.Reading.{at_start, step_policy, step_router, step_top, step_inner, step, is_end, end_at, network_of_lines, network_of_text};
+ghost use Rattle.cfg_ast.specs.Reading.{at_start, step_policy, step_router, step_top, step_inner, step, end_at, network_of_lines, network_of_text};
 ghost use Rattle.cfg_parse.specs.Rest.{answer_of, state_after};
 
 use crate::draft::{Draft, State, at_start, with_closed};
+use crate::end_line::is_end_line;
 use crate::policy::{is_policy_line, take_policy};
 use crate::stanza::{policy_said_in, said_in, take_inner};
 use crate::top::take_top;
-use cfg_ast::{Kind, Line, Network, PolicyScope, ReadRefusal, Scope, Span};
+use cfg_ast::{Kind, Line, Network, PolicyScope, ReadRefusal, Scope};
 use cfg_lex::{Place, line_from, sound};
 use std::alloc::Global;
 
@@ -91,22 +91,13 @@ fn step(alloc: Global, bytes: &[u8], line: &Line, state: State) -> Result<State,
     }
 }
 
-fn is_end(bytes: &[u8], words: &[Span]) -> bool
-    requires { AllByRecursion (IsWordIn bytes.now) words.now }
-    ensures { result ≡ is_end (texts bytes.now words.now) }
-{
-    let [word] = words else {
-        return false;
-    };
-    &bytes[word.from as usize..word.upto as usize] == b"end".as_slice()
-}
-
 // The number of a line that is not the top line `end`.
+#[tactic(auto, using(crate::proofs::Rest::words_are_spans))]
 fn unended(bytes: &[u8], last: &Line) -> Option<u32>
     requires { IsLineIn bytes.now last.now }
     ensures { answer_of result ≡ end_at (Some (text_line bytes.now last.now)) }
 {
-    if last.indent == 0 && is_end(bytes, last.words.as_slice()) {
+    if is_end_line(bytes, last) {
         return None;
     }
     Some(last.number)
