@@ -1,7 +1,8 @@
 -- Items changed in their places.
-use Rattle.std.proofs.Common.{◌≡◌, ℕ, zero, suc, ◌+◌, ◌<◌, ◌≤◌, Bool, true, false, List, [], ◌∷◌, ◌++◌, length, get_or, Some, None, refl, ap, ◌∙◌, arith}
-use Rattle.std.proofs.Math.ListN.{set}
-use Rattle.std.specs.List.{position, position_or_len, insert}
+use Rattle.std.proofs.Common.{◌≡◌, ℕ, zero, suc, ◌+◌, ◌<◌, ◌≤◌, Bool, true, false, List, [], ◌∷◌, ◌++◌, length, map, get_or, Some, None, refl, ap, arith}
+use Rattle.std.proofs.Math.ListN.{set, take}
+use Rattle.std.proofs.Math.Seq.{take-append_seam}
+use Rattle.std.specs.List.{position, position_or_len}
 use Rattle.std.proofs.lemmas.Bool.Decides.{nat_tests}
 use Rattle.std.proofs.lemmas.Grind.{common_steps}
 use Rattle.std.proofs.lemmas.List.{get_or_default, set-set}
@@ -10,7 +11,7 @@ use Rattle.std.proofs.lemmas.List.Sums.{fails_before_first}
 use Rattle.cfg_ast.specs.declared.policy.PrefixList.{PrefixList}
 use Rattle.cfg_ast.specs.declared.policy.CommunityList.{CommunityList}
 use Rattle.cfg_ast.specs.declared.policy.RouteMap.{RouteMap}
-use Rattle.cfg_ast.specs.PolicyLines.{changed_or_new, put_before}
+use Rattle.cfg_ast.specs.PolicyLines.{changed_or_new}
 
 pub other_prefix_list : (ls : List PrefixList) (i : ℕ) (l : PrefixList) → i < length ls → get_or ls i l ≡ get_or ls i (record { name = []; entries = [] })
 other_prefix_list ls i l lt = get_or_default ls i l (record { name = []; entries = [] }) lt
@@ -48,28 +49,35 @@ all_of test xs none = grind (arith, common_steps, nat_tests)
 pub new_last : {X : Type 0} (is_it : X → Bool) (change : X → X) (new : X) (xs : List X) → position is_it xs ≡ None → changed_or_new is_it change new xs ≡ xs ++ new ∷ []
 new_last is_it change new xs absent = none_of is_it change new xs (λ k d lt. fails_before_first is_it xs k d (omega (arith, lt, all_of is_it xs absent)))
 
-put_by : {X : Type 0} (is_later : X → Bool) (x y : X) (ys : List X) (b : Bool) → is_later y ≡ b → put_before is_later x ys ≡ insert ys (position_or_len is_later ys) x → put_before is_later x (y ∷ ys) ≡ insert (y ∷ ys) (position_or_len is_later (y ∷ ys)) x
-unfolding put_before
-put_by is_later x y ys true e rest = rw e refl
-put_by is_later x y ys false e rest =
-    let next : 1 + position_or_len is_later ys ≡ suc (position_or_len is_later ys) = omega arith in
-    rw (e, next) (ap (λ zs. y ∷ zs) rest)
+-- ---- all items changed, from a place on
 
-pub put_inserts : {X : Type 0} (is_later : X → Bool) (x : X) (xs : List X) → put_before is_later x xs ≡ insert xs (position_or_len is_later xs) x
-unfolding put_before
-put_inserts is_later x [] = refl
-put_inserts is_later x (y ∷ ys) = put_by is_later x y ys (is_later y) refl (put_inserts is_later x ys)
+pub changed_from : {X : Type 0} → (X → X) → ℕ → List X → List X
+changed_from change zero xs = map change xs
+changed_from change (suc i) [] = []
+changed_from change (suc i) (x ∷ xs) = x ∷ changed_from change i xs
 
-place_is : {X : Type 0} (test : X → Bool) (xs : List X) (i : ℕ) → position test xs ≡ Some i → position_or_len test xs ≡ i
-place_is test xs i found = grind (arith, common_steps, nat_tests)
+pub none_changed : {X : Type 0} (change : X → X) (xs : List X) → changed_from change 0 xs ≡ map change xs
+unfolding changed_from
+none_changed change xs = refl
 
-pub put_within : {X : Type 0} (is_later : X → Bool) (x : X) (xs : List X) (i : ℕ) → position is_later xs ≡ Some i → put_before is_later x xs ≡ insert xs i x
-put_within is_later x xs i found = put_inserts is_later x xs ∙ ap (λ (n : ℕ). insert xs n x) (place_is is_later xs i found)
+next_changed : {X : Type 0} (change : X → X) (xs : List X) (i : ℕ) (d : X) → i < length xs → changed_from change (suc i) (set xs i (change (get_or xs i d))) ≡ changed_from change i xs
+unfolding changed_from
+next_changed change [] i d lt = absurd (omega arith)
+next_changed change (x ∷ xs) zero d lt = refl
+next_changed change (x ∷ xs) (suc i) d lt = ap (λ ys. x ∷ ys) (next_changed change xs i d (omega arith))
 
-none_later : {X : Type 0} (is_later : X → Bool) (x : X) (xs : List X) → ((k : ℕ) (d : X) → k < length xs → is_later (get_or xs k d) ≡ false) → put_before is_later x xs ≡ xs ++ x ∷ []
-unfolding put_before
-none_later is_later x [] none = refl
-none_later is_later x (y ∷ ys) none = rw (none zero y (omega arith)) (ap (λ zs. y ∷ zs) (none_later is_later x ys (λ k d lt. none (suc k) d (omega arith))))
+pub one_changed : {X : Type 0} (change : X → X) (xs : List X) (i : ℕ) (d : X) → i < length xs → changed_from change (i + 1) (set xs i (change (get_or xs i d))) ≡ changed_from change i xs
+one_changed change xs i d lt =
+    let next : i + 1 ≡ suc i = omega arith in
+    rw next (next_changed change xs i d lt)
 
-pub put_last : {X : Type 0} (is_later : X → Bool) (x : X) (xs : List X) → position is_later xs ≡ None → put_before is_later x xs ≡ xs ++ x ∷ []
-put_last is_later x xs absent = none_later is_later x xs (λ k d lt. fails_before_first is_later xs k d (omega (arith, lt, all_of is_later xs absent)))
+pub all_changed : {X : Type 0} (change : X → X) (n : ℕ) (xs : List X) → length xs ≤ n → changed_from change n xs ≡ xs
+unfolding changed_from
+all_changed change zero [] le = refl
+all_changed change (suc n) [] le = refl
+all_changed change zero (x ∷ xs) le = absurd (omega (arith, le))
+all_changed change (suc n) (x ∷ xs) le = ap (λ ys. x ∷ ys) (all_changed change n xs (omega (arith, le)))
+
+-- a vector behind a loop over its slice
+pub written_whole : {X : Type 0} (n : ℕ) (xs rest : List X) → n ≡ length xs → take n (xs ++ rest) ≡ xs
+written_whole n xs rest e = rw e (take-append_seam xs rest)

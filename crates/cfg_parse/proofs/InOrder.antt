@@ -1,5 +1,5 @@
 -- Entries put in the order of their numbers, one by one.
-use Rattle.std.proofs.Common.{◌≡◌, ℕ, ◌+◌, ◌<◌, Bool, true, false, ◌||◌, List, [], ◌∷◌, ◌++◌, map, refl, ap, ◌∙◌, arith}
+use Rattle.std.proofs.Common.{◌≡◌, ℕ, ◌+◌, ◌<◌, Bool, true, false, ◌||◌, List, [], ◌∷◌, ◌++◌, length, map, refl, ap, ◌∙◌, arith}
 use Rattle.std.specs.Prelude.{nat_eq, nat_lt}
 use Rattle.std.specs.List.{list_any}
 use Rattle.std.specs.Map.{values_of}
@@ -35,6 +35,11 @@ by_seq_none seq = refl
 pub by_seq_one : {X : Type 0} (seq : X → ℕ) (x : X) → by_seq seq (x ∷ []) ≡ x ∷ []
 unfolding put_all put_before
 by_seq_one seq x = refl
+
+pub by_seq_short : {X : Type 0} (seq : X → ℕ) (xs : List X) → length xs < 2 → by_seq seq xs ≡ xs
+by_seq_short seq [] short = by_seq_none seq
+by_seq_short seq (x ∷ []) short = by_seq_one seq x
+by_seq_short seq (x ∷ y ∷ ys) short = absurd (omega (arith, short))
 
 -- ---- what is among them
 

@@ -4,6 +4,7 @@ ghost use Rattle.cfg_ast.specs.PolicyLines.{is_community_list, put_community_lin
 
 use crate::exchange::exchange;
 use crate::keys::{key_of, place_in};
+use crate::room::pushed;
 use base_kit::{List, NoMemory, Text};
 use cfg_ast::{CommunityLine, CommunityList};
 use std::alloc::Global;
@@ -45,22 +46,18 @@ fn put_last(
         name: Text::new(alloc),
         lines: List::new(alloc),
     };
-    let mut list = exchange(&mut lists, place, vacant);
-    list.lines.push(line)?;
-    exchange(&mut lists, place, list);
+    let CommunityList { name, lines } = exchange(&mut lists, place, vacant);
+    let lines = pushed(lines, line)?;
+    exchange(&mut lists, place, CommunityList { name, lines });
     Ok(List::from_vec(lists))
 }
 
-// A list of one line, with room for no more.
+// A list of one line.
 fn new_list(alloc: Global, name: Text, line: CommunityLine) -> Result<CommunityList, NoMemory>
     ensures { IfOk result (λ list. list ≡ record { name = name; lines = line ∷ [] }) }
 {
-    let mut lines = Vec::with_capacity(alloc, 1)?;
-    lines.push(line)?;
-    Ok(CommunityList {
-        name,
-        lines: List::from_vec(lines),
-    })
+    let lines = pushed(List::new(alloc), line)?;
+    Ok(CommunityList { name, lines })
 }
 
 impl CommunityLists {
@@ -102,12 +99,10 @@ impl CommunityLists {
         requires { position (is_community_list name) self ≡ None }
         ensures { IfOk result (λ all. all ≡ self ++ (record { name = name; lines = line ∷ [] }) ∷ []) }
     {
-        let CommunityLists {
-            mut lists,
-            mut places,
-        } = self;
+        let CommunityLists { lists, mut places } = self;
         places.insert(key_of(alloc, name.as_str())?, lists.len())?;
-        lists.push(new_list(alloc, name, line)?)?;
+        let list = new_list(alloc, name, line)?;
+        let lists = pushed(lists, list)?;
         Ok(CommunityLists { lists, places })
     }
 

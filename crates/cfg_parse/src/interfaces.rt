@@ -2,6 +2,7 @@ ghost use Rattle.std.specs.Prelude.{◌≡◌, ◌∷◌, ◌++◌, [], IfOk};
 ghost use Rattle.cfg_ast.specs.Reading.{has_interface};
 
 use crate::keys::key_of;
+use crate::room::pushed;
 use base_kit::{List, NoMemory};
 use cfg_ast::Interface;
 use std::alloc::Global;
@@ -48,12 +49,9 @@ impl Interfaces {
     pub(crate) fn with(self, alloc: Global, interface: Interface) -> Result<Interfaces, NoMemory>
         ensures { IfOk result (λ all. all ≡ self ++ interface ∷ []) }
     {
-        let Interfaces {
-            mut items,
-            mut names,
-        } = self;
+        let Interfaces { items, mut names } = self;
         names.insert(key_of(alloc, interface.name.as_str())?)?;
-        items.push(interface)?;
+        let items = pushed(items, interface)?;
         Ok(Interfaces { items, names })
     }
 

@@ -27,6 +27,7 @@ mod ospf;
 mod policy;
 mod prefix_lists;
 mod reading;
+mod room;
 mod route_maps;
 mod stanza;
 mod top;

@@ -5,6 +5,7 @@ ghost use Rattle.cfg_parse.specs.Neighbors.{change_at};
 ghost use Rattle.cfg_ast.specs.Stanzas.{has_neighbor, new_neighbor, set_neighbor, at_neighbor, set_list, set_map};
 
 use crate::exchange::exchange;
+use crate::room::pushed;
 use crate::stanza::{misplaced, once};
 use base_kit::{List, NoMemory};
 use cfg_ast::{Named, Neighbor, ReadRefusal, RouterItem};
@@ -148,12 +149,9 @@ impl Neighbors {
         requires { has_neighbor self peer.addr ≡ false }
         ensures { IfOk result (λ all. all ≡ self ++ peer ∷ []) }
     {
-        let Neighbors {
-            mut items,
-            mut places,
-        } = self;
+        let Neighbors { items, mut places } = self;
         places.insert(peer.addr, items.len())?;
-        items.push(peer)?;
+        let items = pushed(items, peer)?;
         Ok(Neighbors { items, places })
     }
 

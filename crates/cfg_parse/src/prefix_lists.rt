@@ -1,11 +1,12 @@
-ghost use Rattle.std.specs.Prelude.{◌≡◌, ◌<◌, ◌∷◌, ◌++◌, [], IfOk, None, length, slice_index_or, slice_set};
+ghost use Rattle.std.specs.Prelude.{◌≡◌, ◌<◌, ◌∷◌, ◌++◌, [], IfOk, None, length, map, slice_index_or, slice_set};
 ghost use Rattle.std.specs.List.{position};
 ghost use Rattle.cfg_ast.specs.PolicyLines.{has_prefix_entry, is_prefix_list, put_prefix_entry, with_prefix_entry};
 ghost use Rattle.cfg_parse.specs.Indexes.{seq_of_prefix_entry};
-ghost use Rattle.cfg_parse.specs.InOrder.{by_seq, with_last_prefix_entry};
+ghost use Rattle.cfg_parse.specs.InOrder.{by_seq, prefix_list_in_order, with_last_prefix_entry};
 
 use crate::exchange::exchange;
 use crate::keys::{key_of, place_in};
+use crate::room::pushed;
 use base_kit::{List, NoMemory, Text};
 use cfg_ast::{PrefixEntry, PrefixList};
 use std::alloc::Global;
@@ -50,37 +51,50 @@ fn put_last(
         name: Text::new(alloc),
         entries: List::new(alloc),
     };
-    let mut list = exchange(&mut lists, place, vacant);
-    list.entries.push(entry)?;
-    exchange(&mut lists, place, list);
+    let PrefixList { name, entries } = exchange(&mut lists, place, vacant);
+    let entries = pushed(entries, entry)?;
+    exchange(&mut lists, place, PrefixList { name, entries });
     Ok(List::from_vec(lists))
 }
 
-// A list of one entry, with room for no more.
+// A list of one entry.
 fn new_list(alloc: Global, name: Text, entry: PrefixEntry) -> Result<PrefixList, NoMemory>
     ensures { IfOk result (λ list. list ≡ record { name = name; entries = entry ∷ [] }) }
 {
-    let mut entries = Vec::with_capacity(alloc, 1)?;
-    entries.push(entry)?;
-    Ok(PrefixList {
-        name,
-        entries: List::from_vec(entries),
-    })
+    let entries = pushed(List::new(alloc), entry)?;
+    Ok(PrefixList { name, entries })
 }
 
 // The entries by sequence number, those of one number in the order of the text.
+#[tactic(auto, using(crate::proofs::InOrder::by_seq_short))]
 fn in_order(alloc: Global, entries: List<PrefixEntry>) -> Result<List<PrefixEntry>, NoMemory>
     ensures { IfOk result (λ all. all ≡ by_seq seq_of_prefix_entry entries) }
 {
+    let count = entries.len();
+    if count < 2 {
+        return Ok(entries);
+    }
     let mut sorted: BTreeMap<(u32, usize), PrefixEntry> = BTreeMap::new(alloc);
     for (place, entry) in entries.into_vec().into_iter().enumerate() {
         sorted.insert((entry.seq, place), entry)?;
     }
-    let mut items = List::new(alloc);
+    let mut items = Vec::with_capacity(alloc, count)?;
     for (_, entry) in sorted {
         items.push(entry)?;
     }
-    Ok(items)
+    Ok(List::from_vec(items))
+}
+
+// Puts the entries of each list in the order of their numbers.
+fn all_in_order(alloc: Global, lists: List<PrefixList>) -> Result<List<PrefixList>, NoMemory>
+    ensures { IfOk result (λ all. all ≡ map prefix_list_in_order lists) }
+{
+    let mut lists = lists.into_vec();
+    for list in lists.iter_mut() {
+        let entries = std::mem::replace(&mut list.entries, List::new(alloc));
+        list.entries = in_order(alloc, entries)?;
+    }
+    Ok(List::from_vec(lists))
 }
 
 impl PrefixLists {
@@ -143,13 +157,14 @@ impl PrefixLists {
         ensures { IfOk result (λ all. all ≡ self ++ (record { name = name; entries = entry ∷ [] }) ∷ []) }
     {
         let PrefixLists {
-            mut lists,
+            lists,
             mut places,
             mut seqs,
         } = self;
         places.insert(key_of(alloc, name.as_str())?, lists.len())?;
         seqs.insert((lists.len(), entry.seq))?;
-        lists.push(new_list(alloc, name, entry)?)?;
+        let list = new_list(alloc, name, entry)?;
+        let lists = pushed(lists, list)?;
         Ok(PrefixLists {
             lists,
             places,
@@ -176,14 +191,13 @@ impl PrefixLists {
     pub(crate) fn into_list(self, alloc: Global) -> Result<List<PrefixList>, NoMemory>
         ensures { IfOk result (λ lists. lists ≡ self) }
     {
-        let PrefixLists { lists, .. } = self;
-        let mut found = List::new(alloc);
-        for list in lists.into_vec() {
-            found.push(PrefixList {
-                name: list.name,
-                entries: in_order(alloc, list.entries)?,
-            })?;
-        }
-        Ok(found)
+        let PrefixLists {
+            lists,
+            places,
+            seqs,
+        } = self;
+        drop(places);
+        drop(seqs);
+        all_in_order(alloc, lists)
     }
 }

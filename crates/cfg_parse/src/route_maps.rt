@@ -1,11 +1,12 @@
-ghost use Rattle.std.specs.Prelude.{◌≡◌, ◌<◌, ◌∷◌, ◌++◌, [], IfOk, None, length, slice_index_or, slice_set};
+ghost use Rattle.std.specs.Prelude.{◌≡◌, ◌<◌, ◌∷◌, ◌++◌, [], IfOk, None, length, map, slice_index_or, slice_set};
 ghost use Rattle.std.specs.List.{position};
 ghost use Rattle.cfg_ast.specs.PolicyLines.{has_map_entry, is_route_map, put_map_entry, with_map_entry};
 ghost use Rattle.cfg_parse.specs.Indexes.{seq_of_map_entry};
-ghost use Rattle.cfg_parse.specs.InOrder.{by_seq, with_last_map_entry};
+ghost use Rattle.cfg_parse.specs.InOrder.{by_seq, route_map_in_order, with_last_map_entry};
 
 use crate::exchange::exchange;
 use crate::keys::{key_of, place_in};
+use crate::room::pushed;
 use base_kit::{List, NoMemory, Text};
 use cfg_ast::{MapEntry, RouteMap};
 use std::alloc::Global;
@@ -50,37 +51,50 @@ fn put_last(
         name: Text::new(alloc),
         entries: List::new(alloc),
     };
-    let mut map = exchange(&mut maps, place, vacant);
-    map.entries.push(entry)?;
-    exchange(&mut maps, place, map);
+    let RouteMap { name, entries } = exchange(&mut maps, place, vacant);
+    let entries = pushed(entries, entry)?;
+    exchange(&mut maps, place, RouteMap { name, entries });
     Ok(List::from_vec(maps))
 }
 
-// A map of one entry, with room for no more.
+// A map of one entry.
 fn new_map(alloc: Global, name: Text, entry: MapEntry) -> Result<RouteMap, NoMemory>
     ensures { IfOk result (λ map. map ≡ record { name = name; entries = entry ∷ [] }) }
 {
-    let mut entries = Vec::with_capacity(alloc, 1)?;
-    entries.push(entry)?;
-    Ok(RouteMap {
-        name,
-        entries: List::from_vec(entries),
-    })
+    let entries = pushed(List::new(alloc), entry)?;
+    Ok(RouteMap { name, entries })
 }
 
 // The entries by sequence number, those of one number in the order of the text.
+#[tactic(auto, using(crate::proofs::InOrder::by_seq_short))]
 fn in_order(alloc: Global, entries: List<MapEntry>) -> Result<List<MapEntry>, NoMemory>
     ensures { IfOk result (λ all. all ≡ by_seq seq_of_map_entry entries) }
 {
+    let count = entries.len();
+    if count < 2 {
+        return Ok(entries);
+    }
     let mut sorted: BTreeMap<(u32, usize), MapEntry> = BTreeMap::new(alloc);
     for (place, entry) in entries.into_vec().into_iter().enumerate() {
         sorted.insert((entry.seq, place), entry)?;
     }
-    let mut items = List::new(alloc);
+    let mut items = Vec::with_capacity(alloc, count)?;
     for (_, entry) in sorted {
         items.push(entry)?;
     }
-    Ok(items)
+    Ok(List::from_vec(items))
+}
+
+// Puts the entries of each map in the order of their numbers.
+fn all_in_order(alloc: Global, maps: List<RouteMap>) -> Result<List<RouteMap>, NoMemory>
+    ensures { IfOk result (λ all. all ≡ map route_map_in_order maps) }
+{
+    let mut maps = maps.into_vec();
+    for map in maps.iter_mut() {
+        let entries = std::mem::replace(&mut map.entries, List::new(alloc));
+        map.entries = in_order(alloc, entries)?;
+    }
+    Ok(List::from_vec(maps))
 }
 
 impl RouteMaps {
@@ -129,13 +143,14 @@ impl RouteMaps {
         ensures { IfOk result (λ all. all ≡ self ++ (record { name = name; entries = entry ∷ [] }) ∷ []) }
     {
         let RouteMaps {
-            mut maps,
+            maps,
             mut places,
             mut seqs,
         } = self;
         places.insert(key_of(alloc, name.as_str())?, maps.len())?;
         seqs.insert((maps.len(), entry.seq))?;
-        maps.push(new_map(alloc, name, entry)?)?;
+        let map = new_map(alloc, name, entry)?;
+        let maps = pushed(maps, map)?;
         Ok(RouteMaps { maps, places, seqs })
     }
 
@@ -158,14 +173,9 @@ impl RouteMaps {
     pub(crate) fn into_list(self, alloc: Global) -> Result<List<RouteMap>, NoMemory>
         ensures { IfOk result (λ maps. maps ≡ self) }
     {
-        let RouteMaps { maps, .. } = self;
-        let mut found = List::new(alloc);
-        for map in maps.into_vec() {
-            found.push(RouteMap {
-                name: map.name,
-                entries: in_order(alloc, map.entries)?,
-            })?;
-        }
-        Ok(found)
+        let RouteMaps { maps, places, seqs } = self;
+        drop(places);
+        drop(seqs);
+        all_in_order(alloc, maps)
     }
 }

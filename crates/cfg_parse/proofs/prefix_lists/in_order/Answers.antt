@@ -29,5 +29,5 @@ loop-entry-init c =
     let es = c.loop-place.sorted.entries in
     let left = c.loop-place.place-iterator.iter.rest in
     let none : left.items ≡ [] = nil_from_length left.items (sym left.ok.0 ∙ steps.0.0) in
-    ap (λ (xs : List PrefixEntry). xs ++ values_of c.into_iter-entry-iterator.result) c.new-items.ensures ∙ ap values_of c.into_iter-entry-iterator.ensures.into_iter_gives.0
+    ap (λ (xs : List PrefixEntry). xs ++ values_of c.into_iter-entry-iterator.result) c.in_ok-items.ensures.items ∙ ap values_of c.into_iter-entry-iterator.ensures.into_iter_gives.0
     ∙ sym (put_all_none seq_of_prefix_entry (values_of es)) ∙ ap (put_all seq_of_prefix_entry (values_of es)) (sym none) ∙ c.loop-place.invariant.all

@@ -13,4 +13,4 @@ invariant-loop-place l = record {
 }
 
 abbrev pub invariant-loop-entry : goal.invariant-loop-entry
-invariant-loop-entry l = l.items ++ values_of l.entry-iterator ≡ by_seq seq_of_map_entry l.fn.entries
+invariant-loop-entry l = l.items.items ++ values_of l.entry-iterator ≡ by_seq seq_of_map_entry l.fn.entries
