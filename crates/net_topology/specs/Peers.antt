@@ -26,7 +26,7 @@ peer_of p = peer_on p.router p.item p.owner p.value
 unfoldable pub peers : Network → List Peer
 peers n = filter_map peer_of (places neighbors_of n)
 
--- its router, and the address that it names
+-- the router of a peer, and the address that it names
 abbrev pub own_end : Peer → ℕ × ℕ
 own_end s = (s.router, s.addr)
 

@@ -5,9 +5,9 @@
 //! are found by indexes over subnets and addresses, so that the time grows with the number of links and
 //! not with that of all pairs. `unmatched` gives the neighbours that are part of no session.
 //!
-//! A session is found by its two addresses. In a checked network one up interface has the address that a
-//! neighbour line names, and one of the line's own router is in the same subnet. The line at the other
-//! end must stand at the router of the first and name the address of the second.
+//! A session is found by its two addresses. In a checked network at most one up interface has the address
+//! that a neighbour line names, and at most one of the line's own router is in the same subnet. The line
+//! at the other end must stand at the router of the first and name the address of the second.
 #![tactic(auto)]
 
 mod adjacencies;

@@ -47,7 +47,7 @@ fn sessions_among(alloc: Global, ups: &Ups, peers: &Peers) -> Result<List<Link>,
     Ok(found)
 }
 
-/// The BGP sessions of the network, in order.
+/// The BGP sessions of a network without faults, in order.
 #[tactic(auto, using(crate::proofs::SessionLemmas::sessions_by_index))]
 pub(crate) fn sessions(alloc: Global, network: &Network) -> Result<List<Link>, NoMemory>
     requires { IsFaultless network.now }

@@ -25,7 +25,7 @@ pub(crate) struct Up {
 }
 
 /// The addresses of all up interfaces, each found by itself and by where it is attached. In a network
-/// without faults no two are one, and no two are attached at one place.
+/// without faults no two are the same, and no two of one router are in one subnet.
 #[derive(Drop)]
 pub(crate) struct Ups {
     pub(crate) all: Vec<Up>,
