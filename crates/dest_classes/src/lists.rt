@@ -41,7 +41,7 @@ fn rules_of(alloc: Global, list: &PrefixList) -> Result<Vec<Rule>, NoMemory>
     Ok(rules)
 }
 
-// Asks a list, unless one that is asked says the same.
+// Puts a list among those to be asked, unless one of them says the same.
 fn ask<'a>(
     alloc: Global,
     said: &mut HashSet<Vec<Rule>>,

@@ -40,7 +40,7 @@ fn process(alloc: Global) -> Result<BgpProcess, NoMemory> {
     })
 }
 
-// `ip prefix-list L seq 5 permit 10.0.0.0/24`, with that `le`
+// `ip prefix-list L seq 5 permit` with that prefix and that `le`
 fn list_l(alloc: Global, prefix: Prefix, le: Option<u8>) -> Result<PrefixList, NoMemory> {
     let mut entries = List::new(alloc);
     entries.push(PrefixEntry {
@@ -99,7 +99,7 @@ fn a_list_parts_two_prefixes(rt: HostRuntime) -> Result<(), NoMemory> {
 }
 
 #[test]
-fn prefixes_that_a_list_permits_both_are_one_class(rt: HostRuntime) -> Result<(), NoMemory> {
+fn prefixes_that_a_list_permits_alike_are_one_class(rt: HostRuntime) -> Result<(), NoMemory> {
     let alloc = rt.alloc();
     let around = Prefix::new(TEN_0, 16);
     let net = network_with(alloc, list_l(alloc, around, Some(24))?)?;
