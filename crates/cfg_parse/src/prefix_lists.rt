@@ -196,6 +196,7 @@ impl PrefixLists {
             places,
             seqs,
         } = self;
+        // They go before the entries are sorted, so that not both take memory at once.
         drop(places);
         drop(seqs);
         all_in_order(alloc, lists)

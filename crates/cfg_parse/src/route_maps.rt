@@ -174,6 +174,7 @@ impl RouteMaps {
         ensures { IfOk result (λ maps. maps ≡ self) }
     {
         let RouteMaps { maps, places, seqs } = self;
+        // They go before the entries are sorted, so that not both take memory at once.
         drop(places);
         drop(seqs);
         all_in_order(alloc, maps)
