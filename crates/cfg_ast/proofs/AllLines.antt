@@ -4,8 +4,8 @@ use Rattle.std.proofs.lemmas.List.{append-nil}
 use Rattle.std.proofs.lemmas.List.Elements.{All-map, recursion_from_All}
 use Rattle.cfg_ast.specs.declared.line.Span.{Span}
 use Rattle.cfg_ast.specs.declared.line.Line.{Line}
-use Rattle.cfg_ast.specs.Lines.{begins_line, newline_from, without_return, words_between, indent_between, Piece, pieces_from, piece_at, line_of}
-use Rattle.cfg_ast.specs.Members.{all_lines_of, IsSpanIn, AreSpansIn}
+use Rattle.cfg_ast.specs.text.Lines.{begins_line, newline_from, without_return, words_between, indent_between, Piece, pieces_from, piece_at, line_of}
+use Rattle.cfg_ast.specs.text.Members.{all_lines_of, IsSpanIn, AreSpansIn}
 use Rattle.cfg_ast.proofs.Pieces.{pieces_next, pieces_end}
 use Rattle.cfg_ast.proofs.Within.{Lies, words_lie, pieces_lie}
 

@@ -8,7 +8,7 @@ use Rattle.base_kit.specs.Prefixes.{Prefix}
 use Rattle.cfg_ast.specs.declared.classes.DestClass.{DestClass}
 use Rattle.cfg_ast.specs.declared.classes.Origin.{Origin}
 use Rattle.cfg_ast.specs.declared.network.Network.{Network}
-use Rattle.cfg_ast.specs.Classes.{same_origin, same_items, origins_of, answers_of, originated, originated_by, IsSameClass, is_same_class, class_of, AreAscending}
+use Rattle.cfg_ast.specs.meaning.Classes.{same_origin, same_items, origins_of, answers_of, originated, originated_by, IsSameClass, is_same_class, class_of, AreAscending}
 use Rattle.cfg_ast.proofs.PrefixSets.{ascending_with_prefixes, ascending_filter_prefixes}
 
 -- a test says that two values are one

@@ -9,7 +9,7 @@ use Rattle.cfg_ast.specs.declared.line.Line.{Line}
 use Rattle.cfg_ast.specs.declared.refusal.Kind.{Kind}
 use Rattle.cfg_ast.specs.declared.refusal.ReadRefusal.{ReadRefusal}
 use Rattle.cfg_ast.specs.declared.refusal.ReadRefusal.TheVariants.{At}
-use Rattle.cfg_ast.specs.Lines.{newline_at, begins_line, newline_from, Piece, piece_at, pieces_from, line_of, is_kept, are_kept, kind_at, line_faults, lines_in, words_between, indent_between, without_return, unless_refused}
+use Rattle.cfg_ast.specs.text.Lines.{newline_at, begins_line, newline_from, Piece, piece_at, pieces_from, line_of, is_kept, are_kept, kind_at, line_faults, lines_in, words_between, indent_between, without_return, unless_refused}
 use Rattle.cfg_ast.proofs.Places.{range_step, range_end, first_from, first_below, first_fails, first_passes}
 use Rattle.cfg_ast.proofs.WordRuns.{filter_none, range_split}
 

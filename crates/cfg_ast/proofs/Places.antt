@@ -3,7 +3,7 @@ use Rattle.std.proofs.Common.{◌≡◌, ℕ, suc, ◌+◌, ◌-◌, ◌<◌, �
 use Rattle.std.specs.List.{range_with_len, position_or_len}
 use Rattle.std.proofs.lemmas.List.Sums.{fails_before_first, passes_at_first, prefix_len-le-length}
 use Rattle.std.proofs.lemmas.List.FromFn.{length-range_with_len, get_or-range_with_len}
-use Rattle.cfg_ast.specs.Lines.{first_at}
+use Rattle.cfg_ast.specs.text.Lines.{first_at}
 
 pub range_step : (i upto : ℕ) → i < upto → range_with_len i (upto - i) ≡ i ∷ range_with_len (i + 1) (upto - (i + 1))
 range_step i upto h = let e : upto - i ≡ suc (upto - (i + 1)) = omega arith in rw e refl

@@ -5,8 +5,8 @@ use Rattle.std.proofs.lemmas.List.Elements.{All-cons}
 use Rattle.std.proofs.lemmas.List.{append-nil, drop_more}
 use Rattle.std.proofs.lemmas.List.Splits.{slice_split_at, slice_split_none}
 use Rattle.std.proofs.lemmas.Bool.{cases_lt, cases_Bool}
-use Rattle.cfg_ast.specs.Lines.{is_blank, blank_at, word_end, words_between}
-use Rattle.cfg_ast.specs.Lines.{texts, is_some_word, words_of}
+use Rattle.cfg_ast.specs.text.Lines.{is_blank, blank_at, word_end, words_between}
+use Rattle.cfg_ast.specs.text.Lines.{texts, is_some_word, words_of}
 use Rattle.cfg_ast.proofs.Places.{first_below, first_fails, first_passes}
 use Rattle.cfg_ast.proofs.WordRuns.{words_blank, words_word, words_end, word_past}
 

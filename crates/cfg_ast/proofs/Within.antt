@@ -9,7 +9,7 @@ use Rattle.cfg_ast.specs.declared.line.Span.{Span}
 use Rattle.cfg_ast.specs.declared.line.Line.{Line}
 use Rattle.cfg_ast.specs.declared.refusal.Kind.{Kind}
 use Rattle.cfg_ast.specs.declared.refusal.ReadRefusal.{ReadRefusal}
-use Rattle.cfg_ast.specs.Lines.{Piece, is_plain, blank_at, newline_at, newline_from, piece_at, pieces_from, begins_line, begins_word, word_at, words_between, line_of, is_kept, kind_at, odd_from, line_faults, unless_refused, lines_in, lines_of, text_of, IsWordIn, IsLineIn}
+use Rattle.cfg_ast.specs.text.Lines.{Piece, is_plain, blank_at, newline_at, newline_from, piece_at, pieces_from, begins_line, begins_word, word_at, words_between, line_of, is_kept, kind_at, odd_from, line_faults, unless_refused, lines_in, lines_of, text_of, IsWordIn, IsLineIn}
 use Rattle.cfg_ast.proofs.Places.{first_from, first_below, first_fails}
 use Rattle.cfg_ast.proofs.SameWords.{range_all}
 

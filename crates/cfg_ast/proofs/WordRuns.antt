@@ -3,7 +3,7 @@ use Rattle.std.proofs.Common.{◌≡◌, ℕ, zero, suc, ◌+◌, ◌-◌, ◌<�
 use Rattle.std.specs.List.{range_with_len}
 use Rattle.std.proofs.lemmas.List.Elements.{filter-append}
 use Rattle.std.proofs.lemmas.Bool.{ne_eqb, cases_lt}
-use Rattle.cfg_ast.specs.Lines.{blank_at, begins_word, word_at, word_end, words_between}
+use Rattle.cfg_ast.specs.text.Lines.{blank_at, begins_word, word_at, word_end, words_between}
 use Rattle.cfg_ast.proofs.Places.{range_step, range_end, first_next, first_from, first_below, first_fails, first_passes}
 
 pub filter_same : (p q : ℕ → Bool) (a n : ℕ) → ((k : ℕ) → a ≤ k → k < a + n → p k ≡ q k) → filter p (range_with_len a n) ≡ filter q (range_with_len a n)

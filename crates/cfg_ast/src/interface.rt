@@ -23,7 +23,7 @@ pub struct Address {
 
 impl Model for Address {
     ghost use Rattle.std.specs.Prelude.{◌≤◌};
-    ghost use Rattle.cfg_ast.specs.Addresses.{Address};
+    ghost use Rattle.cfg_ast.specs.meaning.Addresses.{Address};
 
     ghost Value = { Address };
 

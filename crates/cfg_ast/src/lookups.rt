@@ -1,7 +1,7 @@
 ghost use Rattle.std.specs.Prelude.{◌≡◌, ◌<◌, length, map};
 ghost use Rattle.std.specs.List.{list_any, position_or_len};
 ghost use Rattle.base_kit.specs.Numbers.{is_digit};
-ghost use Rattle.cfg_ast.specs.Topology.{subnet_of_address, is_up_interface, up_address, subnet_of_interface, line_has_address, is_in_area_interface, names, is_passive_name, is_active_interface, type_of, default_costs, default_cost_of, cost_of_interface, is_up, subnet_of, is_in_area, is_active, cost_of};
+ghost use Rattle.cfg_ast.specs.meaning.Topology.{subnet_of_address, is_up_interface, up_address, subnet_of_interface, line_has_address, is_in_area_interface, names, is_passive_name, is_active_interface, type_of, default_costs, default_cost_of, cost_of_interface, is_up, subnet_of, is_in_area, is_active, cost_of};
 
 use crate::interface::{Address, Interface};
 use crate::network::Router;
@@ -73,7 +73,7 @@ const DEFAULT_COSTS: [(&str, u16); 7] = [
     ("Serial", 64),
 ];
 
-#[tactic(auto, unfolding(crate::specs::Topology::default_costs))]
+#[tactic(auto, unfolding(crate::specs::meaning::Topology::default_costs))]
 fn default_costs() -> &'static [(&'static str, u16)]
     ensures { map (λ row. (row.0.now, row.1)) result.now ≡ default_costs }
 {

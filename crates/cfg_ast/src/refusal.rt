@@ -1,5 +1,5 @@
 ghost use Rattle.std.specs.Prelude.{◌≡◌};
-ghost use Rattle.cfg_ast.specs.Meaning.{number_of_kind};
+ghost use Rattle.cfg_ast.specs.meaning.Meaning.{number_of_kind};
 ghost use Rattle.cfg_ast.specs.declared.refusal.FormFault.TheVariants as form_fault;
 ghost use Rattle.cfg_ast.specs.declared.refusal.ReadRefusal.TheVariants as read_refusal;
 

@@ -1,6 +1,6 @@
 use Rattle.std.proofs.Common.{◌≡◌, drop, map}
 use Rattle.std.specs.Prelude.{find}
-use Rattle.cfg_ast.specs.Topology.{is_row_of, default_costs}
+use Rattle.cfg_ast.specs.meaning.Topology.{is_row_of, default_costs}
 use Rattle.cfg_ast.proofs.lookups.default_cost.Given as goal
 
 abbrev pub invariant-loop-row : goal.invariant-loop-row

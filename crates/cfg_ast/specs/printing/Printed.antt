@@ -6,9 +6,9 @@ use Rattle.std.specs.List.{flat_map, join_with_byte}
 use Rattle.std.specs.Option.{is_some}
 use Rattle.std.specs.Fmt.{decimal}
 use Rattle.base_kit.specs.Prefixes.{Prefix}
-use Rattle.cfg_ast.specs.Addresses.{Address}
-use Rattle.cfg_ast.specs.TextLines.{TextLine}
-use Rattle.cfg_ast.specs.Words.{mask_of, number_between}
+use Rattle.cfg_ast.specs.meaning.Addresses.{Address}
+use Rattle.cfg_ast.specs.text.TextLines.{TextLine}
+use Rattle.cfg_ast.specs.text.Words.{mask_of, number_between}
 use Rattle.cfg_ast.specs.declared.network.Network.{Network}
 use Rattle.cfg_ast.specs.declared.network.Router.{Router}
 use Rattle.cfg_ast.specs.declared.network.Notes.{Notes}
@@ -75,8 +75,8 @@ closed (l ∷ ls) = (l ∷ ls) ++ closing ∷ []
 
 -- ---- interfaces
 
-unfoldable pub address_line : Address → TextLine
-address_line a = inner (codes "ip" ∷ codes "address" ∷ address_text a.addr ∷ address_text (mask_of a.len) ∷ [])
+unfoldable pub ip_address_line : Address → TextLine
+ip_address_line a = inner (codes "ip" ∷ codes "address" ∷ address_text a.addr ∷ address_text (mask_of a.len) ∷ [])
 
 unfoldable pub cost_line : ℕ → TextLine
 cost_line cost = inner (codes "ip" ∷ codes "ospf" ∷ codes "cost" ∷ decimal cost ∷ [])
@@ -87,7 +87,7 @@ shutdown_line = inner (codes "shutdown" ∷ [])
 unfoldable pub interface_lines : Interface → List TextLine
 interface_lines i =
     line 0 (codes "interface" ∷ i.name ∷ [])
-    ∷ line_of address_line i.address ++ line_of cost_line i.cost ++ line_if i.shut shutdown_line ++ closing ∷ []
+    ∷ line_of ip_address_line i.address ++ line_of cost_line i.cost ++ line_if i.shut shutdown_line ++ closing ∷ []
 
 -- ---- BGP
 
@@ -98,21 +98,21 @@ unfoldable pub network_line : NetLine → TextLine
 network_line n = inner (codes "network" ∷ address_text n.prefix.addr ∷ codes "mask" ∷ address_text (mask_of n.prefix.len) ∷ [])
 
 -- a line of a neighbour begins with its address
-abbrev pub neighbor_line : ℕ → List (List ℕ) → TextLine
-neighbor_line addr words = inner (codes "neighbor" ∷ address_text addr ∷ words)
+abbrev pub peer_line : ℕ → List (List ℕ) → TextLine
+peer_line addr words = inner (codes "neighbor" ∷ address_text addr ∷ words)
 
 unfoldable pub remote_line : ℕ → ℕ → TextLine
-remote_line addr remote = neighbor_line addr (codes "remote-as" ∷ decimal remote ∷ [])
+remote_line addr remote = peer_line addr (codes "remote-as" ∷ decimal remote ∷ [])
 
 unfoldable pub peer_shut_line : ℕ → TextLine
-peer_shut_line addr = neighbor_line addr (codes "shutdown" ∷ [])
+peer_shut_line addr = peer_line addr (codes "shutdown" ∷ [])
 
 unfoldable pub peer_sends_line : ℕ → TextLine
-peer_sends_line addr = neighbor_line addr (codes "send-community" ∷ [])
+peer_sends_line addr = peer_line addr (codes "send-community" ∷ [])
 
 -- a prefix list or a route map that is applied to what comes in, or to what goes out
 unfoldable pub applied_line : ℕ → List ℕ → List ℕ → Named → TextLine
-applied_line addr what way named = neighbor_line addr (what ∷ named.name ∷ way ∷ [])
+applied_line addr what way named = peer_line addr (what ∷ named.name ∷ way ∷ [])
 
 unfoldable pub neighbor_lines : Neighbor → List TextLine
 neighbor_lines n =
@@ -140,13 +140,13 @@ passive_line name = inner (codes "passive-interface" ∷ name ∷ [])
 abbrev pub not_passive_line : List ℕ → TextLine
 not_passive_line name = inner (codes "no" ∷ codes "passive-interface" ∷ name ∷ [])
 
-unfoldable pub area_line : AreaLine → TextLine
-area_line a = inner (codes "network" ∷ address_text a.addr ∷ address_text a.wild ∷ codes "area" ∷ decimal a.area ∷ [])
+unfoldable pub network_area_line : AreaLine → TextLine
+network_area_line a = inner (codes "network" ∷ address_text a.addr ∷ address_text a.wild ∷ codes "area" ∷ decimal a.area ∷ [])
 
 unfoldable pub ospf_lines : OspfProcess → List TextLine
 ospf_lines o =
     line 0 (codes "router" ∷ codes "ospf" ∷ decimal o.number ∷ [])
-    ∷ line_if o.passive_default passive_default_line ++ map passive_line o.passive ++ map not_passive_line o.not_passive ++ map area_line o.areas ++ closing ∷ []
+    ∷ line_if o.passive_default passive_default_line ++ map passive_line o.passive ++ map not_passive_line o.not_passive ++ map network_area_line o.areas ++ closing ∷ []
 
 -- ---- lists
 
@@ -165,12 +165,12 @@ prefix_list_lines lists = closed (flat_map (λ l. map (prefix_entry_line l.name)
 abbrev pub community_list_name : List ℕ → List (List ℕ)
 community_list_name name = if is_some (number_between 1 99 name) then name ∷ [] else codes "standard" ∷ name ∷ []
 
-unfoldable pub community_line : List ℕ → CommunityLine → TextLine
-community_line name c =
+unfoldable pub community_list_line : List ℕ → CommunityLine → TextLine
+community_list_line name c =
     line 0 (codes "ip" ∷ codes "community-list" ∷ community_list_name name ++ act_text c.permit ∷ map community_text c.comms)
 
 abbrev pub community_list_lines : List CommunityList → List TextLine
-community_list_lines lists = closed (flat_map (λ l. map (community_line l.name) l.lines) lists)
+community_list_lines lists = closed (flat_map (λ l. map (community_list_line l.name) l.lines) lists)
 
 -- ---- route maps
 

@@ -5,7 +5,7 @@ use Rattle.std.specs.Prelude.{◌≡◌, ◌≤◌, ℕ, Bool, true, false, List
 use Rattle.std.specs.List.{AllByRecursion, IsDistinct}
 use Rattle.base_kit.specs.Prefixes.{Prefix}
 use Rattle.base_kit.specs.Sets.{IsAscending}
-use Rattle.cfg_ast.specs.Addresses.{Address}
+use Rattle.cfg_ast.specs.meaning.Addresses.{Address}
 use Rattle.cfg_ast.specs.declared.network.Named.{Named}
 use Rattle.cfg_ast.specs.declared.network.Network.{Network}
 use Rattle.cfg_ast.specs.declared.network.Router.{Router}
@@ -26,9 +26,9 @@ use Rattle.cfg_ast.specs.declared.policy.Change.{Change}
 use Rattle.cfg_ast.specs.declared.policy.Change.TheVariants.{Clear, Replace, Append}
 use Rattle.cfg_ast.specs.declared.policy.MapEntry.{MapEntry}
 use Rattle.cfg_ast.specs.declared.policy.RouteMap.{RouteMap}
-use Rattle.cfg_ast.specs.Words.{is_router_name, is_interface_name, is_list_name, bits_behind}
-use Rattle.cfg_ast.specs.PolicyForms.{is_marked}
-use Rattle.cfg_ast.specs.Stanzas.{same_prefix, same_area}
+use Rattle.cfg_ast.specs.text.Words.{is_router_name, is_interface_name, is_list_name, bits_behind}
+use Rattle.cfg_ast.specs.text.PolicyForms.{has_mark}
+use Rattle.cfg_ast.specs.text.Stanzas.{same_prefix, same_area_line}
 
 -- ---- words and numbers
 
@@ -122,7 +122,7 @@ pub record IsWellFormedOspf (o : OspfProcess) : Type 0 where
   pub not_passive : AllByRecursion IsInterfaceName o.not_passive
   pub not_passive_once : IsDistinct bytes_eq o.not_passive
   pub areas : AllByRecursion IsWellFormedArea o.areas
-  pub areas_once : IsDistinct same_area o.areas
+  pub areas_once : IsDistinct same_area_line o.areas
 
 -- ---- prefix lists
 
@@ -175,7 +175,7 @@ pub record IsWellFormedNameLine (l : NameLine) : Type 0 where
 abbrev pub IsMarkRight : Option NameLine → Bool → Type 0
 IsMarkRight None exact = exact ≡ false
 IsMarkRight (Some l) true = Unit {0}
-IsMarkRight (Some l) false = is_marked (codes "exact-match") l.names ≡ false
+IsMarkRight (Some l) false = has_mark (codes "exact-match") l.names ≡ false
 
 abbrev pub IsWellFormedChange : Change → Type 0
 IsWellFormedChange Clear = Unit {0}

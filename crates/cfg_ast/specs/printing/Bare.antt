@@ -1,8 +1,8 @@
 -- Networks but for the numbers of their lines: each number of a line is put to 0.
 use Rattle.std.specs.Prelude.{map}
 use Rattle.std.specs.Option.{option_map}
-use Rattle.cfg_ast.specs.Addresses.{Address}
-use Rattle.cfg_ast.specs.TextLines.{TextLine}
+use Rattle.cfg_ast.specs.meaning.Addresses.{Address}
+use Rattle.cfg_ast.specs.text.TextLines.{TextLine}
 use Rattle.cfg_ast.specs.declared.network.Network.{Network}
 use Rattle.cfg_ast.specs.declared.network.Router.{Router}
 use Rattle.cfg_ast.specs.declared.network.Named.{Named}

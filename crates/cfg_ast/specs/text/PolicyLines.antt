@@ -14,7 +14,7 @@ use Rattle.cfg_ast.specs.declared.policy.RouteMap.{RouteMap}
 use Rattle.cfg_ast.specs.declared.items.PolicyItem.{PolicyItem}
 use Rattle.cfg_ast.specs.declared.items.PolicyItem.TheVariants as item
 use Rattle.cfg_ast.specs.declared.refusal.ReadRefusal.{ReadRefusal}
-use Rattle.cfg_ast.specs.Stanzas.{once}
+use Rattle.cfg_ast.specs.text.Stanzas.{once}
 
 abbrev pub is_list_word : List (List ℕ) → Bool
 is_list_word [] = false

@@ -5,7 +5,7 @@ use Rattle.std.specs.Option.{option_map}
 use Rattle.std.specs.List.{list_any}
 use Rattle.base_kit.specs.declared.protocol.Protocol.{Protocol}
 use Rattle.base_kit.specs.declared.protocol.Protocol.TheVariants as protocol
-use Rattle.cfg_ast.specs.Addresses.{Address}
+use Rattle.cfg_ast.specs.meaning.Addresses.{Address}
 use Rattle.cfg_ast.specs.declared.interface.Interface.{Interface}
 use Rattle.cfg_ast.specs.declared.bgp.BgpProcess.{BgpProcess}
 use Rattle.cfg_ast.specs.declared.bgp.Neighbor.{Neighbor}
@@ -13,7 +13,7 @@ use Rattle.cfg_ast.specs.declared.ospf.OspfProcess.{OspfProcess}
 use Rattle.cfg_ast.specs.declared.ospf.AreaLine.{AreaLine}
 use Rattle.cfg_ast.specs.declared.network.Router.{Router}
 use Rattle.cfg_ast.specs.declared.network.Network.{Network}
-use Rattle.cfg_ast.specs.Topology.{up_address, is_in_area_interface, is_active_interface, type_of, cost_of_interface, same_subnet, neighbors_of}
+use Rattle.cfg_ast.specs.meaning.Topology.{up_address, is_in_area_interface, is_active_interface, type_of, cost_of_interface, same_subnet, neighbors_of}
 
 -- the items that are like an earlier one, after those in `past`
 abbrev pub repeats_after : {X : Type 0} → (X → X → Bool) → List X → List X → List X

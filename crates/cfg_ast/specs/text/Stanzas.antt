@@ -140,12 +140,12 @@ set_bgp n said b = set_bgp_for (peer_of said) n said b
 unfoldable pub with_text : List (List ℕ) → List ℕ → List (List ℕ)
 with_text names name = if list_any (bytes_eq name) names then names else names ++ name ∷ []
 
-abbrev pub same_area : AreaLine → AreaLine → Bool
-same_area a b = (a.addr == b.addr) && (a.wild == b.wild) && (a.area == b.area)
+abbrev pub same_area_line : AreaLine → AreaLine → Bool
+same_area_line a b = (a.addr == b.addr) && (a.wild == b.wild) && (a.area == b.area)
 
 -- a `network` line that says the same as an earlier one adds nothing
 unfoldable pub with_area : List AreaLine → AreaLine → List AreaLine
-with_area areas area = if list_any (same_area area) areas then areas else areas ++ area ∷ []
+with_area areas area = if list_any (same_area_line area) areas then areas else areas ++ area ∷ []
 
 unfoldable pub set_ospf : RouterItem → OspfProcess → OspfProcess
 set_ospf (item.Area area) o = record o { areas = with_area o.areas area }

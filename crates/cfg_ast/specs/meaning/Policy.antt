@@ -19,8 +19,8 @@ use Rattle.cfg_ast.specs.declared.policy.NameLine.{NameLine}
 use Rattle.cfg_ast.specs.declared.policy.PrefixList.{PrefixList}
 use Rattle.cfg_ast.specs.declared.policy.Prepend.{Prepend}
 use Rattle.cfg_ast.specs.declared.policy.RouteMap.{RouteMap}
-use Rattle.cfg_ast.specs.Lists.{community_list_permits, community_list_permits_exactly}
-use Rattle.cfg_ast.specs.PrefixLists.{prefix_list_permits}
+use Rattle.cfg_ast.specs.meaning.Lists.{community_list_permits, community_list_permits_exactly}
+use Rattle.cfg_ast.specs.meaning.PrefixLists.{prefix_list_permits}
 
 -- The lists and maps of a router by name.
 
@@ -50,13 +50,13 @@ abbrev pub prefixes_match : Router → Prefix → Option NameLine → Bool
 prefixes_match router p None = true
 prefixes_match router p (Some line) = list_any (prefixes_permitted_by router p) line.names
 
-abbrev pub comms_match : Router → Bool → List ℕ → Option NameLine → Bool
-comms_match router exact comms None = true
-comms_match router exact comms (Some line) = list_any (comms_permitted_by router exact comms) line.names
+abbrev pub communities_match : Router → Bool → List ℕ → Option NameLine → Bool
+communities_match router exact comms None = true
+communities_match router exact comms (Some line) = list_any (comms_permitted_by router exact comms) line.names
 
 -- an entry holds where all of its match lines hold
 abbrev pub map_entry_holds : Router → Prefix → List ℕ → MapEntry → Bool
-map_entry_holds router p comms entry = prefixes_match router p entry.prefixes && comms_match router entry.exact comms entry.comms
+map_entry_holds router p comms entry = prefixes_match router p entry.prefixes && communities_match router entry.exact comms entry.comms
 
 -- the communities that the deletion list permits one by one are removed
 abbrev pub without_deleted_by : Option CommunityList → List ℕ → List ℕ

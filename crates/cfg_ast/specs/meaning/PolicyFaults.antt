@@ -18,7 +18,7 @@ use Rattle.cfg_ast.specs.declared.policy.NameLine.{NameLine}
 use Rattle.cfg_ast.specs.declared.policy.PrefixList.{PrefixList}
 use Rattle.cfg_ast.specs.declared.policy.Prepend.{Prepend}
 use Rattle.cfg_ast.specs.declared.policy.RouteMap.{RouteMap}
-use Rattle.cfg_ast.specs.Topology.{neighbors_of, has_number}
+use Rattle.cfg_ast.specs.meaning.Topology.{neighbors_of, has_number}
 
 -- the line, if it gives a name that passes the test
 abbrev pub line_naming : (List ℕ → Bool) → Option Named → List ℕ

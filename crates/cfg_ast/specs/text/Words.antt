@@ -58,8 +58,8 @@ unfoldable pub number_between : ℕ → ℕ → List ℕ → Option ℕ
 number_between low high word = number_word word >>= if_between low high
 
 -- an AS number is from 1 to 4294967295
-unfoldable pub as_number_of : List ℕ → Option ℕ
-as_number_of word = number_between 1 4294967295 word
+unfoldable pub as_number_word : List ℕ → Option ℕ
+as_number_word word = number_between 1 4294967295 word
 
 -- ---- addresses, masks and prefixes
 
@@ -125,8 +125,8 @@ community_of_halves high low = do
   Some (65536 * a + b)
 
 -- a community is `A:B`, or a number from 1
-unfoldable pub community_of : List ℕ → Option ℕ
-community_of word =
+unfoldable pub community_word : List ℕ → Option ℕ
+community_word word =
     if list_any is_colon word then community_of_halves (before_first is_colon word) (after_first is_colon word)
     else number_between 1 4294967295 word
 
@@ -146,10 +146,10 @@ is_some_reserved (Some community) = is_reserved community
 
 -- a community by its name or by its value
 unfoldable pub is_community : List ℕ → Bool
-is_community word = is_well_known_name word || is_some (community_of word)
+is_community word = is_well_known_name word || is_some (community_word word)
 
 unfoldable pub is_well_known : List ℕ → Bool
-is_well_known word = is_well_known_name word || is_some_reserved (community_of word)
+is_well_known word = is_well_known_name word || is_some_reserved (community_word word)
 
 abbrev pub same_value : Option ℕ → Option ℕ → Bool
 same_value (Some a) (Some b) = a == b
@@ -157,4 +157,4 @@ same_value a b = false
 
 -- names are the same as words, and other communities by their value
 unfoldable pub same_community : List ℕ → List ℕ → Bool
-same_community word other = bytes_eq word other || same_value (community_of word) (community_of other)
+same_community word other = bytes_eq word other || same_value (community_word word) (community_word other)

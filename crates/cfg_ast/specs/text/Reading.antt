@@ -12,8 +12,8 @@ use Rattle.cfg_ast.specs.declared.policy.MapEntry.{MapEntry}
 use Rattle.cfg_ast.specs.declared.items.PolicyScope.TheVariants as policy_scope
 use Rattle.cfg_ast.specs.declared.items.PolicyItem.{PolicyItem}
 use Rattle.cfg_ast.specs.declared.items.PolicyItem.TheVariants as policy
-use Rattle.cfg_ast.specs.PolicyForms.{policy_item_of}
-use Rattle.cfg_ast.specs.PolicyLines.{is_policy_line, has_prefix_entry, with_prefix_entry, with_community_line, has_map_entry, with_map_entry, set_entry}
+use Rattle.cfg_ast.specs.text.PolicyForms.{policy_item_of}
+use Rattle.cfg_ast.specs.text.PolicyLines.{is_policy_line, has_prefix_entry, with_prefix_entry, with_community_line, has_map_entry, with_map_entry, set_entry}
 use Rattle.cfg_ast.specs.declared.policy.PrefixList.{PrefixList}
 use Rattle.cfg_ast.specs.declared.policy.CommunityList.{CommunityList}
 use Rattle.cfg_ast.specs.declared.policy.RouteMap.{RouteMap}
@@ -24,11 +24,11 @@ use Rattle.cfg_ast.specs.declared.items.RouterItem.TheVariants as item
 use Rattle.cfg_ast.specs.declared.refusal.Kind.TheVariants as kind
 use Rattle.cfg_ast.specs.declared.refusal.ReadRefusal.{ReadRefusal}
 use Rattle.cfg_ast.specs.declared.refusal.ReadRefusal.TheVariants as refusal
-use Rattle.cfg_ast.specs.Lines.{lines_of}
-use Rattle.cfg_ast.specs.TextLines.{TextLine, text_line}
-use Rattle.cfg_ast.specs.RouterForms.{router_item_of}
-use Rattle.cfg_ast.specs.Meaning.{judged}
-use Rattle.cfg_ast.specs.Stanzas.{◌>>=◌, said_at, once, set_interface, set_bgp, set_ospf}
+use Rattle.cfg_ast.specs.text.Lines.{lines_of}
+use Rattle.cfg_ast.specs.text.TextLines.{TextLine, text_line}
+use Rattle.cfg_ast.specs.text.RouterForms.{router_item_of}
+use Rattle.cfg_ast.specs.meaning.Meaning.{judged}
+use Rattle.cfg_ast.specs.text.Stanzas.{◌>>=◌, said_at, once, set_interface, set_bgp, set_ospf}
 
 -- the stanza to which indented lines belong
 pub data Stanza : Type 0 where
@@ -72,17 +72,17 @@ at_start = record { routers = []; draft = no_draft }
 
 -- ---- top lines
 
-abbrev pub closing : Stanza → Draft → Draft
-closing closed d = d
-closing ignored d = record d { stanza = closed }
-closing (in_interface i) d = record d { interfaces = d.interfaces ++ i ∷ []; stanza = closed }
-closing (in_bgp b) d = record d { bgp = Some b; stanza = closed }
-closing (in_ospf o) d = record d { ospf = Some o; stanza = closed }
-closing (in_entry name e) d = record d { route_maps = with_map_entry name e d.route_maps; stanza = closed }
+abbrev pub closing_stanza : Stanza → Draft → Draft
+closing_stanza closed d = d
+closing_stanza ignored d = record d { stanza = closed }
+closing_stanza (in_interface i) d = record d { interfaces = d.interfaces ++ i ∷ []; stanza = closed }
+closing_stanza (in_bgp b) d = record d { bgp = Some b; stanza = closed }
+closing_stanza (in_ospf o) d = record d { ospf = Some o; stanza = closed }
+closing_stanza (in_entry name e) d = record d { route_maps = with_map_entry name e d.route_maps; stanza = closed }
 
 -- a top line closes the open stanza
 unfoldable pub with_closed : Draft → Draft
-with_closed d = closing d.stanza d
+with_closed d = closing_stanza d.stanza d
 
 unfoldable pub has_interface : List Interface → List ℕ → Bool
 has_interface interfaces name = list_any (λ (i : Interface). bytes_eq i.name name) interfaces

@@ -4,10 +4,10 @@ use Rattle.std.specs.Prelude.{ℕ, ◌≤◌, Bool, ◌&&◌, List, [], ◌∷�
 use Rattle.std.specs.List.{slice_split, AllByRecursion}
 use Rattle.cfg_ast.specs.declared.line.Line.{Line}
 use Rattle.cfg_ast.specs.declared.line.Span.{Span}
-use Rattle.cfg_ast.specs.Lines.{pieces_from, line_of}
-use Rattle.cfg_ast.specs.TextLines.{TextLine, text_line}
-use Rattle.cfg_ast.specs.Words.{is_router_name}
-use Rattle.cfg_ast.specs.Reading.{is_end}
+use Rattle.cfg_ast.specs.text.Lines.{pieces_from, line_of}
+use Rattle.cfg_ast.specs.text.TextLines.{TextLine, text_line}
+use Rattle.cfg_ast.specs.text.Words.{is_router_name}
+use Rattle.cfg_ast.specs.text.Reading.{is_end}
 
 -- all lines of a text, those that are skipped among them, however many and however long
 abbrev pub all_lines_of : List ℕ → List Line
@@ -47,5 +47,5 @@ abbrev pub members_in : List TextLine → List (List (List ℕ))
 members_in ls = map members_on (ended_parts ls)
 
 -- for each top line `end`, the names on the member lines before it
-unfoldable pub members_of : List ℕ → List (List (List ℕ))
-members_of bs = members_in (map (text_line bs) (all_lines_of bs))
+unfoldable pub members_of_text : List ℕ → List (List (List ℕ))
+members_of_text bs = members_in (map (text_line bs) (all_lines_of bs))

@@ -10,7 +10,7 @@ use Rattle.cfg_ast.specs.declared.heads.HeadClass.{HeadClass}
 use Rattle.cfg_ast.specs.declared.heads.HeadClass.TheVariants.{Router, Policy, Refused, Ignored}
 use Rattle.cfg_ast.specs.declared.heads.RouterForm.TheVariants as router_form
 use Rattle.cfg_ast.specs.declared.heads.PolicyForm.TheVariants as policy_form
-use Rattle.cfg_ast.specs.Words.{number_between}
+use Rattle.cfg_ast.specs.text.Words.{number_between}
 
 -- a row of a table: the words of a head, and what the lines are that it begins
 pub record Row : Type 0 where

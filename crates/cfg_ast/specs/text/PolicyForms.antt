@@ -17,9 +17,9 @@ use Rattle.cfg_ast.specs.declared.heads.PolicyForm.{PolicyForm}
 use Rattle.cfg_ast.specs.declared.heads.PolicyForm.TheVariants as form
 use Rattle.cfg_ast.specs.declared.refusal.FormFault.{FormFault}
 use Rattle.cfg_ast.specs.declared.refusal.FormFault.TheVariants.{UnknownLine, Unsupported, BadForm, WellKnown}
-use Rattle.cfg_ast.specs.Words.{is_list_name, number_word, number_between, as_number_of, prefix_of, community_of, is_community, is_well_known, same_community}
-use Rattle.cfg_ast.specs.FormSteps.{◌>>=◌, or_bad, bad_unless, list_name_of, named_of}
-use Rattle.cfg_ast.specs.Heads.{class_in, policy_heads_of}
+use Rattle.cfg_ast.specs.text.Words.{is_list_name, number_word, number_between, as_number_word, prefix_of, community_word, is_community, is_well_known, same_community}
+use Rattle.cfg_ast.specs.text.FormSteps.{◌>>=◌, or_bad, bad_unless, list_name_of, named_of}
+use Rattle.cfg_ast.specs.text.Heads.{class_in, policy_heads_of}
 
 -- ---- parts of forms
 
@@ -41,15 +41,15 @@ unfoldable pub list_names_of : List (List ℕ) → Result (List (List ℕ)) Form
 list_names_of words = bad_unless (is_group words && list_all is_list_name words && all_differ bytes_eq words) (Ok words)
 
 -- 1 to 32 communities, each once. Only where nothing else is at fault is a well-known one reported.
-unfoldable pub communities_of : List (List ℕ) → Result (List ℕ) FormFault
-communities_of words = bad_unless (is_group words && list_all is_community words && all_differ same_community words)
-    (if list_any is_well_known words then Err WellKnown else Ok (with_numbers (filter_map community_of words) []))
+unfoldable pub community_words : List (List ℕ) → Result (List ℕ) FormFault
+community_words words = bad_unless (is_group words && list_all is_community words && all_differ same_community words)
+    (if list_any is_well_known words then Err WellKnown else Ok (with_numbers (filter_map community_word words) []))
 
 -- whether the last word is this one
-abbrev pub is_marked : List ℕ → List (List ℕ) → Bool
-is_marked mark [] = false
-is_marked mark (word ∷ []) = bytes_eq word mark
-is_marked mark (word ∷ next ∷ words) = is_marked mark (next ∷ words)
+abbrev pub has_mark : List ℕ → List (List ℕ) → Bool
+has_mark mark [] = false
+has_mark mark (word ∷ []) = bytes_eq word mark
+has_mark mark (word ∷ next ∷ words) = has_mark mark (next ∷ words)
 
 -- the words but for the last one
 abbrev pub but_last : List (List ℕ) → List (List ℕ)
@@ -84,7 +84,7 @@ unfoldable pub community_line : ℕ → List ℕ → List ℕ → List (List ℕ
 community_line line name act communities = do
   permit ← or_bad (is_permit act)
   list ← list_name_of name
-  comms ← communities_of communities
+  comms ← community_words communities
   Ok (item.CommunityLine list (record { permit = permit; comms = comms; line = line }))
 
 -- a list named by a number from 1 to 99
@@ -143,7 +143,7 @@ comms_match line exact words = do
 -- a last word `exact-match` is always the mark
 unfoldable pub marked_match : ℕ → List (List ℕ) → Result PolicyItem FormFault
 marked_match line words =
-    if is_marked (codes "exact-match") words then comms_match line true (but_last words) else comms_match line false words
+    if has_mark (codes "exact-match") words then comms_match line true (but_last words) else comms_match line false words
 
 -- match community NAME .., with `exact-match` or without
 unfoldable pub match_comms_form : ℕ → List (List ℕ) → Result PolicyItem FormFault
@@ -165,8 +165,8 @@ is_none_alone words = false
 unfoldable pub change_of : List (List ℕ) → Result Change FormFault
 change_of words =
     if is_none_alone words then Ok Clear
-    else (if is_marked (codes "additive") words then communities_of (but_last words) >>= (λ comms. Ok (Append comms))
-    else (communities_of words >>= (λ comms. Ok (Replace comms))))
+    else (if has_mark (codes "additive") words then community_words (but_last words) >>= (λ comms. Ok (Append comms))
+    else (community_words words >>= (λ comms. Ok (Replace comms))))
 
 -- set community, and what is to be done with the communities
 unfoldable pub set_comms_form : List (List ℕ) → Result PolicyItem FormFault
@@ -183,13 +183,13 @@ delete_form line (_ ∷ _ ∷ name ∷ word ∷ []) = bad_unless (bytes_eq word 
 delete_form line _ = Err BadForm
 
 abbrev pub is_as_number : List ℕ → Bool
-is_as_number word = is_some (as_number_of word)
+is_as_number word = is_some (as_number_word word)
 
 -- set as-path prepend NUMBER .., 1 to 10 AS numbers, which may repeat
 unfoldable pub prepend_form : ℕ → List (List ℕ) → Result PolicyItem FormFault
 prepend_form line (_ ∷ _ ∷ _ ∷ words) =
     bad_unless (nat_le 1 (length words) && nat_le (length words) 10 && list_all is_as_number words)
-    (Ok (item.Prepend (record { numbers = filter_map as_number_of words; line = line })))
+    (Ok (item.Prepend (record { numbers = filter_map as_number_word words; line = line })))
 prepend_form line _ = Err BadForm
 
 -- ---- a line by its head

@@ -1,7 +1,7 @@
 -- Lines by what they say, without places.
 use Rattle.std.specs.Prelude.{ℕ, List}
 use Rattle.cfg_ast.specs.declared.line.Line.{Line}
-use Rattle.cfg_ast.specs.Lines.{texts}
+use Rattle.cfg_ast.specs.text.Lines.{texts}
 
 -- a line that is not skipped: its number, its indentation and what its words say
 pub record TextLine : Type 0 where

@@ -15,8 +15,8 @@ use Rattle.cfg_ast.specs.declared.interface.Interface.{Interface}
 use Rattle.cfg_ast.specs.declared.network.Network.{Network}
 use Rattle.cfg_ast.specs.declared.network.Router.{Router}
 use Rattle.cfg_ast.specs.declared.policy.PrefixList.{PrefixList}
-use Rattle.cfg_ast.specs.PrefixLists.{prefix_list_permits}
-use Rattle.cfg_ast.specs.Topology.{up_address, subnet_of_address, is_in_area_interface, cost_of_interface}
+use Rattle.cfg_ast.specs.meaning.PrefixLists.{prefix_list_permits}
+use Rattle.cfg_ast.specs.meaning.Topology.{up_address, subnet_of_address, is_in_area_interface, cost_of_interface}
 
 abbrev pub same_prefix : Prefix → Prefix → Bool
 same_prefix p q = nat_eq p.addr q.addr && nat_eq p.len q.len
@@ -62,14 +62,14 @@ is_announced router process p = list_any (λ (line : NetLine). same_prefix p lin
 abbrev pub area_interface_in : Router → Prefix → Option Interface
 area_interface_in router p = find (λ x. is_in_area_interface router x && is_up_in p x) router.interfaces
 
-abbrev pub route_from : Router → Option BgpProcess → Prefix → Option (Option ℕ)
-route_from router (Some process) p = if is_announced router process p then Some None else None
-route_from router None p = option_map cost_of_interface (area_interface_in router p)
+abbrev pub route_by_process : Router → Option BgpProcess → Prefix → Option (Option ℕ)
+route_by_process router (Some process) p = if is_announced router process p then Some None else None
+route_by_process router None p = option_map cost_of_interface (area_interface_in router p)
 
 -- The router's initial route to the prefix, if it originates the prefix: in OSPF its cost, and in BGP
 -- nothing more, since all else in it is the router's own.
 abbrev pub initial_route : Router → Prefix → Option (Option ℕ)
-initial_route router p = route_from router router.bgp p
+initial_route router p = route_by_process router router.bgp p
 
 -- the subnets of its interfaces that a router originates
 abbrev pub originated_by : Router → List Prefix

@@ -10,9 +10,9 @@ use Rattle.cfg_ast.specs.declared.heads.RouterForm.{RouterForm}
 use Rattle.cfg_ast.specs.declared.heads.RouterForm.TheVariants as form
 use Rattle.cfg_ast.specs.declared.refusal.FormFault.{FormFault}
 use Rattle.cfg_ast.specs.declared.refusal.FormFault.TheVariants.{UnknownLine, Unsupported, BadForm}
-use Rattle.cfg_ast.specs.Words.{is_router_name, is_interface_name, number_word, address_word, number_between, as_number_of, mask_len_of, classful_len_of, exact_prefix}
-use Rattle.cfg_ast.specs.FormSteps.{◌>>=◌, or_bad, bad_unless, named_of}
-use Rattle.cfg_ast.specs.Heads.{class_in, heads_of}
+use Rattle.cfg_ast.specs.text.Words.{is_router_name, is_interface_name, number_word, address_word, number_between, as_number_word, mask_len_of, classful_len_of, exact_prefix}
+use Rattle.cfg_ast.specs.text.FormSteps.{◌>>=◌, or_bad, bad_unless, named_of}
+use Rattle.cfg_ast.specs.text.Heads.{class_in, heads_of}
 
 -- ---- top lines
 
@@ -29,7 +29,7 @@ interface_form _ = Err BadForm
 -- router bgp NUMBER
 unfoldable pub bgp_form : List (List ℕ) → Result RouterItem FormFault
 bgp_form (_ ∷ _ ∷ number ∷ []) = do
-  n ← or_bad (as_number_of number)
+  n ← or_bad (as_number_word number)
   Ok (item.Bgp n)
 bgp_form _ = Err BadForm
 
@@ -98,7 +98,7 @@ network_form line _ = Err BadForm
 unfoldable pub remote_as_form : List (List ℕ) → Result RouterItem FormFault
 remote_as_form (_ ∷ address ∷ _ ∷ number ∷ []) = do
   addr ← or_bad (address_word address)
-  n ← or_bad (as_number_of number)
+  n ← or_bad (as_number_word number)
   Ok (item.RemoteAs addr n)
 remote_as_form _ = Err BadForm
 
@@ -148,15 +148,15 @@ peer_map_form line _ = Err BadForm
 -- ---- lines of an OSPF process
 
 -- an area is a number or an address
-unfoldable pub area_of : List ℕ → Option ℕ
-area_of word = option_or (number_word word) (address_word word)
+unfoldable pub area_word : List ℕ → Option ℕ
+area_word word = option_or (number_word word) (address_word word)
 
 -- network ADDRESS WILDCARD area NUMBER
 unfoldable pub area_form : ℕ → List (List ℕ) → Result RouterItem FormFault
 area_form line (_ ∷ address ∷ wildcard ∷ word ∷ number ∷ []) = bad_unless (bytes_eq word (codes "area")) (do
   addr ← or_bad (address_word address)
   wild ← or_bad (address_word wildcard)
-  area ← or_bad (area_of number)
+  area ← or_bad (area_word number)
   Ok (item.Area (record { addr = addr; wild = wild; area = area; line = line })))
 area_form line _ = Err BadForm
 
