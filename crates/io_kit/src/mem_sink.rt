@@ -1,4 +1,4 @@
-ghost use Rattle.std.specs.Prelude.{◌≡◌, ◌≤◌, ◌<◌, ◌⊎◌, ◌↔◌, Some, IfOk, OnOk, OnErr, IsErr, [], length, take};
+ghost use Rattle.std.specs.Prelude.{◌≡◌, ◌-◌, ◌≤◌, ◌<◌, ◌⊎◌, ◌↔◌, Some, IfOk, OnOk, OnErr, IsErr, [], length, min, take};
 ghost use Rattle.io_kit.specs.Ends.{Rose, Took};
 ghost use Rattle.io_kit.specs.Calls.{up};
 
@@ -69,6 +69,7 @@ impl Sink for MemSink {
 
     ghost faults = { λ s. s.faults };
 
+    #[tactic(auto, using(crate::proofs::Rises::rose_up))]
     fn write(&mut self, bytes: &[u8]) -> Result<usize, Failed>
         ensures later { self.old.faults ≤ self.new.faults }
         ensures within { IfOk result (λ count. count ≤ length bytes.now) }
@@ -82,6 +83,12 @@ impl Sink for MemSink {
         ensures calls { self.new.calls ≡ up self.old.calls }
         ensures counted { OnErr result (self.new.faults ≡ up self.old.faults) }
         ensures uncounted { OnOk result (self.new.faults ≡ self.old.faults) }
+
+        // As much as it takes at once, and has room for.
+        ensures amount { IfOk result (λ count. count ≡ min (min (length bytes.now) self.old.most) (self.old.room - length self.old.taken)) }
+        ensures most { self.new.most ≡ self.old.most }
+        ensures room { self.new.room ≡ self.old.room }
+        ensures failing { self.new.failing ≡ self.old.failing }
     {
         self.calls = self.calls.saturating_add(1);
         let room = self.room - self.bytes.len();

@@ -1,4 +1,4 @@
-ghost use Rattle.std.specs.Prelude.{◌≡◌, ◌++◌, ◌≤◌, ◌<◌, ◌⊎◌, ◌↔◌, ℕ, List, [], length, take, Some, None, true, is_some, IsErr, IfOk, IfSome, OnOk, OnErr, Contains};
+ghost use Rattle.std.specs.Prelude.{◌≡◌, ◌++◌, ◌≤◌, ◌<◌, ◌⊎◌, ◌↔◌, ℕ, List, [], length, min, take, Some, None, true, is_some, IsErr, IfOk, IfSome, OnOk, OnErr, Contains};
 ghost use Rattle.io_kit.specs.Ends.{Rose, Gave};
 ghost use Rattle.io_kit.specs.Calls.{up};
 ghost use Rattle.io_kit.specs.Files.{all_begun, contents_of};
@@ -55,6 +55,7 @@ impl Source for MemSource {
 
     ghost faults = { λ s _. s.faults };
 
+    #[tactic(auto, using(crate::proofs::Rises::rose_up))]
     fn begin(&mut self, name: &str) -> Result<(), Failed>
         ensures contents { contents_of self.new.files ≡ contents_of self.old.files }
         ensures later { (n : List ℕ) → self.old.faults ≤ self.new.faults }
@@ -68,6 +69,8 @@ impl Source for MemSource {
         ensures calls { self.new.calls ≡ up self.old.calls }
         ensures counted { OnErr result (self.new.faults ≡ up self.old.faults) }
         ensures uncounted { OnOk result (self.new.faults ≡ self.old.faults) }
+        ensures files { self.new.files ≡ self.old.files }
+        ensures failing { self.new.failing ≡ self.old.failing }
     {
         self.place = None;
         self.at = 0;
@@ -85,6 +88,7 @@ impl Source for MemSource {
         }
     }
 
+    #[tactic(auto, using(crate::proofs::Rises::rose_up))]
     fn read(&mut self, buf: &mut [u8]) -> Result<usize, Failed>
         ensures contents { contents_of self.new.files ≡ contents_of self.old.files }
         ensures later { (n : List ℕ) → self.old.faults ≤ self.new.faults }
@@ -100,6 +104,12 @@ impl Source for MemSource {
         ensures calls { self.new.calls ≡ up self.old.calls }
         ensures counted { OnErr result (self.new.faults ≡ up self.old.faults) }
         ensures uncounted { OnOk result (self.new.faults ≡ self.old.faults) }
+
+        // As much as there is, and as fits.
+        ensures amount { IfOk result (λ count. count ≡ min (length self.old.rest) (length buf.old)) }
+        ensures unread { OnErr result (self.new.rest ≡ self.old.rest) }
+        ensures files { self.new.files ≡ self.old.files }
+        ensures failing { self.new.failing ≡ self.old.failing }
     {
         self.calls = self.calls.saturating_add(1);
         if self.failing.as_slice().contains(&self.calls) {

@@ -17,6 +17,7 @@ pub enum InFault {
 
 /// Reads the whole content of a name. It is `TooLong` exactly where it has more than `limit` bytes,
 /// and `Failed` only where the count of faults of that name rose.
+#[tactic(auto, using(crate::proofs::Rises::rose_earlier))]
 pub fn read_all<S: Source>(
     alloc: Global,
     s: &mut S,
@@ -52,6 +53,7 @@ pub fn read_all<S: Source>(
 }
 
 /// Puts all bytes, piece by piece. Where the sink fails, it took a first part of them.
+#[tactic(auto, using(crate::proofs::Rises::rose_earlier))]
 pub fn put_all<K: Sink>(k: &mut K, bytes: &[u8]) -> Result<(), Failed>
     ensures later { K.faults k.old ≤ K.faults k.new }
     ensures all { OnOk result (Took (K.taken k.old) (K.taken k.new) bytes.now) }
