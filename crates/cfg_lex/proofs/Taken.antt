@@ -5,7 +5,7 @@ use Rattle.cfg_ast.specs.declared.line.Line.{Line}
 use Rattle.cfg_ast.specs.declared.refusal.Kind.{Kind}
 use Rattle.cfg_ast.specs.declared.refusal.ReadRefusal.{ReadRefusal}
 use Rattle.cfg_ast.specs.declared.refusal.ReadRefusal.TheVariants.{At}
-use Rattle.cfg_ast.specs.Lines.{begins_line, newline_from, without_return, Piece, piece_at, pieces_from, line_of, is_kept, kind_at, lines_in, IsLineIn}
+use Rattle.cfg_ast.specs.text.Lines.{begins_line, newline_from, without_return, Piece, piece_at, pieces_from, line_of, is_kept, kind_at, lines_in, IsLineIn}
 use Rattle.cfg_ast.proofs.Pieces.{pieces_next, pieces_end, begins_next, lines_kept, lines_skipped, lines_fault, lines_none, with_front}
 use Rattle.cfg_ast.proofs.Within.{line_lies}
 use Rattle.cfg_lex.specs.declared.following.Place.{Place}

@@ -2,7 +2,7 @@
 use Rattle.std.specs.Prelude.{◌≡◌, ℕ, ◌+◌, ◌≤◌, ◌<◌, true, List, [], ◌∷◌, length, if◌then◌else◌, is_ok, Option, Some, None, Result, Ok, Err}
 use Rattle.cfg_ast.specs.declared.line.Line.{Line}
 use Rattle.cfg_ast.specs.declared.refusal.ReadRefusal.{ReadRefusal}
-use Rattle.cfg_ast.specs.Lines.{pieces_from, begins_line, lines_in, are_kept, words_between, indent_between, IsLineIn}
+use Rattle.cfg_ast.specs.text.Lines.{pieces_from, begins_line, lines_in, are_kept, words_between, indent_between, IsLineIn}
 use Rattle.cfg_lex.specs.declared.following.Place.{Place}
 
 -- the refusal alone

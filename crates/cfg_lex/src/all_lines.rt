@@ -1,5 +1,5 @@
 ghost use Rattle.std.specs.Prelude.{◌≡◌, ◌≤◌, IfOk, All, length};
-ghost use Rattle.cfg_ast.specs.Members.{all_lines_of, AreSpansIn};
+ghost use Rattle.cfg_ast.specs.text.Members.{all_lines_of, AreSpansIn};
 
 use crate::places::{indent_between, newline_from, without_return};
 use crate::words::words_between;
@@ -10,7 +10,7 @@ use std::alloc::Global;
 /// All lines of a text, numbered from 1, those that are skipped among them, however many there are and
 /// however long. Their bytes may be any.
 pub fn every_line(alloc: Global, bytes: &[u8]) -> Result<List<Line>, NoMemory>
-    requires { length bytes.now ≤ 16777216 }
+    requires { length bytes.now ≤ 268435456 }
     ensures exact { IfOk result (λ found. found ≡ all_lines_of bytes.now) }
     ensures within { IfOk result (All (AreSpansIn bytes.now)) }
 {

@@ -1,6 +1,6 @@
 ghost use Rattle.std.specs.Prelude.{◌≡◌, ◌≤◌, ◌++◌, ◌∷◌, [], OnOk, IfOk, All, length, if◌then◌else◌};
-ghost use Rattle.cfg_ast.specs.Answers.{Gives};
-ghost use Rattle.cfg_ast.specs.Lines.{are_kept, kind_at, lines_of, IsLineIn};
+ghost use Rattle.cfg_ast.specs.text.Answers.{Gives};
+ghost use Rattle.cfg_ast.specs.text.Lines.{are_kept, kind_at, lines_of, IsLineIn};
 
 use crate::places::{indent_between, newline_from, odd_from, without_return};
 use crate::words::{are_kept, words_between};

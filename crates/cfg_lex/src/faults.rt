@@ -1,5 +1,5 @@
 ghost use Rattle.std.specs.Prelude.{◌≡◌, ◌≤◌, length};
-ghost use Rattle.cfg_ast.specs.Lines.{lines_of};
+ghost use Rattle.cfg_ast.specs.text.Lines.{lines_of};
 ghost use Rattle.cfg_lex.specs.Places.{without_value};
 
 use crate::cutting::kind_at;

@@ -1,5 +1,5 @@
 ghost use Rattle.std.specs.Prelude.{◌≡◌, ◌≤◌, ◌<◌, IfOk, length, true, is_ok, if◌then◌else◌, None, Some};
-ghost use Rattle.cfg_ast.specs.Lines.{are_kept, words_between, indent_between};
+ghost use Rattle.cfg_ast.specs.text.Lines.{are_kept, words_between, indent_between};
 ghost use Rattle.cfg_lex.specs.Places.{IsPlace, IsNext, lines_from, kept_line};
 
 use crate::places::{indent_between, newline_from, without_return};

@@ -1,5 +1,5 @@
 ghost use Rattle.std.specs.Prelude.{◌≡◌, ◌-◌, ◌≤◌, length};
-ghost use Rattle.cfg_ast.specs.Lines.{is_blank, is_plain, newline_from, without_return, word_end, indent_between, odd_from};
+ghost use Rattle.cfg_ast.specs.text.Lines.{is_blank, is_plain, newline_from, without_return, word_end, indent_between, odd_from};
 
 pub(crate) fn is_blank(b: u8) -> bool
     ensures { result ≡ is_blank b }

@@ -1,5 +1,5 @@
 ghost use Rattle.std.specs.Prelude.{◌≡◌, ◌^◌, ◌<◌, ◌≤◌, IfOk, length};
-ghost use Rattle.cfg_ast.specs.Lines.{words_between, are_kept};
+ghost use Rattle.cfg_ast.specs.text.Lines.{words_between, are_kept};
 
 use crate::places::{is_blank, word_end};
 use base_kit::{List, NoMemory};

@@ -1,6 +1,6 @@
 use Rattle.std.proofs.Common.{◌≡◌, ◌+◌, ◌-◌, ◌≤◌, ◌<◌, ◌++◌, length, map, true}
-use Rattle.cfg_ast.specs.Lines.{begins_line, line_of, pieces_from}
-use Rattle.cfg_ast.specs.Members.{all_lines_of}
+use Rattle.cfg_ast.specs.text.Lines.{begins_line, line_of, pieces_from}
+use Rattle.cfg_ast.specs.text.Members.{all_lines_of}
 use Rattle.cfg_lex.proofs.all_lines.every_line.Given as goal
 
 -- what stands so far, and what the rest gives

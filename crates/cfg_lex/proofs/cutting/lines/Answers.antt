@@ -1,5 +1,5 @@
 use Rattle.std.proofs.Common.{◌≡◌, ◌+◌, sym, ap, ◌∙◌, arith, Some}
-use Rattle.cfg_ast.specs.Lines.{begins_line, kind_at}
+use Rattle.cfg_ast.specs.text.Lines.{begins_line, kind_at}
 use Rattle.cfg_ast.proofs.Pieces.{Cut, line_read, line_faulty, lines_done, begins_next}
 use Rattle.cfg_ast.proofs.Within.{lines_lie}
 use Rattle.cfg_lex.proofs.cutting.lines.Goals as goal

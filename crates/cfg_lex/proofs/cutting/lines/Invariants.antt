@@ -1,5 +1,5 @@
 use Rattle.std.proofs.Common.{◌≡◌, ◌+◌, ◌-◌, ◌≤◌, ◌<◌, length, true}
-use Rattle.cfg_ast.specs.Lines.{begins_line, lines_in, pieces_from, lines_of}
+use Rattle.cfg_ast.specs.text.Lines.{begins_line, lines_in, pieces_from, lines_of}
 use Rattle.cfg_ast.proofs.Pieces.{with_front}
 use Rattle.cfg_lex.proofs.cutting.lines.Given as goal
 

@@ -1,5 +1,5 @@
 use Rattle.std.proofs.Common.{◌+◌, sym, ap, ◌∙◌, arith}
-use Rattle.cfg_ast.specs.Lines.{begins_line}
+use Rattle.cfg_ast.specs.text.Lines.{begins_line}
 use Rattle.cfg_ast.proofs.Pieces.{begins_next}
 use Rattle.cfg_lex.proofs.Taken.{Cut, sound_next, sound_fault, sound_end}
 use Rattle.cfg_lex.proofs.faults.sound.Goals as goal

@@ -1,5 +1,5 @@
 use Rattle.std.proofs.Common.{length, ◌-◌, ◌+◌, ◌<◌, ◌≡◌, ◌≤◌, true}
-use Rattle.cfg_ast.specs.Lines.{begins_line, lines_in, lines_of, pieces_from}
+use Rattle.cfg_ast.specs.text.Lines.{begins_line, lines_in, lines_of, pieces_from}
 use Rattle.cfg_lex.specs.Places.{without_value}
 use Rattle.cfg_lex.proofs.faults.sound.Given as goal
 

@@ -1,5 +1,5 @@
 use Rattle.std.proofs.Common.{◌≡◌, ◌-◌, ◌≤◌, not}
-use Rattle.cfg_ast.specs.Lines.{first_at, blank_at}
+use Rattle.cfg_ast.specs.text.Lines.{first_at, blank_at}
 use Rattle.cfg_lex.proofs.places.indent_between.Given as goal
 
 abbrev pub invariant-loop-i : goal.invariant-loop-i

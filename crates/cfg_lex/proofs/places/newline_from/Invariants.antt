@@ -1,5 +1,5 @@
 use Rattle.std.proofs.Common.{◌≡◌, ◌-◌, ◌≤◌, length}
-use Rattle.cfg_ast.specs.Lines.{first_at, newline_at}
+use Rattle.cfg_ast.specs.text.Lines.{first_at, newline_at}
 use Rattle.cfg_lex.proofs.places.newline_from.Given as goal
 
 abbrev pub invariant-loop-i : goal.invariant-loop-i

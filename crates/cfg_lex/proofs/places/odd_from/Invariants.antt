@@ -1,5 +1,5 @@
 use Rattle.std.proofs.Common.{◌≡◌, ◌-◌, ◌≤◌, not, slice_index}
-use Rattle.cfg_ast.specs.Lines.{first_at, is_plain}
+use Rattle.cfg_ast.specs.text.Lines.{first_at, is_plain}
 use Rattle.cfg_lex.proofs.places.odd_from.Given as goal
 
 abbrev pub invariant-loop-i : goal.invariant-loop-i

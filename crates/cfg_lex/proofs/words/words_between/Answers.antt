@@ -1,6 +1,6 @@
 use Rattle.std.proofs.Common.{◌≡◌, false, append_assoc, ◌∙◌, sym, arith, rules}
 use Rattle.std.proofs.lemmas.List.{append-nil}
-use Rattle.cfg_ast.specs.Lines.{blank_at, word_end}
+use Rattle.cfg_ast.specs.text.Lines.{blank_at, word_end}
 use Rattle.cfg_ast.proofs.WordRuns.{words_word, words_end}
 use Rattle.cfg_lex.proofs.words.words_between.Goals as goal
 

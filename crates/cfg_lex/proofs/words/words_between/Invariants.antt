@@ -1,5 +1,5 @@
 use Rattle.std.proofs.Common.{◌≡◌, ◌-◌, ◌≤◌, ◌++◌}
-use Rattle.cfg_ast.specs.Lines.{words_between}
+use Rattle.cfg_ast.specs.text.Lines.{words_between}
 use Rattle.cfg_lex.proofs.words.words_between.Given as goal
 
 -- the words so far, and those of the rest
