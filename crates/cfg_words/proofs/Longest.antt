@@ -1,7 +1,7 @@
 -- The longest head, found table by table.
 use Rattle.std.proofs.Common.{◌≡◌, ℕ, List, [], ◌∷◌, ◌++◌, Option, Some, None, refl, arith}
 use Rattle.std.proofs.lemmas.Bool.Decides.{nat_tests}
-use Rattle.cfg_ast.specs.Heads.{Row, longer, longest, if_begins}
+use Rattle.cfg_ast.specs.text.Heads.{Row, longer, longest, if_begins}
 
 longer_none : (best : Option Row) → longer best None ≡ best
 longer_none None = refl

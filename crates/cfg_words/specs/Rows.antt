@@ -1,6 +1,6 @@
 -- The rows of the code's tables, as the tables of the heads have them.
 use Rattle.std.specs.Prelude.{List, map}
-use Rattle.cfg_ast.specs.Heads.{Row}
+use Rattle.cfg_ast.specs.text.Heads.{Row}
 use Rattle.cfg_words.specs.declared.heads.Head.{Head}
 
 abbrev pub row_of : Head → Row

@@ -1,8 +1,8 @@
 ghost use Rattle.std.specs.Prelude.{◌≡◌, ◌++◌, length, map, if◌then◌else◌, Some};
 ghost use Rattle.std.specs.List.{AllByRecursion};
 ghost use Rattle.std.specs.Option.{option_map};
-ghost use Rattle.cfg_ast.specs.Heads.{is_word_for, begins, longest, longer, class_in, top_heads, interface_heads, bgp_heads, ospf_heads, entry_heads, heads_of, policy_heads_of, Row};
-ghost use Rattle.cfg_ast.specs.Lines.{IsWordIn, texts};
+ghost use Rattle.cfg_ast.specs.text.Heads.{is_word_for, begins, longest, longer, class_in, top_heads, interface_heads, bgp_heads, ospf_heads, entry_heads, heads_of, policy_heads_of, Row};
+ghost use Rattle.cfg_ast.specs.text.Lines.{IsWordIn, texts};
 ghost use Rattle.cfg_words.specs.Rows.{row_of, rows_of};
 
 use crate::numbers::read_between;
@@ -134,7 +134,7 @@ fn entry_class(bytes: &[u8], words: &[Span]) -> Option<HeadClass>
 
 /// What the longest head that begins the line says of it, in a scope of router lines. `None` where no
 /// head of the scope's tables begins it.
-#[tactic(auto, unfolding(cfg_ast::specs::Heads::heads_of))]
+#[tactic(auto, unfolding(cfg_ast::specs::text::Heads::heads_of))]
 pub fn router_class(bytes: &[u8], words: &[Span], scope: Scope) -> Option<HeadClass>
     requires { AllByRecursion (IsWordIn bytes.now) words.now }
     ensures { result ≡ class_in (heads_of scope) (texts bytes.now words.now) }
@@ -148,7 +148,7 @@ pub fn router_class(bytes: &[u8], words: &[Span], scope: Scope) -> Option<HeadCl
 }
 
 /// The same in a scope of policy lines.
-#[tactic(auto, unfolding(cfg_ast::specs::Heads::policy_heads_of))]
+#[tactic(auto, unfolding(cfg_ast::specs::text::Heads::policy_heads_of))]
 pub fn policy_class(bytes: &[u8], words: &[Span], scope: PolicyScope) -> Option<HeadClass>
     requires { AllByRecursion (IsWordIn bytes.now) words.now }
     ensures { result ≡ class_in (policy_heads_of scope) (texts bytes.now words.now) }

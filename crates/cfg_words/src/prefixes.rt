@@ -1,5 +1,5 @@
 ghost use Rattle.std.specs.Prelude.{◌≡◌, ◌≤◌};
-ghost use Rattle.cfg_ast.specs.Words.{bits_behind, cut_to, exact_prefix};
+ghost use Rattle.cfg_ast.specs.text.Words.{bits_behind, cut_to, exact_prefix};
 
 use base_kit::Prefix;
 
@@ -20,7 +20,7 @@ pub fn cut_to(len: u8, addr: u32) -> Prefix
 }
 
 /// The prefix of that address and length, where no bits of the address stand behind the length.
-#[tactic(auto, unfolding(cfg_ast::specs::Words::exact_prefix))]
+#[tactic(auto, unfolding(cfg_ast::specs::text::Words::exact_prefix))]
 pub fn exact_prefix(addr: u32, len: u8) -> Option<Prefix>
     requires { len ≤ 32 }
     ensures { result ≡ exact_prefix addr len }

@@ -1,6 +1,6 @@
 ghost use Rattle.std.specs.Prelude.{◌≡◌, ◌≤◌, length, IfOk};
 ghost use Rattle.std.specs.Str.{IsAscii};
-ghost use Rattle.cfg_ast.specs.Lines.{IsWordIn, text_of};
+ghost use Rattle.cfg_ast.specs.text.Lines.{IsWordIn, text_of};
 
 use base_kit::{NoMemory, Text};
 use cfg_ast::Span;

@@ -1,7 +1,7 @@
 //! The heads of lines of a BGP process.
 
 ghost use Rattle.std.specs.Prelude.{◌≡◌};
-ghost use Rattle.cfg_ast.specs.Heads.{known_in_bgp, refused_in_bgp, ignored_in_bgp};
+ghost use Rattle.cfg_ast.specs.text.Heads.{known_in_bgp, refused_in_bgp, ignored_in_bgp};
 ghost use Rattle.cfg_words.specs.Rows.{rows_of};
 
 use crate::heads::Head;
@@ -30,7 +30,7 @@ const KNOWN: [Head; 7] = [
     Head(&["neighbor", "A", "route-map"], Router(RouterForm::PeerMap)),
 ];
 
-#[tactic(auto, unfolding(cfg_ast::specs::Heads::known_in_bgp))]
+#[tactic(auto, unfolding(cfg_ast::specs::text::Heads::known_in_bgp))]
 pub(crate) fn known() -> &'static [Head]
     ensures { rows_of result.now ≡ known_in_bgp }
 {
@@ -54,7 +54,7 @@ const REFUSED: [Head; 14] = [
     Head(&["distribute-list"], Refused),
 ];
 
-#[tactic(auto, unfolding(cfg_ast::specs::Heads::refused_in_bgp))]
+#[tactic(auto, unfolding(cfg_ast::specs::text::Heads::refused_in_bgp))]
 pub(crate) fn refused() -> &'static [Head]
     ensures { rows_of result.now ≡ refused_in_bgp }
 {
@@ -82,7 +82,7 @@ const IGNORED: [Head; 18] = [
     Head(&["neighbor", "A", "send-community", "extended"], Ignored),
 ];
 
-#[tactic(auto, unfolding(cfg_ast::specs::Heads::ignored_in_bgp))]
+#[tactic(auto, unfolding(cfg_ast::specs::text::Heads::ignored_in_bgp))]
 pub(crate) fn ignored() -> &'static [Head]
     ensures { rows_of result.now ≡ ignored_in_bgp }
 {

@@ -1,7 +1,7 @@
 //! The heads of lines of an entry of a route map.
 
 ghost use Rattle.std.specs.Prelude.{◌≡◌};
-ghost use Rattle.cfg_ast.specs.Heads.{known_in_entry, refused_in_entry, ignored_in_entry};
+ghost use Rattle.cfg_ast.specs.text.Heads.{known_in_entry, refused_in_entry, ignored_in_entry};
 ghost use Rattle.cfg_words.specs.Rows.{rows_of};
 
 use crate::heads::Head;
@@ -20,7 +20,7 @@ const KNOWN: [Head; 6] = [
     Head(&["set", "as-path", "prepend"], Policy(PolicyForm::Prepend)),
 ];
 
-#[tactic(auto, unfolding(cfg_ast::specs::Heads::known_in_entry))]
+#[tactic(auto, unfolding(cfg_ast::specs::text::Heads::known_in_entry))]
 pub(crate) fn known() -> &'static [Head]
     ensures { rows_of result.now ≡ known_in_entry }
 {
@@ -33,7 +33,7 @@ const REFUSED: [Head; 3] = [
     Head(&["continue"], Refused),
 ];
 
-#[tactic(auto, unfolding(cfg_ast::specs::Heads::refused_in_entry))]
+#[tactic(auto, unfolding(cfg_ast::specs::text::Heads::refused_in_entry))]
 pub(crate) fn refused() -> &'static [Head]
     ensures { rows_of result.now ≡ refused_in_entry }
 {
@@ -42,7 +42,7 @@ pub(crate) fn refused() -> &'static [Head]
 
 const IGNORED: [Head; 1] = [Head(&["description"], Ignored)];
 
-#[tactic(auto, unfolding(cfg_ast::specs::Heads::ignored_in_entry))]
+#[tactic(auto, unfolding(cfg_ast::specs::text::Heads::ignored_in_entry))]
 pub(crate) fn ignored() -> &'static [Head]
     ensures { rows_of result.now ≡ ignored_in_entry }
 {

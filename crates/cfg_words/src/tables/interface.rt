@@ -1,7 +1,7 @@
 //! The heads of lines of an interface.
 
 ghost use Rattle.std.specs.Prelude.{◌≡◌};
-ghost use Rattle.cfg_ast.specs.Heads.{known_in_interface, refused_in_interface, ignored_in_interface};
+ghost use Rattle.cfg_ast.specs.text.Heads.{known_in_interface, refused_in_interface, ignored_in_interface};
 ghost use Rattle.cfg_words.specs.Rows.{rows_of};
 
 use crate::heads::Head;
@@ -14,7 +14,7 @@ const KNOWN: [Head; 3] = [
     Head(&["shutdown"], Router(RouterForm::Shutdown)),
 ];
 
-#[tactic(auto, unfolding(cfg_ast::specs::Heads::known_in_interface))]
+#[tactic(auto, unfolding(cfg_ast::specs::text::Heads::known_in_interface))]
 pub(crate) fn known() -> &'static [Head]
     ensures { rows_of result.now ≡ known_in_interface }
 {
@@ -31,7 +31,7 @@ const REFUSED: [Head; 7] = [
     Head(&["bandwidth"], Refused),
 ];
 
-#[tactic(auto, unfolding(cfg_ast::specs::Heads::refused_in_interface))]
+#[tactic(auto, unfolding(cfg_ast::specs::text::Heads::refused_in_interface))]
 pub(crate) fn refused() -> &'static [Head]
     ensures { rows_of result.now ≡ refused_in_interface }
 {
@@ -91,7 +91,7 @@ const IGNORED: [Head; 50] = [
     Head(&["ip", "ospf", "message-digest-key"], Ignored),
 ];
 
-#[tactic(auto, unfolding(cfg_ast::specs::Heads::ignored_in_interface))]
+#[tactic(auto, unfolding(cfg_ast::specs::text::Heads::ignored_in_interface))]
 pub(crate) fn ignored() -> &'static [Head]
     ensures { rows_of result.now ≡ ignored_in_interface }
 {

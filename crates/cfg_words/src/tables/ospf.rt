@@ -1,7 +1,7 @@
 //! The heads of lines of an OSPF process.
 
 ghost use Rattle.std.specs.Prelude.{◌≡◌};
-ghost use Rattle.cfg_ast.specs.Heads.{known_in_ospf, refused_in_ospf, ignored_in_ospf};
+ghost use Rattle.cfg_ast.specs.text.Heads.{known_in_ospf, refused_in_ospf, ignored_in_ospf};
 ghost use Rattle.cfg_words.specs.Rows.{rows_of};
 
 use crate::heads::Head;
@@ -14,7 +14,7 @@ const KNOWN: [Head; 3] = [
     Head(&["no", "passive-interface"], Router(RouterForm::NotPassive)),
 ];
 
-#[tactic(auto, unfolding(cfg_ast::specs::Heads::known_in_ospf))]
+#[tactic(auto, unfolding(cfg_ast::specs::text::Heads::known_in_ospf))]
 pub(crate) fn known() -> &'static [Head]
     ensures { rows_of result.now ≡ known_in_ospf }
 {
@@ -35,7 +35,7 @@ const REFUSED: [Head; 11] = [
     Head(&["neighbor"], Refused),
 ];
 
-#[tactic(auto, unfolding(cfg_ast::specs::Heads::refused_in_ospf))]
+#[tactic(auto, unfolding(cfg_ast::specs::text::Heads::refused_in_ospf))]
 pub(crate) fn refused() -> &'static [Head]
     ensures { rows_of result.now ≡ refused_in_ospf }
 {
@@ -49,7 +49,7 @@ const IGNORED: [Head; 4] = [
     Head(&["timers"], Ignored),
 ];
 
-#[tactic(auto, unfolding(cfg_ast::specs::Heads::ignored_in_ospf))]
+#[tactic(auto, unfolding(cfg_ast::specs::text::Heads::ignored_in_ospf))]
 pub(crate) fn ignored() -> &'static [Head]
     ensures { rows_of result.now ≡ ignored_in_ospf }
 {

@@ -1,7 +1,7 @@
 //! The heads of top lines.
 
 ghost use Rattle.std.specs.Prelude.{◌≡◌};
-ghost use Rattle.cfg_ast.specs.Heads.{known_at_top, refused_at_top, ignored_services, ignored_device};
+ghost use Rattle.cfg_ast.specs.text.Heads.{known_at_top, refused_at_top, ignored_services, ignored_device};
 ghost use Rattle.cfg_words.specs.Rows.{rows_of};
 
 use crate::heads::Head;
@@ -19,7 +19,7 @@ const KNOWN: [Head; 8] = [
     Head(&["end"], Router(RouterForm::End)),
 ];
 
-#[tactic(auto, unfolding(cfg_ast::specs::Heads::known_at_top))]
+#[tactic(auto, unfolding(cfg_ast::specs::text::Heads::known_at_top))]
 pub(crate) fn known() -> &'static [Head]
     ensures { rows_of result.now ≡ known_at_top }
 {
@@ -43,7 +43,7 @@ const REFUSED: [Head; 14] = [
     Head(&["mpls"], Refused),
 ];
 
-#[tactic(auto, unfolding(cfg_ast::specs::Heads::refused_at_top))]
+#[tactic(auto, unfolding(cfg_ast::specs::text::Heads::refused_at_top))]
 pub(crate) fn refused() -> &'static [Head]
     ensures { rows_of result.now ≡ refused_at_top }
 {
@@ -80,7 +80,7 @@ const IGNORED_SERVICES: [Head; 27] = [
     Head(&["ip", "prefix-list", "A", "description"], Ignored),
 ];
 
-#[tactic(auto, unfolding(cfg_ast::specs::Heads::ignored_services))]
+#[tactic(auto, unfolding(cfg_ast::specs::text::Heads::ignored_services))]
 pub(crate) fn ignored_services() -> &'static [Head]
     ensures { rows_of result.now ≡ ignored_services }
 {
@@ -140,7 +140,7 @@ const IGNORED_DEVICE: [Head; 50] = [
     Head(&["file"], Ignored),
 ];
 
-#[tactic(auto, unfolding(cfg_ast::specs::Heads::ignored_device))]
+#[tactic(auto, unfolding(cfg_ast::specs::text::Heads::ignored_device))]
 pub(crate) fn ignored_device() -> &'static [Head]
     ensures { rows_of result.now ≡ ignored_device }
 {

@@ -1,7 +1,7 @@
 use Rattle.std.proofs.Common.{◌≡◌, drop}
 use Rattle.std.specs.Option.{option_map}
-use Rattle.cfg_ast.specs.Heads.{longest, longer}
-use Rattle.cfg_ast.specs.Lines.{texts}
+use Rattle.cfg_ast.specs.text.Heads.{longest, longer}
+use Rattle.cfg_ast.specs.text.Lines.{texts}
 use Rattle.cfg_words.specs.Rows.{row_of, rows_of}
 use Rattle.cfg_words.proofs.heads.longest_with.Given as goal
 
