@@ -1,8 +1,8 @@
 ghost use Rattle.std.specs.Prelude.{◌≡◌};
-ghost use Rattle.cfg_ast.specs.PolicyForms.{is_permit};
+ghost use Rattle.cfg_ast.specs.text.PolicyForms.{is_permit};
 
 /// Reads `permit` as true and `deny` as false.
-#[tactic(auto, unfolding(cfg_ast::specs::PolicyForms::is_permit))]
+#[tactic(auto, unfolding(cfg_ast::specs::text::PolicyForms::is_permit))]
 pub(crate) fn is_permit(word: &[u8]) -> Option<bool>
     ensures { result ≡ is_permit word.now }
 {

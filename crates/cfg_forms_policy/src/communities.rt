@@ -1,10 +1,10 @@
 ghost use Rattle.std.specs.Prelude.{◌≡◌, ◌≤◌, ◌∷◌, [], IfOk};
 ghost use Rattle.std.specs.List.{AllByRecursion, list_all, list_any, position_or_len, filter_map, cons_option};
 ghost use Rattle.base_kit.specs.Sets.{with_numbers};
-ghost use Rattle.cfg_ast.specs.Answers.{Reads};
-ghost use Rattle.cfg_ast.specs.Lines.{IsWordIn, texts};
-ghost use Rattle.cfg_ast.specs.PolicyForms.{all_differ, communities_of};
-ghost use Rattle.cfg_ast.specs.Words.{is_colon, community_of, is_reserved, is_some_reserved, is_well_known_name, is_community, is_well_known, same_value, same_community};
+ghost use Rattle.cfg_ast.specs.text.Answers.{Reads};
+ghost use Rattle.cfg_ast.specs.text.Lines.{IsWordIn, texts};
+ghost use Rattle.cfg_ast.specs.text.PolicyForms.{all_differ, community_words};
+ghost use Rattle.cfg_ast.specs.text.Words.{is_colon, community_word, is_reserved, is_some_reserved, is_well_known_name, is_community, is_well_known, same_value, same_community};
 
 use crate::marks::{behind, has, place_of};
 use crate::word_groups::is_group;
@@ -13,9 +13,9 @@ use cfg_ast::{FormFault, Span};
 use cfg_words::{read_between, text};
 use std::alloc::Global;
 
-#[tactic(auto, unfolding(cfg_ast::specs::Words::community_of))]
+#[tactic(auto, unfolding(cfg_ast::specs::text::Words::community_word))]
 fn read_community(word: &[u8]) -> Option<u32>
-    ensures { result ≡ community_of word.now }
+    ensures { result ≡ community_word word.now }
 {
     if !has(word, b':') {
         return read_between(word, 1, u32::MAX);
@@ -26,7 +26,7 @@ fn read_community(word: &[u8]) -> Option<u32>
     Some(65536 * high + low)
 }
 
-#[tactic(auto, unfolding(cfg_ast::specs::Words::is_well_known_name))]
+#[tactic(auto, unfolding(cfg_ast::specs::text::Words::is_well_known_name))]
 fn is_well_known_name(word: &[u8]) -> bool
     ensures { result ≡ is_well_known_name word.now }
 {
@@ -37,7 +37,7 @@ fn is_well_known_name(word: &[u8]) -> bool
         || word == b"gshut".as_slice()
 }
 
-#[tactic(auto, unfolding(cfg_ast::specs::Words::is_community))]
+#[tactic(auto, unfolding(cfg_ast::specs::text::Words::is_community))]
 fn is_community(word: &[u8]) -> bool
     ensures { result ≡ is_community word.now }
 {
@@ -53,7 +53,7 @@ fn is_some_reserved(community: Option<u32>) -> bool
     }
 }
 
-#[tactic(auto, unfolding(cfg_ast::specs::Words::is_well_known))]
+#[tactic(auto, unfolding(cfg_ast::specs::text::Words::is_well_known))]
 fn is_well_known(word: &[u8]) -> bool
     ensures { result ≡ is_well_known word.now }
 {
@@ -72,7 +72,7 @@ fn same_value(community: Option<u32>, other: Option<u32>) -> bool
     }
 }
 
-#[tactic(auto, unfolding(cfg_ast::specs::Words::same_community))]
+#[tactic(auto, unfolding(cfg_ast::specs::text::Words::same_community))]
 fn same_community(word: &[u8], other: &[u8]) -> bool
     ensures { result ≡ same_community word.now other.now }
 {
@@ -124,7 +124,7 @@ fn has_well_known(bytes: &[u8], words: &[Span]) -> bool
 }
 
 fn with_community(set: NumSet, word: &[u8]) -> Result<NumSet, NoMemory>
-    ensures { IfOk result (λ more. more ≡ with_numbers (cons_option (community_of word.now) []) set) }
+    ensures { IfOk result (λ more. more ≡ with_numbers (cons_option (community_word word.now) []) set) }
 {
     match read_community(word) {
         None => Ok(set),
@@ -138,7 +138,7 @@ fn with_community(set: NumSet, word: &[u8]) -> Result<NumSet, NoMemory>
 
 fn values(alloc: Global, bytes: &[u8], words: &[Span]) -> Result<NumSet, NoMemory>
     requires { AllByRecursion (IsWordIn bytes.now) words.now }
-    ensures { IfOk result (λ set. set ≡ with_numbers (filter_map community_of (texts bytes.now words.now)) []) }
+    ensures { IfOk result (λ set. set ≡ with_numbers (filter_map community_word (texts bytes.now words.now)) []) }
 {
     let mut set = NumSet::new(alloc);
     for word in words {
@@ -149,10 +149,10 @@ fn values(alloc: Global, bytes: &[u8], words: &[Span]) -> Result<NumSet, NoMemor
 
 /// The communities that the words are: 1 to 32 communities, each once, or `BadForm`. `WellKnown` where
 /// they are, and one of them is well-known.
-#[tactic(auto, unfolding(cfg_ast::specs::PolicyForms::communities_of))]
+#[tactic(auto, unfolding(cfg_ast::specs::text::PolicyForms::community_words))]
 pub(crate) fn communities(alloc: Global, bytes: &[u8], words: &[Span]) -> Result<NumSet, FormFault>
     requires { AllByRecursion (IsWordIn bytes.now) words.now }
-    ensures { Reads result (communities_of (texts bytes.now words.now)) }
+    ensures { Reads result (community_words (texts bytes.now words.now)) }
 {
     if !(is_group(bytes, words) && are_communities(bytes, words) && all_differ(bytes, words)) {
         return Err(FormFault::BadForm);

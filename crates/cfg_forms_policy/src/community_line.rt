@@ -1,8 +1,8 @@
 ghost use Rattle.std.specs.Prelude.{◌≡◌};
 ghost use Rattle.std.specs.List.{AllByRecursion};
-ghost use Rattle.cfg_ast.specs.Answers.{Reads};
-ghost use Rattle.cfg_ast.specs.Lines.{IsWordIn, text_of, texts};
-ghost use Rattle.cfg_ast.specs.PolicyForms.{community_line, numbered_line, community_line_form};
+ghost use Rattle.cfg_ast.specs.text.Answers.{Reads};
+ghost use Rattle.cfg_ast.specs.text.Lines.{IsWordIn, text_of, texts};
+ghost use Rattle.cfg_ast.specs.text.PolicyForms.{community_line, numbered_line, community_line_form};
 
 use crate::act::is_permit;
 use crate::communities::communities;
@@ -11,7 +11,7 @@ use cfg_ast::{CommunityLine, FormFault, PolicyItem, Span};
 use cfg_words::{list_name, read_between, text};
 use std::alloc::Global;
 
-#[tactic(auto, unfolding(cfg_ast::specs::PolicyForms::community_line))]
+#[tactic(auto, unfolding(cfg_ast::specs::text::PolicyForms::community_line))]
 fn list_line(
     alloc: Global,
     bytes: &[u8],
@@ -38,7 +38,7 @@ fn list_line(
     ))
 }
 
-#[tactic(auto, unfolding(cfg_ast::specs::PolicyForms::numbered_line))]
+#[tactic(auto, unfolding(cfg_ast::specs::text::PolicyForms::numbered_line))]
 fn numbered_line(
     alloc: Global,
     bytes: &[u8],
@@ -58,7 +58,7 @@ fn numbered_line(
     list_line(alloc, bytes, name, act, words, line)
 }
 
-#[tactic(auto, unfolding(cfg_ast::specs::PolicyForms::community_line_form))]
+#[tactic(auto, unfolding(cfg_ast::specs::text::PolicyForms::community_line_form))]
 pub(crate) fn community_line(
     alloc: Global,
     bytes: &[u8],

@@ -1,9 +1,9 @@
 ghost use Rattle.std.specs.Prelude.{◌≡◌, length, nat_le, ◌&&◌, IfOk};
 ghost use Rattle.std.specs.List.{AllByRecursion, list_all, filter_map};
-ghost use Rattle.cfg_ast.specs.Answers.{Reads};
-ghost use Rattle.cfg_ast.specs.Lines.{IsWordIn, texts};
-ghost use Rattle.cfg_ast.specs.PolicyForms.{match_prefixes_form, comms_match, marked_match, match_comms_form, lp_form, is_none_alone, change_of, set_comms_form, delete_form, is_as_number, prepend_form};
-ghost use Rattle.cfg_ast.specs.Words.{as_number_of};
+ghost use Rattle.cfg_ast.specs.text.Answers.{Reads};
+ghost use Rattle.cfg_ast.specs.text.Lines.{IsWordIn, texts};
+ghost use Rattle.cfg_ast.specs.text.PolicyForms.{match_prefixes_form, comms_match, marked_match, match_comms_form, lp_form, is_none_alone, change_of, set_comms_form, delete_form, is_as_number, prepend_form};
+ghost use Rattle.cfg_ast.specs.text.Words.{as_number_word};
 
 use crate::communities::communities;
 use crate::name_list::list_names;
@@ -14,7 +14,7 @@ use cfg_ast::{Change, FormFault, NameLine, PolicyItem, Prepend, Span};
 use cfg_words::{named, read_as_number, read_number, text};
 use std::alloc::Global;
 
-#[tactic(auto, unfolding(cfg_ast::specs::PolicyForms::match_prefixes_form))]
+#[tactic(auto, unfolding(cfg_ast::specs::text::PolicyForms::match_prefixes_form))]
 pub(crate) fn match_prefixes(
     alloc: Global,
     bytes: &[u8],
@@ -31,7 +31,7 @@ pub(crate) fn match_prefixes(
     Ok(PolicyItem::MatchPrefixes(NameLine { names, line }))
 }
 
-#[tactic(auto, unfolding(cfg_ast::specs::PolicyForms::comms_match))]
+#[tactic(auto, unfolding(cfg_ast::specs::text::PolicyForms::comms_match))]
 fn comms_match(
     alloc: Global,
     bytes: &[u8],
@@ -46,7 +46,7 @@ fn comms_match(
     Ok(PolicyItem::MatchComms(NameLine { names, line }, exact))
 }
 
-#[tactic(auto, unfolding(cfg_ast::specs::PolicyForms::marked_match))]
+#[tactic(auto, unfolding(cfg_ast::specs::text::PolicyForms::marked_match))]
 fn marked_match(
     alloc: Global,
     bytes: &[u8],
@@ -62,7 +62,7 @@ fn marked_match(
     comms_match(alloc, bytes, words, line, false)
 }
 
-#[tactic(auto, unfolding(cfg_ast::specs::PolicyForms::match_comms_form))]
+#[tactic(auto, unfolding(cfg_ast::specs::text::PolicyForms::match_comms_form))]
 pub(crate) fn match_comms(
     alloc: Global,
     bytes: &[u8],
@@ -78,7 +78,7 @@ pub(crate) fn match_comms(
     marked_match(alloc, bytes, words, line)
 }
 
-#[tactic(auto, unfolding(cfg_ast::specs::PolicyForms::lp_form))]
+#[tactic(auto, unfolding(cfg_ast::specs::text::PolicyForms::lp_form))]
 pub(crate) fn lp(bytes: &[u8], words: &[Span]) -> Result<PolicyItem, FormFault>
     requires { AllByRecursion (IsWordIn bytes.now) words.now }
     ensures { Reads result (lp_form (texts bytes.now words.now)) }
@@ -90,7 +90,7 @@ pub(crate) fn lp(bytes: &[u8], words: &[Span]) -> Result<PolicyItem, FormFault>
     Ok(PolicyItem::Lp(lp))
 }
 
-#[tactic(auto, unfolding(cfg_ast::specs::PolicyForms::is_none_alone))]
+#[tactic(auto, unfolding(cfg_ast::specs::text::PolicyForms::is_none_alone))]
 fn is_none_alone(bytes: &[u8], words: &[Span]) -> bool
     requires { AllByRecursion (IsWordIn bytes.now) words.now }
     ensures { result ≡ is_none_alone (texts bytes.now words.now) }
@@ -101,7 +101,7 @@ fn is_none_alone(bytes: &[u8], words: &[Span]) -> bool
     text(bytes, *word) == b"none".as_slice()
 }
 
-#[tactic(auto, unfolding(cfg_ast::specs::PolicyForms::change_of))]
+#[tactic(auto, unfolding(cfg_ast::specs::text::PolicyForms::change_of))]
 fn change(alloc: Global, bytes: &[u8], words: &[Span]) -> Result<Change, FormFault>
     requires { AllByRecursion (IsWordIn bytes.now) words.now }
     ensures { Reads result (change_of (texts bytes.now words.now)) }
@@ -115,7 +115,7 @@ fn change(alloc: Global, bytes: &[u8], words: &[Span]) -> Result<Change, FormFau
     Ok(Change::Replace(communities(alloc, bytes, words)?))
 }
 
-#[tactic(auto, unfolding(cfg_ast::specs::PolicyForms::set_comms_form))]
+#[tactic(auto, unfolding(cfg_ast::specs::text::PolicyForms::set_comms_form))]
 pub(crate) fn set_comms(
     alloc: Global,
     bytes: &[u8],
@@ -130,7 +130,7 @@ pub(crate) fn set_comms(
     Ok(PolicyItem::Comms(change(alloc, bytes, words)?))
 }
 
-#[tactic(auto, unfolding(cfg_ast::specs::PolicyForms::delete_form))]
+#[tactic(auto, unfolding(cfg_ast::specs::text::PolicyForms::delete_form))]
 pub(crate) fn delete(
     alloc: Global,
     bytes: &[u8],
@@ -163,7 +163,7 @@ fn are_as_numbers(bytes: &[u8], words: &[Span]) -> bool
 
 fn as_numbers(alloc: Global, bytes: &[u8], words: &[Span]) -> Result<List<u32>, NoMemory>
     requires { AllByRecursion (IsWordIn bytes.now) words.now }
-    ensures { IfOk result (λ numbers. numbers ≡ filter_map as_number_of (texts bytes.now words.now)) }
+    ensures { IfOk result (λ numbers. numbers ≡ filter_map as_number_word (texts bytes.now words.now)) }
 {
     let mut numbers = List::new(alloc);
     for word in words {
@@ -181,7 +181,7 @@ fn fits_prepend(bytes: &[u8], words: &[Span]) -> bool
     1 <= words.len() && words.len() <= 10 && are_as_numbers(bytes, words)
 }
 
-#[tactic(auto, unfolding(cfg_ast::specs::PolicyForms::prepend_form))]
+#[tactic(auto, unfolding(cfg_ast::specs::text::PolicyForms::prepend_form))]
 pub(crate) fn prepend(
     alloc: Global,
     bytes: &[u8],

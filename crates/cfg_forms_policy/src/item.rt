@@ -1,8 +1,8 @@
 ghost use Rattle.std.specs.Prelude.{◌≡◌};
 ghost use Rattle.std.specs.List.{AllByRecursion};
-ghost use Rattle.cfg_ast.specs.Answers.{Reads};
-ghost use Rattle.cfg_ast.specs.Lines.{IsWordIn, IsLineIn, texts};
-ghost use Rattle.cfg_ast.specs.PolicyForms.{policy_form, policy_item_of};
+ghost use Rattle.cfg_ast.specs.text.Answers.{Reads};
+ghost use Rattle.cfg_ast.specs.text.Lines.{IsWordIn, IsLineIn, texts};
+ghost use Rattle.cfg_ast.specs.text.PolicyForms.{policy_form, policy_item_of};
 
 use crate::community_line::community_line;
 use crate::entry::{delete, lp, match_comms, match_prefixes, prepend, set_comms};
@@ -12,7 +12,7 @@ use cfg_ast::{FormFault, HeadClass, Line, PolicyForm, PolicyItem, PolicyScope, S
 use cfg_words::policy_class;
 use std::alloc::Global;
 
-#[tactic(auto, unfolding(cfg_ast::specs::PolicyForms::policy_form))]
+#[tactic(auto, unfolding(cfg_ast::specs::text::PolicyForms::policy_form))]
 fn read_form(
     alloc: Global,
     bytes: &[u8],
@@ -43,7 +43,7 @@ fn read_form(
 /// refused one, and for router lines, which are read elsewhere; `BadForm` where the line does not fit
 /// the form of its head; `WellKnown` where it fits but for a well-known community (RFC 1997,
 /// RFC 8326). `Memory` where memory ran out.
-#[tactic(auto, unfolding(cfg_ast::specs::PolicyForms::policy_item_by))]
+#[tactic(auto, unfolding(cfg_ast::specs::text::PolicyForms::policy_item_by))]
 pub fn policy_item(
     alloc: Global,
     bytes: &[u8],

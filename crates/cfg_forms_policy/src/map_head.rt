@@ -1,8 +1,8 @@
 ghost use Rattle.std.specs.Prelude.{◌≡◌};
 ghost use Rattle.std.specs.List.{AllByRecursion};
-ghost use Rattle.cfg_ast.specs.Answers.{Reads};
-ghost use Rattle.cfg_ast.specs.Lines.{IsWordIn, texts};
-ghost use Rattle.cfg_ast.specs.PolicyForms.{empty_entry, map_head_form};
+ghost use Rattle.cfg_ast.specs.text.Answers.{Reads};
+ghost use Rattle.cfg_ast.specs.text.Lines.{IsWordIn, texts};
+ghost use Rattle.cfg_ast.specs.text.PolicyForms.{empty_entry, map_head_form};
 
 use crate::act::is_permit;
 use cfg_ast::FormFault::BadForm;
@@ -28,7 +28,7 @@ fn empty_entry(seq: u32, permit: bool, line: u32) -> MapEntry
     }
 }
 
-#[tactic(auto, unfolding(cfg_ast::specs::PolicyForms::map_head_form))]
+#[tactic(auto, unfolding(cfg_ast::specs::text::PolicyForms::map_head_form))]
 pub(crate) fn map_head(
     alloc: Global,
     bytes: &[u8],

@@ -1,9 +1,9 @@
 ghost use Rattle.std.specs.Prelude.{◌≡◌, IfOk, bytes_eq};
 ghost use Rattle.std.specs.List.{AllByRecursion, list_all, list_any};
-ghost use Rattle.cfg_ast.specs.Answers.{Reads};
-ghost use Rattle.cfg_ast.specs.Lines.{IsWordIn, texts};
-ghost use Rattle.cfg_ast.specs.PolicyForms.{all_differ, list_names_of};
-ghost use Rattle.cfg_ast.specs.Words.{is_list_name};
+ghost use Rattle.cfg_ast.specs.text.Answers.{Reads};
+ghost use Rattle.cfg_ast.specs.text.Lines.{IsWordIn, texts};
+ghost use Rattle.cfg_ast.specs.text.PolicyForms.{all_differ, list_names_of};
+ghost use Rattle.cfg_ast.specs.text.Words.{is_list_name};
 
 use crate::word_groups::is_group;
 use base_kit::{List, NoMemory, Text};
@@ -55,7 +55,7 @@ fn copies(alloc: Global, bytes: &[u8], words: &[Span]) -> Result<List<Text>, NoM
 }
 
 /// The names that the words are: 1 to 32 names of lists, each once, or `BadForm`.
-#[tactic(auto, unfolding(cfg_ast::specs::PolicyForms::list_names_of))]
+#[tactic(auto, unfolding(cfg_ast::specs::text::PolicyForms::list_names_of))]
 pub(crate) fn list_names(
     alloc: Global,
     bytes: &[u8],

@@ -1,9 +1,9 @@
 ghost use Rattle.std.specs.Prelude.{◌≡◌, ◌≤◌, IfSome};
 ghost use Rattle.std.specs.List.{AllByRecursion};
-ghost use Rattle.cfg_ast.specs.Answers.{Reads};
-ghost use Rattle.cfg_ast.specs.Lines.{IsWordIn, texts};
-ghost use Rattle.cfg_ast.specs.PolicyForms.{bounds_of, prefix_entry_form};
-ghost use Rattle.cfg_ast.specs.Words.{number_between, prefix_of};
+ghost use Rattle.cfg_ast.specs.text.Answers.{Reads};
+ghost use Rattle.cfg_ast.specs.text.Lines.{IsWordIn, texts};
+ghost use Rattle.cfg_ast.specs.text.PolicyForms.{bounds_of, prefix_entry_form};
+ghost use Rattle.cfg_ast.specs.text.Words.{number_between, prefix_of};
 
 use crate::act::is_permit;
 use crate::marks::{behind, place_of};
@@ -22,7 +22,7 @@ fn read_len(word: &[u8], low: u8) -> Option<u8>
     Some(len as u8)
 }
 
-#[tactic(auto, unfolding(cfg_ast::specs::Words::prefix_of))]
+#[tactic(auto, unfolding(cfg_ast::specs::text::Words::prefix_of))]
 fn read_prefix(word: &[u8]) -> Option<Prefix>
     ensures { result ≡ prefix_of word.now }
 {
@@ -33,7 +33,7 @@ fn read_prefix(word: &[u8]) -> Option<Prefix>
 }
 
 // The lengths that `ge` and `le` give.
-#[tactic(auto, unfolding(cfg_ast::specs::PolicyForms::bounds_of))]
+#[tactic(auto, unfolding(cfg_ast::specs::text::PolicyForms::bounds_of))]
 fn bounds(bytes: &[u8], words: &[Span], len: u8) -> Result<(Option<u8>, Option<u8>), FormFault>
     requires { AllByRecursion (IsWordIn bytes.now) words.now }
     ensures { Reads result (bounds_of len (texts bytes.now words.now)) }
@@ -62,7 +62,7 @@ fn bounds(bytes: &[u8], words: &[Span], len: u8) -> Result<(Option<u8>, Option<u
     Ok((Some(ge), Some(le)))
 }
 
-#[tactic(auto, unfolding(cfg_ast::specs::PolicyForms::prefix_entry_form))]
+#[tactic(auto, unfolding(cfg_ast::specs::text::PolicyForms::prefix_entry_form))]
 pub(crate) fn prefix_entry(
     alloc: Global,
     bytes: &[u8],

@@ -1,7 +1,7 @@
 ghost use Rattle.std.specs.Prelude.{◌≡◌, MatchOption, IfSome, true, false};
 ghost use Rattle.std.specs.List.{AllByRecursion};
-ghost use Rattle.cfg_ast.specs.Lines.{IsWordIn, texts};
-ghost use Rattle.cfg_ast.specs.PolicyForms.{is_group, is_marked, but_last};
+ghost use Rattle.cfg_ast.specs.text.Lines.{IsWordIn, texts};
+ghost use Rattle.cfg_ast.specs.text.PolicyForms.{is_group, has_mark, but_last};
 
 use cfg_ast::Span;
 use cfg_words::text;
@@ -17,7 +17,7 @@ pub(crate) fn is_group(bytes: &[u8], words: &[Span]) -> bool
 #[tactic(auto, using(crate::proofs::LastWord::is_marked_last, crate::proofs::LastWord::texts_but_last, crate::proofs::LastWord::are_words_take))]
 pub(crate) fn before_mark<'a>(bytes: &[u8], words: &'a [Span], mark: &[u8]) -> Option<&'a [Span]>
     requires { AllByRecursion (IsWordIn bytes.now) words.now }
-    ensures mark { MatchOption result (is_marked mark.now (texts bytes.now words.now) ≡ false) (λ front. is_marked mark.now (texts bytes.now words.now) ≡ true) }
+    ensures mark { MatchOption result (has_mark mark.now (texts bytes.now words.now) ≡ false) (λ front. has_mark mark.now (texts bytes.now words.now) ≡ true) }
     ensures front { IfSome result (λ front. texts bytes.now front.now ≡ but_last (texts bytes.now words.now)) }
     ensures within { IfSome result (λ front. AllByRecursion (IsWordIn bytes.now) front.now) }
 {

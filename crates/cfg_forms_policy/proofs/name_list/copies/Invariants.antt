@@ -1,6 +1,6 @@
 use Rattle.std.proofs.Common.{◌≡◌, ◌++◌, drop}
 use Rattle.std.specs.List.{AllByRecursion}
-use Rattle.cfg_ast.specs.Lines.{IsWordIn, texts}
+use Rattle.cfg_ast.specs.text.Lines.{IsWordIn, texts}
 use Rattle.cfg_forms_policy.proofs.name_list.copies.Given as goal
 
 abbrev pub invariant-loop-word : goal.invariant-loop-word
