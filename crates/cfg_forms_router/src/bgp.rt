@@ -1,8 +1,8 @@
 ghost use Rattle.std.specs.Prelude.{◌≡◌, ◌≤◌};
 ghost use Rattle.std.specs.List.{AllByRecursion};
-ghost use Rattle.cfg_ast.specs.Answers.{Reads};
-ghost use Rattle.cfg_ast.specs.Lines.{IsWordIn, texts};
-ghost use Rattle.cfg_ast.specs.RouterForms.{base_form, net_line, network_form, remote_as_form, peer_shut_form, sends_standard, peer_sends_form, is_inward, peer_list_form, peer_map_form};
+ghost use Rattle.cfg_ast.specs.text.Answers.{Reads};
+ghost use Rattle.cfg_ast.specs.text.Lines.{IsWordIn, texts};
+ghost use Rattle.cfg_ast.specs.text.RouterForms.{base_form, net_line, network_form, remote_as_form, peer_shut_form, sends_standard, peer_sends_form, is_inward, peer_list_form, peer_map_form};
 
 use crate::masks::{classful_len, read_mask};
 use cfg_ast::FormFault::BadForm;
@@ -10,7 +10,7 @@ use cfg_ast::{Base, FormFault, NetLine, RouterItem, Span};
 use cfg_words::{exact_prefix, named, read_address, read_as_number, read_number, text};
 use std::alloc::Global;
 
-#[tactic(auto, unfolding(cfg_ast::specs::RouterForms::base_form))]
+#[tactic(auto, unfolding(cfg_ast::specs::text::RouterForms::base_form))]
 pub(crate) fn base(bytes: &[u8], words: &[Span], line: u32) -> Result<RouterItem, FormFault>
     requires { AllByRecursion (IsWordIn bytes.now) words.now }
     ensures { Reads result (base_form line (texts bytes.now words.now)) }
@@ -22,7 +22,7 @@ pub(crate) fn base(bytes: &[u8], words: &[Span], line: u32) -> Result<RouterItem
     Ok(RouterItem::Base(Base { value, line }))
 }
 
-#[tactic(auto, unfolding(cfg_ast::specs::RouterForms::net_line))]
+#[tactic(auto, unfolding(cfg_ast::specs::text::RouterForms::net_line))]
 fn net_line(addr: u32, len: u8, line: u32) -> Result<RouterItem, FormFault>
     requires { len ≤ 32 }
     ensures { Reads result (net_line line addr len) }
@@ -31,7 +31,7 @@ fn net_line(addr: u32, len: u8, line: u32) -> Result<RouterItem, FormFault>
     Ok(RouterItem::Network(NetLine { prefix, line }))
 }
 
-#[tactic(auto, unfolding(cfg_ast::specs::RouterForms::network_form))]
+#[tactic(auto, unfolding(cfg_ast::specs::text::RouterForms::network_form))]
 pub(crate) fn network(bytes: &[u8], words: &[Span], line: u32) -> Result<RouterItem, FormFault>
     requires { AllByRecursion (IsWordIn bytes.now) words.now }
     ensures { Reads result (network_form line (texts bytes.now words.now)) }
@@ -52,7 +52,7 @@ pub(crate) fn network(bytes: &[u8], words: &[Span], line: u32) -> Result<RouterI
     net_line(addr, len, line)
 }
 
-#[tactic(auto, unfolding(cfg_ast::specs::RouterForms::remote_as_form))]
+#[tactic(auto, unfolding(cfg_ast::specs::text::RouterForms::remote_as_form))]
 pub(crate) fn remote_as(bytes: &[u8], words: &[Span]) -> Result<RouterItem, FormFault>
     requires { AllByRecursion (IsWordIn bytes.now) words.now }
     ensures { Reads result (remote_as_form (texts bytes.now words.now)) }
@@ -65,7 +65,7 @@ pub(crate) fn remote_as(bytes: &[u8], words: &[Span]) -> Result<RouterItem, Form
     Ok(RouterItem::RemoteAs { addr, number })
 }
 
-#[tactic(auto, unfolding(cfg_ast::specs::RouterForms::peer_shut_form))]
+#[tactic(auto, unfolding(cfg_ast::specs::text::RouterForms::peer_shut_form))]
 pub(crate) fn peer_shut(bytes: &[u8], words: &[Span]) -> Result<RouterItem, FormFault>
     requires { AllByRecursion (IsWordIn bytes.now) words.now }
     ensures { Reads result (peer_shut_form (texts bytes.now words.now)) }
@@ -77,14 +77,14 @@ pub(crate) fn peer_shut(bytes: &[u8], words: &[Span]) -> Result<RouterItem, Form
     Ok(RouterItem::PeerShut(addr))
 }
 
-#[tactic(auto, unfolding(cfg_ast::specs::RouterForms::sends_standard))]
+#[tactic(auto, unfolding(cfg_ast::specs::text::RouterForms::sends_standard))]
 fn sends_standard(word: &[u8]) -> bool
     ensures { result ≡ sends_standard word.now }
 {
     word == b"standard".as_slice() || word == b"both".as_slice()
 }
 
-#[tactic(auto, unfolding(cfg_ast::specs::RouterForms::peer_sends_form))]
+#[tactic(auto, unfolding(cfg_ast::specs::text::RouterForms::peer_sends_form))]
 pub(crate) fn peer_sends(bytes: &[u8], words: &[Span]) -> Result<RouterItem, FormFault>
     requires { AllByRecursion (IsWordIn bytes.now) words.now }
     ensures { Reads result (peer_sends_form (texts bytes.now words.now)) }
@@ -103,7 +103,7 @@ pub(crate) fn peer_sends(bytes: &[u8], words: &[Span]) -> Result<RouterItem, For
     Ok(RouterItem::PeerSends(addr))
 }
 
-#[tactic(auto, unfolding(cfg_ast::specs::RouterForms::is_inward))]
+#[tactic(auto, unfolding(cfg_ast::specs::text::RouterForms::is_inward))]
 fn is_inward(word: &[u8]) -> Option<bool>
     ensures { result ≡ is_inward word.now }
 {
@@ -114,7 +114,7 @@ fn is_inward(word: &[u8]) -> Option<bool>
     }
 }
 
-#[tactic(auto, unfolding(cfg_ast::specs::RouterForms::peer_list_form))]
+#[tactic(auto, unfolding(cfg_ast::specs::text::RouterForms::peer_list_form))]
 pub(crate) fn peer_list(
     alloc: Global,
     bytes: &[u8],
@@ -133,7 +133,7 @@ pub(crate) fn peer_list(
     Ok(RouterItem::PeerList { addr, list, inward })
 }
 
-#[tactic(auto, unfolding(cfg_ast::specs::RouterForms::peer_map_form))]
+#[tactic(auto, unfolding(cfg_ast::specs::text::RouterForms::peer_map_form))]
 pub(crate) fn peer_map(
     alloc: Global,
     bytes: &[u8],

@@ -1,15 +1,15 @@
 ghost use Rattle.std.specs.Prelude.{◌≡◌};
 ghost use Rattle.std.specs.List.{AllByRecursion};
-ghost use Rattle.cfg_ast.specs.Answers.{Reads};
-ghost use Rattle.cfg_ast.specs.Lines.{IsWordIn, IsLineIn, texts};
-ghost use Rattle.cfg_ast.specs.RouterForms.{router_form, router_item_of};
+ghost use Rattle.cfg_ast.specs.text.Answers.{Reads};
+ghost use Rattle.cfg_ast.specs.text.Lines.{IsWordIn, IsLineIn, texts};
+ghost use Rattle.cfg_ast.specs.text.RouterForms.{router_form, router_item_of};
 
 use crate::{bgp, interface, ospf, top};
 use cfg_ast::{FormFault, HeadClass, Line, RouterForm, RouterItem, Scope, Span};
 use cfg_words::router_class;
 use std::alloc::Global;
 
-#[tactic(auto, unfolding(cfg_ast::specs::RouterForms::router_form))]
+#[tactic(auto, unfolding(cfg_ast::specs::text::RouterForms::router_form))]
 fn read_form(
     alloc: Global,
     bytes: &[u8],
@@ -47,7 +47,7 @@ fn read_form(
 /// `UnknownLine` where no head of the scope begins the line; `Unsupported` where its longest head is a
 /// refused one, and for lines of lists and route maps, which are read elsewhere; `BadForm` where the
 /// line does not fit the form of its head. `Memory` where memory ran out.
-#[tactic(auto, unfolding(cfg_ast::specs::RouterForms::router_item_by))]
+#[tactic(auto, unfolding(cfg_ast::specs::text::RouterForms::router_item_by))]
 pub fn router_item(
     alloc: Global,
     bytes: &[u8],

@@ -1,5 +1,5 @@
 ghost use Rattle.std.specs.Prelude.{◌≡◌, ◌≤◌, IfSome};
-ghost use Rattle.cfg_ast.specs.Words.{mask_of, len_of_mask, mask_len_of, classful_len_of};
+ghost use Rattle.cfg_ast.specs.text.Words.{mask_of, len_of_mask, mask_len_of, classful_len_of};
 
 use cfg_words::read_address;
 
@@ -10,7 +10,7 @@ fn mask_of(len: u8) -> u32
     ((1u64 << 32) - (1u64 << (32 - len))) as u32
 }
 
-#[tactic(auto, using(crate::proofs::Ranges::find_here, crate::proofs::Ranges::find_next), unfolding(cfg_ast::specs::Words::len_of_mask))]
+#[tactic(auto, using(crate::proofs::Ranges::find_here, crate::proofs::Ranges::find_next), unfolding(cfg_ast::specs::text::Words::len_of_mask))]
 fn len_of_mask(mask: u32) -> Option<u8>
     ensures value { result ≡ len_of_mask mask }
     ensures bound { IfSome result (λ len. (1 ≤ len) × (len ≤ 32)) }
@@ -24,7 +24,7 @@ fn len_of_mask(mask: u32) -> Option<u8>
 }
 
 /// Reads a mask, and gives its length, from 1 to 32.
-#[tactic(auto, unfolding(cfg_ast::specs::Words::mask_len_of))]
+#[tactic(auto, unfolding(cfg_ast::specs::text::Words::mask_len_of))]
 pub(crate) fn read_mask(word: &[u8]) -> Option<u8>
     ensures value { result ≡ mask_len_of word.now }
     ensures bound { IfSome result (λ len. (1 ≤ len) × (len ≤ 32)) }
@@ -33,7 +33,7 @@ pub(crate) fn read_mask(word: &[u8]) -> Option<u8>
 }
 
 /// The length of a network by the class of its address (RFC 791 section 3.2).
-#[tactic(auto, unfolding(cfg_ast::specs::Words::classful_len_of))]
+#[tactic(auto, unfolding(cfg_ast::specs::text::Words::classful_len_of))]
 pub(crate) fn classful_len(addr: u32) -> Option<u8>
     ensures value { result ≡ classful_len_of addr }
     ensures bound { IfSome result (λ len. len ≤ 32) }

@@ -1,7 +1,7 @@
 ghost use Rattle.std.specs.Prelude.{◌≡◌};
 ghost use Rattle.std.specs.List.{list_all, list_any};
 ghost use Rattle.std.specs.Char.{is_ascii_alphabetic, is_ascii_digit};
-ghost use Rattle.cfg_ast.specs.Words.{is_name_long, begins_with, is_letter_or_digit, is_router_byte, is_router_name, is_interface_byte, is_interface_name};
+ghost use Rattle.cfg_ast.specs.text.Words.{is_name_long, begins_with, is_letter_or_digit, is_router_byte, is_router_name, is_interface_byte, is_interface_name};
 
 fn is_name_long(word: &[u8]) -> bool
     ensures { result ≡ is_name_long word.now }
@@ -38,7 +38,7 @@ fn are_router_bytes(word: &[u8]) -> bool
 
 /// Whether the word may name a router: 1 to 63 letters, digits, `-`, `_` and `.`, of which the first
 /// is a letter or a digit.
-#[tactic(auto, unfolding(cfg_ast::specs::Words::is_router_name))]
+#[tactic(auto, unfolding(cfg_ast::specs::text::Words::is_router_name))]
 pub fn is_router_name(word: &[u8]) -> bool
     ensures { result ≡ is_router_name word.now }
 {
@@ -74,7 +74,7 @@ fn are_interface_bytes(word: &[u8]) -> bool
 
 /// Whether the word may name an interface: 1 to 63 letters, digits, `/`, `.`, `:` and `-`, of which
 /// the first is a letter and one is a digit.
-#[tactic(auto, unfolding(cfg_ast::specs::Words::is_interface_name))]
+#[tactic(auto, unfolding(cfg_ast::specs::text::Words::is_interface_name))]
 pub(crate) fn is_interface_name(word: &[u8]) -> bool
     ensures { result ≡ is_interface_name word.now }
 {

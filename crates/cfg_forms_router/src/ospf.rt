@@ -1,8 +1,8 @@
 ghost use Rattle.std.specs.Prelude.{◌≡◌};
 ghost use Rattle.std.specs.List.{AllByRecursion};
-ghost use Rattle.cfg_ast.specs.Answers.{Reads};
-ghost use Rattle.cfg_ast.specs.Lines.{IsWordIn, texts};
-ghost use Rattle.cfg_ast.specs.RouterForms.{area_of, area_form, passive_form, not_passive_form};
+ghost use Rattle.cfg_ast.specs.text.Answers.{Reads};
+ghost use Rattle.cfg_ast.specs.text.Lines.{IsWordIn, texts};
+ghost use Rattle.cfg_ast.specs.text.RouterForms.{area_word, area_form, passive_form, not_passive_form};
 
 use crate::names::is_interface_name;
 use cfg_ast::FormFault::BadForm;
@@ -10,9 +10,9 @@ use cfg_ast::{AreaLine, FormFault, RouterItem, Span};
 use cfg_words::{copy_of, read_address, read_number, text};
 use std::alloc::Global;
 
-#[tactic(auto, unfolding(cfg_ast::specs::RouterForms::area_of))]
+#[tactic(auto, unfolding(cfg_ast::specs::text::RouterForms::area_word))]
 fn read_area(word: &[u8]) -> Option<u32>
-    ensures { result ≡ area_of word.now }
+    ensures { result ≡ area_word word.now }
 {
     match read_number(word) {
         Some(area) => Some(area),
@@ -20,7 +20,7 @@ fn read_area(word: &[u8]) -> Option<u32>
     }
 }
 
-#[tactic(auto, unfolding(cfg_ast::specs::RouterForms::area_form))]
+#[tactic(auto, unfolding(cfg_ast::specs::text::RouterForms::area_form))]
 pub(crate) fn area(bytes: &[u8], words: &[Span], line: u32) -> Result<RouterItem, FormFault>
     requires { AllByRecursion (IsWordIn bytes.now) words.now }
     ensures { Reads result (area_form line (texts bytes.now words.now)) }
@@ -42,7 +42,7 @@ pub(crate) fn area(bytes: &[u8], words: &[Span], line: u32) -> Result<RouterItem
     }))
 }
 
-#[tactic(auto, unfolding(cfg_ast::specs::RouterForms::passive_form))]
+#[tactic(auto, unfolding(cfg_ast::specs::text::RouterForms::passive_form))]
 pub(crate) fn passive(alloc: Global, bytes: &[u8], words: &[Span]) -> Result<RouterItem, FormFault>
     requires { AllByRecursion (IsWordIn bytes.now) words.now }
     ensures { Reads result (passive_form (texts bytes.now words.now)) }
@@ -60,7 +60,7 @@ pub(crate) fn passive(alloc: Global, bytes: &[u8], words: &[Span]) -> Result<Rou
     Ok(RouterItem::Passive(copy_of(alloc, name)?))
 }
 
-#[tactic(auto, unfolding(cfg_ast::specs::RouterForms::not_passive_form))]
+#[tactic(auto, unfolding(cfg_ast::specs::text::RouterForms::not_passive_form))]
 pub(crate) fn not_passive(
     alloc: Global,
     bytes: &[u8],

@@ -1,8 +1,8 @@
 ghost use Rattle.std.specs.Prelude.{◌≡◌};
 ghost use Rattle.std.specs.List.{AllByRecursion};
-ghost use Rattle.cfg_ast.specs.Answers.{Reads};
-ghost use Rattle.cfg_ast.specs.Lines.{IsWordIn, texts};
-ghost use Rattle.cfg_ast.specs.RouterForms.{hostname_form, interface_form, bgp_form, ospf_form, end_form};
+ghost use Rattle.cfg_ast.specs.text.Answers.{Reads};
+ghost use Rattle.cfg_ast.specs.text.Lines.{IsWordIn, texts};
+ghost use Rattle.cfg_ast.specs.text.RouterForms.{hostname_form, interface_form, bgp_form, ospf_form, end_form};
 
 use crate::names::{is_interface_name, is_router_name};
 use cfg_ast::FormFault::BadForm;
@@ -10,7 +10,7 @@ use cfg_ast::{FormFault, RouterItem, Span};
 use cfg_words::{copy_of, read_as_number, read_between, text};
 use std::alloc::Global;
 
-#[tactic(auto, unfolding(cfg_ast::specs::RouterForms::hostname_form))]
+#[tactic(auto, unfolding(cfg_ast::specs::text::RouterForms::hostname_form))]
 pub(crate) fn hostname(alloc: Global, bytes: &[u8], words: &[Span]) -> Result<RouterItem, FormFault>
     requires { AllByRecursion (IsWordIn bytes.now) words.now }
     ensures { Reads result (hostname_form (texts bytes.now words.now)) }
@@ -25,7 +25,7 @@ pub(crate) fn hostname(alloc: Global, bytes: &[u8], words: &[Span]) -> Result<Ro
     Ok(RouterItem::Hostname(copy_of(alloc, name)?))
 }
 
-#[tactic(auto, unfolding(cfg_ast::specs::RouterForms::interface_form))]
+#[tactic(auto, unfolding(cfg_ast::specs::text::RouterForms::interface_form))]
 pub(crate) fn interface(
     alloc: Global,
     bytes: &[u8],
@@ -44,7 +44,7 @@ pub(crate) fn interface(
     Ok(RouterItem::Interface(copy_of(alloc, name)?))
 }
 
-#[tactic(auto, unfolding(cfg_ast::specs::RouterForms::bgp_form))]
+#[tactic(auto, unfolding(cfg_ast::specs::text::RouterForms::bgp_form))]
 pub(crate) fn bgp(bytes: &[u8], words: &[Span]) -> Result<RouterItem, FormFault>
     requires { AllByRecursion (IsWordIn bytes.now) words.now }
     ensures { Reads result (bgp_form (texts bytes.now words.now)) }
@@ -56,7 +56,7 @@ pub(crate) fn bgp(bytes: &[u8], words: &[Span]) -> Result<RouterItem, FormFault>
     Ok(RouterItem::Bgp(number))
 }
 
-#[tactic(auto, unfolding(cfg_ast::specs::RouterForms::ospf_form))]
+#[tactic(auto, unfolding(cfg_ast::specs::text::RouterForms::ospf_form))]
 pub(crate) fn ospf(bytes: &[u8], words: &[Span]) -> Result<RouterItem, FormFault>
     requires { AllByRecursion (IsWordIn bytes.now) words.now }
     ensures { Reads result (ospf_form (texts bytes.now words.now)) }
@@ -68,7 +68,7 @@ pub(crate) fn ospf(bytes: &[u8], words: &[Span]) -> Result<RouterItem, FormFault
     Ok(RouterItem::Ospf(number))
 }
 
-#[tactic(auto, unfolding(cfg_ast::specs::RouterForms::end_form))]
+#[tactic(auto, unfolding(cfg_ast::specs::text::RouterForms::end_form))]
 pub(crate) fn end(bytes: &[u8], words: &[Span]) -> Result<RouterItem, FormFault>
     ensures { Reads result (end_form (texts bytes.now words.now)) }
 {

@@ -1,6 +1,6 @@
 use Rattle.std.proofs.Common.{◌==◌, sym, ◌∙◌, arith, eq-eqb}
 use Rattle.std.proofs.lemmas.Bool.{ne_eqb}
-use Rattle.cfg_ast.specs.Words.{mask_of}
+use Rattle.cfg_ast.specs.text.Words.{mask_of}
 use Rattle.cfg_forms_router.proofs.Ranges.{find_here, find_next}
 use Rattle.cfg_forms_router.proofs.masks.len_of_mask.Goals as goal
 

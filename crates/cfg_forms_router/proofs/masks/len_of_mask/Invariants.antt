@@ -1,6 +1,6 @@
 use Rattle.std.proofs.Common.{◌≡◌, ◌-◌, ◌==◌}
 use Rattle.std.specs.List.{find, range_with_len}
-use Rattle.cfg_ast.specs.Words.{mask_of, len_of_mask}
+use Rattle.cfg_ast.specs.text.Words.{mask_of, len_of_mask}
 use Rattle.cfg_forms_router.proofs.masks.len_of_mask.Given as goal
 
 abbrev pub invariant-loop-len : goal.invariant-loop-len
