@@ -7,8 +7,8 @@ use Rattle.cfg_ast.specs.declared.bgp.BgpProcess.{BgpProcess}
 use Rattle.cfg_ast.specs.declared.items.RouterItem.{RouterItem}
 use Rattle.cfg_ast.specs.declared.items.RouterItem.TheVariants as item
 use Rattle.cfg_ast.specs.declared.refusal.ReadRefusal.{ReadRefusal}
-use Rattle.cfg_ast.specs.Stanzas.{has_network, has_neighbor, new_neighbor, set_neighbor, at_neighbor, with_peer, peer_of, set_process, set_bgp_for, set_bgp}
-use Rattle.cfg_ast.specs.WellFormed.{IsWellFormedNetLine, same_net, IsWellFormedNeighbor, same_neighbor, IsWellFormedBgp}
+use Rattle.cfg_ast.specs.text.Stanzas.{has_network, has_neighbor, new_neighbor, set_neighbor, at_neighbor, with_peer, peer_of, set_process, set_bgp_for, set_bgp}
+use Rattle.cfg_ast.specs.printing.WellFormed.{IsWellFormedNetLine, same_net, IsWellFormedNeighbor, same_neighbor, IsWellFormedBgp}
 use Rattle.cfg_given.proofs.Given.{either, then_step, stands_once}
 use Rattle.cfg_given.proofs.Each.{all_push, distinct_new, distinct_keys}
 use Rattle.cfg_given.proofs.RouterItems.{IsRouterItem}

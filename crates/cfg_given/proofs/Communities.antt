@@ -6,10 +6,10 @@ use Rattle.std.specs.List.{AllByRecursion, IsDistinct, list_all, list_any, filte
 use Rattle.std.proofs.lemmas.Bool.{and_parts, or_parts, not-true, leb-true, leb-false, eqb-false}
 use Rattle.base_kit.specs.Sets.{with_number, with_numbers}
 use Rattle.base_kit.proofs.SetFacts.{ascending_with_numbers}
-use Rattle.cfg_ast.specs.FormSteps.{list_name_of}
-use Rattle.cfg_ast.specs.Words.{is_list_name, community_of, is_community, is_well_known_name, is_some_reserved, is_well_known, same_community}
-use Rattle.cfg_ast.specs.PolicyForms.{all_differ, is_group, list_names_of, communities_of}
-use Rattle.cfg_ast.specs.WellFormed.{IsBetween, IsListName, IsCommunitySet}
+use Rattle.cfg_ast.specs.text.FormSteps.{list_name_of}
+use Rattle.cfg_ast.specs.text.Words.{is_list_name, community_word, is_community, is_well_known_name, is_some_reserved, is_well_known, same_community}
+use Rattle.cfg_ast.specs.text.PolicyForms.{all_differ, is_group, list_names_of, community_words}
+use Rattle.cfg_ast.specs.printing.WellFormed.{IsBetween, IsListName, IsCommunitySet}
 use Rattle.cfg_given.proofs.Given.{fits, either}
 use Rattle.cfg_given.proofs.Each.{all_weaker, all_both, all_pass, none_pass, all_filter_map, length-filter_map}
 use Rattle.cfg_given.proofs.RouterItems.{IsWord, AreWords}
@@ -103,24 +103,24 @@ value_case false (Some c) is plain =
     let low = leb-false 4294901760 c both.1 in
     (refl, (omega arith, omega arith))
 
-plain_value : (word : List ℕ) → is_community word ≡ true → is_well_known word ≡ false → IsPlainValue (community_of word)
+plain_value : (word : List ℕ) → is_community word ≡ true → is_well_known word ≡ false → IsPlainValue (community_word word)
 unfolding is_community is_well_known
-plain_value word is plain = value_case (is_well_known_name word) (community_of word) is plain
+plain_value word is plain = value_case (is_well_known_name word) (community_word word) is plain
 
-set_case : (words : List (List ℕ)) → IsBetween 1 32 (length words) → AllByRecursion (λ word. IsPlainValue (community_of word)) words → IsCommunitySet (with_numbers (filter_map community_of words) [])
+set_case : (words : List (List ℕ)) → IsBetween 1 32 (length words) → AllByRecursion (λ word. IsPlainValue (community_word word)) words → IsCommunitySet (with_numbers (filter_map community_word words) [])
 set_case words count plain =
-    let values = filter_map community_of words in
-    let some : AllByRecursion (λ word. is_some (community_of word) ≡ true) words = all_weaker (λ word. IsPlainValue (community_of word)) (λ word. is_some (community_of word) ≡ true) (λ word is. is.0) words plain in
-    let ranges : AllByRecursion (λ word. IfSome (community_of word) (IsBetween 1 4294901759)) words = all_weaker (λ word. IsPlainValue (community_of word)) (λ word. IfSome (community_of word) (IsBetween 1 4294901759)) (λ word is. is.1) words plain in
-    let same = length-filter_map community_of words some in
+    let values = filter_map community_word words in
+    let some : AllByRecursion (λ word. is_some (community_word word) ≡ true) words = all_weaker (λ word. IsPlainValue (community_word word)) (λ word. is_some (community_word word) ≡ true) (λ word is. is.0) words plain in
+    let ranges : AllByRecursion (λ word. IfSome (community_word word) (IsBetween 1 4294901759)) words = all_weaker (λ word. IsPlainValue (community_word word)) (λ word. IfSome (community_word word) (IsBetween 1 4294901759)) (λ word is. is.1) words plain in
+    let same = length-filter_map community_word words some in
     record {
       count = count_of_set values (omega (arith, same, count.0)) (omega (arith, same, count.1));
-      each = all_with_numbers (IsBetween 1 4294901759) values [] (all_filter_map (IsBetween 1 4294901759) community_of words ranges) tt;
+      each = all_with_numbers (IsBetween 1 4294901759) values [] (all_filter_map (IsBetween 1 4294901759) community_word words ranges) tt;
       ascending = ascending_with_numbers values [] tt;
     }
 
-pub a_community_set : (words : List (List ℕ)) → IfOk (communities_of words) IsCommunitySet
-unfolding communities_of
+pub a_community_set : (words : List (List ℕ)) → IfOk (community_words words) IsCommunitySet
+unfolding community_words
 a_community_set words =
     fits IsCommunitySet (is_group words && list_all is_community words && all_differ same_community words) _ (λ e.
     let two = and_parts (is_group words && list_all is_community words) (all_differ same_community words) e in
@@ -128,4 +128,4 @@ a_community_set words =
     either IsCommunitySet (list_any is_well_known words) _ _ (λ known. tt) (λ none.
     let are : AllByRecursion (λ word. is_community word ≡ true) words = all_pass is_community words one.1 in
     let plain : AllByRecursion (λ word. is_well_known word ≡ false) words = none_pass is_well_known words none in
-    set_case words (group_count words one.0) (all_both (λ word. is_community word ≡ true) (λ word. is_well_known word ≡ false) (λ word. IsPlainValue (community_of word)) plain_value words are plain)))
+    set_case words (group_count words one.0) (all_both (λ word. is_community word ≡ true) (λ word. is_well_known word ≡ false) (λ word. IsPlainValue (community_word word)) plain_value words are plain)))

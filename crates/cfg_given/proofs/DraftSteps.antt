@@ -15,13 +15,13 @@ use Rattle.cfg_ast.specs.declared.items.RouterItem.TheVariants as item
 use Rattle.cfg_ast.specs.declared.items.PolicyScope.TheVariants as policy_scope
 use Rattle.cfg_ast.specs.declared.items.PolicyItem.{PolicyItem}
 use Rattle.cfg_ast.specs.declared.items.PolicyItem.TheVariants as policy
-use Rattle.cfg_ast.specs.TextLines.{TextLine}
-use Rattle.cfg_ast.specs.Words.{is_router_name}
-use Rattle.cfg_ast.specs.PolicyLines.{is_policy_line, has_prefix_entry, has_map_entry}
-use Rattle.cfg_ast.specs.Reading.{Stanza, closed, ignored, in_interface, in_bgp, in_ospf, in_entry, Draft, State, no_draft, at_start, closing, with_closed, has_interface, take_line, named_router, router_of, end_router, ends_router, take_top, take_policy, step_policy, step_router, take_inner, step, steps}
-use Rattle.cfg_ast.specs.RouterForms.{router_item_of}
-use Rattle.cfg_ast.specs.PolicyForms.{policy_item_of}
-use Rattle.cfg_ast.specs.WellFormed.{IsListName, IsWellFormedInterface, same_interface, IsWellFormedBgp, IsWellFormedOspf, IsWellFormedPrefixList, same_prefix_list, IsWellFormedCommunityList, same_community_list, IsWellFormedMapEntry, IsWellFormedRouteMap, same_route_map, IsWellFormedRouter}
+use Rattle.cfg_ast.specs.text.TextLines.{TextLine}
+use Rattle.cfg_ast.specs.text.Words.{is_router_name}
+use Rattle.cfg_ast.specs.text.PolicyLines.{is_policy_line, has_prefix_entry, has_map_entry}
+use Rattle.cfg_ast.specs.text.Reading.{Stanza, closed, ignored, in_interface, in_bgp, in_ospf, in_entry, Draft, State, no_draft, at_start, closing_stanza, with_closed, has_interface, take_line, named_router, router_of, end_router, ends_router, take_top, take_policy, step_policy, step_router, take_inner, step, steps}
+use Rattle.cfg_ast.specs.text.RouterForms.{router_item_of}
+use Rattle.cfg_ast.specs.text.PolicyForms.{policy_item_of}
+use Rattle.cfg_ast.specs.printing.WellFormed.{IsListName, IsWellFormedInterface, same_interface, IsWellFormedBgp, IsWellFormedOspf, IsWellFormedPrefixList, same_prefix_list, IsWellFormedCommunityList, same_community_list, IsWellFormedMapEntry, IsWellFormedRouteMap, same_route_map, IsWellFormedRouter}
 use Rattle.cfg_given.proofs.Given.{either, then_step, then_said, stands_once}
 use Rattle.cfg_given.proofs.Each.{all_push, distinct_new, distinct_nil}
 use Rattle.cfg_given.proofs.RouterItems.{AreWords, IsRouterItem, a_router_item}
@@ -64,7 +64,7 @@ IsDraft d = HasParts d × IsStanza d.interfaces d.route_maps d.stanza
 
 -- ---- a stanza is closed
 
-closing_step : (stanza : Stanza) (d : Draft) → HasParts d → IsStanza d.interfaces d.route_maps stanza → d.stanza ≡ stanza → IsDraft (closing stanza d)
+closing_step : (stanza : Stanza) (d : Draft) → HasParts d → IsStanza d.interfaces d.route_maps stanza → d.stanza ≡ stanza → IsDraft (closing_stanza stanza d)
 unfolding has_interface
 closing_step closed d has is same = (has, rw same tt)
 closing_step ignored d has is same = (has, tt)

@@ -4,8 +4,8 @@ use Rattle.std.specs.Prelude.{IfSome, IfOk, if◌then◌else◌}
 use Rattle.std.specs.Option.{option_and_then}
 use Rattle.cfg_ast.specs.declared.refusal.FormFault.{FormFault}
 use Rattle.cfg_ast.specs.declared.refusal.ReadRefusal.{ReadRefusal}
-use Rattle.cfg_ast.specs.FormSteps.{◌>>=◌, or_bad, bad_unless}
-use Rattle.cfg_ast.specs.Stanzas.{◌>>=◌ as ◌>>>◌, said_at, once}
+use Rattle.cfg_ast.specs.text.FormSteps.{◌>>=◌, or_bad, bad_unless}
+use Rattle.cfg_ast.specs.text.Stanzas.{◌>>=◌ as ◌>>>◌, said_at, once}
 
 -- ---- words
 

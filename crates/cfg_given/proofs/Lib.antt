@@ -1,3 +1,5 @@
+pub mod AddressItems
+pub mod AddressOrder
 pub mod BgpSteps
 pub mod Communities
 pub mod DraftSteps
@@ -5,6 +7,7 @@ pub mod Each
 pub mod Given
 pub mod Lists
 pub mod LineOrder
+pub mod LinkOrder
 pub mod ListSteps
 pub mod PlaceOrder
 pub mod PolicyItems

@@ -16,12 +16,12 @@ use Rattle.cfg_ast.specs.declared.items.RouterItem.TheVariants as item
 use Rattle.cfg_ast.specs.declared.items.PolicyScope.TheVariants as policy_scope
 use Rattle.cfg_ast.specs.declared.items.PolicyItem.{PolicyItem}
 use Rattle.cfg_ast.specs.declared.items.PolicyItem.TheVariants as policy
-use Rattle.cfg_ast.specs.TextLines.{TextLine}
-use Rattle.cfg_ast.specs.PolicyLines.{is_policy_line, has_prefix_entry, has_map_entry, set_entry}
-use Rattle.cfg_ast.specs.RouterForms.{router_item_of}
-use Rattle.cfg_ast.specs.PolicyForms.{policy_item_of}
-use Rattle.cfg_ast.specs.Stanzas.{set_interface, has_network, has_neighbor, new_neighbor, set_neighbor, at_neighbor, peer_of, set_process, set_bgp_for, set_bgp}
-use Rattle.cfg_ast.specs.Reading.{Stanza, closed, ignored, in_interface, in_bgp, in_ospf, in_entry, Draft, State, no_draft, at_start, closing, with_closed, has_interface, take_line, named_router, router_of, ends_router, take_top, take_policy, step_policy, step_router, take_inner, step, steps}
+use Rattle.cfg_ast.specs.text.TextLines.{TextLine}
+use Rattle.cfg_ast.specs.text.PolicyLines.{is_policy_line, has_prefix_entry, has_map_entry, set_entry}
+use Rattle.cfg_ast.specs.text.RouterForms.{router_item_of}
+use Rattle.cfg_ast.specs.text.PolicyForms.{policy_item_of}
+use Rattle.cfg_ast.specs.text.Stanzas.{set_interface, has_network, has_neighbor, new_neighbor, set_neighbor, at_neighbor, peer_of, set_process, set_bgp_for, set_bgp}
+use Rattle.cfg_ast.specs.text.Reading.{Stanza, closed, ignored, in_interface, in_bgp, in_ospf, in_entry, Draft, State, no_draft, at_start, closing_stanza, with_closed, has_interface, take_line, named_router, router_of, ends_router, take_top, take_policy, step_policy, step_router, take_inner, step, steps}
 use Rattle.cfg_given.proofs.Given.{IsAny, any_result, either, then_step, then_said, stands_once}
 use Rattle.cfg_given.proofs.Each.{all_weaker, all_push}
 
@@ -57,7 +57,7 @@ IsOnly bgp (in_bgp b) = bgp ≡ None
 IsOnly bgp _ = Unit {0}
 
 -- one line more at the end, or none
-abbrev Extends : ℕ → List ℕ → List ℕ → Type 0
+abbrev pub Extends : ℕ → List ℕ → List ℕ → Type 0
 Extends n before after = (after ≡ before) ⊎ (after ≡ before ++ n ∷ [])
 
 abbrev Grows : ℕ → Draft → Draft → Type 0
@@ -65,7 +65,7 @@ Grows n d e = Extends n (draft_interfaces d) (draft_interfaces e) × Extends n (
 
 -- ---- a stanza is closed
 
-closing_interfaces : (st : Stanza) (d : Draft) → d.stanza ≡ st → draft_interfaces (closing st d) ≡ draft_interfaces d
+closing_interfaces : (st : Stanza) (d : Draft) → d.stanza ≡ st → draft_interfaces (closing_stanza st d) ≡ draft_interfaces d
 closing_interfaces closed d same = refl
 closing_interfaces (in_interface i) d same = append-nil (lines_of_interfaces (d.interfaces ++ i ∷ [])) ∙ map_push (λ (j : Interface). j.line) d.interfaces i ∙ ap (λ (st : Stanza). lines_of_interfaces d.interfaces ++ interface_of st) (sym same)
 closing_interfaces ignored d same = ap (λ (st : Stanza). lines_of_interfaces d.interfaces ++ interface_of st) (sym same)
@@ -73,7 +73,7 @@ closing_interfaces (in_bgp b) d same = ap (λ (st : Stanza). lines_of_interfaces
 closing_interfaces (in_ospf o) d same = ap (λ (st : Stanza). lines_of_interfaces d.interfaces ++ interface_of st) (sym same)
 closing_interfaces (in_entry name e) d same = ap (λ (st : Stanza). lines_of_interfaces d.interfaces ++ interface_of st) (sym same)
 
-closing_neighbors : (st : Stanza) (d : Draft) → d.stanza ≡ st → IsOnly d.bgp st → draft_neighbors (closing st d) ≡ draft_neighbors d
+closing_neighbors : (st : Stanza) (d : Draft) → d.stanza ≡ st → IsOnly d.bgp st → draft_neighbors (closing_stanza st d) ≡ draft_neighbors d
 closing_neighbors closed d same only = refl
 closing_neighbors (in_bgp b) d same only = append-nil (lines_of_neighbors b.neighbors) ∙ ap (λ (o : Option BgpProcess). neighbors_in o ++ lines_of_neighbors b.neighbors) (sym only) ∙ ap (λ (st : Stanza). neighbors_in d.bgp ++ neighbors_open st) (sym same)
 closing_neighbors ignored d same only = ap (λ (st : Stanza). neighbors_in d.bgp ++ neighbors_open st) (sym same)
@@ -81,7 +81,7 @@ closing_neighbors (in_interface i) d same only = ap (λ (st : Stanza). neighbors
 closing_neighbors (in_ospf o) d same only = ap (λ (st : Stanza). neighbors_in d.bgp ++ neighbors_open st) (sym same)
 closing_neighbors (in_entry name e) d same only = ap (λ (st : Stanza). neighbors_in d.bgp ++ neighbors_open st) (sym same)
 
-closing_closed : (st : Stanza) (d : Draft) → d.stanza ≡ st → (closing st d).stanza ≡ closed
+pub closing_closed : (st : Stanza) (d : Draft) → d.stanza ≡ st → (closing_stanza st d).stanza ≡ closed
 closing_closed closed d same = same
 closing_closed _ d same = refl
 
@@ -111,7 +111,7 @@ same_interfaces n c idle = inl (append-nil (lines_of_interfaces c.interfaces) �
 same_neighbors : (n : ℕ) (c : Draft) → c.stanza ≡ closed → Extends n (draft_neighbors c) (neighbors_in c.bgp ++ [])
 same_neighbors n c idle = inl (append-nil (neighbors_in c.bgp) ∙ sym (idle_neighbors c idle))
 
-none_of : {X : Type 0} (o : Option X) → is_some o ≡ false → o ≡ None
+pub none_of : {X : Type 0} (o : Option X) → is_some o ≡ false → o ≡ None
 none_of None e = refl
 none_of (Some x) e = absurd cc
 
@@ -223,7 +223,7 @@ state_neighbors s = routers_neighbors s.routers ++ draft_neighbors s.draft
 abbrev GrowsState : ℕ → State → State → Type 0
 GrowsState n s t = Extends n (state_interfaces s) (state_interfaces t) × Extends n (state_neighbors s) (state_neighbors t) × IsOnly t.draft.bgp t.draft.stanza
 
-extends_behind : (n : ℕ) (front before now after : List ℕ) → now ≡ before → Extends n now after → Extends n (front ++ before) (front ++ after)
+pub extends_behind : (n : ℕ) (front before now after : List ℕ) → now ≡ before → Extends n now after → Extends n (front ++ before) (front ++ after)
 extends_behind n front before now after same (inl e) = inl (ap (λ (ks : List ℕ). front ++ ks) (e ∙ same))
 extends_behind n front before now after same (inr e) = inr (ap (λ (ks : List ℕ). front ++ ks) (e ∙ ap (λ (ks : List ℕ). ks ++ n ∷ []) same) ∙ sym (append_assoc front before (n ∷ [])))
 
@@ -236,7 +236,7 @@ in_state n rs d c e of grows = (
 )
 
 -- a router that ends takes its draft's lines along
-moved : {X : Type 0} (lines : X → List ℕ) (xs : List X) (x : X) (draft : List ℕ) → draft ≡ lines x → flat_map lines (xs ++ x ∷ []) ++ [] ≡ flat_map lines xs ++ draft
+pub moved : {X : Type 0} (lines : X → List ℕ) (xs : List X) (x : X) (draft : List ℕ) → draft ≡ lines x → flat_map lines (xs ++ x ∷ []) ++ [] ≡ flat_map lines xs ++ draft
 moved lines xs x draft e = append-nil (flat_map lines (xs ++ x ∷ [])) ∙ flat_map-append lines xs (x ∷ []) ∙ ap (λ (ks : List ℕ). flat_map lines xs ++ ks) (append-nil (lines x) ∙ sym e)
 
 named_grows : (n : ℕ) (rs : List Router) (d c : Draft) (name : Option Named) → IsClosedOf d c → IfOk (named_router n name c) (λ (r : Router). GrowsState n (record { routers = rs; draft = d }) (record { routers = rs ++ r ∷ []; draft = no_draft }))
@@ -296,7 +296,7 @@ ascending_push : (m n : ℕ) (ks : List ℕ) → IsAscending ks → AllByRecursi
 ascending_push m n [] up all less = (tt, tt)
 ascending_push m n (k ∷ ks) up all less = (above_push k n ks up.0 (let le = all.0 in omega arith), ascending_push m n ks up.1 all.1 less)
 
-order_next : (m n : ℕ) (before after : List ℕ) → IsInOrder m before → m < n → n ≤ 1000000 → Extends n before after → IsInOrder n after
+pub order_next : (m n : ℕ) (before after : List ℕ) → IsInOrder m before → m < n → n ≤ 1000000 → Extends n before after → IsInOrder n after
 order_next m n before after is less small (inl e) = rw e (record { ascending = is.ascending; upto = all_weaker (λ (k : ℕ). k ≤ m) (λ (k : ℕ). k ≤ n) (λ k le. omega arith) before is.upto; range = is.range })
 order_next m n before after is less small (inr e) =
     rw e (record {
@@ -356,7 +356,7 @@ pub record AreLines (ks : List ℕ) : Type 0 where
   pub ascending : IsAscending ks
   pub few : length ks ≤ 1000000
 
-front_lines : (m : ℕ) (xs ys : List ℕ) → IsInOrder m (xs ++ ys) → AreLines xs
+pub front_lines : (m : ℕ) (xs ys : List ℕ) → IsInOrder m (xs ++ ys) → AreLines xs
 front_lines m xs ys is =
     let up = ascending_front xs ys is.ascending in
     let range = all_front (λ (k : ℕ). (1 ≤ k) × (k ≤ 1000000)) xs ys is.range in

@@ -8,8 +8,8 @@ use Rattle.cfg_ast.specs.declared.policy.CommunityLine.{CommunityLine}
 use Rattle.cfg_ast.specs.declared.policy.CommunityList.{CommunityList}
 use Rattle.cfg_ast.specs.declared.policy.MapEntry.{MapEntry}
 use Rattle.cfg_ast.specs.declared.policy.RouteMap.{RouteMap}
-use Rattle.cfg_ast.specs.PolicyLines.{is_prefix_list, has_seq, has_prefix_entry, put_prefix_entry, with_prefix_entry, is_community_list, put_community_line, with_community_line, is_route_map, has_entry_seq, has_map_entry, put_map_entry, with_map_entry}
-use Rattle.cfg_ast.specs.WellFormed.{IsListName, IsWellFormedPrefixEntry, IsWellFormedPrefixList, same_prefix_list, IsWellFormedCommunityLine, IsWellFormedCommunityList, same_community_list, IsWellFormedMapEntry, IsWellFormedRouteMap, same_route_map}
+use Rattle.cfg_ast.specs.text.PolicyLines.{is_prefix_list, has_seq, has_prefix_entry, put_prefix_entry, with_prefix_entry, is_community_list, put_community_line, with_community_line, is_route_map, has_entry_seq, has_map_entry, put_map_entry, with_map_entry}
+use Rattle.cfg_ast.specs.printing.WellFormed.{IsListName, IsWellFormedPrefixEntry, IsWellFormedPrefixList, same_prefix_list, IsWellFormedCommunityLine, IsWellFormedCommunityList, same_community_list, IsWellFormedMapEntry, IsWellFormedRouteMap, same_route_map}
 use Rattle.cfg_given.proofs.Each.{all_push, all_both, none_pass}
 use Rattle.cfg_given.proofs.Lists.{push_some, put_all, put_some, put_ascending, changed_all, changed_distinct}
 

@@ -5,7 +5,7 @@ use Rattle.std.specs.List.{AllByRecursion, IsDistinct, list_any}
 use Rattle.std.proofs.lemmas.Bool.{or_parts, eqb-false, ne_eqb}
 use Rattle.base_kit.specs.Sets.{with_number, IsAscending}
 use Rattle.base_kit.proofs.Members.{ascending_with}
-use Rattle.cfg_ast.specs.PolicyLines.{changed_or_new, put_before}
+use Rattle.cfg_ast.specs.text.PolicyLines.{changed_or_new, put_before}
 use Rattle.cfg_given.proofs.Each.{distinct_keys}
 
 -- ---- one more at the end

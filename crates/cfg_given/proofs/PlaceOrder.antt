@@ -1,10 +1,13 @@
 -- The interfaces and neighbours of a network that some text gives stand in the order of their lines.
+-- Public: crates above may cite it.
 use Rattle.std.proofs.Common.{◌≡◌, ℕ, ◌+◌, ◌-◌, ◌<◌, ◌≤◌, Bool, true, false, cond, List, [], ◌∷◌, ◌++◌, map, filter, length, Option, Some, None, Result, Ok, Err, refl, sym, ap, ◌∙◌, arith}
-use Rattle.std.specs.Prelude.{IfOk, flat_map}
+use Rattle.std.specs.Prelude.{IfOk, flat_map, filter_map}
 use Rattle.std.specs.Option.{option_map_or}
-use Rattle.std.specs.List.{AllByRecursion, enumerate_from, range_with_len}
+use Rattle.std.specs.List.{AllByRecursion, cons_option, enumerate_from, range_with_len}
+use Rattle.std.proofs.Math.Logic.{∥∥₁_elim}
+use Rattle.std.proofs.Props.{props}
 use Rattle.std.proofs.lemmas.List.{map-append, length-map}
-use Rattle.std.proofs.lemmas.List.Elements.{recursion_from_All}
+use Rattle.std.proofs.lemmas.List.Elements.{recursion_from_All, filter_map-append}
 use Rattle.std.proofs.lemmas.Result.{IfOk-at_ok}
 use Rattle.cfg_ast.specs.declared.network.Network.{Network}
 use Rattle.cfg_ast.specs.declared.network.Router.{Router}
@@ -13,13 +16,15 @@ use Rattle.cfg_ast.specs.declared.bgp.BgpProcess.{BgpProcess}
 use Rattle.cfg_ast.specs.declared.bgp.Neighbor.{Neighbor}
 use Rattle.cfg_ast.specs.declared.line.Line.{Line}
 use Rattle.cfg_ast.specs.declared.refusal.ReadRefusal.{ReadRefusal}
-use Rattle.cfg_ast.specs.TextLines.{TextLine}
-use Rattle.cfg_ast.specs.Lines.{Piece, piece_at, begins_line, line_of, is_kept, kind_at, pieces_from, lines_of}
-use Rattle.cfg_ast.specs.Stanzas.{◌>>=◌}
-use Rattle.cfg_ast.specs.Reading.{at_start, steps, ending, network_of_lines, texts_of, network_of_text}
-use Rattle.cfg_ast.specs.Topology.{Place, place_on, places_on, places, interfaces_of, neighbors_of}
+use Rattle.cfg_ast.specs.text.TextLines.{TextLine}
+use Rattle.cfg_ast.specs.text.Lines.{Piece, piece_at, begins_line, line_of, is_kept, kind_at, pieces_from, lines_of}
+use Rattle.cfg_ast.specs.text.Stanzas.{◌>>=◌}
+use Rattle.cfg_ast.specs.text.Reading.{at_start, steps, ending, network_of_lines, texts_of, network_of_text, IsGiven}
+use Rattle.cfg_ast.specs.meaning.Topology.{Place, place_on, places_on, places, interfaces_of, neighbors_of}
 use Rattle.cfg_ast.proofs.Within.{few, lines_faultless}
-use Rattle.cfg_given.specs.Laws.{interface_line, neighbor_line, PlacesAreInOrder, GivenPlacesAreInOrder}
+use Rattle.cfg_given.specs.Laws.{interface_line, neighbor_line, address_line_of, PlacesAreInOrder, GivenPlacesAreInOrder}
+use Rattle.cfg_given.proofs.AddressOrder.{routers_addresses, HasAddressesInOrder, address_steps, start_addresses, addresses_lines}
+use Rattle.cfg_given.proofs.Propositions.{ascending_prop}
 use Rattle.cfg_given.proofs.Given.{IsAny, any_result, then_step}
 use Rattle.cfg_given.proofs.Each.{all_weaker}
 use Rattle.cfg_given.proofs.LineOrder.{AreNumbered, AreOrdered, start_ordered, ordered_steps, AreLines, routers_interfaces, routers_neighbors, neighbors_in, lines_of_neighbors, routers_lines}
@@ -96,17 +101,50 @@ all_peers : (rs : List Router) → flat_map (λ (r : Router). map (λ (p : Neigh
 all_peers [] = refl
 all_peers (r ∷ rs) = rw (peers_of r.bgp, all_peers rs) refl
 
-in_order : (network : Network) → HasLines network → PlacesAreInOrder network
-in_order network has =
+value_lines : {X : Type 0} (line : X → Option ℕ) (ps : List (Place X)) → filter_map (λ (p : Place X). line p.value) ps ≡ filter_map line (map (λ (p : Place X). p.value) ps)
+value_lines line [] = refl
+value_lines line (p ∷ ps) = ap (λ (ks : List ℕ). cons_option (line p.value) ks) (value_lines line ps)
+
+some_lines_flat : {X : Type 0} (line : X → Option ℕ) (items : Router → List X) (rs : List Router) → filter_map line (flat_map items rs) ≡ flat_map (λ (r : Router). filter_map line (items r)) rs
+some_lines_flat line items [] = refl
+some_lines_flat line items (r ∷ rs) = filter_map-append line (items r) (flat_map items rs) ∙ ap (λ (ks : List ℕ). filter_map line (items r) ++ ks) (some_lines_flat line items rs)
+
+in_order : (network : Network) → HasLines network → AreLines (routers_addresses network.routers) → PlacesAreInOrder network
+in_order network has given =
     let interfaces = place_lines (λ (i : Interface). i.line) interfaces_of network in
+    let addresses = value_lines address_line_of (places interfaces_of network) ∙ ap (filter_map address_line_of) (values interfaces_of network) ∙ some_lines_flat address_line_of interfaces_of network.routers in
     let neighbors = place_lines (λ (p : Neighbor). p.line) neighbors_of network ∙ all_peers network.routers in
     record {
       interfaces = rw interfaces has.0.ascending;
+      addresses = rw addresses given.ascending;
       neighbors = rw neighbors has.1.ascending;
       few_interfaces = (let count = length-map (places interfaces_of network) interface_line in let few = has.0.few in omega (arith, sym count, ap (λ (ks : List ℕ). length ks) interfaces));
       few_neighbors = (let count = length-map (places neighbors_of network) neighbor_line in let few = has.1.few in omega (arith, sym count, ap (λ (ks : List ℕ). length ks) neighbors));
     }
 
-pub given_places_are_in_order : GivenPlacesAreInOrder
+-- ---- the addresses
+
+abbrev HasAddresses : Network → Type 0
+HasAddresses n = AreLines (routers_addresses n.routers)
+
+addresses_of_lines : (ls : List TextLine) → AreNumbered 0 ls → IfOk (network_of_lines ls) HasAddresses
+unfolding network_of_lines
+addresses_of_lines ls are =
+    then_step HasAddressesInOrder HasAddresses (steps at_start ls) _ (address_steps ls at_start 0 are start_addresses)
+    (λ s is. then_step IsAny HasAddresses (ending ls) _ (any_result (ending ls)) (λ x any. let lines : HasAddresses (record { routers = s.routers }) = addresses_lines s is in lines))
+
+addresses_of_result : (bs : List ℕ) (r : Result (List Line) ReadRefusal) → lines_of bs ≡ r → IfOk (r >>= (λ (ls : List Line). network_of_lines (texts_of bs ls))) HasAddresses
+addresses_of_result bs (Err fault) e = tt
+addresses_of_result bs (Ok ls) e = addresses_of_lines (texts_of bs ls) (lines_numbered bs ls e)
+
+-- ---- networks that some text gives
+
+of_text : (network : Network) → IsGiven network → PlacesAreInOrder network
 unfolding network_of_text
-given_places_are_in_order network (bs, e) = in_order network (IfOk-at_ok HasLines e (of_result bs (lines_of bs) refl))
+of_text network (bs, e) = in_order network (IfOk-at_ok HasLines e (of_result bs (lines_of bs) refl)) (IfOk-at_ok HasAddresses e (addresses_of_result bs (lines_of bs) refl))
+
+PlacesAreInOrder-prop : (network : Network) → IsProp (PlacesAreInOrder network)
+PlacesAreInOrder-prop network = hlevel (props, ascending_prop)
+
+pub given_places_are_in_order : GivenPlacesAreInOrder
+given_places_are_in_order network known = ∥∥₁_elim known (PlacesAreInOrder-prop network) (λ given. of_text network given)

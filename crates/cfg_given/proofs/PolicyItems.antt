@@ -11,10 +11,10 @@ use Rattle.cfg_ast.specs.declared.heads.PolicyForm.TheVariants as form
 use Rattle.cfg_ast.specs.declared.items.PolicyScope.{PolicyScope}
 use Rattle.cfg_ast.specs.declared.items.PolicyItem.{PolicyItem}
 use Rattle.cfg_ast.specs.declared.items.PolicyItem.TheVariants as item
-use Rattle.cfg_ast.specs.Words.{as_number_of, number_between}
-use Rattle.cfg_ast.specs.Heads.{class_in, policy_heads_of}
-use Rattle.cfg_ast.specs.PolicyForms.{is_permit, is_marked, but_last, bounds_of, prefix_entry_form, community_line, numbered_line, community_line_form, map_head_form, match_prefixes_form, comms_match, marked_match, match_comms_form, lp_form, is_none_alone, change_of, set_comms_form, delete_form, is_as_number, prepend_form, policy_form, policy_item_by, policy_item_of}
-use Rattle.cfg_ast.specs.WellFormed.{IsBetween, IsNumber, IsListName, IsPrefix, IsCommunitySet, IsWellFormedNamed, AreBounds, IsWellFormedPrefixEntry, IsWellFormedCommunityLine, IsWellFormedNameLine, IsMarkRight, IsWellFormedChange, IsWellFormedPrepend, IsWellFormedMapEntry}
+use Rattle.cfg_ast.specs.text.Words.{as_number_word, number_between}
+use Rattle.cfg_ast.specs.text.Heads.{class_in, policy_heads_of}
+use Rattle.cfg_ast.specs.text.PolicyForms.{is_permit, has_mark, but_last, bounds_of, prefix_entry_form, community_line, numbered_line, community_line_form, map_head_form, match_prefixes_form, comms_match, marked_match, match_comms_form, lp_form, is_none_alone, change_of, set_comms_form, delete_form, is_as_number, prepend_form, policy_form, policy_item_by, policy_item_of}
+use Rattle.cfg_ast.specs.printing.WellFormed.{IsBetween, IsNumber, IsListName, IsPrefix, IsCommunitySet, IsWellFormedNamed, AreBounds, IsWellFormedPrefixEntry, IsWellFormedCommunityLine, IsWellFormedNameLine, IsMarkRight, IsWellFormedChange, IsWellFormedPrepend, IsWellFormedMapEntry}
 use Rattle.cfg_given.proofs.Given.{given, after, fits, either, IsAny, anything}
 use Rattle.cfg_given.proofs.Each.{all_take, all_pass, all_filter_map, length-filter_map}
 use Rattle.cfg_given.proofs.Values.{a_number, between, an_as_number, a_prefix}
@@ -101,14 +101,14 @@ exact_case : (line : ℕ) (words : List (List ℕ)) → AreWords words → IfOk 
 unfolding comms_match
 exact_case line words are = after (AreNames words) IsPolicyItem _ _ (a_name_list words are) (λ names is. (record { count = is.0; each = is.1; once = is.2 }, tt))
 
-inexact_case : (line : ℕ) (words : List (List ℕ)) → AreWords words → is_marked (codes "exact-match") words ≡ false → IfOk (comms_match line false words) IsPolicyItem
+inexact_case : (line : ℕ) (words : List (List ℕ)) → AreWords words → has_mark (codes "exact-match") words ≡ false → IfOk (comms_match line false words) IsPolicyItem
 unfolding comms_match
-inexact_case line words are other = after (AreNames words) IsPolicyItem _ _ (a_name_list words are) (λ names is. (record { count = is.0; each = is.1; once = is.2 }, ap (is_marked (codes "exact-match")) is.3 ∙ other))
+inexact_case line words are other = after (AreNames words) IsPolicyItem _ _ (a_name_list words are) (λ names is. (record { count = is.0; each = is.1; once = is.2 }, ap (has_mark (codes "exact-match")) is.3 ∙ other))
 
 marked_case : (line : ℕ) (words : List (List ℕ)) → AreWords words → IfOk (marked_match line words) IsPolicyItem
 unfolding marked_match
 marked_case line words are =
-    either IsPolicyItem (is_marked (codes "exact-match") words) _ _ (λ e. exact_case line (but_last words) (all_take IsWord (length words - 1) words are)) (λ other. inexact_case line words are other)
+    either IsPolicyItem (has_mark (codes "exact-match") words) _ _ (λ e. exact_case line (but_last words) (all_take IsWord (length words - 1) words are)) (λ other. inexact_case line words are other)
 
 match_comms_case : (line : ℕ) (words : List (List ℕ)) → AreWords words → IfOk (match_comms_form line words) IsPolicyItem
 unfolding match_comms_form
@@ -124,7 +124,7 @@ change_case : (words : List (List ℕ)) → IfOk (change_of words) IsWellFormedC
 unfolding change_of
 change_case words =
     either IsWellFormedChange (is_none_alone words) _ _ (λ e. tt) (λ e.
-    either IsWellFormedChange (is_marked (codes "additive") words) _ _ (λ f.
+    either IsWellFormedChange (has_mark (codes "additive") words) _ _ (λ f.
     after IsCommunitySet IsWellFormedChange _ _ (a_community_set (but_last words)) (λ comms is. is)) (λ f.
     after IsCommunitySet IsWellFormedChange _ _ (a_community_set words) (λ comms is. is)))
 
@@ -138,7 +138,7 @@ unfolding delete_form
 delete_case line (_ ∷ _ ∷ name ∷ word ∷ []) are = fits IsPolicyItem (bytes_eq word (codes "delete")) _ (λ e. after IsWellFormedNamed IsPolicyItem _ _ (a_named line name are.1.1.0) (λ list is. is))
 delete_case line _ are = tt
 
-as_numbers : (words : List (List ℕ)) → AllByRecursion (λ word. IfSome (as_number_of word) (IsBetween 1 4294967295)) words
+as_numbers : (words : List (List ℕ)) → AllByRecursion (λ word. IfSome (as_number_word word) (IsBetween 1 4294967295)) words
 as_numbers [] = tt
 as_numbers (word ∷ words) = (an_as_number word, as_numbers words)
 
@@ -148,10 +148,10 @@ prepend_case line (_ ∷ _ ∷ _ ∷ words) =
     fits IsPolicyItem (nat_le 1 (length words) && nat_le (length words) 10 && list_all is_as_number words) _ (λ e.
     let two = and_parts (nat_le 1 (length words) && nat_le (length words) 10) (list_all is_as_number words) e in
     let one = and_parts (nat_le 1 (length words)) (nat_le (length words) 10) two.0 in
-    let same = length-filter_map as_number_of words (all_pass is_as_number words two.1) in
+    let same = length-filter_map as_number_word words (all_pass is_as_number words two.1) in
     let low = leb-true 1 (length words) one.0 in
     let high = leb-true (length words) 10 one.1 in
-    record { count = (omega arith, omega arith); each = all_filter_map (IsBetween 1 4294967295) as_number_of words (as_numbers words) })
+    record { count = (omega arith, omega arith); each = all_filter_map (IsBetween 1 4294967295) as_number_word words (as_numbers words) })
 prepend_case line _ = tt
 
 -- ---- a line by its head

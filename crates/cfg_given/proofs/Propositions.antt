@@ -21,13 +21,13 @@ use Rattle.cfg_ast.specs.declared.policy.Change.{Change}
 use Rattle.cfg_ast.specs.declared.policy.Change.TheVariants.{Clear, Replace, Append}
 use Rattle.cfg_ast.specs.declared.policy.MapEntry.{MapEntry}
 use Rattle.cfg_ast.specs.declared.policy.RouteMap.{RouteMap}
-use Rattle.cfg_ast.specs.WellFormed.{IsListName, IsPrefix, IsCommunitySet, IsWellFormedInterface, IsWellFormedNetLine, IsWellFormedNeighbor, IsWellFormedBgp, IsWellFormedOspf, AreBounds, IsWellFormedPrefixEntry, IsWellFormedPrefixList, IsWellFormedCommunityList, IsWellFormedNameLine, IsMarkRight, IsWellFormedChange, IsWellFormedPrepend, IsWellFormedMapEntry, IsWellFormedRouteMap, IsWellFormedRouter, IsWellFormed}
+use Rattle.cfg_ast.specs.printing.WellFormed.{IsListName, IsPrefix, IsCommunitySet, IsWellFormedInterface, IsWellFormedNetLine, IsWellFormedNeighbor, IsWellFormedBgp, IsWellFormedOspf, AreBounds, IsWellFormedPrefixEntry, IsWellFormedPrefixList, IsWellFormedCommunityList, IsWellFormedNameLine, IsMarkRight, IsWellFormedChange, IsWellFormedPrepend, IsWellFormedMapEntry, IsWellFormedRouteMap, IsWellFormedRouter, IsWellFormed}
 
 above_prop : (n : ℕ) (ks : List ℕ) → IsProp (AllAbove n ks)
 above_prop n [] = hlevel props
 above_prop n (k ∷ ks) = hlevel (props, above_prop n ks)
 
-ascending_prop : (ks : List ℕ) → IsProp (IsAscending ks)
+pub ascending_prop : (ks : List ℕ) → IsProp (IsAscending ks)
 ascending_prop [] = hlevel props
 ascending_prop (k ∷ ks) = hlevel (props, above_prop k ks, ascending_prop ks)
 

@@ -9,11 +9,11 @@ use Rattle.cfg_ast.specs.declared.heads.RouterForm.TheVariants as form
 use Rattle.cfg_ast.specs.declared.items.Scope.{Scope}
 use Rattle.cfg_ast.specs.declared.items.RouterItem.{RouterItem}
 use Rattle.cfg_ast.specs.declared.items.RouterItem.TheVariants as item
-use Rattle.cfg_ast.specs.Words.{is_list_name, is_router_name, is_interface_name}
-use Rattle.cfg_ast.specs.FormSteps.{named_of}
-use Rattle.cfg_ast.specs.Heads.{class_in, heads_of}
-use Rattle.cfg_ast.specs.RouterForms.{hostname_form, interface_form, bgp_form, ospf_form, end_form, ip_address_form, cost_form, shutdown_form, base_form, net_line, network_form, remote_as_form, peer_shut_form, sends_standard, peer_sends_form, is_inward, peer_list_form, peer_map_form, area_form, passive_form, not_passive_form, router_form, router_item_by, router_item_of}
-use Rattle.cfg_ast.specs.WellFormed.{IsBetween, IsNumber, IsInterfaceName, IsWellFormedAddress, IsWellFormedNetLine, IsWellFormedNamed, IsWellFormedArea}
+use Rattle.cfg_ast.specs.text.Words.{is_list_name, is_router_name, is_interface_name}
+use Rattle.cfg_ast.specs.text.FormSteps.{named_of}
+use Rattle.cfg_ast.specs.text.Heads.{class_in, heads_of}
+use Rattle.cfg_ast.specs.text.RouterForms.{hostname_form, interface_form, bgp_form, ospf_form, end_form, ip_address_form, cost_form, shutdown_form, base_form, net_line, network_form, remote_as_form, peer_shut_form, sends_standard, peer_sends_form, is_inward, peer_list_form, peer_map_form, area_form, passive_form, not_passive_form, router_form, router_item_by, router_item_of}
+use Rattle.cfg_ast.specs.printing.WellFormed.{IsBetween, IsNumber, IsInterfaceName, IsWellFormedAddress, IsWellFormedNetLine, IsWellFormedNamed, IsWellFormedArea}
 use Rattle.cfg_given.proofs.Given.{given, after, fits, either, IsAny, anything}
 use Rattle.cfg_given.proofs.Values.{a_number, between, an_as_number, an_address, an_area, a_mask_len, a_class_len, IsSomePrefix, an_exact_prefix}
 

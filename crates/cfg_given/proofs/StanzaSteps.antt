@@ -12,9 +12,9 @@ use Rattle.cfg_ast.specs.declared.items.RouterItem.{RouterItem}
 use Rattle.cfg_ast.specs.declared.items.RouterItem.TheVariants as item
 use Rattle.cfg_ast.specs.declared.items.PolicyItem.{PolicyItem}
 use Rattle.cfg_ast.specs.declared.items.PolicyItem.TheVariants as policy
-use Rattle.cfg_ast.specs.Stanzas.{set_interface, with_text, same_area, with_area, set_ospf}
-use Rattle.cfg_ast.specs.PolicyLines.{set_entry}
-use Rattle.cfg_ast.specs.WellFormed.{IsInterfaceName, IsWellFormedInterface, IsWellFormedArea, IsWellFormedOspf, IsWellFormedMapEntry}
+use Rattle.cfg_ast.specs.text.Stanzas.{set_interface, with_text, same_area_line, with_area, set_ospf}
+use Rattle.cfg_ast.specs.text.PolicyLines.{set_entry}
+use Rattle.cfg_ast.specs.printing.WellFormed.{IsInterfaceName, IsWellFormedInterface, IsWellFormedArea, IsWellFormedOspf, IsWellFormedMapEntry}
 use Rattle.cfg_given.proofs.Given.{stands_once}
 use Rattle.cfg_given.proofs.Each.{all_push, distinct_push, none_pass, all_weaker}
 use Rattle.cfg_given.proofs.RouterItems.{IsRouterItem}
@@ -61,21 +61,21 @@ number_swap m n = elim (cases_Bool (m == n)) [
   | inr other ↦ other ∙ sym (ne_eqb n m (λ e. eqb-false m n other (sym e)))
 ]
 
-pub area_swap : (a b : AreaLine) → same_area a b ≡ same_area b a
+pub area_swap : (a b : AreaLine) → same_area_line a b ≡ same_area_line b a
 area_swap a b = rw (number_swap a.addr b.addr, number_swap a.wild b.wild, number_swap a.area b.area) refl
 
 abbrev AreAreas : List AreaLine → Type 0
-AreAreas areas = AllByRecursion IsWellFormedArea areas × IsDistinct same_area areas
+AreAreas areas = AllByRecursion IsWellFormedArea areas × IsDistinct same_area_line areas
 
 area_step : (areas : List AreaLine) (area : AreaLine) → AreAreas areas → IsWellFormedArea area → AreAreas (with_area areas area)
 unfolding with_area
-area_step areas area are is = by (list_any (same_area area) areas) refl
+area_step areas area are is = by (list_any (same_area_line area) areas) refl
   where
-    by : (b : Bool) → list_any (same_area area) areas ≡ b → AreAreas (if b then areas else areas ++ area ∷ [])
+    by : (b : Bool) → list_any (same_area_line area) areas ≡ b → AreAreas (if b then areas else areas ++ area ∷ [])
     by true some = are
     by false none = (
       all_push IsWellFormedArea areas area are.0 is,
-      distinct_push same_area areas area are.1 (all_weaker (λ other. same_area area other ≡ false) (λ other. same_area other area ≡ false) (λ other apart. area_swap other area ∙ apart) areas (none_pass (same_area area) areas none)),
+      distinct_push same_area_line areas area are.1 (all_weaker (λ other. same_area_line area other ≡ false) (λ other. same_area_line other area ≡ false) (λ other apart. area_swap other area ∙ apart) areas (none_pass (same_area_line area) areas none)),
     )
 
 pub ospf_step : (said : RouterItem) (o : OspfProcess) → IsRouterItem said → IsWellFormedOspf o → IsWellFormedOspf (set_ospf said o)

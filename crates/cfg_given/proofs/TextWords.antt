@@ -4,9 +4,9 @@ use Rattle.std.specs.List.{AllByRecursion, range_with_len, slice_range}
 use Rattle.std.proofs.lemmas.Bool.Decides.{nat_tests}
 use Rattle.std.proofs.lemmas.List.Elements.{recursion_from_All}
 use Rattle.cfg_ast.specs.declared.line.Line.{Line}
-use Rattle.cfg_ast.specs.Lines.{is_plain, is_blank, blank_at, Piece, word_end, word_at, words_between, begins_word, line_of, is_kept, kind_at, odd_from, pieces_from, lines_of, texts}
-use Rattle.cfg_ast.specs.Reading.{texts_of}
-use Rattle.cfg_ast.specs.WellFormed.{IsBetween}
+use Rattle.cfg_ast.specs.text.Lines.{is_plain, is_blank, blank_at, Piece, word_end, word_at, words_between, begins_word, line_of, is_kept, kind_at, odd_from, pieces_from, lines_of, texts}
+use Rattle.cfg_ast.specs.text.Reading.{texts_of}
+use Rattle.cfg_ast.specs.printing.WellFormed.{IsBetween}
 use Rattle.cfg_ast.proofs.Places.{first_below, first_fails, first_from}
 use Rattle.cfg_ast.proofs.SameWords.{range_all}
 use Rattle.cfg_ast.proofs.Within.{Lies, pieces_lie, lines_faultless}

@@ -7,9 +7,9 @@ use Rattle.std.proofs.lemmas.Bool.{leb-true, and_parts, eqb-true}
 use Rattle.std.proofs.Math.Nat.{mod-eq-sub-mul-div, mul-mod_right, mod-le}
 use Rattle.base_kit.specs.Numbers.{number_up_to, is_numeral, value_from, address_of_numbers, address_of_parts, parts_at_points}
 use Rattle.base_kit.specs.Prefixes.{Prefix}
-use Rattle.cfg_ast.specs.Words.{is_slash, number_word, number_between, if_between, as_number_of, address_word, mask_of, len_of_mask, mask_len_of, classful_len_of, bits_behind, cut_to, exact_prefix, prefix_of}
-use Rattle.cfg_ast.specs.RouterForms.{area_of}
-use Rattle.cfg_ast.specs.WellFormed.{IsBetween, IsNumber, IsPrefix}
+use Rattle.cfg_ast.specs.text.Words.{is_slash, number_word, number_between, if_between, as_number_word, address_word, mask_of, len_of_mask, mask_len_of, classful_len_of, bits_behind, cut_to, exact_prefix, prefix_of}
+use Rattle.cfg_ast.specs.text.RouterForms.{area_word}
+use Rattle.cfg_ast.specs.printing.WellFormed.{IsBetween, IsNumber, IsPrefix}
 use Rattle.cfg_given.proofs.Given.{tested, and_after}
 use Rattle.cfg_given.proofs.Each.{all_weaker, all_find, all_range}
 
@@ -32,8 +32,8 @@ pub between : (low high : ℕ) (word : List ℕ) → IfSome (number_between low 
 unfolding number_between
 between low high word = and_after IsNumber (IsBetween low high) (number_word word) (if_between low high) (a_number word) (λ n is. in_between low high n)
 
-pub an_as_number : (word : List ℕ) → IfSome (as_number_of word) (IsBetween 1 4294967295)
-unfolding as_number_of
+pub an_as_number : (word : List ℕ) → IfSome (as_number_word word) (IsBetween 1 4294967295)
+unfolding as_number_word
 an_as_number word = between 1 4294967295 word
 
 -- ---- addresses
@@ -53,8 +53,8 @@ pub an_address : (word : List ℕ) → IfSome (address_word word) IsNumber
 unfolding address_word
 an_address word = of_parts (parts_at_points word)
 
-pub an_area : (word : List ℕ) → IfSome (area_of word) IsNumber
-unfolding area_of
+pub an_area : (word : List ℕ) → IfSome (area_word word) IsNumber
+unfolding area_word
 an_area word = by (number_word word) (address_word word) (a_number word) (an_address word)
   where
     by : (a b : Option ℕ) → IfSome a IsNumber → IfSome b IsNumber → IfSome (option_or a b) IsNumber

@@ -1,4 +1,4 @@
--- A network that some text gives is well formed.
+-- A network of which it is known that some text gives it is well formed. Public: crates above may cite it.
 use Rattle.std.proofs.Common.{◌≡◌, ℕ, ◌≤◌, List, Option, Some, None, Result, Ok, Err, refl, arith}
 use Rattle.std.specs.Prelude.{IfOk, IfSome, is_some, if◌then◌else◌}
 use Rattle.std.specs.Option.{option_map}
@@ -7,13 +7,14 @@ use Rattle.std.proofs.lemmas.List.Elements.{All-contains, All-from_recursion}
 use Rattle.std.proofs.lemmas.Result.{IfOk-at_ok}
 use Rattle.cfg_ast.specs.declared.line.Line.{Line}
 use Rattle.cfg_ast.specs.declared.refusal.ReadRefusal.{ReadRefusal}
-use Rattle.cfg_ast.specs.TextLines.{TextLine}
-use Rattle.cfg_ast.specs.Lines.{lines_of}
-use Rattle.cfg_ast.specs.Stanzas.{◌>>=◌}
-use Rattle.cfg_ast.specs.Reading.{at_start, steps, ending, network_of_lines, texts_of, network_of_text}
-use Rattle.cfg_ast.specs.Topology.{default_costs, is_row_of, default_cost_of, type_of}
-use Rattle.cfg_ast.specs.WellFormed.{IsBetween, IsWellFormedInterface, IsWellFormedRouter, IsWellFormed}
-use Rattle.cfg_given.specs.Laws.{GivenIsWellFormed, KnownIsWellFormed, GivenRoutersAreWellFormed, GivenCostsArePositive}
+use Rattle.cfg_ast.specs.text.TextLines.{TextLine}
+use Rattle.cfg_ast.specs.text.Lines.{lines_of}
+use Rattle.cfg_ast.specs.text.Stanzas.{◌>>=◌}
+use Rattle.cfg_ast.specs.declared.network.Network.{Network}
+use Rattle.cfg_ast.specs.text.Reading.{at_start, steps, ending, network_of_lines, texts_of, network_of_text, IsGiven}
+use Rattle.cfg_ast.specs.meaning.Topology.{default_costs, is_row_of, default_cost_of, type_of}
+use Rattle.cfg_ast.specs.printing.WellFormed.{IsBetween, IsWellFormedInterface, IsWellFormedRouter, IsWellFormed}
+use Rattle.cfg_given.specs.Laws.{GivenIsWellFormed, GivenRoutersAreWellFormed, GivenCostsArePositive}
 use Rattle.cfg_given.proofs.Each.{all_find}
 use Rattle.cfg_given.proofs.Given.{IsAny, any_result, then_step}
 use Rattle.cfg_given.proofs.DraftSteps.{IsState, start_is, IsLineOfWords, all_steps}
@@ -29,14 +30,14 @@ of_result : (bs : List ℕ) (r : Result (List Line) ReadRefusal) → lines_of bs
 of_result bs (Err fault) e = tt
 of_result bs (Ok ls) e = of_lines (texts_of bs ls) (lines_words bs ls e)
 
-pub given_is_well_formed : GivenIsWellFormed
+of_text : (network : Network) → IsGiven network → IsWellFormed network
 unfolding network_of_text
-given_is_well_formed network (bs, e) = IfOk-at_ok IsWellFormed e (of_result bs (lines_of bs) refl)
+of_text network (bs, e) = IfOk-at_ok IsWellFormed e (of_result bs (lines_of bs) refl)
+
+pub given_is_well_formed : GivenIsWellFormed
+given_is_well_formed network known = ∥∥₁_elim known (IsWellFormed-prop network) (λ given. of_text network given)
 
 -- ---- what follows
-
-pub known_is_well_formed : KnownIsWellFormed
-known_is_well_formed network known = ∥∥₁_elim known (IsWellFormed-prop network) (λ given. given_is_well_formed network given)
 
 pub given_routers_are_well_formed : GivenRoutersAreWellFormed
 given_routers_are_well_formed network is r in_network = All-contains IsWellFormedRouter network.routers r (All-from_recursion IsWellFormedRouter network.routers (given_is_well_formed network is).routers) in_network
