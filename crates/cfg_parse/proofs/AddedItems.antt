@@ -8,8 +8,8 @@ use Rattle.cfg_ast.specs.declared.policy.PrefixEntry.{PrefixEntry}
 use Rattle.cfg_ast.specs.declared.policy.PrefixList.{PrefixList}
 use Rattle.cfg_ast.specs.declared.policy.MapEntry.{MapEntry}
 use Rattle.cfg_ast.specs.declared.policy.RouteMap.{RouteMap}
-use Rattle.cfg_ast.specs.PolicyLines.{has_prefix_entry, with_prefix_entry, put_prefix_entry, is_prefix_list, has_seq, has_map_entry, with_map_entry, put_map_entry, is_route_map, has_entry_seq, changed_or_new, put_before}
-use Rattle.cfg_ast.specs.Reading.{has_interface}
+use Rattle.cfg_ast.specs.text.PolicyLines.{has_prefix_entry, with_prefix_entry, put_prefix_entry, is_prefix_list, has_seq, has_map_entry, with_map_entry, put_map_entry, is_route_map, has_entry_seq, changed_or_new, put_before}
+use Rattle.cfg_ast.specs.text.Reading.{has_interface}
 
 or_three : (a b c : Bool) → (a || (b || c)) ≡ (b || (a || c))
 or_three true true c = refl

@@ -11,7 +11,7 @@ use Rattle.std.proofs.lemmas.List.Sums.{fails_before_first}
 use Rattle.cfg_ast.specs.declared.policy.PrefixList.{PrefixList}
 use Rattle.cfg_ast.specs.declared.policy.CommunityList.{CommunityList}
 use Rattle.cfg_ast.specs.declared.policy.RouteMap.{RouteMap}
-use Rattle.cfg_ast.specs.PolicyLines.{changed_or_new}
+use Rattle.cfg_ast.specs.text.PolicyLines.{changed_or_new}
 
 pub other_prefix_list : (ls : List PrefixList) (i : ℕ) (l : PrefixList) → i < length ls → get_or ls i l ≡ get_or ls i (record { name = []; entries = [] })
 other_prefix_list ls i l lt = get_or_default ls i l (record { name = []; entries = [] }) lt

@@ -12,7 +12,7 @@ use Rattle.cfg_ast.specs.declared.refusal.ReadRefusal.{ReadRefusal}
 use Rattle.cfg_ast.specs.declared.refusal.ReadRefusal.TheVariants.{At}
 use Rattle.cfg_ast.specs.declared.items.RouterItem.{RouterItem}
 use Rattle.cfg_ast.specs.declared.items.RouterItem.TheVariants as item
-use Rattle.cfg_ast.specs.Stanzas.{◌>>=◌, once, at_neighbor, set_neighbor, new_neighbor}
+use Rattle.cfg_ast.specs.text.Stanzas.{◌>>=◌, once, at_neighbor, set_neighbor, new_neighbor}
 use Rattle.std.specs.Prelude.{is_some}
 use Rattle.std.specs.Result.{is_ok}
 use Rattle.std.specs.BTreeMap.{BTreeMap}

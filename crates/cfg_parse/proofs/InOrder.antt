@@ -6,7 +6,7 @@ use Rattle.std.specs.Map.{values_of}
 use Rattle.std.specs.declared.cmp.Ordering.TheVariants.{Less, Greater}
 use Rattle.std.specs.BTreeMap.{insert_entry}
 use Rattle.std.proofs.lemmas.Bool.Decides.{nat_tests}
-use Rattle.cfg_ast.specs.PolicyLines.{put_before}
+use Rattle.cfg_ast.specs.text.PolicyLines.{put_before}
 use Rattle.cfg_parse.specs.Indexes.{pair_order}
 use Rattle.cfg_parse.specs.InOrder.{put_all, by_seq}
 

@@ -21,8 +21,8 @@ use Rattle.cfg_ast.specs.declared.bgp.NetLine.{NetLine}
 use Rattle.cfg_ast.specs.declared.bgp.Neighbor.{Neighbor}
 use Rattle.cfg_ast.specs.declared.interface.Interface.{Interface}
 use Rattle.cfg_ast.specs.declared.ospf.AreaLine.{AreaLine}
-use Rattle.cfg_ast.specs.Reading.{has_interface}
-use Rattle.cfg_ast.specs.Stanzas.{same_prefix, same_area, has_network, has_neighbor}
+use Rattle.cfg_ast.specs.text.Reading.{has_interface}
+use Rattle.cfg_ast.specs.text.Stanzas.{same_prefix, same_area_line, has_network, has_neighbor}
 use Rattle.cfg_parse.specs.Indexes.{name_of_interface, HasNames, HasKeys, HasPlaces, HasSeqs, HasAddresses, AreApart, pair_order, prefix_order, area_order, area_key, prefix_of}
 
 -- ---- sets
@@ -163,10 +163,10 @@ pub has_named_interface : {Y : Type 0} (s : sorted.BTreeSet (String Y)) (items :
 unfolding has_interface
 has_named_interface s items name has = has name
 
-pub has_area : (s : sorted.BTreeSet (ℕ × ℕ × ℕ)) (areas : List AreaLine) (area : AreaLine) → HasKeys area_order area_key s areas → sorted.contains area_order s (area_key area) ≡ list_any (same_area area) areas
-has_area s areas area has = has (area_key area) ∙ any_same (λ x. is_eq (area_order (area_key x) (area_key area))) (same_area area) (λ x. same x) areas
+pub has_area : (s : sorted.BTreeSet (ℕ × ℕ × ℕ)) (areas : List AreaLine) (area : AreaLine) → HasKeys area_order area_key s areas → sorted.contains area_order s (area_key area) ≡ list_any (same_area_line area) areas
+has_area s areas area has = has (area_key area) ∙ any_same (λ x. is_eq (area_order (area_key x) (area_key area))) (same_area_line area) (λ x. same x) areas
   where
-    same : (x : AreaLine) → is_eq (area_order (area_key x) (area_key area)) ≡ same_area area x
+    same : (x : AreaLine) → is_eq (area_order (area_key x) (area_key area)) ≡ same_area_line area x
     same x = grind (arith, nat_tests)
 
 pub has_prefix : (s : sorted.BTreeSet Prefix) (nets : List NetLine) (prefix : Prefix) → HasKeys prefix_order prefix_of s nets → sorted.contains prefix_order s prefix ≡ has_network nets prefix

@@ -8,9 +8,9 @@ use Rattle.std.proofs.lemmas.List.Splits.{length-slice_split}
 use Rattle.std.proofs.lemmas.Bool.Decides.{nat_tests}
 use Rattle.std.proofs.lemmas.Str.Ascii.{IsAscii-from_all}
 use Rattle.cfg_ast.specs.declared.line.Line.{Line}
-use Rattle.cfg_ast.specs.TextLines.{TextLine, text_line}
-use Rattle.cfg_ast.specs.Words.{is_router_name, is_router_byte, is_name_long, begins_with, is_letter_or_digit}
-use Rattle.cfg_ast.specs.Members.{is_end_line, member_on, members_on, members_in, before_last}
+use Rattle.cfg_ast.specs.text.TextLines.{TextLine, text_line}
+use Rattle.cfg_ast.specs.text.Words.{is_router_name, is_router_byte, is_name_long, begins_with, is_letter_or_digit}
+use Rattle.cfg_ast.specs.text.Members.{is_end_line, member_on, members_on, members_in, before_last}
 use Rattle.cfg_parse.specs.declared.members.Found.{Found}
 use Rattle.cfg_parse.specs.MemberSteps.{with_member, with_line}
 

@@ -9,7 +9,7 @@ use Rattle.std.specs.BTreeSet as sorted
 use Rattle.std.proofs.lemmas.List.{map_push, map-set, get_or-map}
 use Rattle.cfg_ast.specs.declared.policy.PrefixEntry.{PrefixEntry}
 use Rattle.cfg_ast.specs.declared.policy.PrefixList.{PrefixList}
-use Rattle.cfg_ast.specs.PolicyLines.{is_prefix_list, has_prefix_entry, has_seq, put_prefix_entry}
+use Rattle.cfg_ast.specs.text.PolicyLines.{is_prefix_list, has_prefix_entry, has_seq, put_prefix_entry}
 use Rattle.cfg_parse.specs.Indexes.{HasSeqs, AreApart, ArePrefixListsIndexed, name_of_prefix_list, seq_of_prefix_entry, prefix_entry_seqs, no_prefix_list, pair_order}
 use Rattle.cfg_parse.specs.InOrder.{by_seq, prefix_list_in_order, with_last_prefix_entry}
 use Rattle.cfg_parse.proofs.InOrder.{by_seq_last, by_seq_one, has_by_seq}

@@ -7,12 +7,12 @@ use Rattle.cfg_ast.specs.declared.line.Span.{Span}
 use Rattle.cfg_ast.specs.declared.network.Network.{Network}
 use Rattle.cfg_ast.specs.declared.refusal.ReadRefusal.{ReadRefusal}
 use Rattle.cfg_ast.specs.declared.refusal.ReadRefusal.TheVariants as refusal
-use Rattle.cfg_ast.specs.Answers.{RefusesAs}
-use Rattle.cfg_ast.specs.Lines.{lines_of, IsWordIn}
-use Rattle.cfg_ast.specs.Members.{IsSpanIn}
-use Rattle.cfg_ast.specs.TextLines.{TextLine, text_line}
-use Rattle.cfg_ast.specs.Stanzas.{◌>>=◌}
-use Rattle.cfg_ast.specs.Reading.{State, at_start, step, steps, texts_of, end_at, ending, network_of_lines, network_of_text}
+use Rattle.cfg_ast.specs.text.Answers.{RefusesAs}
+use Rattle.cfg_ast.specs.text.Lines.{lines_of, IsWordIn}
+use Rattle.cfg_ast.specs.text.Members.{IsSpanIn}
+use Rattle.cfg_ast.specs.text.TextLines.{TextLine, text_line}
+use Rattle.cfg_ast.specs.text.Stanzas.{◌>>=◌}
+use Rattle.cfg_ast.specs.text.Reading.{State, at_start, step, steps, texts_of, end_at, ending, network_of_lines, network_of_text}
 use Rattle.cfg_lex.specs.declared.following.Place.{Place}
 use Rattle.cfg_lex.specs.Places.{lines_from, put_first, IsFirst}
 use Rattle.cfg_parse.specs.Rest.{ended_by, read_on, state_after}

@@ -1,7 +1,7 @@
 -- A line of a stanza, in the state that agrees with the lines before.
 use Rattle.std.proofs.Common.{◌≡◌, ℕ, Bool, true, false, ◌&&◌, ◌||◌, List, ◌∷◌, Option, Some, None, Result, Ok, Err, refl, sym, ap, ◌∙◌, is_some, ◌==◌, inl, inr}
 use Rattle.std.specs.Str.{bytes_eq}
-use Rattle.cfg_ast.specs.Addresses.{Address}
+use Rattle.cfg_ast.specs.meaning.Addresses.{Address}
 use Rattle.cfg_ast.specs.declared.network.Named.{Named}
 use Rattle.cfg_ast.specs.declared.interface.Interface.{Interface}
 use Rattle.cfg_ast.specs.declared.ospf.OspfProcess.{OspfProcess}
@@ -18,13 +18,13 @@ use Rattle.cfg_ast.specs.declared.items.PolicyItem.TheVariants as policy
 use Rattle.cfg_ast.specs.declared.refusal.FormFault.{FormFault}
 use Rattle.cfg_ast.specs.declared.refusal.Kind.TheVariants as kind
 use Rattle.cfg_ast.specs.declared.refusal.ReadRefusal.TheVariants as refusal
-use Rattle.cfg_ast.specs.TextLines.{TextLine}
-use Rattle.cfg_ast.specs.RouterForms.{router_item_of}
-use Rattle.cfg_ast.specs.PolicyForms.{policy_item_of}
-use Rattle.cfg_ast.specs.PolicyLines.{set_entry, has_map_entry}
-use Rattle.cfg_ast.specs.Stanzas.{◌>>=◌, once, said_at, refusal_of, set_interface, set_ospf}
-use Rattle.cfg_ast.specs.Reading.{Stanza, in_interface, in_ospf, in_entry, State, has_interface, with_closed, take_inner, step}
-use Rattle.cfg_ast.specs.FormFaults.{Thing, host_name, interface, ospf, map_entry, Part, address, cost, match_prefixes, match_communities, set_preference, set_communities, set_comm_list, set_prepend, What, whole, part, same_part, within, Saying, silent, giving, interface_saying, ospf_saying, entry_saying, means, inner_says, is_top, open_of, says, is_given, fault_of}
+use Rattle.cfg_ast.specs.text.TextLines.{TextLine}
+use Rattle.cfg_ast.specs.text.RouterForms.{router_item_of}
+use Rattle.cfg_ast.specs.text.PolicyForms.{policy_item_of}
+use Rattle.cfg_ast.specs.text.PolicyLines.{set_entry, has_map_entry}
+use Rattle.cfg_ast.specs.text.Stanzas.{◌>>=◌, once, said_at, refusal_of, set_interface, set_ospf}
+use Rattle.cfg_ast.specs.text.Reading.{Stanza, in_interface, in_ospf, in_entry, State, has_interface, with_closed, take_inner, step}
+use Rattle.cfg_parse.specs.FormFaults.{Thing, host_name, interface, ospf, map_entry, Part, address, cost, match_prefixes, match_communities, set_preference, set_communities, set_comm_list, set_prepend, What, whole, part, same_part, within, Saying, silent, giving, interface_saying, ospf_saying, entry_saying, means, inner_says, is_top, open_of, says, is_given, fault_of}
 use Rattle.cfg_parse.proofs.Given.{same_self, hits, given_next, has_thing, has_part, interface_has, entry_has, IsOf, Agrees, Outcome, Owned, agrees_next, says_within, open_inner, fault_within}
 use Rattle.cfg_parse.proofs.AddedItems.{has_push, map_put}
 

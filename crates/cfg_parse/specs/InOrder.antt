@@ -4,7 +4,7 @@ use Rattle.cfg_ast.specs.declared.policy.PrefixEntry.{PrefixEntry}
 use Rattle.cfg_ast.specs.declared.policy.PrefixList.{PrefixList}
 use Rattle.cfg_ast.specs.declared.policy.MapEntry.{MapEntry}
 use Rattle.cfg_ast.specs.declared.policy.RouteMap.{RouteMap}
-use Rattle.cfg_ast.specs.PolicyLines.{put_before}
+use Rattle.cfg_ast.specs.text.PolicyLines.{put_before}
 use Rattle.cfg_parse.specs.Indexes.{seq_of_prefix_entry, seq_of_map_entry}
 
 -- the items xs put to those that are in order, each before the first one of a larger number

@@ -1,5 +1,6 @@
-pub mod Indexes
+pub mod FormFaults
 pub mod InOrder
+pub mod Indexes
 pub mod MemberSteps
 pub mod Neighbors
 pub mod Open

@@ -1,8 +1,8 @@
 -- Members, collected line by line.
 use Rattle.std.specs.Prelude.{ℕ, List, [], ◌∷◌, ◌++◌, if◌then◌else◌}
 use Rattle.std.specs.List.{cons_option}
-use Rattle.cfg_ast.specs.TextLines.{TextLine}
-use Rattle.cfg_ast.specs.Members.{is_end_line, member_on}
+use Rattle.cfg_ast.specs.text.TextLines.{TextLine}
+use Rattle.cfg_ast.specs.text.Members.{is_end_line, member_on}
 use Rattle.cfg_parse.specs.declared.members.Found.{Found}
 
 -- the names so far, with the one of a line that may have one

@@ -1,8 +1,8 @@
 -- The open stanza as the definition of reading sees it.
 use Rattle.std.specs.Prelude.{◌≡◌, Result, Ok, Err}
 use Rattle.cfg_ast.specs.declared.refusal.ReadRefusal.{ReadRefusal}
-use Rattle.cfg_ast.specs.Answers.{RefusesAs}
-use Rattle.cfg_ast.specs.Reading.{Stanza, closed, ignored, in_interface, in_bgp, in_ospf, in_entry}
+use Rattle.cfg_ast.specs.text.Answers.{RefusesAs}
+use Rattle.cfg_ast.specs.text.Reading.{Stanza, closed, ignored, in_interface, in_bgp, in_ospf, in_entry}
 use Rattle.cfg_parse.specs.declared.draft.Open.{Open}
 use Rattle.cfg_parse.specs.declared.draft.Open.TheVariants as open_stanza
 

@@ -1,6 +1,6 @@
 ghost use Rattle.std.specs.Prelude.{◌≡◌, ◌++◌, ◌∷◌, [], IfOk};
 ghost use Rattle.std.specs.List.{list_any};
-ghost use Rattle.cfg_ast.specs.Stanzas.{same_area, with_area};
+ghost use Rattle.cfg_ast.specs.text.Stanzas.{same_area_line, with_area};
 ghost use Rattle.cfg_parse.specs.Indexes.{area_key};
 
 use base_kit::{List, NoMemory};
@@ -45,7 +45,7 @@ impl Areas {
     }
 
     fn has(&self, area: &AreaLine) -> bool
-        ensures { result ≡ list_any (same_area area.now) self.now }
+        ensures { result ≡ list_any (same_area_line area.now) self.now }
     {
         self.said.contains(&key_of(area))
     }
@@ -63,7 +63,7 @@ impl Areas {
     }
 
     /// Those, and the line behind them if none of them says the same.
-    #[tactic(auto, unfolding(cfg_ast::specs::Stanzas::with_area))]
+    #[tactic(auto, unfolding(cfg_ast::specs::text::Stanzas::with_area))]
     pub(crate) fn with(self, area: AreaLine) -> Result<Areas, NoMemory>
         ensures { IfOk result (λ all. all ≡ with_area self area) }
     {

@@ -1,7 +1,7 @@
 ghost use Rattle.std.specs.Prelude.{◌≡◌};
-ghost use Rattle.cfg_ast.specs.Answers.{Gives};
-ghost use Rattle.cfg_ast.specs.Reading.{new_bgp};
-ghost use Rattle.cfg_ast.specs.Stanzas.{set_bgp, with_peer, peer_of, set_process, set_base, add_network, add_neighbor};
+ghost use Rattle.cfg_ast.specs.text.Answers.{Gives};
+ghost use Rattle.cfg_ast.specs.text.Reading.{new_bgp};
+ghost use Rattle.cfg_ast.specs.text.Stanzas.{set_bgp, with_peer, peer_of, set_process, set_base, add_network, add_neighbor};
 
 use crate::neighbors::{Neighbors, new_neighbor};
 use crate::networks::Networks;
@@ -114,7 +114,7 @@ fn set_base(number: u32, base: Base, mut process: BgpDraft) -> Result<BgpDraft, 
     Ok(process)
 }
 
-#[tactic(auto, unfolding(cfg_ast::specs::Stanzas::set_process))]
+#[tactic(auto, unfolding(cfg_ast::specs::text::Stanzas::set_process))]
 fn set_process(number: u32, item: &RouterItem, process: BgpDraft) -> Result<BgpDraft, ReadRefusal>
     ensures { Gives result (set_process number item.now process) }
 {
@@ -130,7 +130,7 @@ fn set_process(number: u32, item: &RouterItem, process: BgpDraft) -> Result<BgpD
 }
 
 /// The process with what one of its lines says.
-#[tactic(auto, unfolding(cfg_ast::specs::Stanzas::set_bgp))]
+#[tactic(auto, unfolding(cfg_ast::specs::text::Stanzas::set_bgp))]
 pub(crate) fn set_bgp(
     number: u32,
     item: RouterItem,

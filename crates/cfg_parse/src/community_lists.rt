@@ -1,6 +1,6 @@
 ghost use Rattle.std.specs.Prelude.{◌≡◌, ◌<◌, ◌∷◌, ◌++◌, [], IfOk, None, length, slice_index_or, slice_set};
 ghost use Rattle.std.specs.List.{position};
-ghost use Rattle.cfg_ast.specs.PolicyLines.{is_community_list, put_community_line, with_community_line};
+ghost use Rattle.cfg_ast.specs.text.PolicyLines.{is_community_list, put_community_line, with_community_line};
 
 use crate::exchange::exchange;
 use crate::keys::{key_of, place_in};

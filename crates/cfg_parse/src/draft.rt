@@ -1,5 +1,5 @@
 ghost use Rattle.std.specs.Prelude.{◌≡◌, IfOk};
-ghost use Rattle.cfg_ast.specs.Reading.{no_draft, at_start, with_closed};
+ghost use Rattle.cfg_ast.specs.text.Reading.{no_draft, at_start, with_closed};
 
 use crate::bgp::BgpDraft;
 use crate::community_lists::CommunityLists;
@@ -37,7 +37,7 @@ pub(crate) struct Draft {
 }
 
 impl Model for Draft {
-    ghost use Rattle.cfg_ast.specs.Reading.{Draft};
+    ghost use Rattle.cfg_ast.specs.text.Reading.{Draft};
     ghost use Rattle.cfg_parse.specs.Open.{stanza_of};
 
     ghost Value = { Draft };
@@ -53,7 +53,7 @@ pub(crate) struct State {
 }
 
 impl Model for State {
-    ghost use Rattle.cfg_ast.specs.Reading.{State};
+    ghost use Rattle.cfg_ast.specs.text.Reading.{State};
 
     ghost Value = { State };
 
@@ -85,7 +85,7 @@ pub(crate) fn at_start(alloc: Global) -> State
 }
 
 /// The draft after its open stanza is closed.
-#[tactic(auto, unfolding(cfg_ast::specs::Reading::with_closed))]
+#[tactic(auto, unfolding(cfg_ast::specs::text::Reading::with_closed))]
 pub(crate) fn with_closed(alloc: Global, draft: Draft) -> Result<Draft, NoMemory>
     ensures { IfOk result (λ d. d ≡ with_closed draft) }
 {

@@ -1,9 +1,9 @@
 ghost use Rattle.std.specs.Prelude.{◌≡◌};
 ghost use Rattle.std.specs.List.{AllByRecursion};
-ghost use Rattle.cfg_ast.specs.Lines.{texts};
-ghost use Rattle.cfg_ast.specs.TextLines.{text_line};
-ghost use Rattle.cfg_ast.specs.Reading.{is_end};
-ghost use Rattle.cfg_ast.specs.Members.{IsSpanIn, AreSpansIn, is_end_line};
+ghost use Rattle.cfg_ast.specs.text.Lines.{texts};
+ghost use Rattle.cfg_ast.specs.text.TextLines.{text_line};
+ghost use Rattle.cfg_ast.specs.text.Reading.{is_end};
+ghost use Rattle.cfg_ast.specs.text.Members.{IsSpanIn, AreSpansIn, is_end_line};
 
 use cfg_ast::{Line, Span};
 

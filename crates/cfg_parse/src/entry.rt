@@ -1,5 +1,5 @@
-ghost use Rattle.cfg_ast.specs.Answers.{Gives};
-ghost use Rattle.cfg_ast.specs.PolicyLines.{set_prefixes, set_comms, set_lp, set_change, set_delete, set_prepend, set_entry};
+ghost use Rattle.cfg_ast.specs.text.Answers.{Gives};
+ghost use Rattle.cfg_ast.specs.text.PolicyLines.{set_prefixes, set_comms, set_lp, set_change, set_delete, set_prepend, set_entry};
 
 use crate::stanza::once;
 use cfg_ast::{Change, MapEntry, NameLine, Named, PolicyItem, Prepend, ReadRefusal};
@@ -60,7 +60,7 @@ fn set_prepend(number: u32, prepend: Prepend, mut entry: MapEntry) -> Result<Map
 }
 
 /// The entry with what one of its lines says.
-#[tactic(auto, unfolding(cfg_ast::specs::PolicyLines::set_entry))]
+#[tactic(auto, unfolding(cfg_ast::specs::text::PolicyLines::set_entry))]
 pub(crate) fn set_entry(
     number: u32,
     item: PolicyItem,

@@ -1,10 +1,10 @@
-ghost use Rattle.cfg_ast.specs.Answers.{Gives};
-ghost use Rattle.cfg_ast.specs.Stanzas.{set_interface};
+ghost use Rattle.cfg_ast.specs.text.Answers.{Gives};
+ghost use Rattle.cfg_ast.specs.text.Stanzas.{set_interface};
 
 use cfg_ast::{Interface, Kind, ReadRefusal, RouterItem};
 
 /// The interface with what one of its lines says.
-#[tactic(auto, unfolding(cfg_ast::specs::Stanzas::set_interface))]
+#[tactic(auto, unfolding(cfg_ast::specs::text::Stanzas::set_interface))]
 pub(crate) fn set_interface(
     number: u32,
     item: RouterItem,

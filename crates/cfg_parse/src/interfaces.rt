@@ -1,5 +1,5 @@
 ghost use Rattle.std.specs.Prelude.{◌≡◌, ◌∷◌, ◌++◌, [], IfOk};
-ghost use Rattle.cfg_ast.specs.Reading.{has_interface};
+ghost use Rattle.cfg_ast.specs.text.Reading.{has_interface};
 
 use crate::keys::key_of;
 use crate::room::pushed;

@@ -1,5 +1,5 @@
 //! Laws of reading.
-ghost use Rattle.cfg_ast.specs.FormFaults.{FirstFaultDecides, TextFaultDecides};
+ghost use Rattle.cfg_parse.specs.FormFaults.{FirstFaultDecides, TextFaultDecides};
 
 /// The first line that has a fault of form, each line judged by the lines before it, is where reading
 /// stops, with that fault.

@@ -1,7 +1,7 @@
 ghost use Rattle.std.specs.Prelude.{◌≡◌, ◌≤◌, IfOk, All, length, map};
-ghost use Rattle.cfg_ast.specs.Lines.{text_of, texts};
-ghost use Rattle.cfg_ast.specs.TextLines.{text_line};
-ghost use Rattle.cfg_ast.specs.Members.{IsSpanIn, AreSpansIn, member_on, members_in, members_of};
+ghost use Rattle.cfg_ast.specs.text.Lines.{text_of, texts};
+ghost use Rattle.cfg_ast.specs.text.TextLines.{text_line};
+ghost use Rattle.cfg_ast.specs.text.Members.{IsSpanIn, AreSpansIn, member_on, members_in, members_of_text};
 ghost use Rattle.std.specs.List.{AllByRecursion};
 ghost use Rattle.cfg_parse.specs.MemberSteps.{with_member, with_line};
 
@@ -28,7 +28,7 @@ fn word<'a>(bytes: &'a [u8], span: &Span) -> &'a [u8]
 }
 
 // The name on a member line.
-#[tactic(auto, unfolding(cfg_ast::specs::Members::member_on), using(crate::proofs::MemberLines::router_name_is_ascii))]
+#[tactic(auto, unfolding(cfg_ast::specs::text::Members::member_on), using(crate::proofs::MemberLines::router_name_is_ascii))]
 fn member_on(alloc: Global, bytes: &[u8], words: &[Span]) -> Result<Option<Text>, NoMemory>
     requires { AllByRecursion (IsSpanIn bytes.now) words.now }
     ensures { IfOk result (λ name. name ≡ member_on (texts bytes.now words.now)) }
@@ -96,10 +96,10 @@ fn members_in(alloc: Global, bytes: &[u8], lines: &[Line]) -> Result<List<List<T
 
 /// For each top line `end`, in order, the names on the lines before it, and behind the top line `end`
 /// before, whose words are `!`, `member` and the name of a router. The text may have any faults.
-#[tactic(auto, unfolding(cfg_ast::specs::Members::members_of))]
+#[tactic(auto, unfolding(cfg_ast::specs::text::Members::members_of_text))]
 pub fn read_members(alloc: Global, bytes: &[u8]) -> Result<List<List<Text>>, NoMemory>
     requires { length bytes.now ≤ 16777216 }
-    ensures { IfOk result (λ members. members ≡ members_of bytes.now) }
+    ensures { IfOk result (λ members. members ≡ members_of_text bytes.now) }
 {
     let lines = every_line(alloc, bytes)?;
     members_in(alloc, bytes, lines.as_slice())

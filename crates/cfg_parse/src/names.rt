@@ -1,6 +1,6 @@
 ghost use Rattle.std.specs.Prelude.{◌≡◌, ◌++◌, ◌∷◌, [], IfOk, bytes_eq};
 ghost use Rattle.std.specs.List.{list_any};
-ghost use Rattle.cfg_ast.specs.Stanzas.{with_text};
+ghost use Rattle.cfg_ast.specs.text.Stanzas.{with_text};
 
 use crate::keys::key_of;
 use base_kit::{List, NoMemory, Text};
@@ -55,7 +55,7 @@ impl Names {
     }
 
     /// Those, and the name behind them if it is not among them.
-    #[tactic(auto, unfolding(cfg_ast::specs::Stanzas::with_text))]
+    #[tactic(auto, unfolding(cfg_ast::specs::text::Stanzas::with_text))]
     pub(crate) fn with(self, alloc: Global, name: Text) -> Result<Names, NoMemory>
         ensures { IfOk result (λ all. all ≡ with_text self name) }
     {

@@ -1,8 +1,8 @@
 ghost use Rattle.std.specs.Prelude.{◌≡◌, ◌<◌, ◌∷◌, ◌++◌, [], IfOk, length, false, slice_index_or, slice_set, nat_eq};
 ghost use Rattle.std.specs.List.{position};
-ghost use Rattle.cfg_ast.specs.Answers.{Gives};
+ghost use Rattle.cfg_ast.specs.text.Answers.{Gives};
 ghost use Rattle.cfg_parse.specs.Neighbors.{change_at};
-ghost use Rattle.cfg_ast.specs.Stanzas.{has_neighbor, new_neighbor, set_neighbor, at_neighbor, set_list, set_map};
+ghost use Rattle.cfg_ast.specs.text.Stanzas.{has_neighbor, new_neighbor, set_neighbor, at_neighbor, set_list, set_map};
 
 use crate::exchange::exchange;
 use crate::room::pushed;
@@ -85,7 +85,7 @@ fn set_map(
     Ok(peer)
 }
 
-#[tactic(auto, unfolding(cfg_ast::specs::Stanzas::set_neighbor))]
+#[tactic(auto, unfolding(cfg_ast::specs::text::Stanzas::set_neighbor))]
 fn set_neighbor(number: u32, item: RouterItem, mut peer: Neighbor) -> Result<Neighbor, ReadRefusal>
     ensures { Gives result (set_neighbor number item peer) }
 {

@@ -1,5 +1,5 @@
 ghost use Rattle.std.specs.Prelude.{◌≡◌, ◌∷◌, ◌++◌, [], IfOk};
-ghost use Rattle.cfg_ast.specs.Stanzas.{has_network};
+ghost use Rattle.cfg_ast.specs.text.Stanzas.{has_network};
 
 use base_kit::{List, NoMemory, Prefix};
 use cfg_ast::NetLine;

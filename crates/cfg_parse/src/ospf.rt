@@ -1,6 +1,6 @@
 ghost use Rattle.std.specs.Prelude.{◌≡◌, true, IfOk};
-ghost use Rattle.cfg_ast.specs.Reading.{new_ospf};
-ghost use Rattle.cfg_ast.specs.Stanzas.{with_text, with_area, set_ospf};
+ghost use Rattle.cfg_ast.specs.text.Reading.{new_ospf};
+ghost use Rattle.cfg_ast.specs.text.Stanzas.{with_text, with_area, set_ospf};
 
 use crate::areas::Areas;
 use crate::names::Names;
@@ -97,7 +97,7 @@ fn with_passive_default(mut process: OspfDraft) -> OspfDraft
 }
 
 /// The process with what one of its lines says.
-#[tactic(auto, unfolding(cfg_ast::specs::Stanzas::set_ospf))]
+#[tactic(auto, unfolding(cfg_ast::specs::text::Stanzas::set_ospf))]
 pub(crate) fn set_ospf(
     alloc: Global,
     item: RouterItem,

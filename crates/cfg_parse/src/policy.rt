@@ -1,9 +1,9 @@
 ghost use Rattle.std.specs.Prelude.{◌≡◌, IfOk, bytes_eq, codes};
 ghost use Rattle.std.specs.List.{AllByRecursion};
-ghost use Rattle.cfg_ast.specs.Answers.{Gives};
-ghost use Rattle.cfg_ast.specs.Lines.{IsWordIn, texts, text_of};
-ghost use Rattle.cfg_ast.specs.PolicyLines.{is_policy_line, is_list_word, with_community_line};
-ghost use Rattle.cfg_ast.specs.Reading.{ignored, add_prefix_entry, open_entry, take_policy};
+ghost use Rattle.cfg_ast.specs.text.Answers.{Gives};
+ghost use Rattle.cfg_ast.specs.text.Lines.{IsWordIn, texts, text_of};
+ghost use Rattle.cfg_ast.specs.text.PolicyLines.{is_policy_line, is_list_word, with_community_line};
+ghost use Rattle.cfg_ast.specs.text.Reading.{ignored, add_prefix_entry, open_entry, take_policy};
 
 use crate::draft::{Draft, Open};
 use crate::stanza::repeated;
@@ -51,7 +51,7 @@ fn is_list_word(bytes: &[u8], words: &[Span]) -> bool
 }
 
 /// Whether a top line of these words is read as a line of a list or a route map.
-#[tactic(auto, unfolding(cfg_ast::specs::PolicyLines::is_policy_line))]
+#[tactic(auto, unfolding(cfg_ast::specs::text::PolicyLines::is_policy_line))]
 pub(crate) fn is_policy_line(bytes: &[u8], words: &[Span]) -> bool
     requires { AllByRecursion (IsWordIn bytes.now) words.now }
     ensures { result ≡ is_policy_line (texts bytes.now words.now) }
@@ -108,7 +108,7 @@ fn open_entry(
 }
 
 /// The draft after a top line of a list or a route map.
-#[tactic(auto, unfolding(cfg_ast::specs::Reading::take_policy))]
+#[tactic(auto, unfolding(cfg_ast::specs::text::Reading::take_policy))]
 pub(crate) fn take_policy(
     alloc: Global,
     number: u32,

@@ -1,6 +1,6 @@
 ghost use Rattle.std.specs.Prelude.{◌≡◌, ◌<◌, ◌∷◌, ◌++◌, [], IfOk, None, length, map, slice_index_or, slice_set};
 ghost use Rattle.std.specs.List.{position};
-ghost use Rattle.cfg_ast.specs.PolicyLines.{has_prefix_entry, is_prefix_list, put_prefix_entry, with_prefix_entry};
+ghost use Rattle.cfg_ast.specs.text.PolicyLines.{has_prefix_entry, is_prefix_list, put_prefix_entry, with_prefix_entry};
 ghost use Rattle.cfg_parse.specs.Indexes.{seq_of_prefix_entry};
 ghost use Rattle.cfg_parse.specs.InOrder.{by_seq, prefix_list_in_order, with_last_prefix_entry};
 

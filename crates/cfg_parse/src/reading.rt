@@ -1,8 +1,8 @@
 ghost use Rattle.std.specs.Prelude.{◌≡◌, ◌≤◌, Some, Ok, true, is_ok, length};
-ghost use Rattle.cfg_ast.specs.Answers.{Gives};
-ghost use Rattle.cfg_ast.specs.Lines.{IsLineIn, lines_of};
-ghost use Rattle.cfg_ast.specs.TextLines.{text_line};
-ghost use Rattle.cfg_ast.specs.Reading.{at_start, step_policy, step_router, step_top, step_inner, step, end_at, network_of_lines, network_of_text};
+ghost use Rattle.cfg_ast.specs.text.Answers.{Gives};
+ghost use Rattle.cfg_ast.specs.text.Lines.{IsLineIn, lines_of};
+ghost use Rattle.cfg_ast.specs.text.TextLines.{text_line};
+ghost use Rattle.cfg_ast.specs.text.Reading.{at_start, step_policy, step_router, step_top, step_inner, step, end_at, network_of_lines, network_of_text};
 ghost use Rattle.cfg_parse.specs.Rest.{answer_of, state_after};
 
 use crate::draft::{Draft, State, at_start, with_closed};
@@ -14,7 +14,7 @@ use cfg_ast::{Kind, Line, Network, PolicyScope, ReadRefusal, Scope};
 use cfg_lex::{Place, line_from, sound};
 use std::alloc::Global;
 
-#[tactic(auto, unfolding(cfg_ast::specs::Reading::step_router))]
+#[tactic(auto, unfolding(cfg_ast::specs::text::Reading::step_router))]
 fn step_router(alloc: Global, bytes: &[u8], line: &Line, state: State) -> Result<State, ReadRefusal>
     requires { IsLineIn bytes.now line.now }
     ensures { Gives result (step_router state (text_line bytes.now line.now)) }
@@ -25,7 +25,7 @@ fn step_router(alloc: Global, bytes: &[u8], line: &Line, state: State) -> Result
     take_top(alloc, line.number, item, State { routers, draft })
 }
 
-#[tactic(auto, unfolding(cfg_ast::specs::Reading::step_policy))]
+#[tactic(auto, unfolding(cfg_ast::specs::text::Reading::step_policy))]
 fn step_policy(alloc: Global, bytes: &[u8], line: &Line, state: State) -> Result<State, ReadRefusal>
     requires { IsLineIn bytes.now line.now }
     ensures { Gives result (step_policy state (text_line bytes.now line.now)) }
@@ -79,7 +79,7 @@ fn step_inner(alloc: Global, bytes: &[u8], line: &Line, state: State) -> Result<
     })
 }
 
-#[tactic(auto, unfolding(cfg_ast::specs::Reading::step))]
+#[tactic(auto, unfolding(cfg_ast::specs::text::Reading::step))]
 fn step(alloc: Global, bytes: &[u8], line: &Line, state: State) -> Result<State, ReadRefusal>
     requires { IsLineIn bytes.now line.now }
     ensures { Gives result (step state (text_line bytes.now line.now)) }
@@ -144,7 +144,7 @@ fn read_lines(alloc: Global, bytes: &[u8]) -> Result<State, ReadRefusal>
 /// `Unsupported`, `BadForm`, `WellKnown`, `Misplaced` for a line of a neighbour before its `remote-as`,
 /// `Repeated`, `NoHostname`. Last comes `NoEnd`, at the last line that is not skipped. `Memory` where
 /// memory ran out.
-#[tactic(auto, unfolding(cfg_ast::specs::Reading::network_of_text, cfg_ast::specs::Reading::network_of_lines))]
+#[tactic(auto, unfolding(cfg_ast::specs::text::Reading::network_of_text, cfg_ast::specs::text::Reading::network_of_lines))]
 pub fn read_network(alloc: Global, bytes: &[u8]) -> Result<Network, ReadRefusal>
     requires { length bytes.now ≤ 16777216 }
     ensures { Gives result (network_of_text bytes.now) }

@@ -1,6 +1,6 @@
 ghost use Rattle.std.specs.Prelude.{◌≡◌, ◌<◌, ◌∷◌, ◌++◌, [], IfOk, None, length, map, slice_index_or, slice_set};
 ghost use Rattle.std.specs.List.{position};
-ghost use Rattle.cfg_ast.specs.PolicyLines.{has_map_entry, is_route_map, put_map_entry, with_map_entry};
+ghost use Rattle.cfg_ast.specs.text.PolicyLines.{has_map_entry, is_route_map, put_map_entry, with_map_entry};
 ghost use Rattle.cfg_parse.specs.Indexes.{seq_of_map_entry};
 ghost use Rattle.cfg_parse.specs.InOrder.{by_seq, route_map_in_order, with_last_map_entry};
 

@@ -1,11 +1,11 @@
 ghost use Rattle.std.specs.Prelude.{◌≡◌};
-ghost use Rattle.cfg_ast.specs.Answers.{Gives};
-ghost use Rattle.cfg_ast.specs.Lines.{IsLineIn, texts};
-ghost use Rattle.cfg_ast.specs.TextLines.{text_line};
-ghost use Rattle.cfg_ast.specs.PolicyForms.{policy_item_of};
-ghost use Rattle.cfg_ast.specs.RouterForms.{router_item_of};
-ghost use Rattle.cfg_ast.specs.Reading.{take_inner};
-ghost use Rattle.cfg_ast.specs.Stanzas.{once, said_at};
+ghost use Rattle.cfg_ast.specs.text.Answers.{Gives};
+ghost use Rattle.cfg_ast.specs.text.Lines.{IsLineIn, texts};
+ghost use Rattle.cfg_ast.specs.text.TextLines.{text_line};
+ghost use Rattle.cfg_ast.specs.text.PolicyForms.{policy_item_of};
+ghost use Rattle.cfg_ast.specs.text.RouterForms.{router_item_of};
+ghost use Rattle.cfg_ast.specs.text.Reading.{take_inner};
+ghost use Rattle.cfg_ast.specs.text.Stanzas.{once, said_at};
 ghost use Rattle.cfg_parse.specs.Open.{stanza_of, GivesOpen};
 ghost use Rattle.cfg_ast.specs.declared.refusal.ReadRefusal.TheVariants.{At};
 ghost use Rattle.cfg_ast.specs.declared.refusal.Kind.TheVariants.{Misplaced, Repeated};
@@ -115,7 +115,7 @@ pub(crate) fn policy_said_in(
 }
 
 /// The open stanza with what one of its lines says.
-#[tactic(auto, unfolding(cfg_ast::specs::Reading::take_inner))]
+#[tactic(auto, unfolding(cfg_ast::specs::text::Reading::take_inner))]
 pub(crate) fn take_inner(
     alloc: Global,
     bytes: &[u8],

@@ -1,7 +1,7 @@
 ghost use Rattle.std.specs.Prelude.{◌≡◌};
-ghost use Rattle.cfg_ast.specs.Answers.{Gives};
-ghost use Rattle.cfg_ast.specs.Stanzas.{once};
-ghost use Rattle.cfg_ast.specs.Reading.{new_interface, take_hostname, open_interface, open_bgp, open_ospf, ignored, router_of, end_router, ends_router, take_line, take_top};
+ghost use Rattle.cfg_ast.specs.text.Answers.{Gives};
+ghost use Rattle.cfg_ast.specs.text.Stanzas.{once};
+ghost use Rattle.cfg_ast.specs.text.Reading.{new_interface, take_hostname, open_interface, open_bgp, open_ospf, ignored, router_of, end_router, ends_router, take_line, take_top};
 
 use crate::bgp::BgpDraft;
 use crate::draft::{Draft, Open, State, no_draft};
@@ -106,7 +106,7 @@ fn ends_router(item: &RouterItem) -> bool
 }
 
 // The top lines that change the draft alone.
-#[tactic(auto, unfolding(cfg_ast::specs::Reading::take_line))]
+#[tactic(auto, unfolding(cfg_ast::specs::text::Reading::take_line))]
 fn take_line(
     alloc: Global,
     number: u32,
@@ -137,7 +137,7 @@ fn end_router(alloc: Global, number: u32, state: State) -> Result<State, ReadRef
 }
 
 /// The state after a top line.
-#[tactic(auto, unfolding(cfg_ast::specs::Reading::take_top))]
+#[tactic(auto, unfolding(cfg_ast::specs::text::Reading::take_top))]
 pub(crate) fn take_top(
     alloc: Global,
     number: u32,

@@ -1,6 +1,6 @@
 use Rattle.std.proofs.Common.{◌≡◌, true, refl, sym, ap, ◌∙◌}
-use Rattle.cfg_ast.specs.PolicyLines.{has_map_entry}
-use Rattle.cfg_ast.specs.Reading.{Draft}
+use Rattle.cfg_ast.specs.text.PolicyLines.{has_map_entry}
+use Rattle.cfg_ast.specs.text.Reading.{Draft}
 use Rattle.cfg_parse.proofs.policy.open_entry.Goals as goal
 
 pub returns-then-has_entry : goal.returns-then-has_entry

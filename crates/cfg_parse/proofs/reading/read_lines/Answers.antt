@@ -1,7 +1,7 @@
 use Rattle.std.proofs.Common.{◌≡◌, [], Ok, sym, ap, ◌∙◌, subst}
 use Rattle.std.proofs.lemmas.Result.{err_from_is_err_and}
-use Rattle.cfg_ast.specs.Answers.{RefusesAs}
-use Rattle.cfg_ast.specs.Stanzas.{◌>>=◌}
+use Rattle.cfg_ast.specs.text.Answers.{RefusesAs}
+use Rattle.cfg_ast.specs.text.Stanzas.{◌>>=◌}
 use Rattle.cfg_lex.specs.Places.{IsNext, IsFirst, lines_from}
 use Rattle.cfg_parse.specs.Rest.{answer_of, state_after}
 use Rattle.cfg_parse.proofs.Rest.{line_ok, line_gives, lines_end, refuses}

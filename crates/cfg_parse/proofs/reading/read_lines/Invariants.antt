@@ -1,7 +1,7 @@
 use Rattle.std.proofs.Common.{length, ◌-◌, ◌+◌, ◌≡◌, true, Ok}
 use Rattle.std.specs.Result.{is_ok}
-use Rattle.cfg_ast.specs.Lines.{lines_of}
-use Rattle.cfg_ast.specs.Reading.{at_start}
+use Rattle.cfg_ast.specs.text.Lines.{lines_of}
+use Rattle.cfg_ast.specs.text.Reading.{at_start}
 use Rattle.cfg_lex.specs.Places.{IsPlace, lines_from}
 use Rattle.cfg_parse.specs.Rest.{answer_of, state_after}
 use Rattle.cfg_parse.proofs.reading.read_lines.Given as goal

@@ -1,7 +1,7 @@
 use Rattle.std.proofs.Common.{Ok, sym, ap, ◌∙◌}
 use Rattle.std.proofs.lemmas.Result.{err_from_is_err_and}
 use Rattle.cfg_ast.specs.declared.network.Network.{Network}
-use Rattle.cfg_ast.specs.Reading.{State}
+use Rattle.cfg_ast.specs.text.Reading.{State}
 use Rattle.cfg_parse.proofs.Rest.{text_refuses, text_read}
 use Rattle.cfg_parse.proofs.reading.read_network.Goals as goal
 

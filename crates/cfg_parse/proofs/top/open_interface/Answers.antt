@@ -1,5 +1,5 @@
 use Rattle.std.proofs.Common.{◌≡◌, true, refl, sym, ap, ◌∙◌}
-use Rattle.cfg_ast.specs.Reading.{Draft, has_interface}
+use Rattle.cfg_ast.specs.text.Reading.{Draft, has_interface}
 use Rattle.cfg_parse.proofs.top.open_interface.Goals as goal
 
 pub returns-then-has : goal.returns-then-has

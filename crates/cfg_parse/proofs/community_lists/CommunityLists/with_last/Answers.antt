@@ -1,6 +1,6 @@
 use Rattle.std.proofs.Common.{◌<◌, [], map, sym, ap, ◌∙◌, refl, subst}
 use Rattle.std.specs.Prelude.{length}
-use Rattle.cfg_ast.specs.PolicyLines.{put_community_line}
+use Rattle.cfg_ast.specs.text.PolicyLines.{put_community_line}
 use Rattle.cfg_parse.specs.Indexes.{name_of_community_list}
 use Rattle.cfg_parse.proofs.Indexed.{parts_kept, places_kept}
 use Rattle.cfg_parse.proofs.community_lists.CommunityLists.with_last.Goals as goal

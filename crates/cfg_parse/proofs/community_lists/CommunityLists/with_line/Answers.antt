@@ -1,6 +1,6 @@
 use Rattle.std.proofs.Common.{◌≡◌, ◌∷◌, sym, ◌∙◌, Some, None, []}
 use Rattle.std.specs.List.{position}
-use Rattle.cfg_ast.specs.PolicyLines.{is_community_list, put_community_line}
+use Rattle.cfg_ast.specs.text.PolicyLines.{is_community_list, put_community_line}
 use Rattle.cfg_parse.proofs.Changed.{changed_at, new_last}
 use Rattle.cfg_parse.proofs.community_lists.CommunityLists.with_line.Goals as goal
 

@@ -4,7 +4,7 @@ use Rattle.std.specs.List.{position}
 use Rattle.std.specs.String.{string_cmp}
 use Rattle.std.specs.BTreeMap as tree
 use Rattle.cfg_ast.specs.declared.policy.CommunityList.{CommunityList}
-use Rattle.cfg_ast.specs.PolicyLines.{is_community_list}
+use Rattle.cfg_ast.specs.text.PolicyLines.{is_community_list}
 use Rattle.cfg_parse.specs.Indexes.{HasPlaces, name_of_community_list}
 use Rattle.cfg_parse.proofs.Indexed.{places_noted}
 use Rattle.cfg_parse.proofs.community_lists.CommunityLists.with_list.Goals as goal

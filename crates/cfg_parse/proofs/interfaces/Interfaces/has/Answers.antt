@@ -1,5 +1,5 @@
 use Rattle.std.proofs.Common.{ap, ◌∙◌}
-use Rattle.cfg_ast.specs.Reading.{has_interface}
+use Rattle.cfg_ast.specs.text.Reading.{has_interface}
 use Rattle.cfg_parse.proofs.Indexed.{has_named_interface}
 use Rattle.cfg_parse.proofs.interfaces.Interfaces.has.Goals as goal
 

@@ -1,5 +1,5 @@
 use Rattle.std.proofs.Common.{ap, ◌∙◌}
-use Rattle.cfg_ast.specs.Stanzas.{has_neighbor}
+use Rattle.cfg_ast.specs.text.Stanzas.{has_neighbor}
 use Rattle.cfg_parse.proofs.Indexed.{has_address}
 use Rattle.cfg_parse.proofs.neighbors.Neighbors.has.Goals as goal
 

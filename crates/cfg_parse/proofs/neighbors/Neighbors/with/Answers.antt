@@ -2,7 +2,7 @@ use Rattle.std.proofs.Common.{Some, ap, ◌∙◌}
 use Rattle.std.specs.Prelude.{length}
 use Rattle.std.specs.Ordering.{nat_cmp}
 use Rattle.std.specs.BTreeMap.{Updates}
-use Rattle.cfg_ast.specs.Stanzas.{has_neighbor}
+use Rattle.cfg_ast.specs.text.Stanzas.{has_neighbor}
 use Rattle.cfg_parse.proofs.Indexed.{addresses_noted}
 use Rattle.cfg_parse.proofs.neighbors.Neighbors.with.Goals as goal
 

@@ -1,5 +1,5 @@
 use Rattle.std.proofs.Common.{ap, ◌∙◌}
-use Rattle.cfg_ast.specs.Stanzas.{has_network}
+use Rattle.cfg_ast.specs.text.Stanzas.{has_network}
 use Rattle.cfg_parse.proofs.Indexed.{has_prefix}
 use Rattle.cfg_parse.proofs.networks.Networks.has.Goals as goal
 

@@ -1,5 +1,5 @@
 use Rattle.std.proofs.Common.{sym, ap, ◌∙◌}
-use Rattle.cfg_ast.specs.PolicyLines.{has_prefix_entry}
+use Rattle.cfg_ast.specs.text.PolicyLines.{has_prefix_entry}
 use Rattle.cfg_parse.proofs.PrefixListEntries.{has_at, has_nowhere}
 use Rattle.cfg_parse.proofs.prefix_lists.PrefixLists.has_entry.Goals as goal
 

@@ -1,6 +1,6 @@
 use Rattle.std.proofs.Common.{sym, ap, ◌∙◌}
 use Rattle.std.specs.List.{position}
-use Rattle.cfg_ast.specs.PolicyLines.{is_prefix_list}
+use Rattle.cfg_ast.specs.text.PolicyLines.{is_prefix_list}
 use Rattle.cfg_parse.proofs.PrefixListEntries.{place_is}
 use Rattle.cfg_parse.proofs.prefix_lists.PrefixLists.place_of.Goals as goal
 

@@ -1,6 +1,6 @@
 use Rattle.std.proofs.Common.{◌≡◌, ◌∷◌, sym, ◌∙◌, Some, None, []}
 use Rattle.std.specs.List.{position}
-use Rattle.cfg_ast.specs.PolicyLines.{is_prefix_list, put_prefix_entry}
+use Rattle.cfg_ast.specs.text.PolicyLines.{is_prefix_list, put_prefix_entry}
 use Rattle.cfg_parse.proofs.Changed.{changed_at, new_last}
 use Rattle.cfg_parse.proofs.prefix_lists.PrefixLists.with_entry.Goals as goal
 

@@ -5,7 +5,7 @@ use Rattle.std.specs.String.{string_cmp}
 use Rattle.std.specs.BTreeMap as tree
 use Rattle.std.specs.BTreeSet as sorted
 use Rattle.cfg_ast.specs.declared.policy.PrefixList.{PrefixList}
-use Rattle.cfg_ast.specs.PolicyLines.{is_prefix_list}
+use Rattle.cfg_ast.specs.text.PolicyLines.{is_prefix_list}
 use Rattle.cfg_parse.specs.Indexes.{pair_order}
 use Rattle.cfg_parse.proofs.PrefixListEntries.{place_is, indexed_new, shown_new}
 use Rattle.cfg_parse.proofs.prefix_lists.PrefixLists.with_list.Goals as goal

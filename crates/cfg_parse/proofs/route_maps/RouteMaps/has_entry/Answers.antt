@@ -1,5 +1,5 @@
 use Rattle.std.proofs.Common.{sym, ap, ◌∙◌}
-use Rattle.cfg_ast.specs.PolicyLines.{has_map_entry}
+use Rattle.cfg_ast.specs.text.PolicyLines.{has_map_entry}
 use Rattle.cfg_parse.proofs.RouteMapEntries.{has_at, has_nowhere}
 use Rattle.cfg_parse.proofs.route_maps.RouteMaps.has_entry.Goals as goal
 

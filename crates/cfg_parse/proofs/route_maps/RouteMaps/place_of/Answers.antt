@@ -1,6 +1,6 @@
 use Rattle.std.proofs.Common.{sym, ap, ◌∙◌}
 use Rattle.std.specs.List.{position}
-use Rattle.cfg_ast.specs.PolicyLines.{is_route_map}
+use Rattle.cfg_ast.specs.text.PolicyLines.{is_route_map}
 use Rattle.cfg_parse.proofs.RouteMapEntries.{place_is}
 use Rattle.cfg_parse.proofs.route_maps.RouteMaps.place_of.Goals as goal
 

@@ -1,6 +1,6 @@
 use Rattle.std.proofs.Common.{◌≡◌, ◌∷◌, sym, ◌∙◌, Some, None, []}
 use Rattle.std.specs.List.{position}
-use Rattle.cfg_ast.specs.PolicyLines.{is_route_map, put_map_entry}
+use Rattle.cfg_ast.specs.text.PolicyLines.{is_route_map, put_map_entry}
 use Rattle.cfg_parse.proofs.Changed.{changed_at, new_last}
 use Rattle.cfg_parse.proofs.route_maps.RouteMaps.with_entry.Goals as goal
 

@@ -5,7 +5,7 @@ use Rattle.std.specs.String.{string_cmp}
 use Rattle.std.specs.BTreeMap as tree
 use Rattle.std.specs.BTreeSet as sorted
 use Rattle.cfg_ast.specs.declared.policy.RouteMap.{RouteMap}
-use Rattle.cfg_ast.specs.PolicyLines.{is_route_map}
+use Rattle.cfg_ast.specs.text.PolicyLines.{is_route_map}
 use Rattle.cfg_parse.specs.Indexes.{pair_order}
 use Rattle.cfg_parse.proofs.RouteMapEntries.{place_is, indexed_new, shown_new}
 use Rattle.cfg_parse.proofs.route_maps.RouteMaps.with_map.Goals as goal
