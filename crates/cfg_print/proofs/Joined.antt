@@ -5,7 +5,7 @@ use Rattle.std.specs.Fmt.{decimal}
 use Rattle.std.specs.List.{join_with_byte}
 use Rattle.std.proofs.lemmas.List.{append-nil, drop_more, drop_all}
 use Rattle.std.proofs.lemmas.Grind.{flat_map-append}
-use Rattle.cfg_ast.specs.TextLines.{TextLine}
+use Rattle.cfg_ast.specs.text.TextLines.{TextLine}
 use Rattle.cfg_ast.specs.declared.network.Router.{Router}
 use Rattle.cfg_ast.specs.declared.network.Named.{Named}
 use Rattle.cfg_ast.specs.declared.policy.NameLine.{NameLine}
@@ -14,7 +14,7 @@ use Rattle.cfg_ast.specs.declared.policy.MapEntry.{MapEntry}
 use Rattle.cfg_ast.specs.declared.policy.CommunityLine.{CommunityLine}
 use Rattle.cfg_ast.specs.declared.policy.PrefixEntry.{PrefixEntry}
 use Rattle.cfg_ast.specs.declared.policy.Change.TheVariants.{Clear, Replace, Append}
-use Rattle.cfg_ast.specs.Printed.{line_text, lines_text, closing, closed, router_lines, routers_lines, match_prefixes_line, match_comms_line, change_line, prepend_line, lp_line, map_head_line, delete_line, peer_sends_line, address_text, community_text, community_list_name, community_line, act_text, bound_words, prefix_text, prefix_entry_line}
+use Rattle.cfg_ast.specs.printing.Printed.{line_text, lines_text, closing, closed, router_lines, routers_lines, match_prefixes_line, match_comms_line, change_line, prepend_line, lp_line, map_head_line, delete_line, peer_sends_line, address_text, community_text, community_list_name, community_list_line, act_text, bound_words, prefix_text, prefix_entry_line}
 use Rattle.cfg_print.specs.Spaced.{spaced, spaced_words, prefix_entry_head}
 
 -- words with one blank between each two
@@ -58,8 +58,8 @@ pub prepend_text : (p : Prepend) → line_text (prepend_line p) ≡ codes " set 
 unfolding prepend_line
 prepend_text p = ap (λ (xs : List ℕ). codes " set as-path " ++ xs ++ 10 ∷ []) (joined (codes "prepend") (map decimal p.numbers))
 
-pub community_line_text : (name : List ℕ) (c : CommunityLine) → line_text (community_line name c) ≡ codes "ip community-list" ++ spaced_words (community_list_name name) ++ spaced (act_text c.permit) ++ spaced_words (map community_text c.comms) ++ 10 ∷ []
-unfolding community_line
+pub community_line_text : (name : List ℕ) (c : CommunityLine) → line_text (community_list_line name c) ≡ codes "ip community-list" ++ spaced_words (community_list_name name) ++ spaced (act_text c.permit) ++ spaced_words (map community_text c.comms) ++ 10 ∷ []
+unfolding community_list_line
 community_line_text name c =
     let words = map community_text c.comms in
     let names = community_list_name name in

@@ -1,10 +1,10 @@
 -- Words behind blanks, and the fronts of longer pieces of the printed text.
 use Rattle.std.specs.Prelude.{ℕ, List, [], ◌∷◌, ◌++◌, codes, flat_map, map}
 use Rattle.std.specs.Fmt.{decimal}
-use Rattle.cfg_ast.specs.TextLines.{TextLine}
+use Rattle.cfg_ast.specs.text.TextLines.{TextLine}
 use Rattle.cfg_ast.specs.declared.network.Router.{Router}
 use Rattle.cfg_ast.specs.declared.policy.PrefixEntry.{PrefixEntry}
-use Rattle.cfg_ast.specs.Printed.{act_text, prefix_text, line, closing, member_line, interface_lines, lines_of_some, bgp_lines, ospf_lines}
+use Rattle.cfg_ast.specs.printing.Printed.{act_text, prefix_text, line, closing, member_line, interface_lines, lines_of_some, bgp_lines, ospf_lines}
 
 abbrev pub spaced : List ℕ → List ℕ
 spaced word = 32 ∷ word

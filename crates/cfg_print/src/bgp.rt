@@ -1,6 +1,6 @@
 ghost use Rattle.std.specs.Prelude.{◌≡◌, ◌++◌, ◌∷◌, [], OnOk, string_bytes, flat_map, map, codes};
 ghost use Rattle.std.specs.Fmt.{decimal};
-ghost use Rattle.cfg_ast.specs.Printed.{line, line_text, lines_text, line_of, line_if, base_line, network_line, remote_line, peer_shut_line, peer_sends_line, applied_line, neighbor_lines, bgp_lines};
+ghost use Rattle.cfg_ast.specs.printing.Printed.{line, line_text, lines_text, line_of, line_if, base_line, network_line, remote_line, peer_shut_line, peer_sends_line, applied_line, neighbor_lines, bgp_lines};
 
 use crate::words::{mask_of, put, put_address, put_closing};
 use base_kit::List;
@@ -8,7 +8,7 @@ use cfg_ast::{Base, BgpProcess, Named, Neighbor, NetLine};
 use std::alloc::AllocError;
 use std::fmt::Write;
 
-#[tactic(auto, unfolding(cfg_ast::specs::Printed::base_line))]
+#[tactic(auto, unfolding(cfg_ast::specs::printing::Printed::base_line))]
 fn put_base(text: &mut String, base: &Base) -> Result<(), AllocError>
     ensures { OnOk result (string_bytes text.new ≡ string_bytes text.old ++ line_text (base_line base.now)) }
 {
@@ -25,7 +25,7 @@ fn put_some_base(text: &mut String, base: &Option<Base>) -> Result<(), AllocErro
     }
 }
 
-#[tactic(auto, unfolding(cfg_ast::specs::Printed::network_line))]
+#[tactic(auto, unfolding(cfg_ast::specs::printing::Printed::network_line))]
 fn put_network(text: &mut String, net: &NetLine) -> Result<(), AllocError>
     ensures { OnOk result (string_bytes text.new ≡ string_bytes text.old ++ line_text (network_line net.now)) }
 {
@@ -46,7 +46,7 @@ fn put_networks(text: &mut String, nets: &List<NetLine>) -> Result<(), AllocErro
     Ok(())
 }
 
-#[tactic(auto, unfolding(cfg_ast::specs::Printed::remote_line))]
+#[tactic(auto, unfolding(cfg_ast::specs::printing::Printed::remote_line))]
 fn put_remote(text: &mut String, peer: &Neighbor) -> Result<(), AllocError>
     ensures { OnOk result (string_bytes text.new ≡ string_bytes text.old ++ line_text (remote_line peer.now.addr peer.now.remote)) }
 {
@@ -56,7 +56,7 @@ fn put_remote(text: &mut String, peer: &Neighbor) -> Result<(), AllocError>
     write!(text, " remote-as {remote}\n")
 }
 
-#[tactic(auto, unfolding(cfg_ast::specs::Printed::peer_shut_line))]
+#[tactic(auto, unfolding(cfg_ast::specs::printing::Printed::peer_shut_line))]
 fn put_peer_shut(text: &mut String, addr: u32) -> Result<(), AllocError>
     ensures { OnOk result (string_bytes text.new ≡ string_bytes text.old ++ line_text (peer_shut_line addr)) }
 {
@@ -91,7 +91,7 @@ fn put_if_sends(text: &mut String, peer: &Neighbor) -> Result<(), AllocError>
     Ok(())
 }
 
-#[tactic(auto, unfolding(cfg_ast::specs::Printed::applied_line))]
+#[tactic(auto, unfolding(cfg_ast::specs::printing::Printed::applied_line))]
 fn put_applied(
     text: &mut String,
     addr: u32,
@@ -123,7 +123,7 @@ fn put_if_applied(
     }
 }
 
-#[tactic(auto, unfolding(cfg_ast::specs::Printed::neighbor_lines))]
+#[tactic(auto, unfolding(cfg_ast::specs::printing::Printed::neighbor_lines))]
 fn put_neighbor(text: &mut String, peer: &Neighbor) -> Result<(), AllocError>
     ensures { OnOk result (string_bytes text.new ≡ string_bytes text.old ++ lines_text (neighbor_lines peer.now)) }
 {

@@ -1,5 +1,5 @@
 ghost use Rattle.std.specs.Prelude.{◌≡◌, ◌++◌, OnOk, string_bytes, flat_map};
-ghost use Rattle.cfg_ast.specs.Printed.{line_text, lines_text, line_of, line_if, address_line, cost_line, shutdown_line, interface_lines};
+ghost use Rattle.cfg_ast.specs.printing.Printed.{line_text, lines_text, line_of, line_if, ip_address_line, cost_line, shutdown_line, interface_lines};
 
 use crate::words::{mask_of, put_address};
 use base_kit::List;
@@ -7,9 +7,9 @@ use cfg_ast::{Address, Interface};
 use std::alloc::AllocError;
 use std::fmt::Write;
 
-#[tactic(auto, unfolding(cfg_ast::specs::Printed::address_line))]
+#[tactic(auto, unfolding(cfg_ast::specs::printing::Printed::ip_address_line))]
 fn put_address_line(text: &mut String, address: &Address) -> Result<(), AllocError>
-    ensures { OnOk result (string_bytes text.new ≡ string_bytes text.old ++ line_text (address_line address.now)) }
+    ensures { OnOk result (string_bytes text.new ≡ string_bytes text.old ++ line_text (ip_address_line address.now)) }
 {
     text.push_str(" ip address ")?;
     put_address(text, address.addr())?;
@@ -19,7 +19,7 @@ fn put_address_line(text: &mut String, address: &Address) -> Result<(), AllocErr
 }
 
 fn put_some_address(text: &mut String, address: &Option<Address>) -> Result<(), AllocError>
-    ensures { OnOk result (string_bytes text.new ≡ string_bytes text.old ++ lines_text (line_of address_line address.now)) }
+    ensures { OnOk result (string_bytes text.new ≡ string_bytes text.old ++ lines_text (line_of ip_address_line address.now)) }
 {
     match address {
         Some(address) => put_address_line(text, address),
@@ -27,7 +27,7 @@ fn put_some_address(text: &mut String, address: &Option<Address>) -> Result<(), 
     }
 }
 
-#[tactic(auto, unfolding(cfg_ast::specs::Printed::cost_line))]
+#[tactic(auto, unfolding(cfg_ast::specs::printing::Printed::cost_line))]
 fn put_some_cost(text: &mut String, cost: Option<u16>) -> Result<(), AllocError>
     ensures { OnOk result (string_bytes text.new ≡ string_bytes text.old ++ lines_text (line_of cost_line cost)) }
 {
@@ -46,7 +46,7 @@ fn put_shutdown(text: &mut String, shut: bool) -> Result<(), AllocError>
     Ok(())
 }
 
-#[tactic(auto, unfolding(cfg_ast::specs::Printed::interface_lines))]
+#[tactic(auto, unfolding(cfg_ast::specs::printing::Printed::interface_lines))]
 fn put_interface(text: &mut String, interface: &Interface) -> Result<(), AllocError>
     ensures { OnOk result (string_bytes text.new ≡ string_bytes text.old ++ lines_text (interface_lines interface.now)) }
 {

@@ -1,6 +1,6 @@
 ghost use Rattle.std.specs.Prelude.{◌≡◌, ◌++◌, ◌∷◌, [], OnOk, string_bytes, flat_map, map, is_some};
-ghost use Rattle.cfg_ast.specs.Words.{number_between, number_word};
-ghost use Rattle.cfg_ast.specs.Printed.{line_text, lines_text, closing, community_text, bound_words, prefix_entry_line, prefix_list_lines, community_list_name, community_line, community_list_lines};
+ghost use Rattle.cfg_ast.specs.text.Words.{number_between, number_word};
+ghost use Rattle.cfg_ast.specs.printing.Printed.{line_text, lines_text, closing, community_text, bound_words, prefix_entry_line, prefix_list_lines, community_list_name, community_list_line, community_list_lines};
 ghost use Rattle.cfg_print.specs.Spaced.{spaced_words, prefix_entry_head};
 
 use crate::words::{put, put_act, put_communities, put_number, put_prefix, put_word};
@@ -10,7 +10,7 @@ use std::alloc::AllocError;
 use std::fmt::Write;
 
 // A bound behind its word, if there is one.
-#[tactic(auto, unfolding(cfg_ast::specs::Printed::bound_words))]
+#[tactic(auto, unfolding(cfg_ast::specs::printing::Printed::bound_words))]
 fn put_bound(text: &mut String, word: &str, bound: Option<u8>) -> Result<(), AllocError>
     ensures { OnOk result (string_bytes text.new ≡ string_bytes text.old ++ spaced_words (bound_words word.now bound)) }
 {
@@ -78,7 +78,7 @@ pub(crate) fn put_prefix_lists(
     Ok(())
 }
 
-#[tactic(auto, unfolding(cfg_ast::specs::Words::number_between, cfg_ast::specs::Words::number_word))]
+#[tactic(auto, unfolding(cfg_ast::specs::text::Words::number_between, cfg_ast::specs::text::Words::number_word))]
 fn is_list_number(name: &str) -> bool
     ensures { result ≡ is_some (number_between 1 99 name.now) }
 {
@@ -98,7 +98,7 @@ fn put_list_name(text: &mut String, name: &str) -> Result<(), AllocError>
 }
 
 fn put_community_line(text: &mut String, name: &str, line: &CommunityLine) -> Result<(), AllocError>
-    ensures { OnOk result (string_bytes text.new ≡ string_bytes text.old ++ line_text (community_line name.now line.now)) }
+    ensures { OnOk result (string_bytes text.new ≡ string_bytes text.old ++ line_text (community_list_line name.now line.now)) }
 {
     put(text, "ip community-list")?;
     put_list_name(text, name)?;
@@ -108,7 +108,7 @@ fn put_community_line(text: &mut String, name: &str, line: &CommunityLine) -> Re
 }
 
 fn put_community_list(text: &mut String, list: &CommunityList) -> Result<(), AllocError>
-    ensures { OnOk result (string_bytes text.new ≡ string_bytes text.old ++ lines_text (map (community_line list.now.name) list.now.lines)) }
+    ensures { OnOk result (string_bytes text.new ≡ string_bytes text.old ++ lines_text (map (community_list_line list.now.name) list.now.lines)) }
 {
     let name = list.name.as_str();
     let lines = list.lines.as_slice();
@@ -119,7 +119,7 @@ fn put_community_list(text: &mut String, list: &CommunityList) -> Result<(), All
 }
 
 fn put_community_entries(text: &mut String, lists: &[CommunityList]) -> Result<(), AllocError>
-    ensures { OnOk result (string_bytes text.new ≡ string_bytes text.old ++ lines_text (flat_map (λ l. map (community_line l.name) l.lines) lists.now)) }
+    ensures { OnOk result (string_bytes text.new ≡ string_bytes text.old ++ lines_text (flat_map (λ l. map (community_list_line l.name) l.lines) lists.now)) }
 {
     for list in lists {
         put_community_list(text, list)?;

@@ -1,6 +1,6 @@
 ghost use Rattle.std.specs.Prelude.{◌≡◌, ◌++◌, ◌∷◌, [], codes, OnOk, string_bytes, map};
 ghost use Rattle.std.specs.Fmt.{decimal};
-ghost use Rattle.cfg_ast.specs.Printed.{line, line_text, lines_text, line_if, passive_default_line, passive_line, not_passive_line, area_line, ospf_lines};
+ghost use Rattle.cfg_ast.specs.printing.Printed.{line, line_text, lines_text, line_if, passive_default_line, passive_line, not_passive_line, network_area_line, ospf_lines};
 
 use crate::words::{put, put_address, put_closing, put_name};
 use base_kit::{List, Text};
@@ -53,9 +53,9 @@ fn put_not_passive(text: &mut String, names: &List<Text>) -> Result<(), AllocErr
     Ok(())
 }
 
-#[tactic(auto, unfolding(cfg_ast::specs::Printed::area_line))]
+#[tactic(auto, unfolding(cfg_ast::specs::printing::Printed::network_area_line))]
 fn put_area(text: &mut String, area: &AreaLine) -> Result<(), AllocError>
-    ensures { OnOk result (string_bytes text.new ≡ string_bytes text.old ++ line_text (area_line area.now)) }
+    ensures { OnOk result (string_bytes text.new ≡ string_bytes text.old ++ line_text (network_area_line area.now)) }
 {
     let number = area.area;
     text.push_str(" network ")?;
@@ -66,7 +66,7 @@ fn put_area(text: &mut String, area: &AreaLine) -> Result<(), AllocError>
 }
 
 fn put_areas(text: &mut String, areas: &List<AreaLine>) -> Result<(), AllocError>
-    ensures { OnOk result (string_bytes text.new ≡ string_bytes text.old ++ lines_text (map area_line areas.now)) }
+    ensures { OnOk result (string_bytes text.new ≡ string_bytes text.old ++ lines_text (map network_area_line areas.now)) }
 {
     let items = areas.as_slice();
     for area in items {

@@ -1,5 +1,5 @@
 ghost use Rattle.std.specs.Prelude.{◌≡◌};
-ghost use Rattle.cfg_ast.specs.Printed.{printed};
+ghost use Rattle.cfg_ast.specs.printing.Printed.{printed};
 ghost use Rattle.cfg_print.specs.Prints.{count_newlines, is_too_long, Prints};
 
 use crate::refusal::PrintRefusal;
@@ -27,7 +27,7 @@ fn is_too_long(bytes: &[u8]) -> bool
 ///
 /// `TooLong` exactly where the text has more than 16,777,216 bytes or 1,000,000 lines, as no text has
 /// that is read. `Memory` where memory ran out.
-#[tactic(auto, unfolding(cfg_ast::specs::Printed::printed))]
+#[tactic(auto, unfolding(cfg_ast::specs::printing::Printed::printed))]
 pub fn text(alloc: Global, network: &Network, notes: &Notes) -> Result<Vec<u8>, PrintRefusal>
     ensures { Prints (λ bytes. bytes.items) result (printed network.now notes.now) }
 {

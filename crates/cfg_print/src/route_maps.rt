@@ -1,7 +1,7 @@
 ghost use Rattle.std.specs.Prelude.{◌≡◌, ◌++◌, ◌∷◌, [], OnOk, string_bytes, flat_map, map, codes, if◌then◌else◌};
 ghost use Rattle.std.specs.Fmt.{decimal};
 ghost use Rattle.cfg_ast.specs.declared.policy.Change.TheVariants.{Clear, Replace, Append};
-ghost use Rattle.cfg_ast.specs.Printed.{line_text, lines_text, line_of, map_head_line, match_prefixes_line, match_comms_line, lp_line, change_line, delete_line, prepend_line, map_entry_lines, route_map_lines};
+ghost use Rattle.cfg_ast.specs.printing.Printed.{line_text, lines_text, line_of, map_head_line, match_prefixes_line, match_comms_line, lp_line, change_line, delete_line, prepend_line, map_entry_lines, route_map_lines};
 ghost use Rattle.cfg_print.specs.Spaced.{spaced_words};
 
 use crate::words::{

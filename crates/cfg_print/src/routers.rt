@@ -1,5 +1,5 @@
 ghost use Rattle.std.specs.Prelude.{◌≡◌, ◌++◌, ◌∷◌, [], OnOk, string_bytes, flat_map, map, get_or, codes};
-ghost use Rattle.cfg_ast.specs.Printed.{line, lines_text, member_line, router_lines, routers_lines, lines_of_some, bgp_lines, ospf_lines};
+ghost use Rattle.cfg_ast.specs.printing.Printed.{line, lines_text, member_line, router_lines, routers_lines, lines_of_some, bgp_lines, ospf_lines};
 ghost use Rattle.cfg_print.specs.Spaced.{router_front};
 
 use crate::bgp::put_bgp;
@@ -13,7 +13,7 @@ use cfg_ast::{BgpProcess, OspfProcess, Router};
 use std::alloc::AllocError;
 use std::fmt::Write;
 
-#[tactic(auto, unfolding(cfg_ast::specs::Printed::member_line))]
+#[tactic(auto, unfolding(cfg_ast::specs::printing::Printed::member_line))]
 fn put_members(text: &mut String, members: &[Text]) -> Result<(), AllocError>
     ensures { OnOk result (string_bytes text.new ≡ string_bytes text.old ++ lines_text (map member_line members.now)) }
 {

@@ -1,7 +1,7 @@
 ghost use Rattle.std.specs.Prelude.{◌≡◌, ◌≤◌, ◌++◌, ◌∷◌, [], OnOk, string_bytes, map};
-ghost use Rattle.cfg_ast.specs.Words.{mask_of};
+ghost use Rattle.cfg_ast.specs.text.Words.{mask_of};
 ghost use Rattle.std.specs.Fmt.{decimal};
-ghost use Rattle.cfg_ast.specs.Printed.{lines_text, closing, address_text, prefix_text, community_text, act_text};
+ghost use Rattle.cfg_ast.specs.printing.Printed.{lines_text, closing, address_text, prefix_text, community_text, act_text};
 ghost use Rattle.cfg_print.specs.Spaced.{spaced, spaced_words};
 
 use base_kit::{List, NumSet, Prefix, Text};
@@ -9,7 +9,7 @@ use std::alloc::AllocError;
 use std::fmt::Write;
 
 /// Appends an address: four numbers joined by points.
-#[tactic(auto, unfolding(cfg_ast::specs::Printed::address_text))]
+#[tactic(auto, unfolding(cfg_ast::specs::printing::Printed::address_text))]
 pub fn put_address(text: &mut String, addr: u32) -> Result<(), AllocError>
     ensures { OnOk result (string_bytes text.new ≡ string_bytes text.old ++ address_text addr) }
 {
@@ -21,7 +21,7 @@ pub fn put_address(text: &mut String, addr: u32) -> Result<(), AllocError>
 }
 
 /// Appends a prefix: its address and its length behind a slash.
-#[tactic(auto, unfolding(cfg_ast::specs::Printed::prefix_text))]
+#[tactic(auto, unfolding(cfg_ast::specs::printing::Printed::prefix_text))]
 pub fn put_prefix(text: &mut String, prefix: &Prefix) -> Result<(), AllocError>
     ensures { OnOk result (string_bytes text.new ≡ string_bytes text.old ++ prefix_text prefix.now) }
 {
@@ -31,7 +31,7 @@ pub fn put_prefix(text: &mut String, prefix: &Prefix) -> Result<(), AllocError>
 }
 
 /// Appends a community: its two halves joined by a colon.
-#[tactic(auto, unfolding(cfg_ast::specs::Printed::community_text))]
+#[tactic(auto, unfolding(cfg_ast::specs::printing::Printed::community_text))]
 pub fn put_community(text: &mut String, community: u32) -> Result<(), AllocError>
     ensures { OnOk result (string_bytes text.new ≡ string_bytes text.old ++ community_text community) }
 {

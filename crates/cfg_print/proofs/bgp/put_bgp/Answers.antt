@@ -1,7 +1,7 @@
 use Rattle.std.proofs.Common.{◌++◌, ◌∷◌, [], map, flat_map, codes, string_bytes}
 use Rattle.std.specs.Fmt.{decimal}
 use Rattle.cfg_print.proofs.Grown.{lines_grown, lines_end}
-use Rattle.cfg_ast.specs.Printed.{line, closing, line_of, base_line, network_line, neighbor_lines, bgp_lines}
+use Rattle.cfg_ast.specs.printing.Printed.{line, closing, line_of, base_line, network_line, neighbor_lines, bgp_lines}
 use Rattle.cfg_print.proofs.bgp.put_bgp.Goals as goal
 
 pub returns : goal.returns

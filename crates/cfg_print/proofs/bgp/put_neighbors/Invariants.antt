@@ -1,5 +1,5 @@
 use Rattle.std.proofs.Common.{◌≡◌, ◌++◌, drop, string_bytes, flat_map}
-use Rattle.cfg_ast.specs.Printed.{lines_text, neighbor_lines}
+use Rattle.cfg_ast.specs.printing.Printed.{lines_text, neighbor_lines}
 use Rattle.cfg_print.proofs.bgp.put_neighbors.Given as goal
 
 abbrev pub invariant-loop-peer : goal.invariant-loop-peer

@@ -1,5 +1,5 @@
 use Rattle.std.proofs.Common.{◌≡◌, ◌++◌, drop, string_bytes, map}
-use Rattle.cfg_ast.specs.Printed.{lines_text, network_line}
+use Rattle.cfg_ast.specs.printing.Printed.{lines_text, network_line}
 use Rattle.cfg_print.proofs.bgp.put_networks.Given as goal
 
 abbrev pub invariant-loop-net : goal.invariant-loop-net

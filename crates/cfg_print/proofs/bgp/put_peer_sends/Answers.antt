@@ -1,6 +1,6 @@
 use Rattle.std.proofs.Common.{◌++◌, codes, string_bytes}
 use Rattle.cfg_print.proofs.Grown.{grown, ends}
-use Rattle.cfg_ast.specs.Printed.{line_text, address_text, peer_sends_line}
+use Rattle.cfg_ast.specs.printing.Printed.{line_text, address_text, peer_sends_line}
 use Rattle.cfg_print.proofs.Joined.{sends_text}
 use Rattle.cfg_print.proofs.bgp.put_peer_sends.Goals as goal
 

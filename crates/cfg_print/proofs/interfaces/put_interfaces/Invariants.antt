@@ -1,5 +1,5 @@
 use Rattle.std.proofs.Common.{◌≡◌, ◌++◌, drop, string_bytes, flat_map}
-use Rattle.cfg_ast.specs.Printed.{lines_text, interface_lines}
+use Rattle.cfg_ast.specs.printing.Printed.{lines_text, interface_lines}
 use Rattle.cfg_print.proofs.interfaces.put_interfaces.Given as goal
 
 abbrev pub invariant-loop-interface : goal.invariant-loop-interface

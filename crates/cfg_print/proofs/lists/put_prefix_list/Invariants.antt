@@ -1,5 +1,5 @@
 use Rattle.std.proofs.Common.{◌≡◌, ◌++◌, drop, string_bytes, map}
-use Rattle.cfg_ast.specs.Printed.{lines_text, prefix_entry_line}
+use Rattle.cfg_ast.specs.printing.Printed.{lines_text, prefix_entry_line}
 use Rattle.cfg_print.proofs.lists.put_prefix_list.Given as goal
 
 abbrev pub invariant-loop-entry : goal.invariant-loop-entry

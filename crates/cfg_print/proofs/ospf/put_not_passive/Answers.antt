@@ -1,5 +1,5 @@
 use Rattle.std.proofs.Common.{string_bytes}
-use Rattle.cfg_ast.specs.Printed.{not_passive_line}
+use Rattle.cfg_ast.specs.printing.Printed.{not_passive_line}
 use Rattle.cfg_print.proofs.Grown.{item_grown}
 use Rattle.cfg_print.proofs.ospf.put_not_passive.Goals as goal
 

@@ -1,5 +1,5 @@
 use Rattle.std.proofs.Common.{◌≡◌, ◌++◌, drop, string_bytes, map}
-use Rattle.cfg_ast.specs.Printed.{lines_text, not_passive_line}
+use Rattle.cfg_ast.specs.printing.Printed.{lines_text, not_passive_line}
 use Rattle.cfg_print.proofs.ospf.put_not_passive.Given as goal
 
 abbrev pub invariant-loop-name : goal.invariant-loop-name

@@ -1,7 +1,7 @@
 use Rattle.std.proofs.Common.{codes, string_bytes}
 use Rattle.cfg_print.proofs.Grown.{written}
 use Rattle.cfg_ast.specs.declared.policy.Change.TheVariants.{Clear}
-use Rattle.cfg_ast.specs.Printed.{line_text, change_line}
+use Rattle.cfg_ast.specs.printing.Printed.{line_text, change_line}
 use Rattle.cfg_print.proofs.Joined.{clear_text}
 use Rattle.cfg_print.proofs.route_maps.put_clear.Goals as goal
 

@@ -1,6 +1,6 @@
 use Rattle.std.proofs.Common.{◌++◌, ◌∷◌, [], string_bytes}
 use Rattle.cfg_print.proofs.Grown.{lines_grown, lines_end}
-use Rattle.cfg_ast.specs.Printed.{closing, line_of, map_head_line, match_prefixes_line, match_comms_line, lp_line, change_line, delete_line, prepend_line, map_entry_lines}
+use Rattle.cfg_ast.specs.printing.Printed.{closing, line_of, map_head_line, match_prefixes_line, match_comms_line, lp_line, change_line, delete_line, prepend_line, map_entry_lines}
 use Rattle.cfg_print.proofs.route_maps.put_entry.Goals as goal
 
 pub returns : goal.returns

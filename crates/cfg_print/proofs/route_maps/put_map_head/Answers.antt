@@ -1,6 +1,6 @@
 use Rattle.std.proofs.Common.{◌++◌, ◌∷◌, [], codes, string_bytes}
 use Rattle.std.specs.Fmt.{decimal}
-use Rattle.cfg_ast.specs.Printed.{lines_text, act_text, map_head_line}
+use Rattle.cfg_ast.specs.printing.Printed.{lines_text, act_text, map_head_line}
 use Rattle.cfg_print.specs.Spaced.{spaced}
 use Rattle.cfg_print.proofs.Grown.{grown, ends}
 use Rattle.cfg_print.proofs.Joined.{map_head_text}

@@ -1,5 +1,5 @@
 use Rattle.std.proofs.Common.{◌≡◌, ◌++◌, drop, string_bytes, flat_map}
-use Rattle.cfg_ast.specs.Printed.{lines_text, map_entry_lines}
+use Rattle.cfg_ast.specs.printing.Printed.{lines_text, map_entry_lines}
 use Rattle.cfg_print.proofs.route_maps.put_route_map.Given as goal
 
 abbrev pub invariant-loop-entry : goal.invariant-loop-entry

@@ -1,5 +1,5 @@
 use Rattle.std.proofs.Common.{◌≡◌, ◌++◌, drop, string_bytes, flat_map}
-use Rattle.cfg_ast.specs.Printed.{lines_text, route_map_lines}
+use Rattle.cfg_ast.specs.printing.Printed.{lines_text, route_map_lines}
 use Rattle.cfg_print.proofs.route_maps.put_route_maps.Given as goal
 
 abbrev pub invariant-loop-map : goal.invariant-loop-map

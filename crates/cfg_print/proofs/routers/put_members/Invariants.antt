@@ -1,5 +1,5 @@
 use Rattle.std.proofs.Common.{◌≡◌, ◌++◌, drop, string_bytes, map}
-use Rattle.cfg_ast.specs.Printed.{lines_text, member_line}
+use Rattle.cfg_ast.specs.printing.Printed.{lines_text, member_line}
 use Rattle.cfg_print.proofs.routers.put_members.Given as goal
 
 abbrev pub invariant-loop-member : goal.invariant-loop-member

@@ -1,5 +1,5 @@
 use Rattle.std.proofs.Common.{◌≡◌, ◌++◌, drop, string_bytes}
-use Rattle.cfg_ast.specs.Printed.{lines_text, routers_lines}
+use Rattle.cfg_ast.specs.printing.Printed.{lines_text, routers_lines}
 use Rattle.cfg_print.proofs.routers.put_routers.Given as goal
 
 abbrev pub invariant-loop-place : goal.invariant-loop-place

@@ -1,5 +1,5 @@
 use Rattle.std.proofs.Common.{◌≡◌, ◌++◌, drop, string_bytes, map}
-use Rattle.cfg_ast.specs.Printed.{community_text}
+use Rattle.cfg_ast.specs.printing.Printed.{community_text}
 use Rattle.cfg_print.specs.Spaced.{spaced_words}
 use Rattle.cfg_print.proofs.words.put_communities.Given as goal
 
