@@ -11,10 +11,10 @@ use Rattle.cfg_ast.specs.declared.refusal.FormFault.{FormFault}
 use Rattle.cfg_ast.specs.declared.refusal.FormFault.TheVariants as form_fault
 use Rattle.cfg_ast.specs.declared.refusal.ReadRefusal.{ReadRefusal}
 use Rattle.cfg_ast.specs.declared.refusal.ReadRefusal.TheVariants as refusal
-use Rattle.cfg_ast.specs.FormSteps.{◌>>=◌, or_bad, bad_unless}
-use Rattle.cfg_ast.specs.Stanzas.{◌>>=◌ as ◌>>>◌, refusal_of, said_at, once}
-use Rattle.cfg_ast.specs.Reading.{Stanza, closed, ignored, in_interface, in_bgp, in_ospf, in_entry, Draft, State}
-use Rattle.cfg_ast.specs.Bare.{bare_named, bare_address, bare_interface, bare_base, bare_net, bare_bgp, bare_area, bare_ospf, bare_prefix_entry, bare_prefix_list, bare_community_line, bare_community_list, bare_name_line, bare_prepend, bare_map_entry, bare_route_map, bare_router}
+use Rattle.cfg_ast.specs.text.FormSteps.{◌>>=◌, or_bad, bad_unless}
+use Rattle.cfg_ast.specs.text.Stanzas.{◌>>=◌ as ◌>>>◌, refusal_of, said_at, once}
+use Rattle.cfg_ast.specs.text.Reading.{Stanza, closed, ignored, in_interface, in_bgp, in_ospf, in_entry, Draft, State}
+use Rattle.cfg_ast.specs.printing.Bare.{bare_named, bare_address, bare_interface, bare_base, bare_net, bare_bgp, bare_area, bare_ospf, bare_prefix_entry, bare_prefix_list, bare_community_line, bare_community_list, bare_name_line, bare_prepend, bare_map_entry, bare_route_map, bare_router}
 
 -- ---- items
 

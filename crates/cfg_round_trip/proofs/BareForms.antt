@@ -11,12 +11,12 @@ use Rattle.cfg_ast.specs.declared.heads.PolicyForm.{PolicyForm}
 use Rattle.cfg_ast.specs.declared.heads.PolicyForm.TheVariants as policy_form
 use Rattle.cfg_ast.specs.declared.items.Scope.{Scope}
 use Rattle.cfg_ast.specs.declared.items.PolicyScope.{PolicyScope}
-use Rattle.cfg_ast.specs.Words.{is_list_name, is_router_name, is_interface_name, number_word, number_between, as_number_of, address_word, mask_len_of, classful_len_of, exact_prefix, prefix_of}
-use Rattle.cfg_ast.specs.FormSteps.{list_name_of, named_of}
-use Rattle.cfg_ast.specs.Heads.{class_in, heads_of, policy_heads_of}
-use Rattle.cfg_ast.specs.RouterForms.{hostname_form, interface_form, bgp_form, ospf_form, end_form, ip_address_form, cost_form, shutdown_form, base_form, net_line, network_form, remote_as_form, peer_shut_form, sends_standard, peer_sends_form, is_inward, peer_list_form, peer_map_form, area_of, area_form, passive_form, not_passive_form, router_form, router_item_by, router_item_of}
-use Rattle.cfg_ast.specs.PolicyForms.{is_permit, is_marked, but_last, bounds_of, list_names_of, communities_of, prefix_entry_form, community_line, numbered_line, community_line_form, map_head_form, match_prefixes_form, comms_match, marked_match, match_comms_form, lp_form, change_of, set_comms_form, delete_form, is_as_number, prepend_form, policy_form, policy_item_by, policy_item_of}
-use Rattle.cfg_ast.specs.Bare.{bare_named}
+use Rattle.cfg_ast.specs.text.Words.{is_list_name, is_router_name, is_interface_name, number_word, number_between, as_number_word, address_word, mask_len_of, classful_len_of, exact_prefix, prefix_of}
+use Rattle.cfg_ast.specs.text.FormSteps.{list_name_of, named_of}
+use Rattle.cfg_ast.specs.text.Heads.{class_in, heads_of, policy_heads_of}
+use Rattle.cfg_ast.specs.text.RouterForms.{hostname_form, interface_form, bgp_form, ospf_form, end_form, ip_address_form, cost_form, shutdown_form, base_form, net_line, network_form, remote_as_form, peer_shut_form, sends_standard, peer_sends_form, is_inward, peer_list_form, peer_map_form, area_word, area_form, passive_form, not_passive_form, router_form, router_item_by, router_item_of}
+use Rattle.cfg_ast.specs.text.PolicyForms.{is_permit, has_mark, but_last, bounds_of, list_names_of, community_words, prefix_entry_form, community_line, numbered_line, community_line_form, map_head_form, match_prefixes_form, comms_match, marked_match, match_comms_form, lp_form, change_of, set_comms_form, delete_form, is_as_number, prepend_form, policy_form, policy_item_by, policy_item_of}
+use Rattle.cfg_ast.specs.printing.Bare.{bare_named}
 use Rattle.cfg_round_trip.proofs.Bare.{bare_item, bare_policy, on_ok, given_same, after_same, after_bare, fits_same, either_same}
 
 named_same : (line : ℕ) (word : List ℕ) → named_of 0 word ≡ on_ok bare_named (named_of line word)
@@ -37,7 +37,7 @@ interface_same _ = refl
 
 bgp_same : (words : List (List ℕ)) → bgp_form words ≡ on_ok bare_item (bgp_form words)
 unfolding bgp_form
-bgp_same (_ ∷ _ ∷ number ∷ []) = given_same bare_item (as_number_of number) _ _ (λ n. refl)
+bgp_same (_ ∷ _ ∷ number ∷ []) = given_same bare_item (as_number_word number) _ _ (λ n. refl)
 bgp_same _ = refl
 
 ospf_same : (words : List (List ℕ)) → ospf_form words ≡ on_ok bare_item (ospf_form words)
@@ -83,7 +83,7 @@ network_same line _ = refl
 
 remote_as_same : (words : List (List ℕ)) → remote_as_form words ≡ on_ok bare_item (remote_as_form words)
 unfolding remote_as_form
-remote_as_same (_ ∷ address ∷ _ ∷ number ∷ []) = given_same bare_item (address_word address) _ _ (λ addr. given_same bare_item (as_number_of number) _ _ (λ n. refl))
+remote_as_same (_ ∷ address ∷ _ ∷ number ∷ []) = given_same bare_item (address_word address) _ _ (λ addr. given_same bare_item (as_number_word number) _ _ (λ n. refl))
 remote_as_same _ = refl
 
 peer_shut_same : (words : List (List ℕ)) → peer_shut_form words ≡ on_ok bare_item (peer_shut_form words)
@@ -112,7 +112,7 @@ peer_map_same line _ = refl
 area_same : (line : ℕ) (words : List (List ℕ)) → area_form 0 words ≡ on_ok bare_item (area_form line words)
 unfolding area_form
 area_same line (_ ∷ address ∷ wildcard ∷ word ∷ number ∷ []) =
-    fits_same bare_item (bytes_eq word (codes "area")) _ _ (given_same bare_item (address_word address) _ _ (λ addr. given_same bare_item (address_word wildcard) _ _ (λ wild. given_same bare_item (area_of number) _ _ (λ area. refl))))
+    fits_same bare_item (bytes_eq word (codes "area")) _ _ (given_same bare_item (address_word address) _ _ (λ addr. given_same bare_item (address_word wildcard) _ _ (λ wild. given_same bare_item (area_word number) _ _ (λ area. refl))))
 area_same line _ = refl
 
 passive_same : (words : List (List ℕ)) → passive_form words ≡ on_ok bare_item (passive_form words)
@@ -173,7 +173,7 @@ prefix_entry_same line _ = refl
 community_line_same : (line : ℕ) (name act : List ℕ) (communities : List (List ℕ)) → community_line 0 name act communities ≡ on_ok bare_policy (community_line line name act communities)
 unfolding community_line
 community_line_same line name act communities =
-    given_same bare_policy (is_permit act) _ _ (λ permit. after_same bare_policy (list_name_of name) _ _ (λ list. after_same bare_policy (communities_of communities) _ _ (λ comms. refl)))
+    given_same bare_policy (is_permit act) _ _ (λ permit. after_same bare_policy (list_name_of name) _ _ (λ list. after_same bare_policy (community_words communities) _ _ (λ comms. refl)))
 
 numbered_same : (line : ℕ) (number act : List ℕ) (communities : List (List ℕ)) → numbered_line 0 number act communities ≡ on_ok bare_policy (numbered_line line number act communities)
 unfolding numbered_line
@@ -204,7 +204,7 @@ comms_match_same line exact words = after_same bare_policy (list_names_of words)
 
 marked_same : (line : ℕ) (words : List (List ℕ)) → marked_match 0 words ≡ on_ok bare_policy (marked_match line words)
 unfolding marked_match
-marked_same line words = either_same bare_policy (is_marked (codes "exact-match") words) _ _ _ _ (comms_match_same line true (but_last words)) (comms_match_same line false words)
+marked_same line words = either_same bare_policy (has_mark (codes "exact-match") words) _ _ _ _ (comms_match_same line true (but_last words)) (comms_match_same line false words)
 
 match_comms_same : (line : ℕ) (words : List (List ℕ)) → match_comms_form 0 words ≡ on_ok bare_policy (match_comms_form line words)
 unfolding match_comms_form

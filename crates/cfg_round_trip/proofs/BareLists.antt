@@ -8,8 +8,8 @@ use Rattle.cfg_ast.specs.declared.policy.CommunityLine.{CommunityLine}
 use Rattle.cfg_ast.specs.declared.policy.CommunityList.{CommunityList}
 use Rattle.cfg_ast.specs.declared.policy.MapEntry.{MapEntry}
 use Rattle.cfg_ast.specs.declared.policy.RouteMap.{RouteMap}
-use Rattle.cfg_ast.specs.PolicyLines.{changed_or_new, put_before, is_prefix_list, has_seq, has_prefix_entry, put_prefix_entry, with_prefix_entry, is_community_list, put_community_line, with_community_line, is_route_map, has_entry_seq, has_map_entry, put_map_entry, with_map_entry}
-use Rattle.cfg_ast.specs.Bare.{bare_prefix_entry, bare_prefix_list, bare_community_line, bare_community_list, bare_map_entry, bare_route_map}
+use Rattle.cfg_ast.specs.text.PolicyLines.{changed_or_new, put_before, is_prefix_list, has_seq, has_prefix_entry, put_prefix_entry, with_prefix_entry, is_community_list, put_community_line, with_community_line, is_route_map, has_entry_seq, has_map_entry, put_map_entry, with_map_entry}
+use Rattle.cfg_ast.specs.printing.Bare.{bare_prefix_entry, bare_prefix_list, bare_community_line, bare_community_list, bare_map_entry, bare_route_map}
 use Rattle.cfg_round_trip.proofs.Bare.{any-map}
 
 changed-map : {X : Type 0} (h : X → X) (is_it : X → Bool) (change other : X → X) (new : X) → ((x : X) → is_it (h x) ≡ is_it x) → ((x : X) → other (h x) ≡ h (change x)) → (xs : List X) → changed_or_new is_it other (h new) (map h xs) ≡ map h (changed_or_new is_it change new xs)

@@ -14,9 +14,9 @@ use Rattle.cfg_ast.specs.declared.items.RouterItem.{RouterItem}
 use Rattle.cfg_ast.specs.declared.items.RouterItem.TheVariants as item
 use Rattle.cfg_ast.specs.declared.items.PolicyItem.{PolicyItem}
 use Rattle.cfg_ast.specs.declared.items.PolicyItem.TheVariants as policy
-use Rattle.cfg_ast.specs.Stanzas.{◌>>=◌, set_interface, same_prefix, has_network, has_neighbor, new_neighbor, set_neighbor, at_neighbor, with_peer, peer_of, set_process, set_bgp_for, set_bgp, same_area, with_area, set_ospf}
-use Rattle.cfg_ast.specs.PolicyLines.{set_entry}
-use Rattle.cfg_ast.specs.Bare.{bare_interface, bare_net, bare_neighbor, bare_bgp, bare_area, bare_ospf, bare_map_entry}
+use Rattle.cfg_ast.specs.text.Stanzas.{◌>>=◌, set_interface, same_prefix, has_network, has_neighbor, new_neighbor, set_neighbor, at_neighbor, with_peer, peer_of, set_process, set_bgp_for, set_bgp, same_area_line, with_area, set_ospf}
+use Rattle.cfg_ast.specs.text.PolicyLines.{set_entry}
+use Rattle.cfg_ast.specs.printing.Bare.{bare_interface, bare_net, bare_neighbor, bare_bgp, bare_area, bare_ospf, bare_map_entry}
 use Rattle.cfg_round_trip.proofs.Bare.{bare_item, bare_policy, on_result, then_same, once_same, is_some-map, any-map}
 
 -- ---- an interface
@@ -98,7 +98,7 @@ set_bgp_same n said b = ap (λ (o : Option ℕ). set_bgp_for o 0 (bare_item said
 with_area_same : (areas : List AreaLine) (area : AreaLine) → with_area (map bare_area areas) (bare_area area) ≡ map bare_area (with_area areas area)
 unfolding with_area
 with_area_same areas area =
-    ap (λ (b : Bool). if b then map bare_area areas else map bare_area areas ++ bare_area area ∷ []) (any-map bare_area (same_area (bare_area area)) (same_area area) (λ other. refl) areas) ∙ by (list_any (same_area area) areas)
+    ap (λ (b : Bool). if b then map bare_area areas else map bare_area areas ++ bare_area area ∷ []) (any-map bare_area (same_area_line (bare_area area)) (same_area_line area) (λ other. refl) areas) ∙ by (list_any (same_area_line area) areas)
   where
     by : (b : Bool) → (if b then map bare_area areas else map bare_area areas ++ bare_area area ∷ []) ≡ map bare_area (if b then areas else areas ++ area ∷ [])
     by true = refl

@@ -15,11 +15,11 @@ use Rattle.cfg_ast.specs.declared.items.RouterItem.TheVariants as item
 use Rattle.cfg_ast.specs.declared.items.PolicyScope.TheVariants as policy_scope
 use Rattle.cfg_ast.specs.declared.items.PolicyItem.{PolicyItem}
 use Rattle.cfg_ast.specs.declared.items.PolicyItem.TheVariants as policy
-use Rattle.cfg_ast.specs.TextLines.{TextLine}
-use Rattle.cfg_ast.specs.PolicyLines.{is_policy_line}
-use Rattle.cfg_ast.specs.Stanzas.{◌>>=◌}
-use Rattle.cfg_ast.specs.Reading.{Stanza, closed, ignored, in_interface, in_bgp, in_ospf, in_entry, Draft, State, no_draft, closing, with_closed, has_interface, take_line, named_router, end_router, ends_router, take_top, take_policy, step_policy, step_router, take_inner, step_inner, step, steps}
-use Rattle.cfg_ast.specs.Bare.{bare_line, bare_named, bare_interface, bare_bgp, bare_map_entry, bare_router}
+use Rattle.cfg_ast.specs.text.TextLines.{TextLine}
+use Rattle.cfg_ast.specs.text.PolicyLines.{is_policy_line}
+use Rattle.cfg_ast.specs.text.Stanzas.{◌>>=◌}
+use Rattle.cfg_ast.specs.text.Reading.{Stanza, closed, ignored, in_interface, in_bgp, in_ospf, in_entry, Draft, State, no_draft, closing_stanza, with_closed, has_interface, take_line, named_router, end_router, ends_router, take_top, take_policy, step_policy, step_router, take_inner, step_inner, step, steps}
+use Rattle.cfg_ast.specs.printing.Bare.{bare_line, bare_named, bare_interface, bare_bgp, bare_map_entry, bare_router}
 use Rattle.cfg_round_trip.proofs.Bare.{bare_item, bare_policy, bare_stanza, bare_draft, bare_state, on_result, then_same, said_same, once_same, is_some-map, any-map}
 use Rattle.cfg_round_trip.proofs.BareForms.{router_item_same, policy_item_same}
 use Rattle.cfg_round_trip.proofs.BareStanzas.{set_interface_same, set_bgp_same, set_ospf_same, set_entry_same}
@@ -39,7 +39,7 @@ with_prefix_lists d lists = record d { prefix_lists = lists }
 abbrev with_community_lists : Draft → List CommunityList → Draft
 with_community_lists d lists = record d { community_lists = lists }
 
-closing_same : (stanza : Stanza) (d : Draft) → closing (bare_stanza stanza) (bare_draft d) ≡ bare_draft (closing stanza d)
+closing_same : (stanza : Stanza) (d : Draft) → closing_stanza (bare_stanza stanza) (bare_draft d) ≡ bare_draft (closing_stanza stanza d)
 closing_same closed d = refl
 closing_same ignored d = refl
 closing_same (in_interface i) d = ap (with_interfaces (bare_draft d)) (sym (map_push bare_interface d.interfaces i))

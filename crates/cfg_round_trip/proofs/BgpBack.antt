@@ -14,13 +14,13 @@ use Rattle.cfg_ast.specs.declared.items.Scope.TheVariants as scope
 use Rattle.cfg_ast.specs.declared.items.RouterItem.{RouterItem}
 use Rattle.cfg_ast.specs.declared.items.RouterItem.TheVariants as item
 use Rattle.cfg_ast.specs.declared.refusal.ReadRefusal.{ReadRefusal}
-use Rattle.cfg_ast.specs.TextLines.{TextLine}
-use Rattle.cfg_ast.specs.RouterForms.{router_item_of}
-use Rattle.cfg_ast.specs.Stanzas.{has_network, has_neighbor, set_neighbor, at_neighbor, peer_of, set_process, set_bgp}
-use Rattle.cfg_ast.specs.Reading.{in_bgp, take_inner}
-use Rattle.cfg_ast.specs.Printed.{line_of, line_if, closing, base_line, network_line, remote_line, peer_shut_line, peer_sends_line, applied_line, neighbor_lines}
-use Rattle.cfg_ast.specs.Bare.{bare_named, bare_base, bare_net, bare_neighbor, bare_bgp}
-use Rattle.cfg_ast.specs.WellFormed.{IsBetween, IsNumber, IsWellFormedBase, IsWellFormedNamed, IsWellFormedNetLine, same_net, IsWellFormedNeighbor, same_neighbor, IsWellFormedBgp}
+use Rattle.cfg_ast.specs.text.TextLines.{TextLine}
+use Rattle.cfg_ast.specs.text.RouterForms.{router_item_of}
+use Rattle.cfg_ast.specs.text.Stanzas.{has_network, has_neighbor, set_neighbor, at_neighbor, peer_of, set_process, set_bgp}
+use Rattle.cfg_ast.specs.text.Reading.{in_bgp, take_inner}
+use Rattle.cfg_ast.specs.printing.Printed.{line_of, line_if, closing, base_line, network_line, remote_line, peer_shut_line, peer_sends_line, applied_line, neighbor_lines}
+use Rattle.cfg_ast.specs.printing.Bare.{bare_named, bare_base, bare_net, bare_neighbor, bare_bgp}
+use Rattle.cfg_ast.specs.printing.WellFormed.{IsBetween, IsNumber, IsWellFormedBase, IsWellFormedNamed, IsWellFormedNetLine, same_net, IsWellFormedNeighbor, same_neighbor, IsWellFormedBgp}
 use Rattle.cfg_round_trip.proofs.ItemsBack.{base_item, network_item, remote_item, peer_shut_item, peer_sends_item, peer_list_item, peer_map_item}
 use Rattle.cfg_round_trip.proofs.ReadBack.{at_stanza, Inner, inner_none, inner_then, inner_line, inner_closing, AreNew, new_to_none, new_to_more, grown}
 

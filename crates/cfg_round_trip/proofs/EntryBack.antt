@@ -10,13 +10,13 @@ use Rattle.cfg_ast.specs.declared.policy.Change.TheVariants.{Clear, Replace, App
 use Rattle.cfg_ast.specs.declared.policy.MapEntry.{MapEntry}
 use Rattle.cfg_ast.specs.declared.items.PolicyScope.TheVariants as scope
 use Rattle.cfg_ast.specs.declared.items.PolicyItem.{PolicyItem}
-use Rattle.cfg_ast.specs.TextLines.{TextLine}
-use Rattle.cfg_ast.specs.PolicyForms.{policy_item_of}
-use Rattle.cfg_ast.specs.PolicyLines.{set_entry}
-use Rattle.cfg_ast.specs.Reading.{in_entry, take_inner}
-use Rattle.cfg_ast.specs.Printed.{line_of, closing, match_prefixes_line, match_comms_line, lp_line, change_line, delete_line, prepend_line}
-use Rattle.cfg_ast.specs.Bare.{bare_named, bare_name_line, bare_prepend, bare_map_entry}
-use Rattle.cfg_ast.specs.WellFormed.{IsNumber, IsWellFormedNamed, IsWellFormedNameLine, IsMarkRight, IsWellFormedChange, IsWellFormedPrepend, IsWellFormedMapEntry}
+use Rattle.cfg_ast.specs.text.TextLines.{TextLine}
+use Rattle.cfg_ast.specs.text.PolicyForms.{policy_item_of}
+use Rattle.cfg_ast.specs.text.PolicyLines.{set_entry}
+use Rattle.cfg_ast.specs.text.Reading.{in_entry, take_inner}
+use Rattle.cfg_ast.specs.printing.Printed.{line_of, closing, match_prefixes_line, match_comms_line, lp_line, change_line, delete_line, prepend_line}
+use Rattle.cfg_ast.specs.printing.Bare.{bare_named, bare_name_line, bare_prepend, bare_map_entry}
+use Rattle.cfg_ast.specs.printing.WellFormed.{IsNumber, IsWellFormedNamed, IsWellFormedNameLine, IsMarkRight, IsWellFormedChange, IsWellFormedPrepend, IsWellFormedMapEntry}
 use Rattle.cfg_round_trip.proofs.PolicyItemsBack.{match_prefixes_item, match_comms_item, lp_item, change_item, delete_item, prepend_item}
 use Rattle.cfg_round_trip.proofs.PrintedLines.{is_read}
 use Rattle.cfg_round_trip.proofs.ReadBack.{at_stanza, Inner, inner_none, inner_then, inner_line, inner_closing}

@@ -10,8 +10,8 @@ use Rattle.cfg_ast.specs.declared.heads.RouterForm.{RouterForm}
 use Rattle.cfg_ast.specs.declared.heads.RouterForm.TheVariants as form
 use Rattle.cfg_ast.specs.declared.heads.PolicyForm.{PolicyForm}
 use Rattle.cfg_ast.specs.declared.heads.PolicyForm.TheVariants as policy_form
-use Rattle.cfg_ast.specs.Words.{number_word, number_between}
-use Rattle.cfg_ast.specs.Heads.{class_in, known_at_top, refused_at_top, ignored_services, ignored_device, known_in_interface, refused_in_interface, ignored_in_interface, known_in_bgp, refused_in_bgp, ignored_in_bgp, known_in_ospf, refused_in_ospf, ignored_in_ospf, known_in_entry, refused_in_entry, ignored_in_entry, heads_of, policy_heads_of}
+use Rattle.cfg_ast.specs.text.Words.{number_word, number_between}
+use Rattle.cfg_ast.specs.text.Heads.{class_in, known_at_top, refused_at_top, ignored_services, ignored_device, known_in_interface, refused_in_interface, ignored_in_interface, known_in_bgp, refused_in_bgp, ignored_in_bgp, known_in_ospf, refused_in_ospf, ignored_in_ospf, known_in_entry, refused_in_entry, ignored_in_entry, heads_of, policy_heads_of}
 
 abbrev pub IsHeadOf : Scope → RouterForm → List (List ℕ) → Type 0
 IsHeadOf s f words = class_in (heads_of s) words ≡ Some (Router f)

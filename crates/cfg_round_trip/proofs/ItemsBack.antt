@@ -5,7 +5,7 @@ use Rattle.std.specs.Fmt.{decimal}
 use Rattle.std.proofs.lemmas.Bool.{eq-eqb, cases_Bool}
 use Rattle.std.proofs.lemmas.Slice.Eq.{bytes_eq-Decides}
 use Rattle.base_kit.specs.Prefixes.{Prefix}
-use Rattle.cfg_ast.specs.Addresses.{Address}
+use Rattle.cfg_ast.specs.meaning.Addresses.{Address}
 use Rattle.cfg_ast.specs.declared.network.Named.{Named}
 use Rattle.cfg_ast.specs.declared.bgp.Base.{Base}
 use Rattle.cfg_ast.specs.declared.bgp.NetLine.{NetLine}
@@ -18,12 +18,12 @@ use Rattle.cfg_ast.specs.declared.items.Scope.TheVariants as scope
 use Rattle.cfg_ast.specs.declared.items.RouterItem.{RouterItem}
 use Rattle.cfg_ast.specs.declared.items.RouterItem.TheVariants as item
 use Rattle.cfg_ast.specs.declared.refusal.FormFault.{FormFault}
-use Rattle.cfg_ast.specs.Words.{is_router_name, is_interface_name, exact_prefix, bits_behind, mask_of}
-use Rattle.cfg_ast.specs.FormSteps.{named_of}
-use Rattle.cfg_ast.specs.RouterForms.{hostname_form, interface_form, bgp_form, ospf_form, end_form, ip_address_form, cost_form, shutdown_form, base_form, net_line, network_form, remote_as_form, peer_shut_form, peer_sends_form, is_inward, peer_list_form, peer_map_form, area_of, area_form, passive_form, not_passive_form, router_form, router_item_by, router_item_of}
-use Rattle.cfg_ast.specs.Printed.{address_text, address_line, cost_line, shutdown_line, base_line, network_line, remote_line, peer_shut_line, peer_sends_line, applied_line, passive_default_line, passive_line, not_passive_line, area_line}
-use Rattle.cfg_ast.specs.Bare.{bare_named, bare_address, bare_base, bare_net, bare_area}
-use Rattle.cfg_ast.specs.WellFormed.{IsBetween, IsNumber, IsInterfaceName, IsWellFormedAddress, IsWellFormedNetLine, IsWellFormedNamed, IsWellFormedArea}
+use Rattle.cfg_ast.specs.text.Words.{is_router_name, is_interface_name, exact_prefix, bits_behind, mask_of}
+use Rattle.cfg_ast.specs.text.FormSteps.{named_of}
+use Rattle.cfg_ast.specs.text.RouterForms.{hostname_form, interface_form, bgp_form, ospf_form, end_form, ip_address_form, cost_form, shutdown_form, base_form, net_line, network_form, remote_as_form, peer_shut_form, peer_sends_form, is_inward, peer_list_form, peer_map_form, area_word, area_form, passive_form, not_passive_form, router_form, router_item_by, router_item_of}
+use Rattle.cfg_ast.specs.printing.Printed.{address_text, ip_address_line, cost_line, shutdown_line, base_line, network_line, remote_line, peer_shut_line, peer_sends_line, applied_line, passive_default_line, passive_line, not_passive_line, network_area_line}
+use Rattle.cfg_ast.specs.printing.Bare.{bare_named, bare_address, bare_base, bare_net, bare_area}
+use Rattle.cfg_ast.specs.printing.WellFormed.{IsBetween, IsNumber, IsInterfaceName, IsWellFormedAddress, IsWellFormedNetLine, IsWellFormedNamed, IsWellFormedArea}
 use Rattle.cfg_round_trip.proofs.WordsBack.{number_back, between_back, as_number_back, address_back, mask_back}
 use Rattle.cfg_round_trip.proofs.HeadsBack.{IsHeadOf, hostname_head, interface_head, bgp_head, ospf_head, end_head, address_head, cost_head, shutdown_head, base_head, network_head, remote_as_head, peer_shut_head, peer_sends_head, peer_list_head, peer_map_head, area_head, passive_head, not_passive_head}
 
@@ -58,8 +58,8 @@ end_item = of_head scope.Top form.End _ _ end_head refl
 
 -- ---- lines of an interface
 
-pub address_item : (a : Address) → IsWellFormedAddress a → router_item_of scope.Interface 0 (address_line a).words ≡ Ok (item.IpAddress (bare_address a))
-unfolding address_line router_form ip_address_form
+pub address_item : (a : Address) → IsWellFormedAddress a → router_item_of scope.Interface 0 (ip_address_line a).words ≡ Ok (item.IpAddress (bare_address a))
+unfolding ip_address_line router_form ip_address_form
 address_item a is = of_head scope.Interface form.IpAddress _ _ (address_head (address_text a.addr ∷ address_text (mask_of a.len) ∷ [])) (rw (address_back a.addr is.addr, mask_back a.len is.len) refl)
 
 pub cost_item : (n : ℕ) → IsBetween 1 65535 n → router_item_of scope.Interface 0 (cost_line n).words ≡ Ok (item.Cost n)
@@ -123,12 +123,12 @@ peer_map_item addr inward map is named =
 
 -- ---- lines of an OSPF process
 
-area_back : (n : ℕ) → IsNumber n → area_of (decimal n) ≡ Some n
-unfolding area_of
+area_back : (n : ℕ) → IsNumber n → area_word (decimal n) ≡ Some n
+unfolding area_word
 area_back n is = rw (number_back n is) refl
 
-pub area_item : (area : AreaLine) → IsWellFormedArea area → router_item_of scope.Ospf 0 (area_line area).words ≡ Ok (item.Area (bare_area area))
-unfolding area_line router_form area_form
+pub area_item : (area : AreaLine) → IsWellFormedArea area → router_item_of scope.Ospf 0 (network_area_line area).words ≡ Ok (item.Area (bare_area area))
+unfolding network_area_line router_form area_form
 area_item area is =
     of_head scope.Ospf form.Area _ _ (area_head (address_text area.addr ∷ address_text area.wild ∷ codes "area" ∷ decimal area.area ∷ [])) (rw (address_back area.addr is.addr, address_back area.wild is.wild, area_back area.area is.area) refl)
 

@@ -7,10 +7,10 @@ use Rattle.std.proofs.Math.Seq.{get_or-append_seam}
 use Rattle.std.proofs.lemmas.Bool.Decides.{nat_tests}
 use Rattle.std.proofs.lemmas.List.Elements.{All-from_recursion}
 use Rattle.std.proofs.lemmas.List.Splits.{slice_split_at, slice_split_none}
-use Rattle.cfg_ast.specs.TextLines.{TextLine}
-use Rattle.cfg_ast.specs.Lines.{is_blank, is_some_word, words_of}
-use Rattle.cfg_ast.specs.Printed.{line_text}
-use Rattle.cfg_ast.specs.WellFormed.{IsBetween}
+use Rattle.cfg_ast.specs.text.TextLines.{TextLine}
+use Rattle.cfg_ast.specs.text.Lines.{is_blank, is_some_word, words_of}
+use Rattle.cfg_ast.specs.printing.Printed.{line_text}
+use Rattle.cfg_ast.specs.printing.WellFormed.{IsBetween}
 use Rattle.cfg_round_trip.proofs.PrintedLines.{IsPrintedWord, IsPrintedLine}
 
 -- a line without its newline

@@ -5,7 +5,7 @@ use Rattle.std.specs.List.{AllByRecursion, list_any}
 use Rattle.std.proofs.lemmas.Bool.{or_parts, or_from, and_left, and_right, ne_eqb, le-ltb}
 use Rattle.std.proofs.lemmas.Slice.Eq.{bytes_eq-Decides}
 use Rattle.base_kit.specs.Sets.{AllAbove}
-use Rattle.cfg_ast.specs.PolicyLines.{changed_or_new, put_before}
+use Rattle.cfg_ast.specs.text.PolicyLines.{changed_or_new, put_before}
 
 -- ---- one item changed, or a new one
 

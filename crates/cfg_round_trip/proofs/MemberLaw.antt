@@ -4,11 +4,11 @@ use Rattle.std.specs.List.{AllByRecursion, slice_split, onto_first, cons_option}
 use Rattle.std.proofs.lemmas.List.{append-nil}
 use Rattle.std.proofs.lemmas.List.Elements.{All-from_recursion, filter_map-append}
 use Rattle.std.proofs.lemmas.List.Splits.{slice_split_at, length-slice_split}
-use Rattle.cfg_ast.specs.TextLines.{TextLine, text_line}
+use Rattle.cfg_ast.specs.text.TextLines.{TextLine, text_line}
 use Rattle.cfg_ast.specs.declared.network.Router.{Router}
-use Rattle.cfg_ast.specs.Members.{all_lines_of, is_end_line, member_on, members_on, before_last, members_in, members_of}
-use Rattle.cfg_ast.specs.Bare.{bare_line}
-use Rattle.cfg_ast.specs.Printed.{line, closing, interface_lines, lines_of_some, bgp_lines, ospf_lines, prefix_list_lines, community_list_lines, route_map_lines, member_line, router_lines, routers_lines, printed_lines, lines_text, printed}
+use Rattle.cfg_ast.specs.text.Members.{all_lines_of, is_end_line, member_on, members_on, before_last, members_in, members_of_text}
+use Rattle.cfg_ast.specs.printing.Bare.{bare_line}
+use Rattle.cfg_ast.specs.printing.Printed.{line, closing, interface_lines, lines_of_some, bgp_lines, ospf_lines, prefix_list_lines, community_list_lines, route_map_lines, member_line, router_lines, routers_lines, printed_lines, lines_text, printed}
 use Rattle.cfg_round_trip.specs.Notes.{IsRouterName}
 use Rattle.cfg_round_trip.specs.MemberLaws.{MembersAreReadBack}
 use Rattle.cfg_round_trip.proofs.LineBytes.{each_append}
@@ -149,7 +149,7 @@ routers_back (r ∷ rs) (m ∷ ms) e are =
     ap members_in (router_ends r m (routers_lines rs ms)) ∙ router_first m (router_body r m) (routers_lines rs ms) (body_is r m are.0) ∙ ap (λ (ns : List (List (List ℕ))). m ∷ ns) (routers_back rs ms (omega arith) are.1)
 
 pub members_back : MembersAreReadBack
-unfolding members_of printed
+unfolding members_of_text printed
 members_back network notes is are =
     let ls = printed_lines network notes in
     let bs = lines_text ls in

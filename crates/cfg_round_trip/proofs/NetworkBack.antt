@@ -7,15 +7,15 @@ use Rattle.std.proofs.lemmas.List.Elements.{filter-append}
 use Rattle.cfg_ast.specs.declared.network.Network.{Network}
 use Rattle.cfg_ast.specs.declared.network.Notes.{Notes}
 use Rattle.cfg_ast.specs.declared.network.Router.{Router}
-use Rattle.cfg_ast.specs.TextLines.{TextLine}
-use Rattle.cfg_ast.specs.Reading.{no_draft, steps, end_at, ending, network_of_lines, texts_of, network_of_text}
-use Rattle.cfg_ast.specs.Printed.{router_lines, routers_lines, printed_lines, line_text, lines_text, printed}
-use Rattle.cfg_ast.specs.Bare.{bare_line, bare_router, bare}
-use Rattle.cfg_ast.specs.WellFormed.{IsWellFormedRouter, IsWellFormed}
+use Rattle.cfg_ast.specs.text.TextLines.{TextLine}
+use Rattle.cfg_ast.specs.text.Reading.{no_draft, steps, end_at, ending, network_of_lines, texts_of, network_of_text}
+use Rattle.cfg_ast.specs.printing.Printed.{router_lines, routers_lines, printed_lines, line_text, lines_text, printed}
+use Rattle.cfg_ast.specs.printing.Bare.{bare_line, bare_router, bare}
+use Rattle.cfg_ast.specs.printing.WellFormed.{IsWellFormedRouter, IsWellFormed}
 use Rattle.std.specs.List.{AllByRecursion-prop}
 use Rattle.std.proofs.Props.{props}
 use Rattle.std.proofs.Math.Logic.{∥∥₁_elim}
-use Rattle.cfg_given.proofs.WellFormed.{given_is_well_formed, known_is_well_formed}
+use Rattle.cfg_given.proofs.WellFormed.{given_is_well_formed}
 use Rattle.cfg_round_trip.specs.Laws.{PrintedIsReadBack, GivenLinesAreShort, GivenIsReadBack}
 use Rattle.cfg_round_trip.proofs.Numbers.{numbers_are_aside}
 use Rattle.cfg_round_trip.proofs.PrintedLines.{is_read}
@@ -123,7 +123,7 @@ printed_is_read_back network notes is are few short =
 
 pub given_lines_are_short : GivenLinesAreShort
 given_lines_are_short network notes known are =
-    ∥∥₁_elim known (AllByRecursion-prop (λ (l : TextLine). length (line_text l) ≤ 1025) (λ l. hlevel props) (printed_lines network notes)) (λ given. lines_are_short network notes (given_is_well_formed network given) (given_is_short network given) are)
+    ∥∥₁_elim known (AllByRecursion-prop (λ (l : TextLine). length (line_text l) ≤ 1025) (λ l. hlevel props) (printed_lines network notes)) (λ given. lines_are_short network notes (given_is_well_formed network known) (given_is_short network given) are)
 
 pub given_is_read_back : GivenIsReadBack
-given_is_read_back network notes known are few = printed_is_read_back network notes (known_is_well_formed network known) are few (given_lines_are_short network notes known are)
+given_is_read_back network notes known are few = printed_is_read_back network notes (given_is_well_formed network known) are few (given_lines_are_short network notes known are)

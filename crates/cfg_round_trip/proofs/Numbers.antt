@@ -8,9 +8,9 @@ use Rattle.cfg_ast.specs.declared.network.Network.{Network}
 use Rattle.cfg_ast.specs.declared.refusal.ReadRefusal.{ReadRefusal}
 use Rattle.cfg_ast.specs.declared.refusal.ReadRefusal.TheVariants as refusal
 use Rattle.cfg_ast.specs.declared.refusal.Kind.TheVariants as kind
-use Rattle.cfg_ast.specs.TextLines.{TextLine}
-use Rattle.cfg_ast.specs.Reading.{at_start, is_end, end_at, ending, network_of_lines}
-use Rattle.cfg_ast.specs.Bare.{bare, bare_line}
+use Rattle.cfg_ast.specs.text.TextLines.{TextLine}
+use Rattle.cfg_ast.specs.text.Reading.{at_start, is_end, end_at, ending, network_of_lines}
+use Rattle.cfg_ast.specs.printing.Bare.{bare, bare_line}
 use Rattle.cfg_round_trip.specs.Laws.{NumbersAreAside}
 use Rattle.cfg_round_trip.proofs.Bare.{bare_state, on_result, then_same}
 use Rattle.cfg_round_trip.proofs.BareSteps.{steps_same}

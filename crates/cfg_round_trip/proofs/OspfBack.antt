@@ -7,13 +7,13 @@ use Rattle.cfg_ast.specs.declared.ospf.AreaLine.{AreaLine}
 use Rattle.cfg_ast.specs.declared.ospf.OspfProcess.{OspfProcess}
 use Rattle.cfg_ast.specs.declared.items.Scope.TheVariants as scope
 use Rattle.cfg_ast.specs.declared.items.RouterItem.{RouterItem}
-use Rattle.cfg_ast.specs.TextLines.{TextLine}
-use Rattle.cfg_ast.specs.RouterForms.{router_item_of}
-use Rattle.cfg_ast.specs.Stanzas.{with_text, same_area, with_area, set_ospf}
-use Rattle.cfg_ast.specs.Reading.{in_ospf, take_inner}
-use Rattle.cfg_ast.specs.Printed.{line_if, closing, passive_default_line, passive_line, not_passive_line, area_line}
-use Rattle.cfg_ast.specs.Bare.{bare_area, bare_ospf}
-use Rattle.cfg_ast.specs.WellFormed.{IsInterfaceName, IsWellFormedArea, IsWellFormedOspf}
+use Rattle.cfg_ast.specs.text.TextLines.{TextLine}
+use Rattle.cfg_ast.specs.text.RouterForms.{router_item_of}
+use Rattle.cfg_ast.specs.text.Stanzas.{with_text, same_area_line, with_area, set_ospf}
+use Rattle.cfg_ast.specs.text.Reading.{in_ospf, take_inner}
+use Rattle.cfg_ast.specs.printing.Printed.{line_if, closing, passive_default_line, passive_line, not_passive_line, network_area_line}
+use Rattle.cfg_ast.specs.printing.Bare.{bare_area, bare_ospf}
+use Rattle.cfg_ast.specs.printing.WellFormed.{IsInterfaceName, IsWellFormedArea, IsWellFormedOspf}
 use Rattle.cfg_given.proofs.Each.{all_weaker}
 use Rattle.cfg_given.proofs.StanzaSteps.{bytes_other, area_swap}
 use Rattle.cfg_round_trip.proofs.ItemsBack.{passive_default_item, passive_item, not_passive_item, area_item}
@@ -67,22 +67,22 @@ other_stage number default passive done (name ∷ names) are once new rs d =
 -- ---- areas
 
 abbrev later_area : AreaLine → AreaLine → Bool
-later_area earlier later = same_area later earlier
+later_area earlier later = same_area_line later earlier
 
 area_is_new : (done : List AreaLine) (area : AreaLine) → list_any (λ earlier. later_area earlier area) done ≡ false → with_area done (bare_area area) ≡ done ++ bare_area area ∷ []
 unfolding with_area
 area_is_new done area new = rw new refl
 
-areas_swap : (area : AreaLine) (areas : List AreaLine) → AllByRecursion (λ other. same_area area other ≡ false) areas → AllByRecursion (λ other. later_area (bare_area area) other ≡ false) areas
-areas_swap area areas differ = all_weaker (λ other. same_area area other ≡ false) (λ other. later_area (bare_area area) other ≡ false) (λ other apart. area_swap other area ∙ apart) areas differ
+areas_swap : (area : AreaLine) (areas : List AreaLine) → AllByRecursion (λ other. same_area_line area other ≡ false) areas → AllByRecursion (λ other. later_area (bare_area area) other ≡ false) areas
+areas_swap area areas differ = all_weaker (λ other. same_area_line area other ≡ false) (λ other. later_area (bare_area area) other ≡ false) (λ other apart. area_swap other area ∙ apart) areas differ
 
-areas_stage : (number : ℕ) (default : Bool) (passive other : List (List ℕ)) (done areas : List AreaLine) → AllByRecursion IsWellFormedArea areas → IsDistinct same_area areas → AreNew later_area done areas
-    → Inner (map area_line areas) (in_ospf (process_with number default passive other done)) (in_ospf (process_with number default passive other (done ++ map bare_area areas)))
-unfolding set_ospf area_line IsDistinct
+areas_stage : (number : ℕ) (default : Bool) (passive other : List (List ℕ)) (done areas : List AreaLine) → AllByRecursion IsWellFormedArea areas → IsDistinct same_area_line areas → AreNew later_area done areas
+    → Inner (map network_area_line areas) (in_ospf (process_with number default passive other done)) (in_ospf (process_with number default passive other (done ++ map bare_area areas)))
+unfolding set_ospf network_area_line IsDistinct
 areas_stage number default passive other done [] are once new rs d = inner_none _ rs d ∙ ap (λ (areas : List AreaLine). Ok (at_stanza rs d (in_ospf (process_with number default passive other areas)))) (sym (append-nil done))
 areas_stage number default passive other done (area ∷ areas) are once new rs d =
-    inner_then (area_line area ∷ []) (map area_line areas) _ (in_ospf (process_with number default passive other (done ++ bare_area area ∷ []))) _
-    (inner_line (area_line area) _ _ refl refl (taken (area_line area) _ _ _ (area_item area are.0) (ap (λ (ns : List AreaLine). process_with number default passive other ns) (area_is_new done area new.0))))
+    inner_then (network_area_line area ∷ []) (map network_area_line areas) _ (in_ospf (process_with number default passive other (done ++ bare_area area ∷ []))) _
+    (inner_line (network_area_line area) _ _ refl refl (taken (network_area_line area) _ _ _ (area_item area are.0) (ap (λ (ns : List AreaLine). process_with number default passive other ns) (area_is_new done area new.0))))
     (areas_stage number default passive other (done ++ bare_area area ∷ []) areas are.1 once.1 (new_to_more later_area done (bare_area area) areas new.1 (areas_swap area areas once.0))) rs d
     ∙ ap (λ (ns : List AreaLine). Ok (at_stanza rs d (in_ospf (process_with number default passive other ns)))) (grown done (bare_area area) (map bare_area areas))
 
@@ -90,14 +90,14 @@ areas_stage number default passive other done (area ∷ areas) are once new rs d
 
 -- the lines behind the first
 abbrev pub ospf_rest : OspfProcess → List TextLine
-ospf_rest o = line_if o.passive_default passive_default_line ++ map passive_line o.passive ++ map not_passive_line o.not_passive ++ map area_line o.areas ++ closing ∷ []
+ospf_rest o = line_if o.passive_default passive_default_line ++ map passive_line o.passive ++ map not_passive_line o.not_passive ++ map network_area_line o.areas ++ closing ∷ []
 
 pub ospf_inner : (o : OspfProcess) → IsWellFormedOspf o → Inner (ospf_rest o) (in_ospf (process_with o.number false [] [] [])) (in_ospf (bare_ospf o))
 ospf_inner o is =
     let one = line_if o.passive_default passive_default_line in
     let two = map passive_line o.passive in
     let three = map not_passive_line o.not_passive in
-    let four = map area_line o.areas in
+    let four = map network_area_line o.areas in
     inner_then (one ++ two ++ three ++ four) (closing ∷ []) _ _ _
     (inner_then (one ++ two ++ three) four _ _ _
     (inner_then (one ++ two) three _ _ _

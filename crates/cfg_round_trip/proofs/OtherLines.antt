@@ -3,8 +3,8 @@ use Rattle.std.proofs.Common.{◌≡◌, ℕ, Bool, true, false, List, [], ◌�
 use Rattle.std.specs.Prelude.{bytes_eq}
 use Rattle.std.specs.List.{AllByRecursion}
 use Rattle.std.specs.Fmt.{decimal}
-use Rattle.cfg_ast.specs.Addresses.{Address}
-use Rattle.cfg_ast.specs.TextLines.{TextLine}
+use Rattle.cfg_ast.specs.meaning.Addresses.{Address}
+use Rattle.cfg_ast.specs.text.TextLines.{TextLine}
 use Rattle.cfg_ast.specs.declared.network.Named.{Named}
 use Rattle.cfg_ast.specs.declared.interface.Interface.{Interface}
 use Rattle.cfg_ast.specs.declared.bgp.Base.{Base}
@@ -23,8 +23,8 @@ use Rattle.cfg_ast.specs.declared.policy.RouteMap.{RouteMap}
 use Rattle.cfg_ast.specs.declared.policy.MapEntry.{MapEntry}
 use Rattle.cfg_ast.specs.declared.policy.Change.{Change}
 use Rattle.cfg_ast.specs.declared.policy.Change.TheVariants.{Clear, Replace, Append}
-use Rattle.cfg_ast.specs.Members.{is_end_line, member_on}
-use Rattle.cfg_ast.specs.Printed.{address_text, community_text, act_text, line, inner, closing, line_of, line_if, closed, address_line, cost_line, shutdown_line, interface_lines, base_line, network_line, remote_line, peer_shut_line, peer_sends_line, applied_line, neighbor_lines, bgp_lines, passive_default_line, passive_line, not_passive_line, area_line, ospf_lines, prefix_entry_line, prefix_list_lines, community_line, community_list_lines, map_head_line, match_prefixes_line, match_comms_line, lp_line, change_line, delete_line, prepend_line, map_entry_lines, route_map_lines, lines_of_some}
+use Rattle.cfg_ast.specs.text.Members.{is_end_line, member_on}
+use Rattle.cfg_ast.specs.printing.Printed.{address_text, community_text, act_text, line, inner, closing, line_of, line_if, closed, ip_address_line, cost_line, shutdown_line, interface_lines, base_line, network_line, remote_line, peer_shut_line, peer_sends_line, applied_line, neighbor_lines, bgp_lines, passive_default_line, passive_line, not_passive_line, network_area_line, ospf_lines, prefix_entry_line, prefix_list_lines, community_list_line, community_list_lines, map_head_line, match_prefixes_line, match_comms_line, lp_line, change_line, delete_line, prepend_line, map_entry_lines, route_map_lines, lines_of_some}
 use Rattle.cfg_round_trip.proofs.LineBytes.{each_append}
 
 pub record IsOther (l : TextLine) : Type 0 where
@@ -88,8 +88,8 @@ last = (closing_other, tt)
 
 -- ---- interfaces
 
-address_other : (a : Address) → IsOther (address_line a)
-unfolding address_line
+address_other : (a : Address) → IsOther (ip_address_line a)
+unfolding ip_address_line
 address_other a = inner_other (codes "ip") (codes "address" ∷ _ ∷ _ ∷ []) refl
 
 cost_other : (cost : ℕ) → IsOther (cost_line cost)
@@ -99,10 +99,10 @@ cost_other cost = inner_other (codes "ip") (codes "ospf" ∷ codes "cost" ∷ de
 pub interface_others : (i : Interface) → AreOthers (interface_lines i)
 unfolding interface_lines
 interface_others i =
-    let a = line_of address_line i.address in
+    let a = line_of ip_address_line i.address in
     let b = line_of cost_line i.cost in
     let c = line_if i.shut shutdown_line in
-    let two = more a b (some_other address_line address_other i.address) (some_other cost_line cost_other i.cost) in
+    let two = more a b (some_other ip_address_line address_other i.address) (some_other cost_line cost_other i.cost) in
     let three = more (a ++ b) c two (chosen_other i.shut shutdown_line (inner_other (codes "shutdown") [] refl)) in
     (top_other (codes "interface") i.name [] refl, more (a ++ b ++ c) (closing ∷ []) three last)
 
@@ -164,8 +164,8 @@ passive_other name = inner_other (codes "passive-interface") (name ∷ []) refl
 not_passive_other : (name : List ℕ) → IsOther (not_passive_line name)
 not_passive_other name = inner_other (codes "no") (codes "passive-interface" ∷ name ∷ []) refl
 
-area_other : (a : AreaLine) → IsOther (area_line a)
-unfolding area_line
+area_other : (a : AreaLine) → IsOther (network_area_line a)
+unfolding network_area_line
 area_other a = inner_other (codes "network") (address_text a.addr ∷ address_text a.wild ∷ codes "area" ∷ decimal a.area ∷ []) refl
 
 pub ospf_others : (o : OspfProcess) → AreOthers (ospf_lines o)
@@ -174,10 +174,10 @@ ospf_others o =
     let w = line_if o.passive_default passive_default_line in
     let x = map passive_line o.passive in
     let y = map not_passive_line o.not_passive in
-    let z = map area_line o.areas in
+    let z = map network_area_line o.areas in
     let two = more w x (chosen_other o.passive_default passive_default_line (inner_other (codes "passive-interface") (codes "default" ∷ []) refl)) (all_map passive_line passive_other o.passive) in
     let three = more (w ++ x) y two (all_map not_passive_line not_passive_other o.not_passive) in
-    (top_other (codes "router") (codes "ospf") (decimal o.number ∷ []) refl, more (w ++ x ++ y ++ z) (closing ∷ []) (more (w ++ x ++ y) z three (all_map area_line area_other o.areas)) last)
+    (top_other (codes "router") (codes "ospf") (decimal o.number ∷ []) refl, more (w ++ x ++ y ++ z) (closing ∷ []) (more (w ++ x ++ y) z three (all_map network_area_line area_other o.areas)) last)
 
 -- ---- lists
 
@@ -189,13 +189,13 @@ pub prefix_list_others : (lists : List PrefixList) → AreOthers (prefix_list_li
 prefix_list_others lists =
     closed_others (flat_map (λ (l : PrefixList). map (prefix_entry_line l.name) l.entries) lists) (all_flat_map (λ (l : PrefixList). map (prefix_entry_line l.name) l.entries) (λ (l : PrefixList). all_map (prefix_entry_line l.name) (prefix_entry_other l.name) l.entries) lists)
 
-community_line_other : (name : List ℕ) (c : CommunityLine) → IsOther (community_line name c)
-unfolding community_line
+community_line_other : (name : List ℕ) (c : CommunityLine) → IsOther (community_list_line name c)
+unfolding community_list_line
 community_line_other name c = top_other (codes "ip") (codes "community-list") _ refl
 
 pub community_list_others : (lists : List CommunityList) → AreOthers (community_list_lines lists)
 community_list_others lists =
-    closed_others (flat_map (λ (l : CommunityList). map (community_line l.name) l.lines) lists) (all_flat_map (λ (l : CommunityList). map (community_line l.name) l.lines) (λ (l : CommunityList). all_map (community_line l.name) (community_line_other l.name) l.lines) lists)
+    closed_others (flat_map (λ (l : CommunityList). map (community_list_line l.name) l.lines) lists) (all_flat_map (λ (l : CommunityList). map (community_list_line l.name) l.lines) (λ (l : CommunityList). all_map (community_list_line l.name) (community_line_other l.name) l.lines) lists)
 
 -- ---- route maps
 

@@ -27,12 +27,12 @@ use Rattle.cfg_ast.specs.declared.items.PolicyScope.TheVariants as scope
 use Rattle.cfg_ast.specs.declared.items.PolicyItem.{PolicyItem}
 use Rattle.cfg_ast.specs.declared.items.PolicyItem.TheVariants as item
 use Rattle.cfg_ast.specs.declared.refusal.FormFault.{FormFault}
-use Rattle.cfg_ast.specs.Words.{is_list_name, number_word, number_between, if_between, as_number_of, community_of, is_community, is_well_known_name, is_well_known, same_community}
-use Rattle.cfg_ast.specs.FormSteps.{list_name_of}
-use Rattle.cfg_ast.specs.PolicyForms.{is_permit, all_differ, is_group, list_names_of, communities_of, is_marked, but_last, bounds_of, prefix_entry_form, community_line, numbered_line, community_line_form, empty_entry, map_head_form, match_prefixes_form, comms_match, marked_match, match_comms_form, lp_form, is_none_alone, change_of, set_comms_form, delete_form, is_as_number, prepend_form, policy_form, policy_item_by, policy_item_of}
-use Rattle.cfg_ast.specs.Printed.{act_text, prefix_text, community_text, bound_words, prefix_entry_line, community_line as printed_community_line, map_head_line, match_prefixes_line, match_comms_line, lp_line, change_line, delete_line, prepend_line}
-use Rattle.cfg_ast.specs.Bare.{bare_named, bare_prefix_entry, bare_community_line, bare_name_line, bare_prepend}
-use Rattle.cfg_ast.specs.WellFormed.{IsBetween, IsNumber, IsListName, IsCommunitySet, IsWellFormedNamed, AreBounds, IsWellFormedPrefixEntry, IsWellFormedNameLine, IsMarkRight, IsWellFormedChange, IsWellFormedPrepend}
+use Rattle.cfg_ast.specs.text.Words.{is_list_name, number_word, number_between, if_between, as_number_word, community_word, is_community, is_well_known_name, is_well_known, same_community}
+use Rattle.cfg_ast.specs.text.FormSteps.{list_name_of}
+use Rattle.cfg_ast.specs.text.PolicyForms.{is_permit, all_differ, is_group, list_names_of, community_words, has_mark, but_last, bounds_of, prefix_entry_form, community_line, numbered_line, community_line_form, empty_entry, map_head_form, match_prefixes_form, comms_match, marked_match, match_comms_form, lp_form, is_none_alone, change_of, set_comms_form, delete_form, is_as_number, prepend_form, policy_form, policy_item_by, policy_item_of}
+use Rattle.cfg_ast.specs.printing.Printed.{act_text, prefix_text, community_text, bound_words, prefix_entry_line, community_list_line as printed_community_line, map_head_line, match_prefixes_line, match_comms_line, lp_line, change_line, delete_line, prepend_line}
+use Rattle.cfg_ast.specs.printing.Bare.{bare_named, bare_prefix_entry, bare_community_line, bare_name_line, bare_prepend}
+use Rattle.cfg_ast.specs.printing.WellFormed.{IsBetween, IsNumber, IsListName, IsCommunitySet, IsWellFormedNamed, AreBounds, IsWellFormedPrefixEntry, IsWellFormedNameLine, IsMarkRight, IsWellFormedChange, IsWellFormedPrepend}
 use Rattle.cfg_given.proofs.Each.{all_weaker}
 use Rattle.cfg_round_trip.proofs.WordsBack.{IsDigit, decimal_digits, number_back, between_back, as_number_back, prefix_back, community_back}
 use Rattle.cfg_round_trip.proofs.HeadsBack.{IsPolicyHeadOf, prefix_list_head, standard_head, numbered_head, map_head, match_prefixes_head, match_comms_head, lp_head, comms_head, delete_head, prepend_head}
@@ -137,7 +137,7 @@ texts_differ c d is other less = or_from (bytes_eq (community_text c) (community
     apart : bytes_eq (community_text c) (community_text d) ≡ false
     apart = elim (cases_Bool (bytes_eq (community_text c) (community_text d))) [
       | inl same ↦
-          let e : ◌≡◌ {A = Option ℕ} (Some c) (Some d) = sym (community_back c is) ∙ ap community_of ((bytes_eq-Decides (community_text c) (community_text d)).0 same) ∙ community_back d other in
+          let e : ◌≡◌ {A = Option ℕ} (Some c) (Some d) = sym (community_back c is) ∙ ap community_word ((bytes_eq-Decides (community_text c) (community_text d)).0 same) ∙ community_back d other in
           let f : c ≡ d = cc in
           absurd (omega arith)
       | inr differ ↦ differ
@@ -154,7 +154,7 @@ all_texts_differ (c ∷ comms) all up =
     (not_from_false (list_any (same_community (community_text c)) (texts comms)) (pass_none (same_community (community_text c)) (texts comms) (above_differ c comms all.0 all.1 up.0)))
     (all_texts_differ comms all.1 up.1)
 
-values_back : (comms : List ℕ) → AllByRecursion IsCommunity comms → filter_map community_of (texts comms) ≡ comms
+values_back : (comms : List ℕ) → AllByRecursion IsCommunity comms → filter_map community_word (texts comms) ≡ comms
 values_back [] all = refl
 values_back (c ∷ comms) all = rw (community_back c all.0, values_back comms all.1) refl
 
@@ -165,8 +165,8 @@ set_back comms up = one_list (with_numbers comms []) comms (ascending_with_numbe
     or_false true = refl
     or_false false = refl
 
-pub communities_back : (comms : List ℕ) → IsCommunitySet comms → communities_of (texts comms) ≡ Ok comms
-unfolding communities_of
+pub communities_back : (comms : List ℕ) → IsCommunitySet comms → community_words (texts comms) ≡ Ok comms
+unfolding community_words
 communities_back comms is =
     rw (
       group_back (texts comms) (rw (length-map comms community_text) is.count),
@@ -269,7 +269,7 @@ pub match_prefixes_item : (l : NameLine) → IsWellFormedNameLine l → policy_i
 unfolding match_prefixes_line policy_form match_prefixes_form
 match_prefixes_item l is = of_head scope.Entry form.MatchPrefixes _ _ (match_prefixes_head l.names) (rw (names_back l is) refl)
 
-marked_back : (mark : List ℕ) (words : List (List ℕ)) → is_marked mark (words ++ mark ∷ []) ≡ true
+marked_back : (mark : List ℕ) (words : List (List ℕ)) → has_mark mark (words ++ mark ∷ []) ≡ true
 marked_back mark [] = (bytes_eq-Decides mark mark).1 refl
 marked_back mark (word ∷ []) = (bytes_eq-Decides mark mark).1 refl
 marked_back mark (word ∷ next ∷ words) = marked_back mark (next ∷ words)
@@ -306,7 +306,7 @@ no_none [] all = refl
 no_none (c ∷ []) all = other_word (community_text c) (codes "none") (first_of_text c all.0) (omega arith)
 no_none (c ∷ d ∷ comms) all = refl
 
-no_mark : (comms : List ℕ) → AllByRecursion IsCommunity comms → is_marked (codes "additive") (texts comms) ≡ false
+no_mark : (comms : List ℕ) → AllByRecursion IsCommunity comms → has_mark (codes "additive") (texts comms) ≡ false
 no_mark [] all = refl
 no_mark (c ∷ []) all = other_word (community_text c) (codes "additive") (first_of_text c all.0) (omega arith)
 no_mark (c ∷ d ∷ comms) all = no_mark (d ∷ comms) all.1
@@ -342,7 +342,7 @@ as_numbers_pass : (ns : List ℕ) → AllByRecursion IsAsNumber ns → list_all 
 as_numbers_pass [] all = refl
 as_numbers_pass (n ∷ ns) all = rw (as_number_back n all.0, as_numbers_pass ns all.1) refl
 
-as_numbers_back : (ns : List ℕ) → AllByRecursion IsAsNumber ns → filter_map as_number_of (map decimal ns) ≡ ns
+as_numbers_back : (ns : List ℕ) → AllByRecursion IsAsNumber ns → filter_map as_number_word (map decimal ns) ≡ ns
 as_numbers_back [] all = refl
 as_numbers_back (n ∷ ns) all = rw (as_number_back n all.0, as_numbers_back ns all.1) refl
 

@@ -14,12 +14,12 @@ use Rattle.cfg_ast.specs.declared.policy.CommunityLine.{CommunityLine}
 use Rattle.cfg_ast.specs.declared.policy.CommunityList.{CommunityList}
 use Rattle.cfg_ast.specs.declared.policy.RouteMap.{RouteMap}
 use Rattle.cfg_ast.specs.declared.items.PolicyItem.TheVariants as item
-use Rattle.cfg_ast.specs.TextLines.{TextLine}
-use Rattle.cfg_ast.specs.PolicyLines.{is_policy_line, is_prefix_list, has_seq, has_prefix_entry, put_prefix_entry, with_prefix_entry, is_community_list, put_community_line, with_community_line}
-use Rattle.cfg_ast.specs.Reading.{closed, Draft, with_closed, take_policy}
-use Rattle.cfg_ast.specs.Printed.{closing, closed as closed_lines, prefix_entry_line, prefix_list_lines, community_line, community_list_lines}
-use Rattle.cfg_ast.specs.Bare.{bare_prefix_entry, bare_prefix_list, bare_community_line, bare_community_list}
-use Rattle.cfg_ast.specs.WellFormed.{IsListName, IsWellFormedPrefixEntry, prefix_seqs, IsWellFormedPrefixList, same_prefix_list, IsWellFormedCommunityLine, IsWellFormedCommunityList, same_community_list}
+use Rattle.cfg_ast.specs.text.TextLines.{TextLine}
+use Rattle.cfg_ast.specs.text.PolicyLines.{is_policy_line, is_prefix_list, has_seq, has_prefix_entry, put_prefix_entry, with_prefix_entry, is_community_list, put_community_line, with_community_line}
+use Rattle.cfg_ast.specs.text.Reading.{closed, Draft, with_closed, take_policy}
+use Rattle.cfg_ast.specs.printing.Printed.{closing, closed as closed_lines, prefix_entry_line, prefix_list_lines, community_list_line, community_list_lines}
+use Rattle.cfg_ast.specs.printing.Bare.{bare_prefix_entry, bare_prefix_list, bare_community_line, bare_community_list}
+use Rattle.cfg_ast.specs.printing.WellFormed.{IsListName, IsWellFormedPrefixEntry, prefix_seqs, IsWellFormedPrefixList, same_prefix_list, IsWellFormedCommunityLine, IsWellFormedCommunityList, same_community_list}
 use Rattle.cfg_round_trip.proofs.PolicyItemsBack.{prefix_entry_item, community_item}
 use Rattle.cfg_round_trip.proofs.ReadBack.{policy_top, Reads, reads_none, reads_then, reads_line, reads_skipped, AreNew, new_to_none, new_to_more, grown}
 use Rattle.cfg_round_trip.proofs.ListsBack.{new_last, change_last, put_last, AreBelow, below_none, below_more, none_later, none_same, no_name_no_number, last_no_number, same_bytes}
@@ -139,44 +139,44 @@ abbrev communities_with : List ℕ → List CommunityLine → CommunityList
 communities_with name lines = record { name = name; lines = lines }
 
 community_top : (r : More) (name : List ℕ) (c : CommunityLine) (before after : List CommunityList) → IsListName name → IsWellFormedCommunityLine c → with_community_line name (bare_community_line c) before ≡ after
-    → Reads (community_line name c ∷ []) (with_communities r before) (with_communities r after)
-unfolding community_line take_policy is_policy_line
+    → Reads (community_list_line name c ∷ []) (with_communities r before) (with_communities r after)
+unfolding community_list_line take_policy is_policy_line
 community_top r name c before after named is made =
-    reads_line (community_line name c) (with_communities r before) (with_communities r after) refl
-    (policy_top (community_line name c) (item.CommunityLine name (bare_community_line c)) (with_communities r before) (with_communities r after) refl refl (community_item name c named is) (rw made refl))
+    reads_line (community_list_line name c) (with_communities r before) (with_communities r after) refl
+    (policy_top (community_list_line name c) (item.CommunityLine name (bare_community_line c)) (with_communities r before) (with_communities r after) refl refl (community_item name c named is) (rw made refl))
     (closed_draft r.name r.interfaces r.bgp r.ospf r.prefix_lists after [])
 
 lines_stage : (r : More) (name : List ℕ) (done : List CommunityList) (before cs : List CommunityLine) → IsListName name → list_any (is_community_list name) done ≡ false → AllByRecursion IsWellFormedCommunityLine cs
-    → Reads (map (community_line name) cs) (with_communities r (done ++ communities_with name before ∷ [])) (with_communities r (done ++ communities_with name (before ++ map bare_community_line cs) ∷ []))
+    → Reads (map (community_list_line name) cs) (with_communities r (done ++ communities_with name before ∷ [])) (with_communities r (done ++ communities_with name (before ++ map bare_community_line cs) ∷ []))
 lines_stage r name done before [] named new are rs now same = let whole = reads_none (with_communities r (done ++ communities_with name before ∷ [])) rs now same in (whole.0, whole.1, whole.2 ∙ ap (λ (xs : List CommunityLine). with_communities r (done ++ communities_with name xs ∷ [])) (sym (append-nil before)))
 lines_stage r name done before (c ∷ cs) named new are rs now same =
     let grows = before ++ bare_community_line c ∷ [] in
     let made = change_last (is_community_list name) (put_community_line (bare_community_line c)) (record { name = name; lines = bare_community_line c ∷ [] }) done (communities_with name before) new (same_bytes name) in
     let first = community_top r name c (done ++ communities_with name before ∷ []) (done ++ communities_with name grows ∷ []) named are.0 made in
     let rest = lines_stage r name done grows cs named new are.1 in
-    let whole = reads_then (community_line name c ∷ []) (map (community_line name) cs) _ _ _ first rest rs now same in
+    let whole = reads_then (community_list_line name c ∷ []) (map (community_list_line name) cs) _ _ _ first rest rs now same in
     (whole.0, whole.1, whole.2 ∙ ap (λ (xs : List CommunityLine). with_communities r (done ++ communities_with name xs ∷ [])) (grown before (bare_community_line c) (map bare_community_line cs)))
 
 community_case : (r : More) (name : List ℕ) (done : List CommunityList) (lines : List CommunityLine) → IsListName name → list_any (is_community_list name) done ≡ false → 1 ≤ length lines → AllByRecursion IsWellFormedCommunityLine lines
-    → Reads (map (community_line name) lines) (with_communities r done) (with_communities r (done ++ communities_with name (map bare_community_line lines) ∷ []))
+    → Reads (map (community_list_line name) lines) (with_communities r done) (with_communities r (done ++ communities_with name (map bare_community_line lines) ∷ []))
 community_case r name done [] named new some are = absurd (omega arith)
 community_case r name done (c ∷ cs) named new some are =
-    reads_then (community_line name c ∷ []) (map (community_line name) cs) _ _ _
+    reads_then (community_list_line name c ∷ []) (map (community_list_line name) cs) _ _ _
     (community_top r name c done (done ++ communities_with name (bare_community_line c ∷ []) ∷ []) named are.0 (new_last (is_community_list name) (put_community_line (bare_community_line c)) (record { name = name; lines = bare_community_line c ∷ [] }) done new))
     (lines_stage r name done (bare_community_line c ∷ []) cs named new are.1)
 
 communities_stage : (r : More) (done ls : List CommunityList) → AllByRecursion IsWellFormedCommunityList ls → IsDistinct same_community_list ls → AreNew same_community_list done ls
-    → Reads (flat_map (λ (l : CommunityList). map (community_line l.name) l.lines) ls) (with_communities r done) (with_communities r (done ++ map bare_community_list ls))
+    → Reads (flat_map (λ (l : CommunityList). map (community_list_line l.name) l.lines) ls) (with_communities r done) (with_communities r (done ++ map bare_community_list ls))
 unfolding IsDistinct
 communities_stage r done [] are once new rs now same = let whole = reads_none (with_communities r done) rs now same in (whole.0, whole.1, whole.2 ∙ ap (with_communities r) (sym (append-nil done)))
 communities_stage r done (l ∷ ls) are once new rs now same =
     let first = community_case r l.name done l.lines are.0.name new.0 are.0.some are.0.lines in
     let rest = communities_stage r (done ++ bare_community_list l ∷ []) ls are.1 once.1 (new_to_more same_community_list done (bare_community_list l) ls new.1 once.0) in
-    let whole = reads_then (map (community_line l.name) l.lines) (flat_map (λ (m : CommunityList). map (community_line m.name) m.lines) ls) _ _ _ first rest rs now same in
+    let whole = reads_then (map (community_list_line l.name) l.lines) (flat_map (λ (m : CommunityList). map (community_list_line m.name) m.lines) ls) _ _ _ first rest rs now same in
     (whole.0, whole.1, whole.2 ∙ ap (with_communities r) (grown done (bare_community_list l) (map bare_community_list ls)))
 
 pub community_lists_back : (name : Option Named) (interfaces : List Interface) (bgp : Option BgpProcess) (ospf : Option OspfProcess) (ps : List PrefixList) (ls : List CommunityList) → AllByRecursion IsWellFormedCommunityList ls → IsDistinct same_community_list ls
     → Reads (community_list_lines ls) (draft_of name interfaces bgp ospf ps [] []) (draft_of name interfaces bgp ospf ps (map bare_community_list ls) [])
 community_lists_back name interfaces bgp ospf ps ls are once =
-    reads_closed (flat_map (λ (l : CommunityList). map (community_line l.name) l.lines) ls) _ _
+    reads_closed (flat_map (λ (l : CommunityList). map (community_list_line l.name) l.lines) ls) _ _
     (communities_stage (record { name = name; interfaces = interfaces; bgp = bgp; ospf = ospf; prefix_lists = ps }) [] ls are once (new_to_none same_community_list ls))

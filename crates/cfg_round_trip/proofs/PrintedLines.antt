@@ -2,8 +2,8 @@
 use Rattle.std.proofs.Common.{ℕ, ◌≤◌, Bool, false, not, List, [], ◌∷◌, length, get_or}
 use Rattle.std.specs.Prelude.{◌==◌}
 use Rattle.std.specs.List.{AllByRecursion}
-use Rattle.cfg_ast.specs.TextLines.{TextLine}
-use Rattle.cfg_ast.specs.WellFormed.{IsBetween}
+use Rattle.cfg_ast.specs.text.TextLines.{TextLine}
+use Rattle.cfg_ast.specs.printing.WellFormed.{IsBetween}
 
 -- at least one byte, and each prints and is no blank
 abbrev pub IsPrintedWord : List ℕ → Type 0

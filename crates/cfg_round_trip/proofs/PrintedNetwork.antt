@@ -3,9 +3,9 @@ use Rattle.std.proofs.Common.{ℕ, ◌≤◌, Bool, true, false, List, [], ◌�
 use Rattle.std.specs.Prelude.{IfSome, is_some, if◌then◌else◌}
 use Rattle.std.specs.List.{AllByRecursion}
 use Rattle.std.specs.Fmt.{decimal}
-use Rattle.cfg_ast.specs.Addresses.{Address}
-use Rattle.cfg_ast.specs.TextLines.{TextLine}
-use Rattle.cfg_ast.specs.Words.{mask_of, number_between}
+use Rattle.cfg_ast.specs.meaning.Addresses.{Address}
+use Rattle.cfg_ast.specs.text.TextLines.{TextLine}
+use Rattle.cfg_ast.specs.text.Words.{mask_of, number_between}
 use Rattle.cfg_ast.specs.declared.network.Network.{Network}
 use Rattle.cfg_ast.specs.declared.network.Router.{Router}
 use Rattle.cfg_ast.specs.declared.network.Notes.{Notes}
@@ -27,8 +27,8 @@ use Rattle.cfg_ast.specs.declared.policy.RouteMap.{RouteMap}
 use Rattle.cfg_ast.specs.declared.policy.MapEntry.{MapEntry}
 use Rattle.cfg_ast.specs.declared.policy.Change.{Change}
 use Rattle.cfg_ast.specs.declared.policy.Change.TheVariants.{Clear, Replace, Append}
-use Rattle.cfg_ast.specs.Printed.{address_text, community_text, prefix_text, act_text, line, closing, line_of, line_if, closed, address_line, cost_line, shutdown_line, interface_lines, base_line, network_line, neighbor_line, remote_line, peer_shut_line, peer_sends_line, applied_line, neighbor_lines, bgp_lines, passive_default_line, passive_line, not_passive_line, area_line, ospf_lines, bound_words, prefix_entry_line, prefix_list_lines, community_list_name, community_line, community_list_lines, map_head_line, match_prefixes_line, match_comms_line, lp_line, change_line, delete_line, prepend_line, map_entry_lines, route_map_lines, lines_of_some, member_line, router_lines, routers_lines, printed_lines}
-use Rattle.cfg_ast.specs.WellFormed.{IsBetween, IsNumber, IsListName, IsCommunitySet, IsWellFormedAddress, IsWellFormedInterface, IsWellFormedNetLine, IsWellFormedNamed, IsWellFormedNeighbor, IsWellFormedBase, IsWellFormedBgp, IsWellFormedArea, IsInterfaceName, IsWellFormedOspf, AreBounds, IsWellFormedPrefixEntry, IsWellFormedPrefixList, IsWellFormedCommunityLine, IsWellFormedCommunityList, IsWellFormedNameLine, IsWellFormedChange, IsWellFormedPrepend, IsWellFormedMapEntry, IsWellFormedRouteMap, IsWellFormedRouter, IsWellFormed}
+use Rattle.cfg_ast.specs.printing.Printed.{address_text, community_text, prefix_text, act_text, line, closing, line_of, line_if, closed, ip_address_line, cost_line, shutdown_line, interface_lines, base_line, network_line, peer_line, remote_line, peer_shut_line, peer_sends_line, applied_line, neighbor_lines, bgp_lines, passive_default_line, passive_line, not_passive_line, network_area_line, ospf_lines, bound_words, prefix_entry_line, prefix_list_lines, community_list_name, community_list_line, community_list_lines, map_head_line, match_prefixes_line, match_comms_line, lp_line, change_line, delete_line, prepend_line, map_entry_lines, route_map_lines, lines_of_some, member_line, router_lines, routers_lines, printed_lines}
+use Rattle.cfg_ast.specs.printing.WellFormed.{IsBetween, IsNumber, IsListName, IsCommunitySet, IsWellFormedAddress, IsWellFormedInterface, IsWellFormedNetLine, IsWellFormedNamed, IsWellFormedNeighbor, IsWellFormedBase, IsWellFormedBgp, IsWellFormedArea, IsInterfaceName, IsWellFormedOspf, AreBounds, IsWellFormedPrefixEntry, IsWellFormedPrefixList, IsWellFormedCommunityLine, IsWellFormedCommunityList, IsWellFormedNameLine, IsWellFormedChange, IsWellFormedPrepend, IsWellFormedMapEntry, IsWellFormedRouteMap, IsWellFormedRouter, IsWellFormed}
 use Rattle.cfg_round_trip.specs.Notes.{IsRouterName, AreNotes}
 use Rattle.cfg_round_trip.proofs.PrintedLines.{IsPrintedWord, IsPrintedLine}
 use Rattle.cfg_round_trip.proofs.LineBytes.{each_append}
@@ -78,8 +78,8 @@ closed_lines (l ∷ ls) each = each_append IsPrintedLine (l ∷ ls) (closing ∷
 
 -- ---- interfaces
 
-address_is : (a : Address) → IsWellFormedAddress a → IsPrintedLine (address_line a)
-unfolding address_line
+address_is : (a : Address) → IsWellFormedAddress a → IsPrintedLine (ip_address_line a)
+unfolding ip_address_line
 address_is a is = words_line 1 (codes "ip") (codes "address" ∷ address_text a.addr ∷ address_text (mask_of a.len) ∷ []) (word_as_tested (codes "ip") refl) (word_as_tested (codes "address") refl, (address_prints a.addr is.addr, (mask_prints a.len, tt)))
 
 cost_is : (cost : ℕ) → IsBetween 1 65535 cost → IsPrintedLine (cost_line cost)
@@ -95,10 +95,10 @@ interface_is : (i : Interface) → IsWellFormedInterface i → AreLines (interfa
 unfolding interface_lines
 interface_is i is =
     let head = words_line 0 (codes "interface") (i.name ∷ []) (word_as_tested (codes "interface") refl) (interface_name_prints i.name is.name, tt) in
-    let address = some_line IsWellFormedAddress address_line address_is i.address is.address in
+    let address = some_line IsWellFormedAddress ip_address_line address_is i.address is.address in
     let cost = some_line (IsBetween 1 65535) cost_line cost_is i.cost is.cost in
     let shut = chosen_line i.shut shutdown_line shutdown_is in
-    let a = line_of address_line i.address in
+    let a = line_of ip_address_line i.address in
     let c = line_of cost_line i.cost in
     let s = line_if i.shut shutdown_line in
     (head, each_append IsPrintedLine (a ++ c ++ s) (closing ∷ []) (each_append IsPrintedLine (a ++ c) s (each_append IsPrintedLine a c address cost) shut) last_closing)
@@ -115,7 +115,7 @@ unfolding network_line
 network_is n is =
     words_line 1 (codes "network") (address_text n.prefix.addr ∷ codes "mask" ∷ address_text (mask_of n.prefix.len) ∷ []) (word_as_tested (codes "network") refl) (address_prints n.prefix.addr is.prefix.addr, (word_as_tested (codes "mask") refl, (mask_prints n.prefix.len, tt)))
 
-neighbor_is : (addr : ℕ) (ws : List (List ℕ)) → IsNumber addr → AreWords ws → IsPrintedLine (neighbor_line addr ws)
+neighbor_is : (addr : ℕ) (ws : List (List ℕ)) → IsNumber addr → AreWords ws → IsPrintedLine (peer_line addr ws)
 neighbor_is addr ws is more = words_line 1 (codes "neighbor") (address_text addr ∷ ws) (word_as_tested (codes "neighbor") refl) (address_prints addr is, more)
 
 remote_is : (addr remote : ℕ) → IsNumber addr → IsBetween 1 4294967295 remote → IsPrintedLine (remote_line addr remote)
@@ -180,8 +180,8 @@ not_passive_is name is = words_line 1 (codes "no") (codes "passive-interface" �
 default_is : IsPrintedLine passive_default_line
 default_is = words_line 1 (codes "passive-interface") (codes "default" ∷ []) (word_as_tested (codes "passive-interface") refl) (word_as_tested (codes "default") refl, tt)
 
-area_is : (a : AreaLine) → IsWellFormedArea a → IsPrintedLine (area_line a)
-unfolding area_line
+area_is : (a : AreaLine) → IsWellFormedArea a → IsPrintedLine (network_area_line a)
+unfolding network_area_line
 area_is a is =
     words_line 1 (codes "network") (address_text a.addr ∷ address_text a.wild ∷ codes "area" ∷ decimal a.area ∷ []) (word_as_tested (codes "network") refl) (address_prints a.addr is.addr, (address_prints a.wild is.wild, (word_as_tested (codes "area") refl, (decimal_prints a.area is.area, tt))))
 
@@ -193,10 +193,10 @@ ospf_is o is =
     let w = line_if o.passive_default passive_default_line in
     let x = map passive_line o.passive in
     let y = map not_passive_line o.not_passive in
-    let z = map area_line o.areas in
+    let z = map network_area_line o.areas in
     let passive = each_map IsInterfaceName IsPrintedLine passive_line passive_is o.passive is.passive in
     let not_passive = each_map IsInterfaceName IsPrintedLine not_passive_line not_passive_is o.not_passive is.not_passive in
-    let areas = each_map IsWellFormedArea IsPrintedLine area_line area_is o.areas is.areas in
+    let areas = each_map IsWellFormedArea IsPrintedLine network_area_line area_is o.areas is.areas in
     let two = each_append IsPrintedLine w x (chosen_line o.passive_default passive_default_line default_is) passive in
     let three = each_append IsPrintedLine (w ++ x) y two not_passive in
     (head, each_append IsPrintedLine (w ++ x ++ y ++ z) (closing ∷ []) (each_append IsPrintedLine (w ++ x ++ y) z three areas) last_closing)
@@ -229,16 +229,16 @@ list_name_is : (b : Bool) (name : List ℕ) → IsPrintedWord name → AreWords 
 list_name_is true name is = (is, tt)
 list_name_is false name is = (word_as_tested (codes "standard") refl, (is, tt))
 
-community_line_is : (name : List ℕ) → IsListName name → (c : CommunityLine) → IsWellFormedCommunityLine c → IsPrintedLine (community_line name c)
-unfolding community_line
+community_line_is : (name : List ℕ) → IsListName name → (c : CommunityLine) → IsWellFormedCommunityLine c → IsPrintedLine (community_list_line name c)
+unfolding community_list_line
 community_line_is name named c is =
     let comms = each_map (IsBetween 1 4294901759) IsPrintedWord community_text community_prints c.comms is.each in
     let names = list_name_is (is_some (number_between 1 99 name)) name (list_name_prints name named) in
     words_line 0 (codes "ip") (codes "community-list" ∷ (community_list_name name ++ act_text c.permit ∷ map community_text c.comms)) (word_as_tested (codes "ip") refl)
     (word_as_tested (codes "community-list") refl, each_append IsPrintedWord (community_list_name name) (act_text c.permit ∷ map community_text c.comms) names (act_prints c.permit, comms))
 
-community_list_is : (l : CommunityList) → IsWellFormedCommunityList l → AreLines (map (community_line l.name) l.lines)
-community_list_is l is = each_map IsWellFormedCommunityLine IsPrintedLine (community_line l.name) (community_line_is l.name is.name) l.lines is.lines
+community_list_is : (l : CommunityList) → IsWellFormedCommunityList l → AreLines (map (community_list_line l.name) l.lines)
+community_list_is l is = each_map IsWellFormedCommunityLine IsPrintedLine (community_list_line l.name) (community_line_is l.name is.name) l.lines is.lines
 
 -- ---- route maps
 
@@ -341,7 +341,7 @@ router_is r names is are =
     let is_c = some_lines IsWellFormedBgp bgp_lines bgp_is r.bgp is.bgp in
     let is_d = some_lines IsWellFormedOspf ospf_lines ospf_is r.ospf is.ospf in
     let is_e = closed_lines (flat_map (λ (l : PrefixList). map (prefix_entry_line l.name) l.entries) r.prefix_lists) (each_flat_map IsWellFormedPrefixList IsPrintedLine (λ (l : PrefixList). map (prefix_entry_line l.name) l.entries) prefix_list_is r.prefix_lists is.prefix_lists) in
-    let is_f = closed_lines (flat_map (λ (l : CommunityList). map (community_line l.name) l.lines) r.community_lists) (each_flat_map IsWellFormedCommunityList IsPrintedLine (λ (l : CommunityList). map (community_line l.name) l.lines) community_list_is r.community_lists is.community_lists) in
+    let is_f = closed_lines (flat_map (λ (l : CommunityList). map (community_list_line l.name) l.lines) r.community_lists) (each_flat_map IsWellFormedCommunityList IsPrintedLine (λ (l : CommunityList). map (community_list_line l.name) l.lines) community_list_is r.community_lists is.community_lists) in
     let is_g = each_flat_map IsWellFormedRouteMap IsPrintedLine route_map_lines route_map_is r.route_maps is.route_maps in
     let two = each_append IsPrintedLine a (closing ∷ b) front (closing_line, is_b) in
     let three = each_append IsPrintedLine (a ++ closing ∷ b) c two is_c in

@@ -8,9 +8,9 @@ use Rattle.std.proofs.lemmas.Fmt.{decimal_by_steps}
 use Rattle.std.proofs.lemmas.Bool.Decides.{nat_tests}
 use Rattle.std.proofs.lemmas.Nat.{pow_pos}
 use Rattle.base_kit.specs.Prefixes.{Prefix}
-use Rattle.cfg_ast.specs.Words.{is_name_long, begins_with, is_letter_or_digit, is_router_byte, is_router_name, is_interface_byte, is_interface_name, is_list_name, mask_of}
-use Rattle.cfg_ast.specs.Printed.{address_text, prefix_text, community_text, act_text}
-use Rattle.cfg_ast.specs.WellFormed.{IsBetween, IsListName}
+use Rattle.cfg_ast.specs.text.Words.{is_name_long, begins_with, is_letter_or_digit, is_router_byte, is_router_name, is_interface_byte, is_interface_name, is_list_name, mask_of}
+use Rattle.cfg_ast.specs.printing.Printed.{address_text, prefix_text, community_text, act_text}
+use Rattle.cfg_ast.specs.printing.WellFormed.{IsBetween, IsListName}
 use Rattle.cfg_round_trip.proofs.PrintedLines.{IsPrintedWord}
 use Rattle.cfg_round_trip.proofs.LineBytes.{each_append}
 

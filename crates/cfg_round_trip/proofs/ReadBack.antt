@@ -9,13 +9,13 @@ use Rattle.cfg_ast.specs.declared.items.RouterItem.{RouterItem}
 use Rattle.cfg_ast.specs.declared.items.PolicyScope.TheVariants as policy_scope
 use Rattle.cfg_ast.specs.declared.items.PolicyItem.{PolicyItem}
 use Rattle.cfg_ast.specs.declared.refusal.ReadRefusal.{ReadRefusal}
-use Rattle.cfg_ast.specs.TextLines.{TextLine}
-use Rattle.cfg_ast.specs.PolicyLines.{is_policy_line}
-use Rattle.cfg_ast.specs.RouterForms.{router_item_of}
-use Rattle.cfg_ast.specs.PolicyForms.{policy_item_of}
-use Rattle.cfg_ast.specs.Stanzas.{◌>>=◌}
-use Rattle.cfg_ast.specs.Reading.{Stanza, Draft, State, with_closed, take_top, take_policy, step_router, step_policy, take_inner, step, steps}
-use Rattle.cfg_ast.specs.Printed.{closing}
+use Rattle.cfg_ast.specs.text.TextLines.{TextLine}
+use Rattle.cfg_ast.specs.text.PolicyLines.{is_policy_line}
+use Rattle.cfg_ast.specs.text.RouterForms.{router_item_of}
+use Rattle.cfg_ast.specs.text.PolicyForms.{policy_item_of}
+use Rattle.cfg_ast.specs.text.Stanzas.{◌>>=◌}
+use Rattle.cfg_ast.specs.text.Reading.{Stanza, Draft, State, with_closed, take_top, take_policy, step_router, step_policy, take_inner, step, steps}
+use Rattle.cfg_ast.specs.printing.Printed.{closing}
 use Rattle.cfg_round_trip.proofs.PrintedLines.{is_read}
 
 steps_more : (xs ys : List TextLine) (s : State) → steps s (xs ++ ys) ≡ (steps s xs >>= (λ (t : State). steps t ys))

@@ -13,12 +13,12 @@ use Rattle.cfg_ast.specs.declared.policy.CommunityList.{CommunityList}
 use Rattle.cfg_ast.specs.declared.policy.MapEntry.{MapEntry}
 use Rattle.cfg_ast.specs.declared.policy.RouteMap.{RouteMap}
 use Rattle.cfg_ast.specs.declared.items.PolicyItem.TheVariants as item
-use Rattle.cfg_ast.specs.PolicyForms.{empty_entry}
-use Rattle.cfg_ast.specs.PolicyLines.{is_policy_line, is_route_map, has_entry_seq, has_map_entry, put_map_entry, with_map_entry}
-use Rattle.cfg_ast.specs.Reading.{in_entry, Draft, with_closed, take_policy}
-use Rattle.cfg_ast.specs.Printed.{map_head_line, map_entry_lines, route_map_lines}
-use Rattle.cfg_ast.specs.Bare.{bare_map_entry, bare_route_map}
-use Rattle.cfg_ast.specs.WellFormed.{IsListName, IsWellFormedMapEntry, map_seqs, IsWellFormedRouteMap, same_route_map}
+use Rattle.cfg_ast.specs.text.PolicyForms.{empty_entry}
+use Rattle.cfg_ast.specs.text.PolicyLines.{is_policy_line, is_route_map, has_entry_seq, has_map_entry, put_map_entry, with_map_entry}
+use Rattle.cfg_ast.specs.text.Reading.{in_entry, Draft, with_closed, take_policy}
+use Rattle.cfg_ast.specs.printing.Printed.{map_head_line, map_entry_lines, route_map_lines}
+use Rattle.cfg_ast.specs.printing.Bare.{bare_map_entry, bare_route_map}
+use Rattle.cfg_ast.specs.printing.WellFormed.{IsListName, IsWellFormedMapEntry, map_seqs, IsWellFormedRouteMap, same_route_map}
 use Rattle.cfg_round_trip.proofs.PolicyItemsBack.{map_head_item}
 use Rattle.cfg_round_trip.proofs.ReadBack.{policy_top, Reads, reads_none, reads_then, reads_stanza, AreNew, new_to_none, new_to_more, grown}
 use Rattle.cfg_round_trip.proofs.ListsBack.{new_last, change_last, put_last, AreBelow, below_none, below_more, none_later, none_same, no_name_no_number, last_no_number, same_bytes}

@@ -11,13 +11,13 @@ use Rattle.cfg_ast.specs.declared.interface.Interface.{Interface}
 use Rattle.cfg_ast.specs.declared.bgp.BgpProcess.{BgpProcess}
 use Rattle.cfg_ast.specs.declared.ospf.OspfProcess.{OspfProcess}
 use Rattle.cfg_ast.specs.declared.items.RouterItem.TheVariants as item
-use Rattle.cfg_ast.specs.TextLines.{TextLine}
-use Rattle.cfg_ast.specs.PolicyLines.{is_policy_line}
-use Rattle.cfg_ast.specs.Words.{is_router_name}
-use Rattle.cfg_ast.specs.Reading.{in_interface, in_bgp, in_ospf, Draft, no_draft, with_closed, has_interface, new_interface, new_bgp, new_ospf, take_line, take_top, end_router, step_router, step, steps}
-use Rattle.cfg_ast.specs.Printed.{line, closing, interface_lines, bgp_lines, ospf_lines, prefix_list_lines, community_list_lines, route_map_lines, lines_of_some, member_line, router_lines}
-use Rattle.cfg_ast.specs.Bare.{bare_interface, bare_bgp, bare_ospf, bare_prefix_list, bare_community_list, bare_route_map, bare_router}
-use Rattle.cfg_ast.specs.WellFormed.{IsWellFormedInterface, same_interface, IsWellFormedBgp, IsWellFormedOspf, IsWellFormedRouter}
+use Rattle.cfg_ast.specs.text.TextLines.{TextLine}
+use Rattle.cfg_ast.specs.text.PolicyLines.{is_policy_line}
+use Rattle.cfg_ast.specs.text.Words.{is_router_name}
+use Rattle.cfg_ast.specs.text.Reading.{in_interface, in_bgp, in_ospf, Draft, no_draft, with_closed, has_interface, new_interface, new_bgp, new_ospf, take_line, take_top, end_router, step_router, step, steps}
+use Rattle.cfg_ast.specs.printing.Printed.{line, closing, interface_lines, bgp_lines, ospf_lines, prefix_list_lines, community_list_lines, route_map_lines, lines_of_some, member_line, router_lines}
+use Rattle.cfg_ast.specs.printing.Bare.{bare_interface, bare_bgp, bare_ospf, bare_prefix_list, bare_community_list, bare_route_map, bare_router}
+use Rattle.cfg_ast.specs.printing.WellFormed.{IsWellFormedInterface, same_interface, IsWellFormedBgp, IsWellFormedOspf, IsWellFormedRouter}
 use Rattle.cfg_round_trip.proofs.ItemsBack.{hostname_item, interface_item, bgp_item, ospf_item, end_item}
 use Rattle.cfg_round_trip.proofs.PrintedLines.{is_read}
 use Rattle.cfg_round_trip.proofs.ReadBack.{at_draft, then_steps, one_step, router_top, Reads, reads_none, reads_then, reads_line, reads_stanza, reads_skipped, AreNew, new_to_none, new_to_more, grown}

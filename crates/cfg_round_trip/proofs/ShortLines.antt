@@ -5,9 +5,9 @@ use Rattle.std.specs.Prelude.{IfSome, codes, flat_map, is_some, if◌then◌else
 use Rattle.std.specs.Fmt.{decimal}
 use Rattle.std.specs.List.{AllByRecursion}
 use Rattle.std.proofs.lemmas.Fmt.{length-decimal-le}
-use Rattle.cfg_ast.specs.Addresses.{Address}
-use Rattle.cfg_ast.specs.TextLines.{TextLine}
-use Rattle.cfg_ast.specs.Words.{mask_of, number_between}
+use Rattle.cfg_ast.specs.meaning.Addresses.{Address}
+use Rattle.cfg_ast.specs.text.TextLines.{TextLine}
+use Rattle.cfg_ast.specs.text.Words.{mask_of, number_between}
 use Rattle.cfg_ast.specs.declared.network.Network.{Network}
 use Rattle.cfg_ast.specs.declared.network.Router.{Router}
 use Rattle.cfg_ast.specs.declared.network.Notes.{Notes}
@@ -28,14 +28,13 @@ use Rattle.cfg_ast.specs.declared.policy.RouteMap.{RouteMap}
 use Rattle.cfg_ast.specs.declared.policy.MapEntry.{MapEntry}
 use Rattle.cfg_ast.specs.declared.policy.Change.{Change}
 use Rattle.cfg_ast.specs.declared.policy.Change.TheVariants.{Clear, Replace, Append}
-use Rattle.cfg_ast.specs.Printed.{address_text, community_text, prefix_text, act_text, line, closing, line_of, line_if, closed, address_line, cost_line, shutdown_line, interface_lines, base_line, network_line, remote_line, peer_shut_line, peer_sends_line, applied_line, neighbor_lines, bgp_lines, passive_default_line, passive_line, not_passive_line, area_line, ospf_lines, bound_words, prefix_entry_line, prefix_list_lines, community_list_name, community_line, community_list_lines, map_head_line, match_prefixes_line, match_comms_line, lp_line, change_line, delete_line, prepend_line, map_entry_lines, route_map_lines, lines_of_some, member_line, router_lines, routers_lines, printed_lines}
-use Rattle.cfg_ast.specs.WellFormed.{IsBetween, IsNumber, IsListName, IsInterfaceName, IsCommunitySet, AreBounds, IsWellFormedBase, IsWellFormedAddress, IsWellFormedInterface, IsWellFormedNetLine, IsWellFormedNamed, IsWellFormedNeighbor, IsWellFormedBgp, IsWellFormedArea, IsWellFormedOspf, IsWellFormedPrefixEntry, IsWellFormedPrefixList, IsWellFormedCommunityLine, IsWellFormedCommunityList, IsWellFormedChange, IsWellFormedPrepend, IsWellFormedMapEntry, IsWellFormedRouteMap, IsWellFormedRouter, IsWellFormed}
+use Rattle.cfg_ast.specs.printing.Printed.{address_text, community_text, prefix_text, act_text, line, closing, line_of, line_if, closed, ip_address_line, cost_line, shutdown_line, interface_lines, base_line, network_line, remote_line, peer_shut_line, peer_sends_line, applied_line, neighbor_lines, bgp_lines, passive_default_line, passive_line, not_passive_line, network_area_line, ospf_lines, bound_words, prefix_entry_line, prefix_list_lines, community_list_name, community_list_line, community_list_lines, map_head_line, match_prefixes_line, match_comms_line, lp_line, change_line, delete_line, prepend_line, map_entry_lines, route_map_lines, lines_of_some, member_line, router_lines, routers_lines, printed_lines}
+use Rattle.cfg_ast.specs.printing.WellFormed.{IsBetween, IsNumber, IsListName, IsInterfaceName, IsCommunitySet, AreBounds, IsWellFormedBase, IsWellFormedAddress, IsWellFormedInterface, IsWellFormedNetLine, IsWellFormedNamed, IsWellFormedNeighbor, IsWellFormedBgp, IsWellFormedArea, IsWellFormedOspf, IsWellFormedPrefixEntry, IsWellFormedPrefixList, IsWellFormedCommunityLine, IsWellFormedCommunityList, IsWellFormedChange, IsWellFormedPrepend, IsWellFormedMapEntry, IsWellFormedRouteMap, IsWellFormedRouter, IsWellFormed}
 use Rattle.cfg_given.proofs.Each.{all_both}
 use Rattle.cfg_round_trip.specs.Notes.{IsRouterName, AreNotes}
 use Rattle.cfg_round_trip.proofs.LineBytes.{each_append}
 use Rattle.cfg_round_trip.proofs.PrintedNetwork.{each_map, each_flat_map}
-use Rattle.cfg_round_trip.proofs.ShortNames.{IsShortLine, IsShortEntry}
-use Rattle.cfg_round_trip.proofs.ShortSteps.{IsShortMap, HasShortMaps}
+use Rattle.cfg_round_trip.specs.ShortMaps.{IsShortLine, IsShortEntry, IsShortMap, HasShortMaps}
 use Rattle.cfg_round_trip.proofs.ShortWords.{weight, light_line, number_short, address_short, mask_short, prefix_short, community_short, act_short, list_name_short, router_name_short, interface_name_short}
 
 -- ---- lines
@@ -68,8 +67,8 @@ pieces a b first second = each_append IsShortLine a b first second
 
 -- ---- interfaces
 
-address_line_short : (a : Address) → IsWellFormedAddress a → IsShortLine (address_line a)
-unfolding address_line
+address_line_short : (a : Address) → IsWellFormedAddress a → IsShortLine (ip_address_line a)
+unfolding ip_address_line
 address_line_short a is = light_line 1 (codes "ip" ∷ codes "address" ∷ address_text a.addr ∷ address_text (mask_of a.len) ∷ []) (omega (arith, address_short a.addr is.addr, mask_short a.len))
 
 cost_line_short : (n : ℕ) → IsBetween 1 65535 n → IsShortLine (cost_line n)
@@ -79,11 +78,11 @@ cost_line_short n is = light_line 1 (codes "ip" ∷ codes "ospf" ∷ codes "cost
 interface_short : (i : Interface) → IsWellFormedInterface i → AreShort (interface_lines i)
 unfolding interface_lines
 interface_short i is =
-    let a = line_of address_line i.address in
+    let a = line_of ip_address_line i.address in
     let b = line_of cost_line i.cost in
     let c = line_if i.shut shutdown_line in (
       light_line 0 (codes "interface" ∷ i.name ∷ []) (omega (arith, interface_name_short i.name is.name)),
-      pieces (a ++ b ++ c) (closing ∷ []) (pieces (a ++ b) c (pieces a b (some_line IsWellFormedAddress address_line address_line_short i.address is.address) (some_line (IsBetween 1 65535) cost_line cost_line_short i.cost is.cost)) (line_when i.shut shutdown_line (light_line 1 (codes "shutdown" ∷ []) (omega arith)))) (closing_short, tt),
+      pieces (a ++ b ++ c) (closing ∷ []) (pieces (a ++ b) c (pieces a b (some_line IsWellFormedAddress ip_address_line address_line_short i.address is.address) (some_line (IsBetween 1 65535) cost_line cost_line_short i.cost is.cost)) (line_when i.shut shutdown_line (light_line 1 (codes "shutdown" ∷ []) (omega arith)))) (closing_short, tt),
     )
 
 -- ---- BGP
@@ -155,8 +154,8 @@ passive_short name is = light_line 1 (codes "passive-interface" ∷ name ∷ [])
 not_passive_short : (name : List ℕ) → IsInterfaceName name → IsShortLine (not_passive_line name)
 not_passive_short name is = light_line 1 (codes "no" ∷ codes "passive-interface" ∷ name ∷ []) (omega (arith, interface_name_short name is))
 
-area_short : (a : AreaLine) → IsWellFormedArea a → IsShortLine (area_line a)
-unfolding area_line
+area_short : (a : AreaLine) → IsWellFormedArea a → IsShortLine (network_area_line a)
+unfolding network_area_line
 area_short a is = light_line 1 (codes "network" ∷ address_text a.addr ∷ address_text a.wild ∷ codes "area" ∷ decimal a.area ∷ []) (omega (arith, address_short a.addr is.addr, address_short a.wild is.wild, number_short a.area is.area))
 
 ospf_short : (o : OspfProcess) → IsWellFormedOspf o → AreShort (ospf_lines o)
@@ -166,9 +165,9 @@ ospf_short o is =
     let one = line_if o.passive_default passive_default_line in
     let two = map passive_line o.passive in
     let three = map not_passive_line o.not_passive in
-    let four = map area_line o.areas in (
+    let four = map network_area_line o.areas in (
       light_line 0 (codes "router" ∷ codes "ospf" ∷ decimal o.number ∷ []) (omega (arith, number_short o.number (omega arith))),
-      pieces (one ++ two ++ three ++ four) (closing ∷ []) (pieces (one ++ two ++ three) four (pieces (one ++ two) three (pieces one two (line_when o.passive_default passive_default_line (light_line 1 (codes "passive-interface" ∷ codes "default" ∷ []) (omega arith))) (each_map IsInterfaceName IsShortLine passive_line passive_short o.passive is.passive)) (each_map IsInterfaceName IsShortLine not_passive_line not_passive_short o.not_passive is.not_passive)) (each_map IsWellFormedArea IsShortLine area_line area_short o.areas is.areas)) (closing_short, tt),
+      pieces (one ++ two ++ three ++ four) (closing ∷ []) (pieces (one ++ two ++ three) four (pieces (one ++ two) three (pieces one two (line_when o.passive_default passive_default_line (light_line 1 (codes "passive-interface" ∷ codes "default" ∷ []) (omega arith))) (each_map IsInterfaceName IsShortLine passive_line passive_short o.passive is.passive)) (each_map IsInterfaceName IsShortLine not_passive_line not_passive_short o.not_passive is.not_passive)) (each_map IsWellFormedArea IsShortLine network_area_line area_short o.areas is.areas)) (closing_short, tt),
     )
 
 -- ---- lists
@@ -220,15 +219,15 @@ name_weight name short = by (is_some (number_between 1 99 name))
     by true = omega arith
     by false = omega arith
 
-community_line_short : (name : List ℕ) → IsListName name → (c : CommunityLine) → IsWellFormedCommunityLine c → IsShortLine (community_line name c)
-unfolding community_line
+community_line_short : (name : List ℕ) → IsListName name → (c : CommunityLine) → IsWellFormedCommunityLine c → IsShortLine (community_list_line name c)
+unfolding community_list_line
 community_line_short name named c is =
     let names = community_list_name name in
     let rest = act_text c.permit ∷ map community_text c.comms in
     light_line 0 (codes "ip" ∷ codes "community-list" ∷ names ++ rest) (omega (arith, weight_append names rest, name_weight name (list_name_short name named), act_short c.permit, set_weight c.comms is))
 
-community_list_short : (l : CommunityList) → IsWellFormedCommunityList l → AreShort (map (community_line l.name) l.lines)
-community_list_short l is = each_map IsWellFormedCommunityLine IsShortLine (community_line l.name) (community_line_short l.name is.name) l.lines is.lines
+community_list_short : (l : CommunityList) → IsWellFormedCommunityList l → AreShort (map (community_list_line l.name) l.lines)
+community_list_short l is = each_map IsWellFormedCommunityLine IsShortLine (community_list_line l.name) (community_line_short l.name is.name) l.lines is.lines
 
 -- ---- route maps
 
@@ -324,7 +323,7 @@ router_short r names is maps are =
     (some_lines IsWellFormedBgp bgp_lines bgp_short r.bgp is.bgp))
     (some_lines IsWellFormedOspf ospf_lines ospf_short r.ospf is.ospf))
     (closed_short (flat_map (λ (l : PrefixList). map (prefix_entry_line l.name) l.entries) r.prefix_lists) (each_flat_map IsWellFormedPrefixList IsShortLine (λ (l : PrefixList). map (prefix_entry_line l.name) l.entries) prefix_list_short r.prefix_lists is.prefix_lists)))
-    (closed_short (flat_map (λ (l : CommunityList). map (community_line l.name) l.lines) r.community_lists) (each_flat_map IsWellFormedCommunityList IsShortLine (λ (l : CommunityList). map (community_line l.name) l.lines) community_list_short r.community_lists is.community_lists)))
+    (closed_short (flat_map (λ (l : CommunityList). map (community_list_line l.name) l.lines) r.community_lists) (each_flat_map IsWellFormedCommunityList IsShortLine (λ (l : CommunityList). map (community_list_line l.name) l.lines) community_list_short r.community_lists is.community_lists)))
     (each_flat_map IsGoodMap IsShortLine route_map_lines route_map_short r.route_maps (all_both IsWellFormedRouteMap IsShortMap IsGoodMap (λ m formed short. record { formed = formed; short = short }) r.route_maps is.route_maps maps)))
     (light_line 0 (codes "end" ∷ []) (omega arith), tt)
 

@@ -1,6 +1,6 @@
 -- The match lines of route maps that a text gives are printed as lines that are no longer.
 use Rattle.std.proofs.Common.{◌≡◌, ℕ, zero, suc, ◌+◌, ◌-◌, ◌≤◌, Bool, true, false, ◌&&◌, List, [], ◌∷◌, ◌++◌, length, take, replicate, Option, Some, None, refl, sym, ap, ◌∙◌, arith, inl, inr, length-append}
-use Rattle.std.specs.Prelude.{IfSome, IfOk, codes, bytes_eq, nat_lt, nat_le, is_some, if◌then◌else◌}
+use Rattle.std.specs.Prelude.{IfOk, codes, bytes_eq, nat_lt, nat_le, is_some, if◌then◌else◌}
 use Rattle.std.specs.Bool.{OnTrue}
 use Rattle.std.specs.Option.{option_map}
 use Rattle.std.specs.List.{AllByRecursion, join_with_byte, list_all}
@@ -16,21 +16,17 @@ use Rattle.cfg_ast.specs.declared.items.PolicyItem.{PolicyItem}
 use Rattle.cfg_ast.specs.declared.items.PolicyItem.TheVariants as item
 use Rattle.cfg_ast.specs.declared.items.PolicyScope.{PolicyScope}
 use Rattle.cfg_ast.specs.declared.items.PolicyScope.TheVariants as scope
-use Rattle.cfg_ast.specs.declared.policy.NameLine.{NameLine}
-use Rattle.cfg_ast.specs.declared.policy.MapEntry.{MapEntry}
-use Rattle.cfg_ast.specs.TextLines.{TextLine}
-use Rattle.cfg_ast.specs.Heads.{Row, begins, longer, if_begins, longest, class_in, known_in_entry, refused_in_entry, ignored_in_entry, entry_heads, policy_heads_of}
-use Rattle.cfg_ast.specs.PolicyForms.{is_marked, but_last, match_prefixes_form, comms_match, marked_match, match_comms_form, policy_form, policy_item_by, policy_item_of, list_names_of, is_group, all_differ, prefix_entry_form, community_line_form, map_head_form, lp_form, set_comms_form, delete_form, prepend_form, is_permit, bounds_of, communities_of, community_line, numbered_line, change_of, is_as_number}
-use Rattle.cfg_ast.specs.FormSteps.{list_name_of, named_of}
-use Rattle.cfg_ast.specs.Words.{is_list_name, number_word, number_between, prefix_of}
-use Rattle.cfg_ast.specs.Printed.{line_text, match_prefixes_line, match_comms_line}
+use Rattle.cfg_ast.specs.text.TextLines.{TextLine}
+use Rattle.cfg_ast.specs.text.Heads.{Row, begins, longer, if_begins, longest, class_in, known_in_entry, refused_in_entry, ignored_in_entry, entry_heads, policy_heads_of}
+use Rattle.cfg_ast.specs.text.PolicyForms.{has_mark, but_last, match_prefixes_form, comms_match, marked_match, match_comms_form, policy_form, policy_item_by, policy_item_of, list_names_of, is_group, all_differ, prefix_entry_form, community_line_form, map_head_form, lp_form, set_comms_form, delete_form, prepend_form, is_permit, bounds_of, community_words, community_line, numbered_line, change_of, is_as_number}
+use Rattle.cfg_ast.specs.text.FormSteps.{list_name_of, named_of}
+use Rattle.cfg_ast.specs.text.Words.{is_list_name, number_word, number_between, prefix_of}
+use Rattle.cfg_ast.specs.printing.Printed.{line_text, match_prefixes_line, match_comms_line}
 use Rattle.cfg_given.proofs.Given.{IsAny, given, after, fits, either, anything, any_result}
+use Rattle.cfg_round_trip.specs.ShortMaps.{IsShortLine, IsShortEntry}
 use Rattle.cfg_round_trip.proofs.ShortTexts.{joined}
 
 -- ---- short match lines
-
-abbrev pub IsShortLine : TextLine → Type 0
-IsShortLine l = length (line_text l) ≤ 1025
 
 pub line_length : (l : TextLine) → length (line_text l) ≡ l.indent + joined l.words + 1
 line_length l =
@@ -39,12 +35,6 @@ line_length l =
     length_replicate : (n : ℕ) → length {A = ℕ} (replicate n 32) ≡ n
     length_replicate zero = refl
     length_replicate (suc n) = ap (λ k. suc k) (length_replicate n)
-
-abbrev pub HasShortMatches : Option NameLine → Option NameLine → Bool → Type 0
-HasShortMatches prefixes comms exact = IfSome prefixes (λ l. IsShortLine (match_prefixes_line l)) × IfSome comms (λ l. IsShortLine (match_comms_line exact l))
-
-abbrev pub IsShortEntry : MapEntry → Type 0
-IsShortEntry e = HasShortMatches e.prefixes e.comms e.exact
 
 -- what a line says, where it must be short if it stands in an entry
 abbrev pub IsShortItem : Bool → PolicyItem → Type 0
@@ -140,7 +130,7 @@ prefixes_short line (a ∷ b ∷ c ∷ d ∷ words) head short =
     rw are (omega (arith, line_length (record { number = 0; indent = 1; words = codes "match" ∷ codes "ip" ∷ codes "address" ∷ codes "prefix-list" ∷ words }), same)))
 prefixes_short line _ head short = tt
 
-marked_is : (mark : List ℕ) (words : List (List ℕ)) → is_marked mark words ≡ true → but_last words ++ mark ∷ [] ≡ words
+marked_is : (mark : List ℕ) (words : List (List ℕ)) → has_mark mark words ≡ true → but_last words ++ mark ∷ [] ≡ words
 marked_is mark [] e = absurd cc
 marked_is mark (word ∷ []) e = ap (λ (w : List ℕ). w ∷ []) (sym ((bytes_eq-Decides word mark).0 e))
 marked_is mark (word ∷ next ∷ words) e =
@@ -154,7 +144,7 @@ comms_short line (a ∷ b ∷ words) head short =
     let two = and_parts (bytes_eq (codes "community") b) true one.1 in
     let same : joined (codes "match" ∷ codes "community" ∷ words) ≡ joined (a ∷ b ∷ words) =
     ap joined (two_words a b (codes "match") (codes "community") words (same_word (codes "match") a one.0) (same_word (codes "community") b two.0)) in
-    either (IsShortItem true) (is_marked (codes "exact-match") words) _ _
+    either (IsShortItem true) (has_mark (codes "exact-match") words) _ _
     (λ marked. after (AreThe (but_last words)) (IsShortItem true) _ _ (names_are (but_last words)) (λ names are.
     rw (are, marked_is (codes "exact-match") words marked) (omega (arith, line_length (record { number = 0; indent = 1; words = codes "match" ∷ codes "community" ∷ words }), same))))
     (λ other. after (AreThe words) (IsShortItem true) _ _ (names_are words) (λ names are.
@@ -179,7 +169,7 @@ unfolding community_line
 community_line_quiet inside line name act communities =
     given IsAny (IsShortItem inside) _ _ (anything (is_permit act)) (λ permit any.
     after IsAny (IsShortItem inside) _ _ (any_result (list_name_of name)) (λ list any.
-    after IsAny (IsShortItem inside) _ _ (any_result (communities_of communities)) (λ comms any. tt)))
+    after IsAny (IsShortItem inside) _ _ (any_result (community_words communities)) (λ comms any. tt)))
 
 list_line_quiet : (inside : Bool) (line : ℕ) (words : List (List ℕ)) → IfOk (community_line_form line words) (IsShortItem inside)
 unfolding community_line_form numbered_line
@@ -227,7 +217,7 @@ prefixes_outside line _ = tt
 comms_outside : (line : ℕ) (words : List (List ℕ)) → IfOk (match_comms_form line words) (IsShortItem false)
 unfolding match_comms_form marked_match comms_match
 comms_outside line (_ ∷ _ ∷ words) =
-    either (IsShortItem false) (is_marked (codes "exact-match") words) _ _
+    either (IsShortItem false) (has_mark (codes "exact-match") words) _ _
     (λ e. after IsAny (IsShortItem false) _ _ (any_result (list_names_of (but_last words))) (λ names any. tt))
     (λ e. after IsAny (IsShortItem false) _ _ (any_result (list_names_of words)) (λ names any. tt))
 comms_outside line _ = tt

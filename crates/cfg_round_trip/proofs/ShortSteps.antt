@@ -6,7 +6,6 @@ use Rattle.std.proofs.lemmas.Bool.{eqb-false}
 use Rattle.std.proofs.lemmas.Result.{IfOk-at_ok}
 use Rattle.cfg_ast.specs.declared.network.Named.{Named}
 use Rattle.cfg_ast.specs.declared.network.Network.{Network}
-use Rattle.cfg_ast.specs.declared.network.Router.{Router}
 use Rattle.cfg_ast.specs.declared.line.Line.{Line}
 use Rattle.cfg_ast.specs.declared.policy.MapEntry.{MapEntry}
 use Rattle.cfg_ast.specs.declared.policy.RouteMap.{RouteMap}
@@ -17,24 +16,19 @@ use Rattle.cfg_ast.specs.declared.items.PolicyScope.TheVariants as policy_scope
 use Rattle.cfg_ast.specs.declared.items.PolicyItem.{PolicyItem}
 use Rattle.cfg_ast.specs.declared.items.PolicyItem.TheVariants as policy
 use Rattle.cfg_ast.specs.declared.refusal.ReadRefusal.{ReadRefusal}
-use Rattle.cfg_ast.specs.TextLines.{TextLine}
-use Rattle.cfg_ast.specs.Lines.{lines_of}
-use Rattle.cfg_ast.specs.RouterForms.{router_item_of}
-use Rattle.cfg_ast.specs.PolicyForms.{policy_item_of}
-use Rattle.cfg_ast.specs.Stanzas.{◌>>=◌, set_interface, set_bgp}
-use Rattle.cfg_ast.specs.PolicyLines.{is_policy_line, is_route_map, put_map_entry, with_map_entry, has_prefix_entry, has_map_entry, set_entry}
-use Rattle.cfg_ast.specs.Reading.{Stanza, closed, ignored, in_interface, in_bgp, in_ospf, in_entry, Draft, State, at_start, closing, with_closed, has_interface, take_line, named_router, router_of, ends_router, take_top, take_policy, step_policy, step_router, take_inner, step, steps, ending, network_of_lines, texts_of, network_of_text, IsGiven}
+use Rattle.cfg_ast.specs.text.TextLines.{TextLine}
+use Rattle.cfg_ast.specs.text.Lines.{lines_of}
+use Rattle.cfg_ast.specs.text.RouterForms.{router_item_of}
+use Rattle.cfg_ast.specs.text.PolicyForms.{policy_item_of}
+use Rattle.cfg_ast.specs.text.Stanzas.{◌>>=◌, set_interface, set_bgp}
+use Rattle.cfg_ast.specs.text.PolicyLines.{is_policy_line, is_route_map, put_map_entry, with_map_entry, has_prefix_entry, has_map_entry, set_entry}
+use Rattle.cfg_ast.specs.text.Reading.{Stanza, closed, ignored, in_interface, in_bgp, in_ospf, in_entry, Draft, State, at_start, closing_stanza, with_closed, has_interface, take_line, named_router, router_of, ends_router, take_top, take_policy, step_policy, step_router, take_inner, step, steps, ending, network_of_lines, texts_of, network_of_text, IsGiven}
 use Rattle.cfg_given.proofs.Given.{IsAny, any_result, either, then_step, then_said, stands_once}
 use Rattle.cfg_given.proofs.Each.{all_push}
 use Rattle.cfg_given.proofs.Lists.{put_all, changed_all}
 use Rattle.cfg_round_trip.proofs.ShortTexts.{joined, IsShortText, lines_short}
-use Rattle.cfg_round_trip.proofs.ShortNames.{IsShortEntry, IsShortItem, outside_item, inside_item}
-
-abbrev pub IsShortMap : RouteMap → Type 0
-IsShortMap m = AllByRecursion IsShortEntry m.entries
-
-abbrev pub HasShortMaps : Router → Type 0
-HasShortMaps r = AllByRecursion IsShortMap r.route_maps
+use Rattle.cfg_round_trip.specs.ShortMaps.{IsShortEntry, IsShortMap, HasShortMaps}
+use Rattle.cfg_round_trip.proofs.ShortNames.{IsShortItem, outside_item, inside_item}
 
 abbrev IsShortStanza : Stanza → Type 0
 IsShortStanza (in_entry name e) = IsShortEntry e
@@ -53,7 +47,7 @@ maps_step : (name : List ℕ) (e : MapEntry) (maps : List RouteMap) → IsShortE
 maps_step name e maps is all =
     changed_all IsShortMap IsShortMap (is_route_map name) (put_map_entry e) _ maps (λ m short. short) (λ m here short. put_all IsShortEntry (λ (x : MapEntry). nat_lt e.seq x.seq) e m.entries is short) (is, tt) all
 
-closing_step : (st : Stanza) (d : Draft) → AllByRecursion IsShortMap d.route_maps → IsShortStanza st → d.stanza ≡ st → IsShortDraft (closing st d)
+closing_step : (st : Stanza) (d : Draft) → AllByRecursion IsShortMap d.route_maps → IsShortStanza st → d.stanza ≡ st → IsShortDraft (closing_stanza st d)
 closing_step closed d maps is same = (maps, rw same tt)
 closing_step (in_entry name e) d maps is same = (maps_step name e d.route_maps is maps, tt)
 closing_step _ d maps is same = (maps, tt)

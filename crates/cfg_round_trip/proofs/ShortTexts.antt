@@ -7,9 +7,9 @@ use Rattle.std.proofs.lemmas.List.{length-take}
 use Rattle.std.proofs.lemmas.List.Elements.{recursion_from_All}
 use Rattle.cfg_ast.specs.declared.line.Span.{Span}
 use Rattle.cfg_ast.specs.declared.line.Line.{Line}
-use Rattle.cfg_ast.specs.TextLines.{TextLine, text_line}
-use Rattle.cfg_ast.specs.Lines.{Piece, blank_at, first_at, word_end, words_between, line_of, is_kept, kind_at, pieces_from, lines_of, texts}
-use Rattle.cfg_ast.specs.Reading.{texts_of}
+use Rattle.cfg_ast.specs.text.TextLines.{TextLine, text_line}
+use Rattle.cfg_ast.specs.text.Lines.{Piece, blank_at, first_at, word_end, words_between, line_of, is_kept, kind_at, pieces_from, lines_of, texts}
+use Rattle.cfg_ast.specs.text.Reading.{texts_of}
 use Rattle.cfg_ast.proofs.Places.{first_below, first_from, first_fails, first_passes}
 use Rattle.cfg_ast.proofs.WordRuns.{words_blank, words_word, words_end, word_past}
 use Rattle.cfg_ast.proofs.Within.{Lies, pieces_lie, lines_faultless}

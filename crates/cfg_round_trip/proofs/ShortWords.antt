@@ -7,11 +7,12 @@ use Rattle.std.specs.Char.{is_ascii_digit, is_ascii_alphabetic}
 use Rattle.std.proofs.lemmas.Fmt.{length-decimal-le}
 use Rattle.std.proofs.lemmas.Bool.{leb-true, and_parts}
 use Rattle.base_kit.specs.Prefixes.{Prefix}
-use Rattle.cfg_ast.specs.Words.{mask_of, is_name_long, begins_with, is_letter_or_digit, is_router_name, is_interface_name, is_list_name}
-use Rattle.cfg_ast.specs.Printed.{address_text, community_text, prefix_text, act_text, line}
-use Rattle.cfg_ast.specs.WellFormed.{IsBetween, IsNumber, IsListName, IsPrefix, IsInterfaceName}
+use Rattle.cfg_ast.specs.text.Words.{mask_of, is_name_long, begins_with, is_letter_or_digit, is_router_name, is_interface_name, is_list_name}
+use Rattle.cfg_ast.specs.printing.Printed.{address_text, community_text, prefix_text, act_text, line}
+use Rattle.cfg_ast.specs.printing.WellFormed.{IsBetween, IsNumber, IsListName, IsPrefix, IsInterfaceName}
 use Rattle.cfg_round_trip.proofs.ShortTexts.{joined}
-use Rattle.cfg_round_trip.proofs.ShortNames.{IsShortLine, line_length}
+use Rattle.cfg_round_trip.specs.ShortMaps.{IsShortLine}
+use Rattle.cfg_round_trip.proofs.ShortNames.{line_length}
 
 -- the bytes of words, each with a blank
 abbrev pub weight : List (List ℕ) → ℕ

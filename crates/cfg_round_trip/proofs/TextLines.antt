@@ -6,16 +6,16 @@ use Rattle.std.proofs.Math.ListN.{get_or-append, length-drop, length-take}
 use Rattle.std.proofs.Math.Seq.{get_or-drop, get_or-take, drop-drop, get_or-append_seam, take-append_seam, drop-append_seam}
 use Rattle.std.proofs.lemmas.Bool.Decides.{nat_tests}
 use Rattle.std.proofs.lemmas.List.Elements.{All-from_recursion}
-use Rattle.cfg_ast.specs.TextLines.{TextLine, text_line}
+use Rattle.cfg_ast.specs.text.TextLines.{TextLine, text_line}
 use Rattle.cfg_ast.specs.declared.line.Line.{Line}
 use Rattle.cfg_ast.specs.declared.line.Span.{Span}
 use Rattle.cfg_ast.specs.declared.refusal.ReadRefusal.{ReadRefusal}
-use Rattle.cfg_ast.specs.Lines.{first_at, is_plain, blank_at, newline_at, begins_line, newline_from, without_return, Piece, piece_at, pieces_from, words_between, indent_between, odd_from, kind_at, line_faults, unless_refused, lines_in, lines_of, line_of, are_kept, is_kept, text_of, texts}
-use Rattle.cfg_ast.specs.Reading.{texts_of}
-use Rattle.cfg_ast.specs.Printed.{line_text, lines_text}
-use Rattle.cfg_ast.specs.Members.{all_lines_of}
-use Rattle.cfg_ast.specs.Bare.{bare_line}
-use Rattle.cfg_ast.specs.WellFormed.{IsBetween}
+use Rattle.cfg_ast.specs.text.Lines.{first_at, is_plain, blank_at, newline_at, begins_line, newline_from, without_return, Piece, piece_at, pieces_from, words_between, indent_between, odd_from, kind_at, line_faults, unless_refused, lines_in, lines_of, line_of, are_kept, is_kept, text_of, texts}
+use Rattle.cfg_ast.specs.text.Reading.{texts_of}
+use Rattle.cfg_ast.specs.printing.Printed.{line_text, lines_text}
+use Rattle.cfg_ast.specs.text.Members.{all_lines_of}
+use Rattle.cfg_ast.specs.printing.Bare.{bare_line}
+use Rattle.cfg_ast.specs.printing.WellFormed.{IsBetween}
 use Rattle.cfg_ast.proofs.Places.{first_here, first_next, first_end}
 use Rattle.cfg_ast.proofs.Pieces.{pieces_next, pieces_end, begins_next}
 use Rattle.cfg_ast.proofs.SameWords.{same_words}

@@ -2,7 +2,7 @@
 use Rattle.std.proofs.Common.{◌≡◌, List, [], ◌∷◌, map, Option, Some, None, refl, ap}
 use Rattle.std.specs.Option.{option_map}
 use Rattle.cfg_ast.specs.declared.network.Network.{Network}
-use Rattle.cfg_ast.specs.Bare.{bare_named, bare_address, bare_interface, bare_base, bare_net, bare_neighbor, bare_bgp, bare_area, bare_ospf, bare_prefix_entry, bare_prefix_list, bare_community_line, bare_community_list, bare_name_line, bare_prepend, bare_map_entry, bare_route_map, bare_router, bare}
+use Rattle.cfg_ast.specs.printing.Bare.{bare_named, bare_address, bare_interface, bare_base, bare_net, bare_neighbor, bare_bgp, bare_area, bare_ospf, bare_prefix_entry, bare_prefix_list, bare_community_line, bare_community_list, bare_name_line, bare_prepend, bare_map_entry, bare_route_map, bare_router, bare}
 
 abbrev IsDone : {X : Type 0} → (X → X) → Type 0
 IsDone {X} h = (x : X) → h (h x) ≡ h x

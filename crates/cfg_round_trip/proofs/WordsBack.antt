@@ -11,9 +11,9 @@ use Rattle.std.proofs.Math.Seq.{take-append_seam, drop-append-add}
 use Rattle.base_kit.specs.Numbers.{is_digit, value_from, is_numeral, number_up_to, parts_at_points, before_first as before_part, address_of_parts, address_of}
 use Rattle.base_kit.specs.Prefixes.{Prefix}
 use Rattle.base_kit.proofs.Words.{is_plain_digits, a_number}
-use Rattle.cfg_ast.specs.Words.{number_word, number_between, as_number_of, address_word, mask_of, len_of_mask, mask_len_of, bits_behind, cut_to, is_slash, prefix_of, is_colon, community_of}
-use Rattle.cfg_ast.specs.Printed.{address_text, prefix_text, community_text}
-use Rattle.cfg_ast.specs.WellFormed.{IsBetween, IsNumber, IsPrefix}
+use Rattle.cfg_ast.specs.text.Words.{number_word, number_between, as_number_word, address_word, mask_of, len_of_mask, mask_len_of, bits_behind, cut_to, is_slash, prefix_of, is_colon, community_word}
+use Rattle.cfg_ast.specs.printing.Printed.{address_text, prefix_text, community_text}
+use Rattle.cfg_ast.specs.printing.WellFormed.{IsBetween, IsNumber, IsPrefix}
 use Rattle.cfg_given.proofs.Each.{all_weaker, all_pass}
 
 -- ---- numbers
@@ -84,8 +84,8 @@ pub between_back : (low high n : ℕ) → IsNumber n → IsBetween low high n �
 unfolding number_between
 between_back low high n number range = rw (number_back n number, le-leb low n range.0, le-leb n high range.1) refl
 
-pub as_number_back : (n : ℕ) → IsBetween 1 4294967295 n → as_number_of (decimal n) ≡ Some n
-unfolding as_number_of
+pub as_number_back : (n : ℕ) → IsBetween 1 4294967295 n → as_number_word (decimal n) ≡ Some n
+unfolding as_number_word
 as_number_back n range = between_back 1 4294967295 n range.1 range
 
 -- ---- addresses
@@ -232,8 +232,8 @@ has_colon (x ∷ xs) ys = rw (has_colon xs ys) (or_true (is_colon x))
     or_true true = refl
     or_true false = refl
 
-pub community_back : (c : ℕ) → IsBetween 1 4294901759 c → community_of (community_text c) ≡ Some c
-unfolding community_of community_text
+pub community_back : (c : ℕ) → IsBetween 1 4294901759 c → community_word (community_text c) ≡ Some c
+unfolding community_word community_text
 community_back c range =
     let high = c / 65536 in
     let low = c % 65536 in

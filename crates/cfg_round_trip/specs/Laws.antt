@@ -3,12 +3,13 @@ use Rattle.std.specs.Prelude.{◌≡◌, ◌≤◌, ◌==◌, List, length, map,
 use Rattle.std.specs.List.{AllByRecursion}
 use Rattle.cfg_ast.specs.declared.network.Network.{Network}
 use Rattle.cfg_ast.specs.declared.network.Notes.{Notes}
-use Rattle.cfg_ast.specs.TextLines.{TextLine}
-use Rattle.cfg_ast.specs.Reading.{network_of_lines, network_of_text, IsGiven}
-use Rattle.cfg_ast.specs.Printed.{line_text, printed_lines, printed}
-use Rattle.cfg_ast.specs.Bare.{bare, bare_line}
-use Rattle.cfg_ast.specs.WellFormed.{IsWellFormed}
+use Rattle.cfg_ast.specs.text.TextLines.{TextLine}
+use Rattle.cfg_ast.specs.text.Reading.{network_of_lines, network_of_text, IsGiven}
+use Rattle.cfg_ast.specs.printing.Printed.{line_text, printed_lines, printed}
+use Rattle.cfg_ast.specs.printing.Bare.{bare, bare_line}
+use Rattle.cfg_ast.specs.printing.WellFormed.{IsWellFormed}
 use Rattle.cfg_round_trip.specs.Notes.{AreNotes}
+use Rattle.cfg_round_trip.specs.ShortMaps.{HasShortMaps}
 
 -- Lines that are the same but for their numbers give networks that are.
 abbrev pub NumbersAreAside : Type 0
@@ -32,6 +33,10 @@ pub record IsReadBack (network : Network) (notes : Notes) : Type 0 where
 -- is read.
 abbrev pub PrintedIsReadBack : Type 0
 PrintedIsReadBack = (network : Network) (notes : Notes) → IsWellFormed network → AreNotes network notes → HasFewLines network notes → HasShortLines network notes → IsReadBack network notes
+
+-- The lines that are printed of a well-formed network are short if the match lines of its route maps are.
+abbrev pub ShortNamesGiveShortLines : Type 0
+ShortNamesGiveShortLines = (network : Network) (notes : Notes) → IsWellFormed network → AllByRecursion HasShortMaps network.routers → AreNotes network notes → HasShortLines network notes
 
 -- The lines that are printed of a network that some text gives are short.
 abbrev pub GivenLinesAreShort : Type 0

@@ -1,3 +1,4 @@
 pub mod Laws
 pub mod MemberLaws
 pub mod Notes
+pub mod ShortMaps

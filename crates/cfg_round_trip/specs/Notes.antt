@@ -3,7 +3,7 @@ use Rattle.std.specs.Prelude.{◌≡◌, List, ℕ, true, length}
 use Rattle.std.specs.List.{AllByRecursion}
 use Rattle.cfg_ast.specs.declared.network.Network.{Network}
 use Rattle.cfg_ast.specs.declared.network.Notes.{Notes}
-use Rattle.cfg_ast.specs.Words.{is_router_name}
+use Rattle.cfg_ast.specs.text.Words.{is_router_name}
 
 abbrev pub IsRouterName : List ℕ → Type 0
 IsRouterName name = is_router_name name ≡ true

@@ -6,7 +6,7 @@
 
 mod members;
 
-ghost use Rattle.cfg_round_trip.specs.Laws.{GivenIsReadBack, GivenLinesAreShort, NumbersAreAside, PrintedIsReadBack};
+ghost use Rattle.cfg_round_trip.specs.Laws.{GivenIsReadBack, GivenLinesAreShort, NumbersAreAside, PrintedIsReadBack, ShortNamesGiveShortLines};
 
 pub use members::members_are_read_back;
 
@@ -20,6 +20,12 @@ pub fn numbers_are_aside()
 /// has at most 1,000,000 lines and each at most 1,024 bytes.
 pub fn printed_is_read_back()
     ensures { PrintedIsReadBack }
+{}
+
+/// The lines that are printed of a well-formed network have at most 1,024 bytes, where the lines of its
+/// route maps that match names have no more.
+pub fn short_names_give_short_lines()
+    ensures { ShortNamesGiveShortLines }
 {}
 
 /// The lines that are printed of a network that a text gives, as of a checked one, have at most 1,024
