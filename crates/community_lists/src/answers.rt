@@ -1,7 +1,7 @@
 ghost use Rattle.std.specs.Prelude.{◌≡◌, ◌∷◌, []};
 ghost use Rattle.std.specs.List.{list_all};
 ghost use Rattle.base_kit.specs.Sets.{has};
-ghost use Rattle.cfg_ast.specs.Lists.{line_holds, line_is, community_list_permits, community_list_permits_exactly};
+ghost use Rattle.cfg_ast.specs.meaning.Lists.{line_holds, line_is, community_list_permits, community_list_permits_exactly};
 
 use base_kit::NumSet;
 use cfg_ast::{CommunityLine, CommunityList};

@@ -1,5 +1,5 @@
 use Rattle.std.proofs.Common.{◌≡◌, drop}
-use Rattle.cfg_ast.specs.Lists.{line_holds, first_line_decides}
+use Rattle.cfg_ast.specs.meaning.Lists.{line_holds, first_line_decides}
 use Rattle.community_lists.proofs.answers.permits.Given as goal
 
 abbrev pub invariant-loop-line : goal.invariant-loop-line

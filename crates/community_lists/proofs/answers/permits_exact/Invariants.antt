@@ -1,5 +1,5 @@
 use Rattle.std.proofs.Common.{◌≡◌, drop}
-use Rattle.cfg_ast.specs.Lists.{line_is, first_line_decides}
+use Rattle.cfg_ast.specs.meaning.Lists.{line_is, first_line_decides}
 use Rattle.community_lists.proofs.answers.permits_exact.Given as goal
 
 abbrev pub invariant-loop-line : goal.invariant-loop-line
