@@ -4,7 +4,7 @@ use Rattle.std.specs.Prelude.{ℕ, Bool, true, List, [], ◌∷◌, Option, Some
 use Rattle.std.specs.List.{list_any}
 use Rattle.std.specs.Option.{unwrap_or}
 use Rattle.cfg_ast.specs.declared.policy.CommunityList.{CommunityList}
-use Rattle.cfg_ast.specs.Policy.{list_answer, without_deleted_by, after_change}
+use Rattle.cfg_ast.specs.meaning.Policy.{list_answer, without_deleted_by, after_change}
 use Rattle.route_maps.specs.declared.plain.PlainEntry.{PlainEntry}
 use Rattle.route_maps.specs.declared.plain.Plain.{Plain}
 use Rattle.route_maps.specs.declared.plain.Imported.{Imported}

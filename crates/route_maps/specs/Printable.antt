@@ -3,7 +3,7 @@
 use Rattle.std.specs.Prelude.{◌≡◌, ℕ, ◌≤◌, List, IfSome, length, map}
 use Rattle.std.specs.List.{AllByRecursion}
 use Rattle.base_kit.specs.Sets.{IsAscending}
-use Rattle.cfg_ast.specs.WellFormed.{IsBetween, IsWellFormedCommunityLine, IsWellFormedChange}
+use Rattle.cfg_ast.specs.printing.WellFormed.{IsBetween, IsNumber, IsWellFormedCommunityLine, IsWellFormedChange}
 use Rattle.cfg_ast.specs.declared.policy.CommunityLine.{CommunityLine}
 use Rattle.cfg_ast.specs.declared.policy.CommunityList.{CommunityList}
 use Rattle.route_maps.specs.declared.plain.Plain.{Plain}
@@ -30,6 +30,7 @@ pub record ArePrintableLists (lists : List CommunityList) : Type 0 where
 pub record IsPrintableEntry (entry : PlainEntry) : Type 0 where
   pub seq : entry.seq ≤ 65535
   pub lists : IfSome entry.lists ArePrintableLists
+  pub lp : IfSome entry.lp IsNumber
   pub change : IfSome entry.change IsWellFormedChange
   pub delete : IfSome entry.delete IsPrintableDeletion
   pub adds : entry.adds ≤ 10

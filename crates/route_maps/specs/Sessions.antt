@@ -3,7 +3,7 @@ use Rattle.std.specs.Prelude.{ℕ, List, Option, option_map}
 use Rattle.base_kit.specs.Prefixes.{Prefix}
 use Rattle.cfg_ast.specs.declared.bgp.Neighbor.{Neighbor}
 use Rattle.cfg_ast.specs.declared.network.Router.{Router}
-use Rattle.cfg_ast.specs.Policy.{Received, import_of_session}
+use Rattle.cfg_ast.specs.meaning.Policy.{Received, import_of_session}
 use Rattle.route_maps.specs.declared.plain.Imported.{Imported}
 
 abbrev pub imported_as : Received → Imported

@@ -1,4 +1,4 @@
-use crate::{Plain, PlainEntry, Verdict, apply, import};
+use crate::{Plain, PlainEntry, Verdict, apply, import, map_copy, same_map};
 use base_kit::{List, NoMemory, NumSet, Text};
 use cfg_ast::{Change, CommunityLine, CommunityList};
 use std::alloc::Global;
@@ -118,5 +118,26 @@ fn deletion_comes_before_the_change(rt: HostRuntime) -> Result<(), NoMemory> {
         }
         Verdict::Deny => assert!(rt; false, "denied"),
     }
+    Ok(())
+}
+
+#[test]
+fn maps_are_the_same_but_for_names(rt: HostRuntime) -> Result<(), NoMemory> {
+    let alloc = rt.alloc();
+    let map = preferring(alloc)?;
+    assert!(rt; same_map(&map, &map_copy(alloc, &map)?));
+    let mut lists = List::new(alloc);
+    lists.push(CommunityList {
+        name: Text::copy_of(alloc, "other")?,
+        ..permitting(alloc, ONE_ONE)?
+    })?;
+    let renamed = PlainEntry {
+        lists: Some(lists),
+        lp: Some(200),
+        change: Some(Change::Append(set_of(alloc, &[TWO_TWO])?)),
+        ..empty_entry()
+    };
+    assert!(rt; same_map(&map, &map_of(alloc, renamed)?));
+    assert!(rt; !same_map(&map, &map_of(alloc, empty_entry())?));
     Ok(())
 }

@@ -1,8 +1,8 @@
 ghost use Rattle.std.specs.Prelude.{◌≡◌, ◌∷◌, [], IfOk, if◌then◌else◌, not, filter};
 ghost use Rattle.std.specs.List.{list_any};
 ghost use Rattle.base_kit.specs.Sets.{with_numbers};
-ghost use Rattle.cfg_ast.specs.Lists.{community_list_permits};
-ghost use Rattle.cfg_ast.specs.Policy.{list_answer, without_deleted_by, after_change};
+ghost use Rattle.cfg_ast.specs.meaning.Lists.{community_list_permits};
+ghost use Rattle.cfg_ast.specs.meaning.Policy.{list_answer, without_deleted_by, after_change};
 ghost use Rattle.route_maps.specs.Maps.{entry_holds, comms_after, entry_verdict, verdict};
 
 use crate::plain::{Plain, PlainEntry, Verdict};

@@ -1,5 +1,5 @@
 use Rattle.std.proofs.Common.{rules, ◌≡◌, ◌∷◌, [], not, filter}
-use Rattle.cfg_ast.specs.Lists.{community_list_permits}
+use Rattle.cfg_ast.specs.meaning.Lists.{community_list_permits}
 use Rattle.base_kit.proofs.SetFacts.{ascending_filter}
 use Rattle.route_maps.proofs.verdict.not_permitted.Goals as goal
 
