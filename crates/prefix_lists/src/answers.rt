@@ -1,5 +1,5 @@
 ghost use Rattle.std.specs.Prelude.{◌≡◌, ◌≤◌};
-ghost use Rattle.cfg_ast.specs.PrefixLists.{leading_bits, length_fits, prefix_entry_holds, prefix_list_permits};
+ghost use Rattle.cfg_ast.specs.meaning.PrefixLists.{leading_bits, length_fits, prefix_entry_holds, prefix_list_permits};
 
 use base_kit::Prefix;
 use cfg_ast::{PrefixEntry, PrefixList};

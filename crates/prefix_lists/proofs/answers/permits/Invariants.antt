@@ -1,5 +1,5 @@
 use Rattle.std.proofs.Common.{◌≡◌, drop}
-use Rattle.cfg_ast.specs.PrefixLists.{first_entry_decides}
+use Rattle.cfg_ast.specs.meaning.PrefixLists.{first_entry_decides}
 use Rattle.prefix_lists.proofs.answers.permits.Given as goal
 
 abbrev pub invariant-loop-entry : goal.invariant-loop-entry
