@@ -10,7 +10,7 @@ use Rattle.std.proofs.lemmas.List.{take-take, take_min, drop-take, take_all, tak
 use Rattle.std.proofs.lemmas.List.Folds.{list_any-append}
 use Rattle.std.proofs.lemmas.Grind.{get_or_default_zero}
 use Rattle.cfg_ast.specs.declared.ospf.AreaLine.{AreaLine}
-use Rattle.cfg_ast.specs.Topology.{line_has_address}
+use Rattle.cfg_ast.specs.meaning.Topology.{line_has_address}
 use Rattle.cfg_check.specs.AreaTables.{digit_at, agrees_at, agrees_in, agrees_below, with_bit, bits_after, bits_of, AddsRow, HasRows}
 
 -- Both of two tests.

@@ -3,7 +3,7 @@ use Rattle.std.proofs.Common.{◌≡◌, ℕ, Bool, true, false, cond, not, List
 use Rattle.std.specs.Prelude.{bytes_eq}
 use Rattle.std.specs.List.{list_any}
 use Rattle.cfg_ast.specs.declared.ospf.OspfProcess.{OspfProcess}
-use Rattle.cfg_ast.specs.Topology.{names, is_passive_in}
+use Rattle.cfg_ast.specs.meaning.Topology.{names, is_passive_in}
 use Rattle.cfg_check.specs.AreaLines.{listed_of}
 use Rattle.cfg_check.proofs.BlockLemmas.{any_same}
 use Rattle.cfg_check.proofs.Seen.{bytes_eq-sym}

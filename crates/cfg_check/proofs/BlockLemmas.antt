@@ -4,8 +4,8 @@ use Rattle.std.specs.List.{list_any, range_with_len}
 use Rattle.std.specs.HashSet.{contains, Updates}
 use Rattle.std.proofs.lemmas.Bool.{cases_eq, cases_order}
 use Rattle.std.proofs.lemmas.Bool.Decides.{nat_tests}
-use Rattle.cfg_ast.specs.Addresses.{Address}
-use Rattle.cfg_ast.specs.RouterFaults.{overlap}
+use Rattle.cfg_ast.specs.meaning.Addresses.{Address}
+use Rattle.cfg_ast.specs.meaning.RouterFaults.{overlap}
 use Rattle.cfg_check.specs.declared.overlaps.Blocks.{Blocks}
 use Rattle.cfg_check.specs.Blocks.{block_of, is_block, is_around, is_under, same_pair, Pairs, meets, AddsAround, AddsSubnet, IsKept}
 use Rattle.cfg_check.proofs.Seen.{any_more, same_either_way}

@@ -1,19 +1,19 @@
--- A network without faults has none of any kind, and so it has few routers.
+-- A network without faults has none of any kind, and so it has few routers. Public: crates above may cite it.
 use Rattle.std.proofs.Common.{◌≡◌, ℕ, zero, suc, ◌≤◌, List, [], ◌∷◌, ◌++◌, length, map, slice_get, refl, arith}
 use Rattle.std.specs.Option.{option_to_list}
 use Rattle.cfg_ast.specs.declared.network.Network.{Network}
 use Rattle.cfg_ast.specs.declared.refusal.Kind.{Kind}
 use Rattle.cfg_ast.specs.declared.refusal.Kind.TheVariants as kind
 use Rattle.cfg_ast.specs.declared.refusal.Fault.{Fault}
-use Rattle.cfg_ast.specs.Meaning.{meaning_faults, faults_at}
-use Rattle.cfg_ast.specs.PolicyFaults.{undefined_map_lines, undefined_list_lines, delete_list_lines, too_many_communities_lines, prepend_form_lines, prepend_in_lines}
-use Rattle.cfg_ast.specs.RouterFaults.{router_line, first_beyond, shared_name_lines, shared_as_lines, internal_peer_lines, mixed_protocol_lines, other_area_lines, shared_address_lines, overlapping_lines, loopback_mask_lines, no_cost_lines, too_many_routers_lines, too_many_neighbors_lines, too_many_links_lines}
+use Rattle.cfg_ast.specs.meaning.Meaning.{meaning_faults, faults_at}
+use Rattle.cfg_ast.specs.meaning.PolicyFaults.{undefined_map_lines, undefined_list_lines, delete_list_lines, too_many_communities_lines, prepend_form_lines, prepend_in_lines}
+use Rattle.cfg_ast.specs.meaning.RouterFaults.{router_line, first_beyond, shared_name_lines, shared_as_lines, internal_peer_lines, mixed_protocol_lines, other_area_lines, shared_address_lines, overlapping_lines, loopback_mask_lines, no_cost_lines, too_many_routers_lines, too_many_neighbors_lines, too_many_links_lines}
 use Rattle.cfg_check.specs.Faultless.{IsFaultless}
 
 not_nil : {X : Type 0} (x : X) (xs : List X) → x ∷ xs ≡ [] → ⊥
 not_nil x xs e = cc
 
-map_nil : {X Y : Type 0} (f : X → Y) (xs : List X) → map f xs ≡ [] → xs ≡ []
+pub map_nil : {X Y : Type 0} (f : X → Y) (xs : List X) → map f xs ≡ [] → xs ≡ []
 map_nil f [] none = refl
 map_nil f (x ∷ xs) none = absurd (not_nil (f x) (map f xs) none)
 
@@ -82,7 +82,7 @@ faultless_of n none =
       prepend_in = c18.1;
     }
 
-none_beyond : {X : Type 0} (xs : List X) (k : ℕ) → option_to_list (slice_get xs k) ≡ [] → length xs ≤ k
+pub none_beyond : {X : Type 0} (xs : List X) (k : ℕ) → option_to_list (slice_get xs k) ≡ [] → length xs ≤ k
 none_beyond [] k none = omega arith
 none_beyond (x ∷ xs) zero none = absurd (not_nil x [] none)
 none_beyond (x ∷ xs) (suc k) none = let shorter : length xs ≤ k = none_beyond xs k none in omega arith

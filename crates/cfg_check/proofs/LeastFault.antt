@@ -3,7 +3,7 @@ use Rattle.std.proofs.Common.{◌≡◌, ℕ, Bool, true, false, cond, ◌&&◌,
 use Rattle.std.proofs.lemmas.Bool.Decides.{nat_tests}
 use Rattle.cfg_ast.specs.declared.refusal.Kind.{Kind}
 use Rattle.cfg_ast.specs.declared.refusal.Fault.{Fault}
-use Rattle.cfg_ast.specs.Meaning.{number_of_kind, faults_at, is_before_fault, lesser_fault, least_fault}
+use Rattle.cfg_ast.specs.meaning.Meaning.{number_of_kind, faults_at, is_before_fault, lesser_fault, least_fault}
 use Rattle.cfg_check.specs.LeastLine.{lesser_line, least_line, fault_at}
 
 pub lesser_fault_none : (o : Option Fault) → lesser_fault o None ≡ o

@@ -1,9 +1,11 @@
+pub mod Accepted
 pub mod AreaBits
 pub mod AreaLookups
 pub mod BlockLemmas
 pub mod CommunityCounts
 pub mod Counted
 pub mod Faultless
+pub mod FewCommunities
 pub mod FirstFound
 pub mod LeastFault
 pub mod LeastOfList

@@ -6,8 +6,8 @@ use Rattle.cfg_ast.specs.declared.network.Router.{Router}
 use Rattle.cfg_ast.specs.declared.policy.CommunityList.{CommunityList}
 use Rattle.cfg_ast.specs.declared.policy.NameLine.{NameLine}
 use Rattle.cfg_ast.specs.declared.policy.Prepend.{Prepend}
-use Rattle.cfg_ast.specs.Topology.{has_number}
-use Rattle.cfg_ast.specs.PolicyFaults.{line_naming, match_line_naming, several_at, several_in, foreign_prepend}
+use Rattle.cfg_ast.specs.meaning.Topology.{has_number}
+use Rattle.cfg_ast.specs.meaning.PolicyFaults.{line_naming, match_line_naming, several_at, several_in, foreign_prepend}
 use Rattle.cfg_check.specs.LeastLine.{least_line}
 use Rattle.cfg_check.specs.NameSets.{Names, has_name}
 

@@ -3,7 +3,7 @@ use Rattle.std.proofs.Common.{◌≡◌, ◌<◌, ℕ, ◌+◌, Bool, true, fals
 use Rattle.std.specs.Option.{option_map}
 use Rattle.std.specs.List.{list_any, cons_option}
 use Rattle.std.proofs.lemmas.List.{take_more, map-append}
-use Rattle.cfg_ast.specs.RouterFaults.{repeats, repeats_after}
+use Rattle.cfg_ast.specs.meaning.RouterFaults.{repeats, repeats_after}
 use Rattle.cfg_check.specs.LeastLine.{lesser_line, least_line, line_if}
 use Rattle.cfg_check.proofs.LeastOfList.{least_line-append}
 

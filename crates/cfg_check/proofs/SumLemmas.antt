@@ -8,9 +8,9 @@ use Rattle.std.proofs.lemmas.Bool.Decides.{nat_tests}
 use Rattle.std.proofs.lemmas.List.{take_more, drop_more}
 use Rattle.std.proofs.lemmas.List.Elements.{filter-append}
 use Rattle.std.proofs.lemmas.Grind.{flat_map-append}
-use Rattle.cfg_ast.specs.Addresses.{Address}
+use Rattle.cfg_ast.specs.meaning.Addresses.{Address}
 use Rattle.cfg_ast.specs.declared.network.Router.{Router}
-use Rattle.cfg_ast.specs.RouterFaults.{Added, active_addresses_of, added_by, added_after, exceeding}
+use Rattle.cfg_ast.specs.meaning.RouterFaults.{Added, active_addresses_of, added_by, added_after, exceeding}
 use Rattle.cfg_check.specs.Blocks.{same_pair}
 use Rattle.cfg_check.proofs.Seen.{same_either_way}
 use Rattle.cfg_check.specs.Pairs.{Seen, bucket, in_subnet, subnet_pair, counted, sum_or_line, PushesAt, AddsAll, IsCounted}

@@ -5,7 +5,7 @@ use Rattle.std.specs.declared.hash.FoldHasher.{FoldHasher}
 use Rattle.std.specs.declared.hash.BuildHasherDefault.{BuildHasherDefault}
 use Rattle.base_kit.specs.Sets.{IsAscending, has, with_number}
 use Rattle.cfg_ast.specs.declared.policy.Mention.{Mention}
-use Rattle.cfg_ast.specs.PolicyFaults.{communities_in, mentions_before, mentions_up_to}
+use Rattle.cfg_ast.specs.meaning.PolicyFaults.{communities_in, mentions_before, mentions_up_to}
 
 -- how many communities stand before a line
 abbrev pub count_before : List Mention → ℕ → ℕ

@@ -5,9 +5,9 @@ use Rattle.std.specs.HashMap.{HashMap, get}
 use Rattle.std.specs.declared.alloc.Global.{Global}
 use Rattle.std.specs.declared.hash.FoldHasher.{FoldHasher}
 use Rattle.std.specs.declared.hash.BuildHasherDefault.{BuildHasherDefault}
-use Rattle.cfg_ast.specs.Addresses.{Address}
-use Rattle.cfg_ast.specs.Topology.{first_address}
-use Rattle.cfg_ast.specs.RouterFaults.{Added}
+use Rattle.cfg_ast.specs.meaning.Addresses.{Address}
+use Rattle.cfg_ast.specs.meaning.Topology.{first_address}
+use Rattle.cfg_ast.specs.meaning.RouterFaults.{Added}
 use Rattle.cfg_check.specs.Blocks.{same_pair}
 
 abbrev pub Seen : Type 0

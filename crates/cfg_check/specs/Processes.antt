@@ -5,7 +5,7 @@ use Rattle.base_kit.specs.declared.protocol.Protocol.{Protocol}
 use Rattle.cfg_ast.specs.declared.bgp.BgpProcess.{BgpProcess}
 use Rattle.cfg_ast.specs.declared.network.Router.{Router}
 use Rattle.cfg_ast.specs.declared.ospf.AreaLine.{AreaLine}
-use Rattle.cfg_ast.specs.RouterFaults.{ProtocolLine, is_same_protocol}
+use Rattle.cfg_ast.specs.meaning.RouterFaults.{ProtocolLine, is_same_protocol}
 use Rattle.cfg_check.specs.declared.processes.Numbered.{Numbered}
 
 -- the number and the line of a process

@@ -1,7 +1,7 @@
 ghost use Rattle.std.specs.Prelude.{◌≡◌, IfOk, bytes_eq};
 ghost use Rattle.std.specs.List.{list_any};
-ghost use Rattle.cfg_ast.specs.Topology.{is_in_area_interface, is_active_interface, is_passive_in};
-ghost use Rattle.cfg_ast.specs.RouterFaults.{areas_of};
+ghost use Rattle.cfg_ast.specs.meaning.Topology.{is_in_area_interface, is_active_interface, is_passive_in};
+ghost use Rattle.cfg_ast.specs.meaning.RouterFaults.{areas_of};
 ghost use Rattle.cfg_check.specs.NameSets.{HasNames};
 ghost use Rattle.cfg_check.specs.AreaLines.{listed_of};
 

@@ -2,7 +2,7 @@ ghost use Rattle.std.specs.Prelude.{◌≡◌, ◌≤◌, ◌<◌, ◌+◌, ◌*
 ghost use Rattle.std.specs.Fork.{slice_chunk};
 ghost use Rattle.std.specs.List.{list_any};
 ghost use Rattle.cfg_ast.specs.declared.ospf.AreaLine.{AreaLine};
-ghost use Rattle.cfg_ast.specs.Topology.{line_has_address};
+ghost use Rattle.cfg_ast.specs.meaning.Topology.{line_has_address};
 ghost use Rattle.cfg_check.specs.AreaTables.{digit_at, agrees_at, agrees_in, agrees_below, bits_after, bits_of, AddsRow, HasRows};
 
 use base_kit::NoMemory;

@@ -1,7 +1,7 @@
 ghost use Rattle.std.specs.Prelude.{◌≡◌, IfOk, IfErr, Ok};
-ghost use Rattle.cfg_ast.specs.Answers.{RefusesAs};
-ghost use Rattle.cfg_ast.specs.Meaning.{meaning_faults, least_fault, judged};
-ghost use Rattle.cfg_ast.specs.Reading.{IsGiven};
+ghost use Rattle.cfg_ast.specs.text.Answers.{RefusesAs};
+ghost use Rattle.cfg_ast.specs.meaning.Meaning.{meaning_faults, least_fault, judged};
+ghost use Rattle.cfg_ast.specs.text.Reading.{IsGiven};
 
 use crate::addresses::shared_address;
 use crate::area::area_faults;

@@ -1,7 +1,7 @@
 ghost use Rattle.std.specs.Prelude.{◌≡◌, ◌≤◌, length};
-ghost use Rattle.cfg_ast.specs.PolicyFaults.{communities_of};
-ghost use Rattle.cfg_ast.specs.RouterFaults.{protocol_of, area_of};
-ghost use Rattle.cfg_ast.specs.Reading.{IsGiven};
+ghost use Rattle.cfg_ast.specs.meaning.PolicyFaults.{communities_of};
+ghost use Rattle.cfg_ast.specs.meaning.RouterFaults.{protocol_of, area_of};
+ghost use Rattle.cfg_ast.specs.text.Reading.{IsGiven};
 ghost use Rattle.cfg_check.specs.Faultless.{IsFaultless};
 
 use crate::processes::{first_area, first_protocol};

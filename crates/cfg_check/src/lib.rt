@@ -16,6 +16,7 @@ mod checked;
 mod communities;
 mod deletions;
 mod gather;
+pub mod laws;
 mod least;
 mod limits;
 mod name_sets;

@@ -1,6 +1,6 @@
 ghost use Rattle.std.specs.Prelude.{◌≡◌, ◌||◌, ◌&&◌, IfOk, OnOk, bytes_eq};
 ghost use Rattle.std.specs.List.{list_any};
-ghost use Rattle.cfg_ast.specs.PolicyFaults.{is_name, is_deleted_in, prepends_in_map};
+ghost use Rattle.cfg_ast.specs.meaning.PolicyFaults.{is_name, is_deleted_in, prepends_in_map};
 ghost use Rattle.cfg_ast.specs.declared.policy.CommunityList.{CommunityList};
 ghost use Rattle.cfg_ast.specs.declared.policy.MapEntry.{MapEntry};
 ghost use Rattle.cfg_ast.specs.declared.policy.PrefixList.{PrefixList};

@@ -1,5 +1,5 @@
 ghost use Rattle.std.specs.Prelude.{◌≡◌, IfOk, map};
-ghost use Rattle.cfg_ast.specs.RouterFaults.{router_line, repeats, same_name};
+ghost use Rattle.cfg_ast.specs.meaning.RouterFaults.{router_line, repeats, same_name};
 ghost use Rattle.cfg_check.specs.LeastLine.{least_line};
 
 use crate::least::with_line_if;

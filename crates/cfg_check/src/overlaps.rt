@@ -1,5 +1,5 @@
 ghost use Rattle.std.specs.Prelude.{◌≡◌, ◌≤◌, IfOk, OnOk, map, flat_map};
-ghost use Rattle.cfg_ast.specs.RouterFaults.{address_line, repeats, overlap, overlapping_in};
+ghost use Rattle.cfg_ast.specs.meaning.RouterFaults.{address_line, repeats, overlap, overlapping_in};
 ghost use Rattle.cfg_check.specs.LeastLine.{least_line};
 ghost use Rattle.cfg_check.specs.Blocks.{block_of, lies_in_one, meets, AddsAround, AddsSubnet};
 

@@ -1,5 +1,5 @@
 ghost use Rattle.std.specs.Prelude.{◌≡◌, ◌≤◌, IfOk, OnOk, map, filter_map, length, []};
-ghost use Rattle.cfg_ast.specs.RouterFaults.{active_address_on, active_addresses_of, added_after, exceeding};
+ghost use Rattle.cfg_ast.specs.meaning.RouterFaults.{active_address_on, active_addresses_of, added_after, exceeding};
 ghost use Rattle.cfg_check.specs.LeastLine.{least_line};
 ghost use Rattle.cfg_check.specs.Pairs.{subnet_pair, bucket, counted, sum_or_line, PushesAt, AddsAll};
 

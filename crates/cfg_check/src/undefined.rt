@@ -1,6 +1,6 @@
 ghost use Rattle.std.specs.Prelude.{◌≡◌, ◌++◌, IfOk, flat_map};
 ghost use Rattle.std.specs.List.{list_any};
-ghost use Rattle.cfg_ast.specs.PolicyFaults.{line_naming, match_line_naming, map_lines_naming, list_lines_naming, entry_lines_naming, lines_in_map_naming, undefined_maps_of, undefined_lists_of};
+ghost use Rattle.cfg_ast.specs.meaning.PolicyFaults.{line_naming, match_line_naming, map_lines_naming, list_lines_naming, entry_lines_naming, lines_in_map_naming, undefined_maps_of, undefined_lists_of};
 ghost use Rattle.cfg_check.specs.LeastLine.{least_line};
 ghost use Rattle.cfg_check.specs.NameSets.{lacks_name};
 

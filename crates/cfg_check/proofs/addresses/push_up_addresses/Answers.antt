@@ -1,4 +1,4 @@
-use Rattle.cfg_ast.specs.Topology.{up_address}
+use Rattle.cfg_ast.specs.meaning.Topology.{up_address}
 use Rattle.cfg_check.proofs.Turns.{picked_onto}
 use Rattle.cfg_check.proofs.addresses.push_up_addresses.Goals as goal
 

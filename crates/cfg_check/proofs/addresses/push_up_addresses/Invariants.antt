@@ -1,5 +1,5 @@
 use Rattle.std.proofs.Common.{◌≡◌, ◌++◌, take, filter_map}
-use Rattle.cfg_ast.specs.Topology.{up_address}
+use Rattle.cfg_ast.specs.meaning.Topology.{up_address}
 use Rattle.cfg_check.proofs.addresses.push_up_addresses.Given as goal
 
 abbrev pub invariant-loop-interface : goal.invariant-loop-interface

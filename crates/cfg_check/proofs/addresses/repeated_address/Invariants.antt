@@ -1,7 +1,7 @@
 use Rattle.std.proofs.Common.{◌≡◌, take, map, ℕ, nat_eq}
-use Rattle.cfg_ast.specs.RouterFaults.{address_line, repeats, same_address}
+use Rattle.cfg_ast.specs.meaning.RouterFaults.{address_line, repeats, same_address}
 use Rattle.cfg_check.specs.LeastLine.{least_line}
-use Rattle.cfg_ast.specs.Addresses.{Address}
+use Rattle.cfg_ast.specs.meaning.Addresses.{Address}
 use Rattle.std.specs.List.{list_any}
 use Rattle.std.specs.HashSet as bag
 use Rattle.cfg_check.proofs.addresses.repeated_address.Given as goal

@@ -1,7 +1,7 @@
 use Rattle.std.proofs.Common.{List, filter_map, ap}
 use Rattle.cfg_ast.specs.declared.interface.Interface.{Interface}
-use Rattle.cfg_ast.specs.Topology.{up_address}
-use Rattle.cfg_ast.specs.RouterFaults.{up_addresses_of}
+use Rattle.cfg_ast.specs.meaning.Topology.{up_address}
+use Rattle.cfg_ast.specs.meaning.RouterFaults.{up_addresses_of}
 use Rattle.cfg_check.proofs.Turns.{flat_more}
 use Rattle.cfg_check.proofs.addresses.up_addresses.Goals as goal
 

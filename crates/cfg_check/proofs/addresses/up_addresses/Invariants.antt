@@ -1,5 +1,5 @@
 use Rattle.std.proofs.Common.{◌≡◌, take, flat_map}
-use Rattle.cfg_ast.specs.RouterFaults.{up_addresses_of}
+use Rattle.cfg_ast.specs.meaning.RouterFaults.{up_addresses_of}
 use Rattle.cfg_check.proofs.addresses.up_addresses.Given as goal
 
 abbrev pub invariant-loop-router : goal.invariant-loop-router

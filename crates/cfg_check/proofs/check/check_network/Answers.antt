@@ -1,7 +1,7 @@
 use Rattle.std.proofs.Common.{List, flat_map, sym, ap, ◌∙◌}
 use Rattle.cfg_ast.specs.declared.network.Router.{Router}
-use Rattle.cfg_ast.specs.PolicyFaults.{communities_of, communities_in, mentions_of}
-use Rattle.cfg_ast.specs.Meaning.{meaning_faults, refused_by, judged}
+use Rattle.cfg_ast.specs.meaning.PolicyFaults.{communities_of, communities_in, mentions_of}
+use Rattle.cfg_ast.specs.meaning.Meaning.{meaning_faults, refused_by, judged}
 use Rattle.cfg_check.proofs.Faultless.{faultless_of}
 use Rattle.cfg_check.proofs.LeastFault.{none_least}
 use Rattle.cfg_check.proofs.check.check_network.Goals as goal

@@ -1,5 +1,5 @@
 use Rattle.std.proofs.Common.{refl}
-use Rattle.cfg_ast.specs.PolicyFaults.{mentions_of}
+use Rattle.cfg_ast.specs.meaning.PolicyFaults.{mentions_of}
 use Rattle.cfg_check.proofs.Turns.{flat_more}
 use Rattle.cfg_check.proofs.communities.all_mentions.Goals as goal
 

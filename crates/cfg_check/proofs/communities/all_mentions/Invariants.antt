@@ -1,5 +1,5 @@
 use Rattle.std.proofs.Common.{◌≡◌, take, flat_map}
-use Rattle.cfg_ast.specs.PolicyFaults.{mentions_of}
+use Rattle.cfg_ast.specs.meaning.PolicyFaults.{mentions_of}
 use Rattle.cfg_check.proofs.communities.all_mentions.Given as goal
 
 abbrev pub invariant-loop-router : goal.invariant-loop-router

@@ -2,7 +2,7 @@ use Rattle.std.proofs.Common.{◌≡◌, ℕ, List, cond, get_or, take, not, sym
 use Rattle.base_kit.specs.Sets.{has, with_number}
 use Rattle.cfg_ast.specs.declared.policy.Mention.{Mention}
 use Rattle.std.proofs.lemmas.List.{get_or_default}
-use Rattle.cfg_ast.specs.PolicyFaults.{communities_in}
+use Rattle.cfg_ast.specs.meaning.PolicyFaults.{communities_in}
 use Rattle.cfg_check.proofs.CommunityCounts.{ascending_communities, has_communities, added_if_new, communities_turn}
 use Rattle.cfg_check.proofs.Seen.{number_turn}
 use Rattle.cfg_check.proofs.communities.communities.Goals as goal

@@ -2,7 +2,7 @@ use Rattle.std.proofs.Common.{◌≡◌, ℕ, take, nat_eq}
 use Rattle.std.specs.List.{list_any}
 use Rattle.std.specs.HashSet.{contains}
 use Rattle.cfg_ast.specs.declared.policy.Mention.{Mention}
-use Rattle.cfg_ast.specs.PolicyFaults.{communities_in}
+use Rattle.cfg_ast.specs.meaning.PolicyFaults.{communities_in}
 use Rattle.cfg_check.proofs.communities.communities.Given as goal
 
 abbrev pub invariant-loop-mention : goal.invariant-loop-mention

@@ -1,5 +1,5 @@
 use Rattle.std.proofs.Common.{ℕ, List, map, ap}
-use Rattle.cfg_ast.specs.PolicyFaults.{mention_at, mentions_in, mentions_in}
+use Rattle.cfg_ast.specs.meaning.PolicyFaults.{mention_at, mentions_in, mentions_in}
 use Rattle.cfg_check.proofs.Turns.{flat_onto}
 use Rattle.cfg_check.proofs.communities.push_in_entries.Goals as goal
 

@@ -1,5 +1,5 @@
 use Rattle.std.proofs.Common.{◌≡◌, ◌++◌, take, flat_map}
-use Rattle.cfg_ast.specs.PolicyFaults.{mentions_in}
+use Rattle.cfg_ast.specs.meaning.PolicyFaults.{mentions_in}
 use Rattle.cfg_check.proofs.communities.push_in_entries.Given as goal
 
 abbrev pub invariant-loop-entry : goal.invariant-loop-entry

@@ -1,6 +1,6 @@
 use Rattle.std.proofs.Common.{List, flat_map, ap}
 use Rattle.cfg_ast.specs.declared.policy.CommunityLine.{CommunityLine}
-use Rattle.cfg_ast.specs.PolicyFaults.{mentions_on, mentions_in_list}
+use Rattle.cfg_ast.specs.meaning.PolicyFaults.{mentions_on, mentions_in_list}
 use Rattle.cfg_check.proofs.Turns.{flat_onto}
 use Rattle.cfg_check.proofs.communities.push_in_lists.Goals as goal
 

@@ -1,5 +1,5 @@
 use Rattle.std.proofs.Common.{◌≡◌, ◌++◌, take, flat_map}
-use Rattle.cfg_ast.specs.PolicyFaults.{mentions_in_map}
+use Rattle.cfg_ast.specs.meaning.PolicyFaults.{mentions_in_map}
 use Rattle.cfg_check.proofs.communities.push_in_maps.Given as goal
 
 abbrev pub invariant-loop-map : goal.invariant-loop-map

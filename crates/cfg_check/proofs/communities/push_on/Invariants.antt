@@ -1,5 +1,5 @@
 use Rattle.std.proofs.Common.{◌≡◌, ◌++◌, take, map}
-use Rattle.cfg_ast.specs.PolicyFaults.{mention_at}
+use Rattle.cfg_ast.specs.meaning.PolicyFaults.{mention_at}
 use Rattle.cfg_check.proofs.communities.push_on.Given as goal
 
 abbrev pub invariant-loop-community : goal.invariant-loop-community

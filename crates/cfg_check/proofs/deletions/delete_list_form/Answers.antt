@@ -1,5 +1,5 @@
 use Rattle.std.proofs.Common.{◌∙◌}
-use Rattle.cfg_ast.specs.PolicyFaults.{wide_deletions_of}
+use Rattle.cfg_ast.specs.meaning.PolicyFaults.{wide_deletions_of}
 use Rattle.cfg_check.proofs.Turns.{lines_step}
 use Rattle.cfg_check.proofs.deletions.delete_list_form.Goals as goal
 

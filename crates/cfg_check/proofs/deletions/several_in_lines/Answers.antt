@@ -1,5 +1,5 @@
 use Rattle.std.proofs.Common.{ap, ◌∙◌}
-use Rattle.cfg_ast.specs.PolicyFaults.{several_at}
+use Rattle.cfg_ast.specs.meaning.PolicyFaults.{several_at}
 use Rattle.cfg_check.specs.LeastLine.{line_if}
 use Rattle.cfg_check.proofs.Turns.{lines_step, line_if_least}
 use Rattle.cfg_check.proofs.deletions.several_in_lines.Goals as goal

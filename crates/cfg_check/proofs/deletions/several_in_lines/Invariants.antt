@@ -1,5 +1,5 @@
 use Rattle.std.proofs.Common.{◌≡◌, take, flat_map}
-use Rattle.cfg_ast.specs.PolicyFaults.{several_at}
+use Rattle.cfg_ast.specs.meaning.PolicyFaults.{several_at}
 use Rattle.cfg_check.specs.LeastLine.{least_line}
 use Rattle.cfg_check.proofs.deletions.several_in_lines.Given as goal
 

@@ -2,7 +2,7 @@ use Rattle.std.proofs.Common.{◌≡◌, ℕ, Bool, List, flat_map, ap, ◌∙�
 use Rattle.std.specs.List.{list_any}
 use Rattle.cfg_ast.specs.declared.policy.CommunityList.{CommunityList}
 use Rattle.cfg_ast.specs.declared.policy.RouteMap.{RouteMap}
-use Rattle.cfg_ast.specs.PolicyFaults.{is_deleted_in, is_deleted, several_in}
+use Rattle.cfg_ast.specs.meaning.PolicyFaults.{is_deleted_in, is_deleted, several_in}
 use Rattle.cfg_check.specs.LeastLine.{least_line}
 use Rattle.cfg_check.specs.NameSets.{has_name}
 use Rattle.cfg_check.proofs.NameTurns.{has_is}

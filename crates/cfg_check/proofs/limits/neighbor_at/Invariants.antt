@@ -1,6 +1,6 @@
 use Rattle.std.proofs.Common.{◌≡◌, drop, flat_map}
 use Rattle.std.specs.Prelude.{slice_get}
-use Rattle.cfg_ast.specs.Topology.{neighbors_of}
+use Rattle.cfg_ast.specs.meaning.Topology.{neighbors_of}
 use Rattle.cfg_check.proofs.limits.neighbor_at.Given as goal
 
 abbrev pub invariant-loop-router : goal.invariant-loop-router

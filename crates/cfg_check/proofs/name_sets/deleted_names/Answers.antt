@@ -2,7 +2,7 @@ use Rattle.std.proofs.Common.{List, ◌||◌, ap, ◌∙◌}
 use Rattle.std.specs.List.{list_any}
 use Rattle.cfg_ast.specs.declared.policy.MapEntry.{MapEntry}
 use Rattle.cfg_ast.specs.declared.policy.RouteMap.{RouteMap}
-use Rattle.cfg_ast.specs.PolicyFaults.{is_name, is_deleted_in}
+use Rattle.cfg_ast.specs.meaning.PolicyFaults.{is_name, is_deleted_in}
 use Rattle.cfg_check.specs.NameSets.{has_name}
 use Rattle.cfg_check.proofs.NameTurns.{has_turn}
 use Rattle.cfg_check.proofs.name_sets.deleted_names.Goals as goal

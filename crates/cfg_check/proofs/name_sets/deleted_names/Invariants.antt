@@ -1,6 +1,6 @@
 use Rattle.std.proofs.Common.{take}
 use Rattle.std.specs.List.{list_any}
-use Rattle.cfg_ast.specs.PolicyFaults.{is_deleted_in}
+use Rattle.cfg_ast.specs.meaning.PolicyFaults.{is_deleted_in}
 use Rattle.cfg_check.specs.NameSets.{HasNames}
 use Rattle.cfg_check.proofs.name_sets.deleted_names.Given as goal
 

@@ -1,5 +1,5 @@
 use Rattle.std.proofs.Common.{◌||◌, sym, ap, ◌∙◌}
-use Rattle.cfg_ast.specs.PolicyFaults.{is_name}
+use Rattle.cfg_ast.specs.meaning.PolicyFaults.{is_name}
 use Rattle.cfg_check.specs.NameSets.{has_name}
 use Rattle.cfg_check.proofs.NameTurns.{name_added}
 use Rattle.cfg_check.proofs.name_sets.keep_deletion.Goals as goal

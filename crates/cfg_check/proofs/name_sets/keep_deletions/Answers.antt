@@ -1,5 +1,5 @@
 use Rattle.cfg_ast.specs.declared.policy.MapEntry.{MapEntry}
-use Rattle.cfg_ast.specs.PolicyFaults.{is_name}
+use Rattle.cfg_ast.specs.meaning.PolicyFaults.{is_name}
 use Rattle.cfg_check.proofs.NameTurns.{adds_turn}
 use Rattle.cfg_check.proofs.name_sets.keep_deletions.Goals as goal
 

@@ -1,7 +1,7 @@
 use Rattle.std.proofs.Common.{take}
 use Rattle.std.specs.List.{list_any}
 use Rattle.cfg_ast.specs.declared.policy.MapEntry.{MapEntry}
-use Rattle.cfg_ast.specs.PolicyFaults.{is_name}
+use Rattle.cfg_ast.specs.meaning.PolicyFaults.{is_name}
 use Rattle.cfg_check.specs.NameSets.{AddsNames}
 use Rattle.cfg_check.proofs.name_sets.keep_deletions.Given as goal
 

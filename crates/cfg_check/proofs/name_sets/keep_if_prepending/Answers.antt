@@ -1,6 +1,6 @@
 use Rattle.std.proofs.Common.{◌≡◌, true, ◌||◌, ◌&&◌, sym, ap, ◌∙◌}
 use Rattle.std.specs.Prelude.{bytes_eq}
-use Rattle.cfg_ast.specs.PolicyFaults.{prepends_in_map}
+use Rattle.cfg_ast.specs.meaning.PolicyFaults.{prepends_in_map}
 use Rattle.cfg_check.specs.NameSets.{has_name}
 use Rattle.cfg_check.proofs.NameTurns.{name_added}
 use Rattle.cfg_check.proofs.name_sets.keep_if_prepending.Goals as goal

@@ -1,7 +1,7 @@
 use Rattle.std.proofs.Common.{◌&&◌}
 use Rattle.std.specs.Prelude.{bytes_eq}
 use Rattle.cfg_ast.specs.declared.policy.RouteMap.{RouteMap}
-use Rattle.cfg_ast.specs.PolicyFaults.{prepends_in_map}
+use Rattle.cfg_ast.specs.meaning.PolicyFaults.{prepends_in_map}
 use Rattle.cfg_check.proofs.NameTurns.{has_turn}
 use Rattle.cfg_check.proofs.name_sets.prepending_names.Goals as goal
 

@@ -2,7 +2,7 @@ use Rattle.std.proofs.Common.{take, ◌&&◌}
 use Rattle.std.specs.Prelude.{bytes_eq}
 use Rattle.std.specs.List.{list_any}
 use Rattle.cfg_ast.specs.declared.policy.RouteMap.{RouteMap}
-use Rattle.cfg_ast.specs.PolicyFaults.{prepends_in_map}
+use Rattle.cfg_ast.specs.meaning.PolicyFaults.{prepends_in_map}
 use Rattle.cfg_check.specs.NameSets.{HasNames}
 use Rattle.cfg_check.proofs.name_sets.prepending_names.Given as goal
 

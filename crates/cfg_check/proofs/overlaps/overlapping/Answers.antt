@@ -1,6 +1,6 @@
 use Rattle.std.proofs.Common.{◌≡◌, take, ap, ◌∙◌}
 use Rattle.std.specs.List.{list_any}
-use Rattle.cfg_ast.specs.RouterFaults.{address_line, overlap}
+use Rattle.cfg_ast.specs.meaning.RouterFaults.{address_line, overlap}
 use Rattle.cfg_check.specs.LeastLine.{lesser_line, line_if}
 use Rattle.cfg_check.proofs.BlockLemmas.{meets_past, kept_turn}
 use Rattle.cfg_check.proofs.Repeats.{least_repeat_turn}

@@ -1,5 +1,5 @@
 use Rattle.std.proofs.Common.{◌≡◌, take, map}
-use Rattle.cfg_ast.specs.RouterFaults.{address_line, repeats, overlap}
+use Rattle.cfg_ast.specs.meaning.RouterFaults.{address_line, repeats, overlap}
 use Rattle.cfg_check.specs.LeastLine.{least_line}
 use Rattle.cfg_check.specs.Blocks.{IsKept}
 use Rattle.cfg_check.proofs.overlaps.overlapping.Given as goal

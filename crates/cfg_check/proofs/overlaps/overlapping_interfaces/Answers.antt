@@ -1,5 +1,5 @@
 use Rattle.std.proofs.Common.{◌∙◌}
-use Rattle.cfg_ast.specs.RouterFaults.{address_line, overlapping_in}
+use Rattle.cfg_ast.specs.meaning.RouterFaults.{address_line, overlapping_in}
 use Rattle.cfg_check.proofs.Turns.{flat_step}
 use Rattle.cfg_check.proofs.overlaps.overlapping_interfaces.Goals as goal
 

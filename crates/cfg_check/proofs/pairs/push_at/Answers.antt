@@ -1,7 +1,7 @@
 use Rattle.std.proofs.Common.{◌≡◌, [], Option, Vec, ap, ◌∙◌}
 use Rattle.std.specs.Option.{option_map_or}
 use Rattle.std.specs.declared.alloc.Global.{Global}
-use Rattle.cfg_ast.specs.Addresses.{Address}
+use Rattle.cfg_ast.specs.meaning.Addresses.{Address}
 use Rattle.cfg_check.specs.Pairs.{bucket}
 use Rattle.cfg_check.proofs.SumLemmas.{pushed, unwrapped}
 use Rattle.cfg_check.proofs.pairs.push_at.Goals as goal

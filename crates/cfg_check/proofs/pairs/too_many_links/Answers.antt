@@ -1,6 +1,6 @@
 use Rattle.std.proofs.Common.{ℕ, List, flat_map, map, take, sym, ap, subst, ◌∙◌}
-use Rattle.cfg_ast.specs.Addresses.{Address}
-use Rattle.cfg_ast.specs.RouterFaults.{active_addresses_of}
+use Rattle.cfg_ast.specs.meaning.Addresses.{Address}
+use Rattle.cfg_ast.specs.meaning.RouterFaults.{active_addresses_of}
 use Rattle.cfg_check.specs.LeastLine.{least_line}
 use Rattle.cfg_check.specs.Pairs.{counted, sum_or_line, AddsAll, IsCounted}
 use Rattle.cfg_check.proofs.SumLemmas.{counted_more, earlier_more, sum_stops, sum_goes_on}

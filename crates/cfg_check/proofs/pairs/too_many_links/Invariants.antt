@@ -1,5 +1,5 @@
 use Rattle.std.proofs.Common.{◌≡◌, ◌≤◌, take, drop, flat_map, []}
-use Rattle.cfg_ast.specs.RouterFaults.{active_addresses_of, added_after, exceeding}
+use Rattle.cfg_ast.specs.meaning.RouterFaults.{active_addresses_of, added_after, exceeding}
 use Rattle.cfg_check.specs.Pairs.{IsCounted}
 use Rattle.cfg_check.proofs.pairs.too_many_links.Given as goal
 

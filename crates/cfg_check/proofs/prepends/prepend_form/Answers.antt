@@ -1,5 +1,5 @@
 use Rattle.std.proofs.Common.{◌∙◌}
-use Rattle.cfg_ast.specs.PolicyFaults.{foreign_prepends_of}
+use Rattle.cfg_ast.specs.meaning.PolicyFaults.{foreign_prepends_of}
 use Rattle.cfg_check.proofs.Turns.{lines_step}
 use Rattle.cfg_check.proofs.prepends.prepend_form.Goals as goal
 

@@ -1,5 +1,5 @@
 use Rattle.std.proofs.Common.{◌∙◌}
-use Rattle.cfg_ast.specs.PolicyFaults.{prepending_maps_in_of}
+use Rattle.cfg_ast.specs.meaning.PolicyFaults.{prepending_maps_in_of}
 use Rattle.cfg_check.proofs.Turns.{lines_step}
 use Rattle.cfg_check.proofs.prepends.prepend_in.Goals as goal
 

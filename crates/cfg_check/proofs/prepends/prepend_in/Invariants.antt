@@ -1,5 +1,5 @@
 use Rattle.std.proofs.Common.{◌≡◌, take, flat_map}
-use Rattle.cfg_ast.specs.PolicyFaults.{prepending_maps_in_of}
+use Rattle.cfg_ast.specs.meaning.PolicyFaults.{prepending_maps_in_of}
 use Rattle.cfg_check.specs.LeastLine.{least_line}
 use Rattle.cfg_check.proofs.prepends.prepend_in.Given as goal
 

@@ -2,7 +2,7 @@ use Rattle.std.proofs.Common.{◌≡◌, ℕ, List, Option, Some, sym, ap, ◌�
 use Rattle.std.specs.Option.{option_map}
 use Rattle.std.specs.Prelude.{slice_get}
 use Rattle.cfg_ast.specs.declared.ospf.AreaLine.{AreaLine}
-use Rattle.cfg_ast.specs.RouterFaults.{areas_of}
+use Rattle.cfg_ast.specs.meaning.RouterFaults.{areas_of}
 use Rattle.std.specs.Option.{is_some}
 use Rattle.cfg_check.proofs.FirstFound.{first_found}
 use Rattle.cfg_check.proofs.processes.first_area.Goals as goal

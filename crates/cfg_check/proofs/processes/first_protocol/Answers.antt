@@ -1,7 +1,7 @@
 use Rattle.std.proofs.Common.{sym, ap, ◌∙◌}
-use Rattle.cfg_ast.specs.RouterFaults.{protocol_lines_of}
+use Rattle.cfg_ast.specs.meaning.RouterFaults.{protocol_lines_of}
 use Rattle.std.specs.Option.{is_some}
-use Rattle.cfg_ast.specs.RouterFaults.{ProtocolLine}
+use Rattle.cfg_ast.specs.meaning.RouterFaults.{ProtocolLine}
 use Rattle.cfg_check.proofs.FirstFound.{first_found}
 use Rattle.cfg_check.proofs.processes.first_protocol.Goals as goal
 

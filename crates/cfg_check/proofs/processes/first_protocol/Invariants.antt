@@ -1,5 +1,5 @@
 use Rattle.std.proofs.Common.{◌≡◌, take, flat_map, []}
-use Rattle.cfg_ast.specs.RouterFaults.{protocol_lines_of}
+use Rattle.cfg_ast.specs.meaning.RouterFaults.{protocol_lines_of}
 use Rattle.cfg_check.proofs.processes.first_protocol.Given as goal
 
 abbrev pub invariant-loop-router : goal.invariant-loop-router

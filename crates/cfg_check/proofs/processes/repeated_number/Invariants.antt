@@ -1,7 +1,7 @@
 use Rattle.std.proofs.Common.{◌≡◌, take, map, ℕ, nat_eq}
 use Rattle.std.specs.List.{list_any}
 use Rattle.std.specs.HashSet as bag
-use Rattle.cfg_ast.specs.RouterFaults.{repeats}
+use Rattle.cfg_ast.specs.meaning.RouterFaults.{repeats}
 use Rattle.cfg_check.specs.LeastLine.{least_line}
 use Rattle.cfg_check.specs.Processes.{same_numbered, line_of_numbered}
 use Rattle.cfg_check.specs.declared.processes.Numbered.{Numbered}

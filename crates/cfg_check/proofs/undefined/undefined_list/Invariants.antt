@@ -1,5 +1,5 @@
 use Rattle.std.proofs.Common.{◌≡◌, take, flat_map}
-use Rattle.cfg_ast.specs.PolicyFaults.{undefined_lists_of}
+use Rattle.cfg_ast.specs.meaning.PolicyFaults.{undefined_lists_of}
 use Rattle.cfg_check.specs.LeastLine.{least_line}
 use Rattle.cfg_check.proofs.undefined.undefined_list.Given as goal
 

@@ -1,5 +1,5 @@
 use Rattle.std.proofs.Common.{◌∙◌}
-use Rattle.cfg_ast.specs.PolicyFaults.{lines_in_map_naming}
+use Rattle.cfg_ast.specs.meaning.PolicyFaults.{lines_in_map_naming}
 use Rattle.cfg_check.specs.NameSets.{lacks_name}
 use Rattle.cfg_check.proofs.Turns.{lines_step}
 use Rattle.cfg_check.proofs.undefined.undefined_lists_by_maps.Goals as goal

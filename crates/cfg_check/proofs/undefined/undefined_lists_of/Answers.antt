@@ -5,8 +5,8 @@ use Rattle.cfg_ast.specs.declared.bgp.Neighbor.{Neighbor}
 use Rattle.cfg_ast.specs.declared.policy.CommunityList.{CommunityList}
 use Rattle.cfg_ast.specs.declared.policy.PrefixList.{PrefixList}
 use Rattle.cfg_ast.specs.declared.policy.RouteMap.{RouteMap}
-use Rattle.cfg_ast.specs.Topology.{neighbors_of}
-use Rattle.cfg_ast.specs.PolicyFaults.{lacks_prefix_list, lacks_community_list, list_lines_naming, lines_in_map_naming}
+use Rattle.cfg_ast.specs.meaning.Topology.{neighbors_of}
+use Rattle.cfg_ast.specs.meaning.PolicyFaults.{lacks_prefix_list, lacks_community_list, list_lines_naming, lines_in_map_naming}
 use Rattle.cfg_check.specs.LeastLine.{least_line}
 use Rattle.cfg_check.specs.NameSets.{lacks_name}
 use Rattle.cfg_check.proofs.NameTurns.{lacks_is}

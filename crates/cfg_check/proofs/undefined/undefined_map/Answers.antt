@@ -1,5 +1,5 @@
 use Rattle.std.proofs.Common.{◌∙◌}
-use Rattle.cfg_ast.specs.PolicyFaults.{undefined_maps_of}
+use Rattle.cfg_ast.specs.meaning.PolicyFaults.{undefined_maps_of}
 use Rattle.cfg_check.proofs.Turns.{lines_step}
 use Rattle.cfg_check.proofs.undefined.undefined_map.Goals as goal
 

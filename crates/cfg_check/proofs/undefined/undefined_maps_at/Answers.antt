@@ -1,4 +1,4 @@
-use Rattle.cfg_ast.specs.PolicyFaults.{line_naming}
+use Rattle.cfg_ast.specs.meaning.PolicyFaults.{line_naming}
 use Rattle.cfg_check.specs.NameSets.{lacks_name}
 use Rattle.std.proofs.Common.{◌∙◌}
 use Rattle.cfg_check.proofs.Turns.{both_lines}

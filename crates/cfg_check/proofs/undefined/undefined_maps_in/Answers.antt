@@ -1,5 +1,5 @@
 use Rattle.std.proofs.Common.{◌∙◌}
-use Rattle.cfg_ast.specs.PolicyFaults.{map_lines_naming}
+use Rattle.cfg_ast.specs.meaning.PolicyFaults.{map_lines_naming}
 use Rattle.cfg_check.specs.NameSets.{lacks_name}
 use Rattle.cfg_check.proofs.Turns.{lines_step}
 use Rattle.cfg_check.proofs.undefined.undefined_maps_in.Goals as goal

@@ -1,5 +1,5 @@
 use Rattle.std.proofs.Common.{◌≡◌, take, flat_map}
-use Rattle.cfg_ast.specs.PolicyFaults.{map_lines_naming}
+use Rattle.cfg_ast.specs.meaning.PolicyFaults.{map_lines_naming}
 use Rattle.cfg_check.specs.NameSets.{lacks_name}
 use Rattle.cfg_check.specs.LeastLine.{least_line}
 use Rattle.cfg_check.proofs.undefined.undefined_maps_in.Given as goal

@@ -3,7 +3,7 @@ use Rattle.std.specs.Prelude.{bytes_eq}
 use Rattle.std.specs.List.{list_any}
 use Rattle.cfg_ast.specs.declared.bgp.Neighbor.{Neighbor}
 use Rattle.cfg_ast.specs.declared.policy.RouteMap.{RouteMap}
-use Rattle.cfg_ast.specs.PolicyFaults.{lacks_map, map_lines_naming}
+use Rattle.cfg_ast.specs.meaning.PolicyFaults.{lacks_map, map_lines_naming}
 use Rattle.cfg_check.specs.LeastLine.{least_line}
 use Rattle.cfg_check.specs.NameSets.{lacks_name}
 use Rattle.cfg_check.proofs.NameTurns.{lacks_is}

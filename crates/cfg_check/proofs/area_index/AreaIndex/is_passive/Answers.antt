@@ -2,7 +2,7 @@ use Rattle.std.proofs.Common.{◌≡◌, true, false, Option, Some, sym, ap, ◌
 use Rattle.std.specs.Prelude.{bytes_eq}
 use Rattle.std.specs.List.{list_any}
 use Rattle.cfg_ast.specs.declared.ospf.OspfProcess.{OspfProcess}
-use Rattle.cfg_ast.specs.Topology.{is_passive_in}
+use Rattle.cfg_ast.specs.meaning.Topology.{is_passive_in}
 use Rattle.cfg_check.specs.AreaLines.{listed_of}
 use Rattle.cfg_check.specs.NameSets.{has_name}
 use Rattle.cfg_check.proofs.AreaLookups.{passive_by}

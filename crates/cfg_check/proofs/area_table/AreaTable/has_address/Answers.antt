@@ -1,6 +1,6 @@
 use Rattle.std.proofs.Common.{◌≤◌, ◌*◌, length, sym, ◌∙◌, arith}
 use Rattle.cfg_ast.specs.declared.ospf.AreaLine.{AreaLine}
-use Rattle.cfg_ast.specs.Topology.{line_has_address}
+use Rattle.cfg_ast.specs.meaning.Topology.{line_has_address}
 use Rattle.cfg_check.specs.AreaTables.{agrees_below}
 use Rattle.cfg_check.proofs.AreaBits.{agrees_in_all, none_in_chunk, one_in_chunk, none_in_all}
 use Rattle.cfg_check.proofs.BlockLemmas.{any_same}
