@@ -1,10 +1,10 @@
 -- The index over subnets finds the adjacencies.
 use Rattle.std.proofs.Common.{◌≡◌, ℕ, Bool, true, false, ◌&&◌, List, [], ◌∷◌, flat_map, nat_lt, Option, Some, None, refl, ◌∙◌, ap}
 use Rattle.std.specs.Option.{option_map}
-use Rattle.cfg_ast.specs.Addresses.{Address}
+use Rattle.cfg_ast.specs.meaning.Addresses.{Address}
 use Rattle.cfg_ast.specs.declared.interface.Interface.{Interface}
 use Rattle.cfg_ast.specs.declared.network.Network.{Network}
-use Rattle.cfg_ast.specs.Topology.{Place, places, interfaces_of, are_adjacent, both_in_one_subnet, same_subnet, adjacencies_of}
+use Rattle.cfg_ast.specs.meaning.Topology.{Place, places, interfaces_of, are_adjacent, both_in_one_subnet, same_subnet, adjacencies_of}
 use Rattle.net_topology.specs.declared.adjacencies.Spot.{Spot}
 use Rattle.net_topology.specs.Spots.{active_address_on, spot_at, spot_of, spots, pair_of, is_at, is_later, spot_link, links_in}
 use Rattle.net_topology.proofs.Joined.{IsIndexed, AreGood, joined_by_index}

@@ -7,7 +7,7 @@ use Rattle.cfg_ast.specs.declared.bgp.Neighbor.{Neighbor}
 use Rattle.cfg_ast.specs.declared.network.Network.{Network}
 use Rattle.cfg_ast.specs.declared.network.Router.{Router}
 use Rattle.cfg_ast.specs.declared.topology.Unmatched.{Unmatched}
-use Rattle.cfg_ast.specs.Topology.{Place, places, places_on, neighbors_of, has_number, share_subnet, are_peers, unmatched_at, unmatched_of}
+use Rattle.cfg_ast.specs.meaning.Topology.{Place, places, places_on, neighbors_of, has_number, share_subnet, are_peers, unmatched_at, unmatched_of}
 use Rattle.cfg_check.specs.Faultless.{IsFaultless}
 use Rattle.net_topology.specs.declared.peers.Peer.{Peer}
 use Rattle.net_topology.specs.Peers.{peer_of, peers}

@@ -8,12 +8,12 @@ use Rattle.std.proofs.lemmas.List.{map-append}
 use Rattle.std.proofs.lemmas.Nat.{pow_pos}
 use Rattle.base_kit.proofs.Elements.{In, get_in}
 use Rattle.base_kit.proofs.SetFacts.{same_number}
-use Rattle.cfg_ast.specs.Addresses.{Address}
+use Rattle.cfg_ast.specs.meaning.Addresses.{Address}
 use Rattle.cfg_ast.specs.declared.interface.Interface.{Interface}
 use Rattle.cfg_ast.specs.declared.network.Network.{Network}
 use Rattle.cfg_ast.specs.declared.network.Router.{Router}
-use Rattle.cfg_ast.specs.RouterFaults.{repeats, repeats_after, address_line, same_address, up_addresses_of, up_addresses, shared_address_lines, overlap, overlapping_in, overlapping_lines}
-use Rattle.cfg_ast.specs.Topology.{up_address, first_address}
+use Rattle.cfg_ast.specs.meaning.RouterFaults.{repeats, repeats_after, address_line, same_address, up_addresses_of, up_addresses, shared_address_lines, overlap, overlapping_in, overlapping_lines}
+use Rattle.cfg_ast.specs.meaning.Topology.{up_address, first_address}
 use Rattle.cfg_check.specs.Faultless.{IsFaultless}
 use Rattle.net_topology.proofs.UpFacts.{IsUpOf, up_in}
 use Rattle.net_topology.specs.Ups.{up_at, up_on, ups_on, ups_of, addr_of}

@@ -1,4 +1,5 @@
--- The other end of a peer against the interfaces of both routers.
+-- The other end of a peer against the interfaces of both routers. Public: crates above may cite `AreJoined`,
+-- `joined_if` and `share_if`.
 use Rattle.std.proofs.Common.{◌≡◌, ℕ, Bool, true, false, cond, ◌&&◌, ◌||◌, nat_eq, List, [], ◌∷◌, Option, Some, None, inl, inr, refl, sym, ◌∙◌, ap, subst, arith}
 use Rattle.std.specs.Prelude.{slice_get}
 use Rattle.std.specs.Option.{option_or, option_and_then, option_map}
@@ -6,10 +7,10 @@ use Rattle.std.specs.List.{list_any}
 use Rattle.std.proofs.lemmas.Bool.Decides.{nat_tests}
 use Rattle.base_kit.proofs.Elements.{In, in_filter, filter_in}
 use Rattle.base_kit.proofs.SetFacts.{same_number}
-use Rattle.cfg_ast.specs.Addresses.{Address}
+use Rattle.cfg_ast.specs.meaning.Addresses.{Address}
 use Rattle.cfg_ast.specs.declared.network.Router.{Router}
-use Rattle.cfg_ast.specs.RouterFaults.{up_addresses_of}
-use Rattle.cfg_ast.specs.Topology.{same_subnet, up_addresses_at, share_subnet}
+use Rattle.cfg_ast.specs.meaning.RouterFaults.{up_addresses_of}
+use Rattle.cfg_ast.specs.meaning.Topology.{same_subnet, up_addresses_at, share_subnet}
 use Rattle.net_topology.proofs.Apart.{AreApart}
 use Rattle.net_topology.proofs.UpFacts.{IsUpOf, up_in, in_ups}
 use Rattle.net_topology.specs.Peers.{beside, end_from, other_end, reaches}
@@ -42,20 +43,20 @@ last_is {X} test (y ∷ ys) x (inr h) e lone = ap (λ (o : Option X). option_or 
 
 -- ---- tests
 
-one_number : (m n : ℕ) → nat_eq m n ≡ true → m ≡ n
+pub one_number : (m n : ℕ) → nat_eq m n ≡ true → m ≡ n
 one_number m n e = grind (arith, nat_tests)
 
-both : (a b : Bool) → (a && b) ≡ true → (a ≡ true) × (b ≡ true)
+pub both : (a b : Bool) → (a && b) ≡ true → (a ≡ true) × (b ≡ true)
 both true true e = (refl, refl)
 both true false e = cc
 both false b e = cc
 
-both_true : (a b : Bool) → a ≡ true → b ≡ true → (a && b) ≡ true
+pub both_true : (a b : Bool) → a ≡ true → b ≡ true → (a && b) ≡ true
 both_true true true e f = refl
 both_true true false e f = cc
 both_true false b e f = cc
 
-same_truth : (a b : Bool) → (a ≡ true → b ≡ true) → (b ≡ true → a ≡ true) → a ≡ b
+pub same_truth : (a b : Bool) → (a ≡ true → b ≡ true) → (b ≡ true → a ≡ true) → a ≡ b
 same_truth true true there back = refl
 same_truth true false there back = sym (there refl)
 same_truth false true there back = back refl
@@ -93,16 +94,16 @@ any_of p (y ∷ ys) x (inr h) e = ap (λ b. p y || b) (any_of p ys x h e) ∙ or
 
 -- ---- interfaces of two routers in one subnet
 
-record AreJoined (u v : Router) (a b : ℕ) : Type 0 where
-  near : Address
-  far : Address
-  near_in : In (up_addresses_of u) near
-  far_in : In (up_addresses_of v) far
-  near_addr : near.addr ≡ a
-  far_addr : far.addr ≡ b
-  joined : same_subnet near far ≡ true
+pub record AreJoined (u v : Router) (a b : ℕ) : Type 0 where
+  pub near : Address
+  pub far : Address
+  pub near_in : In (up_addresses_of u) near
+  pub far_in : In (up_addresses_of v) far
+  pub near_addr : near.addr ≡ a
+  pub far_addr : far.addr ≡ b
+  pub joined : same_subnet near far ≡ true
 
-joined_if : (u v : Router) (a b : ℕ) → share_subnet u a v b ≡ true → AreJoined u v a b
+pub joined_if : (u v : Router) (a b : ℕ) → share_subnet u a v b ≡ true → AreJoined u v a b
 joined_if u v a b e =
     let near = one_of (λ (c : Address). list_any (same_subnet c) (up_addresses_at v b)) (up_addresses_at u a) e in
     let far = one_of (same_subnet near.0) (up_addresses_at v b) near.2 in
@@ -110,7 +111,7 @@ joined_if u v a b e =
     let far_in = filter_in (λ (c : Address). nat_eq c.addr b) (up_addresses_of v) far.0 far.1 in
     record { near = near.0; far = far.0; near_in = near_in.0; far_in = far_in.0; near_addr = one_number near.0.addr a near_in.1; far_addr = one_number far.0.addr b far_in.1; joined = far.2 }
 
-share_if : (u v : Router) (a b : ℕ) → AreJoined u v a b → share_subnet u a v b ≡ true
+pub share_if : (u v : Router) (a b : ℕ) → AreJoined u v a b → share_subnet u a v b ≡ true
 share_if u v a b joined =
     let near_at = in_filter (λ (c : Address). nat_eq c.addr a) (up_addresses_of u) joined.near joined.near_in (same_number joined.near.addr a joined.near_addr) in
     let far_at = in_filter (λ (c : Address). nat_eq c.addr b) (up_addresses_of v) joined.far joined.far_in (same_number joined.far.addr b joined.far_addr) in
@@ -129,7 +130,7 @@ end_at ups s near far apart near_in far_in e f =
     ap (option_and_then (end_from ups s.router)) (found_far ups far s.addr apart far_in e)
     ∙ ap (option_map (λ (x : Up). (far.at.router, x.addr))) (found_near ups near (beside s.router far) apart near_in f)
 
-in_subnet : (r : ℕ) (a b : Address) → same_subnet a b ≡ true → (up_at r a).at ≡ beside r (up_at r b)
+pub in_subnet : (r : ℕ) (a b : Address) → same_subnet a b ≡ true → (up_at r a).at ≡ beside r (up_at r b)
 in_subnet r a b e = one_attachment (up_at r a).at (beside r (up_at r b)) (both_true (nat_eq r r) (same_subnet a b) (same_number r r refl) e)
 
 reached : (routers : List Router) (s t : Peer) (u v : Router) → AreApart (ups_of routers) → slice_get routers s.router ≡ Some u → slice_get routers t.router ≡ Some v → AreJoined u v t.addr s.addr → reaches (other_end (ups_of routers) s) t ≡ true

@@ -2,7 +2,7 @@
 use Rattle.std.proofs.Common.{◌≡◌, Bool, true, false, cond, ◌&&◌, List, [], ◌∷◌, ◌++◌, map, filter, filter_map, flat_map, Option, Some, None, refl, sym, ◌∙◌, ap}
 use Rattle.std.specs.List.{cons_option}
 use Rattle.cfg_ast.specs.declared.topology.Link.{Link}
-use Rattle.cfg_ast.specs.Topology.{Place, link_between, links_from, links_joining}
+use Rattle.cfg_ast.specs.meaning.Topology.{Place, link_between, links_from, links_joining}
 
 -- what an index over spots needs to know of the pairs that it is to find
 pub record IsIndexed {X S : Type 0} (Good : Place X → Type 0) (spot : Place X → Option S) (joins : Place X → Place X → Bool) (near later : S → S → Bool) (link : S → S → Link) : Type 0 where

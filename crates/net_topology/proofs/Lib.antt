@@ -2,8 +2,15 @@ pub mod Adjacent
 pub mod AloneLemmas
 pub mod Apart
 pub mod Ends
+pub mod FewLinks
+pub mod FewPlaces
 pub mod Joined
+pub mod LinkCounts
 pub mod Lookups
+pub mod OneAddress
+pub mod OnePeer
+pub mod OneProtocol
+pub mod PairCounts
 pub mod PlaceSteps
 pub mod PushedItems
 pub mod SessionLemmas

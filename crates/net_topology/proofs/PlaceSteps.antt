@@ -5,7 +5,7 @@ use Rattle.std.proofs.lemmas.List.{drop_more}
 use Rattle.std.proofs.lemmas.List.Elements.{filter_map-append}
 use Rattle.cfg_ast.specs.declared.network.Network.{Network}
 use Rattle.cfg_ast.specs.declared.network.Router.{Router}
-use Rattle.cfg_ast.specs.Topology.{Place, places, places_on, place_on, interfaces_of, neighbors_of}
+use Rattle.cfg_ast.specs.meaning.Topology.{Place, places, places_on, place_on, interfaces_of, neighbors_of}
 use Rattle.net_topology.specs.Spots.{spot_of, spots}
 use Rattle.net_topology.specs.Peers.{peer_of, peers}
 

@@ -8,7 +8,7 @@ use Rattle.cfg_ast.specs.declared.bgp.BgpProcess.{BgpProcess}
 use Rattle.cfg_ast.specs.declared.bgp.Neighbor.{Neighbor}
 use Rattle.cfg_ast.specs.declared.network.Network.{Network}
 use Rattle.cfg_ast.specs.declared.network.Router.{Router}
-use Rattle.cfg_ast.specs.Topology.{Place, places, places_on, place_on, neighbors_of, has_number, share_subnet, is_session, sessions_of}
+use Rattle.cfg_ast.specs.meaning.Topology.{Place, places, places_on, place_on, neighbors_of, has_number, share_subnet, is_session, sessions_of}
 use Rattle.cfg_check.specs.Faultless.{IsFaultless}
 use Rattle.net_topology.specs.declared.peers.Peer.{Peer}
 use Rattle.net_topology.specs.Peers.{peer_of_process, peer_of, peers, other_end, reaches, is_later, peer_link, sessions_in}

@@ -5,10 +5,10 @@ use Rattle.std.specs.Option.{option_map}
 use Rattle.std.specs.List.{enumerate_from}
 use Rattle.std.proofs.lemmas.List.{drop_more}
 use Rattle.base_kit.proofs.Elements.{In, in_flat_map, flat_map_in, in_filter_map, filter_map_in, in_enumerate, enumerate_in}
-use Rattle.cfg_ast.specs.Addresses.{Address}
+use Rattle.cfg_ast.specs.meaning.Addresses.{Address}
 use Rattle.cfg_ast.specs.declared.network.Router.{Router}
-use Rattle.cfg_ast.specs.RouterFaults.{up_addresses_of}
-use Rattle.cfg_ast.specs.Topology.{up_address}
+use Rattle.cfg_ast.specs.meaning.RouterFaults.{up_addresses_of}
+use Rattle.cfg_ast.specs.meaning.Topology.{up_address}
 use Rattle.net_topology.specs.Ups.{up_at, up_on, ups_on, ups_of}
 use Rattle.net_topology.specs.declared.ups.Up.{Up}
 

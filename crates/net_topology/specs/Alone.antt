@@ -3,7 +3,7 @@ use Rattle.std.specs.Prelude.{Bool, true, false, not, ◌&&◌, List, Option, So
 use Rattle.std.specs.List.{list_any}
 use Rattle.cfg_ast.specs.declared.bgp.Neighbor.{Neighbor}
 use Rattle.cfg_ast.specs.declared.topology.Unmatched.{Unmatched}
-use Rattle.cfg_ast.specs.Topology.{Place, unmatched_at}
+use Rattle.cfg_ast.specs.meaning.Topology.{Place, unmatched_at}
 use Rattle.net_topology.specs.declared.peers.Peer.{Peer}
 use Rattle.net_topology.specs.declared.ups.Up.{Up}
 use Rattle.net_topology.specs.Peers.{peer_of, other_end, reaches, name_each_other}

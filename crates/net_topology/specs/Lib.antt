@@ -1,5 +1,7 @@
 pub mod Alone
 pub mod Buckets
+pub mod FewPlaces
+pub mod Laws
 pub mod Peers
 pub mod Spots
 pub mod Ups

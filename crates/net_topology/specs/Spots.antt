@@ -1,12 +1,12 @@
 -- Active interfaces by their subnets.
 use Rattle.std.specs.Prelude.{ℕ, Bool, List, Option, None, map, filter, filter_map, nat_lt, if◌then◌else◌}
 use Rattle.std.specs.Option.{option_map}
-use Rattle.cfg_ast.specs.Addresses.{Address}
+use Rattle.cfg_ast.specs.meaning.Addresses.{Address}
 use Rattle.cfg_ast.specs.declared.interface.Interface.{Interface}
 use Rattle.cfg_ast.specs.declared.network.Network.{Network}
 use Rattle.cfg_ast.specs.declared.network.Router.{Router}
 use Rattle.cfg_ast.specs.declared.topology.Link.{Link}
-use Rattle.cfg_ast.specs.Topology.{Place, places, interfaces_of, first_address, is_active_interface}
+use Rattle.cfg_ast.specs.meaning.Topology.{Place, places, interfaces_of, first_address, is_active_interface}
 use Rattle.net_topology.specs.Buckets.{same_pair}
 use Rattle.net_topology.specs.declared.adjacencies.Spot.{Spot}
 

@@ -5,10 +5,10 @@ use Rattle.std.specs.List.{enumerate_from}
 use Rattle.std.specs.HashMap.{HashMap, get}
 use Rattle.std.specs.declared.hash.FoldHasher.{FoldHasher}
 use Rattle.std.specs.declared.hash.BuildHasherDefault.{BuildHasherDefault}
-use Rattle.cfg_ast.specs.Addresses.{Address}
+use Rattle.cfg_ast.specs.meaning.Addresses.{Address}
 use Rattle.cfg_ast.specs.declared.interface.Interface.{Interface}
 use Rattle.cfg_ast.specs.declared.network.Router.{Router}
-use Rattle.cfg_ast.specs.Topology.{up_address, first_address}
+use Rattle.cfg_ast.specs.meaning.Topology.{up_address, first_address}
 use Rattle.net_topology.specs.declared.ups.Attachment.{Attachment}
 use Rattle.net_topology.specs.declared.ups.Up.{Up}
 

@@ -1,8 +1,9 @@
-ghost use Rattle.std.specs.Prelude.{◌≡◌, ◌++◌, map, filter, filter_map, flat_map, IfOk, OnOk};
+ghost use Rattle.std.specs.Prelude.{◌≡◌, ◌<◌, ◌^◌, ◌++◌, map, filter, filter_map, flat_map, length, IfOk, OnOk};
 ghost use Rattle.std.specs.List.{enumerate_from};
-ghost use Rattle.cfg_ast.specs.Topology.{place_on, adjacencies_of};
+ghost use Rattle.cfg_ast.specs.meaning.Topology.{place_on, adjacencies_of};
 ghost use Rattle.net_topology.specs.Spots.{active_address_on, spot_on, spot_of, spots, spot_link, is_later, pair_of, links_in};
 ghost use Rattle.net_topology.specs.Buckets.{IsIndex};
+ghost use Rattle.net_topology.specs.FewPlaces.{HasFewItems, HasFewPlaces};
 
 use crate::buckets::{items_at, push_at};
 use crate::places::place;
@@ -50,10 +51,11 @@ fn push_spots_in(
     index: &AreaIndex,
     interfaces: &[Interface],
 ) -> Result<(), NoMemory>
+    requires { length interfaces.now < 2 ^ 32 }
     ensures { OnOk result (found.new.items ≡ found.old.items ++ filter_map spot_of (map (place_on router index.now.router.now) (enumerate_from 0 interfaces.now))) }
 {
     for i in 0..interfaces.len() {
-        let item = place(i)?;
+        let item = place(i);
         if let Some(spot) = spot_at(router, item, index, &interfaces[i]) {
             found.push(spot)?;
         }
@@ -67,6 +69,7 @@ fn push_spots(
     router: u32,
     owner: &Router,
 ) -> Result<(), NoMemory>
+    requires { HasFewItems owner.now }
     ensures { OnOk result (found.new.items ≡ found.old.items ++ filter_map spot_of (map (place_on router owner.now) (enumerate_from 0 owner.now.interfaces))) }
 {
     let index = AreaIndex::of(alloc, owner)?;
@@ -74,12 +77,13 @@ fn push_spots(
 }
 
 fn spots(alloc: Global, network: &Network) -> Result<Vec<Spot>, NoMemory>
+    requires { HasFewPlaces network.now.routers }
     ensures { IfOk result (λ found. found.items ≡ spots network.now) }
 {
     let mut found = Vec::new(alloc);
     let routers = network.routers.as_slice();
     for r in 0..routers.len() {
-        let router = place(r)?;
+        let router = place(r);
         push_spots(alloc, &mut found, router, &routers[r])?;
     }
     Ok(found)
@@ -138,6 +142,7 @@ fn links_of(alloc: Global, spots: &[Spot]) -> Result<List<Link>, NoMemory>
 /// The OSPF adjacencies of the network, in order.
 #[tactic(auto, using(crate::proofs::Adjacent::adjacencies_by_index))]
 pub(crate) fn adjacencies(alloc: Global, network: &Network) -> Result<List<Link>, NoMemory>
+    requires { HasFewPlaces network.now.routers }
     ensures { IfOk result (λ links. links ≡ adjacencies_of network.now) }
 {
     let spots = spots(alloc, network)?;

@@ -12,6 +12,7 @@
 
 mod adjacencies;
 mod buckets;
+pub mod laws;
 mod network_links;
 mod peers;
 mod places;

@@ -1,7 +1,8 @@
 ghost use Rattle.std.specs.Prelude.{◌≡◌, ◌++◌, IfOk, OnOk};
-ghost use Rattle.cfg_ast.specs.Topology.{links_of};
+ghost use Rattle.cfg_ast.specs.meaning.Topology.{links_of};
 
 use crate::adjacencies::adjacencies;
+use crate::places::places_are_few;
 use crate::sessions::sessions;
 use base_kit::{List, NoMemory};
 use cfg_ast::Link;
@@ -19,10 +20,11 @@ fn append(links: &mut List<Link>, more: &[Link]) -> Result<(), NoMemory>
 
 /// The links of a network: its BGP sessions or its OSPF adjacencies, in the order of their ends, the
 /// earlier end first. Only want of memory is an error.
-#[tactic(auto, unfolding(cfg_ast::specs::Topology::links_of))]
+#[tactic(auto, unfolding(cfg_ast::specs::meaning::Topology::links_of))]
 pub fn links(alloc: Global, net: &Checked) -> Result<List<Link>, NoMemory>
     ensures { IfOk result (λ links. links ≡ links_of net.now.network) }
 {
+    places_are_few(net);
     let network = net.network();
     let mut links = sessions(alloc, network)?;
     let adjacencies = adjacencies(alloc, network)?;

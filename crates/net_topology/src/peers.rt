@@ -1,7 +1,8 @@
 ghost use Rattle.std.specs.Prelude.{◌≡◌, ◌++◌, map, filter, filter_map, IfOk, OnOk};
 ghost use Rattle.std.specs.List.{enumerate_from};
-ghost use Rattle.cfg_ast.specs.Topology.{place_on, neighbors_of};
+ghost use Rattle.cfg_ast.specs.meaning.Topology.{place_on, neighbors_of};
 ghost use Rattle.net_topology.specs.Buckets.{IsIndex};
+ghost use Rattle.net_topology.specs.FewPlaces.{HasFewItems, HasFewPlaces};
 ghost use Rattle.net_topology.specs.Peers.{peer_on, peer_of, peers, own_end, name_each_other, reaches};
 
 use crate::buckets::{items_at, push_at};
@@ -63,11 +64,12 @@ pub(crate) fn neighbors(owner: &Router) -> &[Neighbor]
 }
 
 fn push_peers(found: &mut Vec<Peer>, router: u32, owner: &Router) -> Result<(), NoMemory>
+    requires { HasFewItems owner.now }
     ensures { OnOk result (found.new.items ≡ found.old.items ++ filter_map peer_of (map (place_on router owner.now) (enumerate_from 0 (neighbors_of owner.now)))) }
 {
     let neighbors = neighbors(owner);
     for i in 0..neighbors.len() {
-        let item = place(i)?;
+        let item = place(i);
         if let Some(peer) = peer_on(router, item, owner, &neighbors[i]) {
             found.push(peer)?;
         }
@@ -76,12 +78,13 @@ fn push_peers(found: &mut Vec<Peer>, router: u32, owner: &Router) -> Result<(), 
 }
 
 fn all_peers(alloc: Global, network: &Network) -> Result<Vec<Peer>, NoMemory>
+    requires { HasFewPlaces network.now.routers }
     ensures { IfOk result (λ found. found.items ≡ peers network.now) }
 {
     let mut found = Vec::new(alloc);
     let routers = network.routers.as_slice();
     for r in 0..routers.len() {
-        let router = place(r)?;
+        let router = place(r);
         push_peers(&mut found, router, &routers[r])?;
     }
     Ok(found)
@@ -100,6 +103,7 @@ fn by_end(alloc: Global, peers: &[Peer]) -> Result<HashMap<(u32, u32), Vec<Peer>
 
 impl Peers {
     pub(crate) fn of(alloc: Global, network: &Network) -> Result<Peers, NoMemory>
+        requires { HasFewPlaces network.now.routers }
         ensures { IfOk result (λ found. found.all.items ≡ peers network.now) }
     {
         let all = all_peers(alloc, network)?;

@@ -1,13 +1,20 @@
-ghost use Rattle.std.specs.Prelude.{◌≡◌, IfOk};
+ghost use Rattle.std.specs.Prelude.{◌≡◌, ◌<◌, ◌^◌};
+ghost use Rattle.net_topology.specs.FewPlaces.{HasFewPlaces};
 
-use base_kit::NoMemory;
+use cfg_check::Checked;
+use cfg_given::given_places_are_in_order;
 
-/// A place as a number of 32 bits. No text within the limits has a place that is larger.
-pub(crate) fn place(i: usize) -> Result<u32, NoMemory>
-    ensures { IfOk result (λ n. n ≡ i) }
+/// A place as a number of 32 bits.
+pub(crate) fn place(i: usize) -> u32
+    requires { i < 2 ^ 32 }
+    ensures { result ≡ i }
 {
-    if i > u32::MAX as usize {
-        return Err(NoMemory);
-    }
-    Ok(i as u32)
+    i as u32
+}
+
+/// The places of a network that some text gives fit in 32 bits.
+pub(crate) fn places_are_few(net: &Checked)
+    ensures { HasFewPlaces net.now.network.routers }
+{
+    given_places_are_in_order();
 }

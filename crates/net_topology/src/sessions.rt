@@ -1,6 +1,7 @@
 ghost use Rattle.std.specs.Prelude.{◌≡◌, ◌++◌, map, filter, flat_map, IfOk, OnOk};
-ghost use Rattle.cfg_ast.specs.Topology.{sessions_of};
+ghost use Rattle.cfg_ast.specs.meaning.Topology.{sessions_of};
 ghost use Rattle.cfg_check.specs.Faultless.{IsFaultless};
+ghost use Rattle.net_topology.specs.FewPlaces.{HasFewPlaces};
 ghost use Rattle.net_topology.specs.Peers.{is_later, peer_link, sessions_in};
 
 use crate::peers::{Peer, Peers, name_each_other};
@@ -50,7 +51,8 @@ fn sessions_among(alloc: Global, ups: &Ups, peers: &Peers) -> Result<List<Link>,
 /// The BGP sessions of a network without faults, in order.
 #[tactic(auto, using(crate::proofs::SessionLemmas::sessions_by_index))]
 pub(crate) fn sessions(alloc: Global, network: &Network) -> Result<List<Link>, NoMemory>
-    requires { IsFaultless network.now }
+    requires faultless { IsFaultless network.now }
+    requires few { HasFewPlaces network.now.routers }
     ensures { IfOk result (λ links. links ≡ sessions_of network.now) }
 {
     let ups = Ups::of(alloc, network.routers.as_slice())?;

@@ -1,10 +1,11 @@
 ghost use Rattle.std.specs.Prelude.{◌≡◌, ◌++◌, map, filter_map, flat_map, IfOk, OnOk};
 ghost use Rattle.std.specs.List.{enumerate_from, list_any};
-ghost use Rattle.cfg_ast.specs.Topology.{place_on, places_on, neighbors_of, unmatched_of};
+ghost use Rattle.cfg_ast.specs.meaning.Topology.{place_on, places_on, neighbors_of, unmatched_of};
 ghost use Rattle.net_topology.specs.Alone.{faces, has_session, unmatched_if, unmatched_spot};
+ghost use Rattle.net_topology.specs.FewPlaces.{HasFewItems, HasFewPlaces};
 
 use crate::peers::{Peer, Peers, name_each_other, neighbors, peer_on};
-use crate::places::place;
+use crate::places::{place, places_are_few};
 use crate::ups::Ups;
 use base_kit::{List, NoMemory};
 use cfg_ast::{Router, Unmatched};
@@ -50,11 +51,12 @@ fn push_unmatched(
     router: u32,
     owner: &Router,
 ) -> Result<(), NoMemory>
+    requires { HasFewItems owner.now }
     ensures { OnOk result (found.new ≡ found.old ++ filter_map (unmatched_spot ups.now.all.items peers.now.all.items) (map (place_on router owner.now) (enumerate_from 0 (neighbors_of owner.now)))) }
 {
     let neighbors = neighbors(owner);
     for i in 0..neighbors.len() {
-        let item = place(i)?;
+        let item = place(i);
         let neighbor = &neighbors[i];
         let peer = peer_on(router, item, owner, neighbor);
         let matched = has_session(ups, peers, peer);
@@ -71,11 +73,12 @@ fn unmatched_among(
     ups: &Ups,
     peers: &Peers,
 ) -> Result<List<Unmatched>, NoMemory>
+    requires { HasFewPlaces routers.now }
     ensures { IfOk result (λ found. found ≡ filter_map (unmatched_spot ups.now.all.items peers.now.all.items) (flat_map (places_on neighbors_of) (enumerate_from 0 routers.now))) }
 {
     let mut found = List::new(alloc);
     for r in 0..routers.len() {
-        let router = place(r)?;
+        let router = place(r);
         push_unmatched(&mut found, ups, peers, router, &routers[r])?;
     }
     Ok(found)
@@ -87,6 +90,7 @@ fn unmatched_among(
 pub fn unmatched(alloc: Global, net: &Checked) -> Result<List<Unmatched>, NoMemory>
     ensures { IfOk result (λ found. found ≡ unmatched_of net.now.network) }
 {
+    places_are_few(net);
     let network = net.network();
     let routers = network.routers.as_slice();
     let ups = Ups::of(alloc, routers)?;

@@ -1,4 +1,4 @@
-ghost use Rattle.std.specs.Prelude.{◌≡◌, ◌++◌, IfOk, OnOk, nat_eq};
+ghost use Rattle.std.specs.Prelude.{◌≡◌, ◌<◌, ◌^◌, ◌++◌, length, IfOk, OnOk, nat_eq};
 ghost use Rattle.net_topology.specs.Ups.{up_at, up_on, ups_on, ups_of, addr_of, attachment_of, same_attachment, IsLookup};
 ghost use Rattle.net_topology.specs.Peers.{other_end};
 
@@ -69,11 +69,12 @@ fn push_ups(found: &mut Vec<Up>, router: u32, owner: &Router) -> Result<(), NoMe
 }
 
 fn all_ups(alloc: Global, routers: &[Router]) -> Result<Vec<Up>, NoMemory>
+    requires { length routers.now < 2 ^ 32 }
     ensures { IfOk result (λ found. found.items ≡ ups_of routers.now) }
 {
     let mut found = Vec::new(alloc);
     for r in 0..routers.len() {
-        let router = place(r)?;
+        let router = place(r);
         push_ups(&mut found, router, &routers[r])?;
     }
     Ok(found)
@@ -101,6 +102,7 @@ fn by_attachment(alloc: Global, ups: &[Up]) -> Result<HashMap<Attachment, Up>, N
 
 impl Ups {
     pub(crate) fn of(alloc: Global, routers: &[Router]) -> Result<Ups, NoMemory>
+        requires { length routers.now < 2 ^ 32 }
         ensures { IfOk result (λ ups. ups.all.items ≡ ups_of routers.now) }
     {
         let all = all_ups(alloc, routers)?;

@@ -2,7 +2,7 @@ use Rattle.std.proofs.Common.{◌≡◌, ◌++◌, List, OnOk, filter_map, map, 
 use Rattle.std.specs.List.{enumerate_from}
 use Rattle.cfg_ast.specs.declared.interface.Interface.{Interface}
 use Rattle.cfg_ast.specs.declared.network.Router.{Router}
-use Rattle.cfg_ast.specs.Topology.{place_on}
+use Rattle.cfg_ast.specs.meaning.Topology.{place_on}
 use Rattle.net_topology.specs.Spots.{spot_of}
 use Rattle.net_topology.proofs.adjacencies.push_spots.Goals as goal
 

@@ -1,6 +1,6 @@
 use Rattle.std.proofs.Common.{◌≡◌, ◌++◌, drop, filter_map, map}
 use Rattle.std.specs.List.{enumerate_from}
-use Rattle.cfg_ast.specs.Topology.{place_on}
+use Rattle.cfg_ast.specs.meaning.Topology.{place_on}
 use Rattle.net_topology.specs.Spots.{spot_of}
 use Rattle.net_topology.proofs.adjacencies.push_spots_in.Given as goal
 

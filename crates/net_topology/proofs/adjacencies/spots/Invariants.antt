@@ -1,6 +1,6 @@
 use Rattle.std.proofs.Common.{◌≡◌, ◌++◌, drop, filter_map, flat_map}
 use Rattle.std.specs.List.{enumerate_from}
-use Rattle.cfg_ast.specs.Topology.{places_on, interfaces_of}
+use Rattle.cfg_ast.specs.meaning.Topology.{places_on, interfaces_of}
 use Rattle.net_topology.specs.Spots.{spot_of, spots}
 use Rattle.net_topology.proofs.adjacencies.spots.Given as goal
 

@@ -1,7 +1,7 @@
 use Rattle.std.proofs.Common.{ap, ◌∙◌, List, ◌++◌, filter_map, flat_map, map}
 use Rattle.std.specs.List.{enumerate_from}
 use Rattle.cfg_ast.specs.declared.network.Router.{Router}
-use Rattle.cfg_ast.specs.Topology.{places_on, place_on, neighbors_of}
+use Rattle.cfg_ast.specs.meaning.Topology.{places_on, place_on, neighbors_of}
 use Rattle.net_topology.specs.Peers.{peer_of}
 use Rattle.net_topology.proofs.PlaceSteps.{router_turn, peers_first}
 use Rattle.net_topology.proofs.peers.all_peers.Goals as goal
@@ -15,5 +15,5 @@ loop-r-init c =
 pub loop-r-preserved : goal.loop-r-preserved
 loop-r-preserved c =
     let x = c.index-routers-r.result in
-    let pushed = c.in_ok-push_peers.ensures ∙ ap (λ r. c.loop-r.found.items ++ filter_map peer_of (map (place_on r x) (enumerate_from 0 (neighbors_of x)))) c.in_ok-router.ensures in
+    let pushed = c.in_ok-push_peers.ensures ∙ ap (λ r. c.loop-r.found.items ++ filter_map peer_of (map (place_on r x) (enumerate_from 0 (neighbors_of x)))) c.place-router.ensures in
     router_turn neighbors_of peer_of c.loop-r.found.items c.push_peers.new.found.items _ c.as_slice-routers.result.now c.loop-r.r x c.loop-r-test.true c.index-routers-r.is pushed c.loop-r.invariant

@@ -1,6 +1,6 @@
 use Rattle.std.proofs.Common.{◌≡◌, ◌++◌, drop, filter_map, flat_map}
 use Rattle.std.specs.List.{enumerate_from}
-use Rattle.cfg_ast.specs.Topology.{places_on, neighbors_of}
+use Rattle.cfg_ast.specs.meaning.Topology.{places_on, neighbors_of}
 use Rattle.net_topology.specs.Peers.{peer_of, peers}
 use Rattle.net_topology.proofs.peers.all_peers.Given as goal
 

@@ -10,5 +10,5 @@ loop-r-init c = ap (λ xs. xs ++ flat_map ups_on (enumerate_from 0 c.args.router
 pub loop-r-preserved : goal.loop-r-preserved
 loop-r-preserved c =
     let x = c.index-routers-r.result in
-    let pushed = c.in_ok-push_ups.ensures ∙ ap (λ r. c.loop-r.found.items ++ ups_on (r, x)) c.in_ok-router.ensures in
+    let pushed = c.in_ok-push_ups.ensures ∙ ap (λ r. c.loop-r.found.items ++ ups_on (r, x)) c.place-router.ensures in
     ups_turn c.loop-r.found.items c.push_ups.new.found.items _ c.args.routers.now c.loop-r.r x c.loop-r-test.true c.index-routers-r.is pushed c.loop-r.invariant
