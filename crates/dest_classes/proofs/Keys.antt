@@ -10,25 +10,25 @@ use Rattle.std.specs.declared.cmp.Ordering.TheVariants.{Less}
 use Rattle.base_kit.specs.Prefixes.{Prefix}
 use Rattle.cfg_ast.specs.declared.classes.Origin.{Origin}
 use Rattle.cfg_ast.specs.declared.network.Network.{Network}
-use Rattle.cfg_ast.specs.Classes.{same_prefix, is_before, has_prefix, AllAfter, AreAscending, originated, origins_of}
+use Rattle.cfg_ast.specs.meaning.Classes.{same_prefix, is_before, has_prefix, AllAfter, AreAscending, originated, origins_of}
 use Rattle.cfg_ast.proofs.PrefixSets.{one_prefix, same_prefix-self, not_same_before, cases_prefix, has_not_before, AllAfter-trans}
 use Rattle.cfg_ast.proofs.ClassFacts.{originated_ascends}
-use Rattle.dest_classes.specs.Routes.{prefix_order}
+use Rattle.dest_classes.specs.Routes.{prefix_cmp}
 use Rattle.dest_classes.proofs.Noted.{some_of}
-use Rattle.dest_classes.proofs.Order.{is_eq-prefix_order, is_lt-prefix_order}
+use Rattle.dest_classes.proofs.Order.{is_eq-prefix_cmp, is_lt-prefix_cmp}
 use Rattle.dest_classes.proofs.Originated.{has_originated}
 
 abbrev Entries : Type 0
 Entries = List (Prefix × List Origin)
 
-before_less : (p q : Prefix) → prefix_order p q ≡ Less → is_before p q ≡ true
-before_less p q less = sym (is_lt-prefix_order p q) ∙ ap is_lt less
+before_less : (p q : Prefix) → prefix_cmp p q ≡ Less → is_before p q ≡ true
+before_less p q less = sym (is_lt-prefix_cmp p q) ∙ ap is_lt less
 
-all_after : (p : Prefix) (es : Entries) → AllByRecursion (λ q. prefix_order p q ≡ Less) (keys_of es) → AllAfter p (keys_of es)
+all_after : (p : Prefix) (es : Entries) → AllByRecursion (λ q. prefix_cmp p q ≡ Less) (keys_of es) → AllAfter p (keys_of es)
 all_after p [] all = tt
 all_after p (e ∷ es) all = (before_less p e.0 all.0, all_after p es all.1)
 
-ascending_keys : (es : Entries) → IsStrictlySortedBy prefix_order (keys_of es) → AreAscending (keys_of es)
+ascending_keys : (es : Entries) → IsStrictlySortedBy prefix_cmp (keys_of es) → AreAscending (keys_of es)
 unfolding IsStrictlySortedBy
 ascending_keys [] sorted = tt
 ascending_keys (e ∷ es) sorted = (all_after e.0 es sorted.0, ascending_keys es sorted.1)
@@ -36,9 +36,9 @@ ascending_keys (e ∷ es) sorted = (all_after e.0 es sorted.0, ascending_keys es
 abbrev found_at : Prefix → Entries → Option (List Origin)
 found_at p es = lookup (same_prefix p) es
 
-looked_up : (p : Prefix) (es : Entries) → lookup (is_at (prefix_order p)) es ≡ found_at p es
+looked_up : (p : Prefix) (es : Entries) → lookup (is_at (prefix_cmp p)) es ≡ found_at p es
 looked_up p [] = refl
-looked_up p (e ∷ es) = ap (λ b. cond b (Some e.1) (lookup (is_at (prefix_order p)) es)) (is_eq-prefix_order p e.0) ∙ ap (cond (same_prefix p e.0) (Some e.1)) (looked_up p es)
+looked_up p (e ∷ es) = ap (λ b. cond b (Some e.1) (lookup (is_at (prefix_cmp p)) es)) (is_eq-prefix_cmp p e.0) ∙ ap (cond (same_prefix p e.0) (Some e.1)) (looked_up p es)
 
 -- a key before all others is not among them
 found_not : (q p : Prefix) (es : Entries) → AllAfter q (keys_of es) → same_prefix p q ≡ true → found_at p es ≡ None
@@ -86,7 +86,7 @@ one_entries g (e ∷ es) (p ∷ ps) up ascends found = elim (cases_prefix e.0 p)
 ]
 
 -- the entries of a map from each originated prefix to its originators
-pub entries_are : (network : Network) (m : BTreeMap Prefix (List Origin)) → IsOrdered prefix_order m → ((p : Prefix) → get prefix_order m p ≡ some_of (origins_of network p)) → m.entries ≡ map (with_value (origins_of network)) (originated network)
+pub entries_are : (network : Network) (m : BTreeMap Prefix (List Origin)) → IsOrdered prefix_cmp m → ((p : Prefix) → get prefix_cmp m p ≡ some_of (origins_of network p)) → m.entries ≡ map (with_value (origins_of network)) (originated network)
 entries_are network m ordered has =
     one_entries (origins_of network) m.entries (originated network) (ascending_keys m.entries ordered) (originated_ascends network)
     (λ p. sym (looked_up p m.entries) ∙ has p ∙ some_if (origins_of network p) ∙ ap (λ b. cond b (Some (origins_of network p)) None) (sym (has_originated network p)))

@@ -7,11 +7,11 @@ use Rattle.base_kit.specs.Prefixes.{Prefix}
 use Rattle.cfg_ast.specs.declared.classes.DestClass.{DestClass}
 use Rattle.cfg_ast.specs.declared.classes.Origin.{Origin}
 use Rattle.cfg_ast.specs.declared.policy.PrefixList.{PrefixList}
-use Rattle.cfg_ast.specs.Classes.{same_items, same_origin}
+use Rattle.cfg_ast.specs.meaning.Classes.{same_items, same_origin}
 use Rattle.dest_classes.specs.declared.kinds.Member.{Member}
 use Rattle.dest_classes.specs.Lists.{answers_to}
-use Rattle.dest_classes.specs.Kinds.{entries_of, IsTold, AreTold, AreMembers}
-use Rattle.dest_classes.specs.Groups.{Group, belongs, with_member, with_members, class_from}
+use Rattle.dest_classes.specs.Kinds.{entries_of, IsTold, AreAllTold, AreMembers}
+use Rattle.dest_classes.specs.Groups.{Group, belongs, grouped_with, with_members, class_from}
 use Rattle.dest_classes.proofs.Traits.{Traits, same_traits, Likes, with_like, with_likes, class_of_likes}
 
 module _ (lists : List PrefixList) where
@@ -53,22 +53,22 @@ module _ (lists : List PrefixList) where
   fewer m left (group ∷ groups) [] are = are
   fewer m left (group ∷ groups) (like ∷ likes) are = (record { origins = are.0.origins; prefixes = are.0.prefixes; later = are.0.later.1 }, fewer m left groups likes are.1)
 
-  one_more : (m : Member) (left : List Member) (groups : List Group) (likes : List Likes) → AllByRecursion (IsTold lists m) left → AreOne (m ∷ left) groups likes → AreOne left (with_member m groups) (with_like (traits_at m) m.prefix likes)
+  one_more : (m : Member) (left : List Member) (groups : List Group) (likes : List Likes) → AllByRecursion (IsTold lists m) left → AreOne (m ∷ left) groups likes → AreOne left (grouped_with m groups) (with_like (traits_at m) m.prefix likes)
   one_more m left [] [] told are = (record { origins = refl; prefixes = refl; later = new_later m left (m.prefix ∷ []) told }, tt)
   one_more m left [] (like ∷ likes) told are = absurd are
   one_more m left (group ∷ groups) [] told are = absurd are
   one_more m left (group ∷ groups) (like ∷ likes) told are = step (belongs m group) (same_traits (traits_at m) like.traits) (belongs_alike m left group like are.0) (one_more m left groups likes told are.1) where
-    step : (b c : Bool) → b ≡ c → AreOne left (with_member m groups) (with_like (traits_at m) m.prefix likes)
-        → AreOne left (cond b (record group { prefixes = group.prefixes ++ m.prefix ∷ [] } ∷ groups) (group ∷ with_member m groups))
+    step : (b c : Bool) → b ≡ c → AreOne left (grouped_with m groups) (with_like (traits_at m) m.prefix likes)
+        → AreOne left (cond b (record group { prefixes = group.prefixes ++ m.prefix ∷ [] } ∷ groups) (group ∷ grouped_with m groups))
         (cond c (record like { prefixes = like.prefixes ++ m.prefix ∷ [] } ∷ likes) (like ∷ with_like (traits_at m) m.prefix likes))
     step true true same rest = (record { origins = are.0.origins; prefixes = ap (λ ps. ps ++ m.prefix ∷ []) are.0.prefixes; later = with_more left group like _ _ are.0.later.1 }, fewer m left groups likes are.1)
     step true false same rest = absurd (true≢false same)
     step false true same rest = absurd (true≢false (sym same))
     step false false same rest = (record { origins = are.0.origins; prefixes = are.0.prefixes; later = are.0.later.1 }, rest)
 
-  all_one : (ms : List Member) (groups : List Group) (likes : List Likes) → AreTold lists ms → AreOne ms groups likes → AreOne [] (with_members ms groups) (with_likes lists (entries_of ms) likes)
+  all_one : (ms : List Member) (groups : List Group) (likes : List Likes) → AreAllTold lists ms → AreOne ms groups likes → AreOne [] (with_members ms groups) (with_likes lists (entries_of ms) likes)
   all_one [] groups likes told are = are
-  all_one (m ∷ ms) groups likes told are = all_one ms (with_member m groups) (with_like (traits_at m) m.prefix likes) told.1 (one_more m ms groups likes told.0 are)
+  all_one (m ∷ ms) groups likes told are = all_one ms (grouped_with m groups) (with_like (traits_at m) m.prefix likes) told.1 (one_more m ms groups likes told.0 are)
 
   classes_one : (groups : List Group) (likes : List Likes) → AreOne [] groups likes → map class_from groups ≡ map class_of_likes likes
   classes_one [] [] are = refl

@@ -10,9 +10,9 @@ use Rattle.base_kit.specs.Prefixes.{Prefix}
 use Rattle.cfg_ast.specs.declared.classes.Origin.{Origin}
 use Rattle.cfg_ast.specs.declared.network.Router.{Router}
 use Rattle.cfg_ast.specs.declared.network.Network.{Network}
-use Rattle.cfg_ast.specs.Classes.{same_prefix, initial_route, origin_at, origins_of}
+use Rattle.cfg_ast.specs.meaning.Classes.{same_prefix, initial_route, origin_at, origins_of}
 use Rattle.dest_classes.specs.declared.routes.Route.{Route}
-use Rattle.dest_classes.specs.Routes.{routes_on, ends_at, with_origin, all_noted, noted_from}
+use Rattle.dest_classes.specs.Routes.{routes_on, ends_with_router, with_origin, all_noted, noted_from}
 use Rattle.dest_classes.proofs.Starts.{leads_to, start_in, initial_is}
 
 -- a list, if it has an item
@@ -32,7 +32,7 @@ last_is origins origin =
     let place : length (origins ++ origin ∷ []) - 1 ≡ length origins = omega (arith, length-append origins (origin ∷ [])) in
     ap (slice_get (origins ++ origin ∷ [])) place ∙ slice_get-get_or (origins ++ origin ∷ []) (length origins) origin (omega (arith, length-append origins (origin ∷ []))) ∙ ap Some (get_or-append_seam origins origin [] origin)
 
-ends_with : (place : ℕ) (origins : List Origin) (cost : Option ℕ) → ends_at place (origins ++ started place cost ∷ []) ≡ true
+ends_with : (place : ℕ) (origins : List Origin) (cost : Option ℕ) → ends_with_router place (origins ++ started place cost ∷ []) ≡ true
 ends_with place origins cost = ap (λ o. option_map_or (λ (origin : Origin). nat_eq origin.router place) o false) (last_is origins (started place cost)) ∙ eq-eqb place place refl
 
 below_at : (place : ℕ) (origins : List Origin) (i : ℕ) → AllBelow place origins → option_map_or (λ (origin : Origin). nat_eq origin.router place) (slice_get origins i) false ≡ false
@@ -40,7 +40,7 @@ below_at place [] i below = refl
 below_at place (origin ∷ origins) zero below = grind (arith, nat_tests, below.0)
 below_at place (origin ∷ origins) (suc i) below = below_at place origins i below.1
 
-ends_below : (place : ℕ) (origins : List Origin) → AllBelow place origins → ends_at place origins ≡ false
+ends_below : (place : ℕ) (origins : List Origin) → AllBelow place origins → ends_with_router place origins ≡ false
 ends_below place origins below = below_at place origins (length origins - 1) below
 
 -- further routes of a router that is noted already change nothing
@@ -49,10 +49,10 @@ already true true origins more ends = refl
 already true false origins more ends = absurd (true≢false (sym ends))
 already false e origins more ends = refl
 
-noted_already : (p : Prefix) (place : ℕ) (routes : List Route) (origins : List Origin) → ends_at place origins ≡ true → all_noted p place routes (Some origins) ≡ Some origins
+noted_already : (p : Prefix) (place : ℕ) (routes : List Route) (origins : List Origin) → ends_with_router place origins ≡ true → all_noted p place routes (Some origins) ≡ Some origins
 noted_already p place [] origins ends = refl
 noted_already p place (route ∷ routes) origins ends =
-    ap (all_noted p place routes) (already (same_prefix p route.prefix) (ends_at place origins) origins _ ends) ∙ noted_already p place routes origins ends
+    ap (all_noted p place routes) (already (same_prefix p route.prefix) (ends_with_router place origins) origins _ ends) ∙ noted_already p place routes origins ends
 
 abbrev then_started : ℕ → List Origin → Option (Option ℕ) → List Origin
 then_started place origins start = origins ++ cons_option (option_map (started place) start) []

@@ -10,8 +10,8 @@ use Rattle.cfg_ast.specs.declared.classes.Origin.{Origin}
 use Rattle.cfg_ast.specs.declared.interface.Interface.{Interface}
 use Rattle.cfg_ast.specs.declared.network.Network.{Network}
 use Rattle.cfg_ast.specs.declared.network.Router.{Router}
-use Rattle.cfg_ast.specs.Classes.{same_prefix, has_prefix, up_subnet, is_up_in, route_from, initial_route, originated_by, originated, origin_at, origins_of}
-use Rattle.cfg_ast.specs.Topology.{is_in_area_interface, cost_of_interface}
+use Rattle.cfg_ast.specs.meaning.Classes.{same_prefix, has_prefix, up_subnet, is_up_in, route_by_process, initial_route, originated_by, originated, origin_at, origins_of}
+use Rattle.cfg_ast.specs.meaning.Topology.{is_in_area_interface, cost_of_interface}
 use Rattle.cfg_ast.proofs.PrefixSets.{one_prefix, has-with_prefixes}
 use Rattle.dest_classes.proofs.Noted.{some_of}
 
@@ -56,7 +56,7 @@ announced_up true true e = refl
 announced_up true false e = absurd (true≢false (sym e))
 announced_up false u e = absurd (true≢false (sym e))
 
-starts_up : (router : Router) (p : Prefix) (bgp : Option BgpProcess) → is_some (route_from router bgp p) ≡ true → list_any (is_up_in p) router.interfaces ≡ true
+starts_up : (router : Router) (p : Prefix) (bgp : Option BgpProcess) → is_some (route_by_process router bgp p) ≡ true → list_any (is_up_in p) router.interfaces ≡ true
 starts_up router p (Some process) starts = announced_up _ (list_any (is_up_in p) router.interfaces) starts
 starts_up router p None starts = found_up router p router.interfaces starts
 

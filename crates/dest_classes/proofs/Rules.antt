@@ -5,10 +5,10 @@ use Rattle.std.specs.Global.{Vec}
 use Rattle.std.specs.List.{list_any}
 use Rattle.std.proofs.lemmas.List.Folds.{list_any-append}
 use Rattle.cfg_ast.specs.declared.policy.PrefixList.{PrefixList}
-use Rattle.cfg_ast.specs.Classes.{same_items}
+use Rattle.cfg_ast.specs.meaning.Classes.{same_items}
 use Rattle.cfg_ast.proofs.ClassFacts.{Tells, items_tell}
 use Rattle.dest_classes.specs.declared.lists.Rule.{Rule}
-use Rattle.dest_classes.specs.Lists.{same_rule, same_rules, rules_of, says, AreSaid}
+use Rattle.dest_classes.specs.Lists.{same_rule, same_rules, rules_of, has_rules, AreSaid}
 use Rattle.dest_classes.proofs.Bools.{by_both, last_first}
 
 -- the list that a reference points to
@@ -43,6 +43,6 @@ swapped xs ys same = ap (same_items same_rule ys) (all_tell.one xs ys same) ∙ 
 pub said_more : {S : Type 0} (old new : HashSet (Vec Rule) S) (own : Vec Rule) (list : PrefixList) (asked : List PrefixList) → own.items ≡ rules_of list → Updates same_rules old new own true → AreSaid old asked → AreSaid new (asked ++ list ∷ [])
 said_more old new own list asked same put said = record {
   each = λ (v : Vec Rule).
-      let here : same_rules own v ≡ says v.items list = ap (λ rs. same_items same_rule rs v.items) same ∙ by_both _ _ (swapped (rules_of list) v.items) (swapped v.items (rules_of list)) in
-      put.0 v ∙ ap (cond (same_rules own v) true) (said.each v) ∙ ap (λ b. cond b true (list_any (says v.items) asked)) here ∙ last_first (says v.items list) (list_any (says v.items) asked) ∙ sym (list_any-append (says v.items) asked (list ∷ []));
+      let here : same_rules own v ≡ has_rules v.items list = ap (λ rs. same_items same_rule rs v.items) same ∙ by_both _ _ (swapped (rules_of list) v.items) (swapped v.items (rules_of list)) in
+      put.0 v ∙ ap (cond (same_rules own v) true) (said.each v) ∙ ap (λ b. cond b true (list_any (has_rules v.items) asked)) here ∙ last_first (has_rules v.items list) (list_any (has_rules v.items) asked) ∙ sym (list_any-append (has_rules v.items) asked (list ∷ []));
 }

@@ -8,8 +8,8 @@ use Rattle.cfg_ast.specs.declared.bgp.BgpProcess.{BgpProcess}
 use Rattle.cfg_ast.specs.declared.bgp.NetLine.{NetLine}
 use Rattle.cfg_ast.specs.declared.interface.Interface.{Interface}
 use Rattle.cfg_ast.specs.declared.network.Router.{Router}
-use Rattle.cfg_ast.specs.Classes.{same_prefix, up_subnet, is_up_in, route_from, initial_route}
-use Rattle.cfg_ast.specs.Topology.{is_in_area_interface, cost_of_interface}
+use Rattle.cfg_ast.specs.meaning.Classes.{same_prefix, up_subnet, is_up_in, route_by_process, initial_route}
+use Rattle.cfg_ast.specs.meaning.Topology.{is_in_area_interface, cost_of_interface}
 use Rattle.cfg_ast.proofs.PrefixSets.{one_prefix}
 use Rattle.dest_classes.specs.declared.routes.Route.{Route}
 use Rattle.dest_classes.specs.Routes.{is_named, route_to, routes_on}
@@ -71,7 +71,7 @@ ospf_start router p [] = refl
 ospf_start router p (x ∷ xs) =
     ospf_step router p x (is_in_area_interface router x) (find (λ x. is_in_area_interface router x && is_up_in p x) xs) (up_to router None xs) (up_subnet x) refl (ospf_start router p xs)
 
-by_process : (router : Router) (p : Prefix) (bgp : Option BgpProcess) → start_in p (up_to router bgp router.interfaces) ≡ route_from router bgp p
+by_process : (router : Router) (p : Prefix) (bgp : Option BgpProcess) → start_in p (up_to router bgp router.interfaces) ≡ route_by_process router bgp p
 by_process router p (Some process) = bgp_start router process p router.interfaces
 by_process router p None = ospf_start router p router.interfaces
 

@@ -6,7 +6,7 @@ use Rattle.cfg_ast.specs.declared.classes.DestClass.{DestClass}
 use Rattle.cfg_ast.specs.declared.classes.Origin.{Origin}
 use Rattle.cfg_ast.specs.declared.network.Network.{Network}
 use Rattle.cfg_ast.specs.declared.policy.PrefixList.{PrefixList}
-use Rattle.cfg_ast.specs.Classes.{same_items, same_origin, origins_of}
+use Rattle.cfg_ast.specs.meaning.Classes.{same_items, same_origin, origins_of}
 use Rattle.dest_classes.specs.Lists.{answers_to}
 
 -- the originators of a prefix with their initial routes, and what the prefix lists answer

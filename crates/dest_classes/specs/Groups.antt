@@ -3,7 +3,7 @@ use Rattle.std.specs.Prelude.{ℕ, Bool, ◌&&◌, List, [], ◌∷◌, ◌++◌
 use Rattle.base_kit.specs.Prefixes.{Prefix}
 use Rattle.cfg_ast.specs.declared.classes.DestClass.{DestClass}
 use Rattle.cfg_ast.specs.declared.classes.Origin.{Origin}
-use Rattle.cfg_ast.specs.Classes.{same_items, same_origin}
+use Rattle.cfg_ast.specs.meaning.Classes.{same_items, same_origin}
 use Rattle.dest_classes.specs.declared.groups.Signature.{Signature}
 use Rattle.dest_classes.specs.declared.kinds.Member.{Member}
 use Rattle.dest_classes.specs.contracts.groups.SignaturePartialEq.TheImpl as signature_eq
@@ -25,13 +25,13 @@ abbrev pub belongs : Member → Group → Bool
 belongs member group = same_items same_origin member.origins group.origins && nat_eq member.kind group.kind
 
 -- a member put into its group, or into a new one at the end
-abbrev pub with_member : Member → List Group → List Group
-with_member member [] = record { origins = member.origins; kind = member.kind; prefixes = member.prefix ∷ [] } ∷ []
-with_member member (group ∷ groups) = if belongs member group then record group { prefixes = group.prefixes ++ member.prefix ∷ [] } ∷ groups else group ∷ with_member member groups
+abbrev pub grouped_with : Member → List Group → List Group
+grouped_with member [] = record { origins = member.origins; kind = member.kind; prefixes = member.prefix ∷ [] } ∷ []
+grouped_with member (group ∷ groups) = if belongs member group then record group { prefixes = group.prefixes ++ member.prefix ∷ [] } ∷ groups else group ∷ grouped_with member groups
 
 abbrev pub with_members : List Member → List Group → List Group
 with_members [] groups = groups
-with_members (member ∷ members) groups = with_members members (with_member member groups)
+with_members (member ∷ members) groups = with_members members (grouped_with member groups)
 
 abbrev pub class_from : Group → DestClass
 class_from group = record { prefixes = group.prefixes; origins = group.origins }

@@ -6,8 +6,8 @@ use Rattle.indexmap.specs.IndexSet.{insert_key}
 use Rattle.base_kit.specs.Prefixes.{Prefix}
 use Rattle.cfg_ast.specs.declared.classes.Origin.{Origin}
 use Rattle.cfg_ast.specs.declared.policy.PrefixList.{PrefixList}
-use Rattle.cfg_ast.specs.Classes.{same_items}
-use Rattle.cfg_ast.specs.PrefixLists.{prefix_list_permits}
+use Rattle.cfg_ast.specs.meaning.Classes.{same_items}
+use Rattle.cfg_ast.specs.meaning.PrefixLists.{prefix_list_permits}
 use Rattle.dest_classes.specs.declared.kinds.Member.{Member}
 use Rattle.dest_classes.specs.Lists.{answers_to}
 
@@ -20,17 +20,17 @@ abbrev pub word_of : List PrefixList → Prefix → ℕ
 word_of lists p = word_from 0 lists p
 
 -- a kind so far, and the next answers
-abbrev pub key_of : List PrefixList → Member → ℕ × ℕ
-key_of lists member = (member.kind, word_of lists member.prefix)
+abbrev pub kind_key : List PrefixList → Member → ℕ × ℕ
+kind_key lists member = (member.kind, word_of lists member.prefix)
 
-abbrev pub same_key : ℕ × ℕ → ℕ × ℕ → Bool
-same_key a b = nat_eq a.0 b.0 && nat_eq a.1 b.1
+abbrev pub same_kind_key : ℕ × ℕ → ℕ × ℕ → Bool
+same_kind_key a b = nat_eq a.0 b.0 && nat_eq a.1 b.1
 
 -- the members once these lists are asked too: a kind is now the place of its key among the different ones
 abbrev pub asked : List PrefixList → List (ℕ × ℕ) → List Member → List Member
 asked lists keys [] = []
 asked lists keys (member ∷ members) =
-    record member { kind = position_or_len (same_key (key_of lists member)) keys } ∷ asked lists (insert_key same_key keys (key_of lists member)) members
+    record member { kind = position_or_len (same_kind_key (kind_key lists member)) keys } ∷ asked lists (insert_key same_kind_key keys (kind_key lists member)) members
 
 -- a prefix with its originators, before any list is asked
 abbrev pub started : Prefix × List Origin → Member
@@ -50,11 +50,11 @@ alike_to lists p q = same_items beq (answers_to lists p) (answers_to lists q)
 pub record IsTold (lists : List PrefixList) (member later : Member) : Type 0 where
   pub alike : nat_eq later.kind member.kind ≡ alike_to lists later.prefix member.prefix
 
-abbrev pub AreTold : List PrefixList → List Member → Type 0
-AreTold lists [] = Unit {0}
-AreTold lists (member ∷ members) = AllByRecursion (IsTold lists member) members × AreTold lists members
+abbrev pub AreAllTold : List PrefixList → List Member → Type 0
+AreAllTold lists [] = Unit {0}
+AreAllTold lists (member ∷ members) = AllByRecursion (IsTold lists member) members × AreAllTold lists members
 
 -- the entries of a map from prefixes to originators, each with its kind by these lists
 pub record AreMembers (entries : List (Prefix × List Origin)) (lists : List PrefixList) (members : List Member) : Type 0 where
   pub entries_are : entries_of members ≡ entries
-  pub told : AreTold lists members
+  pub told : AreAllTold lists members

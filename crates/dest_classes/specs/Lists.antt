@@ -7,8 +7,8 @@ use Rattle.base_kit.specs.Prefixes.{Prefix}
 use Rattle.cfg_ast.specs.declared.network.Network.{Network}
 use Rattle.cfg_ast.specs.declared.policy.PrefixEntry.{PrefixEntry}
 use Rattle.cfg_ast.specs.declared.policy.PrefixList.{PrefixList}
-use Rattle.cfg_ast.specs.Classes.{same_items, lists_on}
-use Rattle.cfg_ast.specs.PrefixLists.{prefix_list_permits}
+use Rattle.cfg_ast.specs.meaning.Classes.{same_items, lists_on}
+use Rattle.cfg_ast.specs.meaning.PrefixLists.{prefix_list_permits}
 use Rattle.dest_classes.specs.declared.lists.Rule.{Rule}
 use Rattle.dest_classes.specs.contracts.lists.RulePartialEq.TheImpl as rule_eq
 
@@ -24,8 +24,8 @@ abbrev pub rules_of : PrefixList → List Rule
 rules_of list = map rule_of list.entries
 
 -- the list has exactly these rules
-abbrev pub says : List Rule → PrefixList → Bool
-says rules list = same_items same_rule rules (rules_of list)
+abbrev pub has_rules : List Rule → PrefixList → Bool
+has_rules rules list = same_items same_rule rules (rules_of list)
 
 -- how `==` compares what lists say
 abbrev pub same_rules : Vec Rule → Vec Rule → Bool
@@ -33,11 +33,11 @@ same_rules a b = same_items same_rule a.items b.items
 
 -- the set has what these lists say
 pub record AreSaid {S : Type 0} (said : HashSet (Vec Rule) S) (asked : List PrefixList) : Type 0 where
-  pub each : (rules : Vec Rule) → contains same_rules said rules ≡ list_any (says rules.items) asked
+  pub each : (rules : Vec Rule) → contains same_rules said rules ≡ list_any (has_rules rules.items) asked
 
 -- the lists that are asked, with one more, unless one of them says the same
 abbrev pub with_list : PrefixList → List PrefixList → List PrefixList
-with_list list asked = if list_any (says (rules_of list)) asked then asked else asked ++ list ∷ []
+with_list list asked = if list_any (has_rules (rules_of list)) asked then asked else asked ++ list ∷ []
 
 abbrev pub with_lists : List PrefixList → List PrefixList → List PrefixList
 with_lists [] asked = asked

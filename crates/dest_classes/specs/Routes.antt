@@ -12,13 +12,13 @@ use Rattle.cfg_ast.specs.declared.bgp.NetLine.{NetLine}
 use Rattle.cfg_ast.specs.declared.classes.Origin.{Origin}
 use Rattle.cfg_ast.specs.declared.interface.Interface.{Interface}
 use Rattle.cfg_ast.specs.declared.network.Router.{Router}
-use Rattle.cfg_ast.specs.Classes.{same_prefix, up_subnet}
-use Rattle.cfg_ast.specs.Topology.{is_in_area_interface, cost_of_interface}
+use Rattle.cfg_ast.specs.meaning.Classes.{same_prefix, up_subnet}
+use Rattle.cfg_ast.specs.meaning.Topology.{is_in_area_interface, cost_of_interface}
 use Rattle.dest_classes.specs.declared.routes.Route.{Route}
 
 -- how `cmp` orders prefixes
-abbrev pub prefix_order : Prefix → Prefix → Ordering
-prefix_order = (prefix_ord.ghosts).cmp
+abbrev pub prefix_cmp : Prefix → Prefix → Ordering
+prefix_cmp = (prefix_ord.ghosts).cmp
 
 -- a `network` line has the prefix
 abbrev pub is_named : List NetLine → Prefix → Bool
@@ -28,7 +28,7 @@ is_named lines p = list_any (λ (line : NetLine). same_prefix p line.prefix) lin
 abbrev pub AreNamed : Option BgpProcess → Option (BTreeSet Prefix) → Type 0
 AreNamed None set = set ≡ None
 AreNamed (Some process) None = ⊥
-AreNamed (Some process) (Some set) = (p : Prefix) → contains prefix_order set p ≡ is_named process.networks p
+AreNamed (Some process) (Some set) = (p : Prefix) → contains prefix_cmp set p ≡ is_named process.networks p
 
 abbrev pub route_to : Router → Option BgpProcess → Interface → Option Prefix → Option Route
 route_to router bgp x None = None
@@ -43,12 +43,12 @@ abbrev pub routes_on : Router → List Route
 routes_on router = filter_map (route_at router) router.interfaces
 
 -- the last origin is at that router
-abbrev pub ends_at : ℕ → List Origin → Bool
-ends_at router origins = option_map_or (λ (origin : Origin). nat_eq origin.router router) (slice_get origins (length origins - 1)) false
+abbrev pub ends_with_router : ℕ → List Origin → Bool
+ends_with_router router origins = option_map_or (λ (origin : Origin). nat_eq origin.router router) (slice_get origins (length origins - 1)) false
 
 -- the origins with one more, unless its router is noted already
 abbrev pub with_origin : List Origin → Origin → List Origin
-with_origin origins origin = if ends_at origin.router origins then origins else origins ++ origin ∷ []
+with_origin origins origin = if ends_with_router origin.router origins then origins else origins ++ origin ∷ []
 
 -- what is known of a prefix after one more route of a router
 abbrev pub noted : Prefix → ℕ → Route → Option (List Origin) → Option (List Origin)

@@ -1,8 +1,8 @@
 ghost use Rattle.std.specs.Prelude.{◌≡◌, ◌≤◌, [], IfOk, OnOk, map, length};
 ghost use Rattle.std.specs.BTreeMap.{IsOrdered};
 ghost use Rattle.dest_classes.specs.Lists.{lists_asked};
-ghost use Rattle.dest_classes.specs.Kinds.{word_of, started, asked, entries_of, AreTold, AreMembers};
-ghost use Rattle.dest_classes.specs.Routes.{prefix_order};
+ghost use Rattle.dest_classes.specs.Kinds.{word_of, started, asked, entries_of, AreAllTold, AreMembers};
+ghost use Rattle.dest_classes.specs.Routes.{prefix_cmp};
 
 use crate::lists::lists_asked;
 use crate::routes::Originators;
@@ -57,7 +57,7 @@ fn ask_all(
     mut members: Vec<Member>,
     lists: &[&PrefixList],
 ) -> Result<Vec<Member>, NoMemory>
-    requires { AreTold [] members.items }
+    requires { AreAllTold [] members.items }
     ensures { IfOk result (λ v. AreMembers (entries_of members.items) (map (λ list. list.now) lists.now) v.items) }
 {
     let mut done = 0;
@@ -72,7 +72,7 @@ fn ask_all(
 // The prefixes of the map, in its order, before any list is asked.
 fn started(alloc: Global, originators: Originators) -> Result<Vec<Member>, NoMemory>
     ensures members { IfOk result (λ v. v.items ≡ map started originators.entries) }
-    ensures ordered { OnOk result (IsOrdered prefix_order originators) }
+    ensures ordered { OnOk result (IsOrdered prefix_cmp originators) }
 {
     let mut members = Vec::with_capacity(alloc, originators.len())?;
     for (prefix, origins) in originators {
@@ -92,7 +92,7 @@ pub fn members_of(
     originators: Originators,
 ) -> Result<Vec<Member>, NoMemory>
     ensures members { IfOk result (λ v. AreMembers originators.entries (lists_asked net.now) v.items) }
-    ensures ordered { OnOk result (IsOrdered prefix_order originators) }
+    ensures ordered { OnOk result (IsOrdered prefix_cmp originators) }
 {
     let lists = lists_asked(alloc, net)?;
     let members = started(alloc, originators)?;

@@ -1,4 +1,4 @@
-ghost use Rattle.cfg_ast.specs.Classes.{SameClassIsDecided, ClassOfEachMember, ClassAscends};
+ghost use Rattle.cfg_ast.specs.meaning.Classes.{SameClassIsDecided, ClassOfEachMember, ClassAscends};
 
 /// Law: two prefixes are in one class exactly where they have the same originators with the same
 /// initial routes, and the same answers.

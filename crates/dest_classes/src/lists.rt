@@ -1,5 +1,5 @@
 ghost use Rattle.std.specs.Prelude.{◌≡◌, IfOk, OnOk, map, flat_map};
-ghost use Rattle.cfg_ast.specs.Classes.{lists_on};
+ghost use Rattle.cfg_ast.specs.meaning.Classes.{lists_on};
 ghost use Rattle.dest_classes.specs.Lists.{rule_of, rules_of, AreSaid, with_list, different, lists_asked};
 
 use base_kit::NoMemory;

@@ -1,5 +1,5 @@
 ghost use Rattle.std.specs.Prelude.{◌≡◌, ◌<◌, ◌^◌, IfOk, length};
-ghost use Rattle.cfg_ast.specs.Classes.{classes_of};
+ghost use Rattle.cfg_ast.specs.meaning.Classes.{classes_of};
 
 use crate::groups;
 use crate::kinds::members_of;

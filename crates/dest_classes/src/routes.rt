@@ -3,7 +3,7 @@ ghost use Rattle.std.specs.BTreeMap.{get};
 ghost use Rattle.std.specs.BTreeSet.{contains};
 ghost use Rattle.std.specs.List.{enumerate_from};
 ghost use Rattle.base_kit.specs.Prefixes.{Prefix as Block};
-ghost use Rattle.dest_classes.specs.Routes.{prefix_order, is_named, AreNamed, route_to, route_at, routes_on, ends_at, noted, all_noted, noted_from};
+ghost use Rattle.dest_classes.specs.Routes.{prefix_cmp, is_named, AreNamed, route_to, route_at, routes_on, ends_with_router, noted, all_noted, noted_from};
 
 use base_kit::{List, NoMemory, Prefix};
 use cfg_ast::{BgpProcess, Interface, Network, Origin, Router};
@@ -23,7 +23,7 @@ pub type Originators = BTreeMap<Prefix, List<Origin>>;
 
 // The prefixes of the `network` lines of a BGP process.
 fn named(alloc: Global, process: &BgpProcess) -> Result<BTreeSet<Prefix>, NoMemory>
-    ensures { IfOk result (λ set. (p : Block) → contains prefix_order set p ≡ is_named process.now.networks p) }
+    ensures { IfOk result (λ set. (p : Block) → contains prefix_cmp set p ≡ is_named process.now.networks p) }
 {
     let mut prefixes = BTreeSet::new(alloc);
     for line in process.networks.as_slice() {
@@ -39,10 +39,10 @@ fn note(
     router: u32,
     route: Route,
 ) -> Result<(), NoMemory>
-    ensures { OnOk result ((p : Block) → get prefix_order originators.new p ≡ noted p router route (get prefix_order originators.old p)) }
+    ensures { OnOk result ((p : Block) → get prefix_cmp originators.new p ≡ noted p router route (get prefix_cmp originators.old p)) }
 {
     let origins = originators.entry(route.prefix)?.or_insert(List::new(alloc));
-    if !ends_at(origins.as_slice(), router) {
+    if !ends_with_router(origins.as_slice(), router) {
         origins.push(Origin {
             router,
             cost: route.cost,
@@ -100,7 +100,7 @@ fn note_interfaces(
     interfaces: &[Interface],
 ) -> Result<(), NoMemory>
     requires { AreNamed index.now.router.now.bgp (option_copied named) }
-    ensures { OnOk result ((p : Block) → get prefix_order originators.new p ≡ all_noted p place (filter_map (route_at index.now.router.now) interfaces.now) (get prefix_order originators.old p)) }
+    ensures { OnOk result ((p : Block) → get prefix_cmp originators.new p ≡ all_noted p place (filter_map (route_at index.now.router.now) interfaces.now) (get prefix_cmp originators.old p)) }
 {
     for interface in interfaces {
         if let Some(route) = route_at(index, named, interface) {
@@ -117,7 +117,7 @@ fn note_router(
     place: u32,
     router: &Router,
 ) -> Result<(), NoMemory>
-    ensures { OnOk result ((p : Block) → get prefix_order originators.new p ≡ all_noted p place (routes_on router.now) (get prefix_order originators.old p)) }
+    ensures { OnOk result ((p : Block) → get prefix_cmp originators.new p ≡ all_noted p place (routes_on router.now) (get prefix_cmp originators.old p)) }
 {
     let named = named_in_bgp(alloc, router)?;
     let index = AreaIndex::of(alloc, router)?;
@@ -136,7 +136,7 @@ fn note_router(
 /// The routers that originate each prefix of a network.
 pub fn originators(alloc: Global, net: &Network) -> Result<Originators, NoMemory>
     requires { length net.now.routers < 2 ^ 32 }
-    ensures { IfOk result (λ m. (p : Block) → get prefix_order m p ≡ noted_from p (enumerate_from 0 net.now.routers) None) }
+    ensures { IfOk result (λ m. (p : Block) → get prefix_cmp m p ≡ noted_from p (enumerate_from 0 net.now.routers) None) }
 {
     let mut originators = BTreeMap::new(alloc);
     for (place, router) in net.routers.as_slice().iter().enumerate() {
@@ -145,8 +145,8 @@ pub fn originators(alloc: Global, net: &Network) -> Result<Originators, NoMemory
     Ok(originators)
 }
 
-fn ends_at(origins: &[Origin], router: u32) -> bool
-    ensures { result ≡ ends_at router origins.now }
+fn ends_with_router(origins: &[Origin], router: u32) -> bool
+    ensures { result ≡ ends_with_router router origins.now }
 {
     match origins.last() {
         Some(origin) => origin.router == router,

@@ -2,13 +2,13 @@ use Rattle.std.proofs.Common.{List, ap, map, sym, subst, ◌∙◌, []}
 use Rattle.base_kit.specs.Prefixes.{Prefix}
 use Rattle.cfg_ast.specs.declared.classes.Origin.{Origin}
 use Rattle.cfg_ast.specs.declared.policy.PrefixList.{PrefixList}
-use Rattle.dest_classes.specs.Kinds.{entries_of, AreTold, AreMembers}
+use Rattle.dest_classes.specs.Kinds.{entries_of, AreAllTold, AreMembers}
 use Rattle.dest_classes.proofs.Rules.{at_now}
 use Rattle.dest_classes.proofs.Asked.{started_told, started_entries}
 use Rattle.dest_classes.proofs.kinds.members_of.Goals as goal
 
 pub ask_all-requires : goal.ask_all-requires
-ask_all-requires c = subst (AreTold []) (sym c.in_ok-members.ensures.members) (started_told c.args.originators.entries)
+ask_all-requires c = subst (AreAllTold []) (sym c.in_ok-members.ensures.members) (started_told c.args.originators.entries)
 
 pub returns-clause-members : goal.returns-clause-members
 returns-clause-members c =

@@ -1,5 +1,5 @@
 use Rattle.std.proofs.Common.{◌≡◌, ◌++◌, map, drop, flat_map}
-use Rattle.cfg_ast.specs.Classes.{lists_on}
+use Rattle.cfg_ast.specs.meaning.Classes.{lists_on}
 use Rattle.dest_classes.proofs.lists.lists_of.Given as goal
 
 abbrev pub invariant-loop-router : goal.invariant-loop-router
