@@ -1,12 +1,11 @@
 -- The value of a node depends on the variables of the nodes that it reaches, and on no other.
-use Rattle.std.proofs.Common.{◌≡◌, ◌≢◌, ℕ, zero, suc, ◌<◌, ◌≤◌, ◌+◌, Bool, true, false, nat_lt, List, length, get_or, slice_get, Some, refl, sym, ◌∙◌, ap, subst, arith, inl, inr}
-use Rattle.std.specs.Prelude.{if◌then◌else◌, ◌==◌, ◌⊎◌}
-use Rattle.std.proofs.lemmas.Bool.{cases_lt, cases_eq}
+use Rattle.std.proofs.Common.{◌≡◌, ◌≢◌, ℕ, zero, suc, ◌<◌, ◌≤◌, ◌+◌, Bool, true, false, nat_lt, List, length, slice_get, Some, refl, sym, ◌∙◌, arith}
+use Rattle.std.specs.Prelude.{if◌then◌else◌}
 use Rattle.std.proofs.lemmas.Bool.Decides.{nat_tests}
 use Rattle.dd_core.specs.declared.table.Node.{Node}
-use Rattle.dd_core.specs.declared.table.Node.TheVariants.{Constant, Choice}
+use Rattle.dd_core.specs.declared.table.Node.TheVariants.{Choice}
 use Rattle.dd_core.specs.Value.{value}
-use Rattle.dd_core.specs.Store.{IsStore, IsAbove, IsNotBefore, IsReduced, IsWithin}
+use Rattle.dd_core.specs.Store.{IsStore, IsAbove, IsNotBefore, IsWithin}
 use Rattle.dd_core.specs.Reach.{IsReached}
 use Rattle.dd_core.specs.Reach.IsReached.{itself, by_high, by_low}
 use Rattle.dd_core.specs.Marks.{IsVariableReached}

@@ -1,12 +1,13 @@
--- Different places have a set on which their values differ.
-use Rattle.std.proofs.Common.{◌≡◌, ◌≢◌, ℕ, zero, suc, ◌<◌, ◌≤◌, ◌+◌, Bool, true, false, List, length, filter, slice_get, Some, refl, sym, ◌∙◌, ap, subst, arith, inl, inr}
-use Rattle.std.specs.Prelude.{if◌then◌else◌, ◌⊎◌}
+-- Public: crates above cite `differ_on_set` and `same_place_on_sets`. Different places have a set on which
+-- their values differ.
+use Rattle.std.proofs.Common.{◌≡◌, ◌≢◌, ℕ, zero, suc, ◌<◌, ◌≤◌, Bool, true, false, List, length, slice_get, Some, refl, sym, ◌∙◌, arith, inl, inr}
+use Rattle.std.specs.Prelude.{◌⊎◌}
 use Rattle.std.proofs.lemmas.Bool.{cases_lt, cases_eq}
 use Rattle.dd_core.specs.declared.table.Node.{Node}
 use Rattle.dd_core.specs.declared.table.Node.TheVariants.{Constant, Choice}
 use Rattle.dd_core.specs.Value.{value}
-use Rattle.dd_core.specs.Store.{IsStore, IsAbove, IsReduced}
-use Rattle.dd_core.proofs.ValueLemmas.{value-Constant, value-Choice}
+use Rattle.dd_core.specs.Store.{IsStore, IsAbove}
+use Rattle.dd_core.proofs.ValueLemmas.{value-Constant}
 use Rattle.dd_core.proofs.NodeLemmas.{IsNodeAt, is_constant, is_choice, node_at, updated, value-updated, value_high, value_low, constant_above, choice_above}
 use Rattle.dd_core.proofs.SetLemmas.{value_agrees, set_of, test-set_of, ascending-set_of}
 use Rattle.base_kit.specs.Sets.{IsAscending}

@@ -1,12 +1,12 @@
 -- The step of `ite`: by the first variable, in the sons, and put together.
-use Rattle.std.proofs.Common.{◌≡◌, ◌≢◌, ℕ, ◌<◌, ◌≤◌, ◌+◌, Bool, true, false, List, length, slice_get, Some, refl, sym, ◌∙◌, ap, arith, inl, inr}
+use Rattle.std.proofs.Common.{◌≡◌, ℕ, ◌<◌, ◌≤◌, ◌+◌, Bool, true, false, List, length, slice_get, Some, refl, ◌∙◌, arith, inl, inr}
 use Rattle.std.specs.Prelude.{if◌then◌else◌, ◌⊎◌}
 use Rattle.dd_core.specs.declared.table.Node.{Node}
 use Rattle.dd_core.specs.declared.table.Node.TheVariants.{Constant, Choice}
 use Rattle.dd_core.specs.Value.{value}
-use Rattle.dd_core.specs.Store.{IsStore, IsAbove, IsReduced, Extends, IsChoiceBetween, IsNotBefore, IsFirst, AreSons, IsIte, IsWithin}
+use Rattle.dd_core.specs.Store.{IsStore, IsAbove, Extends, IsChoiceBetween, IsFirst, AreSons, IsIte, IsWithin}
 use Rattle.dd_core.proofs.ValueLemmas.{value-Constant, value-Choice, value_kept}
-use Rattle.dd_core.proofs.StoreLemmas.{above_kept, length_kept}
+use Rattle.dd_core.proofs.StoreLemmas.{above_kept}
 
 pub choice_sons : (nodes : List Node) (c place high low : ℕ) → IsStore nodes → slice_get nodes place ≡ Some (Choice c high low) → AreSons nodes c place high low
 choice_sons nodes c place high low store at =

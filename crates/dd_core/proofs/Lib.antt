@@ -1,9 +1,11 @@
 pub mod DependLemmas
 pub mod DifferLemmas
+pub mod FirstLemmas
 pub mod IteLemmas
 pub mod MarkLemmas
 pub mod MemoryLemmas
 pub mod NodeLemmas
+pub mod RestrictLemmas
 pub mod SetLemmas
 pub mod ShownLemmas
 pub mod StoreLemmas

@@ -1,6 +1,6 @@
 -- Marks of the places that are reached, and of their variables.
-use Rattle.std.proofs.Common.{◌≡◌, ◌≢◌, ℕ, zero, suc, ◌<◌, ◌≤◌, ◌+◌, Bool, true, false, ◌&&◌, cond, List, [], ◌∷◌, ◌++◌, length, get_or, set, take, drop, replicate, filter, slice_get, Some, refl, sym, ◌∙◌, ap, subst, arith, inl, inr}
-use Rattle.std.specs.Prelude.{if◌then◌else◌, ◌⊎◌}
+use Rattle.std.proofs.Common.{◌≡◌, ℕ, zero, suc, ◌<◌, ◌≤◌, ◌+◌, Bool, true, false, ◌&&◌, cond, List, [], ◌∷◌, ◌++◌, length, get_or, set, take, drop, replicate, filter, slice_get, Some, refl, sym, ◌∙◌, ap, arith, inl, inr}
+use Rattle.std.specs.Prelude.{◌⊎◌}
 use Rattle.std.specs.List.{range_with_len}
 use Rattle.std.proofs.lemmas.Bool.{cases_lt, cases_eq}
 use Rattle.std.proofs.lemmas.List.{get_or-set_same, get_or-set_other, get_or_past, get_or-replicate, length-append, append-nil, take_all}
@@ -9,13 +9,12 @@ use Rattle.std.proofs.lemmas.List.Elements.{filter-append}
 use Rattle.std.proofs.lemmas.Option.{get_or_from_slice_get, slice_get-get_or, slice_get_read}
 use Rattle.std.proofs.lemmas.Grind.{get_or-set_at, common_steps}
 use Rattle.base_kit.specs.Sets.{has, AllAbove, IsAscending}
-use Rattle.base_kit.proofs.SetFacts.{has-filter, ascending_filter, same_number, other_number, has_not}
+use Rattle.base_kit.proofs.SetFacts.{has-filter, ascending_filter, same_number, other_number}
 use Rattle.dd_core.specs.declared.table.Node.{Node}
 use Rattle.dd_core.specs.declared.table.Node.TheVariants.{Constant, Choice}
-use Rattle.dd_core.specs.Store.{IsStore, IsWithin}
 use Rattle.dd_core.specs.Reach.{IsReached, IsChoiceReached, IsSize}
 use Rattle.dd_core.specs.Reach.IsReached.{itself, by_high, by_low}
-use Rattle.dd_core.specs.Marks.{is_marked, AreMarks, IsMarking, MarksSons, is_choice, is_marked_choice, choices_before, IsVariableReached, AreUsed, AreUsedBefore, MarksVariable}
+use Rattle.dd_core.specs.Marks.{is_marked, AreMarks, IsMarking, MarksSons, is_choice, is_marked_choice, choices_before, AreUsed, AreUsedBefore, MarksVariable}
 
 marked_inside : (marks : List Bool) (i : ℕ) → is_marked marks i ≡ true → i < length marks
 marked_inside marks i marked = elim (cases_lt i (length marks)) [

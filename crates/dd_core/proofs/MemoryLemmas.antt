@@ -1,19 +1,16 @@
 -- A memory stays right while the store grows and entries come and go.
-use Rattle.std.proofs.Common.{◌≡◌, ℕ, ◌<◌, ◌≤◌, Bool, true, List, [], Contains, length, slice_get, Some, refl, sym, ◌∙◌, ap, subst, arith, inl, inr}
-use Rattle.std.specs.Prelude.{◌⊎◌, if◌then◌else◌}
+use Rattle.std.proofs.Common.{◌≡◌, ℕ, ◌<◌, List, [], length, Some, ◌∙◌, subst, arith, inl, inr}
 use Rattle.dd_core.specs.declared.table.Node.{Node}
-use Rattle.dd_core.specs.declared.table.Node.TheVariants.{Choice}
 use Rattle.dd_cache.specs.declared.cache.OpKey.{OpKey}
 use Rattle.dd_cache.specs.Memory.{found, recalled, kept}
 use Rattle.dd_cache.proofs.Entries.{found_there, Contains-recalled, Contains-kept, Contains-none}
-use Rattle.dd_core.specs.Value.{value}
-use Rattle.dd_core.specs.Store.{IsStore, IsAbove, Extends, IsIte}
+use Rattle.dd_core.specs.Store.{IsAbove, Extends, IsIte}
 use Rattle.dd_core.specs.Remembering.{IsResult, IsMemory}
 use Rattle.dd_core.proofs.ValueLemmas.{value_kept}
 use Rattle.dd_core.proofs.StoreLemmas.{above_kept, length_kept, get_kept}
 
 -- what is above a community in the larger store was so before
-above_before : (old new : List Node) (c i : ℕ) → Extends old new → i < length old → IsAbove new c i → IsAbove old c i
+pub above_before : (old new : List Node) (c i : ℕ) → Extends old new → i < length old → IsAbove new c i → IsAbove old c i
 above_before old new c i extends inside above = record { later = λ other high low at. above.later other high low (get_kept old new i extends inside ∙ at) }
 
 pub remembered_extends : (old new : List Node) (key : OpKey) (place : ℕ) → Extends old new → IsResult old key place → IsResult new key place

@@ -1,14 +1,12 @@
 -- What the values of a node and of its sons have to do with its variable.
-use Rattle.std.proofs.Common.{◌≡◌, ◌≢◌, ℕ, zero, suc, ◌<◌, ◌≤◌, ◌+◌, Bool, true, false, List, length, get_or, slice_get, Some, refl, sym, ◌∙◌, ap, subst, arith, inl, inr}
-use Rattle.std.specs.Prelude.{if◌then◌else◌, ◌==◌, ◌⊎◌}
-use Rattle.std.proofs.lemmas.Bool.{cases_lt, cases_eq}
+use Rattle.std.proofs.Common.{◌≡◌, ℕ, zero, suc, ◌<◌, Bool, true, false, List, length, get_or, slice_get, Some, sym, ◌∙◌, arith}
+use Rattle.std.specs.Prelude.{if◌then◌else◌, ◌==◌}
 use Rattle.std.proofs.lemmas.Bool.Decides.{nat_tests}
 use Rattle.dd_core.specs.declared.table.Node.{Node}
 use Rattle.dd_core.specs.declared.table.Node.TheVariants.{Constant, Choice}
-use Rattle.dd_core.specs.Value.{value, AreDistinct}
-use Rattle.dd_core.specs.Store.{IsStore, IsAbove, IsReduced}
+use Rattle.dd_core.specs.Value.{value}
+use Rattle.dd_core.specs.Store.{IsStore, IsAbove}
 use Rattle.dd_core.proofs.ValueLemmas.{value-Constant, value-Choice}
-use Rattle.dd_core.proofs.TableLemmas.{read_get}
 use Rattle.std.proofs.lemmas.Option.{slice_get-get_or}
 
 -- the set with this variable put in or taken out

@@ -1,13 +1,11 @@
--- Tests of variables as sets of communities.
-use Rattle.std.proofs.Common.{◌≡◌, ◌≢◌, ℕ, zero, suc, ◌<◌, ◌≤◌, ◌+◌, max, Bool, true, false, cond, not, ◌||◌, nat_lt, nat_eq, List, [], ◌∷◌, length, get_or, slice_get, Some, refl, sym, ◌∙◌, ap, subst, arith, inl, inr}
-use Rattle.std.specs.Prelude.{if◌then◌else◌, ◌⊎◌}
-use Rattle.std.specs.List.{list_any}
-use Rattle.std.proofs.lemmas.Bool.{cases_lt, cases_eq}
+-- Public: crates above cite `outside_of` and what is said of it. Tests of variables as sets of communities.
+use Rattle.std.proofs.Common.{◌≡◌, ◌≢◌, ℕ, zero, suc, ◌<◌, ◌≤◌, ◌+◌, max, Bool, true, false, cond, ◌||◌, nat_lt, nat_eq, List, [], ◌∷◌, length, get_or, refl, sym, ◌∙◌, ap, arith, inl, inr}
+use Rattle.std.specs.Prelude.{if◌then◌else◌}
+use Rattle.std.proofs.lemmas.Bool.{cases_lt}
 use Rattle.std.proofs.lemmas.Bool.Decides.{nat_tests}
 use Rattle.base_kit.specs.Sets.{has, AllAbove, IsAscending}
 use Rattle.base_kit.proofs.SetFacts.{has_not, same_number, other_number}
 use Rattle.dd_core.specs.declared.table.Node.{Node}
-use Rattle.dd_core.specs.declared.table.Node.TheVariants.{Constant, Choice}
 use Rattle.dd_core.specs.Value.{value}
 use Rattle.dd_core.specs.Store.{IsStore, IsWithin}
 use Rattle.dd_core.specs.Sets.{has_others, test_of}

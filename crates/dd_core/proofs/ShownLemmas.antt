@@ -1,14 +1,14 @@
--- Nodes on sets of communities.
-use Rattle.std.proofs.Common.{◌≡◌, ℕ, ◌<◌, ◌≤◌, Bool, true, false, List, length, get_or, nat_lt, refl, sym, ◌∙◌, ap, arith}
+-- Public: crates above cite these lemmas. Nodes on sets of communities, while the store grows.
+use Rattle.std.proofs.Common.{◌≡◌, ℕ, ◌<◌, Bool, true, false, List, length, get_or, nat_lt, refl, sym, ◌∙◌, arith}
 use Rattle.std.specs.Prelude.{if◌then◌else◌}
 use Rattle.std.proofs.lemmas.Bool.Decides.{nat_tests}
 use Rattle.base_kit.specs.Sets.{has}
 use Rattle.dd_cache.specs.Memory.{Memory}
 use Rattle.dd_core.specs.declared.table.Node.{Node}
 use Rattle.dd_core.specs.Value.{value}
-use Rattle.dd_core.specs.Store.{IsStore, IsChoiceBetween, Extends, IsIte}
+use Rattle.dd_core.specs.Store.{IsStore, IsChoiceBetween, IsIte}
 use Rattle.dd_core.specs.Sets.{Shown, Means, Grows, IsShown, IsIteOfSets, value_of, test_of, has_others}
-use Rattle.dd_core.proofs.StoreLemmas.{value_never, value_always, two_nodes, length_kept, extends_refl}
+use Rattle.dd_core.proofs.StoreLemmas.{value_never, value_always, two_nodes, length_kept, extends_refl, extends_trans}
 use Rattle.dd_core.proofs.ValueLemmas.{value_kept}
 
 pub constant_true : (shown : Shown) → IsShown shown → (b : Bool) → b ≡ true → Means shown 1 (λ _. b)
@@ -60,4 +60,14 @@ pub ite_means : (old new : Shown) (a b c place : ℕ) (f g h : List ℕ → Bool
 ite_means old new a b c place f g h of_a of_b of_c ite = record {
   inside = ite.inside;
   value = λ set. ite.value set ∙ rw (of_a.value set, of_b.value set, of_c.value set) refl;
+}
+
+pub grows_refl : (shown : Shown) → Grows shown shown
+grows_refl shown = record { universe = refl; nodes = extends_refl shown.nodes; capacity = refl }
+
+pub grows_trans : (old mid new : Shown) → Grows old mid → Grows mid new → Grows old new
+grows_trans old mid new first second = record {
+  universe = second.universe ∙ first.universe;
+  nodes = extends_trans old.nodes mid.nodes new.nodes first.nodes second.nodes;
+  capacity = second.capacity ∙ first.capacity;
 }

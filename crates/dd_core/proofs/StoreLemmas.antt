@@ -1,17 +1,16 @@
 -- A store after one more choice.
-use Rattle.std.proofs.Common.{◌≡◌, ◌≢◌, ℕ, zero, suc, ◌<◌, ◌≤◌, ◌+◌, Bool, true, false, List, [], ◌∷◌, ◌++◌, length, get_or, slice_get, Some, None, refl, sym, ◌∙◌, ap, subst, arith, inl, inr}
-use Rattle.std.specs.Prelude.{if◌then◌else◌, ◌⊎◌}
-use Rattle.std.proofs.lemmas.Bool.{cases_lt, cases_eq}
-use Rattle.std.proofs.lemmas.List.{length_push, get_or_append_left, get_or_push, append-nil, length-append, append_assoc}
-use Rattle.std.proofs.lemmas.Option.{slice_get-get_or, get_or_from_slice_get}
-use Rattle.std.proofs.lemmas.Grind.{common_steps}
+use Rattle.std.proofs.Common.{◌≡◌, ◌≢◌, ℕ, zero, suc, ◌<◌, ◌≤◌, ◌+◌, Bool, true, false, List, [], ◌∷◌, ◌++◌, length, get_or, slice_get, Some, refl, sym, ◌∙◌, ap, arith, inl, inr}
+use Rattle.std.specs.Prelude.{◌⊎◌}
+use Rattle.std.proofs.lemmas.Bool.{cases_lt}
+use Rattle.std.proofs.lemmas.List.{length_push, get_or_push, append-nil, length-append, append_assoc}
+use Rattle.std.proofs.lemmas.Option.{slice_get-get_or}
 use Rattle.dd_core.specs.declared.table.Node.{Node}
 use Rattle.dd_core.specs.declared.table.Node.TheVariants.{Constant, Choice}
 use Rattle.dd_core.specs.Value.{value, AreDistinct}
 use Rattle.dd_core.specs.Store.{IsStore, IsAbove, IsReduced, Extends, IsChoiceBetween}
 use Rattle.dd_core.proofs.ValueLemmas.{value-Constant, value-Choice, value_kept}
 use Rattle.dd_core.proofs.TableLemmas.{read_get}
-use Rattle.dd_core.proofs.NodeLemmas.{above_earlier, choice_above}
+use Rattle.dd_core.proofs.NodeLemmas.{choice_above}
 
 pub extends_refl : (nodes : List Node) → Extends nodes nodes
 extends_refl nodes = record { added = []; nodes = sym (append-nil nodes) }

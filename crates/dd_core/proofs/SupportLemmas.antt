@@ -1,6 +1,5 @@
 -- Communities on which a value depends, and their variables.
-use Rattle.std.proofs.Common.{◌≡◌, ◌≢◌, ℕ, zero, suc, ◌<◌, ◌≤◌, ◌+◌, Bool, true, false, not, ◌||◌, nat_lt, nat_eq, cond, List, [], ◌∷◌, ◌++◌, drop, length, get_or, slice_get, Some, refl, sym, ◌∙◌, ap, subst, arith, inl, inr}
-use Rattle.std.specs.Prelude.{if◌then◌else◌, ◌⊎◌}
+use Rattle.std.proofs.Common.{◌≡◌, ◌≢◌, ℕ, zero, suc, ◌<◌, ◌≤◌, ◌+◌, Bool, true, false, not, ◌||◌, nat_lt, nat_eq, cond, List, [], ◌∷◌, ◌++◌, drop, length, get_or, refl, sym, ◌∙◌, ap, arith, inl, inr}
 use Rattle.std.specs.List.{list_any}
 use Rattle.std.proofs.Math.ListN.{drop_of_length-le}
 use Rattle.std.proofs.Math.Seq.{drop-cons}
@@ -8,13 +7,11 @@ use Rattle.std.proofs.lemmas.List.{append_assoc, append-nil}
 use Rattle.std.proofs.lemmas.Bool.{cases_lt, cases_eq, cases_order}
 use Rattle.std.proofs.lemmas.Bool.Decides.{nat_tests}
 use Rattle.base_kit.specs.Sets.{has, with_number, AllAbove, IsAscending}
-use Rattle.base_kit.proofs.Members.{with_less, with_same, with_more, ascending_with}
-use Rattle.base_kit.proofs.SetFacts.{has-with_number, same_number, other_number, has_not}
+use Rattle.base_kit.proofs.Members.{with_less, with_same, with_more}
+use Rattle.base_kit.proofs.SetFacts.{has-with_number, same_number, other_number}
 use Rattle.dd_core.specs.declared.table.Node.{Node}
-use Rattle.dd_core.specs.Value.{value}
-use Rattle.dd_core.specs.Store.{IsStore, IsWithin}
-use Rattle.dd_core.specs.Sets.{Shown, IsShown, value_of, test_of, has_others}
-use Rattle.dd_core.specs.Reach.{IsReached, DependsOn, IsSupport, DependsOnOthers}
+use Rattle.dd_core.specs.Sets.{Shown, IsShown, value_of, test_of}
+use Rattle.dd_core.specs.Reach.{DependsOn, IsSupport, DependsOnOthers}
 use Rattle.dd_core.specs.Marks.{IsVariableReached, AreUsed, is_marked, picked}
 use Rattle.dd_core.proofs.NodeLemmas.{updated, updated_same}
 use Rattle.dd_core.proofs.SetLemmas.{value_agrees, set_of, test-set_of, ascending-set_of, above_index, all_below_outside, outside_of, has_outside}
@@ -29,7 +26,7 @@ or_twice : (a r : Bool) → a || r ≡ a || (a || r)
 or_twice true r = refl
 or_twice false r = refl
 
-any-with_number : (p : ℕ → Bool) (n : ℕ) (xs : List ℕ) → list_any p (with_number n xs) ≡ p n || list_any p xs
+pub any-with_number : (p : ℕ → Bool) (n : ℕ) (xs : List ℕ) → list_any p (with_number n xs) ≡ p n || list_any p xs
 any-with_number p n [] = refl
 any-with_number p n (x ∷ xs) = elim (cases_order x n) [
   | inl e ↦ rw (with_same n x xs e, e) (or_twice (p n) (list_any p xs))
@@ -37,7 +34,7 @@ any-with_number p n (x ∷ xs) = elim (cases_order x n) [
   | inr (inr g) ↦ rw (with_more n x xs g) refl
 ]
 
-index_below : (xs : List ℕ) (i j : ℕ) → IsAscending xs → i < j → j < length xs → get_or xs i 0 < get_or xs j 0
+pub index_below : (xs : List ℕ) (i j : ℕ) → IsAscending xs → i < j → j < length xs → get_or xs i 0 < get_or xs j 0
 index_below [] i j up lt inside = absurd (omega arith)
 index_below (x ∷ xs) zero zero up lt inside = absurd (omega arith)
 index_below (x ∷ xs) zero (suc j) up lt inside = above_index x xs j up.0 (omega arith)

@@ -1,14 +1,13 @@
 -- How values follow from the nodes.
-use Rattle.std.proofs.Common.{◌≡◌, ◌≢◌, ℕ, ◌<◌, ◌≤◌, ◌+◌, Bool, true, false, List, [], ◌∷◌, ◌++◌, length, get_or, slice_get, Some, refl, sym, ◌∙◌, ap, subst, arith, inl, inr}
+use Rattle.std.proofs.Common.{◌≡◌, ℕ, ◌<◌, ◌+◌, Bool, false, List, [], ◌∷◌, ◌++◌, length, get_or, slice_get, Some, refl, sym, ◌∙◌, ap, arith}
 use Rattle.std.specs.Prelude.{if◌then◌else◌}
 use Rattle.std.proofs.Math.Seq.{split_at}
 use Rattle.std.proofs.Common.{take, drop, suc}
-use Rattle.std.proofs.lemmas.List.{length-take-le, length_push, get_or_append_left, get_or_push, append_assoc}
-use Rattle.std.proofs.lemmas.Grind.{common_steps}
+use Rattle.std.proofs.lemmas.List.{length-take-le, length_push, get_or_append_left, get_or_push}
 use Rattle.dd_core.specs.declared.table.Node.{Node}
 use Rattle.dd_core.specs.declared.table.Node.TheVariants.{Constant, Choice}
 use Rattle.dd_core.specs.Value.{value_from, values_after, value}
-use Rattle.dd_core.specs.Store.{Extends, IsStore, IsReduced}
+use Rattle.dd_core.specs.Store.{Extends}
 use Rattle.dd_core.proofs.TableLemmas.{read_get}
 
 pub length-values_after : (has : ℕ → Bool) (values : List Bool) (nodes : List Node) → length (values_after has values nodes) ≡ length values + length nodes

@@ -1,5 +1,5 @@
 -- Which nodes a diagram reaches, and on which communities its value depends.
-use Rattle.std.specs.Prelude.{◌≡◌, ◌≢◌, ℕ, ◌+◌, ◌<◌, Bool, true, false, List, Some, length, slice_get}
+use Rattle.std.specs.Prelude.{◌≡◌, ◌≢◌, ℕ, ◌≤◌, true, false, List, Some, length, slice_get}
 use Rattle.base_kit.specs.Sets.{has, with_number, IsAscending}
 use Rattle.dd_core.specs.declared.table.Node.{Node}
 use Rattle.dd_core.specs.declared.table.Node.TheVariants.{Choice}
@@ -38,6 +38,16 @@ pub record IsSupport (shown : Shown) (place : ℕ) (support : List ℕ) : Type 0
   pub known : (c : ℕ) → has support c ≡ true → has shown.universe c ≡ true
   pub needed : (c : ℕ) → has support c ≡ true → DependsOn shown place c
   pub all : (c : ℕ) → has shown.universe c ≡ true → DependsOn shown place c → has support c ≡ true
+
+-- the least community of the universe on which the value depends
+pub record IsFirstOf (shown : Shown) (place c : ℕ) : Type 0 where
+  pub known : has shown.universe c ≡ true
+  pub needed : DependsOn shown place c
+  pub least : (other : ℕ) → has shown.universe other ≡ true → DependsOn shown place other → c ≤ other
+
+-- the value depends on no community of the universe
+pub record DependsOnNone (shown : Shown) (place : ℕ) : Type 0 where
+  pub none : (c : ℕ) → has shown.universe c ≡ true → DependsOn shown place c → ⊥
 
 -- the value depends on some community outside the universe
 pub record DependsOnOthers (shown : Shown) (place : ℕ) : Type 0 where

@@ -11,8 +11,10 @@
 
 mod build;
 mod ite;
+pub mod laws;
 mod node_id;
 mod reach;
+mod restrict;
 mod store;
 mod table;
 #[cfg(test)]

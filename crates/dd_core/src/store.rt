@@ -1,14 +1,16 @@
-ghost use Rattle.std.specs.Prelude.{◌≡◌, ◌≤◌, ◌<◌, length, IfOk, IfSome, Ok, Some, ℕ, Bool, true, false, not, ◌&&◌, ◌||◌, List, slice_index};
+ghost use Rattle.std.specs.Prelude.{◌≡◌, ◌≤◌, ◌<◌, length, IfOk, IfSome, MatchOption, Ok, Some, ℕ, Bool, true, false, not, ◌&&◌, ◌||◌, List, nat_eq, slice_index};
 ghost use Rattle.base_kit.specs.Sets.{has, IsAscending};
-ghost use Rattle.dd_core.specs.Reach.{IsSupport, DependsOnOthers, IsSize};
+ghost use Rattle.dd_core.specs.Reach.{IsSupport, IsFirstOf, DependsOnNone, DependsOnOthers, IsSize};
+ghost use Rattle.dd_core.specs.Restrict.{IsPartOf, restricted};
 ghost use Rattle.dd_core.specs.Sets.{value_of, has_others, Means, Grows, IsIteOfSets, IsShown, DifferOnSet, fresh, constant_at, remembered, recalling};
 
 use crate::NodeId;
 use crate::build::choice;
 use crate::ite::remembered_ite;
 use crate::reach::{count_choices, marked_communities, reached, used_variables};
+use crate::restrict::restricted_node;
 use crate::table::{Node, Table};
-use crate::variables::{is_true, place_of};
+use crate::variables::{community_at, is_true, place_of};
 use base_kit::{Community, NoMemory, NumSet};
 use dd_cache::{Cache, OpKey};
 use std::alloc::Global;
@@ -218,6 +220,42 @@ impl Store {
         }
     }
 
+    /// The diagram whose value on a set is that of `a` on the set with `present` put in and then `absent`
+    /// taken out. All of them are communities of the universe.
+    pub fn restrict(
+        &mut self,
+        a: NodeId,
+        present: &NumSet,
+        absent: &NumSet,
+    ) -> Result<NodeId, NoMemory>
+        requires inside { a < length self.old.nodes }
+        requires present { IsPartOf self.old.universe present.now }
+        requires absent { IsPartOf self.old.universe absent.now }
+        ensures grows { Grows self.old self.new }
+        ensures restrict { IfOk result (λ node. Means self.new node (λ set. value_of self.old (restricted present.now absent.now set) a)) }
+    {
+        let place = restricted_node(
+            self.alloc,
+            &mut self.table,
+            &self.universe,
+            present,
+            absent,
+            a.place(),
+        )?;
+        Ok(NodeId::new(place))
+    }
+
+    /// The least community of the universe on which the value depends.
+    pub fn first(&self, a: NodeId) -> Option<Community>
+        requires { a < length self.now.nodes }
+        ensures { MatchOption result (DependsOnNone self.now a) (λ c. IsFirstOf self.now a c.0) }
+    {
+        match self.table.node(a.place()) {
+            Node::Constant(_) => None,
+            Node::Choice { variable, .. } => community_at(&self.universe, variable),
+        }
+    }
+
     /// The communities of the universe on which the value depends.
     pub fn support(&self, a: NodeId) -> Result<NumSet, NoMemory>
         requires { a < length self.now.nodes }
@@ -250,10 +288,11 @@ impl Store {
     }
 }
 
-/// Whether two diagrams have one value on every set of communities.
+/// Whether two diagrams have one value on every set of communities: exactly where their numbers are equal.
 pub fn is_same(store: &Store, a: NodeId, b: NodeId) -> bool
     requires a_inside { a < length store.now.nodes }
     requires b_inside { b < length store.now.nodes }
+    ensures numbers { result ≡ nat_eq a b }
     ensures same { result ≡ true → (set : List ℕ) → value_of store.now set a ≡ value_of store.now set b }
     ensures differ { result ≡ false → DifferOnSet store.now a b }
     ensures different { ((set : List ℕ) → IsAscending set → value_of store.now set a ≡ value_of store.now set b) → result ≡ true }

@@ -150,6 +150,41 @@ fn others_need_others(alloc: Global) -> Option<bool> {
     needs_others(&store, others)
 }
 
+// The node on the sets with all communities of the universe.
+fn with_all(alloc: Global, store: &mut Store, a: NodeId) -> Option<NodeId> {
+    let all = store.universe().copy().ok()?;
+    let none = NumSet::new(alloc);
+    let a = known(store, a)?;
+    store.restrict(a, &all, &none).ok()
+}
+
+// The node on the sets with none of them.
+fn with_none(alloc: Global, store: &mut Store, a: NodeId) -> Option<NodeId> {
+    let all = store.universe().copy().ok()?;
+    let none = NumSet::new(alloc);
+    let a = known(store, a)?;
+    store.restrict(a, &none, &all).ok()
+}
+
+fn first(store: &Store, a: NodeId) -> Option<Community> {
+    let a = known(store, a)?;
+    store.first(a)
+}
+
+fn restricts(alloc: Global) -> Option<bool> {
+    let mut store = store_of_two(alloc, 16384)?;
+    let both = conjunction(&mut store)?;
+    let least = first(&store, both)?;
+    let with_all = with_all(alloc, &mut store, both)?;
+    let with_none = with_none(alloc, &mut store, both)?;
+    Some(
+        least == Community(1)
+            && with_all == store.constant(true)
+            && with_none == store.constant(false)
+            && first(&store, with_all).is_none(),
+    )
+}
+
 fn are_right(answers: Answers) -> bool {
     answers.is_remembered
         && answers.opposites_cancel
@@ -179,5 +214,12 @@ fn many_operations_are_remembered(rt: HostRuntime) -> Result<(), Fail> {
 fn others_are_needed(rt: HostRuntime) -> Result<(), Fail> {
     let needed = others_need_others(rt.alloc()).ok_or("memory")?;
     assert!(rt; needed);
+    Ok(())
+}
+
+#[test]
+fn sets_of_which_some_is_known_are_asked(rt: HostRuntime) -> Result<(), Fail> {
+    let restricts = restricts(rt.alloc()).ok_or("memory")?;
+    assert!(rt; restricts);
     Ok(())
 }

@@ -1,4 +1,3 @@
-use Rattle.std.proofs.Common.{rules}
 use Rattle.dd_core.proofs.StoreLemmas.{interned_store, interned_choice, interned_extends}
 use Rattle.dd_core.proofs.build.choice.Goals as goal
 

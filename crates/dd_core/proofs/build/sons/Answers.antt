@@ -1,6 +1,5 @@
-use Rattle.std.proofs.Common.{rules, ◌≡◌, Some, slice_get}
+use Rattle.std.proofs.Common.{◌≡◌, Some, slice_get}
 use Rattle.dd_core.specs.declared.table.Node.TheVariants.{Choice}
-use Rattle.dd_core.specs.Store.{AreSons}
 use Rattle.dd_core.proofs.IteLemmas.{choice_sons}
 use Rattle.dd_core.proofs.build.sons.Goals as goal
 

@@ -1,4 +1,4 @@
-use Rattle.std.proofs.Common.{rules, arith, ◌≡◌, ◌<◌, Some, slice_get, length, sym, ◌∙◌}
+use Rattle.std.proofs.Common.{arith, sym, ◌∙◌}
 use Rattle.dd_cache.proofs.Entries.{found-recalled, found-kept}
 use Rattle.dd_core.proofs.StoreLemmas.{length_kept}
 use Rattle.dd_core.proofs.MemoryLemmas.{memory_extends, memory_keep, memory_recalled, memory_hit, remembered_result}

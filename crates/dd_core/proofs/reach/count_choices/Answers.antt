@@ -1,4 +1,4 @@
-use Rattle.std.proofs.Common.{◌≡◌, arith, sym, ◌∙◌, true, false}
+use Rattle.std.proofs.Common.{arith, sym, ◌∙◌}
 use Rattle.dd_core.proofs.MarkLemmas.{counted_more, counted_same}
 use Rattle.dd_core.proofs.reach.count_choices.Goals.{then-is_marked_choice, else-is_marked_choice}
 use Rattle.dd_core.proofs.reach.count_choices.Goals as goal

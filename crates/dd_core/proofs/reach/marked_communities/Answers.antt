@@ -1,4 +1,4 @@
-use Rattle.std.proofs.Common.{◌≡◌, ◌∙◌, arith, sym, ap, subst, List, ℕ, length, ◌++◌}
+use Rattle.std.proofs.Common.{◌∙◌, arith, sym, ap, subst, List, ℕ, length}
 use Rattle.base_kit.specs.Sets.{IsAscending}
 use Rattle.dd_core.proofs.SupportLemmas.{ascending_picked, picked_more, picked_same, picked_end}
 use Rattle.dd_core.proofs.reach.marked_communities.Goals.{then-used-place+in_ok-push, else-used-place}

@@ -1,4 +1,4 @@
-use Rattle.std.proofs.Common.{nat_eq, ◌≡◌, arith, true, ap, ℕ}
+use Rattle.std.proofs.Common.{◌≡◌, arith, ap, ℕ}
 use Rattle.std.proofs.lemmas.Bool.Decides.{nat_tests}
 use Rattle.dd_core.specs.Sets.{value_of}
 use Rattle.dd_core.proofs.DifferLemmas.{differ_on_set, same_place_on_sets}

@@ -1,4 +1,3 @@
-use Rattle.std.proofs.Common.{rules, sym, ◌∙◌}
 use Rattle.dd_core.proofs.ShownLemmas.{constant_true, constant_false}
 use Rattle.dd_core.proofs.store.Store.constant.Goals as goal
 

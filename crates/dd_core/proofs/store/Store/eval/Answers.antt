@@ -1,4 +1,4 @@
-use Rattle.std.proofs.Common.{rules, arith, sym, ap, refl, ◌∙◌, ◌≡◌, ◌<◌, true, false, length}
+use Rattle.std.proofs.Common.{arith, sym, ap, refl, ◌∙◌, ◌≡◌, true, false, length}
 use Rattle.dd_core.specs.Sets.{test_of, value_of}
 use Rattle.dd_core.proofs.ValueLemmas.{value-Constant, value-Choice}
 use Rattle.dd_core.proofs.store.Store.eval.Goals as goal

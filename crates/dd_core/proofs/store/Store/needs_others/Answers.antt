@@ -1,6 +1,6 @@
-use Rattle.std.proofs.Common.{refl, ◌≡◌, ◌<◌, arith, ap, length, List, ℕ, sym, ◌∙◌}
+use Rattle.std.proofs.Common.{◌≡◌, arith, ap, length, List, ℕ, sym, ◌∙◌}
 use Rattle.dd_core.specs.Sets.{Shown}
-use Rattle.dd_core.specs.Marks.{AreUsed, is_marked}
+use Rattle.dd_core.specs.Marks.{is_marked}
 use Rattle.dd_core.proofs.MarkLemmas.{read_mark}
 use Rattle.dd_core.proofs.SupportLemmas.{others_needed, others_all}
 use Rattle.dd_core.proofs.store.Store.needs_others.Goals as goal

@@ -1,4 +1,4 @@
-use Rattle.std.proofs.Common.{refl, ◌≡◌, arith, ap, sym, ◌∙◌, List, Bool, length}
+use Rattle.std.proofs.Common.{refl, ◌≡◌, arith, ap, length}
 use Rattle.dd_core.specs.Sets.{Shown}
 use Rattle.dd_core.proofs.MarkLemmas.{size_is}
 use Rattle.dd_core.proofs.store.Store.size.Goals as goal

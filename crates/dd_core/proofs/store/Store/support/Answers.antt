@@ -1,4 +1,4 @@
-use Rattle.std.proofs.Common.{refl, length, ◌≡◌, arith, ap, sym, ◌∙◌}
+use Rattle.std.proofs.Common.{length, ◌≡◌, arith, ap}
 use Rattle.dd_core.specs.Sets.{Shown}
 use Rattle.dd_core.proofs.SupportLemmas.{support_is}
 use Rattle.dd_core.proofs.store.Store.support.Goals as goal

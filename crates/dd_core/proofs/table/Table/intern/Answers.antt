@@ -1,4 +1,4 @@
-use Rattle.std.proofs.Common.{rules, ◌≡◌, ◌⊎◌, ◌++◌, ◌∷◌, [], ap, sym, ◌∙◌, Bool, true, false, Some, slice_get}
+use Rattle.std.proofs.Common.{rules, ◌≡◌, true}
 use Rattle.dd_core.specs.declared.table.Node.{Node}
 use Rattle.dd_core.specs.declared.table.Node.TheVariants.{Constant, Choice}
 use Rattle.dd_core.specs.contracts.table.NodePartialEq.TheImpl.{eq-value}
