@@ -4,9 +4,9 @@ use Rattle.std.specs.Prelude.{Contains, is_some, bytes_eq, min}
 use Rattle.std.proofs.lemmas.Cmp.{nat_list_eq_equiv}
 use Rattle.std.proofs.lemmas.List.Elements.{All-from_recursion}
 use Rattle.base_kit.specs.Prefixes.{Prefix}
-use Rattle.cfg_ast.specs.Policy.{name_of, prepend_count}
-use Rattle.cfg_ast.specs.PolicyFaults.{line_naming, prepends_in_map, has_prepending_map, map_in_naming, prepending_maps_in_of, prepend_in_lines}
-use Rattle.cfg_ast.specs.Topology.{neighbors_of}
+use Rattle.cfg_ast.specs.meaning.Policy.{name_of, prepend_count}
+use Rattle.cfg_ast.specs.meaning.PolicyFaults.{line_naming, prepends_in_map, has_prepending_map, map_in_naming, prepending_maps_in_of, prepend_in_lines}
+use Rattle.cfg_ast.specs.meaning.Topology.{neighbors_of}
 use Rattle.cfg_ast.specs.declared.bgp.Neighbor.{Neighbor}
 use Rattle.cfg_ast.specs.declared.network.Named.{Named}
 use Rattle.cfg_ast.specs.declared.network.Network.{Network}

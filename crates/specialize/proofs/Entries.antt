@@ -4,7 +4,7 @@ use Rattle.std.specs.Prelude.{filter, Contains, IfSome, IsSomeAnd, bytes_eq}
 use Rattle.std.specs.Option.{option_map_or}
 use Rattle.std.specs.List.{AllByRecursion}
 use Rattle.base_kit.specs.Prefixes.{Prefix}
-use Rattle.cfg_ast.specs.Policy.{route_map_named, prefixes_match, passes_list}
+use Rattle.cfg_ast.specs.meaning.Policy.{route_map_named, prefixes_match, passes_list}
 use Rattle.cfg_ast.specs.declared.network.Router.{Router}
 use Rattle.cfg_ast.specs.declared.policy.MapEntry.{MapEntry}
 use Rattle.cfg_ast.specs.declared.policy.RouteMap.{RouteMap}

@@ -1,16 +1,18 @@
 -- What a router's maps mean for a prefix can be printed.
-use Rattle.std.proofs.Common.{◌≡◌, ℕ, ◌≤◌, Bool, true, false, cond, not, ◌||◌, List, [], ◌∷◌, ◌++◌, length, Option, Some, None, map, nat_lt, refl, sym, ◌∙◌, ap, subst, arith}
+use Rattle.std.proofs.Common.{◌≡◌, ℕ, ◌≤◌, Bool, true, false, cond, not, ◌||◌, ◌&&◌, List, [], ◌∷◌, ◌++◌, length, Option, Some, None, map, nat_lt, nat_eq, refl, sym, ◌∙◌, ap, subst, arith}
 use Rattle.std.specs.Prelude.{filter, filter_map, find, flat_map, Contains, IfSome, is_some, bytes_eq, min}
-use Rattle.std.specs.Option.{option_map_or, option_and_then}
+use Rattle.std.specs.Option.{option_map_or, option_and_then, option_or}
 use Rattle.std.specs.List.{list_any, cons_option, AllByRecursion}
 use Rattle.std.proofs.lemmas.Bool.Decides.{nat_tests}
 use Rattle.std.proofs.lemmas.Cmp.{nat_list_eq_equiv}
 use Rattle.base_kit.specs.Prefixes.{Prefix}
 use Rattle.base_kit.specs.Sets.{AllAbove, IsAscending}
-use Rattle.cfg_ast.specs.Policy.{community_list_named, route_map_named, prefixes_match, deletion_list, prepend_count, passes_list}
-use Rattle.cfg_ast.specs.PolicyFaults.{match_line_naming, lacks_prefix_list, lacks_community_list, entry_lines_naming, lines_in_map_naming, list_lines_naming, undefined_lists_of, line_naming, is_name, is_deleted_in, is_deleted, several_at, several_in, wide_deletions_of, undefined_list_lines, delete_list_lines}
-use Rattle.cfg_ast.specs.Topology.{neighbors_of}
-use Rattle.cfg_ast.specs.WellFormed.{IsBetween, IsWellFormedCommunityLine, IsWellFormedCommunityList, IsWellFormedNameLine, IsWellFormedPrepend, IsWellFormedMapEntry, map_seqs, IsWellFormedRouteMap, IsWellFormedRouter, IsWellFormed}
+use Rattle.cfg_ast.specs.meaning.Policy.{default_preference, community_list_named, route_map_named, prefixes_match, deletion_list, prepend_count, passes_list}
+use Rattle.cfg_ast.specs.meaning.PolicyFaults.{match_line_naming, lacks_prefix_list, lacks_community_list, entry_lines_naming, lines_in_map_naming, list_lines_naming, undefined_lists_of, line_naming, is_name, is_deleted_in, is_deleted, several_at, several_in, wide_deletions_of, undefined_list_lines, delete_list_lines}
+use Rattle.cfg_ast.specs.meaning.Topology.{neighbors_of}
+use Rattle.cfg_ast.specs.printing.WellFormed.{IsBetween, IsNumber, IsWellFormedBase, IsWellFormedBgp, IsWellFormedCommunityLine, IsWellFormedCommunityList, IsWellFormedNameLine, IsWellFormedPrepend, IsWellFormedMapEntry, map_seqs, IsWellFormedRouteMap, IsWellFormedRouter, IsWellFormed}
+use Rattle.cfg_ast.specs.declared.bgp.Base.{Base}
+use Rattle.cfg_ast.specs.declared.bgp.BgpProcess.{BgpProcess}
 use Rattle.cfg_ast.specs.declared.network.Named.{Named}
 use Rattle.cfg_ast.specs.declared.network.Network.{Network}
 use Rattle.cfg_ast.specs.declared.network.Router.{Router}
@@ -108,6 +110,31 @@ printable_deletion router m entry has in_router in_map = by_name entry.delete re
 
 -- ---- an entry
 
+-- a default preference is a number
+fits_default : (router : Router) → IsWellFormedRouter router → IsNumber (default_preference router)
+fits_default router form = by_process router.bgp form.bgp where
+  by_base : (base : Option Base) → IfSome base IsWellFormedBase → IsNumber (option_map_or (λ (b : Base). b.value) base 100)
+  by_base None fits = omega arith
+  by_base (Some base) fits = fits
+
+  by_process : (bgp : Option BgpProcess) → IfSome bgp IsWellFormedBgp → IsNumber (option_map_or (λ (b : BgpProcess). option_map_or (λ (base : Base). base.value) b.base 100) bgp 100)
+  by_process None fits = omega arith
+  by_process (Some b) fits = by_base b.base fits.base
+
+fits_own : (router : Router) (inbound : Bool) → IsWellFormedRouter router → IfSome (own_preference router inbound) IsNumber
+fits_own router inbound form = step (inbound && not (nat_eq (default_preference router) 100)) where
+  step : (b : Bool) → IfSome (cond b (Some (default_preference router)) None) IsNumber
+  step true = fits_default router form
+  step false = tt
+
+fits_chosen : (given own : Option ℕ) → IfSome given IsNumber → IfSome own IsNumber → IfSome (option_or given own) IsNumber
+fits_chosen None own fits own_fits = own_fits
+fits_chosen (Some lp) own fits own_fits = fits
+
+fits_entry : (permit : Bool) (given own : Option ℕ) → IfSome given IsNumber → IfSome own IsNumber → IfSome (cond permit (option_or given own) given) IsNumber
+fits_entry true given own fits own_fits = fits_chosen given own fits own_fits
+fits_entry false given own fits own_fits = fits
+
 few_added : (prepend : Option Prepend) → IfSome prepend IsWellFormedPrepend → min (prepend_count prepend) 255 ≤ 10
 few_added None form = omega arith
 few_added (Some line) form = let few : length line.numbers ≤ 10 = form.count.1 in omega arith
@@ -122,10 +149,11 @@ comms_defined router m entry has in_router in_map =
     let in_entry = contained_empty (entry_lines_naming prefixes comms) m.entries entry in_entries in_map in
     second_empty (match_line_naming prefixes entry.prefixes) (match_line_naming comms entry.comms) (first_empty (match_line_naming prefixes entry.prefixes ++ match_line_naming comms entry.comms) (line_naming comms entry.delete) in_entry)
 
-printable_entry : (router : Router) (own : Option ℕ) (m : RouteMap) (entry : MapEntry) → HasPrintableMaps router → Contains router.route_maps m → Contains m.entries entry → IsWellFormedMapEntry entry → IsPrintableEntry (plain_entry router own entry)
-printable_entry router own m entry has in_router in_map form = record {
+printable_entry : (router : Router) (own : Option ℕ) (m : RouteMap) (entry : MapEntry) → IfSome own IsNumber → HasPrintableMaps router → Contains router.route_maps m → Contains m.entries entry → IsWellFormedMapEntry entry → IsPrintableEntry (plain_entry router own entry)
+printable_entry router own m entry own_fits has in_router in_map form = record {
   seq = form.seq;
   lists = printable_lists router entry.comms has.well_formed (comms_defined router m entry has in_router in_map) form.comms;
+  lp = fits_entry entry.permit entry.lp own form.lp own_fits;
   change = form.change;
   delete = printable_deletion router m entry has in_router in_map;
   adds = few_added entry.prepend form.prepend;
@@ -162,16 +190,17 @@ ascending_plain router name list p inbound form = step (passes_list router p lis
   step true = ascending_entries router (own_preference router inbound) p name form
   step false = tt
 
-printable_whole : (own : Option ℕ) → IsPrintableEntry (whole_entry own)
-printable_whole own = record { seq = omega arith; lists = tt; change = tt; delete = tt; adds = omega arith }
+printable_whole : (own : Option ℕ) → IfSome own IsNumber → IsPrintableEntry (whole_entry own)
+printable_whole own fits = record { seq = omega arith; lists = tt; lp = fits; change = tt; delete = tt; adds = omega arith }
 
 pub printable_plain : (router : Router) (name list : Option (List ℕ)) (p : Prefix) (inbound : Bool) → HasPrintableMaps router → IsPrintable (plain_of router name list p inbound)
 printable_plain router name list p inbound has =
     let own = own_preference router inbound in
+    let fits = fits_own router inbound has.well_formed in
     record {
-      entries = plain_holds IsPrintableEntry router name list p inbound (printable_whole own) (λ m named entry in_map.
+      entries = plain_holds IsPrintableEntry router name list p inbound (printable_whole own fits) (λ m named entry in_map.
           let form = contained_holds IsWellFormedRouteMap router.route_maps m has.well_formed.route_maps named.contained in
-          printable_entry router own m entry has named.contained in_map (contained_holds IsWellFormedMapEntry m.entries entry form.entries in_map));
+          printable_entry router own m entry fits has named.contained in_map (contained_holds IsWellFormedMapEntry m.entries entry form.entries in_map));
       ascending = ascending_plain router name list p inbound has.well_formed;
     }
 

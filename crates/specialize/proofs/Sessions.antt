@@ -6,8 +6,8 @@ use Rattle.std.proofs.lemmas.Bool.Decides.{nat_tests}
 use Rattle.base_kit.specs.Prefixes.{Prefix}
 use Rattle.cfg_ast.specs.declared.bgp.Neighbor.{Neighbor}
 use Rattle.cfg_ast.specs.declared.network.Router.{Router}
-use Rattle.cfg_ast.specs.Policy.{Permitted, passed_by, default_preference, name_of, received_as, received_by}
-use Rattle.cfg_ast.specs.WellFormed.{IsWellFormedRouter}
+use Rattle.cfg_ast.specs.meaning.Policy.{Permitted, passed_by, default_preference, name_of, received_as, received_by}
+use Rattle.cfg_ast.specs.printing.WellFormed.{IsWellFormedRouter}
 use Rattle.route_maps.specs.Maps.{accepted, received}
 use Rattle.route_maps.specs.Sessions.{imported_as}
 use Rattle.specialize.specs.OnePrefix.{own_preference, verdict_with}

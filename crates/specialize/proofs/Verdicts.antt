@@ -10,8 +10,8 @@ use Rattle.cfg_ast.specs.declared.policy.MapEntry.{MapEntry}
 use Rattle.cfg_ast.specs.declared.policy.NameLine.{NameLine}
 use Rattle.cfg_ast.specs.declared.policy.Prepend.{Prepend}
 use Rattle.cfg_ast.specs.declared.policy.RouteMap.{RouteMap}
-use Rattle.cfg_ast.specs.Policy.{community_list_named, route_map_named, list_answer, comms_permitted_by, comms_match, prefixes_match, prepend_count, comms_set, permitted_by_entry, verdict_of, passes_list, passed_by_map}
-use Rattle.cfg_ast.specs.WellFormed.{IsWellFormedPrepend, IsWellFormedMapEntry, IsWellFormedRouteMap, IsWellFormedRouter}
+use Rattle.cfg_ast.specs.meaning.Policy.{community_list_named, route_map_named, list_answer, comms_permitted_by, communities_match, prefixes_match, prepend_count, comms_set, permitted_by_entry, verdict_of, passes_list, passed_by_map}
+use Rattle.cfg_ast.specs.printing.WellFormed.{IsWellFormedPrepend, IsWellFormedMapEntry, IsWellFormedRouteMap, IsWellFormedRouter}
 use Rattle.route_maps.specs.declared.plain.Verdict.TheVariants.{Deny, Permit}
 use Rattle.route_maps.specs.Maps.{lists_hold, entry_verdict, verdict}
 use Rattle.specialize.proofs.Found.{found_holds}
@@ -25,7 +25,7 @@ any_named router exact comms (name ∷ names) = step (community_list_named route
   step None rest = rest
   step (Some list) rest = ap (λ b. list_answer exact comms list || b) rest
 
-matches_named : (router : Router) (exact : Bool) (comms : List ℕ) (line : Option NameLine) → lists_hold exact comms (lists_named router line) ≡ comms_match router exact comms line
+matches_named : (router : Router) (exact : Bool) (comms : List ℕ) (line : Option NameLine) → lists_hold exact comms (lists_named router line) ≡ communities_match router exact comms line
 matches_named router exact comms None = refl
 matches_named router exact comms (Some line) = any_named router exact comms line.names
 
@@ -43,11 +43,11 @@ entry_said router own comms entry true form = ap (λ n. Permit (option_or entry.
 entries_said : (router : Router) (own : Option ℕ) (p : Prefix) (comms : List ℕ) (entries : List MapEntry) → AllByRecursion IsWellFormedMapEntry entries → verdict (plain_entries router own p entries) comms ≡ verdict_with own (verdict_of router p entries comms)
 entries_said router own p comms [] forms = refl
 entries_said router own p comms (entry ∷ entries) forms =
-    step (prefixes_match router p entry.prefixes) (comms_match router entry.exact comms entry.comms) refl (entries_said router own p comms entries forms.1) where
+    step (prefixes_match router p entry.prefixes) (communities_match router entry.exact comms entry.comms) refl (entries_said router own p comms entries forms.1) where
       first : entry_verdict (plain_entry router own entry) comms ≡ verdict_with own (permitted_by_entry router comms entry)
       first = entry_said router own comms entry entry.permit forms.0
 
-      step : (a h : Bool) → comms_match router entry.exact comms entry.comms ≡ h → verdict (plain_entries router own p entries) comms ≡ verdict_with own (verdict_of router p entries comms)
+      step : (a h : Bool) → communities_match router entry.exact comms entry.comms ≡ h → verdict (plain_entries router own p entries) comms ≡ verdict_with own (verdict_of router p entries comms)
           → verdict (map (plain_entry router own) (cond a (entry ∷ filter (λ (e : MapEntry). prefixes_match router p e.prefixes) entries) (filter (λ (e : MapEntry). prefixes_match router p e.prefixes) entries))) comms
           ≡ verdict_with own (cond (a && h) (permitted_by_entry router comms entry) (verdict_of router p entries comms))
       step false h holds rest = rest

@@ -6,8 +6,8 @@ use Rattle.base_kit.proofs.Elements.{In, contains_in, in_contains, in_map, in_le
 use Rattle.base_kit.proofs.SetFacts.{same_number, has-with_numbers}
 use Rattle.base_kit.specs.Prefixes.{Prefix}
 use Rattle.base_kit.specs.Sets.{has}
-use Rattle.cfg_ast.specs.Policy.{community_list_named, deletion_list}
-use Rattle.cfg_ast.specs.PolicyFaults.{mention_at, mentions_on, mentions_in_list, changed_by, mentions_in, mentions_in_map, mentions_of, mentions, community_of, communities_of}
+use Rattle.cfg_ast.specs.meaning.Policy.{community_list_named, deletion_list}
+use Rattle.cfg_ast.specs.meaning.PolicyFaults.{mention_at, mentions_on, mentions_in_list, changed_by, mentions_in, mentions_in_map, mentions_of, mentions, community_of, communities_of}
 use Rattle.cfg_ast.specs.declared.network.Named.{Named}
 use Rattle.cfg_ast.specs.declared.network.Network.{Network}
 use Rattle.cfg_ast.specs.declared.network.Router.{Router}

@@ -7,7 +7,7 @@ use Rattle.cfg_ast.specs.declared.policy.CommunityList.{CommunityList}
 use Rattle.cfg_ast.specs.declared.policy.MapEntry.{MapEntry}
 use Rattle.cfg_ast.specs.declared.policy.NameLine.{NameLine}
 use Rattle.cfg_ast.specs.declared.policy.RouteMap.{RouteMap}
-use Rattle.cfg_ast.specs.Policy.{community_list_named, route_map_named, prefixes_match, deletion_list, prepend_count, passes_list, default_preference, Permitted, passed_by}
+use Rattle.cfg_ast.specs.meaning.Policy.{community_list_named, route_map_named, prefixes_match, deletion_list, prepend_count, passes_list, default_preference, Permitted, passed_by}
 use Rattle.route_maps.specs.declared.plain.Plain.{Plain}
 use Rattle.route_maps.specs.declared.plain.PlainEntry.{PlainEntry}
 use Rattle.route_maps.specs.declared.plain.Verdict.{Verdict}

@@ -1,7 +1,7 @@
 -- Routers whose maps can be printed when they are written out for a prefix.
 use Rattle.std.specs.Prelude.{◌≡◌, []}
-use Rattle.cfg_ast.specs.PolicyFaults.{undefined_lists_of, wide_deletions_of}
-use Rattle.cfg_ast.specs.WellFormed.{IsWellFormedRouter}
+use Rattle.cfg_ast.specs.meaning.PolicyFaults.{undefined_lists_of, wide_deletions_of}
+use Rattle.cfg_ast.specs.printing.WellFormed.{IsWellFormedRouter}
 use Rattle.cfg_ast.specs.declared.network.Router.{Router}
 
 -- the router names only lists that it defines, and its deletion lists have one community a line

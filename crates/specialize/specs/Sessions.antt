@@ -1,7 +1,7 @@
 -- The plain maps of both ends of a session, and what they import together.
 use Rattle.std.specs.Prelude.{◌≡◌, ℕ, true, false, All, List}
 use Rattle.base_kit.specs.Prefixes.{Prefix}
-use Rattle.cfg_ast.specs.Policy.{name_of}
+use Rattle.cfg_ast.specs.meaning.Policy.{name_of}
 use Rattle.cfg_ast.specs.declared.bgp.Neighbor.{Neighbor}
 use Rattle.cfg_ast.specs.declared.network.Router.{Router}
 use Rattle.route_maps.specs.Maps.{import_of}

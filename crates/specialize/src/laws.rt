@@ -2,12 +2,12 @@
 //! whoever needs one calls it.
 ghost use Rattle.std.specs.Prelude.{◌≡◌, ℕ, Bool, [], List, Option, Contains};
 ghost use Rattle.base_kit.specs.Prefixes.{Prefix};
-ghost use Rattle.cfg_ast.specs.Topology.{neighbors_of};
-ghost use Rattle.cfg_ast.specs.WellFormed.{IsWellFormed, IsWellFormedRouter};
+ghost use Rattle.cfg_ast.specs.meaning.Topology.{neighbors_of};
+ghost use Rattle.cfg_ast.specs.printing.WellFormed.{IsWellFormed, IsWellFormedRouter};
 ghost use Rattle.cfg_ast.specs.declared.bgp.Neighbor.{Neighbor};
 ghost use Rattle.cfg_ast.specs.declared.network.Network.{Network};
 ghost use Rattle.cfg_ast.specs.declared.network.Router.{Router};
-ghost use Rattle.cfg_ast.specs.PolicyFaults.{undefined_list_lines, delete_list_lines, prepend_in_lines, communities_of};
+ghost use Rattle.cfg_ast.specs.meaning.PolicyFaults.{undefined_list_lines, delete_list_lines, prepend_in_lines, communities_of};
 ghost use Rattle.route_maps.specs.Within.{IsMapWithin};
 ghost use Rattle.specialize.specs.OnePrefix.{plain_of};
 ghost use Rattle.specialize.specs.Printable.{HasPrintableMaps};

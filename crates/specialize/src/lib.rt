@@ -9,7 +9,6 @@
 //! import together, and which communities they name.
 #![tactic(auto)]
 
-mod copies;
 pub mod laws;
 mod maps;
 #[cfg(test)]

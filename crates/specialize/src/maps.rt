@@ -1,17 +1,16 @@
 ghost use Rattle.std.specs.Prelude.{◌≡◌, ℕ, [], ◌∷◌, IfOk, option_copied, min, filter_map, if◌then◌else◌};
 ghost use Rattle.std.specs.List.{list_any};
 ghost use Rattle.std.specs.Option.{option_or};
-ghost use Rattle.cfg_ast.specs.Policy.{prefix_list_named, community_list_named, route_map_named, prefixes_permitted_by, prefixes_match, deletion_list, prepend_count, passes_list, default_preference};
-ghost use Rattle.cfg_ast.specs.WellFormed.{IsWellFormedRouter};
+ghost use Rattle.cfg_ast.specs.meaning.Policy.{prefix_list_named, community_list_named, route_map_named, prefixes_permitted_by, prefixes_match, deletion_list, prepend_count, passes_list, default_preference};
+ghost use Rattle.cfg_ast.specs.printing.WellFormed.{IsWellFormedRouter};
 ghost use Rattle.route_maps.specs.Printable.{IsPrintable};
 ghost use Rattle.specialize.specs.OnePrefix.{own_preference, lists_named, plain_entry, whole_entry, plain_entries, entries_for, plain_of, KeepsVerdict};
 ghost use Rattle.specialize.specs.Printable.{HasPrintableMaps};
 
-use crate::copies::{change_copy, list_copy};
 use base_kit::{List, NoMemory, Prefix, Text};
 use cfg_ast::{CommunityList, MapEntry, NameLine, Named, PrefixList, Prepend, RouteMap, Router};
 use prefix_lists::permits;
-use route_maps::{Plain, PlainEntry};
+use route_maps::{Plain, PlainEntry, change_copy, list_copy};
 use std::alloc::Global;
 
 fn find_prefix_list<'a>(router: &'a Router, name: &Text) -> Option<&'a PrefixList>

@@ -1,6 +1,6 @@
 use Rattle.std.proofs.Common.{◌≡◌, ◌++◌, drop}
 use Rattle.std.specs.Prelude.{filter_map}
-use Rattle.cfg_ast.specs.Policy.{community_list_named}
+use Rattle.cfg_ast.specs.meaning.Policy.{community_list_named}
 use Rattle.specialize.proofs.maps.copies_named.Given as goal
 
 abbrev pub invariant-loop-name : goal.invariant-loop-name
