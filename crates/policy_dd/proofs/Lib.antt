@@ -1,0 +1,16 @@
+pub mod AfterLemmas
+pub mod BridgeLemmas
+pub mod BuiltLemmas
+pub mod CaseLemmas
+pub mod CrossLemmas
+pub mod DeletionLemmas
+pub mod EdgeLemmas
+pub mod ImportLemmas
+pub mod JoinLemmas
+pub mod KeptLemmas
+pub mod MatchLemmas
+pub mod RunLemmas
+pub mod SameLemmas
+pub mod SelectionLemmas
+pub mod SeveralLemmas
+pub mod TableLemmas

@@ -1,0 +1,40 @@
+use Rattle.std.proofs.Common.{◌≡◌, ◌-◌, ◌∙◌, ap, arith, get_or, List, ℕ}
+use Rattle.base_kit.specs.Sets.{has}
+use Rattle.dd_core.proofs.ShownLemmas.{grows_refl, grows_trans, grows_inside}
+use Rattle.policy_dd.proofs.MatchLemmas.{inside_kept, exact_step, exact_none, drop_before, within_at}
+use Rattle.policy_dd.proofs.matches.exact_node.Goals as goal
+
+pub loop-place-init : goal.loop-place-init
+loop-place-init c = record {
+  below = omega arith;
+  grows = grows_refl c.args.store.now;
+  exact = exact_none c.args.store.now c.args.carried.now c.args.wants.now c.args.communities.now _ c.args.start (omega arith) c.requires.start;
+}
+
+pub wanted-requires-clause-inside : goal.wanted-requires-clause-inside
+wanted-requires-clause-inside c = inside_kept _ _ _ c.loop-place.invariant.grows c.requires.inside
+
+pub wanted-requires-clause-known : goal.wanted-requires-clause-known
+wanted-requires-clause-known c =
+    let some = c.loop-place-test.true in
+    let below = c.loop-place.invariant.below in
+    ap (λ (u : List ℕ). has u (get_or c.args.communities.now (c.loop-place.place - 1) 0)) c.loop-place.invariant.grows.universe ∙ within_at c.args.store.now.universe c.args.communities.now (c.loop-place.place - 1) c.requires.known (omega arith)
+
+pub and-requires-clause-b_inside : goal.and-requires-clause-b_inside
+and-requires-clause-b_inside c = grows_inside _ _ _ c.in_ok-here.ensures.grows c.loop-place.invariant.exact.inside
+
+pub loop-place-preserved : goal.loop-place-preserved
+loop-place-preserved c =
+    let some = c.loop-place-test.true in
+    let below = c.loop-place.invariant.below in
+    record {
+      below = omega arith;
+      grows = grows_trans _ _ _ (grows_trans _ _ _ c.loop-place.invariant.grows c.in_ok-here.ensures.grows) c.in_ok-exact.ensures.grows;
+      exact = rw (drop_before c.args.communities.now c.loop-place.place 0 some below) (exact_step c.args.store.now c.loop-place.store c.wanted.new.store c.and.new.self c.args.carried.now c.args.wants.now _ _ _ c.args.start c.loop-place.exact c.in_ok-here.here c.in_ok-exact.exact c.requires.inside c.has.ensures c.loop-place.invariant.grows c.in_ok-here.ensures.grows c.loop-place.invariant.exact c.in_ok-here.ensures.wanted c.in_ok-exact.ensures.and);
+    }
+
+pub returns-clause-exact : goal.returns-clause-exact
+returns-clause-exact c =
+    let none = c.loop-place-test.false in
+    let e : c.loop-place.place ≡ 0 = omega arith in
+    rw e at c.loop-place.invariant.exact

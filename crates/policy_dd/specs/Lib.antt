@@ -1,0 +1,10 @@
+pub mod After
+pub mod Built
+pub mod Compare
+pub mod Deletion
+pub mod Edge
+pub mod Import
+pub mod Imports
+pub mod MapRun
+pub mod Matches
+pub mod Tables

@@ -1,0 +1,22 @@
+//! What a BGP session does to a route's communities, as decision diagrams over all sets of communities.
+//!
+//! `edge_fn` makes the function of a session from the plain maps of its ends: on every set of communities,
+//! also of communities that no line names, the function means the import of the two maps. Functions
+//! have one form, so `same` compares numbers of nodes, and is true exactly where two sessions import
+//! every set alike. `several` is true exactly where two accepted imports differ in preference.
+#![tactic(auto)]
+
+mod after;
+mod deletion;
+mod edge;
+mod join;
+pub mod laws;
+mod map_run;
+mod matches;
+mod session;
+mod tables;
+#[cfg(test)]
+mod tests;
+
+pub use edge::{EdgeFn, accepts_some, same, several};
+pub use session::edge_fn;

@@ -1,0 +1,193 @@
+ghost use Rattle.std.specs.Prelude.{◌≡◌, ◌<◌, ◌≤◌, length, IfOk, ◌&&◌, ◌||◌};
+ghost use Rattle.std.specs.List.{AllByRecursion};
+ghost use Rattle.base_kit.specs.Sets.{has};
+ghost use Rattle.route_maps.specs.Within.{IsEntryWithin};
+ghost use Rattle.dd_core.specs.Sets.{value_of, Grows, Means};
+ghost use Rattle.policy_dd.specs.Deletion.{put_by_change};
+ghost use Rattle.policy_dd.specs.MapRun.{AreMapInside, IsEntryTaken, IsPushed, IsMapFn};
+ghost use Rattle.policy_dd.specs.Matches.{AreNodesInside};
+ghost use Rattle.policy_dd.specs.Tables.{AllInside, IsTableGrown, IsMoreBy};
+
+use crate::deletion::left_by;
+use crate::matches::{Carried, entry_node, without};
+use crate::tables::{or_all, or_into};
+use base_kit::{List, NoMemory};
+use cfg_ast::Change;
+use dd_core::{NodeId, Store, is_same};
+use route_maps::PlainEntry;
+use std::alloc::Global;
+
+/// What a route map does, by the set that a route began with. All nodes are of sets on which some entry
+/// so far decides.
+#[derive(Drop)]
+pub struct MapFn {
+    /// Some entry holds.
+    pub before: NodeId,
+    /// The entry permits.
+    pub permit: NodeId,
+    /// It leaves the communities that no line names.
+    pub rest: NodeId,
+    /// The preferences that it gives.
+    pub lps: List<(u32, NodeId)>,
+    /// The counts of AS numbers that it puts before the path.
+    pub adds: List<(u32, NodeId)>,
+    /// The communities that it puts in.
+    pub present: List<(u32, NodeId)>,
+    /// The communities that it leaves where `rest` is false, or takes out where `rest` is true.
+    pub odd: List<(u32, NodeId)>,
+}
+
+fn or_if(store: &mut Store, a: NodeId, b: NodeId, wanted: bool) -> Result<NodeId, NoMemory>
+    requires a_inside { a < length store.old.nodes }
+    requires b_inside { b < length store.old.nodes }
+    ensures grows { Grows store.old store.new }
+    ensures or { IfOk result (λ node. Means store.new node (λ set. value_of store.old set a || (value_of store.old set b && wanted))) }
+{
+    if wanted {
+        let node = store.or(a, b)?;
+        Ok(node)
+    } else {
+        Ok(a)
+    }
+}
+
+fn or_count(
+    store: &mut Store,
+    cases: List<(u32, NodeId)>,
+    count: u8,
+    node: NodeId,
+) -> Result<List<(u32, NodeId)>, NoMemory>
+    requires inside { AllInside store.old cases }
+    requires node_inside { node < length store.old.nodes }
+    ensures grows { Grows store.old store.new }
+    ensures more { IfOk result (λ r. IsMoreBy store.old store.new cases r count node) }
+    ensures small { count ≤ 255 }
+{
+    let more = or_into(store, cases, u32::from(count), node)?;
+    Ok(more)
+}
+
+/// Puts or joins the node under the communities that a change puts in.
+fn or_named(
+    store: &mut Store,
+    cases: List<(u32, NodeId)>,
+    change: &Option<Change>,
+    node: NodeId,
+) -> Result<List<(u32, NodeId)>, NoMemory>
+    requires inside { AllInside store.old cases }
+    requires node_inside { node < length store.old.nodes }
+    ensures grows { Grows store.old store.new }
+    ensures more { IfOk result (λ r. IsTableGrown store.old store.new cases r (put_by_change change.now) (λ k set. has (put_by_change change.now) k && value_of store.old set node)) }
+{
+    match change {
+        Some(Change::Replace(by)) => or_all(store, cases, by.as_slice(), node),
+        Some(Change::Append(more)) => or_all(store, cases, more.as_slice(), node),
+        Some(Change::Clear) => or_all(store, cases, &[], node),
+        None => or_all(store, cases, &[], node),
+    }
+}
+
+/// What a permit entry adds where it decides.
+fn taken(
+    alloc: Global,
+    store: &mut Store,
+    m: MapFn,
+    before: NodeId,
+    decides: NodeId,
+    entry: &PlainEntry,
+) -> Result<MapFn, NoMemory>
+    requires inside { AreMapInside store.old m }
+    requires before_inside { before < length store.old.nodes }
+    requires decides_inside { decides < length store.old.nodes }
+    requires known { IsEntryWithin store.old.universe entry.now }
+    ensures grows { Grows store.old store.new }
+    ensures taken { IfOk result (λ r. IsEntryTaken store.old store.new m r before decides entry.now) }
+{
+    let left = left_by(alloc, entry)?;
+    let permit = store.or(m.permit, decides)?;
+    let rest = or_if(store, m.rest, decides, left.all)?;
+    let lps = or_into(store, m.lps, entry.lp.unwrap_or(100), decides)?;
+    let adds = or_count(store, m.adds, entry.adds, decides)?;
+    let present = or_named(store, m.present, &entry.change, decides)?;
+    let odd = or_all(store, m.odd, left.odd.as_slice(), decides)?;
+    Ok(MapFn {
+        before,
+        permit,
+        rest,
+        lps,
+        adds,
+        present,
+        odd,
+    })
+}
+
+/// An entry more that does nothing where it decides.
+fn passed_over(m: MapFn, before: NodeId) -> MapFn
+    ensures { result ≡ record m { before = before } }
+{
+    MapFn {
+        before,
+        permit: m.permit,
+        rest: m.rest,
+        lps: m.lps,
+        adds: m.adds,
+        present: m.present,
+        odd: m.odd,
+    }
+}
+
+/// One entry more. It does nothing where it denies, or where an earlier one always holds.
+fn push_entry(
+    alloc: Global,
+    store: &mut Store,
+    carried: &Carried,
+    m: MapFn,
+    entry: &PlainEntry,
+) -> Result<MapFn, NoMemory>
+    requires carried_inside { AreNodesInside store.old carried.now }
+    requires inside { AreMapInside store.old m }
+    requires known { IsEntryWithin store.old.universe entry.now }
+    ensures grows { Grows store.old store.new }
+    ensures pushed { IfOk result (λ r. IsPushed store.old store.new carried.now m r entry.now) }
+{
+    let here = entry_node(store, carried, entry)?;
+    let decides = without(store, here, m.before)?;
+    let before = store.or(m.before, here)?;
+    if !entry.permit {
+        return Ok(passed_over(m, before));
+    }
+    if is_same(store, decides, store.constant(false)) {
+        return Ok(passed_over(m, before));
+    }
+    let pushed = taken(alloc, store, m, before, decides, entry)?;
+    Ok(pushed)
+}
+
+/// What the entries of a map do to what is carried into it: the first that holds decides. A few
+/// operations on diagrams for each entry, and one for each community that it names.
+pub fn run_map(
+    alloc: Global,
+    store: &mut Store,
+    carried: &Carried,
+    entries: &[PlainEntry],
+) -> Result<MapFn, NoMemory>
+    requires inside { AreNodesInside store.old carried.now }
+    requires known { AllByRecursion (IsEntryWithin store.old.universe) entries.now }
+    ensures grows { Grows store.old store.new }
+    ensures run { IfOk result (IsMapFn store.old store.new carried.now entries.now) }
+{
+    let never = store.constant(false);
+    let mut m = MapFn {
+        before: never,
+        permit: never,
+        rest: never,
+        lps: List::new(alloc),
+        adds: List::new(alloc),
+        present: List::new(alloc),
+        odd: List::new(alloc),
+    };
+    for entry in entries {
+        m = push_entry(alloc, store, carried, m, entry)?;
+    }
+    Ok(m)
+}
