@@ -5,8 +5,8 @@ use Rattle.std.proofs.lemmas.Bool.{cases_Bool, and_parts, and_from, eq-eqb, or_l
 use Rattle.srp_core.specs.declared.route.Route.{Route}
 use Rattle.base_kit.specs.declared.act_graph.Edge.{Edge}
 use Rattle.srp_core.specs.Routes.{size_of, path_of, is_on}
-use Rattle.srp_core.specs.Acts.{repeated}
-use Rattle.srp_core.specs.Problem.{Problem, count, number, is_lone, act_of, step, key_of, IsProblem}
+use Rattle.srp_core.specs.Acts.{prepended}
+use Rattle.srp_core.specs.Problem.{Problem, count, number, is_lone, act_of, step_over, key_of, IsProblem}
 use Rattle.srp_core.specs.Stability.{label, IsCandidate, of_init, of_edge, IsStable}
 use Rattle.srp_core.specs.Quotient.{group_of, IsAdmissible, first_number, IsQuotient}
 use Rattle.srp_core.specs.Laws.{HasPath, HasBetter}
@@ -16,15 +16,15 @@ use Rattle.srp_core.proofs.Matching.{IsInner, lone_check, inner_offer}
 use Rattle.srp_core.proofs.GroupMatching.{IsIn, AreTogether, not_lone_inside, together, equal_held, quotient_matching}
 
 -- where a list with repeats before it is cut at the last place of a number
-split_repeated : (k n a : ℕ) (p before after : List ℕ) → repeated k n p ≡ before ++ (a ∷ after) → is_on a after ≡ false → ((front : List ℕ) × (p ≡ front ++ (a ∷ after))) ⊎ ((n ≡ a) × (p ≡ after))
+split_repeated : (k n a : ℕ) (p before after : List ℕ) → prepended k n p ≡ before ++ (a ∷ after) → is_on a after ≡ false → ((front : List ℕ) × (p ≡ front ++ (a ∷ after))) ⊎ ((n ≡ a) × (p ≡ after))
 split_repeated zero n a p before after e h = inl (before, e)
 split_repeated (suc zero) n a p [] after e h = let x : n ≡ a = cc in let y : p ≡ after = cc in inr (x, y)
 split_repeated (suc (suc k)) n a p [] after e h =
     let x : n ≡ a = cc in
-    let y : n ∷ repeated k n p ≡ after = cc in
-    let t : is_on a (n ∷ repeated k n p) ≡ true = or_left (nat_eq n a) (is_on a (repeated k n p)) (eq-eqb n a x) in
-    let f : is_on a (n ∷ repeated k n p) ≡ false = subst (λ l. is_on a l ≡ false) (sym y) h in absurd (cc)
-split_repeated (suc k) n a p (b ∷ before) after e h = let rest : repeated k n p ≡ before ++ (a ∷ after) = cc in split_repeated k n a p before after rest h
+    let y : n ∷ prepended k n p ≡ after = cc in
+    let t : is_on a (n ∷ prepended k n p) ≡ true = or_left (nat_eq n a) (is_on a (prepended k n p)) (eq-eqb n a x) in
+    let f : is_on a (n ∷ prepended k n p) ≡ false = subst (λ l. is_on a l ≡ false) (sym y) h in absurd (cc)
+split_repeated (suc k) n a p (b ∷ before) after e h = let rest : prepended k n p ≡ before ++ (a ∷ after) = cc in split_repeated k n a p before after rest h
 
 not_nothing : (before after : List ℕ) (a : ℕ) → [] ≡ before ++ (a ∷ after) → ⊥
 not_nothing [] after a e = cc
@@ -33,7 +33,7 @@ not_nothing (b ∷ before) after a e = cc
 module _ (P : Problem) (good : IsProblem P) where
   chain_at : (L : List (Option Route)) → IsSupported P L → (n u a : ℕ) (r : Route) (before after : List ℕ) → size_of r < n → path_of r ≡ before ++ (a ∷ after) → is_on a after ≡ false → IsCandidate P L u r → HasPath P L a after
   chain_at L sup zero u a r before after less e h cand = absurd (omega arith)
-  chain_at L sup (suc n) u a r before after less e h (of_init i) = absurd (not_nothing before after a (sym (good.starts u r i) ∙ e))
+  chain_at L sup (suc n) u a r before after less e h (of_init i) = absurd (not_nothing before after a (sym (good.starts.paths u r i) ∙ e))
   chain_at L sup (suc n) u a r before after less e h (of_edge edge i imp over) =
       let g = grows P good edge over.from r i over.stepped in
       let up = sup.held edge.exporter over.from over.labelled in
@@ -41,20 +41,20 @@ module _ (P : Problem) (good : IsProblem P) where
         | inl empty ↦ absurd (not_nothing before after a (sym empty ∙ e))
         | inr k ↦ elim (split_repeated k.0 (number P edge.exporter) a (path_of over.from) before after (sym k.2 ∙ e) h) [
           | inl there ↦ chain_at L sup n edge.exporter a over.from there.0 after (omega arith) there.1 h up
-          | inr here ↦ record { router = edge.exporter; inside = (good.edges edge i).exporter_in; numbered = here.0; some_number = subst (λ x. x ≢ 0) here.0 (good.exporters k.1 edge i); route = over.from; labelled = over.labelled; same = here.1 }
+          | inr here ↦ record { router = edge.exporter; inside = (good.edges.inside edge i).exporter_in; numbered = here.0; some_number = subst (λ x. x ≢ 0) here.0 ((good.numbers k.1).exporters edge i); route = over.from; labelled = over.labelled; same = here.1 }
         ]
       ]
 
   pub chains : (L : List (Option Route)) → IsStable P L → (u a : ℕ) (r : Route) (before after : List ℕ) → label L u ≡ Some r → path_of r ≡ before ++ (a ∷ after) → is_on a after ≡ false → HasPath P L a after
   chains L st u a r before after lab e h = let sup = stable_supported P good L st in chain_at L sup (suc (size_of r)) u a r before after (omega arith) e h (sup.held u r lab)
 
-  pub loop_checks : (L : List (Option Route)) → IsStable P L → (e : Edge) (r c : Route) → Contains P.edges e → is_lone P e.importer ≡ false → label L e.exporter ≡ Some r → step P e r ≡ Some c → is_on (number P e.importer) (path_of c) ≡ true → HasBetter P L e.importer c
+  pub loop_checks : (L : List (Option Route)) → IsStable P L → (e : Edge) (r c : Route) → Contains P.edges e → is_lone P e.importer ≡ false → label L e.exporter ≡ Some r → step_over P e r ≡ Some c → is_on (number P e.importer) (path_of c) ≡ true → HasBetter P L e.importer c
   loop_checks L st e r c i l lab s h = let b = loop_check P good L st e r c i l lab s h in record { own = b.route; labelled = b.labelled; better = b.better }
 
   module _ (groups : List ℕ) (adm : IsAdmissible P groups) where
-    pub inner_edge : (L : List (Option Route)) → IsStable P L → (e : Edge) (r c : Route) → Contains P.edges e → group_of groups e.importer ≡ group_of groups e.exporter → label L e.exporter ≡ Some r → step P e r ≡ Some c → HasBetter P L e.importer c
+    pub inner_edge : (L : List (Option Route)) → IsStable P L → (e : Edge) (r c : Route) → Contains P.edges e → group_of groups e.importer ≡ group_of groups e.exporter → label L e.exporter ≡ Some r → step_over P e r ≡ Some c → HasBetter P L e.importer c
     inner_edge L st e r c i same lab s =
-        let ge = good.edges e i in
+        let ge = good.edges.inside e i in
         let R = AreTogether P groups in
         let m = together P good groups adm in
         let x : AreTogether P groups e.importer e.importer = record { left = ge.importer_in; right = ge.importer_in; same = refl } in

@@ -48,7 +48,7 @@ some_start : (P : Problem) → IsProblem P → (u v : ℕ) (a b : Option Route) 
 some_start P good u v None None ea eb e = refl
 some_start P good u v None (Some s) ea eb e = absurd (starts_routed s u v e)
 some_start P good u v (Some r) None ea eb e = absurd (starts_routed r v u (sym e))
-some_start P good u v (Some r) (Some s) ea eb e = ap Some (one_route P.protocol r s u v (good.routes u r ea) (good.routes v s eb) (good.starts u r ea) (good.starts v s eb) (good.bare u r ea) (good.bare v s eb) e)
+some_start P good u v (Some r) (Some s) ea eb e = ap Some (one_route P.protocol r s u v (good.starts.routes u r ea) (good.starts.routes v s eb) (good.starts.paths u r ea) (good.starts.paths v s eb) (good.starts.bare u r ea) (good.starts.bare v s eb) e)
 
 same_init : (u v : ℕ) (a b : Option Route) → a ≡ b → start_of false u a ≡ start_of false v b
 same_init u v None None e = refl

@@ -5,7 +5,7 @@ use Rattle.base_kit.specs.declared.protocol.Protocol.TheVariants.{Bgp as OverBgp
 use Rattle.srp_core.specs.declared.route.Route.{Route}
 use Rattle.base_kit.specs.declared.act_graph.Edge.{Edge}
 use Rattle.srp_core.specs.Routes.{path_of, size_of, IsRouteOf, Key}
-use Rattle.srp_core.specs.Acts.{repeated, IsActOf}
+use Rattle.srp_core.specs.Acts.{prepended, IsActOf}
 use Rattle.srp_core.specs.Problem.{Problem, count, number, initial, act_of, key_of, IsProblem}
 use Rattle.srp_core.specs.Stability.{label, IsCandidateOver, IsCandidate, of_init, of_edge, IsStable}
 use Rattle.srp_core.specs.Quotient.{group_of, IsAdmissible, IsQuotient, IsFirstMember}
@@ -30,7 +30,7 @@ same_candidate P good bgp L L' e e' c c' i i' f f' o o' ends from k =
     let lc' = ap length b.1 ∙ length_repeated (suc b.0) (number P e'.exporter) (path_of o'.from) in
     let lf : length (path_of o.from) ≡ length (path_of o'.from) = ap (λ r. length (path_of r)) from in
     let times : a.0 ≡ b.0 = omega (arith, size, sc, sc', lc, lc', lf) in
-    let paths : path_of c ≡ path_of c' = a.1 ∙ (λ j. repeated (suc (times j)) (number P (ends j)) (path_of (from j))) ∙ sym b.1 in
+    let paths : path_of c ≡ path_of c' = a.1 ∙ (λ j. prepended (suc (times j)) (number P (ends j)) (path_of (from j))) ∙ sym b.1 in
     bgp_parts c c' g g' (ap (λ (q : Key). q.preference) k) paths (ap (λ (q : Key). q.comms) k)
 
 module _ (S : Problem) (good : IsProblem S) (groups : List ℕ) (adm : IsAdmissible S groups) (Q : Problem) (goodq : IsProblem Q) (q : IsQuotient S groups Q) where
@@ -38,13 +38,13 @@ module _ (S : Problem) (good : IsProblem S) (groups : List ℕ) (adm : IsAdmissi
     fold_step : (u : ℕ) (r : Route) → u < count S → IsFirstMember groups u → label L u ≡ Some r → IsCandidate S L u r → ((w : ℕ) (s : Route) → w < count S → size_of s < size_of r → label L w ≡ Some s → label M (group_of groups w) ≡ label M' (group_of groups w)) → label M (group_of groups u) ≡ label M' (group_of groups u)
     fold_step u r h first e (of_init i) before = fold.started u r h i ∙ sym (fold'.started u r h i)
     fold_step u r h first e (of_edge edge i imp over) before =
-        let none : initial S u ≡ None = ap (initial S) (sym imp) ∙ good.unoriginated bgp edge i in
+        let none : initial S u ≡ None = ap (initial S) (sym imp) ∙ good.starts.unoriginated bgp edge i in
         let on = first_on S good bgp L r edge i over in
         let t = fold.taken u edge.exporter r h first e none on in
         let t' = fold'.taken u edge.exporter r h first e none on in
         let k = t.2 in
         let k' = t'.2 in
-        let lower = before edge.exporter over.from (good.edges edge i).exporter_in (grows S good edge over.from r i over.stepped) over.labelled in
+        let lower = before edge.exporter over.from (good.edges.inside edge i).exporter_in (grows S good edge over.from r i over.stepped) over.labelled in
         let a : label M (group_of groups edge.exporter) ≡ Some k.over.from = ap (label M) (sym k.exporter) ∙ k.over.labelled in
         let b : label M' (group_of groups edge.exporter) ≡ Some k'.over.from = ap (label M') (sym k'.exporter) ∙ k'.over.labelled in
         let from : k.over.from ≡ k'.over.from = cc in
@@ -83,7 +83,7 @@ module _ (S : Problem) (good : IsProblem S) (groups : List ℕ) (adm : IsAdmissi
         let there : initial S u ≡ Some m = sym (q.origins u h) ∙ i in
         lift.started u m m h e there ∙ sym (lift'.started u m m h e there)
     lift_step u m h e (of_edge edge i imp over) before =
-        let none : initial S u ≡ None = sym (q.origins u h) ∙ ap (initial Q) (sym imp) ∙ goodq.unoriginated bgp edge i in
+        let none : initial S u ≡ None = sym (q.origins u h) ∙ ap (initial Q) (sym imp) ∙ goodq.starts.unoriginated bgp edge i in
         let on = first_on Q goodq bgp M m edge i over in
         let t = lift.taken u edge.exporter m h e none on in
         let t' = lift'.taken u edge.exporter m h e none on in
@@ -91,8 +91,8 @@ module _ (S : Problem) (good : IsProblem S) (groups : List ℕ) (adm : IsAdmissi
         let k' = t'.2 in
         let g = grows Q goodq edge over.from m i over.stepped in
         let agree : (w : ℕ) → w < count S → group_of groups w ≡ edge.exporter → label L w ≡ label L' w = λ w hw x. before w over.from hw g (ap (label M) x ∙ over.labelled) in
-        let a : label L k.edge.exporter ≡ label L' k.edge.exporter = agree k.edge.exporter (good.edges k.edge k.edge_in).exporter_in k.exporter in
-        let b : label L k'.edge.exporter ≡ label L' k'.edge.exporter = agree k'.edge.exporter (good.edges k'.edge k'.edge_in).exporter_in k'.exporter in
+        let a : label L k.edge.exporter ≡ label L' k.edge.exporter = agree k.edge.exporter (good.edges.inside k.edge k.edge_in).exporter_in k.exporter in
+        let b : label L k'.edge.exporter ≡ label L' k'.edge.exporter = agree k'.edge.exporter (good.edges.inside k'.edge k'.edge_in).exporter_in k'.exporter in
         let le : k.edge.exporter ≤ k'.edge.exporter = k.least k'.edge t'.0 k'.edge_in k'.importer k'.exporter (moved L' L k'.edge t'.0 (sym b) k'.over) k'.keyed in
         let ge : k'.edge.exporter ≤ k.edge.exporter = k'.least k.edge t.0 k.edge_in k.importer k.exporter (moved L L' k.edge t.0 a k.over) k.keyed in
         let ends : k.edge.exporter ≡ k'.edge.exporter = omega arith in

@@ -22,9 +22,9 @@ module _ (S : Problem) (R : ℕ → ℕ → Type 0) (m : IsMatching S S R) (back
   lone_same u v x l =
       let inside = m.left_in u v x in
       let bgp = lone_bgp S good u inside l in
-      let a = (good.lone_is u inside l).first_accepted in
-      let numbered : number S u ≢ 0 = subst (λ w. number S w ≢ 0) a.importer (good.importers bgp a.edge a.edge_in) in
-      good.distinct bgp u v inside (m.right_in u v x) (m.numbers u v x l) numbered
+      let a = (good.marks.only u inside l).first_accepted in
+      let numbered : number S u ≢ 0 = subst (λ w. number S w ≢ 0) a.importer ((good.numbers bgp).importers a.edge a.edge_in) in
+      (good.numbers bgp).distinct u v inside (m.right_in u v x) (m.numbers u v x l) numbered
 
   half_end : (u v : ℕ) (r c : Route) → R u v → is_lone S v ≡ false → label L u ≡ Some r → ((x y : ℕ) (s : Route) → size_of s < size_of r → R x y → label L x ≡ Some s → Held S L y (key_of S s)) → Offer S v c → key_of S c ≡ key_of S r → AsGood S L v c → Half S L v r
   half_end u v r c x l lab before offer k found =

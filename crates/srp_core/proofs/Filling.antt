@@ -64,7 +64,7 @@ below_bound (None ∷ labels) (suc u) r e = below_bound labels u r e
 below_bound (Some s ∷ labels) zero r e = let same : s ≡ r = cc in let size = ap size_of same in omega (arith, size)
 below_bound (Some s ∷ labels) (suc u) r e = let h = below_bound labels u r e in omega (arith, h)
 
-nothing : (P : Problem) (u : ℕ) (r : Route) → label (replicate (count P) None) u ≡ Some r → ⊥
+pub nothing : (P : Problem) (u : ℕ) (r : Route) → label (replicate (count P) None) u ≡ Some r → ⊥
 nothing P u r e = elim (cases_lt u (count P)) [
   | inl h ↦ let empty : label (replicate (count P) None) u ≡ None = get_or-replicate (count P) u None None h in cc
   | inr h ↦ let empty : label (replicate (count P) None) u ≡ None = get_or_past (replicate (count P) None) u None (let l = length-replicate {A = Option Route} (count P) None in omega (arith, l)) in cc
@@ -101,7 +101,7 @@ module _ (B A : Problem) (R : ℕ → ℕ → Type 0) (m : IsMatching B A R) (gb
       let o = offered_over E good b a s x lab empty before e i imp over in
       record { route = o.route; candidate = of_edge o.edge o.edge_in o.importer o.over; keyed = o.keyed }
 
-  extended : (E : List (Option Route)) (b : ℕ) (c : Route) → label E b ≡ None → Extends E (set E b (Some c))
+  pub extended : (E : List (Option Route)) (b : ℕ) (c : Route) → label E b ≡ None → Extends E (set E b (Some c))
   extended E b c empty = record {
     kept = λ u r e. elim (cases_eq u b) [
       | inl same ↦ (let no' : label E u ≡ None = subst (λ v. label E v ≡ None) (sym same) empty in absurd (cc))
@@ -110,7 +110,7 @@ module _ (B A : Problem) (R : ℕ → ℕ → Type 0) (m : IsMatching B A R) (gb
   }
 
   -- where a label is set, it is the new one, or an old one
-  at_set : (E : List (Option Route)) (b u : ℕ) (c r : Route) → b < length E → label (set E b (Some c)) u ≡ Some r → ((u ≡ b) × (c ≡ r)) ⊎ (label E u ≡ Some r)
+  pub at_set : (E : List (Option Route)) (b u : ℕ) (c r : Route) → b < length E → label (set E b (Some c)) u ≡ Some r → ((u ≡ b) × (c ≡ r)) ⊎ (label E u ≡ Some r)
   at_set E b u c r h e = elim (cases_eq u b) [
     | inl same ↦
         let s : label (set E b (Some c)) u ≡ Some c = subst (λ v. label (set E b (Some c)) v ≡ Some c) (sym same) (get_or-set_same E b (Some c) None h) in

@@ -18,9 +18,9 @@ use Rattle.srp_core.proofs.Sources.{first_is, fold_next}
 
 module _ (S : Problem) (good : IsProblem S) (groups : List ℕ) (adm : IsAdmissible S groups) (Q : Problem) (goodq : IsProblem Q) (q : IsQuotient S groups Q) (bgp : S.protocol ≡ OverBgp) (L : List (Option Route)) (st : IsStable S L) where
   -- the group has the initial route of its first member, or takes its route as folding asks for
-  record Picked (E : List (Option Route)) (g : ℕ) (m : Route) : Type 0 where
-    started : (u : ℕ) (i : Route) → u < count S → group_of groups u ≡ g → initial S u ≡ Some i → m ≡ i
-    taken : (u source : ℕ) (r : Route) → u < count S → group_of groups u ≡ g → IsFirstMember groups u → label L u ≡ Some r → initial S u ≡ None → IsFirstOn S (path_of r) source → GroupTakes S Q E g (group_of groups source) m r
+  pub record Picked (E : List (Option Route)) (g : ℕ) (m : Route) : Type 0 where
+    pub started : (u : ℕ) (i : Route) → u < count S → group_of groups u ≡ g → initial S u ≡ Some i → m ≡ i
+    pub taken : (u source : ℕ) (r : Route) → u < count S → group_of groups u ≡ g → IsFirstMember groups u → label L u ≡ Some r → initial S u ≡ None → IsFirstOn S (path_of r) source → GroupTakes S Q E g (group_of groups source) m r
 
   takes_kept : (E E' : List (Option Route)) (g h : ℕ) (m r : Route) → Extends E E' → GroupTakes S Q E g h m r → GroupTakes S Q E' g h m r
   takes_kept E E' g h m r ext t = record {
@@ -32,27 +32,26 @@ module _ (S : Problem) (good : IsProblem S) (groups : List ℕ) (adm : IsAdmissi
     keyed = t.keyed;
   }
 
-  kept : (E E' : List (Option Route)) (g : ℕ) (m : Route) → Extends E E' → Picked E g m → Picked E' g m
+  pub kept : (E E' : List (Option Route)) (g : ℕ) (m : Route) → Extends E E' → Picked E g m → Picked E' g m
   kept E E' g m ext p = record {
     started = p.started;
     taken = λ u source r h x first e none on. takes_kept E E' g (group_of groups source) m r ext (p.taken u source r h x first e none on);
   }
 
-  one_first : (u v : ℕ) → group_of groups u ≡ group_of groups v → IsFirstMember groups u → IsFirstMember groups v → u ≡ v
+  pub one_first : (u v : ℕ) → group_of groups u ≡ group_of groups v → IsFirstMember groups u → IsFirstMember groups v → u ≡ v
   one_first u v same f f' = elim (cases_lt u v) [
     | inl less ↦ absurd (f'.first u less same)
     | inr ge ↦ elim (cases_lt v u) [ inl less ↦ absurd (f.first v less (sym same)) | inr le ↦ omega arith ]
   ]
 
-  even : IsEven S (λ g u. IsIn S groups u g) L
+  pub even : IsEven S (λ g u. IsIn S groups u g) L
   even = record { held = λ g u u' r x x' e. equal_held S good groups adm L st u u' r (record { left = x.inside; right = x'.inside; same = x.of_group ∙ sym x'.of_group }) e }
 
-  Made : (E : List (Option Route)) (g : ℕ) (s : Route) → Type 0
+  abbrev pub Made : (E : List (Option Route)) (g : ℕ) (s : Route) → Type 0
   Made E g s = (m : Route) × Picked E g m × IsCandidate Q E g m × (key_of Q m ≡ key_of S s)
 
   make_started : (E : List (Option Route)) (u : ℕ) (s i : Route) → u < count S → label L u ≡ Some s → initial S u ≡ Some i → IsCandidate S L u s → Made E (group_of groups u) s
-  unfolding Made
-  make_started E u s i h e init (of_edge edge im imp over) = (let none : initial S u ≡ None = ap (initial S) (sym imp) ∙ good.unoriginated bgp edge im in absurd (cc))
+  make_started E u s i h e init (of_edge edge im imp over) = (let none : initial S u ≡ None = ap (initial S) (sym imp) ∙ good.starts.unoriginated bgp edge im in absurd (cc))
   make_started E u s i h e init (of_init f) = (
     s,
     record {
@@ -64,7 +63,6 @@ module _ (S : Problem) (good : IsProblem S) (groups : List ℕ) (adm : IsAdmissi
   )
 
   make_taken : (E : List (Option Route)) → IsGood Q S (λ g u. IsIn S groups u g) E L → (u : ℕ) (s : Route) → u < count S → IsFirstMember groups u → label L u ≡ Some s → initial S u ≡ None → label E (group_of groups u) ≡ None → IsFilled (λ g u. IsIn S groups u g) E L (size_of s) → IsCandidate S L u s → Made E (group_of groups u) s
-  unfolding Made
   make_taken E state u s h first e none empty before (of_init f) = absurd (cc)
   make_taken E state u s h first e none empty before (of_edge edge i imp over) =
       let on = first_on S good bgp L s edge i over in
@@ -89,8 +87,7 @@ module _ (S : Problem) (good : IsProblem S) (groups : List ℕ) (adm : IsAdmissi
     | inl none ↦ make_taken E state u s h first e none empty before (st.held u s h e)
   ]
 
-  make : (E : List (Option Route)) → IsGood Q S (λ g u. IsIn S groups u g) E L → (g u : ℕ) (s : Route) → IsIn S groups u g → label L u ≡ Some s → label E g ≡ None → IsFilled (λ g u. IsIn S groups u g) E L (size_of s) → Made E g s
-  unfolding Made
+  pub make : (E : List (Option Route)) → IsGood Q S (λ g u. IsIn S groups u g) E L → (g u : ℕ) (s : Route) → IsIn S groups u g → label L u ≡ Some s → label E g ≡ None → IsFilled (λ g u. IsIn S groups u g) E L (size_of s) → Made E g s
   make E state g u s x e empty before =
       let l = first_member groups u in
       let b = l.below in
@@ -103,7 +100,6 @@ module _ (S : Problem) (good : IsProblem S) (groups : List ℕ) (adm : IsAdmissi
       (t.0, subst (λ n. Picked E n t.0) of t.1, subst (λ n. IsCandidate Q E n t.0) of t.2, t.3 ∙ k.keyed)
 
   choice : IsChoice Q S (λ g u. IsIn S groups u g) (converse S Q (IsIn S groups) (quotient_matching S good groups adm Q goodq q)) goodq good L st even Picked
-  unfolding Made
   choice = record { make = make; keep = kept }
 
   pub fold_exists : (M : List (Option Route)) × IsFold S Q groups L M

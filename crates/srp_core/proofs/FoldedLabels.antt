@@ -4,7 +4,7 @@ use Rattle.std.proofs.lemmas.Bool.{cases_eq}
 use Rattle.base_kit.specs.declared.protocol.Protocol.TheVariants.{Bgp as OverBgp}
 use Rattle.srp_core.specs.declared.route.Route.{Route}
 use Rattle.srp_core.specs.Routes.{path_of}
-use Rattle.srp_core.specs.Acts.{repeated, IsActOf}
+use Rattle.srp_core.specs.Acts.{prepended, IsActOf}
 use Rattle.srp_core.specs.Problem.{Problem, count, number, initial, act_of, key_of, IsProblem}
 use Rattle.srp_core.specs.Stability.{label, IsCandidate, of_init, of_edge, IsStable}
 use Rattle.srp_core.specs.Quotient.{group_of, IsAdmissible, IsQuotient, Corresponds, IsFirstMember}
@@ -47,10 +47,10 @@ module _ (S : Problem) (good : IsProblem S) (groups : List ℕ) (adm : IsAdmissi
   folded_from : (u : ℕ) (r : Route) → u < count S → IsFirstMember groups u → label L u ≡ Some r → IsCandidate S L u r → Folded u r
   folded_from u r h first e (of_init i) = record { route = r; labelled = fold.started u r h i; candidate = of_init (q.origins u h ∙ i); keyed = same_key r }
   folded_from u r h first e (of_edge edge i imp over) =
-      let none : initial S u ≡ None = ap (initial S) (sym imp) ∙ good.unoriginated bgp edge i in
-      let ge = good.edges edge i in
+      let none : initial S u ≡ None = ap (initial S) (sym imp) ∙ good.starts.unoriginated bgp edge i in
+      let ge = good.edges.inside edge i in
       let k = step_bgp (act_of S edge) (number S edge.exporter) over.from r (subst (λ p. IsActOf p (act_of S edge)) bgp (edge_act S good edge i)) over.stepped in
-      let on : IsFirstOn S (path_of r) edge.exporter = record { inside = ge.exporter_in; number_of = number S edge.exporter; rest = repeated k.0 (number S edge.exporter) (path_of over.from); path_is = k.1; numbered = refl; some_number = good.exporters bgp edge i } in
+      let on : IsFirstOn S (path_of r) edge.exporter = record { inside = ge.exporter_in; number_of = number S edge.exporter; rest = prepended k.0 (number S edge.exporter) (path_of over.from); path_is = k.1; numbered = refl; some_number = (good.numbers bgp).exporters edge i } in
       let t = fold.taken u edge.exporter r h first e none on in
       record { route = t.0; labelled = t.1; candidate = of_edge t.2.edge t.2.edge_in t.2.importer t.2.over; keyed = t.2.keyed }
 

@@ -70,9 +70,9 @@ module _ (P : Problem) (good : IsProblem P) (graph : ActGraph) (is : IsGraphOf P
           twin = λ imp out.
               (let t = a.twins u v edge hu' hv' same i imp out in
               let there = subst (λ l. Contains l t.other) (sym is.edges) t.other_in in
-              let g = good.edges edge i in
-              let g' = good.edges t.other t.other_in in
-              let act : t.other.act ≡ edge.act = sym (good.acts_differ edge.act t.other.act g.act_in g'.act_in t.alike) in
+              let g = good.edges.inside edge i in
+              let g' = good.edges.inside t.other t.other_in in
+              let act : t.other.act ≡ edge.act = sym (good.acts.differ edge.act t.other.act g.act_in g'.act_in t.alike) in
               (there.0, t.other, there.1, there.2, (t.importer, act, t.exporter)));
         });
   }
@@ -99,11 +99,11 @@ module _ (P : Problem) (good : IsProblem P) (graph : ActGraph) (is : IsGraphOf P
 pub importers_inside : (P : Problem) → IsProblem P → (edges : List Edge) (n : ℕ) → edges ≡ P.edges → n ≡ count P → All (λ e. e.importer < n) edges
 importers_inside P good edges n same total k d inside =
     let edge = slice_index_or edges k d in
-    let h = (good.edges edge (subst (λ l. Contains l edge) same (All-contains_itself edges k d inside))).importer_in in
+    let h = (good.edges.inside edge (subst (λ l. Contains l edge) same (All-contains_itself edges k d inside))).importer_in in
     subst (λ m. edge.importer < m) (sym total) h
 
 pub exporters_inside : (P : Problem) → IsProblem P → (edges : List Edge) (n : ℕ) → edges ≡ P.edges → n ≡ count P → All (λ e. e.exporter < n) edges
 exporters_inside P good edges n same total k d inside =
     let edge = slice_index_or edges k d in
-    let h = (good.edges edge (subst (λ l. Contains l edge) same (All-contains_itself edges k d inside))).exporter_in in
+    let h = (good.edges.inside edge (subst (λ l. Contains l edge) same (All-contains_itself edges k d inside))).exporter_in in
     subst (λ m. edge.exporter < m) (sym total) h

@@ -64,17 +64,17 @@ module _ (S : Problem) (good : IsProblem S) (groups : List ℕ) (adm : IsAdmissi
   pub not_lone_inside : (u : ℕ) (e : Edge) → u < count S → Contains S.edges e → e.importer ≡ u → group_of groups e.exporter ≡ group_of groups u → is_lone S u ≡ false
   not_lone_inside u e h i imp same = elim (cases_Bool (is_lone S u)) [
     | inr f ↦ f
-    | inl t ↦ absurd ((good.edges e i).differ (imp ∙ adm.alone u e.exporter h (good.edges e i).exporter_in (sym same) t))
+    | inl t ↦ absurd ((good.edges.inside e i).differ (imp ∙ adm.alone u e.exporter h (good.edges.inside e i).exporter_in (sym same) t))
   ]
 
   together_forth : (u v : ℕ) (e : Edge) → AreTogether S groups u v → Contains S.edges e → e.importer ≡ u → Partner S S (AreTogether S groups) v e ⊎ IsInner S (AreTogether S groups) u v e
   together_forth u v e x i imp =
-      let ge = good.edges e i in
+      let ge = good.edges.inside e i in
       elim (cases_eq (group_of groups e.exporter) (group_of groups u)) [
         | inl same ↦ inr (record { not_lone = not_lone_inside u e x.left i imp same; inner = record { left = ge.exporter_in; right = x.right; same = same ∙ x.same } })
         | inr differ ↦
             let t = adm.twins u v e x.left x.right x.same i imp differ in
-            inl (record { other = t.other; other_in = t.other_in; importer = t.importer; exporter = record { left = ge.exporter_in; right = (good.edges t.other t.other_in).exporter_in; same = sym t.exporter }; alike = t.alike })
+            inl (record { other = t.other; other_in = t.other_in; importer = t.importer; exporter = record { left = ge.exporter_in; right = (good.edges.inside t.other t.other_in).exporter_in; same = sym t.exporter }; alike = t.alike })
       ]
 
   turn : (u v : ℕ) → AreTogether S groups u v → AreTogether S groups v u
@@ -120,17 +120,17 @@ module _ (S : Problem) (good : IsProblem S) (groups : List ℕ) (adm : IsAdmissi
     lone_number u g x t =
         let inside : g < count Q = subst (λ h. h < count Q) x.of_group (q.inside u x.inside) in
         let lone : is_lone Q g ≡ true = ap (is_lone Q) (sym x.of_group) ∙ q.lone u x.inside ∙ t in
-        let a = (goodq.lone_is g inside lone).first_accepted in
+        let a = (goodq.marks.only g inside lone).first_accepted in
         let used : IsUsed Q g = imports a.edge a.edge_in a.importer in
         let n = q.numbers g inside used in
-        let some_number : number Q g ≢ 0 = subst (λ w. number Q w ≢ 0) a.importer (goodq.importers (lone_bgp Q goodq g inside lone) a.edge a.edge_in) in
+        let some_number : number Q g ≢ 0 = subst (λ w. number Q w ≢ 0) a.importer ((goodq.numbers (lone_bgp Q goodq g inside lone)).importers a.edge a.edge_in) in
         let k = member S.numbers groups g (λ z. some_number (n ∙ z)) in
         let same : u ≡ k.router = adm.alone u k.router x.inside k.inside (x.of_group ∙ sym k.of_group) t in
         ap (number S) same ∙ k.numbered ∙ sym n
 
     quotient_forth : (u g : ℕ) (e : Edge) → IsIn S groups u g → Contains S.edges e → e.importer ≡ u → Partner S Q (IsIn S groups) g e ⊎ IsInner S (IsIn S groups) u g e
     quotient_forth u g e x i imp =
-        let ge = good.edges e i in
+        let ge = good.edges.inside e i in
         let here : group_of groups e.importer ≡ g = ap (group_of groups) imp ∙ x.of_group in
         elim (cases_eq (group_of groups e.exporter) g) [
           | inl same ↦ inr (record { not_lone = not_lone_inside u e x.inside i imp (same ∙ sym x.of_group); inner = record { inside = ge.exporter_in; of_group = same } })
@@ -142,10 +142,10 @@ module _ (S : Problem) (good : IsProblem S) (groups : List ℕ) (adm : IsAdmissi
     quotient_back : (u g : ℕ) (e : Edge) → IsIn S groups u g → Contains Q.edges e → e.importer ≡ g → Partner Q S (λ h w. IsIn S groups w h) u e ⊎ IsInner Q (λ h w. IsIn S groups w h) g u e
     quotient_back u g e x i imp =
         let d = q.down e i in
-        let gd = good.edges d.0 d.1 in
-        let differ : group_of groups d.0.exporter ≢ group_of groups d.0.importer = λ z. (goodq.edges e i).differ (sym d.2.importer ∙ sym z ∙ d.2.exporter) in
+        let gd = good.edges.inside d.0 d.1 in
+        let differ : group_of groups d.0.exporter ≢ group_of groups d.0.importer = λ z. (goodq.edges.inside e i).differ (sym d.2.importer ∙ sym z ∙ d.2.exporter) in
         let t = adm.twins d.0.importer u d.0 gd.importer_in x.inside (d.2.importer ∙ imp ∙ sym x.of_group) d.1 refl differ in
-        inl (record { other = t.other; other_in = t.other_in; importer = t.importer; exporter = record { inside = (good.edges t.other t.other_in).exporter_in; of_group = t.exporter ∙ d.2.exporter }; alike = alike_trans (act_of Q e) (act_of S d.0) (act_of S t.other) (alike_sym (act_of S d.0) (act_of Q e) d.2.alike) t.alike })
+        inl (record { other = t.other; other_in = t.other_in; importer = t.importer; exporter = record { inside = (good.edges.inside t.other t.other_in).exporter_in; of_group = t.exporter ∙ d.2.exporter }; alike = alike_trans (act_of Q e) (act_of S d.0) (act_of S t.other) (alike_sym (act_of S d.0) (act_of Q e) d.2.alike) t.alike })
 
     pub quotient_matching : IsMatching S Q (IsIn S groups)
     quotient_matching = record {

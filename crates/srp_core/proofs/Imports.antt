@@ -5,8 +5,8 @@ use Rattle.base_kit.proofs.SetFacts.{ascending_with_numbers, ascending_filter}
 use Rattle.cfg_ast.specs.declared.policy.Change.{Change}
 use Rattle.cfg_ast.specs.declared.policy.Change.TheVariants.{Clear, Replace, Append}
 use Rattle.cfg_ast.specs.declared.policy.CommunityList.{CommunityList}
-use Rattle.cfg_ast.specs.Lists.{community_list_permits}
-use Rattle.cfg_ast.specs.Policy.{without_deleted_by, after_change}
+use Rattle.cfg_ast.specs.meaning.Lists.{community_list_permits}
+use Rattle.cfg_ast.specs.meaning.Policy.{without_deleted_by, after_change}
 use Rattle.route_maps.specs.declared.plain.PlainEntry.{PlainEntry}
 use Rattle.route_maps.specs.declared.plain.Imported.{Imported}
 use Rattle.route_maps.specs.declared.plain.Verdict.{Verdict}

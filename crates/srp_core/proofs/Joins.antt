@@ -32,14 +32,14 @@ module _ (S : Problem) (good : IsProblem S) (first second joined : List ℕ) (a 
   -- a twin by one of the two partitions is one by their join
   twin_step : (u w : ℕ) (edge : Edge) → u < count S → w < count S → AreTogetherInOne first second u w → Contains S.edges edge → edge.importer ≡ u → group_of joined edge.exporter ≢ group_of joined u → Twin S joined w edge
   twin_step u w edge hu hw (inl same) i imp out =
-      let x = (good.edges edge i).exporter_in in
+      let x = (good.edges.inside edge i).exporter_in in
       let t = a.twins u w edge hu hw same i imp (λ e. out (one_step edge.exporter u x hu (inl e))) in
-      let y = (good.edges t.other t.other_in).exporter_in in
+      let y = (good.edges.inside t.other t.other_in).exporter_in in
       record { other = t.other; other_in = t.other_in; importer = t.importer; exporter = one_step t.other.exporter edge.exporter y x (inl t.exporter); alike = t.alike }
   twin_step u w edge hu hw (inr same) i imp out =
-      let x = (good.edges edge i).exporter_in in
+      let x = (good.edges.inside edge i).exporter_in in
       let t = b.twins u w edge hu hw same i imp (λ e. out (one_step edge.exporter u x hu (inr e))) in
-      let y = (good.edges t.other t.other_in).exporter_in in
+      let y = (good.edges.inside t.other t.other_in).exporter_in in
       record { other = t.other; other_in = t.other_in; importer = t.importer; exporter = one_step t.other.exporter edge.exporter y x (inr t.exporter); alike = t.alike }
 
   twin_along : (steps u v : ℕ) (edge : Edge) → u < count S → v < count S → AreLinked (count S) first second steps u v → Contains S.edges edge → edge.importer ≡ u → group_of joined edge.exporter ≢ group_of joined u → Twin S joined v edge

@@ -10,7 +10,7 @@ use Rattle.std.proofs.lemmas.Cmp.{nat_cmp_total, nat_list_cmp_total, on_total, t
 use Rattle.std.proofs.lemmas.Bool.{cases_Bool, or_cases, or_parts, or_from, or_left, or_right, and_parts, and_from, eqb-true, eqb-false, eq-eqb, ne_eqb, cases_lt}
 use Rattle.srp_core.specs.Routes.{is_on, chosen, Key, compare_keys}
 use Rattle.base_kit.specs.Sets.{with_number}
-use Rattle.srp_core.specs.Problem.{is_marked}
+use Rattle.srp_core.specs.Problem.{has_marked_number}
 
 pub key_total : IsTotalOrder compare_keys
 unfolding compare_keys
@@ -110,8 +110,8 @@ is_on-chosen test x h (a ∷ path) =
       | inr g ↦ ap (λ b. is_on x (cond b (with_number a (chosen test path)) (chosen test path))) g ∙ r ∙ sym (ap (λ b. b || is_on x path) (ne_eqb a x (λ e. let t : test a ≡ true = subst (λ n. test n ≡ true) (sym e) h in cc)))
     ]
 
-pub marked_from : (marks : List Bool) (numbers : List ℕ) (u wanted : ℕ) → u < length numbers → slice_index_or marks u false ≡ true → slice_index numbers u ≡ wanted → is_marked marks numbers wanted ≡ true
-unfolding is_marked
+pub marked_from : (marks : List Bool) (numbers : List ℕ) (u wanted : ℕ) → u < length numbers → slice_index_or marks u false ≡ true → slice_index numbers u ≡ wanted → has_marked_number marks numbers wanted ≡ true
+unfolding has_marked_number
 marked_from [] numbers u wanted h m n = absurd (cc)
 marked_from (mark ∷ marks) [] u wanted h m n = absurd (omega arith)
 marked_from (mark ∷ marks) (number ∷ numbers) zero wanted h m n = or_left _ _ (and_from mark (nat_eq number wanted) m (eq-eqb number wanted n))
@@ -123,12 +123,12 @@ pub record Marked (marks : List Bool) (numbers : List ℕ) (wanted : ℕ) : Type
   pub mark : slice_index_or marks router false ≡ true
   pub number : slice_index numbers router ≡ wanted
 
-pub marked_at : (marks : List Bool) (numbers : List ℕ) (wanted : ℕ) → is_marked marks numbers wanted ≡ true → Marked marks numbers wanted
-unfolding is_marked
+pub marked_at : (marks : List Bool) (numbers : List ℕ) (wanted : ℕ) → has_marked_number marks numbers wanted ≡ true → Marked marks numbers wanted
+unfolding has_marked_number
 marked_at [] numbers wanted e = absurd (cc)
 marked_at (mark ∷ marks) [] wanted e = absurd (cc)
 marked_at (mark ∷ marks) (number ∷ numbers) wanted e =
-    elim (or_cases (mark && nat_eq number wanted) (is_marked marks numbers wanted) e) [
+    elim (or_cases (mark && nat_eq number wanted) (has_marked_number marks numbers wanted) e) [
       | inl h ↦ let p = and_parts mark (nat_eq number wanted) h in record { router = 0; inside = omega arith; mark = p.0; number = eqb-true number wanted p.1 }
       | inr h ↦ let r = marked_at marks numbers wanted h in record { router = suc r.router; inside = let i = r.inside in omega (arith, i); mark = r.mark; number = r.number }
     ]

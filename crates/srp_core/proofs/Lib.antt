@@ -24,6 +24,18 @@ pub mod GraphPartitions
 pub mod Colors
 pub mod OwnEdges
 pub mod Joins
-mod Example
 pub mod FoldExists
 pub mod LiftExists
+pub mod Alike
+pub mod AlikeOf
+pub mod AlikeQuotient
+pub mod LiftSteps
+pub mod FoldSteps
+pub mod KeyParts
+mod Dropped
+mod JoinExists
+mod Decisions
+mod CoarsestExists
+mod ExampleLone
+mod ExampleLoneSolved
+mod ExampleOspf

@@ -113,17 +113,17 @@ module _ (S : Problem) (groups : List ℕ) (E : List (Option Route)) (u source :
 
 module _ (S : Problem) (good : IsProblem S) (groups : List ℕ) (adm : IsAdmissible S groups) (Q : Problem) (goodq : IsProblem Q) (q : IsQuotient S groups Q) (bgp : Q.protocol ≡ OverBgp) (M : List (Option Route)) (st : IsStable Q M) where
   -- all routers of the group have labels
-  record AllFilled (E : List (Option Route)) (source : ℕ) : Type 0 where
-    filled : (w : ℕ) → w < count S → group_of groups w ≡ source → (r : Route) × (label E w ≡ Some r)
+  pub record AllFilled (E : List (Option Route)) (source : ℕ) : Type 0 where
+    pub filled : (w : ℕ) → w < count S → group_of groups w ≡ source → (r : Route) × (label E w ≡ Some r)
 
-  record PicksFrom (E : List (Option Route)) (u source : ℕ) (r m : Route) : Type 0 where
-    takes : TakesFrom S Q groups E u source r m
-    source_filled : AllFilled E source
+  pub record PicksFrom (E : List (Option Route)) (u source : ℕ) (r m : Route) : Type 0 where
+    pub takes : TakesFrom S Q groups E u source r m
+    pub source_filled : AllFilled E source
 
   -- the router has its initial route, or takes its route as lifting asks for
-  record Picked (E : List (Option Route)) (u : ℕ) (r : Route) : Type 0 where
-    started : (i : Route) → u < count S → initial S u ≡ Some i → r ≡ i
-    taken : (source : ℕ) (m : Route) → u < count S → label M (group_of groups u) ≡ Some m → initial S u ≡ None → IsFirstOn Q (path_of m) source → PicksFrom E u source r m
+  pub record Picked (E : List (Option Route)) (u : ℕ) (r : Route) : Type 0 where
+    pub started : (i : Route) → u < count S → initial S u ≡ Some i → r ≡ i
+    pub taken : (source : ℕ) (m : Route) → u < count S → label M (group_of groups u) ≡ Some m → initial S u ≡ None → IsFirstOn Q (path_of m) source → PicksFrom E u source r m
 
   back_over : (E E' : List (Option Route)) (source : ℕ) (e : Edge) (c : Route) → Extends E E' → AllFilled E source → e.exporter < count S → group_of groups e.exporter ≡ source → IsCandidateOver S E' e c → IsCandidateOver S E e c
   back_over E E' source e c ext f h x o =
@@ -144,22 +144,21 @@ module _ (S : Problem) (good : IsProblem S) (groups : List ℕ) (adm : IsAdmissi
           exporter = t.exporter;
           over = record { from = t.over.from; labelled = ext.kept t.edge.exporter t.over.from t.over.labelled; stepped = t.over.stepped; passes = t.over.passes };
           keyed = t.keyed;
-          least = λ other c i imp x o k. t.least other c i imp x (back_over E E' source other c ext p.source_filled (good.edges other i).exporter_in x o) k;
+          least = λ other c i imp x o k. t.least other c i imp x (back_over E E' source other c ext p.source_filled (good.edges.inside other i).exporter_in x o) k;
         };
         source_filled = record { filled = λ w h x. (let f = p.source_filled.filled w h x in (f.0, ext.kept w f.0 f.1)) };
       }
 
-  kept : (E E' : List (Option Route)) (u : ℕ) (r : Route) → Extends E E' → Picked E u r → Picked E' u r
+  pub kept : (E E' : List (Option Route)) (u : ℕ) (r : Route) → Extends E E' → Picked E u r → Picked E' u r
   kept E E' u r ext p = record { started = p.started; taken = λ source m h e none on. takes_kept E E' u source r m ext (p.taken source m h e none on) }
 
-  even : IsEven Q (IsIn S groups) M
+  pub even : IsEven Q (IsIn S groups) M
   even = record { held = λ u g g' r x x' e. (let same : g ≡ g' = sym x.of_group ∙ x'.of_group in record { route = r; labelled = subst (λ h. label M h ≡ Some r) same e; keyed = refl }) }
 
-  Made : (E : List (Option Route)) (u : ℕ) (m : Route) → Type 0
+  abbrev pub Made : (E : List (Option Route)) (u : ℕ) (m : Route) → Type 0
   Made E u m = (r : Route) × Picked E u r × IsCandidate S E u r × (key_of S r ≡ key_of Q m)
 
   take_least : (E : List (Option Route)) (u source : ℕ) (m : Route) → u < count S → label M (group_of groups u) ≡ Some m → initial S u ≡ None → AllFilled E source → IsFirstOn Q (path_of m) source → ((other : ℕ) → IsFirstOn Q (path_of m) other → other ≡ source) → Least S groups E u source (key_of Q m) S.edges → Made E u m
-  unfolding Made
   take_least E u source m h e none filled on only l =
       let takes : TakesFrom S Q groups E u source l.fit.route m = record {
         edge = l.edge;
@@ -184,7 +183,6 @@ module _ (S : Problem) (good : IsProblem S) (groups : List ℕ) (adm : IsAdmissi
       )
 
   make_from : (E : List (Option Route)) → IsGood S Q (IsIn S groups) E M → (u : ℕ) (m : Route) → u < count S → label M (group_of groups u) ≡ Some m → label E u ≡ None → IsFilled (IsIn S groups) E M (size_of m) → IsCandidate Q M (group_of groups u) m → Made E u m
-  unfolding Made
   make_from E state u m h e empty before (of_init f) =
       let init : initial S u ≡ Some m = sym (q.origins u h) ∙ f in (
         m,
@@ -193,7 +191,7 @@ module _ (S : Problem) (good : IsProblem S) (groups : List ℕ) (adm : IsAdmissi
         keys_agree S Q (IsIn S groups) (quotient_matching S good groups adm Q goodq q) m,
       )
   make_from E state u m h e empty before (of_edge edge i imp over) =
-      let none : initial S u ≡ None = sym (q.origins u h) ∙ ap (initial Q) (sym imp) ∙ goodq.unoriginated bgp edge i in
+      let none : initial S u ≡ None = sym (q.origins u h) ∙ ap (initial Q) (sym imp) ∙ goodq.starts.unoriginated bgp edge i in
       let on = first_on Q goodq bgp M m edge i over in
       let source = edge.exporter in
       let t = lift_next S good groups adm Q goodq q (q.protocol ∙ bgp) M st E state u source m h e none empty before on in
@@ -205,13 +203,12 @@ module _ (S : Problem) (good : IsProblem S) (groups : List ℕ) (adm : IsAdmissi
         | inr unfit ↦ absurd (unfit t.0 t.1 fit)
       ]
 
-  make : (E : List (Option Route)) → IsGood S Q (IsIn S groups) E M → (u g : ℕ) (m : Route) → IsIn S groups u g → label M g ≡ Some m → label E u ≡ None → IsFilled (IsIn S groups) E M (size_of m) → Made E u m
+  pub make : (E : List (Option Route)) → IsGood S Q (IsIn S groups) E M → (u g : ℕ) (m : Route) → IsIn S groups u g → label M g ≡ Some m → label E u ≡ None → IsFilled (IsIn S groups) E M (size_of m) → Made E u m
   make E state u g m x e empty before =
       let there : label M (group_of groups u) ≡ Some m = ap (label M) x.of_group ∙ e in
       make_from E state u m x.inside there empty before (st.held (group_of groups u) m (q.inside u x.inside) there)
 
   choice : IsChoice S Q (IsIn S groups) (quotient_matching S good groups adm Q goodq q) good goodq M st even Picked
-  unfolding Made
   choice = record { make = make; keep = kept }
 
   pub lift_exists : (L : List (Option Route)) × IsLift S Q groups M L

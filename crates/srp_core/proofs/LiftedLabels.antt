@@ -5,7 +5,7 @@ use Rattle.base_kit.specs.declared.protocol.Protocol.TheVariants.{Bgp as OverBgp
 use Rattle.srp_core.specs.declared.route.Route.{Route}
 use Rattle.base_kit.specs.declared.act_graph.Edge.{Edge}
 use Rattle.srp_core.specs.Routes.{size_of, path_of, IsRouteOf, Key}
-use Rattle.srp_core.specs.Acts.{repeated, IsActOf}
+use Rattle.srp_core.specs.Acts.{prepended, IsActOf}
 use Rattle.srp_core.specs.Problem.{Problem, count, number, initial, act_of, key_of, IsProblem}
 use Rattle.srp_core.specs.Stability.{label, IsCandidateOver, IsCandidate, of_init, of_edge, IsStable}
 use Rattle.srp_core.specs.Quotient.{group_of, IsAdmissible, IsQuotient, Corresponds}
@@ -19,9 +19,9 @@ use Rattle.srp_core.proofs.GroupMatching.{IsIn, quotient_matching, correspond}
 -- an edge over which a route came
 pub first_on : (P : Problem) → IsProblem P → P.protocol ≡ OverBgp → (M : List (Option Route)) (m : Route) (e : Edge) → Contains P.edges e → IsCandidateOver P M e m → IsFirstOn P (path_of m) e.exporter
 first_on P good bgp M m e i over =
-    let ge = good.edges e i in
+    let ge = good.edges.inside e i in
     let k = step_bgp (act_of P e) (number P e.exporter) over.from m (subst (λ p. IsActOf p (act_of P e)) bgp (edge_act P good e i)) over.stepped in
-    record { inside = ge.exporter_in; number_of = number P e.exporter; rest = repeated k.0 (number P e.exporter) (path_of over.from); path_is = k.1; numbered = refl; some_number = good.exporters bgp e i }
+    record { inside = ge.exporter_in; number_of = number P e.exporter; rest = prepended k.0 (number P e.exporter) (path_of over.from); path_is = k.1; numbered = refl; some_number = (good.numbers bgp).exporters e i }
 
 module _ (S : Problem) (good : IsProblem S) (groups : List ℕ) (adm : IsAdmissible S groups) (Q : Problem) (goodq : IsProblem Q) (q : IsQuotient S groups Q) (bgp : Q.protocol ≡ OverBgp) (M : List (Option Route)) (st : IsStable Q M) (L : List (Option Route)) (lift : IsLift S Q groups M L) where
   record Lifted (u : ℕ) (m : Route) : Type 0 where
@@ -35,7 +35,7 @@ module _ (S : Problem) (good : IsProblem S) (groups : List ℕ) (adm : IsAdmissi
       let there : initial S u ≡ Some m = sym (q.origins u h) ∙ i in
       record { route = m; labelled = lift.started u m m h e there; candidate = of_init there; keyed = keys_agree S Q (IsIn S groups) (quotient_matching S good groups adm Q goodq q) m }
   lifted_from u m h e (of_edge edge i imp over) =
-      let none : initial S u ≡ None = sym (q.origins u h) ∙ ap (initial Q) (sym imp) ∙ goodq.unoriginated bgp edge i in
+      let none : initial S u ≡ None = sym (q.origins u h) ∙ ap (initial Q) (sym imp) ∙ goodq.starts.unoriginated bgp edge i in
       let t = lift.taken u edge.exporter m h e none (first_on Q goodq bgp M m edge i over) in
       record { route = t.0; labelled = t.1; candidate = of_edge t.2.edge t.2.edge_in t.2.importer t.2.over; keyed = t.2.keyed }
 
@@ -73,7 +73,7 @@ module _ (S : Problem) (good : IsProblem S) (groups : List ℕ) (adm : IsAdmissi
   track_length (x ∷ p) [] t = absurd t
   track_length (x ∷ p) (y ∷ r) t = let e = track_length p r t.1 in omega (arith, e)
 
-  track_repeated : (k x y : ℕ) (p r : List ℕ) → Tracks S Q groups x y → AllTrack S Q groups p r → AllTrack S Q groups (repeated k x p) (repeated k y r)
+  track_repeated : (k x y : ℕ) (p r : List ℕ) → Tracks S Q groups x y → AllTrack S Q groups p r → AllTrack S Q groups (prepended k x p) (prepended k y r)
   track_repeated zero x y p r t a = a
   track_repeated (suc k) x y p r t a = (t, track_repeated k x y p r t a)
 
@@ -83,14 +83,14 @@ module _ (S : Problem) (good : IsProblem S) (groups : List ℕ) (adm : IsAdmissi
       let there : initial S u ≡ Some m = sym (q.origins u h) ∙ i in
       let own = lift.started u m m h f there in
       let same : r ≡ m = cc in
-      let no_path : path_of m ≡ [] = goodq.starts (group_of groups u) m i in
+      let no_path : path_of m ≡ [] = goodq.starts.paths (group_of groups u) m i in
       subst (λ p. AllTrack S Q groups p (path_of m)) (sym (ap path_of same)) (subst (λ p. AllTrack S Q groups p p) (sym no_path) tt)
   track_from (suc n) u r m less h e f (of_edge edge i imp over) =
-      let none : initial S u ≡ None = sym (q.origins u h) ∙ ap (initial Q) (sym imp) ∙ goodq.unoriginated bgp edge i in
+      let none : initial S u ≡ None = sym (q.origins u h) ∙ ap (initial Q) (sym imp) ∙ goodq.starts.unoriginated bgp edge i in
       let t = lift.taken u edge.exporter m h f none (first_on Q goodq bgp M m edge i over) in
       let same : t.0 ≡ r = (let l = t.1 in cc) in
       let k = t.2 in
-      let gk = good.edges k.edge k.edge_in in
+      let gk = good.edges.inside k.edge k.edge_in in
       let bgps : S.protocol ≡ OverBgp = q.protocol ∙ bgp in
       let low = step_bgp (act_of Q edge) (number Q edge.exporter) over.from m (subst (λ p. IsActOf p (act_of Q edge)) bgp (edge_act Q goodq edge i)) over.stepped in
       let up = step_bgp (act_of S k.edge) (number S k.edge.exporter) k.over.from t.0 (subst (λ p. IsActOf p (act_of S k.edge)) bgps (edge_act S good k.edge k.edge_in)) k.over.stepped in
@@ -107,8 +107,8 @@ module _ (S : Problem) (good : IsProblem S) (groups : List ℕ) (adm : IsAdmissi
       let times : up.0 ≡ low.0 = omega (arith, lengths, size_up, size_low, equal, count_up, count_low) in
       let tracks : Tracks S Q groups (number S k.edge.exporter) (number Q edge.exporter) = record { router = k.edge.exporter; inside = gk.exporter_in; numbered = refl; number_of_group = ap (number Q) k.exporter } in
       let all = track_repeated (suc low.0) (number S k.edge.exporter) (number Q edge.exporter) (path_of k.over.from) (path_of over.from) tracks before in
-      let upper : path_of r ≡ repeated (suc low.0) (number S k.edge.exporter) (path_of k.over.from) = ap path_of (sym same) ∙ up.1 ∙ ap (λ n. repeated (suc n) (number S k.edge.exporter) (path_of k.over.from)) times in
-      subst (λ p. AllTrack S Q groups p (path_of m)) (sym upper) (subst (AllTrack S Q groups (repeated (suc low.0) (number S k.edge.exporter) (path_of k.over.from))) (sym low.1) all)
+      let upper : path_of r ≡ prepended (suc low.0) (number S k.edge.exporter) (path_of k.over.from) = ap path_of (sym same) ∙ up.1 ∙ ap (λ n. prepended (suc n) (number S k.edge.exporter) (path_of k.over.from)) times in
+      subst (λ p. AllTrack S Q groups p (path_of m)) (sym upper) (subst (AllTrack S Q groups (prepended (suc low.0) (number S k.edge.exporter) (path_of k.over.from))) (sym low.1) all)
 
   pub tracking : (u : ℕ) (r m : Route) → label L u ≡ Some r → label M (group_of groups u) ≡ Some m → AllTrack S Q groups (path_of r) (path_of m)
   tracking u r m e f = let h = inside_of u r e in track_from (suc (size_of r)) u r m (omega arith) h e f (st.held (group_of groups u) m (q.inside u h) f)

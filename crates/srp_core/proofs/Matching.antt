@@ -7,7 +7,7 @@ use Rattle.srp_core.specs.declared.route.Route.{Route}
 use Rattle.base_kit.specs.declared.act_graph.Edge.{Edge}
 use Rattle.srp_core.specs.Routes.{preference_of, size_of, path_of, is_on, IsRouteOf, chosen, Key, key_by, compare_keys}
 use Rattle.srp_core.specs.Acts.{ActsAlike}
-use Rattle.srp_core.specs.Problem.{Problem, count, number, initial, is_lone, act_of, step, is_lone_number, key_of, IsProblem}
+use Rattle.srp_core.specs.Problem.{Problem, count, number, initial, is_lone, act_of, step_over, is_lone_number, key_of, IsProblem}
 use Rattle.srp_core.specs.Stability.{label, AreLabels, IsCandidateOver, IsCandidate, of_init, of_edge, IsStable}
 use Rattle.srp_core.proofs.Steps.{step_alike, step_same}
 use Rattle.srp_core.proofs.KeyOrder.{shorter, marked_from, marked_at, is_on-chosen}
@@ -76,8 +76,8 @@ no_lone_number P good e i l =
       | inl h ↦
           let k = marked_at P.lone P.numbers (number P e.exporter) h in
           let bgp = lone_bgp P good k.router k.inside k.mark in
-          let some_number : number P k.router ≢ 0 = λ z. good.exporters bgp e i (sym k.number ∙ z) in
-          let same : k.router ≡ e.exporter = good.distinct bgp k.router e.exporter k.inside (good.edges e i).exporter_in k.number some_number in
+          let some_number : number P k.router ≢ 0 = λ z. (good.numbers bgp).exporters e i (sym k.number ∙ z) in
+          let same : k.router ≡ e.exporter = (good.numbers bgp).distinct k.router e.exporter k.inside (good.edges.inside e i).exporter_in k.number some_number in
           let t : is_lone P e.exporter ≡ true = subst (λ v. is_lone P v ≡ true) same k.mark in absurd (cc)
     ]
 
@@ -97,7 +97,7 @@ pub record Held (P : Problem) (L : List (Option Route)) (u : ℕ) (k : Key) : Ty
 
 module _ (B A : Problem) (R : ℕ → ℕ → Type 0) (m : IsMatching B A R) (gb : IsProblem B) (ga : IsProblem A) where
   -- matched steps give matched routes
-  pub matched_step : (e e' : Edge) (r r' c : Route) → Contains B.edges e → Contains A.edges e' → R e.exporter e'.exporter → ActsAlike (act_of B e) (act_of A e') → IsRouteOf B.protocol r → IsRouteOf A.protocol r' → key_of B r ≡ key_of A r' → step B e r ≡ Some c → (c' : Route) × (step A e' r' ≡ Some c') × (key_of B c ≡ key_of A c')
+  pub matched_step : (e e' : Edge) (r r' c : Route) → Contains B.edges e → Contains A.edges e' → R e.exporter e'.exporter → ActsAlike (act_of B e) (act_of A e') → IsRouteOf B.protocol r → IsRouteOf A.protocol r' → key_of B r ≡ key_of A r' → step_over B e r ≡ Some c → (c' : Route) × (step_over A e' r' ≡ Some c') × (key_of B c ≡ key_of A c')
   matched_step e e' r r' c i i' x alike fits fits' k s =
       let fit = subst (λ p. IsRouteOf p r) m.protocol fits in
       let k' = sym (keys_agree B A R m r) ∙ k in
@@ -122,13 +122,13 @@ module _ (B A : Problem) (R : ℕ → ℕ → Type 0) (m : IsMatching B A R) (gb
           | inr l ↦ raw_optimal A ga L st p.other r'.route t.0 p.other_in (subst (λ v. is_lone A v ≡ false) (sym p.importer) l) r'.labelled t.1
           | inl l ↦
               let passes : is_on (number A p.other.importer) (path_of t.0) ≡ false = ap (λ v. is_on (number A v) (path_of t.0)) p.importer ∙ lone_check b a c t.0 x l t.2 ∙ ap (λ v. is_on (number B v) (path_of c)) (sym imp) ∙ over.passes in
-              candidate_as_good A ga L st p.other.importer t.0 (ga.edges p.other p.other_in).importer_in (of_edge p.other p.other_in refl (record { from = r'.route; labelled = r'.labelled; stepped = t.1; passes = passes }))
+              candidate_as_good A ga L st p.other.importer t.0 (ga.edges.inside p.other p.other_in).importer_in (of_edge p.other p.other_in refl (record { from = r'.route; labelled = r'.labelled; stepped = t.1; passes = passes }))
         ] in
         let k : key_of A t.0 ≡ key_of A c = sym t.2 ∙ keys_agree B A R m c in
         record { route = found.route; labelled = subst (λ v. label L v ≡ Some found.route) p.importer found.labelled; as_good = subst (λ q. compare_keys q (key_of A found.route) ≢ Less) k found.as_good }
 
     -- no label is taken over an inner edge
-    pub held_outer : (b a : ℕ) (e : Edge) (s' s : Route) → R b a → label L a ≡ Some s → Contains A.edges e → label L e.exporter ≡ Some s' → step A e s' ≡ Some s → ¬ R b e.exporter
+    pub held_outer : (b a : ℕ) (e : Edge) (s' s : Route) → R b a → label L a ≡ Some s → Contains A.edges e → label L e.exporter ≡ Some s' → step_over A e s' ≡ Some s → ¬ R b e.exporter
     held_outer b a e s' s x lab i lab' st' y =
         let g = grows A ga e s' s i st' in
         let h = eq b a e.exporter s x y lab in
@@ -151,7 +151,7 @@ module _ (B A : Problem) (R : ℕ → ℕ → Type 0) (m : IsMatching B A R) (gb
         ]
 
     -- an offer over an inner edge is worse
-    pub inner_offer : (b a : ℕ) (e : Edge) (r c : Route) → R b a → Contains B.edges e → e.importer ≡ b → IsInner B R b a e → label E e.exporter ≡ Some r → step B e r ≡ Some c → Better A L a c
+    pub inner_offer : (b a : ℕ) (e : Edge) (r c : Route) → R b a → Contains B.edges e → e.importer ≡ b → IsInner B R b a e → label E e.exporter ≡ Some r → step_over B e r ≡ Some c → Better A L a c
     inner_offer b a e r c x i imp inner lab s =
         let h = tied e.exporter a r inner.inner lab in
         let g = grows B gb e r c i s in
@@ -179,8 +179,8 @@ identity P good = record {
   origins = λ u v x. ap (initial P) x.0;
   lone = λ u v x. ap (is_lone P) x.0;
   numbers = λ u v x l. ap (number P) x.0;
-  forth = λ u v e x i imp. inl (record { other = e; other_in = i; importer = imp ∙ x.0; exporter = (refl, (good.edges e i).exporter_in); alike = Rattle.srp_core.proofs.Steps.alike_self (act_of P e) });
-  back = λ u v e x i imp. inl (record { other = e; other_in = i; importer = imp ∙ sym x.0; exporter = (refl, (good.edges e i).exporter_in); alike = Rattle.srp_core.proofs.Steps.alike_self (act_of P e) });
+  forth = λ u v e x i imp. inl (record { other = e; other_in = i; importer = imp ∙ x.0; exporter = (refl, (good.edges.inside e i).exporter_in); alike = Rattle.srp_core.proofs.Steps.alike_self (act_of P e) });
+  back = λ u v e x i imp. inl (record { other = e; other_in = i; importer = imp ∙ sym x.0; exporter = (refl, (good.edges.inside e i).exporter_in); alike = Rattle.srp_core.proofs.Steps.alike_self (act_of P e) });
   left = λ u h. (u, (refl, h));
   right = λ u h. (u, (refl, h));
 }

@@ -10,7 +10,7 @@ use Rattle.srp_core.specs.declared.route.Candidate.{Candidate}
 use Rattle.srp_core.specs.Routes.{IsRouteOf}
 use Rattle.srp_core.specs.Problem.{Problem, initial, Precedes, AreOrdered, IsProblem}
 use Rattle.srp_core.specs.Stability.{AreLabels}
-use Rattle.srp_core.specs.Candidates.{candidates, over, over_edges, listed, AreOwnEdges}
+use Rattle.srp_core.specs.Candidates.{candidates, over, over_edges, candidate_of, AreOwnEdges}
 use Rattle.srp_core.proofs.Offers.{candidate_offer, offer_route}
 use Rattle.srp_core.proofs.CandidateLists.{candidates_are, candidates_sound}
 use Rattle.std.proofs.lemmas.List.Elements.{All-contains_itself}
@@ -60,7 +60,7 @@ own_from_points edges u first end hf he pf pe = record {
 -- edges of other routers give nothing
 other_edge : (P : Problem) (L : List (Option Route)) (u place : ℕ) (e : Edge) (edges : List Edge) → e.importer ≢ u → over_edges P L u place (e ∷ edges) ≡ over_edges P L u (place + 1) edges
 unfolding over_edges
-other_edge P L u place e edges differ = ap (λ t. cond t (listed (Some place) (over P L e)) [] ++ over_edges P L u (place + 1) edges) (ne_eqb e.importer u differ)
+other_edge P L u place e edges differ = ap (λ t. cond t (candidate_of (Some place) (over P L e)) [] ++ over_edges P L u (place + 1) edges) (ne_eqb e.importer u differ)
 
 pub skipped : (P : Problem) (L : List (Option Route)) (u place n : ℕ) (edges : List Edge) → n ≤ length edges → AllWithin (λ (e : Edge). e.importer < u) edges 0 n → over_edges P L u place edges ≡ over_edges P L u (place + n) (drop n edges)
 skipped P L u place zero edges h before = let e : place ≡ place + 0 = omega arith in ap (λ (k : ℕ). over_edges P L u k edges) e
@@ -84,13 +84,13 @@ none_behind P L u place (suc n) [] behind = nothing_left P L u place
 none_behind P L u place (suc n) (e ∷ edges) behind = none_behind P L u place n edges (λ k d le h. behind (suc k) d (omega arith) (omega arith))
 
 -- the initial route, and then the own edges
-pub begun : (P : Problem) (L : List (Option Route)) (u first end : ℕ) (found : List Candidate) → AreOwnEdges P.edges u first end → found ≡ listed None (initial P u) → found ++ over_edges P L u first (drop first P.edges) ≡ candidates P L u
+pub begun : (P : Problem) (L : List (Option Route)) (u first end : ℕ) (found : List Candidate) → AreOwnEdges P.edges u first end → found ≡ candidate_of None (initial P u) → found ++ over_edges P L u first (drop first P.edges) ≡ candidates P L u
 begun P L u first end found own e =
     let f = own.forward in
     let i = own.inside in
     let skip = skipped P L u 0 first P.edges (omega arith) own.before in
     let sum : 0 + first ≡ first = omega arith in
-    ap (λ (l : List Candidate). l ++ over_edges P L u first (drop first P.edges)) e ∙ sym (ap (λ (l : List Candidate). listed None (initial P u) ++ l) (skip ∙ ap (λ (k : ℕ). over_edges P L u k (drop first P.edges)) sum)) ∙ sym (candidates_are P L u)
+    ap (λ (l : List Candidate). l ++ over_edges P L u first (drop first P.edges)) e ∙ sym (ap (λ (l : List Candidate). candidate_of None (initial P u) ++ l) (skip ∙ ap (λ (k : ℕ). over_edges P L u k (drop first P.edges)) sum)) ∙ sym (candidates_are P L u)
 
 pub ended : (P : Problem) (L : List (Option Route)) (u first end place : ℕ) (found : List Candidate) → AreOwnEdges P.edges u first end → place ≡ end → found ++ over_edges P L u place (drop place P.edges) ≡ candidates P L u → found ≡ candidates P L u
 ended P L u first end place found own at e =

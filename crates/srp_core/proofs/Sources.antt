@@ -14,7 +14,7 @@ use Rattle.srp_core.proofs.Filling.{IsEven, IsGood, IsFilled, offered_over}
 use Rattle.srp_core.proofs.GroupMatching.{IsIn, equal_held, quotient_matching}
 use Rattle.srp_core.proofs.LiftedLabels.{first_on}
 
-heads : (a b : ℕ) (p q r : List ℕ) → r ≡ a ∷ p → r ≡ b ∷ q → a ≡ b
+pub heads : (a b : ℕ) (p q r : List ℕ) → r ≡ a ∷ p → r ≡ b ∷ q → a ≡ b
 heads a b p q r e f = let g : a ∷ p ≡ b ∷ q = sym e ∙ f in cc
 
 -- the router first on a path is the exporter over which the route came
@@ -22,7 +22,7 @@ pub first_is : (P : Problem) → IsProblem P → P.protocol ≡ OverBgp → (L :
 first_is P good bgp L r e w i over on =
     let f = first_on P good bgp L r e i over in
     let numbers : number P w ≡ number P e.exporter = on.numbered ∙ heads on.number_of f.number_of on.rest f.rest (path_of r) on.path_is f.path_is ∙ sym f.numbered in
-    good.distinct bgp w e.exporter on.inside f.inside numbers (λ z. on.some_number (sym on.numbered ∙ z))
+    (good.numbers bgp).distinct w e.exporter on.inside f.inside numbers (λ z. on.some_number (sym on.numbered ∙ z))
 
 module _ (S : Problem) (good : IsProblem S) (groups : List ℕ) (adm : IsAdmissible S groups) (Q : Problem) (goodq : IsProblem Q) (q : IsQuotient S groups Q) (bgp : S.protocol ≡ OverBgp) where
   module _ (L : List (Option Route)) (st : IsStable S L) (E : List (Option Route)) (state : IsGood Q S (λ g u. IsIn S groups u g) E L) where

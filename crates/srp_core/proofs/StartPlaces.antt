@@ -6,7 +6,7 @@ use Rattle.indexmap.specs.IndexMap.{insert_entry}
 use Rattle.std.proofs.lemmas.Option.{slice_get_cases, get_or_from_slice_get}
 use Rattle.std.proofs.lemmas.Map.Keys.{apart_from_distinct}
 use Rattle.srp_core.specs.declared.starts.Start.{Start}
-use Rattle.srp_core.specs.Starts.{AreDistinct}
+use Rattle.srp_core.specs.Starts.{AreAllDifferent}
 
 -- what stands at a place
 pub read_get : {X : Type 0} → (xs : List X) (i : ℕ) (x : X) → slice_get xs i ≡ Some x → (i < length xs) × (get_or xs i x ≡ x)
@@ -15,7 +15,7 @@ read_get xs i x at = elim (slice_get_cases xs i).1 [
   | inr past ↦ let none = past.1 in absurd cc
 ]
 
-pub distinct_places : (e : Start → Start → Bool) → ((start : Start) → e start start ≡ true) → (starts : List Start) → IsDistinct e starts → AreDistinct starts
+pub distinct_places : (e : Start → Start → Bool) → ((start : Start) → e start start ≡ true) → (starts : List Start) → IsDistinct e starts → AreAllDifferent starts
 distinct_places e reflexive starts distinct = record {
   one_place = λ i j start at at'.
       let (inside, read) = read_get starts i start at in

@@ -10,7 +10,7 @@ use Rattle.srp_core.specs.declared.route.Route.TheVariants.{Bgp, Ospf}
 use Rattle.srp_core.specs.declared.route.Act.{Act}
 use Rattle.srp_core.specs.declared.route.Act.TheVariants.{Import, Cost}
 use Rattle.srp_core.specs.Routes.{preference_of, size_of, path_of, comms_of, IsRouteOf, is_on, chosen, Key, key_by}
-use Rattle.srp_core.specs.Acts.{KeepsSets, IsActOf, import_by, ActsAlike, repeated, arrived, step_by}
+use Rattle.srp_core.specs.Acts.{KeepsSets, IsActOf, import_by, ActsAlike, prepended, arrived, step_by}
 use Rattle.route_maps.specs.declared.plain.Imported.{Imported}
 use Rattle.route_maps.specs.declared.plain.Plain.{Plain}
 use Rattle.srp_core.proofs.Imports.{import_sets}
@@ -55,31 +55,31 @@ no_cost_bgp : (cost number lp : ℕ) (path comms : List ℕ) (c : Route) → ste
 unfolding step_by
 no_cost_bgp cost number lp path comms c e = cc
 
-length-repeated : (times number : ℕ) (path : List ℕ) → length (repeated times number path) ≡ times + length path
-length-repeated zero number path = omega arith
-length-repeated (suc times) number path = let e = length-repeated times number path in omega (arith, e)
+length-prepended : (times number : ℕ) (path : List ℕ) → length (prepended times number path) ≡ times + length path
+length-prepended zero number path = omega arith
+length-prepended (suc times) number path = let e = length-prepended times number path in omega (arith, e)
 
-is_on-repeated : (a times number : ℕ) (path : List ℕ) → is_on a (repeated times number path) ≡ true → (a ≡ number) ⊎ (is_on a path ≡ true)
-is_on-repeated a zero number path e = inr e
-is_on-repeated a (suc times) number path e =
-    elim (or_cases (nat_eq number a) (is_on a (repeated times number path)) e) [ inl h ↦ inl (sym (eqb-true number a h)) | inr h ↦ is_on-repeated a times number path h ]
+is_on-prepended : (a times number : ℕ) (path : List ℕ) → is_on a (prepended times number path) ≡ true → (a ≡ number) ⊎ (is_on a path ≡ true)
+is_on-prepended a zero number path e = inr e
+is_on-prepended a (suc times) number path e =
+    elim (or_cases (nat_eq number a) (is_on a (prepended times number path)) e) [ inl h ↦ inl (sym (eqb-true number a h)) | inr h ↦ is_on-prepended a times number path h ]
 
-chosen-repeated : (test : ℕ → Bool) (a b times : ℕ) (p q : List ℕ) → ((test a ≡ false) × (test b ≡ false)) ⊎ (a ≡ b) → chosen test p ≡ chosen test q → chosen test (repeated times a p) ≡ chosen test (repeated times b q)
+chosen-prepended : (test : ℕ → Bool) (a b times : ℕ) (p q : List ℕ) → ((test a ≡ false) × (test b ≡ false)) ⊎ (a ≡ b) → chosen test p ≡ chosen test q → chosen test (prepended times a p) ≡ chosen test (prepended times b q)
 unfolding chosen
-chosen-repeated test a b zero p q h e = e
-chosen-repeated test a b (suc times) p q (inl h) e =
-    let r = chosen-repeated test a b times p q (inl h) e in
-    ap (λ t. cond t (with_number a (chosen test (repeated times a p))) (chosen test (repeated times a p))) h.0 ∙ r ∙ sym (ap (λ t. cond t (with_number b (chosen test (repeated times b q))) (chosen test (repeated times b q))) h.1)
-chosen-repeated test a b (suc times) p q (inr h) e =
-    let r = chosen-repeated test a b times p q (inr h) e in
-    ap (λ l. cond (test a) (with_number a l) l) r ∙ ap (λ n. cond (test n) (with_number n (chosen test (repeated times b q))) (chosen test (repeated times b q))) h
+chosen-prepended test a b zero p q h e = e
+chosen-prepended test a b (suc times) p q (inl h) e =
+    let r = chosen-prepended test a b times p q (inl h) e in
+    ap (λ t. cond t (with_number a (chosen test (prepended times a p))) (chosen test (prepended times a p))) h.0 ∙ r ∙ sym (ap (λ t. cond t (with_number b (chosen test (prepended times b q))) (chosen test (prepended times b q))) h.1)
+chosen-prepended test a b (suc times) p q (inr h) e =
+    let r = chosen-prepended test a b times p q (inr h) e in
+    ap (λ l. cond (test a) (with_number a l) l) r ∙ ap (λ n. cond (test n) (with_number n (chosen test (prepended times b q))) (chosen test (prepended times b q))) h
 
 -- the step makes the size grow
 pub step_grows : (protocol : Protocol) (act : Act) (number : ℕ) (r c : Route) → IsActOf protocol act → step_by act number r ≡ Some c → size_of r < size_of c
 step_grows protocol (Import out sends into) number (Bgp lp' path comms) c good e =
     let a = arrives out sends into number lp' path comms c e in
-    let l = length-repeated (suc a.imported.adds) number path in
-    let s : size_of c ≡ length (repeated (suc a.imported.adds) number path) = ap size_of a.is in
+    let l = length-prepended (suc a.imported.adds) number path in
+    let s : size_of c ≡ length (prepended (suc a.imported.adds) number path) = ap size_of a.is in
     omega (arith, l, s)
 step_grows protocol (Import out sends into) number (Ospf cost) c good e = absurd (no_import_ospf _ _ _ _ _ _ e)
 step_grows protocol (Cost cost) number (Bgp lp path comms) c good e = absurd (no_cost_bgp _ _ _ _ _ _ e)
@@ -91,7 +91,7 @@ step_grows OverOspf (Cost cost) number (Ospf other) c good e =
 pub step_path : (protocol : Protocol) (act : Act) (number a : ℕ) (r c : Route) → IsActOf protocol act → step_by act number r ≡ Some c → is_on a (path_of c) ≡ true → (protocol ≡ OverBgp) × ((a ≡ number) ⊎ (is_on a (path_of r) ≡ true))
 step_path OverBgp (Import out sends into) number a (Bgp lp' path comms) c good e h =
     let s = arrives out sends into number lp' path comms c e in
-    (refl, is_on-repeated a (suc s.imported.adds) number path (subst (λ x. is_on a (path_of x) ≡ true) s.is h))
+    (refl, is_on-prepended a (suc s.imported.adds) number path (subst (λ x. is_on a (path_of x) ≡ true) s.is h))
 step_path OverOspf (Import out sends into) number a (Bgp lp' path comms) c good e h = absurd good
 step_path protocol (Import out sends into) number a (Ospf cost) c good e h = absurd (no_import_ospf _ _ _ _ _ _ e)
 step_path protocol (Cost cost) number a (Bgp lp path comms) c good e h = absurd (no_cost_bgp _ _ _ _ _ _ e)
@@ -134,8 +134,8 @@ step_same OverBgp test (Import out sends into) (Import out' sends' into') number
     let same_lone : chosen test path ≡ chosen test path' = ap (λ (x : Key). x.lone) k in
     let there : import_by (Import out' sends' into') comms' ≡ Some s.imported = subst (λ x. import_by (Import out' sends' into') x ≡ Some s.imported) same_comms (sym (alike.same comms fits) ∙ s.accepted) in
     let i = s.imported in
-    let sizes : length (repeated (suc i.adds) number path) ≡ length (repeated (suc i.adds) number' path') = omega (arith, length-repeated (suc i.adds) number path, length-repeated (suc i.adds) number' path', same_size) in
-    let lones : chosen test (repeated (suc i.adds) number path) ≡ chosen test (repeated (suc i.adds) number' path') = chosen-repeated test number number' (suc i.adds) path path' numbers same_lone in
+    let sizes : length (prepended (suc i.adds) number path) ≡ length (prepended (suc i.adds) number' path') = omega (arith, length-prepended (suc i.adds) number path, length-prepended (suc i.adds) number' path', same_size) in
+    let lones : chosen test (prepended (suc i.adds) number path) ≡ chosen test (prepended (suc i.adds) number' path') = chosen-prepended test number number' (suc i.adds) path path' numbers same_lone in
     let keys : key_by test (arrived number path i) ≡ key_by test (arrived number' path' i) = cc in
     (arrived number' path' i, arrive out' sends' into' number' lpr' path' comms' i there, ap (key_by test) s.is ∙ keys)
 step_same OverBgp test act act' number number' (Bgp lpr path comms) (Ospf cost') c fits fits' alike numbers k e = absurd fits'
@@ -171,7 +171,7 @@ no_import_cost (Import out sends into) comms i good e = good
 no_import_cost (Cost cost) comms i good e = cc
 
 -- the path after a step
-pub step_repeats : (protocol : Protocol) (act : Act) (number : ℕ) (r c : Route) → IsActOf protocol act → step_by act number r ≡ Some c → (path_of c ≡ []) ⊎ ((k : ℕ) × (protocol ≡ OverBgp) × (path_of c ≡ repeated k number (path_of r)))
+pub step_repeats : (protocol : Protocol) (act : Act) (number : ℕ) (r c : Route) → IsActOf protocol act → step_by act number r ≡ Some c → (path_of c ≡ []) ⊎ ((k : ℕ) × (protocol ≡ OverBgp) × (path_of c ≡ prepended k number (path_of r)))
 step_repeats OverBgp (Import out sends into) number (Bgp lp' path comms) c good e =
     let s = arrives out sends into number lp' path comms c e in inr (suc s.imported.adds, refl, ap path_of s.is)
 step_repeats OverOspf (Import out sends into) number (Bgp lp' path comms) c good e = absurd good
@@ -190,14 +190,14 @@ alike_accepts (Import a b c) (Cost d) comms i h s e = absurd h
 alike_accepts (Cost d) (Import a b c) comms i h s e = absurd h
 
 -- a step in BGP puts the exporter's number before the path
-pub step_bgp : (act : Act) (number : ℕ) (r c : Route) → IsActOf OverBgp act → step_by act number r ≡ Some c → (k : ℕ) × (path_of c ≡ repeated (suc k) number (path_of r))
+pub step_bgp : (act : Act) (number : ℕ) (r c : Route) → IsActOf OverBgp act → step_by act number r ≡ Some c → (k : ℕ) × (path_of c ≡ prepended (suc k) number (path_of r))
 step_bgp (Import out sends into) number (Bgp lp' path comms) c good e =
     let s = arrives out sends into number lp' path comms c e in (s.imported.adds, ap path_of s.is)
 step_bgp (Import out sends into) number (Ospf cost) c good e = absurd (no_import_ospf _ _ _ _ _ _ e)
 step_bgp (Cost cost) number r c good e = absurd good
 
-pub length_repeated : (times number : ℕ) (path : List ℕ) → length (repeated times number path) ≡ times + length path
-length_repeated times number path = length-repeated times number path
+pub length_repeated : (times number : ℕ) (path : List ℕ) → length (prepended times number path) ≡ times + length path
+length_repeated times number path = length-prepended times number path
 
 pub bgp_size : (r : Route) → IsRouteOf OverBgp r → size_of r ≡ length (path_of r)
 bgp_size (Bgp lp path comms) fits = refl

@@ -54,13 +54,13 @@ IsActOf OverOspf (Import out sends into) = ⊥
 IsActOf OverOspf (Cost cost) = 0 < cost
 
 -- the number, so many times, before the path
-abbrev pub repeated : ℕ → ℕ → List ℕ → List ℕ
-repeated zero number path = path
-repeated (suc times) number path = number ∷ repeated times number path
+abbrev pub prepended : ℕ → ℕ → List ℕ → List ℕ
+prepended zero number path = path
+prepended (suc times) number path = number ∷ prepended times number path
 
 -- the route that arrives: the exporter's number one time more than the count, before the old path
 abbrev pub arrived : ℕ → List ℕ → Imported → Route
-arrived number path imported = Bgp imported.lp (repeated (suc imported.adds) number path) imported.comms
+arrived number path imported = Bgp imported.lp (prepended (suc imported.adds) number path) imported.comms
 
 -- what an act makes of the route of the exporter with that number, before the loop check
 unfoldable pub step_by : Act → ℕ → Route → Option Route

@@ -1,9 +1,9 @@
 -- What the laws conclude, where a conclusion has several parts.
-use Rattle.std.specs.Prelude.{◌≡◌, ◌≢◌, ℕ, ◌<◌, List, Option, Some}
+use Rattle.std.specs.Prelude.{◌≡◌, ◌≢◌, ℕ, ◌<◌, false, List, Option, Some}
 use Rattle.std.specs.declared.cmp.Ordering.TheVariants.{Less}
 use Rattle.srp_core.specs.declared.route.Route.{Route}
-use Rattle.srp_core.specs.Routes.{path_of, compare_keys}
-use Rattle.srp_core.specs.Problem.{Problem, count, number, key_of}
+use Rattle.srp_core.specs.Routes.{preference_of, size_of, path_of, compare_keys}
+use Rattle.srp_core.specs.Problem.{Problem, count, number, is_lone, key_of}
 use Rattle.srp_core.specs.Stability.{label, IsStable}
 use Rattle.srp_core.specs.Quotient.{Corresponds}
 
@@ -34,3 +34,11 @@ pub record HasBetter (problem : Problem) (labels : List (Option Route)) (router 
   pub own : Route
   pub labelled : label labels router ≡ Some own
   pub better : compare_keys (key_of problem own) (key_of problem route) ≡ Less
+
+-- the router has a label, and it is shorter than the route; where the router is not lone, both have one
+-- preference
+pub record HasShorter (problem : Problem) (labels : List (Option Route)) (router : ℕ) (route : Route) : Type 0 where
+  pub own : Route
+  pub labelled : label labels router ≡ Some own
+  pub shorter : size_of own < size_of route
+  pub preferred : is_lone problem router ≡ false → preference_of own ≡ preference_of route

@@ -1,5 +1,7 @@
 pub mod Acts
+pub mod Alike
 pub mod Candidates
+pub mod Filling
 pub mod Labels
 pub mod Laws
 pub mod Lifts

@@ -44,18 +44,18 @@ abbrev pub act_of : Problem → Edge → Act
 act_of problem edge = slice_index_or problem.acts edge.act (Cost 0)
 
 -- what an edge makes of its exporter's route, before the loop check
-abbrev pub step : Problem → Edge → Route → Option Route
-step problem edge route = step_by (act_of problem edge) (number problem edge.exporter) route
+abbrev pub step_over : Problem → Edge → Route → Option Route
+step_over problem edge route = step_by (act_of problem edge) (number problem edge.exporter) route
 
 -- some router of that number is marked
-unfoldable pub is_marked : List Bool → List ℕ → ℕ → Bool
-is_marked [] numbers wanted = false
-is_marked (mark ∷ marks) [] wanted = false
-is_marked (mark ∷ marks) (number ∷ numbers) wanted = (mark && nat_eq number wanted) || is_marked marks numbers wanted
+unfoldable pub has_marked_number : List Bool → List ℕ → ℕ → Bool
+has_marked_number [] numbers wanted = false
+has_marked_number (mark ∷ marks) [] wanted = false
+has_marked_number (mark ∷ marks) (number ∷ numbers) wanted = (mark && nat_eq number wanted) || has_marked_number marks numbers wanted
 
 -- whether a lone router has that number
 abbrev pub is_lone_number : Problem → ℕ → Bool
-is_lone_number problem wanted = is_marked problem.lone problem.numbers wanted
+is_lone_number problem wanted = has_marked_number problem.lone problem.numbers wanted
 
 -- the key of a route of the problem
 abbrev pub key_of : Problem → Route → Key
@@ -97,26 +97,50 @@ abbrev pub AreOrdered : List Edge → Type 0
 AreOrdered [] = Unit {0}
 AreOrdered (edge ∷ edges) = All (Precedes edge) edges × AreOrdered edges
 
--- the rules of a problem
-pub record IsProblem (problem : Problem) : Type 0 where
+-- few routers and edges; a name, an initial route or none, and a mark for each router
+pub record HasTables (problem : Problem) : Type 0 where
   pub few_routers : count problem < 2 ^ 32
   pub few_edges : length problem.edges < 2 ^ 32
-  pub names_total : length problem.names ≡ count problem
-  pub init_total : length problem.init ≡ count problem
-  pub lone_total : length problem.lone ≡ count problem
-  pub edges : (edge : Edge) → Contains problem.edges edge → IsEdgeOf problem edge
+  pub names : length problem.names ≡ count problem
+  pub init : length problem.init ≡ count problem
+  pub lone : length problem.lone ≡ count problem
+
+-- edges stand in order, and of the edges of a link at most one leads to each end
+pub record HasEdges (problem : Problem) : Type 0 where
+  pub inside : (edge : Edge) → Contains problem.edges edge → IsEdgeOf problem edge
   pub ordered : AreOrdered problem.edges
   pub one_of_link : (edge other : Edge) → Contains problem.edges edge → Contains problem.edges other → edge.importer ≡ other.importer → edge.link ≡ other.link → edge ≡ other
-  pub acts_fit : All (IsActOf problem.protocol) problem.acts
-  pub acts_keep : All KeepsSets problem.acts
-  pub acts_differ : (i j : ℕ) → i < length problem.acts → j < length problem.acts → ActsAlike (slice_index_or problem.acts i (Cost 0)) (slice_index_or problem.acts j (Cost 0)) → i ≡ j
+
+-- acts are of the protocol, and no two of them act alike
+pub record HasActs (problem : Problem) : Type 0 where
+  pub fit : All (IsActOf problem.protocol) problem.acts
+  pub keep : All KeepsSets problem.acts
+  pub differ : (i j : ℕ) → i < length problem.acts → j < length problem.acts → ActsAlike (slice_index_or problem.acts i (Cost 0)) (slice_index_or problem.acts j (Cost 0)) → i ≡ j
+
+-- initial routes are of the protocol, have no path and no communities; in BGP no router that has one imports
+pub record HasStarts (problem : Problem) : Type 0 where
   pub routes : (u : ℕ) (r : Route) → initial problem u ≡ Some r → IsRouteOf problem.protocol r
-  pub starts : (u : ℕ) (r : Route) → initial problem u ≡ Some r → path_of r ≡ []
+  pub paths : (u : ℕ) (r : Route) → initial problem u ≡ Some r → path_of r ≡ []
   pub bare : (u : ℕ) (r : Route) → initial problem u ≡ Some r → comms_of r ≡ []
   pub unoriginated : problem.protocol ≡ OverBgp → (edge : Edge) → Contains problem.edges edge → initial problem edge.importer ≡ None
-  pub numbered : problem.protocol ≡ OverBgp → (u : ℕ) (r : Route) → initial problem u ≡ Some r → number problem u ≢ 0
-  pub importers : problem.protocol ≡ OverBgp → (edge : Edge) → Contains problem.edges edge → number problem edge.importer ≢ 0
-  pub exporters : problem.protocol ≡ OverBgp → (edge : Edge) → Contains problem.edges edge → number problem edge.exporter ≢ 0
-  pub distinct : problem.protocol ≡ OverBgp → (u v : ℕ) → u < count problem → v < count problem → number problem u ≡ number problem v → number problem u ≢ 0 → u ≡ v
-  pub lone_is : (u : ℕ) → u < count problem → is_lone problem u ≡ true → IsLone problem u
-  pub is_lone : (u : ℕ) → u < count problem → IsLone problem u → is_lone problem u ≡ true
+
+-- in BGP each router that originates, imports or exports has an AS number of its own
+pub record HasAsNumbers (problem : Problem) : Type 0 where
+  pub originators : (u : ℕ) (r : Route) → initial problem u ≡ Some r → number problem u ≢ 0
+  pub importers : (edge : Edge) → Contains problem.edges edge → number problem edge.importer ≢ 0
+  pub exporters : (edge : Edge) → Contains problem.edges edge → number problem edge.exporter ≢ 0
+  pub distinct : (u v : ℕ) → u < count problem → v < count problem → number problem u ≡ number problem v → number problem u ≢ 0 → u ≡ v
+
+-- the lone routers are marked, and no others
+pub record HasMarks (problem : Problem) : Type 0 where
+  pub only : (u : ℕ) → u < count problem → is_lone problem u ≡ true → IsLone problem u
+  pub all : (u : ℕ) → u < count problem → IsLone problem u → is_lone problem u ≡ true
+
+-- the rules of a problem
+pub record IsProblem (problem : Problem) : Type 0 where
+  pub tables : HasTables problem
+  pub edges : HasEdges problem
+  pub acts : HasActs problem
+  pub starts : HasStarts problem
+  pub numbers : problem.protocol ≡ OverBgp → HasAsNumbers problem
+  pub marks : HasMarks problem

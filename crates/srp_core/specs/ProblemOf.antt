@@ -12,10 +12,10 @@ use Rattle.cfg_ast.specs.declared.bgp.Neighbor.{Neighbor}
 use Rattle.cfg_ast.specs.declared.network.Network.{Network}
 use Rattle.cfg_ast.specs.declared.network.Router.{Router}
 use Rattle.cfg_ast.specs.declared.topology.Link.{Link}
-use Rattle.cfg_ast.specs.Classes.{initial_route}
-use Rattle.cfg_ast.specs.Policy.{default_preference}
-use Rattle.cfg_ast.specs.RouterFaults.{protocol_of}
-use Rattle.cfg_ast.specs.Topology.{links_of, neighbors_of, cost_of}
+use Rattle.cfg_ast.specs.meaning.Classes.{initial_route}
+use Rattle.cfg_ast.specs.meaning.Policy.{default_preference}
+use Rattle.cfg_ast.specs.meaning.RouterFaults.{protocol_of}
+use Rattle.cfg_ast.specs.meaning.Topology.{links_of, neighbors_of, cost_of}
 use Rattle.route_maps.specs.declared.plain.Imported.{Imported}
 use Rattle.route_maps.specs.declared.plain.Plain.{Plain}
 use Rattle.route_maps.specs.Maps.{import_of}

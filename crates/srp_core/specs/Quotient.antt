@@ -1,12 +1,12 @@
 -- Partitions of the routers of a problem whose groups can stand for their members, the problem of the
 -- groups, and when labels of both say the same (Beckett, Gupta, Mahajan and Walker, Control Plane
 -- Compression, SIGCOMM 2018, sections 4 and 5). A partition is the list of the routers' groups.
-use Rattle.std.specs.Prelude.{◌≡◌, ◌≢◌, ◌⊎◌, zero, suc, ℕ, ◌^◌, ◌<◌, true, not, ◌&&◌, nat_eq, List, [], ◌∷◌, length, Option, Some, slice_index, slice_index_or, Contains, if◌then◌else◌}
+use Rattle.std.specs.Prelude.{◌≡◌, ◌≢◌, ◌⊎◌, zero, suc, ℕ, ◌<◌, true, not, ◌&&◌, nat_eq, List, [], ◌∷◌, length, Option, Some, slice_index, slice_index_or, Contains, if◌then◌else◌}
 use Rattle.base_kit.specs.declared.act_graph.Edge.{Edge}
 use Rattle.base_kit.specs.Partition.{Refines}
 use Rattle.srp_core.specs.declared.route.Route.{Route}
 use Rattle.srp_core.specs.Acts.{ActsAlike}
-use Rattle.srp_core.specs.Problem.{Problem, count, number, initial, is_lone, act_of, IsEdgeOf, AreOrdered}
+use Rattle.srp_core.specs.Problem.{Problem, count, number, initial, is_lone, act_of, HasTables, HasEdges}
 use Rattle.srp_core.specs.Stability.{label, HaveSameKeys, ForwardsTo}
 
 -- the group of a router
@@ -74,16 +74,10 @@ pub record IsQuotient (problem : Problem) (groups : List ℕ) (small : Problem) 
 
 -- What `IsQuotient` leaves open of the tables of a quotient is as the rules of a problem want it, and
 -- its acts are those of the problem.
-pub record HasTables (problem small : Problem) : Type 0 where
-  pub few_routers : count small < 2 ^ 32
-  pub few_edges : length small.edges < 2 ^ 32
-  pub names_total : length small.names ≡ count small
-  pub init_total : length small.init ≡ count small
-  pub lone_total : length small.lone ≡ count small
+pub record KeepsTables (problem small : Problem) : Type 0 where
+  pub tables : HasTables small
+  pub edges : HasEdges small
   pub acts : small.acts ≡ problem.acts
-  pub edges : (edge : Edge) → Contains small.edges edge → IsEdgeOf small edge
-  pub ordered : AreOrdered small.edges
-  pub one_of_link : (edge other : Edge) → Contains small.edges edge → Contains small.edges other → edge.importer ≡ other.importer → edge.link ≡ other.link → edge ≡ other
 
 -- each router has the key of its group's router, or both have none, and the groups of those to whom it
 -- forwards are those to whom its group's router forwards

@@ -5,7 +5,7 @@ use Rattle.std.specs.declared.cmp.Ordering.TheVariants.{Less}
 use Rattle.base_kit.specs.declared.act_graph.Edge.{Edge}
 use Rattle.srp_core.specs.declared.route.Route.{Route}
 use Rattle.srp_core.specs.Routes.{path_of, is_on, IsRouteOf, compare_keys}
-use Rattle.srp_core.specs.Problem.{Problem, count, number, initial, step, key_of}
+use Rattle.srp_core.specs.Problem.{Problem, count, number, initial, step_over, key_of}
 
 -- the label of a router
 abbrev pub label : List (Option Route) → ℕ → Option Route
@@ -21,7 +21,7 @@ pub record AreLabels (problem : Problem) (labels : List (Option Route)) : Type 0
 pub record IsCandidateOver (problem : Problem) (labels : List (Option Route)) (edge : Edge) (route : Route) : Type 0 where
   pub from : Route
   pub labelled : label labels edge.exporter ≡ Some from
-  pub stepped : step problem edge from ≡ Some route
+  pub stepped : step_over problem edge from ≡ Some route
   pub passes : is_on (number problem edge.importer) (path_of route) ≡ false
 
 -- a route that the router may take: its initial route, or one that an edge gives it

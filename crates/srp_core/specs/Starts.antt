@@ -19,14 +19,14 @@ abbrev pub start : Problem → ℕ → Start
 start problem router = start_of (is_lone problem router) router (initial problem router)
 
 -- no two places have equal items
-pub record AreDistinct (starts : List Start) : Type 0 where
+pub record AreAllDifferent (starts : List Start) : Type 0 where
   pub one_place : (i j : ℕ) (start : Start) → slice_get starts i ≡ Some start → slice_get starts j ≡ Some start → i ≡ j
 
 -- the colors of the routers are the places of their starts in a list of different ones
 pub record AreColors (problem : Problem) (colors : List ℕ) : Type 0 where
   pub total : length colors ≡ count problem
   pub starts : List Start
-  pub distinct : AreDistinct starts
+  pub distinct : AreAllDifferent starts
   pub placed : (u : ℕ) → u < count problem → slice_get starts (slice_index colors u) ≡ Some (start problem u)
 
 -- the graph has the problem's routers and edges; lone routers have colors of their own, and the others

@@ -1,7 +1,7 @@
 ghost use Rattle.std.specs.Prelude.{◌≡◌, ◌<◌, ◌++◌, ◌∷◌, [], suc, nat_lt, nat_le, All, IfOk, OnOk, Some, None, option_and_then, length};
 ghost use Rattle.base_kit.specs.declared.act_graph.Edge.{Edge};
-ghost use Rattle.srp_core.specs.Acts.{step_by, repeated};
-ghost use Rattle.srp_core.specs.Candidates.{candidates, over, listed, passed, AreOwnEdges};
+ghost use Rattle.srp_core.specs.Acts.{step_by, prepended};
+ghost use Rattle.srp_core.specs.Candidates.{candidates, over, candidate_of, passed, AreOwnEdges};
 ghost use Rattle.srp_core.specs.Problem.{count, initial, IsEdgeOf, AreOrdered};
 ghost use Rattle.srp_core.specs.Routes.{IsRouteOf, is_on, path_of};
 ghost use Rattle.srp_core.specs.Stability.{AreLabels};
@@ -15,7 +15,7 @@ use std::alloc::Global;
 
 // The number one time more than the count, and then the path.
 fn lengthened(alloc: Global, path: &[u32], number: u32, adds: u8) -> Result<List<u32>, NoMemory>
-    ensures { IfOk result (λ longer. longer ≡ repeated (suc adds) number path.now) }
+    ensures { IfOk result (λ longer. longer ≡ prepended (suc adds) number path.now) }
 {
     let mut numbers = Vec::new(alloc);
     numbers.push(number)?;
@@ -92,7 +92,7 @@ fn own_edges(edges: &[Edge], router: u32) -> (usize, usize)
 
 // Puts the route of an edge last, if it gives one.
 fn add(found: &mut List<Candidate>, place: u32, route: Option<Route>) -> Result<(), NoMemory>
-    ensures { OnOk result (found.new ≡ found.old ++ listed (Some place) route) }
+    ensures { OnOk result (found.new ≡ found.old ++ candidate_of (Some place) route) }
 {
     if let Some(route) = route {
         found.push(Candidate {
@@ -107,7 +107,7 @@ impl Srp {
     // The initial route as a candidate, if there is one.
     fn initial_candidate(&self, router: u32) -> Result<List<Candidate>, NoMemory>
         requires { router < count self.now }
-        ensures { IfOk result (λ found. found ≡ listed None (initial self.now router)) }
+        ensures { IfOk result (λ found. found ≡ candidate_of None (initial self.now router)) }
     {
         let mut found = List::new(self.alloc());
         let _routers = self.count();

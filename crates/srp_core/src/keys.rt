@@ -2,7 +2,7 @@ ghost use Rattle.std.specs.Prelude.{◌≡◌, ◌||◌, length, cond, Some};
 ghost use Rattle.std.specs.Ordering.{nat_cmp};
 ghost use Rattle.std.specs.Cmp.Lexicographic.{slice_cmp};
 ghost use Rattle.srp_core.specs.LoneOrder.{rest_above, head_of, least_of, is_over};
-ghost use Rattle.srp_core.specs.Problem.{is_marked, is_lone_number, key_of};
+ghost use Rattle.srp_core.specs.Problem.{has_marked_number, is_lone_number, key_of};
 ghost use Rattle.srp_core.specs.Routes.{chosen, compare_keys, IsRouteOf};
 
 use crate::route::Route;
@@ -10,9 +10,9 @@ use crate::srp::Srp;
 use std::cmp::Ordering;
 
 // Whether a marked router has that number.
-fn is_marked(marks: &[bool], numbers: &[u32], wanted: u32) -> bool
+fn has_marked_number(marks: &[bool], numbers: &[u32], wanted: u32) -> bool
     requires { length marks.now ≡ length numbers.now }
-    ensures { result ≡ is_marked marks.now numbers.now wanted }
+    ensures { result ≡ has_marked_number marks.now numbers.now wanted }
 {
     for i in 0..marks.len() {
         if marks[i] && numbers[i] == wanted {
@@ -48,7 +48,7 @@ impl Srp {
         ensures { result ≡ is_lone_number self.now wanted }
     {
         let _routers = self.count();
-        is_marked(self.lone(), self.numbers(), wanted)
+        has_marked_number(self.lone(), self.numbers(), wanted)
     }
 
     fn nearer_lone(&self, best: Option<u32>, bound: Option<u32>, number: u32) -> Option<u32>

@@ -8,12 +8,16 @@ ghost use Rattle.base_kit.specs.Partition.{Refines};
 ghost use Rattle.srp_core.specs.declared.route.Route.{Route};
 ghost use Rattle.srp_core.specs.declared.route.Candidate.{Candidate};
 ghost use Rattle.srp_core.specs.Routes.{path_of, is_on};
-ghost use Rattle.srp_core.specs.Problem.{Problem, count, number, is_lone, step, key_of, IsProblem};
+ghost use Rattle.srp_core.specs.Problem.{Problem, count, number, is_lone, step_over, key_of, IsProblem};
 ghost use Rattle.srp_core.specs.Stability.{label, AreLabels, IsCandidate, IsStable, HaveSameKeys};
-ghost use Rattle.srp_core.specs.Quotient.{group_of, IsAdmissible, IsCoarsest, IsJoin, IsQuotient, HasTables, Corresponds};
+ghost use Rattle.srp_core.specs.Quotient.{group_of, IsAdmissible, IsCoarsest, IsJoin, IsQuotient, KeepsTables, Corresponds};
 ghost use Rattle.srp_core.specs.Candidates.{candidates, IsSettled};
-ghost use Rattle.srp_core.specs.Laws.{Below, Above, HasPath, HasBetter};
+ghost use Rattle.srp_core.specs.Laws.{Below, Above, HasPath, HasBetter, HasShorter};
 ghost use Rattle.srp_core.specs.Lifts.{IsLift, IsFold, AllTrack};
+
+pub mod alike;
+pub mod filling;
+pub mod keys;
 
 /// In every stable solution the members of a group of an admissible partition hold routes of one key,
 /// or all hold none.
@@ -35,7 +39,7 @@ pub fn from_quotient()
 /// The quotient of a problem by an admissible partition keeps the rules of a problem, where its tables
 /// do what the quotient relation leaves open.
 pub fn quotient_is_problem()
-    ensures { (problem small : Problem) (groups : List ℕ) → IsProblem problem → IsAdmissible problem groups → IsQuotient problem groups small → HasTables problem small → IsProblem small }
+    ensures { (problem small : Problem) (groups : List ℕ) → IsProblem problem → IsAdmissible problem groups → IsQuotient problem groups small → KeepsTables problem small → IsProblem small }
 {}
 
 /// In stable labels each number on a path is that of a router with a label, whose path is what stands
@@ -47,13 +51,19 @@ pub fn chains()
 /// An edge inside a group never carries a best route: what it gives, before the loop check, is worse
 /// than the label that its importer then has.
 pub fn inner_edges()
-    ensures { (problem : Problem) (groups : List ℕ) (labels : List (Option Route)) → IsProblem problem → IsAdmissible problem groups → IsStable problem labels → (edge : Edge) (from route : Route) → Contains problem.edges edge → group_of groups edge.importer ≡ group_of groups edge.exporter → label labels edge.exporter ≡ Some from → step problem edge from ≡ Some route → HasBetter problem labels edge.importer route }
+    ensures { (problem : Problem) (groups : List ℕ) (labels : List (Option Route)) → IsProblem problem → IsAdmissible problem groups → IsStable problem labels → (edge : Edge) (from route : Route) → Contains problem.edges edge → group_of groups edge.importer ≡ group_of groups edge.exporter → label labels edge.exporter ≡ Some from → step_over problem edge from ≡ Some route → HasBetter problem labels edge.importer route }
 {}
 
 /// The loop check never decides what a router that is not lone holds: a route that it drops there is
 /// worse than the label that the router then has.
 pub fn loop_check()
-    ensures { (problem : Problem) (labels : List (Option Route)) → IsProblem problem → IsStable problem labels → (edge : Edge) (from route : Route) → Contains problem.edges edge → is_lone problem edge.importer ≡ false → label labels edge.exporter ≡ Some from → step problem edge from ≡ Some route → is_on (number problem edge.importer) (path_of route) ≡ true → HasBetter problem labels edge.importer route }
+    ensures { (problem : Problem) (labels : List (Option Route)) → IsProblem problem → IsStable problem labels → (edge : Edge) (from route : Route) → Contains problem.edges edge → is_lone problem edge.importer ≡ false → label labels edge.exporter ≡ Some from → step_over problem edge from ≡ Some route → is_on (number problem edge.importer) (path_of route) ≡ true → HasBetter problem labels edge.importer route }
+{}
+
+/// The route that the loop check drops is strictly longer than the label that the router then has, and at
+/// a router that is not lone of the same preference.
+pub fn dropped_routes()
+    ensures { (problem : Problem) (labels : List (Option Route)) → IsProblem problem → IsStable problem labels → (edge : Edge) (from route : Route) → Contains problem.edges edge → label labels edge.exporter ≡ Some from → step_over problem edge from ≡ Some route → is_on (number problem edge.importer) (path_of route) ≡ true → HasShorter problem labels edge.importer route }
 {}
 
 /// The loop check of a lone router has one answer in a problem and in its quotient, for routes of one
@@ -110,9 +120,11 @@ pub fn listed_candidates()
     ensures settled { (problem : Problem) (labels : List (Option Route)) → IsStable problem labels → (u : ℕ) → u < count problem → IsSettled problem labels u }
 {}
 
-/// The join of two admissible partitions is admissible, and the coarsest partition is one: two of them
-/// put the same routers together.
+/// Two partitions have a join, and that of two admissible ones is admissible. So each problem has a
+/// coarsest admissible partition, and one only: two of them put the same routers together.
 pub fn joins()
+    ensures exists { (routers : ℕ) (first second : List ℕ) → length first ≡ routers → (joined : List ℕ) × IsJoin routers first second joined }
     ensures admissible { (problem : Problem) (first second joined : List ℕ) → IsProblem problem → IsAdmissible problem first → IsAdmissible problem second → IsJoin (count problem) first second joined → IsAdmissible problem joined }
+    ensures coarsest { (problem : Problem) → IsProblem problem → (groups : List ℕ) × IsCoarsest problem groups }
     ensures one_coarsest { (problem : Problem) (first second : List ℕ) → IsCoarsest problem first → IsCoarsest problem second → Refines (count problem) first second }
 {}

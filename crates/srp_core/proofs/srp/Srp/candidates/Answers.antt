@@ -5,7 +5,7 @@ use Rattle.std.proofs.lemmas.List.Elements.{All-contains_itself}
 use Rattle.base_kit.specs.declared.act_graph.Edge.{Edge}
 use Rattle.srp_core.specs.declared.route.Candidate.{Candidate}
 use Rattle.srp_core.specs.declared.route.Route.{Route}
-use Rattle.srp_core.specs.Candidates.{listed, AreOwnEdges}
+use Rattle.srp_core.specs.Candidates.{candidate_of, AreOwnEdges}
 use Rattle.srp_core.specs.Routes.{IsRouteOf}
 use Rattle.srp_core.proofs.CandidateLists.{row_step}
 use Rattle.srp_core.proofs.OwnEdges.{begun, ended, candidate_routes}
@@ -23,7 +23,7 @@ over-requires-clause-edge c =
     let inside = c.own_edges-first.ensures.inside in
     let less = c.loop-place-test.true in
     let here : c.loop-place.place < length edges = omega (arith, inside, less) in
-    c.count-routers.ensures.rules.edges (slice_index_or edges c.loop-place.place none) (subst (λ (l : List Edge). Contains l (slice_index_or edges c.loop-place.place none)) c.edges-edges.ensures (All-contains_itself edges c.loop-place.place none here))
+    c.count-routers.ensures.rules.edges.inside (slice_index_or edges c.loop-place.place none) (subst (λ (l : List Edge). Contains l (slice_index_or edges c.loop-place.place none)) c.edges-edges.ensures (All-contains_itself edges c.loop-place.place none here))
 
 pub loop-place-preserved : goal.loop-place-preserved
 loop-place-preserved c =
@@ -40,7 +40,7 @@ loop-place-preserved c =
     let read : edge ≡ slice_index_or P.edges place edge = get_or_default edges place none edge here ∙ ap (λ (l : List Edge). slice_index_or l place edge) c.edges-edges.ensures in
     let own : edge.importer ≡ c.args.router = c.own_edges-first.ensures.own place none c.loop-place.auto.place less in
     row_step P c.args.labels.now c.args.router place c.loop-place.found c.add.new.found _ edge there read c.loop-place.invariant
-    (inl (own, c.in_ok-add.ensures ∙ ap (λ (o : Option Route). c.loop-place.found ++ listed (Some place) o) c.in_ok-route.ensures))
+    (inl (own, c.in_ok-add.ensures ∙ ap (λ (o : Option Route). c.loop-place.found ++ candidate_of (Some place) o) c.in_ok-route.ensures))
 
 pub returns-clause-list : goal.returns-clause-list
 returns-clause-list c =

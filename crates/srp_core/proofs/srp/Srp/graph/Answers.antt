@@ -10,7 +10,7 @@ invariant_of-result c =
     let edges = c.from_vec-2.ensures ∙ c.in_ok-edges.ensures.items ∙ c.edges.ensures in
     record {
       one_color_each = ap length c.from_vec.ensures ∙ c.in_ok-colors.ensures.total ∙ sym c.count.ensures.count;
-      few_edges = (let few = rules.few_edges in let e = ap length edges in omega (arith, few, e));
+      few_edges = (let few = rules.tables.few_edges in let e = ap length edges in omega (arith, few, e));
       importers_in_range = importers_inside P rules c.from_vec-2.result c.count.result edges c.count.ensures.count;
       exporters_in_range = exporters_inside P rules c.from_vec-2.result c.count.result edges c.count.ensures.count;
     }
