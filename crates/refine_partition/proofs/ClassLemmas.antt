@@ -6,7 +6,7 @@ use Rattle.std.proofs.lemmas.List.{get_or-set_same, get_or-set_other, length_pus
 use Rattle.std.proofs.lemmas.List.Elements.{All-set, All-weaker, All-push, All-contains, Contains-append_left, Contains-append_right, Contains-append_cases}
 use Rattle.std.proofs.Math.ListN.{length-set}
 use Rattle.refine_partition.specs.declared.imports.Import.{Import}
-use Rattle.refine_partition.specs.Arrivals.{act_of}
+use Rattle.refine_partition.specs.Arrivals.{act_of_import}
 use Rattle.refine_partition.specs.Classes.{IsSeparated, AreClasses}
 
 -- what holds while the first importers have moved, with the names of the classes that they left
@@ -251,21 +251,21 @@ take_run s m n xs e =
     ap (λ i. take i xs) e ∙ sym (take-append-drop s (take (s + m) xs)) ∙ ap (λ (ys : List Import). ys ++ drop s (take (s + m) xs)) (take_shorter s (s + m) xs (omega arith)) ∙ ap (λ (ys : List Import). take s xs ++ ys) (drop-take s m xs)
 
 -- the run from `start` to `end`
-pub classes_to : (numbers : List ℕ) (arrivals : List Import) (count start end : ℕ) (classes classes' : List ℕ) (next next' : ℕ) → start < end → end ≤ length arrivals → ((i j : ℕ) (d : Import) → i < start → start ≤ j → j < length arrivals → act_of (slice_index_or arrivals i d) < act_of (slice_index_or arrivals j d)) → ((i : ℕ) (d : Import) → start ≤ i → i < end → act_of (slice_index_or arrivals i d) ≡ act_of (slice_index_or arrivals start d)) → AreClasses numbers (take start arrivals) count classes next → IsSeparated classes classes' (take (end - start) (drop start arrivals)) next next' → AreClasses numbers (take end arrivals) count classes' next'
+pub classes_to : (numbers : List ℕ) (arrivals : List Import) (count start end : ℕ) (classes classes' : List ℕ) (next next' : ℕ) → start < end → end ≤ length arrivals → ((i j : ℕ) (d : Import) → i < start → start ≤ j → j < length arrivals → act_of_import (slice_index_or arrivals i d) < act_of_import (slice_index_or arrivals j d)) → ((i : ℕ) (d : Import) → start ≤ i → i < end → act_of_import (slice_index_or arrivals i d) ≡ act_of_import (slice_index_or arrivals start d)) → AreClasses numbers (take start arrivals) count classes next → IsSeparated classes classes' (take (end - start) (drop start arrivals)) next next' → AreClasses numbers (take end arrivals) count classes' next'
 classes_to numbers arrivals count start end classes classes' next next' more within apart same are separated =
     let none : Import = record { importer = 0; act = 0 } in
-    let act : ℕ = act_of (slice_index_or arrivals start none) in
+    let act : ℕ = act_of_import (slice_index_or arrivals start none) in
     let run : List Import = take (end - start) (drop start arrivals) in
-    let first : (d : Import) → act_of (slice_index_or arrivals start d) ≡ act = λ d. ap act_of (get_or_default arrivals start d none (omega arith)) in
+    let first : (d : Import) → act_of_import (slice_index_or arrivals start d) ≡ act = λ d. ap act_of_import (get_or_default arrivals start d none (omega arith)) in
     let earlier : All (λ a. a.act < act) (take start arrivals) = λ k d inside.
     let size : length (take start arrivals) ≤ start = omega (arith, length-take start arrivals) in
     let lt = apart k start d (omega arith) (omega arith) (omega arith) in
-    let at = ap act_of (get_or-take start arrivals k d (omega arith)) in
+    let at = ap act_of_import (get_or-take start arrivals k d (omega arith)) in
     let e = first d in omega arith in
     let one : All (λ a. a.act ≡ act) run = λ k d inside.
     let size : length run ≤ end - start = omega (arith, length-take (end - start) (drop start arrivals)) in
-    let at = ap act_of (get_or-take (end - start) (drop start arrivals) k d (omega arith)) in
-    let at' = ap act_of (get_or-drop start arrivals k d) in
+    let at = ap act_of_import (get_or-take (end - start) (drop start arrivals) k d (omega arith)) in
+    let at' = ap act_of_import (get_or-drop start arrivals k d) in
     let is = same (start + k) d (omega arith) (omega arith) in
     at ∙ at' ∙ is ∙ first d in
     rw (take_run start (end - start) end arrivals (omega arith))

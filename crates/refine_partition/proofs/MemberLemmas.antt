@@ -12,7 +12,7 @@ use Rattle.std.proofs.Math.ListN.{length-set}
 use Rattle.base_kit.specs.Partition.{members_of}
 use Rattle.base_kit.specs.declared.act_graph.Edge.{Edge}
 use Rattle.refine_partition.specs.Members.{members_among, AreBlocksAmong, AreBlocks}
-use Rattle.refine_partition.specs.Index.{import_from, IsIndex}
+use Rattle.refine_partition.specs.Index.{import_from, IsImportIndex}
 use Rattle.refine_partition.specs.declared.imports.Import.{Import}
 
 pub same_test : (a b : ℕ) → a ≡ b → nat_eq a b ≡ true
@@ -88,10 +88,10 @@ blocks_more numbers blocks router number old new before is inside read pushed = 
 pub blocks_end : (numbers : List ℕ) (blocks : List (Vec ℕ Global)) (count : ℕ) → count ≡ length numbers → AreBlocksAmong count numbers blocks → AreBlocks numbers blocks
 blocks_end numbers blocks count e among = record { each = λ block d inside. among.each block d inside ∙ ap (λ n. members_among n numbers block) e }
 
-pub index_start : (edges : List Edge) (lists : List (Vec Import Global)) → All (λ l. l.items ≡ []) lists → IsIndex (take 0 edges) lists
+pub index_start : (edges : List Edge) (lists : List (Vec Import Global)) → All (λ l. l.items ≡ []) lists → IsImportIndex (take 0 edges) lists
 index_start edges lists empty = record { each = λ exporter d inside. empty exporter d inside }
 
-pub index_more : (edges : List Edge) (lists : List (Vec Import Global)) (k : ℕ) (e d' : Edge) (old new : Vec Import Global) → IsIndex (take k edges) lists → k < length edges → e ≡ get_or edges k d' → e.exporter < length lists → old ≡ slice_index_or lists e.exporter old → new.items ≡ old.items ++ record { importer = e.importer; act = e.act } ∷ [] → IsIndex (take (k + 1) edges) (slice_set lists e.exporter new)
+pub index_more : (edges : List Edge) (lists : List (Vec Import Global)) (k : ℕ) (e d' : Edge) (old new : Vec Import Global) → IsImportIndex (take k edges) lists → k < length edges → e ≡ get_or edges k d' → e.exporter < length lists → old ≡ slice_index_or lists e.exporter old → new.items ≡ old.items ++ record { importer = e.importer; act = e.act } ∷ [] → IsImportIndex (take (k + 1) edges) (slice_set lists e.exporter new)
 index_more edges lists k e d' old new before more is inside read pushed = record {
   each = λ exporter d within.
       let within' : exporter < length lists = omega (arith, length-set lists e.exporter new) in

@@ -11,7 +11,7 @@ use Rattle.refine_partition.specs.declared.imports.Import.{Import}
 use Rattle.refine_partition.specs.Splits.{HasAct, StandsBefore}
 use Rattle.refine_partition.specs.Arrivals.{IsArrival, AreArrivals}
 use Rattle.refine_partition.specs.Classes.{SameArrivals, AreClasses}
-use Rattle.refine_partition.specs.Touched.{IsTouched, AreTouched, IsWithin, IsQueue}
+use Rattle.refine_partition.specs.Touched.{IsTouched, AreTouched, IsInBlocks, IsQueue}
 use Rattle.refine_partition.specs.Renumbering.{IsQueueOf, IsRenumbered}
 use Rattle.refine_partition.specs.Planned.{AreNumbered, IsPlanned}
 use Rattle.refine_partition.proofs.MemberLemmas.{Contains-cons}
@@ -40,7 +40,7 @@ arrivals_in_range graph numbers taken arrivals total are = All-weaker (IsArrival
 
 pub queue_is : (numbers touched queue : List ℕ) → IsQueue numbers touched queue → IsQueueOf numbers queue
 queue_is numbers touched queue queued = record {
-  below = All-weaker (IsWithin numbers touched) (λ u. u < length numbers) (λ u within. within.below) queue queued.only;
+  below = All-weaker (IsInBlocks numbers touched) (λ u. u < length numbers) (λ u within. within.below) queue queued.only;
   in_order = queued.in_order;
 }
 
@@ -49,7 +49,7 @@ planned graph taken numbers blocks arrivals classes touched queue next origins c
     let before : ℕ = length blocks in
     let low : (u : ℕ) → u < graph.count → slice_index numbers u < before = λ u hu. numbered.below u 0 (omega arith) in
     let in_queue : (u : ℕ) → u < graph.count → Contains touched (slice_index numbers u) → Contains queue u = λ u hu block. queued.all u (record { below = omega arith; block = block }) in
-    let not_in_queue : (u : ℕ) → ¬ Contains touched (slice_index numbers u) → ¬ Contains queue u = λ u none found. none (All-contains (IsWithin numbers touched) queue u queued.only found).block in
+    let not_in_queue : (u : ℕ) → ¬ Contains touched (slice_index numbers u) → ¬ Contains queue u = λ u none found. none (All-contains (IsInBlocks numbers touched) queue u queued.only found).block in
     let rest : (u : ℕ) → u < graph.count → ¬ Contains touched (slice_index numbers u) → slice_index next u ≡ slice_index numbers u = λ u hu none. renumbered.rest u (omega arith) (not_in_queue u none) in
     let listed : (u act : ℕ) → slice_index numbers u ≢ taken → HasAct graph.edges numbers taken u act → Contains touched (slice_index numbers u) = λ u act outside has.
     All-contains (λ a. Contains touched (slice_index numbers a.importer)) arrivals (record { importer = u; act = act }) touches.all (arrived.all u act outside has) in
@@ -114,7 +114,7 @@ planned graph taken numbers blocks arrivals classes touched queue next origins c
         ];
         used = λ number le less.
             let (u, found, at) = renumbered.used (number - before) (omega arith) in
-            let within = All-contains (IsWithin numbers touched) queue u queued.only found in
+            let within = All-contains (IsInBlocks numbers touched) queue u queued.only found in
             let hu = within.below in
             (u, omega arith, at ∙ omega arith);
         in_order = λ v number hv le less. elim (contains_or_not touched (slice_index numbers v)) [

@@ -11,7 +11,7 @@ use Rattle.std.proofs.lemmas.List.Kept.{IsStrictlyIncreasing-filter}
 use Rattle.std.proofs.lemmas.Map.Keys.{sorted_from_strictly_increasing, below_from_sorted}
 use Rattle.base_kit.specs.Partition.{members_of}
 use Rattle.refine_partition.specs.declared.imports.Import.{Import}
-use Rattle.refine_partition.specs.Touched.{IsTouched, AreTouched, IsWithin, IsQueue}
+use Rattle.refine_partition.specs.Touched.{IsTouched, AreTouched, IsInBlocks, IsQueue}
 use Rattle.refine_partition.proofs.MemberLemmas.{members_all, member, IsMember}
 
 pub rising : (xs : List ℕ) (i j : ℕ) → IsStrictlyIncreasing xs → i < j → j < length xs → slice_index xs i < slice_index xs j
@@ -53,9 +53,9 @@ queue_more numbers blocks routers after block queue earlier adds =
     let size : length (routers ++ members) ≡ length routers + length members = length-append routers members in
     let are : All (IsMember numbers block) members = members_all numbers block in
     rw adds (record {
-      only = All-append (IsWithin numbers (blocks ++ block ∷ [])) routers members
-          (All-weaker (IsWithin numbers blocks) (IsWithin numbers (blocks ++ block ∷ [])) (λ u w. record { below = w.below; block = Contains-append_left blocks (block ∷ []) _ w.block }) routers queue.only)
-          (All-weaker (IsMember numbers block) (IsWithin numbers (blocks ++ block ∷ [])) (λ u m. record { below = m.below; block = subst (Contains (blocks ++ block ∷ [])) (sym m.is) (Contains-push blocks block) }) members are);
+      only = All-append (IsInBlocks numbers (blocks ++ block ∷ [])) routers members
+          (All-weaker (IsInBlocks numbers blocks) (IsInBlocks numbers (blocks ++ block ∷ [])) (λ u w. record { below = w.below; block = Contains-append_left blocks (block ∷ []) _ w.block }) routers queue.only)
+          (All-weaker (IsMember numbers block) (IsInBlocks numbers (blocks ++ block ∷ [])) (λ u m. record { below = m.below; block = subst (Contains (blocks ++ block ∷ [])) (sym m.is) (Contains-push blocks block) }) members are);
       all = λ router within. elim (Contains-push_cases blocks block _ within.block) [
         | inl old ↦ Contains-append_left routers members router (queue.all router (record { below = within.below; block = old }))
         | inr e ↦ Contains-append_right routers members router (member numbers block router within.below (sym e))

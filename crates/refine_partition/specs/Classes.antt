@@ -6,11 +6,11 @@ use Rattle.std.specs.HashMap.{get, HashMap}
 use Rattle.refine_partition.specs.declared.imports.Import.{Import}
 
 -- the names of classes
-abbrev pub Names : Type 0
-Names = HashMap ℕ ℕ (BuildHasherDefault FoldHasher)
+abbrev pub ClassNames : Type 0
+ClassNames = HashMap ℕ ℕ (BuildHasherDefault FoldHasher)
 
 -- the class has the name, which is the next one if it had none, and all others keep theirs
-pub record IsNamed (old new : Names) (class next name : ℕ) : Type 0 where
+pub record IsNamed (old new : ClassNames) (class next name : ℕ) : Type 0 where
   pub named : get nat_eq new class ≡ Some name
   pub others : (other : ℕ) → other ≢ class → get nat_eq new other ≡ get nat_eq old other
   pub was : (get nat_eq old class ≡ Some name) ⊎ ((get nat_eq old class ≡ None) × (name ≡ next))

@@ -10,5 +10,5 @@ import_from exporter edge =
     if nat_eq edge.exporter exporter then Some (record { importer = edge.importer; act = edge.act }) else None
 
 -- for each exporter the imports over its edges
-pub record IsIndex (edges : List Edge) (lists : List (Vec Import Global)) : Type 0 where
+pub record IsImportIndex (edges : List Edge) (lists : List (Vec Import Global)) : Type 0 where
   pub each : (exporter : ℕ) (d : Vec Import Global) → exporter < length lists → (slice_index_or lists exporter d).items ≡ filter_map (import_from exporter) edges

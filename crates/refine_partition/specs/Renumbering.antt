@@ -24,14 +24,14 @@ IsNextNumber named numbers router before origins origins' number =
     ((named ≡ Some number) × (origins' ≡ origins)) ⊎ ((named ≡ None) × IsFreshNumber numbers router before origins origins' number)
 
 -- the number of a class, if it has one
-abbrev pub name_at : List (Option ℕ) → ℕ → Option ℕ
-name_at names class = slice_index_or names class None
+abbrev pub number_of_class : List (Option ℕ) → ℕ → Option ℕ
+number_of_class names class = slice_index_or names class None
 
 -- the class has that number, and all others have what they had
 pub record IsNamedNow (old new : List (Option ℕ)) (class number : ℕ) : Type 0 where
   pub size : length new ≡ length old
-  pub named : name_at new class ≡ Some number
-  pub others : (other : ℕ) → other ≢ class → name_at new other ≡ name_at old other
+  pub named : number_of_class new class ≡ Some number
+  pub others : (other : ℕ) → other ≢ class → number_of_class new other ≡ number_of_class old other
 
 -- The numbers after the first routers of the queue were renumbered: the least member's class keeps the
 -- block's number, further classes have the next ones in the order in which the queue meets them.

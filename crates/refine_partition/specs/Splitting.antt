@@ -5,7 +5,7 @@ use Rattle.std.specs.declared.alloc.Global.{Global}
 use Rattle.base_kit.specs.declared.act_graph.ActGraph.{ActGraph}
 use Rattle.base_kit.specs.Partition.{members_of}
 use Rattle.refine_partition.specs.declared.imports.Import.{Import}
-use Rattle.refine_partition.specs.Index.{IsIndex}
+use Rattle.refine_partition.specs.Index.{IsImportIndex}
 
 -- the number of each router's block, how many blocks there are, and what each router's edges import
 pub record Blocks : Type 0 where
@@ -21,4 +21,4 @@ blocks_of s = map (members_of s.numbers) (range_with_len 0 s.count)
 pub record IsSplittingOf (graph : ActGraph) (s : Blocks) : Type 0 where
   pub total : length s.numbers ≡ graph.count
   pub one_list_each : length s.imports ≡ graph.count
-  pub index : IsIndex graph.edges s.imports
+  pub index : IsImportIndex graph.edges s.imports

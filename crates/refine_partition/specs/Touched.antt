@@ -15,12 +15,12 @@ pub record AreTouched (numbers : List ℕ) (arrivals : List Import) (blocks : Li
   pub all : All (λ a. Contains blocks (slice_index numbers a.importer)) arrivals
 
 -- the router is in one of the blocks
-pub record IsWithin (numbers blocks : List ℕ) (router : ℕ) : Type 0 where
+pub record IsInBlocks (numbers blocks : List ℕ) (router : ℕ) : Type 0 where
   pub below : router < length numbers
   pub block : Contains blocks (slice_index numbers router)
 
 -- the members of the blocks, in the order of the blocks and within each block ascending
 pub record IsQueue (numbers blocks routers : List ℕ) : Type 0 where
-  pub only : All (IsWithin numbers blocks) routers
-  pub all : (router : ℕ) → IsWithin numbers blocks router → Contains routers router
+  pub only : All (IsInBlocks numbers blocks) routers
+  pub all : (router : ℕ) → IsInBlocks numbers blocks router → Contains routers router
   pub in_order : (i j : ℕ) → i < j → j < length routers → StandsBefore numbers (slice_index routers i) (slice_index routers j)

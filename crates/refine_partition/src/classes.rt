@@ -2,7 +2,7 @@
 
 ghost use Rattle.std.specs.Prelude.{◌≡◌, ℕ, ◌<◌, ◌≤◌, ◌+◌, ◌^◌, All, IfOk, length, slice_index_or};
 ghost use Rattle.std.specs.List.Sorted.{IsNonDecreasingBy};
-ghost use Rattle.refine_partition.specs.Arrivals.{act_of};
+ghost use Rattle.refine_partition.specs.Arrivals.{act_of_import};
 ghost use Rattle.refine_partition.specs.Classes.{IsNamed, IsSeparated, AreClasses};
 ghost use Rattle.refine_partition.specs.declared.imports.Import.{Import as AnImport};
 
@@ -51,11 +51,11 @@ fn separate(
 /// The end of the edges that act as the one at `start` does.
 fn run_end(arrivals: &[Import], start: usize) -> usize
     requires inside { start < length arrivals.now }
-    requires in_order { IsNonDecreasingBy act_of arrivals.now }
+    requires in_order { IsNonDecreasingBy act_of_import arrivals.now }
     ensures more { start < result }
     ensures within { result ≤ length arrivals.now }
-    ensures same { (i : ℕ) (d : AnImport) → start ≤ i → i < result → act_of (slice_index_or arrivals.now i d) ≡ act_of (slice_index_or arrivals.now start d) }
-    ensures after { (j : ℕ) (d : AnImport) → result ≤ j → j < length arrivals.now → act_of (slice_index_or arrivals.now start d) < act_of (slice_index_or arrivals.now j d) }
+    ensures same { (i : ℕ) (d : AnImport) → start ≤ i → i < result → act_of_import (slice_index_or arrivals.now i d) ≡ act_of_import (slice_index_or arrivals.now start d) }
+    ensures after { (j : ℕ) (d : AnImport) → result ≤ j → j < length arrivals.now → act_of_import (slice_index_or arrivals.now start d) < act_of_import (slice_index_or arrivals.now j d) }
 {
     let act = arrivals[start].act;
     let mut end = start + 1;
@@ -86,7 +86,7 @@ pub fn classes_of(
 ) -> Result<(Vec<usize>, usize), NoMemory>
     requires below { All (λ number. number < count) numbers.now }
     requires in_range { All (λ a. a.importer < length numbers.now) arrivals.now }
-    requires in_order { IsNonDecreasingBy act_of arrivals.now }
+    requires in_order { IsNonDecreasingBy act_of_import arrivals.now }
     ensures { IfOk result (λ r. AreClasses numbers.now arrivals.now count r.0.items r.1) }
 {
     let mut classes = widened(alloc, numbers)?;

@@ -2,7 +2,7 @@
 
 ghost use Rattle.std.specs.Prelude.{◌≡◌, ◌<◌, ◌+◌, ◌^◌, All, IfOk, OnErr, filter, length};
 ghost use Rattle.std.specs.List.Sorted.{IsStrictlyIncreasing};
-ghost use Rattle.refine_partition.specs.Index.{IsIndex};
+ghost use Rattle.refine_partition.specs.Index.{IsImportIndex};
 ghost use Rattle.refine_partition.specs.Kept.{is_numbered, AreFurther, AreKept};
 ghost use Rattle.refine_partition.specs.Planned.{AreNumbered, IsDivided};
 
@@ -79,7 +79,7 @@ pub fn divide(
     requires numbered { AreNumbered numbers.old.items blocks.old.items }
     requires few { length blocks.old.items < 2 ^ 32 }
     requires one_list_each { length imports.now ≡ graph.now.count }
-    requires index { IsIndex graph.now.edges imports.now }
+    requires index { IsImportIndex graph.now.edges imports.now }
     requires known { taken < length blocks.old.items }
     ensures numbered { AreNumbered numbers.new.items blocks.new.items }
     ensures few { length blocks.new.items < 2 ^ 32 }

@@ -1,7 +1,7 @@
 //! The edges of a graph by their exporters.
 
 ghost use Rattle.std.specs.Prelude.{◌≡◌, [], All, IfOk, length};
-ghost use Rattle.refine_partition.specs.Index.{IsIndex};
+ghost use Rattle.refine_partition.specs.Index.{IsImportIndex};
 
 use base_kit::{ActGraph, NoMemory};
 use std::alloc::Global;
@@ -30,7 +30,7 @@ where
 /// For each router the imports over the edges that it exports to.
 pub fn imports_of(alloc: Global, graph: &ActGraph) -> Result<Vec<Vec<Import>>, NoMemory>
     ensures total { IfOk result (λ v. length v.items ≡ graph.now.count) }
-    ensures index { IfOk result (λ v. IsIndex graph.now.edges v.items) }
+    ensures index { IfOk result (λ v. IsImportIndex graph.now.edges v.items) }
 {
     let mut imports = empty_lists(alloc, graph.count)?;
     for edge in graph.edges.as_slice() {

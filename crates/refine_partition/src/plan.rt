@@ -1,7 +1,7 @@
 //! What a split by one block changes.
 
 ghost use Rattle.std.specs.Prelude.{◌≡◌, ◌<◌, ◌^◌, IfOk, length};
-ghost use Rattle.refine_partition.specs.Index.{IsIndex};
+ghost use Rattle.refine_partition.specs.Index.{IsImportIndex};
 ghost use Rattle.refine_partition.specs.Planned.{AreNumbered, IsPlanned};
 
 use crate::arrivals::arrivals_at;
@@ -32,7 +32,7 @@ pub fn planned(
     requires numbered { AreNumbered numbers.now blocks.now }
     requires few { length blocks.now < 2 ^ 32 }
     requires one_list_each { length imports.now ≡ graph.now.count }
-    requires index { IsIndex graph.now.edges imports.now }
+    requires index { IsImportIndex graph.now.edges imports.now }
     requires known { taken < length blocks.now }
     ensures { IfOk result (λ p. IsPlanned graph.now taken numbers.now (length blocks.now) p.renumbering.numbers.items p.renumbering.origins.items p.touched.items) }
 {

@@ -2,7 +2,7 @@
 
 ghost use Rattle.std.specs.Prelude.{◌≡◌, ◌≢◌, ℕ, ◌<◌, ◌^◌, ◌↔◌, All, IfOk, IsTrue, ◌+◌, ◌≤◌, false, length, slice_index};
 ghost use Rattle.refine_partition.specs.Members.{AreBlocks};
-ghost use Rattle.refine_partition.specs.Renumbering.{name_at, IsFreshNumber, IsNextNumber, IsNamedNow, IsRefined, IsQueueOf, IsRenumbered};
+ghost use Rattle.refine_partition.specs.Renumbering.{number_of_class, IsFreshNumber, IsNextNumber, IsNamedNow, IsRefined, IsQueueOf, IsRenumbered};
 
 use base_kit::NoMemory;
 use std::alloc::Global;
@@ -66,7 +66,7 @@ fn next_number(
     requires in_range { router < length numbers.now }
     requires known { slice_index numbers.now router < length blocks.now }
     requires fits { before + length origins.old.items < 2 ^ 32 }
-    ensures next { IfOk result (λ number. IsNextNumber (name_at names.old.items class) numbers.now router before origins.old.items origins.new.items number) }
+    ensures next { IfOk result (λ number. IsNextNumber (number_of_class names.old.items class) numbers.now router before origins.old.items origins.new.items number) }
     ensures named { IfOk result (λ number. IsNamedNow names.old.items names.new.items class number) }
 {
     if let Some(number) = names[class] {

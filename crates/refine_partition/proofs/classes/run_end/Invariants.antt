@@ -1,5 +1,5 @@
 use Rattle.std.proofs.Common.{◌≡◌, ℕ, ◌<◌, ◌≤◌, ◌-◌, length, slice_index_or}
-use Rattle.refine_partition.specs.Arrivals.{act_of}
+use Rattle.refine_partition.specs.Arrivals.{act_of_import}
 use Rattle.refine_partition.specs.declared.imports.Import.{Import}
 use Rattle.refine_partition.proofs.classes.run_end.Given as goal
 
@@ -7,7 +7,7 @@ abbrev pub invariant-loop-end : goal.invariant-loop-end
 invariant-loop-end l = record {
   more : l.start < l.end;
   within : l.end ≤ length l.arrivals;
-  same : (i : ℕ) (d : Import) → l.start ≤ i → i < l.end → act_of (slice_index_or l.arrivals i d) ≡ act_of (slice_index_or l.arrivals l.start d);
+  same : (i : ℕ) (d : Import) → l.start ≤ i → i < l.end → act_of_import (slice_index_or l.arrivals i d) ≡ act_of_import (slice_index_or l.arrivals l.start d);
 }
 
 abbrev pub decreases-loop-end : goal.decreases-loop-end
