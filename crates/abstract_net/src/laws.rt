@@ -1,0 +1,15 @@
+//! What holds of the links between groups. Each law is the contract of a function that does nothing:
+//! whoever needs one calls it.
+ghost use Rattle.abstract_net.specs.Links.{QuotientCarries, NoMoreLinks};
+
+/// The links carry exactly the acts of the edges between different groups, each into the group of its
+/// importer.
+pub fn quotient_carries()
+    ensures { QuotientCarries }
+{}
+
+/// Where each link of the network joins two groups at most, and has one edge in each direction between
+/// them, the links between groups are no more than those of the network.
+pub fn no_more_links()
+    ensures { NoMoreLinks }
+{}
