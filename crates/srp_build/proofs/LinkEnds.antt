@@ -1,62 +1,19 @@
 -- The links of an OSPF network join interfaces of two routers that have costs.
-use Rattle.std.proofs.Common.{◌≡◌, ℕ, ◌<◌, Bool, true, false, cond, ◌&&◌, List, [], ◌∷◌, ◌++◌, inl, Option, Some, None, refl, sym, ◌∙◌, ap, subst, arith}
-use Rattle.std.specs.Prelude.{Contains, filter, slice_get, nat_lt, option_and_then}
+use Rattle.std.proofs.Common.{◌≡◌, ℕ, ◌<◌, Bool, true, false, cond, List, [], ◌∷◌, ◌++◌, inl, Option, Some, None, refl, sym, ◌∙◌, ap, subst, arith}
+use Rattle.std.specs.Prelude.{Contains, slice_get, nat_lt, option_and_then}
 use Rattle.std.specs.Option.{option_map_or}
-use Rattle.std.specs.List.{enumerate_from}
 use Rattle.std.proofs.lemmas.Bool.Decides.{nat_tests}
-use Rattle.base_kit.proofs.Elements.{In, contains_in, map_in, filter_in, flat_map_in, enumerate_in, get_in}
-use Rattle.cfg_ast.specs.Addresses.{Address}
+use Rattle.base_kit.proofs.Elements.{In, contains_in, get_in}
+use Rattle.cfg_ast.specs.meaning.Addresses.{Address}
 use Rattle.cfg_ast.specs.declared.bgp.BgpProcess.{BgpProcess}
 use Rattle.cfg_ast.specs.declared.bgp.Neighbor.{Neighbor}
 use Rattle.cfg_ast.specs.declared.interface.Interface.{Interface}
 use Rattle.cfg_ast.specs.declared.network.Network.{Network}
 use Rattle.cfg_ast.specs.declared.network.Router.{Router}
 use Rattle.cfg_ast.specs.declared.topology.Link.{Link}
-use Rattle.cfg_ast.specs.Topology.{Place, place_on, places_on, places, interfaces_of, neighbors_of, links_from, links_joining, link_between, is_session, are_adjacent, share_area_subnet, both_in_one_subnet, active_address, is_active_interface, is_in_area_interface, cost_of_interface, sessions_of, adjacencies_of, links_of}
+use Rattle.cfg_ast.specs.meaning.Topology.{Place, interfaces_of, neighbors_of, link_between, are_adjacent, share_area_subnet, both_in_one_subnet, active_address, is_active_interface, is_in_area_interface, cost_of_interface, sessions_of, adjacencies_of, links_of}
 use Rattle.srp_build.specs.Ospf.{IsOspf, IsPriced}
-
-pub record IsPlace {X : Type 0} (items : Router → List X) (n : Network) (p : Place X) : Type 0 where
-  pub at : slice_get n.routers p.router ≡ Some p.owner
-  pub item : slice_get (items p.owner) p.item ≡ Some p.value
-
-place_at : {X : Type 0} (items : Router → List X) (n : Network) (p : Place X) → In (places items n) p → IsPlace items n p
-unfolding places
-place_at {X} items n p h =
-    let on = flat_map_in (places_on items) (enumerate_from 0 n.routers) p h in
-    let router = enumerate_in n.routers 0 on.0.0 on.0.1 on.1 in
-    let made = map_in (place_on on.0.0 on.0.1) (enumerate_from 0 (items on.0.1)) p on.2 in
-    let item = enumerate_in (items on.0.1) 0 made.0.0 made.0.1 made.1 in
-    let number : router.0 ≡ p.router = (let a : on.0.0 ≡ router.0 = (let e = router.1 in omega arith) in sym a ∙ ap (λ (q : Place X). q.router) made.2) in
-    let owner : on.0.1 ≡ p.owner = ap (λ (q : Place X). q.owner) made.2 in
-    let place : item.0 ≡ p.item = (let a : made.0.0 ≡ item.0 = (let e = item.1 in omega arith) in sym a ∙ ap (λ (q : Place X). q.item) made.2) in
-    record {
-      at = sym (ap (slice_get n.routers) number) ∙ router.2 ∙ ap (λ (r : Router). Some r) owner;
-      item = ap (λ (r : Router). slice_get (items r) p.item) (sym owner) ∙ sym (ap (slice_get (items on.0.1)) place) ∙ item.2 ∙ ap (λ (x : X). Some x) (ap (λ (q : Place X). q.value) made.2);
-    }
-
--- a link that joins two places
-pub record IsJoining {X : Type 0} (items : Router → List X) (joins : Place X → Place X → Bool) (n : Network) (l : Link) : Type 0 where
-  pub low : Place X
-  pub high : Place X
-  pub low_at : IsPlace items n low
-  pub high_at : IsPlace items n high
-  pub joined : joins low high ≡ true
-  pub is : link_between low high ≡ l
-
-joining : {X : Type 0} (items : Router → List X) (joins : Place X → Place X → Bool) (n : Network) (l : Link) → In (links_joining joins (places items n)) l → IsJoining items joins n l
-joining {X} items joins n l h =
-    let at = flat_map_in (links_from joins (places items n)) (places items n) l h in
-    let made = map_in (link_between at.0) (filter (joins at.0) (places items n)) l at.2 in
-    let kept = filter_in (joins at.0) (places items n) made.0 made.1 in
-    record { low = at.0; high = made.0; low_at = place_at items n at.0 at.1; high_at = place_at items n made.0 kept.0; joined = kept.1; is = made.2 }
-
-and_first : (a b : Bool) → (a && b) ≡ true → a ≡ true
-and_first true b h = refl
-and_first false b h = absurd cc
-
-and_second : (a b : Bool) → (a && b) ≡ true → b ≡ true
-and_second true b h = h
-and_second false b h = absurd cc
+use Rattle.srp_build.proofs.LinkPlaces.{IsPlace, IsJoining, session, adjacency, and_first, and_second}
 
 -- no router has a BGP process
 abbrev pub IsUnmixed : Network → Type 0
@@ -70,8 +27,7 @@ no_neighbors n unmixed p at =
     get_in [] p.item p.value nothing
 
 no_session : (n : Network) → IsUnmixed n → (l : Link) → In (sessions_of n) l → ⊥
-unfolding sessions_of
-no_session n unmixed l h = let at = joining neighbors_of is_session n l h in no_neighbors n unmixed at.low at.low_at
+no_session n unmixed l h = let at = session n l h in no_neighbors n unmixed at.low at.low_at
 
 nothing_in : (ls : List Link) → ((l : Link) → In ls l → ⊥) → ls ≡ []
 nothing_in [] none = refl
@@ -82,18 +38,14 @@ pub links_are_adjacencies : (n : Network) → IsUnmixed n → links_of n ≡ adj
 unfolding links_of
 links_are_adjacencies n unmixed = ap (λ (l : List Link). l ++ adjacencies_of n) (nothing_in (sessions_of n) (no_session n unmixed))
 
-adjacency : (n : Network) (l : Link) → In (adjacencies_of n) l → IsJoining interfaces_of are_adjacent n l
-unfolding adjacencies_of
-adjacency n l h = joining interfaces_of are_adjacent n l h
-
 link_joining : (n : Network) → IsOspf n → (l : Link) → In (links_of n) l → IsJoining interfaces_of are_adjacent n l
 link_joining n ospf l h = adjacency n l (subst (λ (ls : List Link). In ls l) (links_are_adjacencies n ospf.unmixed) h)
 
-picked : (b : Bool) (o : Option Address) (a : Address) → cond b o None ≡ Some a → b ≡ true
+pub picked : (b : Bool) (o : Option Address) (a : Address) → cond b o None ≡ Some a → b ≡ true
 picked true o a h = refl
 picked false o a h = absurd cc
 
-both_some : (o u : Option Address) → both_in_one_subnet o u ≡ true → ((a : Address) × (o ≡ Some a)) × ((b : Address) × (u ≡ Some b))
+pub both_some : (o u : Option Address) → both_in_one_subnet o u ≡ true → ((a : Address) × (o ≡ Some a)) × ((b : Address) × (u ≡ Some b))
 both_some (Some a) (Some b) h = ((a, refl), (b, refl))
 both_some (Some a) None h = absurd cc
 both_some None u h = absurd cc

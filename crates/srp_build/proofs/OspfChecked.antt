@@ -3,26 +3,24 @@ use Rattle.std.proofs.Common.{◌≡◌, ℕ, ◌≤◌, Bool, true, false, cond
 use Rattle.std.specs.Prelude.{not, filter, flat_map, slice_get, is_some}
 use Rattle.std.specs.Prelude.{nat_lt, IfSome}
 use Rattle.std.specs.Option.{option_map, option_map_or}
-use Rattle.std.proofs.Math.Bool.{Bool-set}
-use Rattle.std.proofs.Math.Logic.{∥∥₁_elim}
 use Rattle.std.proofs.lemmas.Bool.Decides.{nat_tests}
 use Rattle.base_kit.specs.declared.protocol.Protocol.{Protocol}
 use Rattle.base_kit.specs.declared.protocol.Protocol.TheVariants as protocol
 use Rattle.base_kit.proofs.Elements.{In, in_contains, in_map, in_filter, in_flat_map, in_filter_map}
-use Rattle.cfg_ast.specs.Addresses.{Address}
+use Rattle.cfg_ast.specs.meaning.Addresses.{Address}
 use Rattle.cfg_ast.specs.declared.bgp.BgpProcess.{BgpProcess}
 use Rattle.cfg_ast.specs.declared.interface.Interface.{Interface}
 use Rattle.cfg_ast.specs.declared.network.Network.{Network}
 use Rattle.cfg_ast.specs.declared.network.Router.{Router}
 use Rattle.cfg_ast.specs.declared.ospf.OspfProcess.{OspfProcess}
-use Rattle.cfg_ast.specs.Reading.{IsGiven}
+use Rattle.cfg_ast.specs.text.Reading.{IsGiven}
 use Rattle.cfg_ast.specs.declared.topology.Link.{Link}
-use Rattle.cfg_ast.specs.RouterFaults.{ProtocolLine, of_bgp, of_ospf, lines_in_order, protocol_lines_of, protocol_lines, is_same_protocol, same_protocol, line_of_protocol, unlike_first, mixed_protocol_lines, protocol_of, has_no_cost, area_address_with, area_addresses_with, address_line, no_cost_lines}
-use Rattle.cfg_ast.specs.Topology.{is_in_area_interface, process_has_address, up_address, cost_of_interface}
+use Rattle.cfg_ast.specs.meaning.RouterFaults.{ProtocolLine, of_bgp, of_ospf, lines_in_order, protocol_lines_of, protocol_lines, is_same_protocol, same_protocol, line_of_protocol, unlike_first, mixed_protocol_lines, protocol_of, has_no_cost, area_address_with, area_addresses_with, address_line, no_cost_lines}
+use Rattle.cfg_ast.specs.meaning.Topology.{is_in_area_interface, process_has_address, up_address, cost_of_interface}
 use Rattle.cfg_check.specs.Faultless.{IsFaultless}
 use Rattle.cfg_given.proofs.WellFormed.{given_costs_are_positive}
 use Rattle.srp_build.specs.Ospf.{HasCost, IsOspf}
-use Rattle.srp_build.proofs.LinkCounts.{few_adjacencies}
+use Rattle.net_topology.proofs.LinkCounts.{few_adjacencies}
 use Rattle.srp_build.proofs.LinkEnds.{IsUnmixed, links_are_adjacencies}
 
 -- ---- lists that are empty
@@ -32,22 +30,25 @@ none_in {X} xs x e at = let P : List X → Type 0 = λ l. In l x in subst P e at
 
 -- ---- no BGP process
 
-same_as_ospf : (p : Protocol) → not (is_same_protocol protocol.Ospf p) ≡ false → p ≡ protocol.Ospf
-same_as_ospf protocol.Bgp e = absurd cc
-same_as_ospf protocol.Ospf e = refl
+same_as : (q p : Protocol) → not (is_same_protocol q p) ≡ false → p ≡ q
+same_as protocol.Bgp protocol.Bgp e = refl
+same_as protocol.Bgp protocol.Ospf e = absurd cc
+same_as protocol.Ospf protocol.Bgp e = absurd cc
+same_as protocol.Ospf protocol.Ospf e = refl
 
 bool_cases : (b : Bool) → (b ≡ true) ⊎ (b ≡ false)
 bool_cases true = inl refl
 bool_cases false = inr refl
 
-all_like_first : (lines : List ProtocolLine) → option_map (λ (l : ProtocolLine). l.protocol) (slice_get lines 0) ≡ Some protocol.Ospf → map line_of_protocol (unlike_first same_protocol lines) ≡ [] → (l : ProtocolLine) → In lines l → l.protocol ≡ protocol.Ospf
-all_like_first [] first none l at = absurd at
-all_like_first (m ∷ lines) first none l (inl same) = ap (λ (k : ProtocolLine). k.protocol) (sym same) ∙ (let e : m.protocol ≡ protocol.Ospf = cc in e)
-all_like_first (m ∷ lines) first none l (inr at) =
-    let is : m.protocol ≡ protocol.Ospf = cc in
+-- all `router` lines are of the protocol of the first
+pub all_like_first : (q : Protocol) (lines : List ProtocolLine) → option_map (λ (l : ProtocolLine). l.protocol) (slice_get lines 0) ≡ Some q → map line_of_protocol (unlike_first same_protocol lines) ≡ [] → (l : ProtocolLine) → In lines l → l.protocol ≡ q
+all_like_first q [] first none l at = absurd at
+all_like_first q (m ∷ lines) first none l (inl same) = ap (λ (k : ProtocolLine). k.protocol) (sym same) ∙ (let e : m.protocol ≡ q = cc in e)
+all_like_first q (m ∷ lines) first none l (inr at) =
+    let is : m.protocol ≡ q = cc in
     elim (bool_cases (not (same_protocol m l))) [
       | inl unlike ↦ absurd (none_in (map line_of_protocol (filter (λ k. not (same_protocol m k)) lines)) l.line none (in_map line_of_protocol (filter (λ k. not (same_protocol m k)) lines) l (in_filter (λ k. not (same_protocol m k)) lines l at unlike)))
-      | inr like ↦ same_as_ospf l.protocol (ap (λ (p : Protocol). not (is_same_protocol p l.protocol)) (sym is) ∙ like)
+      | inr like ↦ same_as q l.protocol (ap (λ (p : Protocol). not (is_same_protocol p l.protocol)) (sym is) ∙ like)
     ]
 
 bgp_line : (b : BgpProcess) (o : Option OspfProcess) → In (lines_in_order (Some b) o) (of_bgp b)
@@ -64,7 +65,7 @@ with_bgp lines all (Some b) ospf inside = let e = all (of_bgp b) (inside (of_bgp
 
 pub no_bgp : (n : Network) → protocol_of n ≡ Some protocol.Ospf → mixed_protocol_lines n ≡ [] → (router : Router) → In n.routers router → is_some router.bgp ≡ false
 unfolding mixed_protocol_lines
-no_bgp n first none router at = with_bgp (protocol_lines n) (all_like_first (protocol_lines n) first none) router.bgp router.ospf (λ l inside. in_flat_map protocol_lines_of n.routers router l at inside)
+no_bgp n first none router at = with_bgp (protocol_lines n) (all_like_first protocol.Ospf (protocol_lines n) first none) router.bgp router.ospf (λ l inside. in_flat_map protocol_lines_of n.routers router l at inside)
 
 -- ---- a cost
 
@@ -104,7 +105,7 @@ unfolding is_price
 price_of x None is positive = absurd cc
 price_of x (Some c) is positive = record { cost = c; is = is; positive = grind (arith, nat_tests) }
 
-none_is : {X : Type 0} (o : Option X) → is_some o ≡ false → o ≡ None
+pub none_is : {X : Type 0} (o : Option X) → is_some o ≡ false → o ≡ None
 none_is None e = refl
 none_is (Some x) e = absurd cc
 
@@ -117,7 +118,7 @@ is_ospf n given faultless few ospf =
       unmixed = unmixed;
       priced = λ router x has inside area. (
           let cost = has_cost n faultless.no_cost router x (in_contains n.routers router has) (in_contains router.interfaces x inside) area in
-          price_of x (cost_of_interface x) refl (∥∥₁_elim given (Bool-set (is_price (cost_of_interface x)) true) (λ text. priced (cost_of_interface x) cost (given_costs_are_positive n text router has x inside))));
+          price_of x (cost_of_interface x) refl (priced (cost_of_interface x) cost (given_costs_are_positive n given router has x inside)));
       few_routers = omega arith;
       few_links =
           let links = ap (λ (l : List Link). length l) (links_are_adjacencies n unmixed) in

@@ -1,6 +1,6 @@
 -- Initial routes of OSPF routers, costs of interfaces, and lists of marks.
-use Rattle.std.proofs.Common.{◌≡◌, ℕ, zero, suc, ◌<◌, Bool, true, false, cond, ◌&&◌, List, [], ◌∷◌, map, length, Option, Some, None, refl, sym, ◌∙◌, ap, arith, inl, inr}
-use Rattle.std.specs.Prelude.{find, slice_get, slice_index_or, option_and_then}
+use Rattle.std.proofs.Common.{◌≡◌, ℕ, zero, suc, Bool, true, false, cond, ◌&&◌, List, [], ◌∷◌, map, Option, Some, None, refl, sym, ◌∙◌, ap, inl, inr}
+use Rattle.std.specs.Prelude.{find, slice_index_or, option_and_then}
 use Rattle.std.specs.Option.{option_map, unwrap_or}
 use Rattle.base_kit.specs.Prefixes.{Prefix}
 use Rattle.base_kit.proofs.Elements.{In, contains_in}
@@ -8,12 +8,12 @@ use Rattle.cfg_ast.specs.declared.bgp.BgpProcess.{BgpProcess}
 use Rattle.cfg_ast.specs.declared.interface.Interface.{Interface}
 use Rattle.cfg_ast.specs.declared.network.Network.{Network}
 use Rattle.cfg_ast.specs.declared.network.Router.{Router}
-use Rattle.cfg_ast.specs.Classes.{area_interface_in, is_up_in, route_from as origin_from}
-use Rattle.cfg_ast.specs.Topology.{is_in_area_interface, cost_of_interface, cost_of}
+use Rattle.cfg_ast.specs.meaning.Classes.{area_interface_in, is_up_in, route_by_process as origin_from}
+use Rattle.cfg_ast.specs.meaning.Topology.{is_in_area_interface, cost_of_interface, cost_of}
 use Rattle.srp_core.specs.declared.route.Route.{Route}
 use Rattle.srp_core.specs.declared.route.Route.TheVariants.{Ospf}
 use Rattle.srp_core.specs.ProblemOf.{route_from, start_route}
-use Rattle.srp_build.specs.Hops.{cost_at}
+use Rattle.srp_build.specs.Costs.{cost_at}
 use Rattle.srp_build.specs.Ospf.{IsOspf, IsPriced}
 use Rattle.srp_build.specs.Starts.{none_lone}
 
@@ -21,7 +21,7 @@ found_step : {X : Type 0} (p : X → Bool) (y : X) (ys : List X) (x : X) (b : Bo
 found_step p y ys x true e rest h = (inl cc, ap p (let same : x ≡ y = cc in same) ∙ e)
 found_step p y ys x false e rest h = let r = rest h in (inr r.0, r.1)
 
-found : {X : Type 0} (p : X → Bool) (xs : List X) (x : X) → find p xs ≡ Some x → In xs x × (p x ≡ true)
+pub found : {X : Type 0} (p : X → Bool) (xs : List X) (x : X) → find p xs ≡ Some x → In xs x × (p x ≡ true)
 found p [] x h = absurd cc
 found p (y ∷ ys) x h = found_step p y ys x (p y) refl (found p ys x) h
 
@@ -67,11 +67,6 @@ pub none_marked : (routers : List Router) (u : ℕ) → slice_index_or (none_lon
 none_marked [] u = refl
 none_marked (router ∷ routers) zero = refl
 none_marked (router ∷ routers) (suc u) = none_marked routers u
-
-pub get_within : {X : Type 0} (xs : List X) (k : ℕ) (x : X) → slice_get xs k ≡ Some x → k < length xs
-get_within [] k x h = absurd cc
-get_within (y ∷ ys) zero x h = omega arith
-get_within (y ∷ ys) (suc k) x h = let r = get_within ys k x h in omega arith
 
 pub priced_cost : (n : Network) (place item cost : ℕ) → IsPriced n place item cost → cost_at n.routers place item ≡ cost
 priced_cost n place item cost priced = ap (λ (o : Option Router). unwrap_or (option_and_then (λ (r : Router). cost_of r item) o) 0) priced.at ∙ ap (λ (o : Option ℕ). unwrap_or o 0) priced.is

@@ -10,7 +10,7 @@ use Rattle.cfg_ast.specs.declared.classes.DestClass.{DestClass}
 use Rattle.cfg_ast.specs.declared.classes.Origin.{Origin}
 use Rattle.cfg_ast.specs.declared.network.Network.{Network}
 use Rattle.cfg_ast.specs.declared.network.Router.{Router}
-use Rattle.cfg_ast.specs.Classes.{initial_route, origin_at, origins_of, originated, is_same_class, is_least, class_of, classes_of}
+use Rattle.cfg_ast.specs.meaning.Classes.{initial_route, origin_at, origins_of, originated, is_same_class, is_least, class_of, classes_of}
 use Rattle.cfg_ast.proofs.ClassFacts.{one_class}
 use Rattle.srp_core.specs.declared.route.Route.{Route}
 use Rattle.srp_core.specs.ProblemOf.{route_from, start_route}

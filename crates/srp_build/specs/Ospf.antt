@@ -4,8 +4,8 @@ use Rattle.base_kit.specs.declared.protocol.Protocol.TheVariants as protocol
 use Rattle.cfg_ast.specs.declared.network.Network.{Network}
 use Rattle.cfg_ast.specs.declared.network.Router.{Router}
 use Rattle.cfg_ast.specs.declared.interface.Interface.{Interface}
-use Rattle.cfg_ast.specs.Topology.{links_of, is_in_area_interface, cost_of_interface, cost_of}
-use Rattle.cfg_ast.specs.RouterFaults.{protocol_of}
+use Rattle.cfg_ast.specs.meaning.Topology.{links_of, is_in_area_interface, cost_of_interface, cost_of}
+use Rattle.cfg_ast.specs.meaning.RouterFaults.{protocol_of}
 
 -- a cost of an interface, at least 1
 pub record HasCost (x : Interface) : Type 0 where

@@ -1,94 +1,120 @@
-ghost use Rattle.std.specs.Prelude.{◌≡◌, ◌⊎◌, ◌<◌, ◌^◌, ◌++◌, ◌∷◌, [], Some, IfOk, OnOk, length, map, slice_get};
-ghost use Rattle.srp_core.specs.declared.route.Act.TheVariants as act;
-ghost use Rattle.srp_build.specs.Numbering.{HopAdded, NumbersHops, AreDistinct};
+ghost use Rattle.std.specs.Prelude.{◌≡◌, [], ◌∷◌, ◌++◌, true, false, None, Some, IfOk, OnOk, IfSome, Contains, slice_get};
+ghost use Rattle.srp_build.specs.BgpActs.{AreApart, IsLike, AreUnlike, AreListed, IsActOfFunction, IsNumberFor};
 
 use crate::hops::Hop;
-use base_kit::{Edge, List, NoMemory};
-use indexmap::IndexSet;
-use srp_core::Act;
+use crate::index::{Index, numbers_at, push_at};
+use crate::plains::{Session, place};
+use base_kit::NoMemory;
+use dd_core::Store;
+use policy_dd::laws::one_form;
+use policy_dd::{EdgeFn, accepts_some, same};
 use std::alloc::Global;
-use std::marker::Model;
+use std::collections::HashMap;
 
-/// Costs that are all different, each numbered by its place.
+/// An act of sessions: the first direction that has it, the session there, and the function that all of
+/// them have.
 #[derive(Drop)]
-pub struct Costs {
-    items: IndexSet<u16>,
+pub struct BgpAct {
+    pub first: Hop,
+    pub session: Session,
+    pub function: EdgeFn,
 }
 
-impl Model for Costs {
-    ghost use Rattle.std.specs.Prelude.{List, ℕ};
-    ghost use Rattle.srp_build.specs.Numbering.{AreDistinct};
-
-    ghost Value = { List ℕ };
-
-    ghost view = { λ c. c.items.keys };
-
-    ghost invariant = { λ c. AreDistinct c.items.keys };
+/// Acts of sessions, which are found by two nodes of their functions. No two of them import alike.
+#[derive(Drop)]
+pub struct Acts {
+    pub acts: Vec<BgpAct>,
+    pub by_nodes: Index,
 }
 
-impl Costs {
-    /// No costs yet.
+// Whether the act with the number has a function like this one.
+fn is_like(store: &Store, acts: &[BgpAct], function: &EdgeFn, number: u32) -> bool
+    ensures like { result ≡ true → IsLike store.now acts.now function.now number }
+    ensures unlike { result ≡ false → (act : BgpAct) → slice_get acts.now number ≡ Some act → AreApart store.now function.now act.function }
+{
+    match acts.get(number as usize) {
+        Some(act) => same(store, function, &act.function),
+        None => false,
+    }
+}
+
+// The first of the numbers whose act has a function like this one.
+fn like_among(store: &Store, acts: &[BgpAct], numbers: &[u32], function: &EdgeFn) -> Option<u32>
+    ensures found { IfSome result (IsLike store.now acts.now function.now) }
+    ensures none { result ≡ None → AreUnlike store.now acts.now numbers.now function.now }
+{
+    for number in numbers {
+        if is_like(store, acts, function, *number) {
+            return Some(*number);
+        }
+    }
+    None
+}
+
+impl Acts {
+    /// No acts yet.
     pub fn new(alloc: Global) -> Self
-        ensures { result ≡ [] }
+        ensures { result.acts.items ≡ [] }
     {
-        Costs {
-            items: IndexSet::new(alloc),
+        Acts {
+            acts: Vec::new(alloc),
+            by_nodes: HashMap::new(alloc),
         }
     }
 
-    // The number of the cost, which is put last if it is not there yet.
-    fn number(&mut self, cost: u16) -> Result<usize, NoMemory>
-        ensures found { IfOk result (λ place. slice_get self.new place ≡ Some cost) }
-        ensures grown { OnOk result ((self.new ≡ self.old) ⊎ (self.new ≡ self.old ++ cost ∷ [])) }
-        ensures distinct { AreDistinct self.new }
+    // The number of the act with this function, which is put last unless one like it is there.
+    fn number(
+        &mut self,
+        alloc: Global,
+        store: &Store,
+        hop: &Hop,
+        session: &Session,
+        function: EdgeFn,
+    ) -> Result<u32, NoMemory>
+        requires { AreListed self.old.by_nodes self.old.acts.items }
+        ensures listed { OnOk result (AreListed self.new.by_nodes self.new.acts.items) }
+        ensures number { IfOk result (IsNumberFor store.now self.old.acts.items self.new.acts.items hop.now session.now function) }
     {
-        let (place, _) = self.items.insert_full(cost)?;
-        Ok(place)
-    }
-
-    /// An act for each cost, in order.
-    pub fn acts(&self, alloc: Global) -> Result<List<Act>, NoMemory>
-        ensures acts { IfOk result (λ acts. acts ≡ map act.Cost self.now) }
-        ensures distinct { AreDistinct self.now }
-    {
-        let mut acts = List::new(alloc);
-        for cost in self.items.as_slice() {
-            acts.push(Act::Cost(*cost))?;
+        one_form();
+        let _nodes = store.len();
+        let pair = (function.permit.place(), function.rest.place());
+        let found = like_among(
+            store,
+            &self.acts,
+            numbers_at(&self.by_nodes, pair),
+            &function,
+        );
+        if let Some(number) = found {
+            return Ok(number);
         }
-        Ok(acts)
+        let number = place(self.acts.len())?;
+        self.acts.push(BgpAct {
+            first: *hop,
+            session: *session,
+            function,
+        })?;
+        push_at(alloc, &mut self.by_nodes, pair, number)?;
+        Ok(number)
     }
-}
 
-fn push_edge(costs: &mut Costs, edges: &mut List<Edge>, hop: &Hop) -> Result<(), NoMemory>
-    requires { length costs.old < 2 ^ 32 }
-    ensures { OnOk result (HopAdded costs.old costs.new edges.old edges.new hop.now) }
-{
-    let act = costs.number(hop.cost)?;
-    edges.push(Edge {
-        importer: hop.importer,
-        exporter: hop.exporter,
-        act: act as u32,
-        link: hop.link,
-    })?;
-    Ok(())
-}
-
-/// Edges, and the costs that their acts number.
-#[derive(Drop)]
-pub struct Numbered {
-    pub costs: Costs,
-    pub edges: List<Edge>,
-}
-
-/// An edge for each direction, in order; its act is the place of its cost among the different costs.
-pub fn number_hops(alloc: Global, hops: &[Hop]) -> Result<Numbered, NoMemory>
-    requires { length hops.now < 2 ^ 32 }
-    ensures { IfOk result (λ n. NumbersHops n.costs hops.now n.edges) }
-{
-    let mut costs = Costs::new(alloc);
-    let mut edges = List::new(alloc);
-    for hop in hops {
-        push_edge(&mut costs, &mut edges, hop)?;
+    /// The number of the act of a session with this function, none where it accepts nothing. The act is
+    /// put last unless one that imports alike is there; the direction is then the first that has it.
+    pub fn act_of_function(
+        &mut self,
+        alloc: Global,
+        store: &Store,
+        hop: &Hop,
+        session: &Session,
+        function: EdgeFn,
+    ) -> Result<Option<u32>, NoMemory>
+        requires { AreListed self.old.by_nodes self.old.acts.items }
+        ensures listed { OnOk result (AreListed self.new.by_nodes self.new.acts.items) }
+        ensures act { IfOk result (IsActOfFunction store.now self.old.acts.items self.new.acts.items hop.now session.now function) }
+    {
+        if !accepts_some(store, &function) {
+            return Ok(None);
+        }
+        let number = self.number(alloc, store, hop, session, function)?;
+        Ok(Some(number))
     }
-    Ok(Numbered { costs, edges })
 }

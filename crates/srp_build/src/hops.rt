@@ -1,67 +1,58 @@
-ghost use Rattle.std.specs.Prelude.{◌≡◌, ◌<◌, ◌^◌, ℕ, All, IfOk, OnOk, length};
-ghost use Rattle.srp_build.specs.Hops.{cost_at, into_low, into_high, hops_of};
-ghost use Rattle.srp_build.specs.ByKey.{by_key};
+ghost use Rattle.std.specs.Prelude.{◌≡◌, ◌<◌, ◌^◌, ℕ, All, IfOk, length};
+ghost use Rattle.srp_build.specs.Hops.{into_low, into_high, hops_of};
+ghost use Rattle.by_key.specs.ByKey.{by_key};
 ghost use Rattle.srp_build.specs.Hops.{AreInside, sorted_by_ends};
 
 use base_kit::NoMemory;
-use cfg_ast::{Link, Router};
+use cfg_ast::Link;
 use std::alloc::Global;
 
-/// A direction of an adjacency: the importer takes the exporter's routes over the link, at the cost of
-/// the importer's interface.
+/// A direction of a link: the importer takes the exporter's routes. The items are the places of the ends
+/// on their routers: of neighbour lines in BGP, of interfaces in OSPF.
 #[derive(Clone, Copy, Debug, PartialEq, Eq)]
 pub struct Hop {
     pub importer: u32,
     pub exporter: u32,
     pub link: u32,
-    pub cost: u16,
+    pub importer_item: u32,
+    pub exporter_item: u32,
 }
 
-fn cost_at(routers: &[Router], router: u32, item: u32) -> u16
-    ensures { result ≡ cost_at routers.now router item }
-{
-    let Some(router) = routers.get(router as usize) else {
-        return 0;
-    };
-    let Some(interface) = router.interfaces.as_slice().get(item as usize) else {
-        return 0;
-    };
-    interface.cost().unwrap_or(0)
-}
-
-fn into_low(routers: &[Router], place: u32, link: &Link) -> Hop
-    ensures { result ≡ into_low routers.now (place, link.now) }
+fn into_low(place: u32, link: &Link) -> Hop
+    ensures { result ≡ into_low (place, link.now) }
 {
     Hop {
         importer: link.low,
         exporter: link.high,
         link: place,
-        cost: cost_at(routers, link.low, link.low_item),
+        importer_item: link.low_item,
+        exporter_item: link.high_item,
     }
 }
 
-fn into_high(routers: &[Router], place: u32, link: &Link) -> Hop
-    ensures { result ≡ into_high routers.now (place, link.now) }
+fn into_high(place: u32, link: &Link) -> Hop
+    ensures { result ≡ into_high (place, link.now) }
 {
     Hop {
         importer: link.high,
         exporter: link.low,
         link: place,
-        cost: cost_at(routers, link.high, link.high_item),
+        importer_item: link.high_item,
+        exporter_item: link.low_item,
     }
 }
 
 /// Both directions of each link, in the order of the links.
 #[tactic(auto, unfolding(crate::specs::Hops::hops_of))]
-pub fn hops_of(alloc: Global, routers: &[Router], links: &[Link]) -> Result<Vec<Hop>, NoMemory>
+pub fn hops_of(alloc: Global, links: &[Link]) -> Result<Vec<Hop>, NoMemory>
     requires { length links.now < 2 ^ 32 }
-    ensures { IfOk result (λ hops. hops.items ≡ hops_of routers.now links.now) }
+    ensures { IfOk result (λ hops. hops.items ≡ hops_of links.now) }
 {
     let mut hops = Vec::new(alloc);
     for place in 0..links.len() {
         let link = &links[place];
-        hops.push(into_low(routers, place as u32, link))?;
-        hops.push(into_high(routers, place as u32, link))?;
+        hops.push(into_low(place as u32, link))?;
+        hops.push(into_high(place as u32, link))?;
     }
     Ok(hops)
 }
@@ -82,15 +73,16 @@ fn sort_by_importer(hops: &mut Vec<Hop>) -> Result<(), NoMemory>
     Ok(())
 }
 
-/// Both directions of each link, by importer, then exporter, then link.
+/// Both directions of each link, by importer, then exporter, then link. The ends are routers below the
+/// count.
 #[tactic(auto, unfolding(crate::specs::Hops::sorted_by_ends), using(crate::proofs::SortedHops::inside_sorted))]
-pub fn sorted_hops(alloc: Global, routers: &[Router], links: &[Link]) -> Result<Vec<Hop>, NoMemory>
+pub fn sorted_hops(alloc: Global, count: usize, links: &[Link]) -> Result<Vec<Hop>, NoMemory>
     requires few { length links.now < 2 ^ 32 }
-    requires inside { AreInside (length routers.now) (hops_of routers.now links.now) }
-    ensures sorted { IfOk result (λ hops. hops.items ≡ sorted_by_ends (length routers.now) (hops_of routers.now links.now)) }
-    ensures len { IfOk result (λ hops. length hops.items ≡ length (hops_of routers.now links.now)) }
+    requires inside { AreInside count (hops_of links.now) }
+    ensures sorted { IfOk result (λ hops. hops.items ≡ sorted_by_ends count (hops_of links.now)) }
+    ensures len { IfOk result (λ hops. length hops.items ≡ length (hops_of links.now)) }
 {
-    let mut hops = hops_of(alloc, routers, links)?;
+    let mut hops = hops_of(alloc, links)?;
     sort_by_exporter(&mut hops)?;
     sort_by_importer(&mut hops)?;
     Ok(hops)

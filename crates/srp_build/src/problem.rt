@@ -1,24 +1,31 @@
 ghost use Rattle.std.specs.Prelude.{◌≡◌, ◌<◌, ◌^◌, Some, IfOk, Contains, length};
 ghost use Rattle.base_kit.specs.Prefixes.{Prefix};
 ghost use Rattle.base_kit.specs.declared.protocol.Protocol.TheVariants as protocol;
-ghost use Rattle.cfg_ast.specs.Classes.{classes_of};
-ghost use Rattle.cfg_ast.specs.RouterFaults.{protocol_of};
-ghost use Rattle.cfg_ast.specs.Topology.{links_of};
+ghost use Rattle.cfg_ast.specs.meaning.Classes.{classes_of};
+ghost use Rattle.cfg_ast.specs.meaning.PolicyFaults.{communities_of};
+ghost use Rattle.cfg_ast.specs.meaning.RouterFaults.{protocol_of};
+ghost use Rattle.cfg_ast.specs.meaning.Topology.{links_of};
+ghost use Rattle.dd_core.specs.Sets.{Grows};
+ghost use Rattle.route_maps.specs.Within.{AreWithin};
 ghost use Rattle.srp_core.specs.ProblemOf.{IsProblemOf};
 ghost use Rattle.srp_build.specs.ActOrder.{AreActsByFirstUse};
+ghost use Rattle.srp_build.specs.FirstActs.{HasFirstActs};
 ghost use Rattle.srp_build.specs.Ospf.{IsOspf};
+ghost use Rattle.srp_build.specs.Problem.{is_bgp};
 
-use crate::acts::number_hops;
+use crate::bgp_problem::bgp_problem;
+use crate::costs::number_hops;
 use crate::hops::sorted_hops;
 use crate::routers::{names_of, none_lone, numbers_of, starts_of};
 use base_kit::{List, NoMemory, Protocol};
 use cfg_ast::{DestClass, Link, Network};
 use cfg_check::Checked;
+use dd_core::Store;
 use srp_core::Srp;
 use std::alloc::Global;
 
-/// The problem of an OSPF network, with an edge for each direction of each adjacency. Its acts are the
-/// different costs of the edges.
+// The problem of an OSPF network, with an edge for each direction of each adjacency. Its acts are the
+// different costs of the edges.
 fn ospf_problem(
     alloc: Global,
     network: &Network,
@@ -30,14 +37,15 @@ fn ospf_problem(
     requires class { Contains (classes_of network.now) class.now }
     ensures problem { IfOk result (λ problem. (p : Prefix) → Contains class.now.prefixes p → IsProblemOf network.now p problem) }
     ensures acts { IfOk result AreActsByFirstUse }
+    ensures protocol { IfOk result (λ problem. problem.protocol ≡ protocol.Ospf) }
 {
     let routers = network.routers.as_slice();
     let names = names_of(alloc, routers)?;
     let numbers = numbers_of(alloc, routers)?;
     let init = starts_of(alloc, routers, class.origins.as_slice())?;
     let lone = none_lone(alloc, routers)?;
-    let hops = sorted_hops(alloc, routers, links.as_slice())?;
-    let numbered = number_hops(alloc, &hops)?;
+    let hops = sorted_hops(alloc, routers.len(), links.as_slice())?;
+    let numbered = number_hops(alloc, routers, &hops)?;
     let acts = numbered.costs.acts(alloc)?;
     let problem = Srp::new(
         alloc,
@@ -52,20 +60,40 @@ fn ospf_problem(
     Ok(problem)
 }
 
-/// The problem of a checked OSPF network for every prefix of one of its classes: an edge for each
-/// direction of each link. Its acts are the different costs of the edges, in the order of the first
-/// edges that have them.
+fn runs_bgp(net: &Checked) -> bool
+    ensures { result ≡ is_bgp (protocol_of net.now.network) }
+{
+    match net.protocol() {
+        Some(Protocol::Bgp) => true,
+        Some(Protocol::Ospf) => false,
+        None => false,
+    }
+}
+
+/// The problem of a checked network for every prefix of one of its classes. In OSPF it has an edge for
+/// each direction of each link, and its acts are their different costs. In BGP it has an edge for each
+/// direction over which some set of communities is imported, and edges that import every set alike have
+/// one act: the maps of the first such edge. Acts stand in the order of the first edges that have them.
+/// The store's universe has all communities that the network names, and the store may grow.
 pub fn build(
     alloc: Global,
     net: &Checked,
     links: &List<Link>,
     class: &DestClass,
+    store: &mut Store,
 ) -> Result<Srp, NoMemory>
-    requires ospf { protocol_of net.now.network ≡ Some protocol.Ospf }
     requires links { links.now ≡ links_of net.now.network }
     requires class { Contains (classes_of net.now.network) class.now }
+    requires known { AreWithin store.old.universe (communities_of net.now.network) }
+    ensures grows { Grows store.old store.new }
     ensures problem { IfOk result (λ problem. (p : Prefix) → Contains class.now.prefixes p → IsProblemOf net.now.network p problem) }
     ensures acts { IfOk result AreActsByFirstUse }
+    ensures first { IfOk result (λ problem. (p : Prefix) → Contains class.now.prefixes p → HasFirstActs net.now.network p problem) }
 {
-    ospf_problem(alloc, net.network(), links, class)
+    let bgp = runs_bgp(net);
+    if bgp {
+        bgp_problem(alloc, net, links, class, store)
+    } else {
+        ospf_problem(alloc, net.network(), links, class)
+    }
 }

@@ -2,7 +2,7 @@ ghost use Rattle.std.specs.Prelude.{◌≡◌, ◌<◌, ◌^◌, IfOk, length, m
 ghost use Rattle.std.specs.Option.{option_map, option_map_or};
 ghost use Rattle.cfg_ast.specs.declared.bgp.Base.{Base};
 ghost use Rattle.cfg_ast.specs.declared.network.Router.{Router};
-ghost use Rattle.cfg_ast.specs.Policy.{default_preference};
+ghost use Rattle.cfg_ast.specs.meaning.Policy.{default_preference};
 ghost use Rattle.srp_core.specs.ProblemOf.{as_number_of, route_from};
 ghost use Rattle.srp_build.specs.Starts.{first_at, behind, starts_from, none_lone};
 

@@ -1,0 +1,11 @@
+use Rattle.std.proofs.Common.{List, subst}
+use Rattle.cfg_ast.specs.declared.bgp.Neighbor.{Neighbor}
+use Rattle.cfg_ast.specs.meaning.Topology.{neighbors_of}
+use Rattle.srp_build.specs.Plains.{IsAsEarlier}
+use Rattle.srp_build.proofs.LineNumbers.{earlier_number}
+use Rattle.srp_build.proofs.plains.number_of_line.Goals as goal
+
+pub returns-in-Some-clause-number : goal.returns-in-Some-clause-number
+returns-in-Some-clause-number c =
+    earlier_number c.args.p c.args.router.now c.args.inbound c.args.plains.now.maps.items (neighbors_of c.args.router.now) c.args.numbers.now c.args.line.now c.in-Some.number c.requires
+    (subst (λ (l : List Neighbor). IsAsEarlier c.args.inbound l c.args.numbers.now c.args.line.now c.in-Some.number) c.neighbors.ensures c.in-Some.ensures)

@@ -1,0 +1,80 @@
+-- The edges of BGP sessions: a direction has one where the importer does not originate and accepts some
+-- set of communities.
+use Rattle.std.specs.Prelude.{◌≡◌, ◌⊎◌, ℕ, ◌<◌, Bool, true, false, List, [], ◌∷◌, ◌++◌, is_some, length, Option, Some, None, Contains, slice_get, slice_index_or}
+use Rattle.base_kit.specs.declared.act_graph.Edge.{Edge}
+use Rattle.cfg_ast.specs.declared.network.Router.{Router}
+use Rattle.dd_core.specs.Sets.{Shown}
+use Rattle.policy_dd.specs.Imports.{AcceptsNone}
+use Rattle.srp_core.specs.declared.route.Route.{Route}
+use Rattle.srp_build.specs.declared.acts.BgpAct.{BgpAct}
+use Rattle.srp_build.specs.declared.bgp_edges.BgpEdges.{BgpEdges}
+use Rattle.srp_build.specs.declared.hops.Hop.{Hop}
+use Rattle.srp_build.specs.declared.plains.LineMaps.{LineMaps}
+use Rattle.srp_build.specs.declared.plains.Session.{Session}
+use Rattle.srp_build.specs.ActOrder.{AreByFirstUse}
+use Rattle.srp_build.specs.BgpActs.{IsNewAct}
+use Rattle.srp_build.specs.FirstActs.{IsFirstWith}
+use Rattle.srp_build.specs.HopEdges.{edge_with, AreEdgesOf}
+use Rattle.srp_build.specs.Plains.{number_at, session_of, import_over}
+use Rattle.srp_build.specs.Sessions.{IsActOver, AreRight}
+
+-- the router has an initial route
+abbrev pub originates : List (Option Route) → ℕ → Bool
+originates init router = is_some (slice_index_or init router None)
+
+-- all numbers of a table are below a bound
+abbrev pub AreBelow : ℕ → List (List ℕ) → Type 0
+AreBelow bound table = (router item number : ℕ) → number_at table router item ≡ Some number → number < bound
+
+-- the session of a direction
+abbrev pub session_at : List Router → LineMaps → Hop → Option Session
+session_at routers maps hop = session_of routers maps.outs maps.ins hop
+
+-- the importer originates, or there is no session, or it accepts nothing
+pub data IsLeftOut (routers : List Router) (init : List (Option Route)) (maps : LineMaps) (hop : Hop) : Type 0 where
+  started : originates init hop.importer ≡ true → IsLeftOut routers init maps hop
+  unjoined : session_at routers maps hop ≡ None → IsLeftOut routers init maps hop
+  denied : (session : Session) → session_at routers maps hop ≡ Some session → AcceptsNone (import_over maps.maps.items session) → IsLeftOut routers init maps hop
+
+-- the edge is that of the direction, and its act imports as the session there
+pub record IsEdgeOfSession (routers : List Router) (init : List (Option Route)) (maps : LineMaps) (acts : List BgpAct) (hop : Hop) (edge : Edge) : Type 0 where
+  pub same : edge ≡ edge_with edge.act hop
+  pub open_to : originates init hop.importer ≡ false
+  pub session : Session
+  pub session_is : session_at routers maps hop ≡ Some session
+  pub act : IsActOver maps.maps.items acts session edge.act
+
+-- the direction was left out
+pub record Skips (routers : List Router) (init : List (Option Route)) (maps : LineMaps) (old new : BgpEdges) (hop : Hop) : Type 0 where
+  pub left : IsLeftOut routers init maps hop
+  pub acts : new.acts.acts.items ≡ old.acts.acts.items
+  pub edges : new.edges ≡ old.edges
+
+-- the direction got an edge, and its act came unless it was there
+pub record Takes (routers : List Router) (init : List (Option Route)) (maps : LineMaps) (old new : BgpEdges) (hop : Hop) : Type 0 where
+  pub number : ℕ
+  pub open_to : originates init hop.importer ≡ false
+  pub session : Session
+  pub session_is : session_at routers maps hop ≡ Some session
+  pub act : IsActOver maps.maps.items new.acts.acts.items session number
+  pub came : (new.acts.acts.items ≡ old.acts.acts.items) ⊎ IsNewAct old.acts.acts.items new.acts.acts.items hop session number
+  pub edges : new.edges ≡ old.edges ++ edge_with number hop ∷ []
+
+abbrev pub TakesHop : List Router → List (Option Route) → LineMaps → BgpEdges → BgpEdges → Hop → Type 0
+TakesHop routers init maps old new hop = Skips routers init maps old new hop ⊎ Takes routers init maps old new hop
+
+-- the act of the edge is first in the direction of the edge
+pub record IsFirstOf (acts : List BgpAct) (edge : Edge) : Type 0 where
+  pub act : BgpAct
+  pub at : slice_get acts edge.act ≡ Some act
+  pub same : edge ≡ edge_with edge.act act.first
+
+-- The edges of directions, in order, and their acts: each is that of the session in the direction of the
+-- first edge that has it.
+pub record AreEdgesOfSessions (shown : Shown) (routers : List Router) (init : List (Option Route)) (maps : LineMaps) (hops : List Hop) (found : BgpEdges) : Type 0 where
+  pub right : AreRight shown maps.maps.items found.acts found.sessions
+  pub over : (number : ℕ) (act : BgpAct) → slice_get found.acts.acts.items number ≡ Some act → session_at routers maps act.first ≡ Some act.session
+  pub within : (number : ℕ) (act : BgpAct) → slice_get found.acts.acts.items number ≡ Some act → Contains hops act.first
+  pub each : AreEdgesOf (IsEdgeOfSession routers init maps found.acts.acts.items) (IsLeftOut routers init maps) hops found.edges
+  pub in_order : AreByFirstUse found.edges (length found.acts.acts.items)
+  pub first : (place : ℕ) (edge : Edge) → slice_get found.edges place ≡ Some edge → IsFirstWith found.edges place edge.act → IsFirstOf found.acts.acts.items edge

@@ -1,0 +1,55 @@
+-- Laws of classes and of the problems that are built for them.
+use Rattle.std.specs.Prelude.{◌≡◌, ℕ, Bool, [], List, Option, None, Contains}
+use Rattle.std.specs.List.{AllByRecursion}
+use Rattle.base_kit.specs.Prefixes.{Prefix}
+use Rattle.cfg_ast.specs.declared.classes.DestClass.{DestClass}
+use Rattle.cfg_ast.specs.declared.network.Network.{Network}
+use Rattle.cfg_ast.specs.declared.network.Router.{Router}
+use Rattle.cfg_ast.specs.meaning.Classes.{classes_of}
+use Rattle.cfg_ast.specs.meaning.PolicyFaults.{undefined_list_lines, delete_list_lines, communities_of}
+use Rattle.cfg_ast.specs.meaning.RouterFaults.{protocol_of}
+use Rattle.cfg_ast.specs.printing.WellFormed.{IsWellFormed}
+use Rattle.policy_dd.specs.Imports.{AcceptsSome, HaveOnePreference}
+use Rattle.route_maps.specs.declared.plain.Imported.{Imported}
+use Rattle.route_maps.specs.Printable.{IsPrintable}
+use Rattle.route_maps.specs.Within.{IsMapWithin}
+use Rattle.specialize.specs.OnePrefix.{plain_of}
+use Rattle.srp_core.specs.declared.route.Act.{Act}
+use Rattle.srp_core.specs.declared.route.Act.TheVariants.{Import, Cost}
+use Rattle.srp_core.specs.Problem.{Problem}
+use Rattle.srp_build.specs.ActOrder.{AreActsByFirstUse}
+use Rattle.srp_build.specs.FirstActs.{HasFirstActs}
+
+-- A network without a `router` line has no class.
+abbrev pub NoClassWithoutProcess : Type 0
+NoClassWithoutProcess = (n : Network) → protocol_of n ≡ None → classes_of n ≡ []
+
+-- The maps of a router mean the same for all prefixes of a class.
+abbrev pub MapsOfClass : Type 0
+MapsOfClass = (n : Network) (class : DestClass) (p q : Prefix) → Contains (classes_of n) class → Contains class.prefixes p → Contains class.prefixes q → (router : Router) → Contains n.routers router
+    → (name list : Option (List ℕ)) (inbound : Bool) → plain_of router name list p inbound ≡ plain_of router name list q inbound
+
+-- Where a first import accepts something, and all routes that it and another accept have one preference,
+-- so have those of any two such others: a router is lone exactly where some edge, the first itself
+-- included, does not agree with the first.
+abbrev pub FirstDecidesLone : Type 0
+FirstDecidesLone = (first f g : List ℕ → Option Imported) → AcceptsSome first → HaveOnePreference first f → HaveOnePreference first g → HaveOnePreference f g
+
+-- both maps of an act can be printed
+abbrev pub HasMapsThatPrint : Act → Type 0
+HasMapsThatPrint (Import out sends into) = IsPrintable out × IsPrintable into
+HasMapsThatPrint (Cost cost) = Unit {0}
+
+-- both maps of an act name only communities of a set
+abbrev pub HasMapsWithin : List ℕ → Act → Type 0
+HasMapsWithin set (Import out sends into) = IsMapWithin set out × IsMapWithin set into
+HasMapsWithin set (Cost cost) = Unit {0}
+
+-- The acts of a problem that are those of first edges can be printed, if the network names only lists
+-- that it defines, and its deletion lists have one community a line.
+abbrev pub ActsPrint : Type 0
+ActsPrint = (n : Network) (p : Prefix) (problem : Problem) → IsWellFormed n → undefined_list_lines n ≡ [] → delete_list_lines n ≡ [] → AreActsByFirstUse problem → HasFirstActs n p problem → AllByRecursion HasMapsThatPrint problem.acts
+
+-- They name only communities that the network names.
+abbrev pub ActsStayWithin : Type 0
+ActsStayWithin = (n : Network) (p : Prefix) (problem : Problem) → AreActsByFirstUse problem → HasFirstActs n p problem → AllByRecursion (HasMapsWithin (communities_of n)) problem.acts

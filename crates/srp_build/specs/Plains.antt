@@ -1,0 +1,87 @@
+-- Plain maps by numbers: maps that say the same may have one number.
+use Rattle.std.specs.Prelude.{◌≡◌, ◌⊎◌, ℕ, Bool, List, [], ◌∷◌, ◌++◌, length, Option, Some, Contains, slice_get, slice_index_or}
+use Rattle.std.specs.Option.{option_map, option_and_then}
+use Rattle.base_kit.specs.Prefixes.{Prefix}
+use Rattle.cfg_ast.specs.declared.bgp.Neighbor.{Neighbor}
+use Rattle.cfg_ast.specs.declared.network.Router.{Router}
+use Rattle.cfg_ast.specs.meaning.Policy.{name_of}
+use Rattle.cfg_ast.specs.meaning.Topology.{neighbors_of}
+use Rattle.route_maps.specs.declared.plain.Plain.{Plain}
+use Rattle.route_maps.specs.declared.plain.Imported.{Imported}
+use Rattle.route_maps.specs.Maps.{verdict, import_of}
+use Rattle.srp_build.specs.declared.hops.Hop.{Hop}
+use Rattle.srp_build.specs.declared.plains.Session.{Session}
+use Rattle.srp_build.specs.Lines.{map_named, list_named, map_of_line, closed, sends_at}
+
+-- the maps have one verdict on every set of communities
+pub record SayTheSame (a b : Plain) : Type 0 where
+  pub verdicts : (comms : List ℕ) → verdict a.entries comms ≡ verdict b.entries comms
+
+-- the map with the number says the same as this one
+pub record IsNumberOf (maps : List Plain) (number : ℕ) (map : Plain) : Type 0 where
+  pub other : Plain
+  pub at : slice_get maps number ≡ Some other
+  pub same : SayTheSame other map
+
+-- nothing was put last, or the item was
+abbrev pub IsGrownBy : {X : Type 0} → List X → List X → X → Type 0
+IsGrownBy old new x = (new ≡ old) ⊎ (new ≡ old ++ x ∷ [])
+
+-- the map of a line of one of the routers
+pub record IsMapOfLine (p : Prefix) (routers : List Router) (map : Plain) : Type 0 where
+  pub router : Router
+  pub router_in : Contains routers router
+  pub inbound : Bool
+  pub line : Neighbor
+  pub is : map ≡ map_of_line p router inbound line
+
+-- maps keep their numbers, and only maps of lines come
+pub record PlainsGrow (p : Prefix) (routers : List Router) (old new : List Plain) : Type 0 where
+  pub kept : (number : ℕ) (map : Plain) → slice_get old number ≡ Some map → slice_get new number ≡ Some map
+  pub made : (number : ℕ) (map : Plain) → slice_get new number ≡ Some map → (slice_get old number ≡ Some map) ⊎ IsMapOfLine p routers map
+
+-- an earlier line names the same map and the same list, and the number is its number
+pub record IsAsEarlier (inbound : Bool) (lines : List Neighbor) (numbers : List ℕ) (line : Neighbor) (number : ℕ) : Type 0 where
+  pub place : ℕ
+  pub other : Neighbor
+  pub at : slice_get lines place ≡ Some other
+  pub numbered : slice_get numbers place ≡ Some number
+  pub map : name_of (map_named inbound other) ≡ name_of (map_named inbound line)
+  pub list : name_of (list_named inbound other) ≡ name_of (list_named inbound line)
+
+-- the number at a place is that of the map of the line at that place
+pub record IsNumberOfLine (p : Prefix) (router : Router) (inbound : Bool) (maps : List Plain) (lines : List Neighbor) (place number : ℕ) : Type 0 where
+  pub line : Neighbor
+  pub at : slice_get lines place ≡ Some line
+  pub is : IsNumberOf maps number (map_of_line p router inbound line)
+
+abbrev pub AreNumbersOf : Prefix → Router → Bool → List Plain → List Neighbor → List ℕ → Type 0
+AreNumbersOf p router inbound maps lines numbers = (place number : ℕ) → slice_get numbers place ≡ Some number → IsNumberOfLine p router inbound maps lines place number
+
+-- the numbers of the maps of all lines of a router
+pub record HasNumbers (p : Prefix) (router : Router) (inbound : Bool) (maps : List Plain) (numbers : List ℕ) : Type 0 where
+  pub total : length numbers ≡ length (neighbors_of router)
+  pub each : AreNumbersOf p router inbound maps (neighbors_of router) numbers
+
+-- the routers of a table have their numbers, router by router
+abbrev pub HaveNumbers : Prefix → Bool → List Plain → List Router → List (List ℕ) → Type 0
+HaveNumbers p inbound maps [] [] = Unit {0}
+HaveNumbers p inbound maps [] (numbers ∷ table) = ⊥
+HaveNumbers p inbound maps (router ∷ routers) [] = ⊥
+HaveNumbers p inbound maps (router ∷ routers) (numbers ∷ table) = HasNumbers p router inbound maps numbers × HaveNumbers p inbound maps routers table
+
+-- the number at a place of a router
+abbrev pub number_at : List (List ℕ) → ℕ → ℕ → Option ℕ
+number_at table router item = option_and_then (λ (numbers : List ℕ). slice_get numbers item) (slice_get table router)
+
+-- the numbers of both maps of a direction, and whether communities are sent
+abbrev pub session_of : List Router → List (List ℕ) → List (List ℕ) → Hop → Option Session
+session_of routers outs ins hop = option_and_then (λ (out : ℕ). option_map (λ (into : ℕ). record { out = out; sends = sends_at routers hop.exporter hop.exporter_item; into = into }) (number_at ins hop.importer hop.importer_item)) (number_at outs hop.exporter hop.exporter_item)
+
+-- the map with a number
+abbrev pub map_numbered : List Plain → ℕ → Plain
+map_numbered maps number = slice_index_or maps number closed
+
+-- what a session imports
+abbrev pub import_over : List Plain → Session → List ℕ → Option Imported
+import_over maps session = import_of (map_numbered maps session.out) session.sends (map_numbered maps session.into)

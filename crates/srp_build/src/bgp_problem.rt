@@ -1,0 +1,78 @@
+ghost use Rattle.std.specs.Prelude.{◌≡◌, Some, IfOk, Contains, slice_get};
+ghost use Rattle.base_kit.specs.declared.protocol.Protocol.TheVariants as protocol;
+ghost use Rattle.cfg_ast.specs.meaning.Classes.{classes_of};
+ghost use Rattle.cfg_ast.specs.meaning.PolicyFaults.{communities_of};
+ghost use Rattle.cfg_ast.specs.meaning.RouterFaults.{protocol_of};
+ghost use Rattle.cfg_ast.specs.meaning.Topology.{links_of};
+ghost use Rattle.dd_core.specs.Sets.{Grows};
+ghost use Rattle.route_maps.specs.Within.{AreWithin};
+ghost use Rattle.srp_build.specs.Built.{IsBuiltFor};
+
+use crate::bgp_edges::{bgp_edges, written_acts};
+use crate::hops::sorted_hops;
+use crate::lone::lone_of;
+use crate::plains::line_maps;
+use crate::routers::{names_of, numbers_of, starts_of};
+use base_kit::{List, NoMemory, Prefix, Protocol};
+use cfg_ast::{DestClass, Link};
+use cfg_check::Checked;
+use cfg_given::given_is_well_formed;
+use dd_core::Store;
+use net_topology::laws::few_links;
+use specialize::laws::{in_maps_add_nothing, maps_stay_within, session_imports};
+use srp_core::Srp;
+use std::alloc::Global;
+
+fn first_prefix(class: &DestClass) -> Option<Prefix>
+    ensures { result ≡ slice_get class.now.prefixes 0 }
+{
+    class.prefixes.as_slice().first().copied()
+}
+
+/// The problem of a BGP network. Its maps are written out for the first prefix of the class, since they
+/// are the same for all.
+pub fn bgp_problem(
+    alloc: Global,
+    net: &Checked,
+    links: &List<Link>,
+    class: &DestClass,
+    store: &mut Store,
+) -> Result<Srp, NoMemory>
+    requires bgp { protocol_of net.now.network ≡ Some protocol.Bgp }
+    requires links { links.now ≡ links_of net.now.network }
+    requires class { Contains (classes_of net.now.network) class.now }
+    requires known { AreWithin store.old.universe (communities_of net.now.network) }
+    ensures grows { Grows store.old store.new }
+    ensures built { IfOk result (IsBuiltFor net.now.network class.now) }
+{
+    given_is_well_formed();
+    few_links();
+    session_imports();
+    in_maps_add_nothing();
+    maps_stay_within();
+    let routers = net.network().routers.as_slice();
+    let Some(p) = first_prefix(class) else {
+        return Err(NoMemory);
+    };
+    let names = names_of(alloc, routers)?;
+    let numbers = numbers_of(alloc, routers)?;
+    let init = starts_of(alloc, routers, class.origins.as_slice())?;
+    let hops = sorted_hops(alloc, routers.len(), links.as_slice())?;
+    let maps = line_maps(alloc, p, routers)?;
+    let found = bgp_edges(alloc, store, routers, init.as_slice(), &maps, &hops)?;
+    let edges = found.edges.as_slice();
+    let lone = lone_of(alloc, store, &found.acts.acts, routers.len(), edges)?;
+    let acts = written_acts(alloc, p, routers, &found.acts.acts)?;
+    let problem = Srp::new(
+        alloc,
+        Protocol::Bgp,
+        names,
+        numbers,
+        init,
+        lone,
+        acts,
+        found.edges,
+    );
+    let _kept = problem.count();
+    Ok(problem)
+}

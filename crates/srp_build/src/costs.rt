@@ -1,0 +1,114 @@
+ghost use Rattle.std.specs.Prelude.{◌≡◌, ◌⊎◌, ◌<◌, ◌^◌, ◌++◌, ◌∷◌, [], Some, IfOk, OnOk, length, map, slice_get};
+ghost use Rattle.srp_core.specs.declared.route.Act.TheVariants as act;
+ghost use Rattle.srp_build.specs.Costs.{cost_at, HopAdded, NumbersHops, AreDistinct};
+
+use crate::hops::Hop;
+use base_kit::{Edge, List, NoMemory};
+use cfg_ast::Router;
+use indexmap::IndexSet;
+use srp_core::Act;
+use std::alloc::Global;
+use std::marker::Model;
+
+/// Costs that are all different, each numbered by its place.
+#[derive(Drop)]
+pub struct Costs {
+    items: IndexSet<u16>,
+}
+
+impl Model for Costs {
+    ghost use Rattle.std.specs.Prelude.{List, ℕ};
+    ghost use Rattle.srp_build.specs.Costs.{AreDistinct};
+
+    ghost Value = { List ℕ };
+
+    ghost view = { λ c. c.items.keys };
+
+    ghost invariant = { λ c. AreDistinct c.items.keys };
+}
+
+impl Costs {
+    /// No costs yet.
+    pub fn new(alloc: Global) -> Self
+        ensures { result ≡ [] }
+    {
+        Costs {
+            items: IndexSet::new(alloc),
+        }
+    }
+
+    // The number of the cost, which is put last if it is not there yet.
+    fn number(&mut self, cost: u16) -> Result<usize, NoMemory>
+        ensures found { IfOk result (λ place. slice_get self.new place ≡ Some cost) }
+        ensures grown { OnOk result ((self.new ≡ self.old) ⊎ (self.new ≡ self.old ++ cost ∷ [])) }
+        ensures distinct { AreDistinct self.new }
+    {
+        let (place, _) = self.items.insert_full(cost)?;
+        Ok(place)
+    }
+
+    /// An act for each cost, in order.
+    pub fn acts(&self, alloc: Global) -> Result<List<Act>, NoMemory>
+        ensures acts { IfOk result (λ acts. acts ≡ map act.Cost self.now) }
+        ensures distinct { AreDistinct self.now }
+    {
+        let mut acts = List::new(alloc);
+        for cost in self.items.as_slice() {
+            acts.push(Act::Cost(*cost))?;
+        }
+        Ok(acts)
+    }
+}
+
+// The cost of an interface by its places, 0 where there is none.
+fn cost_at(routers: &[Router], router: u32, item: u32) -> u16
+    ensures { result ≡ cost_at routers.now router item }
+{
+    let Some(router) = routers.get(router as usize) else {
+        return 0;
+    };
+    let Some(interface) = router.interfaces.as_slice().get(item as usize) else {
+        return 0;
+    };
+    interface.cost().unwrap_or(0)
+}
+
+fn push_edge(
+    routers: &[Router],
+    costs: &mut Costs,
+    edges: &mut List<Edge>,
+    hop: &Hop,
+) -> Result<(), NoMemory>
+    requires { length costs.old < 2 ^ 32 }
+    ensures { OnOk result (HopAdded routers.now costs.old costs.new edges.old edges.new hop.now) }
+{
+    let cost = cost_at(routers, hop.importer, hop.importer_item);
+    let act = costs.number(cost)?;
+    edges.push(Edge {
+        importer: hop.importer,
+        exporter: hop.exporter,
+        act: act as u32,
+        link: hop.link,
+    })?;
+    Ok(())
+}
+
+/// Edges, and the costs that their acts number.
+#[derive(Drop)]
+pub struct Numbered {
+    pub costs: Costs,
+    pub edges: List<Edge>,
+}
+
+/// An edge for each direction, in order; its act is the place of its cost among the different costs.
+pub fn number_hops(alloc: Global, routers: &[Router], hops: &[Hop]) -> Result<Numbered, NoMemory>
+    requires { length hops.now < 2 ^ 32 }
+    ensures { IfOk result (λ n. NumbersHops routers.now n.costs hops.now n.edges) }
+{
+    let mut costs = Costs::new(alloc);
+    let mut edges = List::new(alloc);
+    for hop in hops {
+        push_edge(routers, &mut costs, &mut edges, hop)?;
+    }
+    Ok(Numbered { costs, edges })
+}

@@ -1,0 +1,30 @@
+//! Laws of classes and of the problems that are built for them. Each law is the contract of a function
+//! that does nothing: whoever needs one calls it.
+
+ghost use Rattle.srp_build.specs.Laws.{NoClassWithoutProcess, MapsOfClass, FirstDecidesLone, ActsPrint, ActsStayWithin};
+
+/// A network without a `router` line has no class.
+pub fn no_class_without_process()
+    ensures { NoClassWithoutProcess }
+{}
+
+/// The maps of a router mean the same for all prefixes of a class, since they ask prefix lists alone.
+pub fn maps_of_class()
+    ensures { MapsOfClass }
+{}
+
+/// Routes that others accept have one preference where each other agrees with a first import that
+/// accepts something.
+pub fn first_decides_lone()
+    ensures { FirstDecidesLone }
+{}
+
+/// The acts of a problem can be printed where the maps of the network can.
+pub fn acts_print()
+    ensures { ActsPrint }
+{}
+
+/// The acts of a problem name only communities that the network names.
+pub fn acts_stay_within()
+    ensures { ActsStayWithin }
+{}
