@@ -1,0 +1,10 @@
+pub mod Communities
+pub mod Faults
+pub mod Interfaces
+pub mod Links
+pub mod Mapped
+pub mod Policy
+pub mod PolicyLines
+pub mod Problem
+pub mod Protocols
+pub mod RouterLines
