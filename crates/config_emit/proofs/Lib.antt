@@ -1,0 +1,14 @@
+pub mod AsNumbers
+pub mod BgpParts
+pub mod ByEnds
+pub mod ClassSpots
+pub mod Emission
+pub mod FirstUses
+pub mod KeyEq
+pub mod Known
+pub mod ListSteps
+pub mod MapPlaces
+pub mod Members
+pub mod OspfRouters
+pub mod Sides
+pub mod Uses

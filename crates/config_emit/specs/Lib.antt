@@ -1,0 +1,16 @@
+pub mod Plan
+pub mod Maps
+pub mod Interfaces
+pub mod Emitted
+pub mod Pool
+pub mod Laws
+pub mod Answers
+pub mod ActLinks
+pub mod LinkSteps
+pub mod Sources
+pub mod Spots
+pub mod MapKeys
+pub mod MapNumbers
+pub mod RouterMaps
+pub mod BgpSteps
+pub mod GroupMaps

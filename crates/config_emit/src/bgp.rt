@@ -1,0 +1,115 @@
+ghost use Rattle.std.specs.Prelude.{◌≡◌, map, IfOk};
+ghost use Rattle.cfg_ast.specs.declared.bgp.Base.{Base};
+ghost use Rattle.std.specs.Option.{option_map_or};
+ghost use Rattle.cfg_ast.specs.meaning.Policy.{default_preference};
+ghost use Rattle.config_emit.specs.BgpSteps.{announced, neighbor_of};
+ghost use Rattle.config_emit.specs.Emitted.{base_of};
+ghost use Rattle.config_emit.specs.MapNumbers.{maps_now, ArePolicies};
+ghost use Rattle.config_emit.specs.RouterMaps.{use_now, AreUses};
+
+use crate::act_links::ActLink;
+use crate::act_maps::{Policies, maps_at};
+use crate::as_numbers::number_at;
+use crate::link_interfaces::side_on;
+use crate::number::link_addr;
+use crate::router_maps::{RouterMaps, far_end, use_name};
+use base_kit::{List, NoMemory, Prefix};
+use cfg_ast::{Base, BgpProcess, Neighbor, NetLine, Router};
+use std::alloc::Global;
+
+/// A `network` line for each prefix.
+pub(crate) fn net_lines(alloc: Global, prefixes: &[Prefix]) -> Result<List<NetLine>, NoMemory>
+    ensures { IfOk result (λ lines. lines ≡ map announced prefixes.now) }
+{
+    let mut lines = List::new(alloc);
+    for prefix in prefixes {
+        lines.push(NetLine {
+            prefix: *prefix,
+            line: 0,
+        })?;
+    }
+    Ok(lines)
+}
+
+fn base_value(process: &BgpProcess) -> u32
+    ensures { result ≡ option_map_or (λ (base : Base). base.value) process.now.base 100 }
+{
+    match &process.base {
+        Some(base) => base.value,
+        None => 100,
+    }
+}
+
+fn default_preference(router: &Router) -> u32
+    ensures { result ≡ default_preference router.now }
+{
+    match &router.bgp {
+        Some(process) => base_value(process),
+        None => 100,
+    }
+}
+
+/// The default preference of a router that originates the class, where it is not 100.
+pub(crate) fn base_of(nets: &[NetLine], router: &Router) -> Option<Base>
+    ensures { result ≡ base_of nets.now router.now }
+{
+    let value = default_preference(router);
+    match nets {
+        [] => None,
+        _ => {
+            if value == 100 {
+                None
+            } else {
+                Some(Base { value, line: 0 })
+            }
+        }
+    }
+}
+
+fn neighbor_of(
+    alloc: Global,
+    policies: &Policies,
+    maps: &RouterMaps,
+    numbers: &[u32],
+    group: u32,
+    link: &ActLink,
+) -> Result<Neighbor, NoMemory>
+    requires policies { ArePolicies policies.now }
+    requires places { AreUses maps.now.places (map use_now maps.now.uses.items) }
+    ensures { IfOk result (λ n. n ≡ neighbor_of (maps_now policies.now.maps.items) policies.now.acts.now (map use_now maps.now.uses.items) numbers.now group link.now) }
+{
+    let far = far_end(group, link);
+    let here = maps_at(policies, link.act_to(group));
+    let there = maps_at(policies, link.act_to(far));
+    Ok(Neighbor {
+        addr: link_addr(link.number, 1 - side_on(group, link))?,
+        remote: number_at(numbers, far),
+        line: 0,
+        shut: false,
+        sends: there.sends,
+        list_in: None,
+        list_out: None,
+        map_in: use_name(alloc, maps, here.into)?,
+        map_out: use_name(alloc, maps, there.out)?,
+    })
+}
+
+/// The neighbours of a group with these links.
+pub(crate) fn neighbors_of(
+    alloc: Global,
+    policies: &Policies,
+    maps: &RouterMaps,
+    numbers: &[u32],
+    group: u32,
+    links: &[ActLink],
+) -> Result<List<Neighbor>, NoMemory>
+    requires policies { ArePolicies policies.now }
+    requires places { AreUses maps.now.places (map use_now maps.now.uses.items) }
+    ensures { IfOk result (λ ns. ns ≡ map (neighbor_of (maps_now policies.now.maps.items) policies.now.acts.now (map use_now maps.now.uses.items) numbers.now group) links.now) }
+{
+    let mut neighbors = List::new(alloc);
+    for link in links {
+        neighbors.push(neighbor_of(alloc, policies, maps, numbers, group, link)?)?;
+    }
+    Ok(neighbors)
+}
