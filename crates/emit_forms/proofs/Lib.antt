@@ -1,0 +1,12 @@
+pub mod Acts
+pub mod Addresses
+pub mod FewLinks
+pub mod Groups
+pub mod Interfaces
+pub mod MapForms
+pub mod Names
+pub mod Origins
+pub mod Pairwise
+pub mod Policies
+pub mod Processes
+pub mod Routers
