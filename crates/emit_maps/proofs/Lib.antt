@@ -1,0 +1,8 @@
+mod Firsts
+mod Imports
+mod Lookups
+mod Names
+mod Origins
+mod Routers
+mod Verdicts
+mod WrittenBack
