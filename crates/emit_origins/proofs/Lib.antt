@@ -1,0 +1,5 @@
+mod BgpOrigins
+mod Finds
+mod Origins
+mod OspfOrigins
+pub mod Starts
