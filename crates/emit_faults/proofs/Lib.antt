@@ -1,0 +1,13 @@
+pub mod Addresses
+pub mod Apart
+pub mod Communities
+pub mod Costs
+pub mod Counts
+pub mod Deletions
+pub mod Faultless
+pub mod Limits
+pub mod Policies
+pub mod Prepends
+pub mod Processes
+pub mod Routers
+pub mod Uses
