@@ -1,0 +1,2 @@
+pub mod NoLarger
+pub mod Stands

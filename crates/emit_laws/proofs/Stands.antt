@@ -1,0 +1,15 @@
+-- What a network that is that of the groups but for the numbers of lines stands for.
+use Rattle.lines_aside.specs.Laws.{FaultsAside, ProblemAside, ProtocolAside}
+use Rattle.config_emit.specs.Emitted.{emitted}
+use Rattle.config_emit.specs.Laws.{EmittedStandsForGroups}
+use Rattle.config_emit.specs.Plan.{small}
+use Rattle.emit_faults.specs.Laws.{EmittedIsFaultless}
+use Rattle.emit_problem.specs.Laws.{EmittedHasProblem}
+
+pub stands : EmittedIsFaultless → EmittedHasProblem → FaultsAside → ProtocolAside → ProblemAside → EmittedStandsForGroups
+stands faultless has_problem faults protocol problem e plan n same =
+    let none = faultless e plan in
+    record {
+      faultless = faults n (emitted e) same none;
+      problem = λ p p_in. problem n (emitted e) p (small e) same (protocol n (emitted e) same none) (has_problem e plan none p p_in);
+    }
