@@ -1,0 +1,100 @@
+-- What is written of a plan compresses the network.
+use Rattle.std.proofs.Common.{◌≡◌, ◌≤◌, ℕ, List, refl, sym, ap, ◌∙◌, length, subst, Ok}
+use Rattle.std.specs.Prelude.{map, Option, Contains}
+use Rattle.std.specs.List.{range_with_len}
+use Rattle.base_kit.specs.Prefixes.{Prefix}
+use Rattle.cfg_ast.specs.declared.network.Network.{Network}
+use Rattle.cfg_ast.specs.meaning.Meaning.{judged}
+use Rattle.std.proofs.lemmas.List.{length-map}
+use Rattle.std.proofs.lemmas.List.FromFn.{length-map-range_with_len}
+use Rattle.cfg_ast.specs.printing.Bare.{bare, bare_router}
+use Rattle.cfg_ast.specs.text.Members.{members_of_text}
+use Rattle.cfg_ast.specs.text.Reading.{reading_of, network_of_text}
+use Rattle.cfg_check.specs.Laws.{FaultlessIsAccepted}
+use Rattle.cfg_round_trip.specs.Laws.{HasFewLines, PrintedIsReadBack}
+use Rattle.cfg_round_trip.specs.MemberLaws.{MembersAreReadBack}
+use Rattle.config_emit.specs.Emitted.{emitted, emitted_router, notes_of}
+use Rattle.config_emit.specs.Laws.{IsPlan, StandsForGroups, EmittedCanBePrinted, EmittedStandsForGroups, EmittedIsNoLarger}
+use Rattle.config_emit.specs.Plan.{Plan, small}
+use Rattle.srp_core.specs.declared.route.Route.{Route}
+use Rattle.srp_core.specs.Alike.{ProblemsAlike}
+use Rattle.srp_core.specs.Laws.{Below, Above}
+use Rattle.srp_core.specs.Problem.{Problem, IsProblem}
+use Rattle.srp_core.specs.ProblemOf.{IsProblemOf}
+use Rattle.srp_core.specs.Quotient.{IsAdmissible, IsCoarsest, IsQuotient}
+use Rattle.srp_core.specs.Stability.{IsStable}
+use Rattle.srp_quotient.specs.Groups.{quotient_problem}
+use Rattle.srp_quotient.specs.Laws.{QuotientIsQuotient}
+use Rattle.compress_laws.specs.Compressed.{IsCompressedFor, Compresses}
+use Rattle.compress_laws.specs.Laws.{text_of}
+use Rattle.emit_forms.proofs.Groups.{problem_of}
+use Rattle.compress_laws.proofs.Names.{names_noted}
+
+-- the laws that the proof puts together
+pub record Given : Type 0 where
+  pub can_be_printed : EmittedCanBePrinted
+  pub stands : EmittedStandsForGroups
+  pub no_larger : EmittedIsNoLarger
+  pub read_back : PrintedIsReadBack
+  pub members_back : MembersAreReadBack
+  pub accepted : FaultlessIsAccepted
+  pub quotient : QuotientIsQuotient
+  pub below : (problem less : Problem) (groups : List ℕ) (labels : List (Option Route)) → IsProblem problem → IsProblem less → IsAdmissible problem groups → IsQuotient problem groups less → IsStable problem labels → Below problem less groups labels
+  pub above : (problem less : Problem) (groups : List ℕ) (lower : List (Option Route)) → IsProblem problem → IsProblem less → IsAdmissible problem groups → IsQuotient problem groups less → IsStable less lower → Above problem less groups lower
+  pub alike : (network : Network) (prefix : Prefix) (first second : Problem) → IsProblemOf network prefix first → IsProblemOf network prefix second → ProblemsAlike first second
+  pub coarsest : (first second : Problem) (groups : List ℕ) → ProblemsAlike first second → IsCoarsest first groups → IsCoarsest second groups
+  pub quotients : (problem other less lower : Problem) (groups : List ℕ) → ProblemsAlike problem other → ProblemsAlike less lower → IsQuotient problem groups less → IsQuotient other groups lower
+
+module _ (g : Given) (e : Plan) (plan : IsPlan e) (coarse : IsCoarsest e.problem e.groups) where
+  is_small : (p : Prefix) → Contains e.class.prefixes p → IsQuotient e.problem e.groups (small e)
+  is_small p i =
+      let computed = g.quotient e.problem e.groups e.count (plan.problem p i).rules plan.groups plan.numbered in
+      subst (λ links. IsQuotient e.problem e.groups (quotient_problem e.problem e.groups e.count links)) (sym plan.links) computed
+
+  compressed_for : (read : Network) → StandsForGroups e read → (p : Prefix) → Contains e.class.prefixes p → IsCompressedFor e.network read e.groups p
+  compressed_for read stands p i =
+      let of = plan.problem p i in
+      let of_read = stands.problem p i in
+      let coarsest : (other : Problem) → IsProblemOf e.network p other → IsCoarsest other e.groups = λ other o. g.coarsest e.problem other e.groups (g.alike e.network p e.problem other of o) coarse in
+      let quotient : (other lower : Problem) → IsProblemOf e.network p other → IsProblemOf read p lower → IsQuotient other e.groups lower =
+      λ other lower o l. g.quotients e.problem other (small e) lower e.groups (g.alike e.network p e.problem other of o) (g.alike read p (small e) lower of_read l) (is_small p i) in
+      record {
+        problem = e.problem;
+        small = small e;
+        of = of;
+        of_read = of_read;
+        coarsest = coarsest;
+        quotient = quotient;
+        correspond = λ other lower o l. record {
+          down = λ labels stable. g.below other lower e.groups labels o.rules l.rules (coarsest other o).admissible (quotient other lower o l) stable;
+          up = λ labels stable. g.above other lower e.groups labels o.rules l.rules (coarsest other o).admissible (quotient other lower o l) stable;
+        };
+      }
+
+  as_many : (read : Network) → bare read ≡ bare (emitted e) → length read.routers ≡ e.count
+  unfolding emitted
+  as_many read same = sym (length-map read.routers bare_router) ∙ ap (λ (n : Network). length n.routers) same ∙ length-map (map (emitted_router e) (range_with_len 0 e.count)) bare_router ∙ length-map-range_with_len (emitted_router e) 0 e.count
+
+  accepted_text : (read : Network) (bytes : List ℕ) → network_of_text bytes ≡ Ok read → judged read ≡ Ok read → reading_of bytes ≡ Ok read
+  unfolding reading_of
+  accepted_text read bytes reads ok = rw reads ok
+
+  pub compresses : HasFewLines (emitted e) (notes_of e) → Compresses e.network e.class (text_of e)
+  compresses few =
+      let can = g.can_be_printed e plan in
+      let back = g.read_back (emitted e) (notes_of e) can.well_formed can.notes few can.short in
+      let stands = g.stands e plan back.read back.same in
+      let less = g.no_larger e plan back.read back.same in
+      let some = problem_of e plan in
+      record {
+        groups = e.groups;
+        count = e.count;
+        numbered = plan.numbered;
+        read = back.read;
+        reads = accepted_text back.read (text_of e) back.reads (g.accepted back.read stands.faultless);
+        routers = as_many back.read back.same;
+        members = g.members_back (emitted e) (notes_of e) can.well_formed can.notes ∙ names_noted e some.prefix some.of;
+        fewer_routers = less.routers;
+        fewer_links = less.links;
+        for_each = compressed_for back.read stands;
+      }

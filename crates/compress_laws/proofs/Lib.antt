@@ -1,0 +1,4 @@
+mod Compressing
+mod Names
+mod Plans
+mod Texts

@@ -1,0 +1,24 @@
+-- The text of a class's plan compresses the network.
+use Rattle.std.proofs.Common.{◌≡◌, ℕ, ◌≤◌, Bool, true, false, ◌||◌, List, length, refl, sym, ap, ◌∙◌, subst, arith}
+use Rattle.std.specs.Prelude.{Contains, filter, ◌==◌, nat_lt}
+use Rattle.std.proofs.lemmas.Bool.Decides.{nat_tests}
+use Rattle.cfg_ast.specs.declared.classes.DestClass.{DestClass}
+use Rattle.cfg_ast.specs.declared.network.Network.{Network}
+use Rattle.cfg_print.specs.Prints.{is_too_long, count_newlines}
+use Rattle.config_emit.specs.Plan.{Plan}
+use Rattle.compress_laws.specs.Compressed.{Compresses}
+use Rattle.compress_laws.specs.Laws.{text_of, TextCompresses, PlanFits, PlanCompresses}
+
+second : (a b : Bool) → (a || b) ≡ false → b ≡ false
+second true b e = absurd cc
+second false b e = e
+
+few : (bs : List ℕ) → is_too_long bs ≡ false → count_newlines bs ≤ 1000000
+unfolding is_too_long
+few bs e = let f = second (nat_lt 16777216 (length bs)) (nat_lt 1000000 (count_newlines bs)) e in grind (arith, nat_tests)
+
+pub plan_compresses : PlanFits → TextCompresses → PlanCompresses
+plan_compresses fits compresses n class e given ok has is apart short =
+    subst (λ (c : DestClass). Compresses n c (text_of e)) is.class_is
+    (subst (λ (m : Network). Compresses m e.class (text_of e)) is.network_is
+    (compresses e (fits n class e given ok has is apart) is.coarsest (few (text_of e) short)))

@@ -1,0 +1,5 @@
+use Rattle.compress_laws.proofs.Texts.{plan_compresses}
+use Rattle.compress_laws.proofs.laws.plan_compresses.Goals as goal
+
+pub returns : goal.returns
+returns c = plan_compresses c.plan_fits.ensures c.text_compresses.ensures

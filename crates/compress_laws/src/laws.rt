@@ -1,0 +1,37 @@
+//! The law of what is written.
+ghost use Rattle.compress_laws.specs.Laws.{TextCompresses, PlanFits, PlanCompresses};
+
+/// The text that is written of a plan, whose groups are the coarsest ones, compresses the network.
+pub fn text_compresses()
+    ensures { TextCompresses }
+{
+    emit_forms::laws::emitted_can_be_printed();
+    emit_laws::laws::emitted_is_no_larger();
+    emit_laws::laws::emitted_stands_for_groups();
+    cfg_round_trip::printed_is_read_back();
+    cfg_round_trip::members_are_read_back();
+    cfg_check::laws::faultless_is_accepted();
+    srp_quotient::laws::quotient_is_quotient();
+    srp_core::laws::to_quotient();
+    srp_core::laws::from_quotient();
+    srp_core::laws::alike::problems_of_one_prefix();
+    srp_core::laws::alike::partitions();
+    srp_core::laws::alike::quotients();
+}
+
+/// A plan of a class fits together, where no prefix of the class meets the addresses of the links.
+pub fn plan_fits()
+    ensures { PlanFits }
+{
+    cfg_given::given_is_well_formed();
+    srp_build::laws::acts_print();
+    srp_build::laws::acts_stay_within();
+}
+
+/// The text of the plan of a class, which is not too long, compresses the network.
+pub fn plan_compresses()
+    ensures { PlanCompresses }
+{
+    plan_fits();
+    text_compresses();
+}
