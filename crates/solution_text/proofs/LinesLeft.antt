@@ -1,0 +1,103 @@
+-- The lines of a text that are left, one after the other.
+use Rattle.std.proofs.Common.{◌≡◌, ℕ, ◌+◌, ◌<◌, ◌≤◌, Bool, true, false, List, [], ◌∷◌, length, map, refl, sym, ap, ◌∙◌, arith, Option, Some, None, Result, Ok, Err}
+use Rattle.std.specs.Prelude.{bytes_eq}
+use Rattle.std.specs.List.{slice_range, position}
+use Rattle.std.proofs.Math.ListN.{length-set}
+use Rattle.base_kit.specs.declared.protocol.Protocol.{Protocol}
+use Rattle.cfg_ast.specs.text.Lines.{begins_line, newline_from, without_return, Piece, pieces_from, line_of, words_between, words_of, texts}
+use Rattle.cfg_ast.specs.text.Members.{all_lines_of}
+use Rattle.cfg_ast.specs.text.TextLines.{TextLine, text_line}
+use Rattle.cfg_ast.proofs.Pieces.{pieces_next, pieces_end}
+use Rattle.cfg_ast.proofs.SameWords.{same_words}
+use Rattle.srp_core.specs.declared.route.Route.{Route}
+use Rattle.solution_text.specs.declared.refusal.SolRefusal.{SolRefusal}
+use Rattle.solution_text.specs.declared.refusal.SolRefusal.TheVariants as sol_refusal
+use Rattle.solution_text.specs.Answers.{Reads}
+use Rattle.solution_text.specs.Forms.{Saying, saying_of}
+use Rattle.solution_text.specs.Solutions.{is_foreign}
+use Rattle.solution_text.specs.Steps.{Standing, has_line, said_at, with_label, with_place, with_saying, with_words, ended, answer_from}
+use Rattle.solution_text.proofs.Judging.{answer_next, answer_fault, answer_done, named_at}
+
+-- the lines from a place on, the first of which has this number
+abbrev pub left_from : List ℕ → ℕ → ℕ → List TextLine
+left_from bs n from = map (text_line bs) (map (line_of bs) (pieces_from bs n from))
+
+-- a line that was cut off the front
+pub record Cut (bs : List ℕ) (from end upto : ℕ) : Type 0 where
+  pub inside : from < length bs
+  pub begins : begins_line bs from ≡ true
+  pub to_newline : end ≡ newline_from bs from
+  pub less_return : upto ≡ without_return bs from end
+  pub front : from ≤ upto
+  pub short : upto ≤ length bs
+
+abbrev cut_piece : ℕ → ℕ → ℕ → Piece
+cut_piece n from upto = record { number = n; from = from; upto = upto }
+
+front_is : (bs : List ℕ) (n from end upto : ℕ) → Cut bs from end upto → pieces_from bs n from ≡ cut_piece n from upto ∷ pieces_from bs (n + 1) (end + 1)
+front_is bs n from end upto cut =
+    let place : upto ≡ without_return bs from (newline_from bs from) = cut.less_return ∙ ap (without_return bs from) cut.to_newline in
+    pieces_next bs n from cut.inside cut.begins ∙ ap (λ (e : ℕ). cut_piece n from e ∷ pieces_from bs (n + 1) (newline_from bs from + 1)) (sym place) ∙ ap (λ (e : ℕ). cut_piece n from upto ∷ pieces_from bs (n + 1) (e + 1)) (sym cut.to_newline)
+
+left_is : (bs : List ℕ) (n from end upto : ℕ) → Cut bs from end upto → left_from bs n from ≡ text_line bs (line_of bs (cut_piece n from upto)) ∷ left_from bs (n + 1) (end + 1)
+left_is bs n from end upto cut = ap (λ (ps : List Piece). map (text_line bs) (map (line_of bs) ps)) (front_is bs n from end upto cut)
+
+pub count_left : (bs : List ℕ) (n from end upto : ℕ) → Cut bs from end upto → length (pieces_from bs n from) ≡ 1 + length (pieces_from bs (n + 1) (end + 1))
+count_left bs n from end upto cut = ap length (front_is bs n from end upto cut) ∙ omega arith
+
+module _ (protocol : Protocol) (place_of : List ℕ → Option ℕ) (last : ℕ) (bs : List ℕ) (n from end upto : ℕ) (cut : Cut bs from end upto) (s : Standing) where
+  said_words : (r : Result Standing SolRefusal) → with_words protocol place_of n s (words_of (slice_range bs from upto)) ≡ r → with_words protocol place_of n s (texts bs (words_between bs from upto)) ≡ r
+  said_words r e = ap (with_words protocol place_of n s) (same_words bs from upto cut.front cut.short) ∙ e
+
+  pub left_next : (next : Standing) → with_words protocol place_of n s (words_of (slice_range bs from upto)) ≡ Ok next → answer_from protocol place_of last (left_from bs n from) s ≡ answer_from protocol place_of last (left_from bs (n + 1) (end + 1)) next
+  left_next next e =
+      ap (λ (ls : List TextLine). answer_from protocol place_of last ls s) (left_is bs n from end upto cut)
+      ∙ answer_next protocol place_of last (text_line bs (line_of bs (cut_piece n from upto))) (left_from bs (n + 1) (end + 1)) s next (said_words (Ok next) e)
+
+  pub left_fault : (fault : SolRefusal) → with_words protocol place_of n s (words_of (slice_range bs from upto)) ≡ Err fault → answer_from protocol place_of last (left_from bs n from) s ≡ Err fault
+  left_fault fault e =
+      ap (λ (ls : List TextLine). answer_from protocol place_of last ls s) (left_is bs n from end upto cut)
+      ∙ answer_fault protocol place_of last (text_line bs (line_of bs (cut_piece n from upto))) (left_from bs (n + 1) (end + 1)) s fault (said_words (Err fault) e)
+
+pub none_left : (protocol : Protocol) (place_of : List ℕ → Option ℕ) (last : ℕ) (bs : List ℕ) (n from : ℕ) (s : Standing) → length bs ≤ from → answer_from protocol place_of last (left_from bs n from) s ≡ ended last s
+none_left protocol place_of last bs n from s le = ap (λ (ps : List Piece). answer_from protocol place_of last (map (text_line bs) (map (line_of bs) ps)) s) (pieces_end bs n from le) ∙ answer_done protocol place_of last s
+
+pub none_counted : (bs : List ℕ) (n from : ℕ) → length bs ≤ from → length (pieces_from bs n from) ≡ 0
+none_counted bs n from le = ap length (pieces_end bs n from le)
+
+pub lines_counted : (bs : List ℕ) → length (pieces_from bs 1 0) ≡ length (all_lines_of bs)
+lines_counted bs = sym (map_length (line_of bs) (pieces_from bs 1 0))
+  where
+    map_length : {X Y : Type 0} (f : X → Y) (xs : List X) → length (map f xs) ≡ length xs
+    map_length f [] = refl
+    map_length f (x ∷ xs) = omega (arith, map_length f xs)
+
+-- ---- a line keeps how many routers there are
+
+label_count : (protocol : Protocol) (n : ℕ) (s : Standing) (k : ℕ) (l : Option Route) (b c : Bool) (next : Standing) → has_line s k ≡ b → is_foreign protocol l ≡ c → with_label protocol n s k l ≡ Ok next → length next.seen ≡ length s.seen
+label_count protocol n s k l true c next t f e = absurd (let w = rw t at e in cc)
+label_count protocol n s k l false true next t f e = absurd (let w = rw (t, f) at e in cc)
+label_count protocol n s k l false false next t f e = let w : said_at s k l ≡ next = (let v = rw (t, f) at e in cc) in ap (λ (x : Standing). length x.seen) (sym w) ∙ length-set s.seen k true
+
+place_count : (protocol : Protocol) (n : ℕ) (s : Standing) (l : Option Route) (p : Option ℕ) (next : Standing) → with_place protocol n s l p ≡ Ok next → length next.seen ≡ length s.seen
+place_count protocol n s l None next e = absurd cc
+place_count protocol n s l (Some k) next e = label_count protocol n s k l (has_line s k) (is_foreign protocol l) next refl refl e
+
+saying_count : (protocol : Protocol) (place_of : List ℕ → Option ℕ) (n : ℕ) (s : Standing) (o : Option Saying) (next : Standing) → with_saying protocol place_of n s o ≡ Ok next → length next.seen ≡ length s.seen
+saying_count protocol place_of n s None next e = absurd cc
+saying_count protocol place_of n s (Some says) next e = place_count protocol n s says.label (place_of says.name) next e
+
+pub words_count : (protocol : Protocol) (place_of : List ℕ → Option ℕ) (n : ℕ) (s : Standing) (ws : List (List ℕ)) (next : Standing) → with_words protocol place_of n s ws ≡ Ok next → length next.seen ≡ length s.seen
+words_count protocol place_of n s [] next e = let same : s ≡ next = cc in ap (λ (x : Standing). length x.seen) (sym same)
+words_count protocol place_of n s (w ∷ ws) next e = saying_count protocol place_of n s (saying_of (w ∷ ws)) next e
+
+-- ---- answers
+
+-- a refusal of a step is one of the whole
+pub refused_too : {X Y : Type 0} (e : SolRefusal) (step : Result X SolRefusal) (whole : Result Y SolRefusal) → ((fault : SolRefusal) → step ≡ Err fault → whole ≡ Err fault) → Reads {X = X} (Err e) step → Reads {X = Y} (Err e) whole
+refused_too sol_refusal.Memory step whole same reads = tt
+refused_too (sol_refusal.At line kind) step whole same reads = same (sol_refusal.At line kind) reads
+
+-- the names of a list have places in it
+pub places_within : (names : List (List ℕ)) (place_of : List ℕ → Option ℕ) (count : ℕ) → ((wanted : List ℕ) → place_of wanted ≡ position (bytes_eq wanted) names) → count ≡ length names → (wanted : List ℕ) (place : ℕ) → place_of wanted ≡ Some place → place < count
+places_within names place_of count are same wanted place at = omega (arith, (named_at [] wanted names place (sym (are wanted) ∙ at)).0, same)

@@ -1,0 +1,5 @@
+pub mod Answers
+pub mod Forms
+pub mod Printed
+pub mod Solutions
+pub mod Steps

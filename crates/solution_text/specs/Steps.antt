@@ -1,0 +1,83 @@
+-- The labels of a text line by line: what is said of each router so far.
+use Rattle.std.specs.Prelude.{◌≡◌, ℕ, ◌<◌, Bool, true, false, List, [], ◌∷◌, replicate, if◌then◌else◌, Option, Some, None, Result, Ok, Err, slice_index_or, slice_set, bytes_eq, String}
+use Rattle.std.specs.List.{list_all, position}
+use Rattle.std.specs.HashMap as hash
+use Rattle.base_kit.specs.declared.protocol.Protocol.{Protocol}
+use Rattle.cfg_ast.specs.text.TextLines.{TextLine}
+use Rattle.srp_core.specs.declared.route.Route.{Route}
+use Rattle.solution_text.specs.declared.refusal.SolKind.TheVariants.{BadForm, UnknownRouter, Repeated, WrongProtocol}
+use Rattle.solution_text.specs.declared.refusal.SolRefusal.{SolRefusal}
+use Rattle.solution_text.specs.declared.refusal.SolRefusal.TheVariants.{At}
+use Rattle.solution_text.specs.Forms.{Saying, saying_of}
+use Rattle.solution_text.specs.Solutions.{is_foreign, judged}
+
+-- which routers have a line, and the labels of these; the others have none
+pub record Standing : Type 0 where
+  pub seen : List Bool
+  pub labels : List (Option Route)
+
+abbrev pub nothing_said : ℕ → Standing
+nothing_said count = record { seen = replicate count false; labels = replicate count None }
+
+abbrev pub has_line : Standing → ℕ → Bool
+has_line s place = slice_index_or s.seen place false
+
+abbrev pub said_at : Standing → ℕ → Option Route → Standing
+said_at s place label = record { seen = slice_set s.seen place true; labels = slice_set s.labels place label }
+
+abbrev pub itself : Bool → Bool
+itself b = b
+
+-- the labels, if each router has a line
+abbrev pub all_labels : Standing → Option (List (Option Route))
+all_labels s = if list_all itself s.seen then Some s.labels else None
+
+-- ---- names
+
+-- the place that stands at a name
+abbrev pub place_in : {Y S : Type 0} → hash.HashMap (String Y) ℕ S → List ℕ → Option ℕ
+place_in places name = hash.get_by_text places name
+
+-- the place of the first such name
+abbrev pub HasPlaces : {Y S : Type 0} → hash.HashMap (String Y) ℕ S → List (List ℕ) → Type 0
+HasPlaces places names = (wanted : List ℕ) → place_in places wanted ≡ position (bytes_eq wanted) names
+
+-- the places are among so many
+abbrev pub AreWithin : {Y S : Type 0} → hash.HashMap (String Y) ℕ S → ℕ → Type 0
+AreWithin places count = (wanted : List ℕ) (place : ℕ) → place_in places wanted ≡ Some place → place < count
+
+-- ---- one line more
+
+abbrev pub with_label : Protocol → ℕ → Standing → ℕ → Option Route → Result Standing SolRefusal
+with_label protocol line s place label =
+    if has_line s place then Err (At line Repeated)
+    else (if is_foreign protocol label then Err (At line WrongProtocol)
+    else Ok (said_at s place label))
+
+abbrev pub with_place : Protocol → ℕ → Standing → Option Route → Option ℕ → Result Standing SolRefusal
+with_place protocol line s label None = Err (At line UnknownRouter)
+with_place protocol line s label (Some place) = with_label protocol line s place label
+
+abbrev pub with_saying : Protocol → (List ℕ → Option ℕ) → ℕ → Standing → Option Saying → Result Standing SolRefusal
+with_saying protocol place_of line s None = Err (At line BadForm)
+with_saying protocol place_of line s (Some says) = with_place protocol line s says.label (place_of says.name)
+
+-- a line without words says nothing
+abbrev pub with_words : Protocol → (List ℕ → Option ℕ) → ℕ → Standing → List (List ℕ) → Result Standing SolRefusal
+with_words protocol place_of line s [] = Ok s
+with_words protocol place_of line s (word ∷ words) = with_saying protocol place_of line s (saying_of (word ∷ words))
+
+-- ---- all lines
+
+-- the answer behind the last line
+abbrev pub ended : ℕ → Standing → Result (List (Option Route)) SolRefusal
+ended line s = judged None line (all_labels s)
+
+abbrev pub go_on : Result Standing SolRefusal → (Standing → Result (List (Option Route)) SolRefusal) → Result (List (Option Route)) SolRefusal
+go_on (Ok s) f = f s
+go_on (Err e) f = Err e
+
+-- the answer of the lines that are left, where `end` is the number behind the last line
+unfoldable pub answer_from : Protocol → (List ℕ → Option ℕ) → ℕ → List TextLine → Standing → Result (List (Option Route)) SolRefusal
+answer_from protocol place_of end [] s = ended end s
+answer_from protocol place_of end (l ∷ ls) s = go_on (with_words protocol place_of l.number s l.words) (answer_from protocol place_of end ls)

@@ -1,0 +1,110 @@
+ghost use Rattle.std.specs.Prelude.{◌≡◌, ◌<◌, ◌≤◌, ◌∷◌, length};
+ghost use Rattle.cfg_ast.specs.text.Lines.{words_of};
+ghost use Rattle.solution_text.specs.Answers.{Reads};
+ghost use Rattle.solution_text.specs.Forms.{saying_of};
+ghost use Rattle.solution_text.specs.Solutions.{is_foreign};
+ghost use Rattle.solution_text.specs.Steps.{AreWithin, place_in, with_label, with_saying, with_words};
+
+use crate::forms::label_form;
+use crate::names::place_of;
+use crate::refusal::{SolKind, SolRefusal};
+use crate::said::Said;
+use crate::words::next_word;
+use base_kit::Protocol;
+use cfg_forms_router::is_router_name;
+use srp_core::Route;
+use std::alloc::Global;
+use std::collections::HashMap;
+
+fn is_foreign(protocol: Protocol, label: &Option<Route>) -> bool
+    ensures { result ≡ is_foreign protocol label.now }
+{
+    match (protocol, label) {
+        (Protocol::Bgp, Some(Route::Ospf { .. })) => true,
+        (Protocol::Bgp, Some(Route::Bgp { .. })) => false,
+        (Protocol::Bgp, None) => false,
+        (Protocol::Ospf, Some(Route::Bgp { .. })) => true,
+        (Protocol::Ospf, Some(Route::Ospf { .. })) => false,
+        (Protocol::Ospf, None) => false,
+    }
+}
+
+// A router at that place has the label, by the line of that number.
+fn with_label(
+    protocol: Protocol,
+    line: u32,
+    said: Said,
+    router: u32,
+    label: Option<Route>,
+) -> Result<Said, SolRefusal>
+    requires { router < length said.seen }
+    ensures { Reads result (with_label protocol line said router label) }
+{
+    if said.has_line(router) {
+        return Err(SolRefusal::At {
+            line,
+            kind: SolKind::Repeated,
+        });
+    }
+    if is_foreign(protocol, &label) {
+        return Err(SolRefusal::At {
+            line,
+            kind: SolKind::WrongProtocol,
+        });
+    }
+    Ok(said.with(router, label))
+}
+
+// The line that begins with this word, and goes on so.
+#[tactic(auto, unfolding(crate::specs::Forms::saying_of), using(crate::proofs::RouterNames::router_name_is_ascii))]
+fn with_saying(
+    alloc: Global,
+    protocol: Protocol,
+    places: &HashMap<String, u32>,
+    line: u32,
+    said: Said,
+    name: &[u8],
+    text: &[u8],
+) -> Result<Said, SolRefusal>
+    requires { AreWithin places.now (length said.seen) }
+    ensures { Reads result (with_saying protocol (place_in places.now) line said (saying_of (name.now ∷ words_of text.now))) }
+{
+    let bad_form = SolRefusal::At {
+        line,
+        kind: SolKind::BadForm,
+    };
+    let Some((word, text)) = next_word(text) else {
+        return Err(bad_form);
+    };
+    if !is_router_name(name) {
+        return Err(bad_form);
+    }
+    let Some(label) = label_form(alloc, word, text)? else {
+        return Err(bad_form);
+    };
+    match place_of(places, name) {
+        Some(router) => with_label(protocol, line, said, router, label),
+        None => Err(SolRefusal::At {
+            line,
+            kind: SolKind::UnknownRouter,
+        }),
+    }
+}
+
+/// What is said behind the line of this number too.
+pub(crate) fn with_line(
+    alloc: Global,
+    protocol: Protocol,
+    places: &HashMap<String, u32>,
+    line: u32,
+    said: Said,
+    text: &[u8],
+) -> Result<Said, SolRefusal>
+    requires { AreWithin places.now (length said.seen) }
+    ensures { Reads result (with_words protocol (place_in places.now) line said (words_of text.now)) }
+{
+    match next_word(text) {
+        Some((name, text)) => with_saying(alloc, protocol, places, line, said, name, text),
+        None => Ok(said),
+    }
+}

@@ -1,0 +1,128 @@
+ghost use Rattle.std.specs.Prelude.{◌≡◌, ◌<◌, ◌≤◌, ◌==◌, ◌++◌, ◌∷◌, [], IfOk, OnOk, Some, length, not, string_bytes, decimal, map};
+ghost use Rattle.std.specs.List.{position_or_len};
+ghost use Rattle.cfg_ast.specs.printing.Printed.{community_text, line_text};
+ghost use Rattle.srp_core.specs.declared.route.Route.TheVariants.{Bgp};
+ghost use Rattle.cfg_print.specs.Spaced.{spaced, spaced_words};
+ghost use Rattle.solution_text.specs.Printed.{piece_word, run_words, path_words, label_words, label_line, labels_text};
+
+use base_kit::{List, NoMemory, NumSet, Text};
+use cfg_print::put_community;
+use srp_core::{Labels, Route};
+use std::alloc::{AllocError, Global};
+use std::fmt::Write;
+
+// ---- paths
+
+// A number so many times, as one word behind a blank.
+fn put_piece(text: &mut String, number: u32, count: usize) -> Result<(), AllocError>
+    ensures { OnOk result (string_bytes text.new ≡ string_bytes text.old ++ spaced (piece_word number count)) }
+{
+    if count <= 1 {
+        write!(text, " {number}")
+    } else {
+        write!(text, " {number}*{count}")
+    }
+}
+
+// Pieces of 11 of a run, and the rest.
+fn put_run(text: &mut String, number: u32, count: usize) -> Result<(), AllocError>
+    ensures { OnOk result (string_bytes text.new ≡ string_bytes text.old ++ spaced_words (run_words (number, count))) }
+{
+    for _i in 0..count / 11 {
+        put_piece(text, number, 11)?;
+    }
+    let rest = count % 11;
+    if rest == 0 {
+        return Ok(());
+    }
+    put_piece(text, number, rest)
+}
+
+// How often the number stands at the front.
+fn run_length(path: &[u32], number: u32) -> usize
+    ensures value { result ≡ position_or_len (λ other. not (other == number)) path.now }
+    ensures bound { result ≤ length path.now }
+{
+    for (i, other) in path.iter().enumerate() {
+        if *other != number {
+            return i;
+        }
+    }
+    path.len()
+}
+
+fn put_path(text: &mut String, path: &[u32]) -> Result<(), AllocError>
+    ensures { OnOk result (string_bytes text.new ≡ string_bytes text.old ++ spaced_words (path_words path.now)) }
+{
+    let mut from = 0;
+    while from < path.len() {
+        let number = path[from];
+        let count = run_length(&path[from..], number);
+        put_run(text, number, count)?;
+        from += count;
+    }
+    Ok(())
+}
+
+// ---- lines
+
+fn put_communities(text: &mut String, comms: &NumSet) -> Result<(), AllocError>
+    ensures { OnOk result (string_bytes text.new ≡ string_bytes text.old ++ spaced_words (map community_text comms.now)) }
+{
+    let items = comms.as_slice();
+    for community in items {
+        text.push_str(" ")?;
+        put_community(text, *community)?;
+    }
+    Ok(())
+}
+
+fn put_bgp(text: &mut String, lp: u32, path: &[u32], comms: &NumSet) -> Result<(), AllocError>
+    ensures { OnOk result (string_bytes text.new ≡ string_bytes text.old ++ spaced_words (label_words (Some (Bgp lp path.now comms.now)))) }
+{
+    write!(text, " bgp {lp} path")?;
+    put_path(text, path)?;
+    text.push_str(" comms")?;
+    put_communities(text, comms)
+}
+
+// The words of a label, each behind a blank.
+fn put_label(text: &mut String, label: &Option<Route>) -> Result<(), AllocError>
+    ensures { OnOk result (string_bytes text.new ≡ string_bytes text.old ++ spaced_words (label_words label.now)) }
+{
+    match label {
+        None => text.push_str(" none"),
+        Some(Route::Ospf { cost }) => write!(text, " cost {cost}"),
+        Some(Route::Bgp { lp, path, comms }) => put_bgp(text, *lp, path.as_slice(), comms),
+    }
+}
+
+fn put_line(text: &mut String, name: &Text, label: &Option<Route>) -> Result<(), AllocError>
+    ensures { OnOk result (string_bytes text.new ≡ string_bytes text.old ++ line_text (label_line (name.now, label.now))) }
+{
+    text.push_str(name.as_str())?;
+    put_label(text, label)?;
+    text.push_str("\n")?;
+    Ok(())
+}
+
+fn put_lines(text: &mut String, names: &[Text], labels: &[Option<Route>]) -> Result<(), AllocError>
+    requires { length labels.now ≡ length names.now }
+    ensures { OnOk result (string_bytes text.new ≡ string_bytes text.old ++ labels_text names.now labels.now) }
+{
+    for i in 0..names.len() {
+        put_line(text, &names[i], &labels[i])?;
+    }
+    Ok(())
+}
+
+/// The text of labels, one for each name: a line for each router, in order. Communities are written as
+/// two halves, and each longest run of one number on a path in pieces of at most 11.
+pub fn print_labels(alloc: Global, labels: &Labels, names: &List<Text>) -> Result<Vec<u8>, NoMemory>
+    requires { length labels.now ≡ length names.now }
+    ensures { IfOk result (λ bytes. bytes.items ≡ labels_text names.now labels.now) }
+{
+    let mut text = String::new(alloc);
+    put_lines(&mut text, names.as_slice(), labels.as_slice())?;
+    Ok(text.into_bytes())
+}
