@@ -1,0 +1,3 @@
+pub mod Breaks
+pub mod Lone
+pub mod Offers

@@ -1,0 +1,94 @@
+-- What the edges of a router offer it, as against its label.
+use Rattle.std.specs.Prelude.{◌≡◌, ℕ, Bool, true, false, not, ◌&&◌, ◌||◌, List, Option, Some, None, [], nat_eq, bytes_eq, Contains, filter_map, if◌then◌else◌}
+use Rattle.std.specs.List.{list_any, cons_option}
+use Rattle.std.specs.Ordering.{is_lt}
+use Rattle.base_kit.specs.Sets.{with_number}
+use Rattle.base_kit.specs.declared.act_graph.Edge.{Edge}
+use Rattle.base_kit.specs.declared.protocol.Protocol.{Protocol}
+use Rattle.base_kit.specs.declared.protocol.Protocol.TheVariants.{Bgp as OverBgp, Ospf as OverOspf}
+use Rattle.srp_core.specs.declared.route.Route.{Route}
+use Rattle.srp_core.specs.declared.route.Route.TheVariants.{Bgp, Ospf}
+use Rattle.srp_core.specs.Acts.{arrived}
+use Rattle.srp_core.specs.Routes.{Key, preference_of, size_of, comms_of, compare_keys}
+use Rattle.srp_core.specs.Problem.{Problem, initial, key_of}
+use Rattle.srp_core.specs.Candidates.{over}
+use Rattle.solution_check.specs.declared.offers.Offer.{Offer}
+use Rattle.solution_check.specs.declared.weights.Weight.{Weight}
+use Rattle.solution_check.specs.declared.offers.Offer.TheVariants.{Nothing, Import, Cost}
+
+-- the edges of the router
+pub record AreOwn (problem : Problem) (router : ℕ) (own : List Edge) : Type 0 where
+  pub only : (edge : Edge) → Contains own edge → Contains problem.edges edge × (edge.importer ≡ router)
+  pub all : (edge : Edge) → Contains problem.edges edge → edge.importer ≡ router → Contains own edge
+
+-- its initial route, and what its edges give
+abbrev pub routes_of : Problem → List (Option Route) → ℕ → List Edge → List Route
+routes_of problem labels router own = cons_option (initial problem router) (filter_map (over problem labels) own)
+
+-- the route that an offer makes of that of the exporter with the number
+abbrev pub offered : Offer → Option Route → ℕ → Option Route
+offered Nothing from number = None
+offered (Cost cost) from number = Some (Ospf cost)
+offered (Import imported) None number = None
+offered (Import imported) (Some (Ospf cost)) number = None
+offered (Import imported) (Some (Bgp lp path comms)) number = Some (arrived number path imported)
+
+-- whether two routes are equal
+abbrev pub same_route : Route → Route → Bool
+same_route (Bgp lp path comms) (Bgp lp' path' comms') = nat_eq lp lp' && (bytes_eq path path' && bytes_eq comms comms')
+same_route (Bgp lp path comms) (Ospf cost) = false
+same_route (Ospf cost) (Bgp lp path comms) = false
+same_route (Ospf cost) (Ospf cost') = nat_eq cost cost'
+
+-- whether a route is the label, and whether it beats the label
+abbrev pub is_label : Route → Route → Bool
+is_label route candidate = same_route candidate route
+
+abbrev pub beats : Problem → Route → Route → Bool
+beats problem route candidate = is_lt (compare_keys (key_of problem candidate) (key_of problem route))
+
+-- whether an offer gives a route
+abbrev pub gives : Offer → Bool
+gives Nothing = false
+gives (Import imported) = true
+gives (Cost cost) = true
+
+-- ---- keys
+
+-- the lone numbers behind a number that is a lone router's or not
+abbrev pub with_lone : Bool → ℕ → List ℕ → List ℕ
+with_lone is_lone number rest = if is_lone then with_number number rest else rest
+
+-- a key by its parts
+abbrev pub key : ℕ → ℕ → List ℕ → List ℕ → Key
+key preference size comms lone = record { preference = preference; size = size; comms = comms; lone = lone }
+
+-- the key of a route with these lone numbers
+abbrev pub key_with : Route → List ℕ → Key
+key_with route lone = key (preference_of route) (size_of route) (comms_of route) lone
+
+-- ---- what candidates weigh
+
+-- they have the label among them, and one that beats it
+pub record WeighsAs (problem : Problem) (route : Route) (routes : List Route) (weight : Weight) : Type 0 where
+  pub held : weight.held ≡ list_any (is_label route) routes
+  pub beaten : weight.beaten ≡ list_any (beats problem route) routes
+
+abbrev pub one : Option Route → List Route
+one found = cons_option found []
+
+abbrev pub nothing_weighed : Weight
+nothing_weighed = record { held = false; beaten = false }
+
+abbrev pub both_weighed : Weight → Weight → Weight
+both_weighed a b = record { held = a.held || b.held; beaten = a.beaten || b.beaten }
+
+abbrev pub always : Route → Bool
+always route = true
+
+-- a BGP originator has another label than its initial route
+abbrev pub is_wrong_origin : Protocol → Option Route → Option Route → Bool
+is_wrong_origin OverBgp (Some initial) (Some label) = not (same_route initial label)
+is_wrong_origin OverBgp (Some initial) None = true
+is_wrong_origin OverBgp None label = false
+is_wrong_origin OverOspf initial label = false
