@@ -1,0 +1,9 @@
+mod InRange
+mod LabelsBack
+mod LinesBack
+mod NetworkRange
+mod PathsBack
+mod QuotientRange
+mod ReadBack
+mod SessionRange
+mod StableRange
