@@ -1,0 +1,10 @@
+mod Directions
+mod FoldLoop
+mod LastSides
+mod LiftLoop
+mod MemberLists
+mod Ranges
+mod Small
+mod Takings
+mod TaskOrder
+mod TasksDone

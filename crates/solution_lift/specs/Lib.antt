@@ -1,0 +1,4 @@
+pub mod Carrying
+pub mod Lasts
+pub mod Members
+pub mod Sides

@@ -1,0 +1,106 @@
+ghost use Rattle.std.specs.Prelude.{◌≡◌, ℕ, ◌<◌, IfOk, length};
+ghost use Rattle.base_kit.specs.Partition.{IsNumbered};
+ghost use Rattle.base_kit.specs.declared.protocol.Protocol.TheVariants.{Bgp as OverBgp, Ospf as OverOspf};
+ghost use Rattle.srp_core.specs.Filling.{CanBeFolded};
+ghost use Rattle.srp_core.specs.Lifts.{IsFold};
+ghost use Rattle.srp_core.specs.Problem as problem;
+ghost use Rattle.srp_core.specs.Quotient.{group_of, IsAdmissible, Corresponds};
+ghost use Rattle.srp_core.specs.Stability.{label, IsStable};
+ghost use Rattle.srp_quotient.specs.Groups.{first_member, small_of};
+
+use crate::next::next;
+use crate::problem::quotient_srp;
+use crate::sides::{groups_of, no_labels, places, sources_of};
+use crate::tables::{first_member, first_members, route_copy};
+use crate::tasks::tasks_of;
+use abstract_net::quotient;
+use base_kit::{NoMemory, Protocol};
+use refine_partition::Partition;
+use srp_core::laws::filling::fold_steps;
+use srp_core::laws::keys::across_quotients;
+use srp_core::laws::{equal_keys, folds, ospf_folds};
+use srp_core::{Labels, Srp};
+use srp_quotient::laws::quotient_is_quotient;
+use std::alloc::Global;
+
+// Each group gets its route once the groups of smaller labels have theirs.
+fn fold_routes(
+    alloc: Global,
+    srp: &Srp,
+    small: &Srp,
+    p: &Partition,
+    count: u32,
+    labels: &Labels,
+) -> Result<Labels, NoMemory>
+    requires can { CanBeFolded srp.now small.now p.now labels.now }
+    requires numbered { IsNumbered p.now count }
+    requires size { problem.count small.now ≡ count }
+    ensures { IfOk result (IsFold srp.now small.now p.now labels.now) }
+{
+    fold_steps();
+    across_quotients();
+    equal_keys();
+    let groups = groups_of(alloc, p, srp.count())?;
+    let firsts = first_members(alloc, p, count)?;
+    let own = places(alloc, count)?;
+    let sources = sources_of(alloc, srp.numbers(), &groups)?;
+    let tasks = tasks_of(alloc, labels.as_slice(), &firsts)?;
+    let mut lower = no_labels(alloc, count)?;
+    for task in &tasks {
+        let asked = labels.as_slice();
+        let route = next(
+            alloc, small, asked, &firsts, &own, &sources, &lower, task.place,
+        )?;
+        lower.set(task.place, route);
+    }
+    Ok(lower)
+}
+
+fn fold_costs(alloc: Global, p: &Partition, count: u32, labels: &Labels) -> Result<Labels, NoMemory>
+    requires { IsNumbered p.now count }
+    ensures total { IfOk result (λ lower. length lower ≡ count) }
+    ensures costs { IfOk result (λ lower. (g : ℕ) → g < count → label lower g ≡ label labels.now (first_member p.now g)) }
+{
+    let mut lower = Labels::new(alloc);
+    for group in 0..count {
+        lower.push(route_copy(alloc, labels.as_slice(), first_member(p, group))?)?;
+    }
+    Ok(lower)
+}
+
+/// Labels of the groups from stable labels of the routers.
+///
+/// In OSPF a group has the cost of its members. In BGP a group that originates has its initial route,
+/// and every other takes its route from the group of the router from which its first member took it.
+///
+/// # Errors
+/// Out of memory.
+pub fn fold(alloc: Global, srp: &Srp, p: &Partition, labels: &Labels) -> Result<Labels, NoMemory>
+    requires groups { IsAdmissible srp.now p.now }
+    requires stable { IsStable srp.now labels.now }
+    ensures stable { IfOk result (λ lower. (groups : ℕ) → IsNumbered p.now groups → IsStable (small_of srp.now p.now groups) lower) }
+    ensures corresponds { IfOk result (λ lower. (groups : ℕ) → IsNumbered p.now groups → Corresponds srp.now (small_of srp.now p.now groups) p.now labels.now lower) }
+    ensures routes { IfOk result (λ lower. srp.now.protocol ≡ OverBgp → (groups : ℕ) → IsNumbered p.now groups → IsFold srp.now (small_of srp.now p.now groups) p.now labels.now lower) }
+    ensures costs { IfOk result (λ lower. srp.now.protocol ≡ OverOspf → (u : ℕ) → u < problem.count srp.now → label lower (group_of p.now u) ≡ label labels.now u) }
+{
+    quotient_is_quotient();
+    folds();
+    ospf_folds();
+    equal_keys();
+    let _routers = srp.count();
+    let count = p.groups();
+    let graph = srp.graph()?;
+    let links = quotient(alloc, &graph, p)?;
+    let small = quotient_srp(alloc, srp, p, &links)?;
+    let _rules = small.count();
+    match srp.protocol() {
+        Protocol::Bgp => {
+            let lower = fold_routes(alloc, srp, &small, p, count, labels)?;
+            Ok(lower)
+        }
+        Protocol::Ospf => {
+            let lower = fold_costs(alloc, p, count, labels)?;
+            Ok(lower)
+        }
+    }
+}

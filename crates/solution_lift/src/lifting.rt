@@ -1,0 +1,114 @@
+ghost use Rattle.std.specs.Prelude.{◌≡◌, ℕ, ◌<◌, IfOk, length};
+ghost use Rattle.base_kit.specs.Partition.{IsNumbered};
+ghost use Rattle.base_kit.specs.declared.protocol.Protocol.TheVariants.{Bgp as OverBgp, Ospf as OverOspf};
+ghost use Rattle.abstract_net.specs.Links.{quotient_links};
+ghost use Rattle.srp_core.specs.Filling.{CanBeLifted};
+ghost use Rattle.srp_core.specs.Lifts.{IsLift};
+ghost use Rattle.srp_core.specs.Problem.{count};
+ghost use Rattle.srp_core.specs.Quotient.{group_of, IsAdmissible, Corresponds};
+ghost use Rattle.srp_core.specs.Stability.{label, IsStable};
+ghost use Rattle.srp_quotient.specs.Groups.{small_of};
+
+use crate::next::next;
+use crate::problem::quotient_srp;
+use crate::sides::{groups_of, no_labels, places, sources_of};
+use crate::tables::route_copy;
+use crate::tasks::tasks_of;
+use abstract_net::Quotient;
+use base_kit::{NoMemory, Protocol};
+use refine_partition::Partition;
+use srp_core::laws::filling::lift_steps;
+use srp_core::laws::keys::across_quotients;
+use srp_core::laws::{lifts, ospf_lifts};
+use srp_core::{Labels, Srp};
+use srp_quotient::laws::quotient_is_quotient;
+use std::alloc::Global;
+
+// Each router gets its route once the routers of smaller labels have theirs.
+fn lift_routes(
+    alloc: Global,
+    srp: &Srp,
+    small: &Srp,
+    p: &Partition,
+    labels: &Labels,
+) -> Result<Labels, NoMemory>
+    requires { CanBeLifted srp.now small.now p.now labels.now }
+    ensures { IfOk result (IsLift srp.now small.now p.now labels.now) }
+{
+    lift_steps();
+    across_quotients();
+    let count = srp.count();
+    let groups = groups_of(alloc, p, count)?;
+    let own = places(alloc, small.count())?;
+    let sources = sources_of(alloc, small.numbers(), &own)?;
+    let tasks = tasks_of(alloc, labels.as_slice(), &groups)?;
+    let mut upper = no_labels(alloc, count)?;
+    for task in &tasks {
+        let asked = labels.as_slice();
+        let route = next(
+            alloc, srp, asked, &groups, &groups, &sources, &upper, task.place,
+        )?;
+        upper.set(task.place, route);
+    }
+    Ok(upper)
+}
+
+fn lift_costs(
+    alloc: Global,
+    p: &Partition,
+    labels: &Labels,
+    routers: u32,
+) -> Result<Labels, NoMemory>
+    requires { length p.now ≡ routers }
+    ensures total { IfOk result (λ upper. length upper ≡ routers) }
+    ensures costs { IfOk result (λ upper. (u : ℕ) → u < routers → label upper u ≡ label labels.now (group_of p.now u)) }
+{
+    let mut upper = Labels::new(alloc);
+    for router in 0..routers {
+        upper.push(route_copy(alloc, labels.as_slice(), p.group_of(router))?)?;
+    }
+    Ok(upper)
+}
+
+/// Labels of the routers from stable labels of the groups.
+///
+/// In OSPF a router has the cost of its group. In BGP a router that originates has its initial route.
+/// For every other whose group has a route, the first number on that route's path is that of a group:
+/// the router takes its route from the least router of that group that gives it one of the key of its
+/// group's route.
+///
+/// # Errors
+/// Out of memory.
+pub fn lift(
+    alloc: Global,
+    srp: &Srp,
+    p: &Partition,
+    q: &Quotient,
+    labels: &Labels,
+) -> Result<Labels, NoMemory>
+    requires groups { IsAdmissible srp.now p.now }
+    requires links { (groups : ℕ) → IsNumbered p.now groups → q.now.links ≡ quotient_links srp.now.edges p.now groups }
+    requires stable { (groups : ℕ) → IsNumbered p.now groups → IsStable (small_of srp.now p.now groups) labels.now }
+    ensures stable { IfOk result (λ upper. IsStable srp.now upper) }
+    ensures corresponds { IfOk result (λ upper. (groups : ℕ) → IsNumbered p.now groups → Corresponds srp.now (small_of srp.now p.now groups) p.now upper labels.now) }
+    ensures routes { IfOk result (λ upper. srp.now.protocol ≡ OverBgp → (groups : ℕ) → IsNumbered p.now groups → IsLift srp.now (small_of srp.now p.now groups) p.now labels.now upper) }
+    ensures costs { IfOk result (λ upper. srp.now.protocol ≡ OverOspf → (u : ℕ) → u < count srp.now → label upper u ≡ label labels.now (group_of p.now u)) }
+{
+    quotient_is_quotient();
+    lifts();
+    ospf_lifts();
+    let _groups = p.groups();
+    let routers = srp.count();
+    let small = quotient_srp(alloc, srp, p, q)?;
+    let _rules = small.count();
+    match srp.protocol() {
+        Protocol::Bgp => {
+            let upper = lift_routes(alloc, srp, &small, p, labels)?;
+            Ok(upper)
+        }
+        Protocol::Ospf => {
+            let upper = lift_costs(alloc, p, labels, routers)?;
+            Ok(upper)
+        }
+    }
+}
