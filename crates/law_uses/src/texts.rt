@@ -1,4 +1,4 @@
-ghost use Rattle.cfg_ast.specs.Reading.{IsGiven};
+ghost use Rattle.cfg_ast.specs.text.Reading.{IsGiven};
 ghost use Rattle.cfg_given.specs.Laws.{PlacesAreInOrder};
 ghost use Rattle.cfg_round_trip.specs.Laws.{HasFewLines, IsReadBack};
 ghost use Rattle.cfg_round_trip.specs.Notes.{AreNotes};
@@ -9,7 +9,7 @@ use cfg_round_trip::given_is_read_back;
 
 /// The interfaces and neighbours of a network that a text gives stand in the order of their lines.
 pub fn is_in_order(network: &Network)
-    requires given { IsGiven network.now }
+    requires known { ∥ IsGiven network.now ∥₁ }
     ensures { PlacesAreInOrder network.now }
 {
     given_places_are_in_order();
