@@ -1,5 +1,5 @@
 -- The lines of the groups of a class are determined.
-use Rattle.std.proofs.Common.{◌≡◌, ℕ, ◌+◌, ◌<◌, true, false, Bool, List, [], ◌∷◌, ◌++◌, length, refl, sym, ap, ◌∙◌, subst, ext_get_or, codes, is_some, flat_map}
+use Rattle.std.proofs.Common.{◌≡◌, ℕ, ◌+◌, false, List, [], ◌∷◌, ◌++◌, refl, sym, ap, ◌∙◌, subst, codes, is_some, flat_map}
 use Rattle.std.specs.Prelude.{Contains, slice_index_or, filter, decimal}
 use Rattle.std.specs.List.{range_with_len}
 use Rattle.base_kit.specs.Prefixes.{Prefix}
@@ -7,17 +7,18 @@ use Rattle.base_kit.specs.Partition.{IsNumbered, Refines, members_of}
 use Rattle.base_kit.proofs.Elements.{In, contains_in, in_contains, in_filter, filter_in, map_in}
 use Rattle.cfg_ast.specs.declared.network.Network.{Network}
 use Rattle.cfg_ast.specs.declared.classes.DestClass.{DestClass}
-use Rattle.cfg_ast.specs.Classes.{classes_of, class_of, originated, is_least, is_same_class}
+use Rattle.cfg_ast.specs.meaning.Classes.{classes_of, class_of, originated, is_least, is_same_class}
 use Rattle.cfg_ast.proofs.ClassFacts.{is_one_class}
-use Rattle.srp_core.specs.Problem.{Problem, count, is_lone}
-use Rattle.srp_core.specs.ProblemOf.{IsProblemOf}
+use Rattle.srp_core.specs.Alike.{ProblemsAlike}
+use Rattle.srp_core.specs.Problem.{Problem}
 use Rattle.srp_core.specs.Quotient.{IsCoarsest}
+use Rattle.srp_core.proofs.Alike.{one_start, same_coarsest}
+use Rattle.srp_core.proofs.AlikeOf.{one_problem}
 use Rattle.bonsai_top.specs.GroupLines.{mark_by, mark_of, group_mark, member_word, group_line, line_of_group, group_lines, HasGroupLines, AreGroupLines}
 use Rattle.bonsai_top.proofs.NumberedOnce.{one_numbering, one_count_of_groups}
-use Rattle.bonsai_top.proofs.SameProblem.{one_count, one_start, marked_too, same_coarsest}
 
 -- a class has a prefix: its least one
-some_prefix : (n : Network) (class : DestClass) → Contains (classes_of n) class → (p : Prefix) × Contains class.prefixes p
+pub some_prefix : (n : Network) (class : DestClass) → Contains (classes_of n) class → (p : Prefix) × Contains class.prefixes p
 unfolding classes_of
 some_prefix n class c =
     let m = map_in (class_of n) (filter (is_least n) (originated n)) class (in_contains _ class c) in
@@ -30,28 +31,16 @@ flat_map_same : {X : Type 0} (f g : X → List ℕ) (xs : List X) → ((x : X) �
 flat_map_same f g [] same = refl
 flat_map_same f g (x ∷ xs) same = λ j. same x j ++ flat_map_same f g xs same j
 
-one_bool : (b c : Bool) → (b ≡ true → c ≡ true) → (c ≡ true → b ≡ true) → b ≡ c
-one_bool true c there back = sym (there refl)
-one_bool false true there back = back refl
-one_bool false false there back = refl
-
-module _ (n : Network) (p : Prefix) (P Q : Problem) (a : IsProblemOf n p P) (b : IsProblemOf n p Q) where
-  over : (u : ℕ) → u < length P.lone → (u < count P) × (u < count Q)
-  over u h = let inside : u < count P = subst (λ (k : ℕ). u < k) a.rules.lone_total h in (inside, subst (λ (k : ℕ). u < k) (one_count n p P Q a b) inside)
-
-  same_lone : P.lone ≡ Q.lone
-  same_lone = ext_get_or false P.lone Q.lone (a.rules.lone_total ∙ one_count n p P Q a b ∙ sym b.rules.lone_total) (λ u h. (let inside = over u h in
-      one_bool (is_lone P u) (is_lone Q u) (marked_too n p P Q a b u inside.0) (marked_too n p Q P b a u inside.1)))
-
+module _ (P Q : Problem) (same : ProblemsAlike P Q) where
   same_mark : (u : ℕ) → mark_of P u ≡ mark_of Q u
-  same_mark u = λ j. mark_by (is_some (one_start n p P Q a b u j)) (slice_index_or (same_lone j) u false)
+  same_mark u = λ j. mark_by (is_some (one_start P Q same u j)) (slice_index_or (same.lone j) u false)
 
   same_group_mark : (members : List ℕ) → group_mark P members ≡ group_mark Q members
   same_group_mark [] = refl
   same_group_mark (u ∷ more) = same_mark u
 
   same_word : (u : ℕ) → member_word P u ≡ member_word Q u
-  same_word u = ap (λ (names : List (List ℕ)). codes " " ++ slice_index_or names u []) (a.names ∙ sym b.names)
+  same_word u = ap (λ (names : List (List ℕ)). codes " " ++ slice_index_or names u []) same.names
 
   same_line : (number : ℕ) (members : List ℕ) → group_line P number members ≡ group_line Q number members
   same_line number members = λ j. codes "group " ++ decimal number ++ same_group_mark members j ++ codes ":" ++ flat_map_same (member_word P) (member_word Q) members same_word j ++ codes "\n"
@@ -59,9 +48,9 @@ module _ (n : Network) (p : Prefix) (P Q : Problem) (a : IsProblemOf n p P) (b :
   same_lines : (groups : List ℕ) (count : ℕ) → group_lines P groups count ≡ group_lines Q groups count
   same_lines groups count = flat_map_same (line_of_group P groups) (line_of_group Q groups) (range_with_len 0 count) (λ group. same_line (group + 1) (members_of groups group))
 
-  one_list_of_groups : (gs hs : List ℕ) (m k : ℕ) → IsCoarsest P gs → IsCoarsest Q hs → IsNumbered gs m → IsNumbered hs k → gs ≡ hs
+  pub one_list_of_groups : (gs hs : List ℕ) (m k : ℕ) → IsCoarsest P gs → IsCoarsest Q hs → IsNumbered gs m → IsNumbered hs k → gs ≡ hs
   one_list_of_groups gs hs m k c d x y =
-      let e = same_coarsest n p P Q a b gs c in
+      let e = same_coarsest P Q same gs c in
       let total = e.admissible.total in
       let other = d.admissible.total in
       one_numbering gs hs m k (total ∙ sym other) x y
@@ -77,4 +66,4 @@ module _ (n : Network) (p : Prefix) (P Q : Problem) (a : IsProblemOf n p P) (b :
 pub one_text : (n : Network) (class : DestClass) → Contains (classes_of n) class → (bs cs : List ℕ) → AreGroupLines n class bs → AreGroupLines n class cs → bs ≡ cs
 one_text n class c bs cs x y =
     let p = some_prefix n class c in
-    one_text_of n p.0 x.problem y.problem (x.are.of_class p.0 p.1) (y.are.of_class p.0 p.1) x.groups y.groups bs cs x.are.coarsest y.are.coarsest x.lines y.lines
+    one_text_of x.problem y.problem (one_problem n p.0 x.problem y.problem (x.are.of_class p.0 p.1) (y.are.of_class p.0 p.1)) x.groups y.groups bs cs x.are.coarsest y.are.coarsest x.lines y.lines

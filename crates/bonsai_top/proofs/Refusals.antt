@@ -3,8 +3,8 @@ use Rattle.std.proofs.Common.{◌≡◌, ℕ, List, sym, subst, Option, Result, 
 use Rattle.cfg_ast.specs.declared.refusal.ReadRefusal.{ReadRefusal}
 use Rattle.cfg_ast.specs.declared.refusal.ReadRefusal.TheVariants as read_refusal
 use Rattle.cfg_ast.specs.declared.network.Network.{Network}
-use Rattle.cfg_ast.specs.Answers.{RefusesAs}
-use Rattle.cfg_ast.specs.Reading.{reading_of}
+use Rattle.cfg_ast.specs.text.Answers.{RefusesAs}
+use Rattle.cfg_ast.specs.text.Reading.{reading_of}
 use Rattle.bonsai_top.specs.declared.command.Command.{Command}
 use Rattle.bonsai_top.specs.declared.reply.Reply.{Reply}
 use Rattle.bonsai_top.specs.Outcomes.{IsOutcomeOfReading}

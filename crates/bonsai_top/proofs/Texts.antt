@@ -1,17 +1,12 @@
 -- From the answer to a text to the answer to the files.
-use Rattle.std.proofs.Common.{◌≡◌, ℕ, ◌<◌, ◌≤◌, List, length, subst, arith, inl, inr, Option, Some, None, IfSome, codes}
-use Rattle.cfg_ast.specs.Reading.{reading_of}
-use Rattle.io_kit.specs.Ends.{Rose}
+use Rattle.std.proofs.Common.{◌≡◌, ℕ, ◌<◌, ◌≤◌, List, length, subst, inl, inr, Option, Some, None, IfSome, codes}
+use Rattle.cfg_ast.specs.text.Reading.{reading_of}
 use Rattle.bonsai_top.specs.declared.command.Command.{Command}
 use Rattle.bonsai_top.specs.declared.reply.Reply.{Reply}
 use Rattle.bonsai_top.specs.declared.reply.Reply.TheVariants.{Output, Refusal, NotStable, Misuse, ReadFailed, SecondFailed, NoMemory}
 use Rattle.bonsai_top.specs.Outcome.{Outcome, done, refused, not_stable}
 use Rattle.bonsai_top.specs.Outcomes.{text_limit, IsOutcomeOfReading, IsOutcomeOfText, IsOutcomeOf}
 use Rattle.bonsai_top.specs.Replies.{Answers, Only}
-
--- a fault after a later moment is one after an earlier
-pub rose_earlier : (before mid now : ℕ) → before ≤ mid → Rose mid now → Rose before now
-rose_earlier before mid now later rose = omega (arith, later, rose)
 
 -- a reply that is allowed is so where more is allowed, with weaker causes
 pub answers_as : (reply : Reply) (A B : Outcome → Type 0) (first first' second second' : Type 0) → ((o : Outcome) → A o → B o) → (first → first') → (second → second') → Answers reply A first second → Answers reply B first' second'

@@ -7,8 +7,8 @@ use Rattle.cfg_ast.specs.declared.network.Network.{Network}
 use Rattle.cfg_ast.specs.declared.network.Router.{Router}
 use Rattle.cfg_ast.specs.declared.classes.DestClass.{DestClass}
 use Rattle.cfg_ast.specs.declared.classes.Origin.{Origin}
-use Rattle.cfg_ast.specs.Classes.{classes_of}
-use Rattle.cfg_ast.specs.Printed.{prefix_text}
+use Rattle.cfg_ast.specs.meaning.Classes.{classes_of}
+use Rattle.cfg_ast.specs.printing.Printed.{prefix_text}
 
 -- the name of a router by its place
 abbrev pub name_at : Network → ℕ → List ℕ

@@ -12,6 +12,8 @@ use Rattle.bonsai_top.specs.Words.{form_of}
 abbrev pub built : Form → Option Command
 built form.Classes = Some command.Classes
 built (form.Groups class) = Some (command.Groups class)
+built (form.Compress class) = Some (command.Compress class)
+built (form.Check class) = Some (command.Check class)
 built other = None
 
 -- the command that the words name
@@ -22,11 +24,15 @@ command_of words = option_and_then built (form_of words)
 abbrev pub reads_first : Command → Bool
 reads_first command.Classes = true
 reads_first (command.Groups class) = true
+reads_first (command.Compress class) = true
+reads_first (command.Check class) = true
 
 -- whether it reads the second one
 abbrev pub reads_second : Command → Bool
 reads_second command.Classes = false
 reads_second (command.Groups class) = false
+reads_second (command.Compress class) = false
+reads_second (command.Check class) = true
 
 abbrev pub is_read : (Command → Bool) → Option Command → Bool
 is_read reads None = false

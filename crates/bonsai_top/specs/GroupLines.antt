@@ -1,16 +1,12 @@
 -- The text of the command `groups`: a line for each group, in order.
-use Rattle.std.specs.Prelude.{◌≡◌, ◌+◌, ℕ, Bool, true, false, List, [], ◌∷◌, ◌++◌, codes, decimal, flat_map, is_some, slice_index_or, Option, Some, None, slice_get}
-use Rattle.std.specs.Option.{option_map}
+use Rattle.std.specs.Prelude.{◌≡◌, ◌+◌, ℕ, Bool, true, false, List, [], ◌∷◌, ◌++◌, codes, decimal, flat_map, is_some, slice_index_or}
 use Rattle.std.specs.List.{range_with_len}
 use Rattle.base_kit.specs.Partition.{members_of, IsNumbered}
 use Rattle.cfg_ast.specs.declared.network.Network.{Network}
 use Rattle.cfg_ast.specs.declared.classes.DestClass.{DestClass}
-use Rattle.cfg_ast.specs.declared.refusal.Kind.TheVariants as kind
-use Rattle.cfg_ast.specs.Classes.{classes_of}
-use Rattle.cfg_ast.specs.RouterFaults.{bgp_processes, process_line}
+use Rattle.cfg_ast.specs.meaning.Classes.{classes_of}
 use Rattle.srp_core.specs.Problem.{Problem, initial, is_lone}
-use Rattle.bonsai_top.specs.Outcome.{Outcome, done, refused}
-use Rattle.bonsai_top.specs.Kinds.{line_reason}
+use Rattle.bonsai_top.specs.Outcome.{Outcome, done}
 use Rattle.bonsai_top.specs.ClassNumbers.{class_at, IsOfClass}
 use Rattle.bonsai_top.specs.Groups.{AreGroupsOf}
 
@@ -63,15 +59,6 @@ pub record IsGroupsOf (network : Network) (class : DestClass) (o : Outcome) : Ty
   pub lines : AreGroupLines network class bytes
   pub written : o ≡ done bytes
 
--- the first `router bgp` line
-abbrev pub first_bgp_line : Network → Option ℕ
-first_bgp_line network = option_map process_line (slice_get (bgp_processes network) 0)
-
--- The problems of BGP networks are not built yet, so such a line is refused.
-abbrev pub IsUnlessBgp : Option ℕ → (Outcome → Type 0) → Outcome → Type 0
-IsUnlessBgp (Some line) IsAllowed o = o ≡ refused (line_reason line kind.Unsupported)
-IsUnlessBgp None IsAllowed o = IsAllowed o
-
 -- what `groups` is to write of a network and the number of a class
 abbrev pub IsGroupsAnswer : Network → ℕ → Outcome → Type 0
-IsGroupsAnswer network number = IsUnlessBgp (first_bgp_line network) (IsOfClass (class_at (classes_of network) number) number (IsGroupsOf network))
+IsGroupsAnswer network number = IsOfClass (class_at (classes_of network) number) number (IsGroupsOf network)

@@ -3,7 +3,7 @@ use Rattle.std.specs.Prelude.{◌≡◌, ◌≤◌, ◌<◌, ◌⊎◌, ℕ, Lis
 use Rattle.cfg_ast.specs.declared.network.Network.{Network}
 use Rattle.cfg_ast.specs.declared.refusal.ReadRefusal.{ReadRefusal}
 use Rattle.cfg_ast.specs.declared.refusal.ReadRefusal.TheVariants as read_refusal
-use Rattle.cfg_ast.specs.Reading.{reading_of}
+use Rattle.cfg_ast.specs.text.Reading.{reading_of}
 use Rattle.bonsai_top.specs.declared.command.Command.{Command}
 use Rattle.bonsai_top.specs.declared.command.Command.TheVariants as command
 use Rattle.bonsai_top.specs.Words.{file_of, second_of}
@@ -11,12 +11,16 @@ use Rattle.bonsai_top.specs.Commands.{command_of}
 use Rattle.bonsai_top.specs.Outcome.{Outcome, done, refused, usage}
 use Rattle.bonsai_top.specs.Kinds.{line_reason}
 use Rattle.bonsai_top.specs.ClassLines.{classes_text}
+use Rattle.bonsai_top.specs.CompressText.{IsCompressAnswer}
 use Rattle.bonsai_top.specs.GroupLines.{IsGroupsAnswer}
+use Rattle.bonsai_top.specs.Checks.{IsCheckAnswer}
 
 -- what a command is to write of a network, with the second file where it is told
 abbrev pub IsAnswerTo : Command → Network → Option (List ℕ) → Outcome → Type 0
 IsAnswerTo command.Classes network second o = o ≡ done (classes_text network)
 IsAnswerTo (command.Groups class) network second o = IsGroupsAnswer network class o
+IsAnswerTo (command.Compress class) network second o = IsCompressAnswer network class o
+IsAnswerTo (command.Check class) network second o = IsCheckAnswer network class second o
 
 -- the answer of a network, or the line and kind that refuse the text
 abbrev pub IsOutcomeOfReading : Command → Option (List ℕ) → Result Network ReadRefusal → Outcome → Type 0

@@ -8,8 +8,8 @@ use Rattle.bonsai_top.specs.declared.command.Form.{Form}
 use Rattle.bonsai_top.specs.declared.command.Form.TheVariants as form
 
 -- the words as bytes
-abbrev pub texts : List (String Global) → List (List ℕ)
-texts words = map string_bytes words
+abbrev pub words_of : List (String Global) → List (List ℕ)
+words_of words = map string_bytes words
 
 abbrev pub short : ℕ → Option ℕ
 short n = if nat_le n 999999999 then Some n else None

@@ -1,5 +1,5 @@
 ghost use Rattle.std.specs.Prelude.{◌≡◌};
-ghost use Rattle.bonsai_top.specs.Words.{texts, short_number_of, form_on_file, form_on_class, form_on_second, form_of, file_of, second_of};
+ghost use Rattle.bonsai_top.specs.Words.{words_of, short_number_of, form_on_file, form_on_class, form_on_second, form_of, file_of, second_of};
 ghost use Rattle.bonsai_top.specs.Commands.{built, command_of};
 
 use base_kit::read_number;
@@ -29,6 +29,8 @@ pub enum Form {
 pub enum Command {
     Classes,
     Groups(u32),
+    Compress(u32),
+    Check(u32),
 }
 
 // A number of at most nine digits.
@@ -107,7 +109,7 @@ fn on_second(name: &str, class: u32) -> Option<Form>
 }
 
 fn read_form(words: &[String]) -> Option<Form>
-    ensures { result ≡ form_of (texts words.now) }
+    ensures { result ≡ form_of (words_of words.now) }
 {
     match words {
         [name, word] => on_file(name.as_str(), word.as_str()),
@@ -130,6 +132,8 @@ fn built(form: Form) -> Option<Command>
     match form {
         Form::Classes => Some(Command::Classes),
         Form::Groups(class) => Some(Command::Groups(class)),
+        Form::Compress(class) => Some(Command::Compress(class)),
+        Form::Check(class) => Some(Command::Check(class)),
         _ => None,
     }
 }
@@ -137,7 +141,7 @@ fn built(form: Form) -> Option<Command>
 /// The command that the words name.
 #[tactic(auto, unfolding(crate::specs::Commands::command_of))]
 pub fn read_words(words: &[String]) -> Option<Command>
-    ensures { result ≡ command_of (texts words.now) }
+    ensures { result ≡ command_of (words_of words.now) }
 {
     let form = read_form(words)?;
     built(form)
@@ -145,7 +149,7 @@ pub fn read_words(words: &[String]) -> Option<Command>
 
 /// The file that the words name first.
 pub fn file_word(words: &[String]) -> &str
-    ensures { result.now ≡ file_of (texts words.now) }
+    ensures { result.now ≡ file_of (words_of words.now) }
 {
     match words {
         [_, file, ..] => file.as_str(),
@@ -155,7 +159,7 @@ pub fn file_word(words: &[String]) -> &str
 
 /// The file that the words name behind the number.
 pub fn second_word(words: &[String]) -> &str
-    ensures { result.now ≡ second_of (texts words.now) }
+    ensures { result.now ≡ second_of (words_of words.now) }
 {
     match words {
         [_, _, _, second, ..] => second.as_str(),

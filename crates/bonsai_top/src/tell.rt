@@ -12,6 +12,7 @@ const USAGE: &[u8] =
     b"usage: bonsai classes F, groups F N, compress F N, report F N, json F N, check F N S, fold F N S, lift F N S, summary F, trial K, run F N S, reach F N S, canon F N, certify F N, verify F N S\n";
 
 // Puts three pieces, one after another.
+#[tactic(auto, using(io_kit::proofs::Rises::rose_earlier))]
 fn put_pieces<K: Sink>(k: &mut K, a: &[u8], b: &[u8], c: &[u8]) -> Result<(), Failed>
     ensures later { K.faults k.old ≤ K.faults k.new }
     ensures all { OnOk result (Took (K.taken k.old) (K.taken k.new) (a.now ++ b.now ++ c.now)) }
@@ -25,8 +26,10 @@ fn put_pieces<K: Sink>(k: &mut K, a: &[u8], b: &[u8], c: &[u8]) -> Result<(), Fa
 
 // Tells an output.
 fn tell_output<O: Sink, E: Sink>(out: &mut O, err: &mut E, bytes: &[u8]) -> Status
-    ensures { Tells (done bytes.now) result (O.taken out.old) (O.taken out.new) (O.faults out.old) (O.faults out.new)
+    ensures tells { Tells (done bytes.now) result (O.taken out.old) (O.taken out.new) (O.faults out.old) (O.faults out.new)
         (E.taken err.old) (E.taken err.new) (E.faults err.old) (E.faults err.new) }
+    ensures out_later { O.faults out.old ≤ O.faults out.new }
+    ensures err_later { E.faults err.old ≤ E.faults err.new }
 {
     if put_all(out, bytes).is_err() {
         let _ = put_all(err, b"write fault\n");
@@ -42,6 +45,7 @@ fn tell_line<E: Sink>(err: &mut E, status: Status, a: &[u8], b: &[u8], c: &[u8])
     ensures all { result ≢ Status.WriteFault → Took (E.taken err.old) (E.taken err.new) (a.now ++ b.now ++ c.now) }
     ensures part { TookPart (E.taken err.old) (E.taken err.new) (a.now ++ b.now ++ c.now) }
     ensures cause { result ≡ Status.WriteFault → Rose (E.faults err.old) (E.faults err.new) }
+    ensures later { E.faults err.old ≤ E.faults err.new }
 {
     match put_pieces(err, a, b, c) {
         Ok(()) => status,
@@ -57,8 +61,10 @@ pub fn tell<O: Sink, E: Sink>(
     first: &str,
     second: &str,
 ) -> Status
-    ensures { Tells (told_by reply.now first.now second.now) result (O.taken out.old) (O.taken out.new) (O.faults out.old) (O.faults out.new)
+    ensures tells { Tells (told_by reply.now first.now second.now) result (O.taken out.old) (O.taken out.new) (O.faults out.old) (O.faults out.new)
         (E.taken err.old) (E.taken err.new) (E.faults err.old) (E.faults err.new) }
+    ensures out_later { O.faults out.old ≤ O.faults out.new }
+    ensures err_later { E.faults err.old ≤ E.faults err.new }
 {
     match reply {
         Reply::Output(bytes) => tell_output(out, err, bytes),

@@ -1,9 +1,11 @@
-ghost use Rattle.std.specs.Prelude.{◌≡◌, ◌⊎◌, None, IsSome};
+ghost use Rattle.std.specs.Prelude.{◌≡◌, ◌≤◌, ◌⊎◌, ℕ, List, Some, None, IsSome};
 ghost use Rattle.io_kit.specs.Ends.{Rose};
-ghost use Rattle.bonsai_top.specs.Words.{texts, file_of, second_of};
+ghost use Rattle.bonsai_top.specs.Words.{words_of, file_of, second_of};
 ghost use Rattle.bonsai_top.specs.Commands.{command_of, FirstRose, SecondRose};
 ghost use Rattle.bonsai_top.specs.Outcomes.{IsOutcome};
 ghost use Rattle.bonsai_top.specs.Meets.{RunMeets};
+ghost use Rattle.bonsai_top.specs.Headline.{IsHeadline};
+ghost use Rattle.bonsai_top.specs.declared.command.Command.TheVariants as command;
 
 use crate::Status;
 use crate::command::{file_word, read_words, second_word};
@@ -24,22 +26,34 @@ pub fn run<S: Source, O: Sink, E: Sink>(
 ) -> Status
     // An outcome that the words allow over the contents is told, as far as these are told, or a fault
     // that has its cause, or want of memory.
-    ensures meets { RunMeets (IsOutcome (texts words.now) (S.contents files.old)) (file_of (texts words.now)) (second_of (texts words.now))
-        (FirstRose (command_of (texts words.now)) (S.faults files.old (file_of (texts words.now))) (S.faults files.new (file_of (texts words.now))))
-        (SecondRose (command_of (texts words.now)) (S.faults files.old (second_of (texts words.now))) (S.faults files.new (second_of (texts words.now)))) result
+    ensures meets { RunMeets (IsOutcome (words_of words.now) (S.contents files.old)) (file_of (words_of words.now)) (second_of (words_of words.now))
+        (FirstRose (command_of (words_of words.now)) (S.faults files.old (file_of (words_of words.now))) (S.faults files.new (file_of (words_of words.now))))
+        (SecondRose (command_of (words_of words.now)) (S.faults files.old (second_of (words_of words.now))) (S.faults files.new (second_of (words_of words.now)))) result
         (O.taken out.old) (O.taken out.new) (O.faults out.old) (O.faults out.new) (E.taken err.old) (E.taken err.new) (E.faults err.old) (E.faults err.new) }
 
     // Words that name no command, and these alone, are misuse, and then no file is touched.
-    ensures usage { command_of (texts words.now) ≡ None → (result ≡ Status.Usage) ⊎ (result ≡ Status.WriteFault) }
-    ensures usage_only { result ≡ Status.Usage → command_of (texts words.now) ≡ None }
-    ensures unread { command_of (texts words.now) ≡ None → files.new ≡ files.old }
+    ensures usage { command_of (words_of words.now) ≡ None → (result ≡ Status.Usage) ⊎ (result ≡ Status.WriteFault) }
+    ensures usage_only { result ≡ Status.Usage → command_of (words_of words.now) ≡ None }
+    ensures unread { command_of (words_of words.now) ≡ None → files.new ≡ files.old }
+
+    // The headline: where `compress` is done over a file that is told, what was written is read as the
+    // compressed network.
+    ensures headline { result ≡ Status.Done → (number : ℕ) → command_of (words_of words.now) ≡ Some (command.Compress number) → (text before : List ℕ)
+        → S.contents files.old (file_of (words_of words.now)) ≡ Some text → O.taken out.old ≡ Some before → IsHeadline text number before (O.taken out.new) }
+
+    // The files are as they were, and no count of faults falls.
+    ensures contents { S.contents files.new ≡ S.contents files.old }
+    ensures files_later { (n : List ℕ) → S.faults files.old n ≤ S.faults files.new n }
+    ensures out_later { O.faults out.old ≤ O.faults out.new }
+    ensures err_later { E.faults err.old ≤ E.faults err.new }
 
     // A fault has its cause, whether the files are told or not.
-    ensures read_fault { result ≡ Status.ReadFault → IsSome (command_of (texts words.now))
-        × (FirstRose (command_of (texts words.now)) (S.faults files.old (file_of (texts words.now))) (S.faults files.new (file_of (texts words.now)))
-        ⊎ SecondRose (command_of (texts words.now)) (S.faults files.old (second_of (texts words.now))) (S.faults files.new (second_of (texts words.now)))) }
+    ensures read_fault { result ≡ Status.ReadFault → IsSome (command_of (words_of words.now))
+        × (FirstRose (command_of (words_of words.now)) (S.faults files.old (file_of (words_of words.now))) (S.faults files.new (file_of (words_of words.now)))
+        ⊎ SecondRose (command_of (words_of words.now)) (S.faults files.old (second_of (words_of words.now))) (S.faults files.new (second_of (words_of words.now)))) }
     ensures write_fault { result ≡ Status.WriteFault → Rose (E.faults err.old) (E.faults err.new) ⊎ Rose (O.faults out.old) (O.faults out.new) }
 {
+    compress_laws::laws::plan_compresses();
     match read_words(words) {
         None => tell(out, err, &Reply::Misuse, "", ""),
         Some(command) => {

@@ -1,15 +1,19 @@
-ghost use Rattle.std.specs.Prelude.{◌≡◌, ◌≤◌, length, codes, Some};
-ghost use Rattle.cfg_ast.specs.Reading.{reading_of};
+ghost use Rattle.std.specs.Prelude.{◌≡◌, ◌≤◌, ℕ, List, length, codes, Some};
+ghost use Rattle.cfg_ast.specs.text.Reading.{reading_of};
 ghost use Rattle.bonsai_top.specs.Commands.{FirstRose, SecondRose};
 ghost use Rattle.bonsai_top.specs.Outcome.{refused};
 ghost use Rattle.bonsai_top.specs.Outcomes.{IsAnswerTo, IsOutcomeOfReading, IsOutcomeOf, text_limit};
 ghost use Rattle.bonsai_top.specs.Replies.{Answers, Only, Refuses};
 
+mod checks;
 mod class_numbers;
 mod classes;
+mod compress;
 mod group_lines;
 mod groups;
 mod problem;
+mod second;
+mod solution;
 
 use crate::command::Command;
 use crate::kinds::line_reason;
@@ -54,12 +58,16 @@ fn answer<S: Source>(
     second: &str,
     files: &mut S,
 ) -> Reply
-    ensures { Answers result (IsAnswerTo command checked.now.network (S.contents files.old second.now)) ⊥
+    ensures answers { Answers result (IsAnswerTo command checked.now.network (S.contents files.old second.now)) ⊥
         (SecondRose (Some command) (S.faults files.old second.now) (S.faults files.new second.now)) }
+    ensures contents { S.contents files.new ≡ S.contents files.old }
+    ensures later { (n : List ℕ) → S.faults files.old n ≤ S.faults files.new n }
 {
     match command {
         Command::Classes => classes::answer(alloc, checked),
         Command::Groups(class) => groups::answer(alloc, checked, class),
+        Command::Compress(class) => compress::answer(alloc, checked, class),
+        Command::Check(class) => checks::answer(alloc, checked, class, second, files),
     }
 }
 
@@ -72,8 +80,10 @@ fn over_text<S: Source>(
     files: &mut S,
 ) -> Reply
     requires { length text.now ≤ text_limit }
-    ensures { Answers result (IsOutcomeOfReading command (S.contents files.old second.now) (reading_of text.now)) ⊥
+    ensures answers { Answers result (IsOutcomeOfReading command (S.contents files.old second.now) (reading_of text.now)) ⊥
         (SecondRose (Some command) (S.faults files.old second.now) (S.faults files.new second.now)) }
+    ensures contents { S.contents files.new ≡ S.contents files.old }
+    ensures later { (n : List ℕ) → S.faults files.old n ≤ S.faults files.new n }
 {
     let network = match read_network(alloc, text) {
         Ok(network) => network,
@@ -93,9 +103,11 @@ pub fn work<S: Source>(
     second: &str,
     files: &mut S,
 ) -> Reply
-    ensures { Answers result (IsOutcomeOf command (S.contents files.old first.now) (S.contents files.old second.now))
+    ensures answers { Answers result (IsOutcomeOf command (S.contents files.old first.now) (S.contents files.old second.now))
         (FirstRose (Some command) (S.faults files.old first.now) (S.faults files.new first.now))
         (SecondRose (Some command) (S.faults files.old second.now) (S.faults files.new second.now)) }
+    ensures contents { S.contents files.new ≡ S.contents files.old }
+    ensures later { (n : List ℕ) → S.faults files.old n ≤ S.faults files.new n }
 {
     match read_all(alloc, files, first, TEXT_LIMIT) {
         Ok(text) => over_text(alloc, command, &text, second, files),

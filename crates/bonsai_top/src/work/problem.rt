@@ -1,14 +1,16 @@
-ghost use Rattle.std.specs.Prelude.{◌≡◌, ◌<◌, IfOk, Contains, Some};
-ghost use Rattle.base_kit.specs.declared.protocol.Protocol.TheVariants.{Ospf};
-ghost use Rattle.cfg_ast.specs.Classes.{classes_of};
-ghost use Rattle.cfg_ast.specs.RouterFaults.{protocol_of};
+ghost use Rattle.std.specs.Prelude.{◌≡◌, ◌<◌, IfOk, Contains};
+ghost use Rattle.cfg_ast.specs.meaning.Classes.{classes_of};
+ghost use Rattle.cfg_ast.specs.meaning.PolicyFaults.{communities_of};
+ghost use Rattle.cfg_ast.specs.meaning.Topology.{links_of};
+ghost use Rattle.route_maps.specs.Within.{AreWithin};
 ghost use Rattle.srp_core.specs.Quotient.{IsCoarsest};
+ghost use Rattle.srp_build.specs.Built.{IsBuiltFor};
 ghost use Rattle.bonsai_top.specs.Groups.{IsProblemOfClass};
 
-use base_kit::{NoMemory, Steps};
-use cfg_ast::DestClass;
+use base_kit::{List, NoMemory, Steps};
+use cfg_ast::{DestClass, Link};
 use cfg_check::Checked;
-use net_topology::links;
+use dd_core::Store;
 use refine_partition::{Partition, coarsest};
 use srp_build::build;
 use srp_core::Srp;
@@ -16,14 +18,29 @@ use std::alloc::Global;
 use std::marker::Brand;
 use std::sync::ledger::{Blank, Ledger};
 
-/// The problem of a class of an OSPF network.
-pub fn problem_of(alloc: Global, checked: &Checked, class: &DestClass) -> Result<Srp, NoMemory>
-    requires ospf { protocol_of checked.now.network ≡ Some Ospf }
-    requires class { Contains (classes_of checked.now.network) class.now }
-    ensures { IfOk result (λ problem. IsProblemOfClass checked.now.network class.now problem) }
+/// A store of diagrams over all communities that the network names.
+pub fn store_of(alloc: Global, checked: &Checked) -> Result<Store, NoMemory>
+    ensures { IfOk result (λ store. AreWithin store.universe (communities_of checked.now.network)) }
 {
-    let links = links(alloc, checked)?;
-    build(alloc, checked, &links, class)
+    let store = Store::new(alloc, checked.communities())?;
+    Ok(store)
+}
+
+/// The problem of a class.
+pub fn problem_of(
+    alloc: Global,
+    checked: &Checked,
+    links: &List<Link>,
+    class: &DestClass,
+    store: &mut Store,
+) -> Result<Srp, NoMemory>
+    requires links { links.now ≡ links_of checked.now.network }
+    requires class { Contains (classes_of checked.now.network) class.now }
+    requires known { AreWithin store.old.universe (communities_of checked.now.network) }
+    ensures of_class { IfOk result (λ problem. IsProblemOfClass checked.now.network class.now problem) }
+    ensures built { IfOk result (IsBuiltFor checked.now.network class.now) }
+{
+    build(alloc, checked, links, class, store)
 }
 
 // The coarsest admissible partition, by turns that this ledger counts.

@@ -2,14 +2,15 @@ use Rattle.std.proofs.Common.{sym, inl}
 use Rattle.bonsai_top.specs.Commands.{FirstRose, SecondRose, command_of}
 use Rattle.bonsai_top.specs.Outcome.{usage}
 use Rattle.bonsai_top.specs.Outcomes.{IsOutcome}
-use Rattle.bonsai_top.specs.Words.{file_of, second_of, texts}
+use Rattle.bonsai_top.specs.Words.{file_of, second_of, words_of}
+use Rattle.bonsai_top.proofs.Headlines.{headline}
 use Rattle.bonsai_top.proofs.Named.{outcome_misuse, answers_words}
 use Rattle.bonsai_top.proofs.Runs.{run_meets, meets}
 use Rattle.bonsai_top.proofs.top.run.Goals as goal
 
 pub returns-in-Some-clause-meets : goal.returns-in-Some-clause-meets
 returns-in-Some-clause-meets g c =
-    let words = texts c.args.words.now in
+    let words = words_of c.args.words.now in
     let contents = g.S.Source.contents c.args.files.now in
     let old = g.S.Source.faults c.args.files.now in
     let new = g.S.Source.faults c.work-reply.new.files in
@@ -20,16 +21,23 @@ returns-in-Some-clause-meets g c =
     _ _ (g.O.Sink.faults c.args.out.now) (g.O.Sink.faults c.tell-in-Some.new.out) _ _ (g.E.Sink.faults c.args.err.now) (g.E.Sink.faults c.tell-in-Some.new.err)
     c.work-reply.result
     (answers_words c.work-reply.result words contents c.in-Some.command first second (old first) (new first) (old second) (new second)
-    (sym c.in-Some.ensures) c.file_word-first.ensures c.second_word-second.ensures c.work-reply.ensures)
-    c.tell-in-Some.ensures)
+    (sym c.in-Some.ensures) c.file_word-first.ensures c.second_word-second.ensures c.work-reply.ensures.answers)
+    c.tell-in-Some.ensures.tells)
+
+pub returns-in-Some-clause-headline : goal.returns-in-Some-clause-headline
+returns-in-Some-clause-headline g c = λ is number names text before told taken.
+    headline c.plan_compresses.ensures (words_of c.args.words.now) (g.S.Source.contents c.args.files.now) _ _ _ _ c.tell-in-Some.result _ _ _ _ _ _ _ _ (returns-in-Some-clause-meets g c) is number names text before told taken
+
+pub returns-in-None-clause-headline : goal.returns-in-None-clause-headline
+returns-in-None-clause-headline g c = λ is number names text before told taken. absurd (let none = c.in-None.ensures in cc)
 
 pub returns-in-None-clause-meets : goal.returns-in-None-clause-meets
 returns-in-None-clause-meets g c =
-    let words = texts c.args.words.now in
+    let words = words_of c.args.words.now in
     let contents = g.S.Source.contents c.args.files.now in
     let files = g.S.Source.faults c.args.files.now in
     let first = file_of words in
     let second = second_of words in
     meets (IsOutcome words contents) first second (FirstRose (command_of words) (files first) (files first)) (SecondRose (command_of words) (files second) (files second)) c.tell.result
     _ _ (g.O.Sink.faults c.args.out.now) (g.O.Sink.faults c.tell.new.out) _ _ (g.E.Sink.faults c.args.err.now) (g.E.Sink.faults c.tell.new.err)
-    usage (inl (outcome_misuse words contents (sym c.in-None.ensures))) c.tell.ensures
+    usage (inl (outcome_misuse words contents (sym c.in-None.ensures))) c.tell.ensures.tells

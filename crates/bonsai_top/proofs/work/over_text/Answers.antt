@@ -1,8 +1,8 @@
 use Rattle.std.proofs.Common.{sym, ap, ◌∙◌, subst, Result, Ok}
 use Rattle.cfg_ast.specs.declared.network.Network.{Network}
 use Rattle.cfg_ast.specs.declared.refusal.ReadRefusal.{ReadRefusal}
-use Rattle.cfg_ast.specs.Meaning.{judged}
-use Rattle.cfg_ast.specs.Reading.{network_of_text}
+use Rattle.cfg_ast.specs.meaning.Meaning.{judged}
+use Rattle.cfg_ast.specs.text.Reading.{network_of_text}
 use Rattle.bonsai_top.specs.Outcomes.{IsOutcomeOfReading}
 use Rattle.bonsai_top.proofs.Readings.{reading_judged, reading_refused}
 use Rattle.bonsai_top.proofs.Refusals.{answers_refused}
@@ -10,8 +10,8 @@ use Rattle.bonsai_top.proofs.Texts.{answers_as}
 use Rattle.bonsai_top.proofs.work.over_text.Goals as goal
 
 -- the text is no network
-pub returns-in-Err : goal.returns-in-Err
-returns-in-Err g c =
+pub returns-in-Err-clause-answers : goal.returns-in-Err-clause-answers
+returns-in-Err-clause-answers g c =
     let text = c.args.text.now in
     answers_refused c.text_refusal.result c.args.command _ text c.in-Err.refusal (network_of_text text) _ (reading_refused text c.in-Err.refusal) c.in-Err.ensures c.text_refusal.ensures
 
@@ -19,17 +19,17 @@ abbrev accepted_as : Network → Result Network ReadRefusal
 accepted_as n = Ok n
 
 -- the network has no fault
-pub returns-in-Ok-check_network : goal.returns-in-Ok-check_network
-returns-in-Ok-check_network g c =
+pub returns-in-Ok-check_network-clause-answers : goal.returns-in-Ok-check_network-clause-answers
+returns-in-Ok-check_network-clause-answers g c =
     let text = c.args.text.now in
     let second = g.S.Source.contents c.args.files.now c.args.second.now in
     let checked = c.in-Ok-check_network.ensures in
     let read = reading_judged text c.in-Ok.network _ c.in-Ok.ensures (checked.accepted ∙ ap accepted_as (sym checked.ok)) in
-    answers_as c.answer.result _ _ ⊥ ⊥ _ _ (λ o is. subst (λ (r : Result Network ReadRefusal). IsOutcomeOfReading c.args.command second r o) (sym read) is) (λ e. e) (λ e. e) c.answer.ensures
+    answers_as c.answer.result _ _ ⊥ ⊥ _ _ (λ o is. subst (λ (r : Result Network ReadRefusal). IsOutcomeOfReading c.args.command second r o) (sym read) is) (λ e. e) (λ e. e) c.answer.ensures.answers
 
 -- the network has a fault
-pub returns-in-Err-check_network : goal.returns-in-Err-check_network
-returns-in-Err-check_network g c =
+pub returns-in-Err-check_network-clause-answers : goal.returns-in-Err-check_network-clause-answers
+returns-in-Err-check_network-clause-answers g c =
     let text = c.args.text.now in
     answers_refused c.text_refusal-in-Err-check_network.result c.args.command _ text c.in-Err-check_network.refusal (judged c.in-Ok.network) _ (λ e. reading_judged text c.in-Ok.network _ c.in-Ok.ensures e)
     c.in-Err-check_network.ensures.refused c.text_refusal-in-Err-check_network.ensures

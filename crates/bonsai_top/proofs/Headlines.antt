@@ -1,0 +1,152 @@
+-- From what a run does to the headline: where `compress` is done, what was written compresses the network.
+use Rattle.std.proofs.Common.{◌≡◌, ◌≢◌, ◌<◌, ◌≤◌, ◌⊎◌, inl, inr, ⊎_elim, ℕ, ◌-◌, Bool, true, false, List, [], ◌∷◌, ◌++◌, length, map, refl, sym, ap, ◌∙◌, subst, Option, Some, None, Result, Ok, Err, slice_get, nat_eq, if◌then◌else◌, codes}
+use Rattle.std.specs.Prelude.{Contains}
+use Rattle.base_kit.proofs.Elements.{contains_in, get_in}
+use Rattle.cfg_ast.specs.declared.classes.DestClass.{DestClass}
+use Rattle.cfg_ast.specs.declared.network.Network.{Network}
+use Rattle.cfg_ast.specs.declared.refusal.ReadRefusal.{ReadRefusal}
+use Rattle.cfg_ast.specs.declared.refusal.ReadRefusal.TheVariants as read_refusal
+use Rattle.cfg_ast.specs.meaning.Classes.{classes_of}
+use Rattle.cfg_ast.specs.declared.refusal.Fault.{Fault}
+use Rattle.cfg_ast.specs.meaning.Meaning.{judged, refused_by, least_fault, lesser_fault, meaning_faults}
+use Rattle.cfg_ast.specs.text.Reading.{network_of_text, reading_of, IsGiven}
+use Rattle.cfg_ast.specs.text.Stanzas.{◌>>=◌}
+use Rattle.cfg_check.specs.Faultless.{IsFaultless}
+use Rattle.cfg_check.proofs.Faultless.{faultless_of}
+use Rattle.cfg_print.specs.Prints.{is_too_long}
+use Rattle.config_emit.specs.Pool.{pool_line}
+use Rattle.compress_laws.specs.Compressed.{Compresses}
+use Rattle.compress_laws.specs.Laws.{text_of, PlanCompresses}
+use Rattle.io_kit.specs.Ends.{Took, with_end}
+use Rattle.bonsai_top.specs.declared.command.Command.{Command}
+use Rattle.bonsai_top.specs.declared.command.Command.TheVariants as command
+use Rattle.bonsai_top.specs.declared.status.Status.{Status}
+use Rattle.bonsai_top.specs.declared.status.Status.TheVariants.{Done, WriteFault}
+use Rattle.bonsai_top.specs.ClassNumbers.{class_at, no_class, IsOfClass}
+use Rattle.bonsai_top.specs.Kinds.{line_reason}
+use Rattle.bonsai_top.specs.Commands.{command_of}
+use Rattle.bonsai_top.specs.CompressText.{pool_overlap, IsTextOr, IsEmission, IsUnlessPool, IsCompressOf}
+use Rattle.bonsai_top.specs.Headline.{IsHeadline}
+use Rattle.bonsai_top.specs.Meets.{Tells, HasCause, RunMeets}
+use Rattle.bonsai_top.specs.Outcome.{Outcome, done, refused}
+use Rattle.bonsai_top.specs.Outcomes.{IsOutcomeOfReading, IsOutcomeOfText, IsOutcomeAt, IsOutcome}
+use Rattle.bonsai_top.specs.Words.{file_of, second_of}
+
+-- ---- a network that is accepted has no fault
+
+no_fault : (fs : List Fault) → least_fault fs ≡ None → fs ≡ []
+no_fault [] e = refl
+no_fault (f ∷ fs) e = absurd (step (least_fault fs) e)
+  where
+    by : (b : Bool) (g : Fault) → (if b then Some g else Some f) ≡ None → ⊥
+    by true g e = cc
+    by false g e = cc
+
+    step : (o : Option Fault) → lesser_fault (Some f) o ≡ None → ⊥
+    step None e = cc
+    step (Some g) e = by _ g e
+
+accepted : (n m : Network) (o : Option Fault) → refused_by n o ≡ Ok m → (o ≡ None) × (n ≡ m)
+accepted n m None e = (refl, cc)
+accepted n m (Some f) e = absurd cc
+
+judged_well : (n m : Network) → judged n ≡ Ok m → IsFaultless n × (n ≡ m)
+unfolding judged
+judged_well n m e = let a = accepted n m (least_fault (meaning_faults n)) e in (faultless_of n (no_fault (meaning_faults n) a.0), a.1)
+
+-- ---- a network that was read
+
+record IsRead (text : List ℕ) (n : Network) : Type 0 where
+  given : network_of_text text ≡ Ok n
+  faultless : IsFaultless n
+
+reads_well : (text : List ℕ) (n : Network) → reading_of text ≡ Ok n → IsRead text n
+unfolding reading_of
+reads_well text n e = step (network_of_text text) refl e
+  where
+    step : (r : Result Network ReadRefusal) → network_of_text text ≡ r → (r >>= judged) ≡ Ok n → IsRead text n
+    step (Err refusal) is e = absurd cc
+    step (Ok m) is e =
+        let j = judged_well m n e in
+        record { given = is ∙ ap (λ (k : Network). Ok k) j.1; faultless = subst IsFaultless j.1 j.0 }
+
+-- ---- the bytes that were written
+
+record HasBytes (n : Network) (number : ℕ) (o : Outcome) : Type 0 where
+  class : DestClass
+  class_is : class_at (classes_of n) number ≡ Some class
+  compresses : Compresses n class o.out
+
+found_in : (classes : List DestClass) (k : ℕ) (class : DestClass) (b : Bool) → (if b then None else slice_get classes k) ≡ Some class → Contains classes class
+found_in classes k class true found = cc
+found_in classes k class false found = contains_in classes class (get_in classes k class found)
+
+is_done : Outcome → Type 0
+is_done o = o.status ≡ Done
+
+module _ (compresses : PlanCompresses) (text : List ℕ) (n : Network) (read : IsRead text n) (number : ℕ) (o : Outcome) (status : o.status ≡ Done) where
+  no_refusal : (reason : List ℕ) → o ≡ refused reason → ⊥
+  no_refusal reason e = (let s : (refused reason).status ≡ Done = ap (λ (x : Outcome). x.status) (sym e) ∙ status in cc)
+
+  emitted : (class : DestClass) → Contains (classes_of n) class → pool_line n class ≡ None → IsEmission n class o → Compresses n class o.out
+  emitted class has apart is = step (is_too_long (text_of is.plan)) refl is.written
+    where
+      step : (b : Bool) → is_too_long (text_of is.plan) ≡ b → IsTextOr b (text_of is.plan) o → Compresses n class o.out
+      step true long written = absurd (no_refusal (codes "OutputTooLong") written)
+      step false short written = subst (λ (bytes : List ℕ). Compresses n class bytes) (sym (ap (λ (x : Outcome). x.out) written)) (compresses n class is.plan ∣ (text, read.given) ∣₁ read.faultless has is.is apart short)
+
+  of_class : (class : DestClass) → Contains (classes_of n) class → IsCompressOf n class o → Compresses n class o.out
+  of_class class has is = step (pool_line n class) refl is
+    where
+      step : (pool : Option ℕ) → pool_line n class ≡ pool → IsUnlessPool pool (IsEmission n class) o → Compresses n class o.out
+      step (Some line) pool is = absurd (no_refusal (pool_overlap line) is)
+      step None apart is = emitted class has apart is
+
+  has_bytes : (found : Option DestClass) → class_at (classes_of n) number ≡ found → IsOfClass found number (IsCompressOf n) o → HasBytes n number o
+  has_bytes None found is = absurd (no_refusal (no_class number) is)
+  has_bytes (Some class) found is = record { class = class; class_is = found; compresses = of_class class (found_in (classes_of n) (number - 1) class (nat_eq number 0) found) is }
+
+record HasNetwork (text : List ℕ) (number : ℕ) (o : Outcome) : Type 0 where
+  network : Network
+  reads : reading_of text ≡ Ok network
+  bytes : HasBytes network number o
+
+module _ (compresses : PlanCompresses) (text : List ℕ) (number : ℕ) (o : Outcome) (status : o.status ≡ Done) where
+  refused_not : (reason : List ℕ) → o ≡ refused reason → ⊥
+  refused_not reason e = (let s : (refused reason).status ≡ Done = ap (λ (x : Outcome). x.status) (sym e) ∙ status in cc)
+
+  of_reading : (r : Result Network ReadRefusal) → reading_of text ≡ r → (second : Option (List ℕ)) → IsOutcomeOfReading (command.Compress number) second r o → HasNetwork text number o
+  of_reading (Ok n) reads second is = record { network = n; reads = reads; bytes = has_bytes compresses text n (reads_well text n reads) number o status (class_at (classes_of n) number) refl is }
+  of_reading (Err (read_refusal.At line kind)) reads second is = absurd (refused_not (line_reason line kind) is)
+  of_reading (Err read_refusal.Memory) reads second is = absurd is
+
+  of_text : (second : Option (List ℕ)) → IsOutcomeOfText (command.Compress number) second text o → HasNetwork text number o
+  of_text second (inl long) = absurd (refused_not (codes "FileTooLong") long.1)
+  of_text second (inr read) = of_reading (reading_of text) refl second read.1
+
+of_outcome : PlanCompresses → (words : List (List ℕ)) (contents : List ℕ → Option (List ℕ)) (text : List ℕ) (number : ℕ) (o : Outcome) → o.status ≡ Done → command_of words ≡ Some (command.Compress number) → contents (file_of words) ≡ Some text → IsOutcome words contents o → HasNetwork text number o
+unfolding IsOutcome
+of_outcome compresses words contents text number o status names told is =
+    let at : IsOutcomeAt (Some (command.Compress number)) (contents (file_of words)) (contents (second_of words)) o = subst (λ (c : Option Command). IsOutcomeAt c (contents (file_of words)) (contents (second_of words)) o) names is in
+    of_text compresses text number o status (contents (second_of words)) (subst (λ (c : Option (List ℕ)). IsOutcomeAt (Some (command.Compress number)) c (contents (second_of words)) o) told at)
+
+pub headline : PlanCompresses → (words : List (List ℕ)) (contents : List ℕ → Option (List ℕ)) (first second : List ℕ) (first_rose second_rose : Type 0) (result : Status) (out_old out_new : Option (List ℕ)) (out_before out_now : ℕ) (err_old err_new : Option (List ℕ)) (err_before err_now : ℕ)
+    → RunMeets (IsOutcome words contents) first second first_rose second_rose result out_old out_new out_before out_now err_old err_new err_before err_now
+    → result ≡ Done → (number : ℕ) → command_of words ≡ Some (command.Compress number) → (text before : List ℕ) → contents (file_of words) ≡ Some text → out_old ≡ Some before → IsHeadline text number before out_new
+headline compresses words contents first second first_rose second_rose result out_old out_new out_before out_now err_old err_new err_before err_now meets is number names text before told taken =
+    elim meets.cause [
+      | inl allowed ↦ (let h = of_outcome compresses words contents text number meets.outcome status names told allowed in
+          record { network = h.network; reads = h.reads; class = h.bytes.class; class_is = h.bytes.class_is; bytes = meets.outcome.out; took = took; compresses = h.bytes.compresses })
+      | inr (inl failed) ↦ absurd (let s = ap (λ (x : Outcome). x.status) (sym failed.1) ∙ status in cc)
+      | inr (inr (inl failed)) ↦ absurd (let s = ap (λ (x : Outcome). x.status) (sym failed.1) ∙ status in cc)
+      | inr (inr (inr memory)) ↦ absurd (let s = ap (λ (x : Outcome). x.status) (sym memory) ∙ status in cc)
+    ]
+  where
+    no_fault_of_writing : result ≢ WriteFault
+    no_fault_of_writing w = (let s : Done ≡ WriteFault = sym is ∙ w in cc)
+
+    status : meets.outcome.status ≡ Done
+    status = ⊎_elim (λ e. sym e ∙ is) (λ w. absurd (no_fault_of_writing w)) meets.told.status
+
+    took : out_new ≡ Some (before ++ meets.outcome.out)
+    took = meets.told.out_all no_fault_of_writing ∙ ap (λ (o : Option (List ℕ)). with_end o meets.outcome.out) taken

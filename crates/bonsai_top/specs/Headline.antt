@@ -1,0 +1,19 @@
+-- THE HEADLINE: what was written compresses the network that was read.
+use Rattle.std.specs.Prelude.{◌≡◌, ℕ, List, ◌++◌, Option, Some, Ok}
+use Rattle.cfg_ast.specs.declared.network.Network.{Network}
+use Rattle.cfg_ast.specs.declared.classes.DestClass.{DestClass}
+use Rattle.cfg_ast.specs.meaning.Classes.{classes_of}
+use Rattle.cfg_ast.specs.text.Reading.{reading_of}
+use Rattle.compress_laws.specs.Compressed.{Compresses}
+use Rattle.bonsai_top.specs.ClassNumbers.{class_at}
+
+-- The text is read as a network that has a class of this number, and the bytes that were taken behind those
+-- before are the configurations of its compressed network.
+pub record IsHeadline (text : List ℕ) (number : ℕ) (before : List ℕ) (after : Option (List ℕ)) : Type 0 where
+  pub network : Network
+  pub reads : reading_of text ≡ Ok network
+  pub class : DestClass
+  pub class_is : class_at (classes_of network) number ≡ Some class
+  pub bytes : List ℕ
+  pub took : after ≡ Some (before ++ bytes)
+  pub compresses : Compresses network class bytes
