@@ -20,15 +20,15 @@ use Rattle.compress_laws.specs.Laws.{text_of, PlanCompresses}
 use Rattle.io_kit.specs.Ends.{Took, with_end}
 use Rattle.bonsai_top.specs.declared.command.Command.{Command}
 use Rattle.bonsai_top.specs.declared.command.Command.TheVariants as command
-use Rattle.bonsai_top.specs.declared.status.Status.{Status}
-use Rattle.bonsai_top.specs.declared.status.Status.TheVariants.{Done, WriteFault}
-use Rattle.bonsai_top.specs.ClassNumbers.{class_at, no_class, IsOfClass}
-use Rattle.bonsai_top.specs.Kinds.{line_reason}
+use Rattle.answer_kit.specs.declared.status.Status.{Status}
+use Rattle.answer_kit.specs.declared.status.Status.TheVariants.{Done, WriteFault}
+use Rattle.answer_kit.specs.ClassNumbers.{class_at, no_class, IsOfClass}
+use Rattle.answer_kit.specs.Kinds.{line_reason}
 use Rattle.bonsai_top.specs.Commands.{command_of}
-use Rattle.bonsai_top.specs.CompressText.{pool_overlap, IsTextOr, IsEmission, IsUnlessPool, IsCompressOf}
+use Rattle.answer_groups.specs.CompressText.{pool_overlap, IsTextOr, IsEmission, IsUnlessPool, IsCompressOf}
 use Rattle.bonsai_top.specs.Headline.{IsHeadline}
 use Rattle.bonsai_top.specs.Meets.{Tells, HasCause, RunMeets}
-use Rattle.bonsai_top.specs.Outcome.{Outcome, done, refused}
+use Rattle.answer_kit.specs.Outcome.{Outcome, done, refused}
 use Rattle.bonsai_top.specs.Outcomes.{IsOutcomeOfReading, IsOutcomeOfText, IsOutcomeAt, IsOutcome}
 use Rattle.bonsai_top.specs.Words.{file_of, second_of}
 

@@ -2,8 +2,8 @@
 use Rattle.std.proofs.Common.{◌≡◌, ◌≢◌, ◌⊎◌, inl, ℕ, List, [], Option}
 use Rattle.io_kit.specs.Ends.{Rose, Took, TookPart}
 use Rattle.io_kit.proofs.Pieces.{took_nothing, part_nothing}
-use Rattle.bonsai_top.specs.declared.status.Status.{Status}
-use Rattle.bonsai_top.specs.declared.status.Status.TheVariants.{WriteFault}
+use Rattle.answer_kit.specs.declared.status.Status.{Status}
+use Rattle.answer_kit.specs.declared.status.Status.TheVariants.{WriteFault}
 use Rattle.bonsai_top.specs.Meets.{Tells}
 
 pub tells_line : (status result : Status) (line : List ℕ) (out err_old err_new : Option (List ℕ)) (count before now : ℕ)

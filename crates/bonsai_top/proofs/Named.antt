@@ -1,12 +1,12 @@
 -- How what the words allow follows from the command that they name.
 use Rattle.std.proofs.Common.{◌≡◌, ℕ, List, refl, sym, subst, Option, Some, None}
 use Rattle.bonsai_top.specs.declared.command.Command.{Command}
-use Rattle.bonsai_top.specs.declared.reply.Reply.{Reply}
-use Rattle.bonsai_top.specs.Outcome.{usage}
+use Rattle.answer_kit.specs.declared.reply.Reply.{Reply}
+use Rattle.answer_kit.specs.Outcome.{usage}
 use Rattle.bonsai_top.specs.Words.{file_of, second_of}
 use Rattle.bonsai_top.specs.Commands.{command_of, FirstRose, SecondRose}
 use Rattle.bonsai_top.specs.Outcomes.{IsOutcomeOf, IsOutcomeAt, IsOutcome}
-use Rattle.bonsai_top.specs.Replies.{Answers}
+use Rattle.answer_kit.specs.Replies.{Answers}
 
 -- words that name no command
 pub outcome_misuse : (words : List (List ℕ)) (contents : List ℕ → Option (List ℕ)) → command_of words ≡ None → IsOutcome words contents usage

@@ -6,10 +6,10 @@ use Rattle.cfg_ast.specs.declared.network.Network.{Network}
 use Rattle.cfg_ast.specs.text.Answers.{RefusesAs}
 use Rattle.cfg_ast.specs.text.Reading.{reading_of}
 use Rattle.bonsai_top.specs.declared.command.Command.{Command}
-use Rattle.bonsai_top.specs.declared.reply.Reply.{Reply}
+use Rattle.answer_kit.specs.declared.reply.Reply.{Reply}
 use Rattle.bonsai_top.specs.Outcomes.{IsOutcomeOfReading}
-use Rattle.bonsai_top.specs.Replies.{Answers, Refuses}
-use Rattle.bonsai_top.proofs.Texts.{answers_as}
+use Rattle.answer_kit.specs.Replies.{Answers, Refuses}
+use Rattle.answer_kit.proofs.Replies.{answers_as}
 
 -- where one step of the reading refuses, the reading does
 pub answers_refused : (reply : Reply) (command : Command) (second : Option (List ℕ)) (text : List ℕ) (e : ReadRefusal) (step : Result Network ReadRefusal) (rose : Type 0)

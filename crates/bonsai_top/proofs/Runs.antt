@@ -1,12 +1,12 @@
 -- From a reply that has its cause and was told, to what the whole call does.
 use Rattle.std.proofs.Common.{◌≡◌, ◌≢◌, ◌⊎◌, inl, inr, ⊎_elim, ℕ, List, refl, ◌∙◌, ap, Option}
-use Rattle.bonsai_top.specs.declared.status.Status.{Status}
-use Rattle.bonsai_top.specs.declared.status.Status.TheVariants.{WriteFault, Memory}
-use Rattle.bonsai_top.specs.declared.reply.Reply.{Reply}
-use Rattle.bonsai_top.specs.declared.reply.Reply.TheVariants.{Output, Refusal, NotStable, Misuse, ReadFailed, SecondFailed, NoMemory}
-use Rattle.bonsai_top.specs.Outcome.{Outcome}
+use Rattle.answer_kit.specs.declared.status.Status.{Status}
+use Rattle.answer_kit.specs.declared.status.Status.TheVariants.{WriteFault, Memory}
+use Rattle.answer_kit.specs.declared.reply.Reply.{Reply}
+use Rattle.answer_kit.specs.declared.reply.Reply.TheVariants.{Output, Refusal, NotStable, Misuse, ReadFailed, SecondFailed, NoMemory}
+use Rattle.answer_kit.specs.Outcome.{Outcome}
 use Rattle.bonsai_top.specs.Meets.{Tells, HasCause, IsWhole, RunMeets}
-use Rattle.bonsai_top.specs.Replies.{Answers, told_by}
+use Rattle.answer_kit.specs.Replies.{Answers, told_by}
 
 module _ (IsAllowed : Outcome → Type 0) (first second : List ℕ) (first_rose second_rose : Type 0) (result : Status) (out_old out_new : Option (List ℕ)) (out_before out_now : ℕ) (err_old err_new : Option (List ℕ)) (err_before err_now : ℕ) where
   abbrev Told : Outcome → Type 0

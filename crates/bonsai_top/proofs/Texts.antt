@@ -2,21 +2,11 @@
 use Rattle.std.proofs.Common.{◌≡◌, ℕ, ◌<◌, ◌≤◌, List, length, subst, inl, inr, Option, Some, None, IfSome, codes}
 use Rattle.cfg_ast.specs.text.Reading.{reading_of}
 use Rattle.bonsai_top.specs.declared.command.Command.{Command}
-use Rattle.bonsai_top.specs.declared.reply.Reply.{Reply}
-use Rattle.bonsai_top.specs.declared.reply.Reply.TheVariants.{Output, Refusal, NotStable, Misuse, ReadFailed, SecondFailed, NoMemory}
-use Rattle.bonsai_top.specs.Outcome.{Outcome, done, refused, not_stable}
+use Rattle.answer_kit.specs.declared.reply.Reply.{Reply}
+use Rattle.answer_kit.specs.Outcome.{Outcome, refused}
 use Rattle.bonsai_top.specs.Outcomes.{text_limit, IsOutcomeOfReading, IsOutcomeOfText, IsOutcomeOf}
-use Rattle.bonsai_top.specs.Replies.{Answers, Only}
-
--- a reply that is allowed is so where more is allowed, with weaker causes
-pub answers_as : (reply : Reply) (A B : Outcome → Type 0) (first first' second second' : Type 0) → ((o : Outcome) → A o → B o) → (first → first') → (second → second') → Answers reply A first second → Answers reply B first' second'
-answers_as (Output bytes) A B first first' second second' more f s answers = more (done bytes.items) answers
-answers_as (Refusal reason) A B first first' second second' more f s answers = more (refused reason.items) answers
-answers_as (NotStable reason) A B first first' second second' more f s answers = more (not_stable reason.items) answers
-answers_as Misuse A B first first' second second' more f s answers = answers
-answers_as ReadFailed A B first first' second second' more f s answers = f answers
-answers_as SecondFailed A B first first' second second' more f s answers = s answers
-answers_as NoMemory A B first first' second second' more f s answers = tt
+use Rattle.answer_kit.specs.Replies.{Answers, Only}
+use Rattle.answer_kit.proofs.Replies.{answers_as}
 
 outcome_text : (command : Command) (text : List ℕ) (told second : Option (List ℕ)) → length text ≤ text_limit → IfSome told (λ c. text ≡ c) → (o : Outcome) → IsOutcomeOfReading command second (reading_of text) o → IsOutcomeOf command told second o
 outcome_text command text None second short same o is = tt

@@ -5,7 +5,7 @@ use Rattle.cfg_ast.specs.declared.classes.DestClass.{DestClass}
 use Rattle.cfg_ast.specs.meaning.Classes.{classes_of}
 use Rattle.cfg_ast.specs.text.Reading.{reading_of}
 use Rattle.compress_laws.specs.Compressed.{Compresses}
-use Rattle.bonsai_top.specs.ClassNumbers.{class_at}
+use Rattle.answer_kit.specs.ClassNumbers.{class_at}
 
 -- The text is read as a network that has a class of this number, and the bytes that were taken behind those
 -- before are the configurations of its compressed network.

@@ -1,17 +1,6 @@
-pub mod Checks
-pub mod ClassLines
-pub mod ClassNumbers
 pub mod Commands
-pub mod CompressText
-pub mod Compressing
-pub mod GroupLines
-pub mod Groups
 pub mod Headline
-pub mod Kinds
 pub mod Meets
 pub mod OneOutcome
-pub mod Outcome
 pub mod Outcomes
-pub mod Replies
-pub mod SecondFiles
 pub mod Words

@@ -1,9 +1,9 @@
 -- What a status and what the sinks took have to do with the outcomes that are allowed.
 use Rattle.std.specs.Prelude.{◌≡◌, ◌≢◌, ◌⊎◌, ℕ, List, [], Option}
 use Rattle.io_kit.specs.Ends.{Rose, Took, TookPart}
-use Rattle.bonsai_top.specs.declared.status.Status.{Status}
-use Rattle.bonsai_top.specs.declared.status.Status.TheVariants.{Done, WriteFault, Memory}
-use Rattle.bonsai_top.specs.Outcome.{Outcome, read_fault, out_of_memory, write_fault_line}
+use Rattle.answer_kit.specs.declared.status.Status.{Status}
+use Rattle.answer_kit.specs.declared.status.Status.TheVariants.{Done, WriteFault, Memory}
+use Rattle.answer_kit.specs.Outcome.{Outcome, read_fault, out_of_memory, write_fault_line}
 
 -- An outcome is told: its status, its bytes and its line, or `WriteFault` with a part of these where a sink failed.
 pub record Tells (o : Outcome) (result : Status) (out_old out_new : Option (List ℕ)) (out_before out_now : ℕ) (err_old err_new : Option (List ℕ)) (err_before err_now : ℕ) : Type 0 where

@@ -2,7 +2,7 @@
 use Rattle.std.specs.Prelude.{◌≡◌, ℕ, true, List, Option, IsSome}
 use Rattle.bonsai_top.specs.Words.{file_of, second_of}
 use Rattle.bonsai_top.specs.Commands.{command_of, reads_first, reads_second, is_read}
-use Rattle.bonsai_top.specs.Outcome.{Outcome}
+use Rattle.answer_kit.specs.Outcome.{Outcome}
 use Rattle.bonsai_top.specs.Outcomes.{IsOutcome}
 
 -- the files that the command reads are told

@@ -8,12 +8,12 @@ use Rattle.bonsai_top.specs.declared.command.Command.{Command}
 use Rattle.bonsai_top.specs.declared.command.Command.TheVariants as command
 use Rattle.bonsai_top.specs.Words.{file_of, second_of}
 use Rattle.bonsai_top.specs.Commands.{command_of}
-use Rattle.bonsai_top.specs.Outcome.{Outcome, done, refused, usage}
-use Rattle.bonsai_top.specs.Kinds.{line_reason}
-use Rattle.bonsai_top.specs.ClassLines.{classes_text}
-use Rattle.bonsai_top.specs.CompressText.{IsCompressAnswer}
-use Rattle.bonsai_top.specs.GroupLines.{IsGroupsAnswer}
-use Rattle.bonsai_top.specs.Checks.{IsCheckAnswer}
+use Rattle.answer_kit.specs.Outcome.{Outcome, done, refused, usage}
+use Rattle.answer_kit.specs.Kinds.{line_reason}
+use Rattle.answer_groups.specs.ClassLines.{classes_text}
+use Rattle.answer_groups.specs.CompressText.{IsCompressAnswer}
+use Rattle.answer_groups.specs.GroupLines.{IsGroupsAnswer}
+use Rattle.answer_solutions.specs.Checks.{IsCheckAnswer}
 
 -- what a command is to write of a network, with the second file where it is told
 abbrev pub IsAnswerTo : Command → Network → Option (List ℕ) → Outcome → Type 0

@@ -5,4 +5,8 @@ ghost use Rattle.bonsai_top.specs.OneOutcome.{OutcomeIsOne};
 /// The words allow one outcome, where the files that the command reads are told.
 pub fn outcome_is_one()
     ensures { OutcomeIsOne }
-{}
+{
+    answer_groups::laws::groups_answer_is_one();
+    answer_groups::laws::compress_answer_is_one();
+    answer_solutions::laws::check_answer_is_one();
+}

@@ -9,15 +9,12 @@
 #![tactic(auto)]
 
 mod command;
-mod kinds;
 pub mod laws;
-mod reply;
-mod status;
 mod tell;
 #[cfg(test)]
 mod tests;
 mod top;
 mod work;
 
-pub use status::Status;
+pub use answer_kit::Status;
 pub use top::run;

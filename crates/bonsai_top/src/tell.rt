@@ -1,11 +1,10 @@
 ghost use Rattle.std.specs.Prelude.{◌≡◌, ◌≢◌, ◌≤◌, ◌++◌, ◌⊎◌, [], OnOk, OnErr};
 ghost use Rattle.io_kit.specs.Ends.{Rose, Took, TookPart};
-ghost use Rattle.bonsai_top.specs.Outcome.{done};
+ghost use Rattle.answer_kit.specs.Outcome.{done};
 ghost use Rattle.bonsai_top.specs.Meets.{Tells};
-ghost use Rattle.bonsai_top.specs.Replies.{told_by};
+ghost use Rattle.answer_kit.specs.Replies.{told_by};
 
-use crate::Status;
-use crate::reply::Reply;
+use answer_kit::{Reply, Status};
 use io_kit::{Failed, Sink, put_all};
 
 const USAGE: &[u8] =

@@ -7,11 +7,10 @@ ghost use Rattle.bonsai_top.specs.Meets.{RunMeets};
 ghost use Rattle.bonsai_top.specs.Headline.{IsHeadline};
 ghost use Rattle.bonsai_top.specs.declared.command.Command.TheVariants as command;
 
-use crate::Status;
 use crate::command::{file_word, read_words, second_word};
-use crate::reply::Reply;
 use crate::tell::tell;
 use crate::work::work;
+use answer_kit::{Reply, Status};
 use io_kit::{Sink, Source};
 use std::alloc::Global;
 

@@ -1,23 +1,14 @@
 ghost use Rattle.std.specs.Prelude.{◌≡◌, ◌≤◌, ℕ, List, length, codes, Some};
 ghost use Rattle.cfg_ast.specs.text.Reading.{reading_of};
 ghost use Rattle.bonsai_top.specs.Commands.{FirstRose, SecondRose};
-ghost use Rattle.bonsai_top.specs.Outcome.{refused};
+ghost use Rattle.answer_kit.specs.Outcome.{refused};
 ghost use Rattle.bonsai_top.specs.Outcomes.{IsAnswerTo, IsOutcomeOfReading, IsOutcomeOf, text_limit};
-ghost use Rattle.bonsai_top.specs.Replies.{Answers, Only, Refuses};
-
-mod checks;
-mod class_numbers;
-mod classes;
-mod compress;
-mod group_lines;
-mod groups;
-mod problem;
-mod second;
-mod solution;
+ghost use Rattle.answer_kit.specs.Replies.{Answers, Only, Refuses};
 
 use crate::command::Command;
-use crate::kinds::line_reason;
-use crate::reply::Reply;
+use answer_groups::{classes, compress, groups};
+use answer_kit::{Reply, line_reason, refusal};
+use answer_solutions::check;
 use cfg_ast::ReadRefusal;
 use cfg_check::{Checked, check_network};
 use cfg_parse::read_network;
@@ -26,16 +17,6 @@ use std::alloc::Global;
 
 // A text has at most this many bytes.
 const TEXT_LIMIT: usize = 16_777_216;
-
-/// A refusal for this reason.
-pub fn refusal(alloc: Global, reason: &str) -> Reply
-    ensures { Answers result (Only (refused reason.now)) ⊥ ⊥ }
-{
-    match Vec::from_slice(alloc, reason.as_bytes()) {
-        Ok(bytes) => Reply::Refusal(bytes),
-        Err(_) => Reply::NoMemory,
-    }
-}
 
 // A refusal of the text, by its line and kind.
 fn text_refusal(alloc: Global, refusal: ReadRefusal) -> Reply
@@ -67,7 +48,7 @@ fn answer<S: Source>(
         Command::Classes => classes::answer(alloc, checked),
         Command::Groups(class) => groups::answer(alloc, checked, class),
         Command::Compress(class) => compress::answer(alloc, checked, class),
-        Command::Check(class) => checks::answer(alloc, checked, class, second, files),
+        Command::Check(class) => check::answer(alloc, checked, class, second, files),
     }
 }
 

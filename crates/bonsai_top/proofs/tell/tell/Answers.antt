@@ -1,4 +1,4 @@
-use Rattle.bonsai_top.specs.Outcome.{usage, out_of_memory, read_fault, refused, not_stable}
+use Rattle.answer_kit.specs.Outcome.{usage, out_of_memory, read_fault, refused, not_stable}
 use Rattle.bonsai_top.proofs.Lines.{tells_line}
 use Rattle.bonsai_top.proofs.tell.tell.Goals as goal
 

@@ -1,6 +1,6 @@
 use Rattle.std.proofs.Common.{sym, inl}
 use Rattle.bonsai_top.specs.Commands.{FirstRose, SecondRose, command_of}
-use Rattle.bonsai_top.specs.Outcome.{usage}
+use Rattle.answer_kit.specs.Outcome.{usage}
 use Rattle.bonsai_top.specs.Outcomes.{IsOutcome}
 use Rattle.bonsai_top.specs.Words.{file_of, second_of, words_of}
 use Rattle.bonsai_top.proofs.Headlines.{headline}

@@ -6,7 +6,7 @@ use Rattle.cfg_ast.specs.text.Reading.{network_of_text}
 use Rattle.bonsai_top.specs.Outcomes.{IsOutcomeOfReading}
 use Rattle.bonsai_top.proofs.Readings.{reading_judged, reading_refused}
 use Rattle.bonsai_top.proofs.Refusals.{answers_refused}
-use Rattle.bonsai_top.proofs.Texts.{answers_as}
+use Rattle.answer_kit.proofs.Replies.{answers_as}
 use Rattle.bonsai_top.proofs.work.over_text.Goals as goal
 
 -- the text is no network

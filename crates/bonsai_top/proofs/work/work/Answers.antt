@@ -2,7 +2,7 @@ use Rattle.std.proofs.Common.{subst, List, ℕ, Option, Some}
 use Rattle.cfg_ast.specs.text.Reading.{reading_of}
 use Rattle.bonsai_top.specs.Commands.{FirstRose, SecondRose}
 use Rattle.bonsai_top.specs.Outcomes.{IsOutcomeOfReading}
-use Rattle.bonsai_top.specs.Replies.{Answers}
+use Rattle.answer_kit.specs.Replies.{Answers}
 use Rattle.io_kit.proofs.Rises.{rose_earlier}
 use Rattle.bonsai_top.proofs.Texts.{answers_text, answers_long}
 use Rattle.bonsai_top.proofs.work.work.Goals as goal

@@ -1,0 +1,7 @@
+mod Compressing
+mod LineSteps
+mod OneAnswer
+mod OneEdges
+mod OneGrouping
+mod OnePlan
+mod OneProblem

@@ -1,0 +1,5 @@
+pub mod ClassLines
+pub mod CompressText
+pub mod Compressing
+pub mod GroupLines
+pub mod OneAnswer

@@ -1,0 +1,11 @@
+//! The commands that tell of classes and groups: `classes`, `groups` and `compress`.
+//!
+//! Each answers with a reply whose outcome its definition allows, or out of memory. The module `laws`
+//! says that there is one such outcome.
+#![tactic(auto)]
+
+pub mod classes;
+pub mod compress;
+mod group_lines;
+pub mod groups;
+pub mod laws;

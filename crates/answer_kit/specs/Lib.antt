@@ -1,0 +1,6 @@
+pub mod ClassNumbers
+pub mod Groups
+pub mod Kinds
+pub mod Outcome
+pub mod Replies
+pub mod SecondFiles

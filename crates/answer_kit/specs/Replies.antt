@@ -1,0 +1,37 @@
+-- What a command has come to, and what is to be told of it.
+use Rattle.std.specs.Prelude.{◌≡◌, ℕ, List}
+use Rattle.cfg_ast.specs.declared.refusal.ReadRefusal.{ReadRefusal}
+use Rattle.cfg_ast.specs.declared.refusal.ReadRefusal.TheVariants as read_refusal
+use Rattle.answer_kit.specs.declared.reply.Reply.{Reply}
+use Rattle.answer_kit.specs.declared.reply.Reply.TheVariants.{Output, Refusal, NotStable, Misuse, ReadFailed, SecondFailed, NoMemory}
+use Rattle.answer_kit.specs.Outcome.{Outcome, done, refused, not_stable, usage, read_fault, out_of_memory}
+use Rattle.answer_kit.specs.Kinds.{line_reason}
+
+-- the outcome that a reply stands for, with the names of the files
+abbrev pub told_by : Reply → List ℕ → List ℕ → Outcome
+told_by (Output bytes) first second = done bytes.items
+told_by (Refusal reason) first second = refused reason.items
+told_by (NotStable reason) first second = not_stable reason.items
+told_by Misuse first second = usage
+told_by ReadFailed first second = read_fault first
+told_by SecondFailed first second = read_fault second
+told_by NoMemory first second = out_of_memory
+
+-- only that outcome
+abbrev pub Only : Outcome → Outcome → Type 0
+Only allowed o = o ≡ allowed
+
+-- A reply to a command has its cause: it is an outcome that is allowed, or a fault of one of the files, or want of memory.
+abbrev pub Answers : Reply → (Outcome → Type 0) → Type 0 → Type 0 → Type 0
+Answers (Output bytes) IsAllowed first_rose second_rose = IsAllowed (done bytes.items)
+Answers (Refusal reason) IsAllowed first_rose second_rose = IsAllowed (refused reason.items)
+Answers (NotStable reason) IsAllowed first_rose second_rose = IsAllowed (not_stable reason.items)
+Answers Misuse IsAllowed first_rose second_rose = ⊥
+Answers ReadFailed IsAllowed first_rose second_rose = first_rose
+Answers SecondFailed IsAllowed first_rose second_rose = second_rose
+Answers NoMemory IsAllowed first_rose second_rose = Unit {0}
+
+-- A refusal of the text is answered by its line and kind, and want of memory as such.
+abbrev pub Refuses : Reply → ReadRefusal → Type 0
+Refuses reply (read_refusal.At line kind) = Answers reply (Only (refused (line_reason line kind))) ⊥ ⊥
+Refuses reply read_refusal.Memory = reply ≡ NoMemory

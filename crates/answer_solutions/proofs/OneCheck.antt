@@ -1,0 +1,33 @@
+-- What `check` tells of a class is determined.
+use Rattle.std.proofs.Common.{◌≡◌, inl, inr, ℕ, List, [], ◌++◌, refl, sym, ap, ◌∙◌, subst, arith, codes, Option, Some, None, Result, Ok, Err}
+use Rattle.std.specs.Prelude.{Contains, IsSome, slice_index_or}
+use Rattle.cfg_ast.specs.declared.network.Network.{Network}
+use Rattle.cfg_ast.specs.declared.classes.DestClass.{DestClass}
+use Rattle.cfg_ast.specs.meaning.Classes.{classes_of}
+use Rattle.srp_core.specs.declared.route.Route.{Route}
+use Rattle.srp_core.specs.Alike.{ProblemsAlike}
+use Rattle.srp_core.specs.Problem.{Problem, IsProblem}
+use Rattle.srp_core.proofs.AlikeOf.{one_problem}
+use Rattle.solution_check.specs.declared.judgement.Answer.{Answer}
+use Rattle.solution_check.specs.declared.judgement.Answer.TheVariants.{Stable, Not}
+use Rattle.solution_check.proofs.OneAnswer.{one_answer}
+use Rattle.answer_solutions.specs.Checks.{name_of_break, told_of, IsJudgement, IsCheckOf}
+use Rattle.answer_kit.specs.Outcome.{Outcome, not_stable}
+use Rattle.answer_kit.proofs.OneClass.{some_prefix}
+use Rattle.answer_kit.proofs.OneText.{one_of_solution}
+
+module _ (P Q : Problem) (same : ProblemsAlike P Q) (rules : IsProblem P) where
+  one_told : (a : Answer) → told_of P a ≡ told_of Q a
+  one_told Stable = refl
+  one_told (Not router why) = ap (λ (names : List (List ℕ)). not_stable (slice_index_or names router [] ++ codes " " ++ name_of_break why)) same.names
+
+  one_judgement : (labels : List (Option Route)) (o p : Outcome) → IsJudgement P labels o → IsJudgement Q labels p → o ≡ p
+  one_judgement labels o p x y =
+      x.told ∙ ap (told_of P) (one_answer P Q labels rules same x.fitting x.answer y.answer x.judged y.judged) ∙ one_told y.answer ∙ sym y.told
+
+pub one_check : (n : Network) (class : DestClass) → Contains (classes_of n) class → (second : Option (List ℕ)) → IsSome second → (o p : Outcome) → IsCheckOf n second class o → IsCheckOf n second class p → o ≡ p
+one_check n class c second told o p x y =
+    let prefix = some_prefix n class c in
+    let first = x.of_class prefix.0 prefix.1 in
+    let same = one_problem n prefix.0 x.problem y.problem first (y.of_class prefix.0 prefix.1) in
+    one_of_solution x.problem y.problem same.protocol same.names (IsJudgement x.problem) (IsJudgement y.problem) (one_judgement x.problem y.problem same first.rules) second told o p x.judgement y.judgement

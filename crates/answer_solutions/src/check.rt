@@ -1,0 +1,129 @@
+ghost use Rattle.std.specs.Prelude.{◌≡◌, ◌≤◌, ℕ, List, codes, Contains, IfOk};
+ghost use Rattle.cfg_ast.specs.meaning.Classes.{classes_of};
+ghost use Rattle.io_kit.specs.Ends.{Rose};
+ghost use Rattle.srp_core.specs.Stability.{AreLabels};
+ghost use Rattle.solution_text.specs.Solutions.{AreApart};
+ghost use Rattle.answer_solutions.specs.Checks.{name_of_break, break_reason, IsJudgement, IsCheckOf, IsCheckAnswer};
+ghost use Rattle.answer_kit.specs.Groups.{IsProblemOfClass};
+ghost use Rattle.answer_kit.specs.Outcome.{done, not_stable};
+ghost use Rattle.answer_kit.specs.Replies.{Answers, Only};
+ghost use Rattle.answer_kit.specs.SecondFiles.{IsOfSolution};
+
+use answer_kit::{Reply, class_at, no_class, problem_of_class, solution_of};
+use base_kit::NoMemory;
+use cfg_ast::DestClass;
+use cfg_check::Checked;
+use dest_classes::classes;
+use io_kit::Source;
+use solution_check::{Answer, check};
+use srp_core::{Labels, Srp};
+use std::alloc::{AllocError, Global};
+
+fn name_of_break(why: u8) -> &'static str
+    ensures { result.now ≡ name_of_break why }
+{
+    if why == 1 {
+        "wrong-origin"
+    } else if why == 2 {
+        "not-a-candidate"
+    } else if why == 3 {
+        "better-candidate"
+    } else {
+        "none-with-candidate"
+    }
+}
+
+fn break_reason(alloc: Global, problem: &Srp, router: u32, why: u8) -> Result<Vec<u8>, AllocError>
+    ensures { IfOk result (λ bytes. bytes.items ≡ break_reason problem.now router why) }
+{
+    let name = match problem.names().as_slice().get(router as usize) {
+        Some(name) => name.as_str(),
+        None => "",
+    };
+    let reason = name_of_break(why);
+    let text = format!(in alloc; "{name} {reason}")?;
+    Ok(text.into_bytes())
+}
+
+fn stable(alloc: Global) -> Reply
+    ensures { Answers result (Only (done (codes "stable\n"))) ⊥ ⊥ }
+{
+    match Vec::from_slice(alloc, b"stable\n") {
+        Ok(bytes) => Reply::Output(bytes),
+        Err(_) => Reply::NoMemory,
+    }
+}
+
+fn broken(alloc: Global, problem: &Srp, router: u32, why: u8) -> Reply
+    ensures { Answers result (Only (not_stable (break_reason problem.now router why))) ⊥ ⊥ }
+{
+    match break_reason(alloc, problem, router, why) {
+        Ok(reason) => Reply::NotStable(reason),
+        Err(_) => Reply::NoMemory,
+    }
+}
+
+// Judges labels of the problem.
+fn judged(alloc: Global, problem: &Srp, labels: &Labels) -> Reply
+    requires { AreLabels problem.now labels.now }
+    ensures { Answers result (IsJudgement problem.now labels.now) ⊥ ⊥ }
+{
+    match check(alloc, problem, labels) {
+        Ok(Answer::Stable) => stable(alloc),
+        Ok(Answer::Not { router, why }) => broken(alloc, problem, router, why),
+        Err(NoMemory) => Reply::NoMemory,
+    }
+}
+
+// Judges the labels of the problem that the second file gives.
+fn answer_of_problem<S: Source>(alloc: Global, problem: &Srp, second: &str, files: &mut S) -> Reply
+    requires { AreApart problem.now.names }
+    ensures answers { Answers result (IsOfSolution problem.now (S.contents files.old second.now) (IsJudgement problem.now)) ⊥ (Rose (S.faults files.old second.now) (S.faults files.new second.now)) }
+    ensures contents { S.contents files.new ≡ S.contents files.old }
+    ensures later { (n : List ℕ) → S.faults files.old n ≤ S.faults files.new n }
+{
+    match solution_of(alloc, problem, second, files) {
+        Ok(labels) => judged(alloc, problem, &labels),
+        Err(reply) => reply,
+    }
+}
+
+// Judges the solution of a class.
+fn answer_of_class<S: Source>(
+    alloc: Global,
+    checked: &Checked,
+    class: &DestClass,
+    second: &str,
+    files: &mut S,
+) -> Reply
+    requires { Contains (classes_of checked.now.network) class.now }
+    ensures answers { Answers result (IsCheckOf checked.now.network (S.contents files.old second.now) class.now) ⊥ (Rose (S.faults files.old second.now) (S.faults files.new second.now)) }
+    ensures contents { S.contents files.new ≡ S.contents files.old }
+    ensures later { (n : List ℕ) → S.faults files.old n ≤ S.faults files.new n }
+{
+    match problem_of_class(alloc, checked, class) {
+        Ok(problem) => answer_of_problem(alloc, &problem, second, files),
+        Err(NoMemory) => Reply::NoMemory,
+    }
+}
+
+/// Judges the solution of the class of this number.
+pub fn answer<S: Source>(
+    alloc: Global,
+    checked: &Checked,
+    number: u32,
+    second: &str,
+    files: &mut S,
+) -> Reply
+    ensures answers { Answers result (IsCheckAnswer checked.now.network number (S.contents files.old second.now)) ⊥ (Rose (S.faults files.old second.now) (S.faults files.new second.now)) }
+    ensures contents { S.contents files.new ≡ S.contents files.old }
+    ensures later { (n : List ℕ) → S.faults files.old n ≤ S.faults files.new n }
+{
+    let Ok(classes) = classes(alloc, checked) else {
+        return Reply::NoMemory;
+    };
+    match class_at(classes.as_slice(), number) {
+        Some(class) => answer_of_class(alloc, checked, class, second, files),
+        None => no_class(alloc, number),
+    }
+}

@@ -1,0 +1,8 @@
+//! The commands on a solution: `check`.
+//!
+//! Each answers with a reply whose outcome its definition allows, or that the second file could not be
+//! read, or out of memory. The module `laws` says that there is one such outcome where the file is told.
+#![tactic(auto)]
+
+pub mod check;
+pub mod laws;
