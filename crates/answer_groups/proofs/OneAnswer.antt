@@ -1,5 +1,5 @@
 -- A command has one answer to a network and the number of a class.
-use Rattle.std.proofs.Common.{◌≡◌, refl, sym, ap, ◌∙◌}
+use Rattle.std.proofs.Common.{refl, sym, ap, ◌∙◌}
 use Rattle.cfg_ast.specs.declared.network.Network.{Network}
 use Rattle.cfg_ast.specs.meaning.Classes.{classes_of}
 use Rattle.config_emit.specs.Pool.{pool_line}

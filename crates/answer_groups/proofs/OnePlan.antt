@@ -1,5 +1,5 @@
 -- A class has one plan, so `compress` has one outcome.
-use Rattle.std.proofs.Common.{◌≡◌, ℕ, Bool, true, false, List, Option, Some, None, refl, sym, ap, ◌∙◌, subst}
+use Rattle.std.proofs.Common.{◌≡◌, ℕ, Bool, true, false, List, Option, Some, None, sym, ◌∙◌, subst}
 use Rattle.std.specs.Prelude.{Contains}
 use Rattle.base_kit.specs.Partition.{IsNumbered}
 use Rattle.cfg_ast.specs.declared.network.Network.{Network}
@@ -11,8 +11,7 @@ use Rattle.abstract_net.specs.Links.{quotient_links}
 use Rattle.srp_core.specs.Problem.{Problem}
 use Rattle.srp_core.proofs.AlikeOf.{one_problem as problems_alike}
 use Rattle.config_emit.specs.Plan.{Plan}
-use Rattle.config_emit.specs.Pool.{pool_line}
-use Rattle.answer_groups.specs.CompressText.{IsPlanOf, text_of, IsTextOr, IsEmission, IsUnlessPool, IsCompressOf}
+use Rattle.answer_groups.specs.CompressText.{IsPlanOf, text_of, IsTextOr, IsEmission, IsUnlessPool}
 use Rattle.answer_kit.specs.Outcome.{Outcome}
 use Rattle.answer_kit.proofs.NumberedOnce.{one_count_of_groups}
 use Rattle.answer_kit.proofs.OneClass.{some_prefix, one_list_of_groups}

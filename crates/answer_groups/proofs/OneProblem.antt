@@ -1,7 +1,7 @@
 -- A network and a prefix have one problem whose acts stand by their first edges, each as the lines at the
 -- ends of its first edge write it.
-use Rattle.std.proofs.Common.{◌≡◌, ◌≢◌, ℕ, zero, suc, ◌<◌, Bool, List, [], ◌∷◌, map, length, Option, Some, None, refl, sym, ap, ◌∙◌, subst, inl, inr, arith, ext_get_or}
-use Rattle.std.specs.Prelude.{All, Contains, slice_get, slice_index, slice_index_or}
+use Rattle.std.proofs.Common.{◌≡◌, ◌≢◌, ℕ, zero, suc, ◌<◌, Bool, List, [], ◌∷◌, map, length, Option, Some, refl, sym, ap, ◌∙◌, subst, inl, inr, arith, ext_get_or}
+use Rattle.std.specs.Prelude.{Contains, slice_get, slice_index_or}
 use Rattle.std.proofs.lemmas.Bool.{cases_eq}
 use Rattle.std.proofs.lemmas.List.{length-map}
 use Rattle.base_kit.specs.declared.protocol.Protocol.{Protocol}
@@ -9,9 +9,8 @@ use Rattle.base_kit.specs.declared.protocol.Protocol.TheVariants.{Bgp as OverBgp
 use Rattle.base_kit.specs.declared.act_graph.Edge.{Edge}
 use Rattle.base_kit.specs.Partition.{IsNumbered, Refines}
 use Rattle.base_kit.specs.Prefixes.{Prefix}
-use Rattle.base_kit.proofs.Elements.{In, contains_in, in_contains, get_in}
+use Rattle.base_kit.proofs.Elements.{In, contains_in, get_in}
 use Rattle.cfg_ast.specs.declared.network.Network.{Network}
-use Rattle.cfg_ast.specs.declared.network.Router.{Router}
 use Rattle.cfg_ast.specs.declared.topology.Link.{Link}
 use Rattle.route_maps.specs.declared.plain.Plain.{Plain}
 use Rattle.specialize.specs.Sessions.{out_map, in_map}
@@ -21,13 +20,13 @@ use Rattle.srp_core.specs.declared.route.Route.{Route}
 use Rattle.srp_core.specs.Acts.{ActsAlike, IsActOf}
 use Rattle.srp_core.specs.Alike.{ProblemsAlike}
 use Rattle.srp_core.specs.Problem.{Problem, IsProblem, act_of}
-use Rattle.srp_core.specs.ProblemOf.{Direction, low_imports, high_imports, IsDirection, SessionEnds, IsEdgeDirection, Means, StandsFor, IsProblemOf}
+use Rattle.srp_core.specs.ProblemOf.{Direction, low_imports, high_imports, IsDirection, Means, IsProblemOf}
 use Rattle.srp_core.proofs.Alike.{turned}
 use Rattle.srp_core.proofs.AlikeOf.{one_problem as problems_alike}
 use Rattle.srp_core.proofs.GroupMatching.{alike_sym, alike_trans}
 use Rattle.srp_core.proofs.Offers.{edge_act as edge_fits}
-use Rattle.srp_build.specs.ActOrder.{HasEarlier, AreActsByFirstUse}
-use Rattle.srp_build.specs.FirstActs.{AreMapsOf, IsActOfLines, IsFirstWith, IsAsWritten, HasFirstActs}
+use Rattle.srp_build.specs.ActOrder.{AreActsByFirstUse}
+use Rattle.srp_build.specs.FirstActs.{IsActOfLines, IsFirstWith, HasFirstActs}
 use Rattle.answer_kit.proofs.NumberedOnce.{one_numbering, one_count_of_groups}
 use Rattle.answer_groups.proofs.OneEdges.{same_length, same_at, edge_act, one_list}
 

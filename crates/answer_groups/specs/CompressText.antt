@@ -1,17 +1,11 @@
 -- The text of the command `compress`: the network of the groups of a class, as configurations (Beckett,
 -- Gupta, Mahajan and Walker, Control Plane Compression, SIGCOMM 2018).
 use Rattle.std.specs.Prelude.{◌≡◌, ℕ, Bool, true, false, List, ◌++◌, codes, decimal, Option, Some, None}
-use Rattle.base_kit.specs.Partition.{IsNumbered}
 use Rattle.cfg_ast.specs.declared.network.Network.{Network}
 use Rattle.cfg_ast.specs.declared.classes.DestClass.{DestClass}
 use Rattle.cfg_ast.specs.meaning.Classes.{classes_of}
-use Rattle.cfg_ast.specs.printing.Printed.{printed}
 use Rattle.cfg_print.specs.Prints.{is_too_long}
-use Rattle.abstract_net.specs.Links.{quotient_links}
-use Rattle.srp_core.specs.Quotient.{IsCoarsest}
-use Rattle.srp_build.specs.Built.{IsBuiltFor}
 use Rattle.config_emit.specs.Plan.{Plan}
-use Rattle.config_emit.specs.Emitted.{emitted, notes_of}
 use Rattle.config_emit.specs.Pool.{pool_line}
 pub use Rattle.compress_laws.specs.Built.{IsPlanOf}
 pub use Rattle.compress_laws.specs.Laws.{text_of}

@@ -1,5 +1,5 @@
 -- Public: a reply where more is allowed.
-use Rattle.std.proofs.Common.{◌≡◌, sym, subst}
+use Rattle.std.proofs.Common.{sym, subst}
 use Rattle.answer_kit.specs.declared.reply.Reply.{Reply}
 use Rattle.answer_kit.specs.declared.reply.Reply.TheVariants.{Output, Refusal, NotStable, Misuse, ReadFailed, SecondFailed, NoMemory}
 use Rattle.answer_kit.specs.Outcome.{Outcome, done, refused, not_stable}
