@@ -1,5 +1,5 @@
 -- From what a run does to the headline: where `compress` is done, what was written compresses the network.
-use Rattle.std.proofs.Common.{◌≡◌, ◌≢◌, ◌<◌, ◌≤◌, ◌⊎◌, inl, inr, ⊎_elim, ℕ, ◌-◌, Bool, true, false, List, [], ◌∷◌, ◌++◌, length, map, refl, sym, ap, ◌∙◌, subst, Option, Some, None, Result, Ok, Err, slice_get, nat_eq, if◌then◌else◌, codes}
+use Rattle.std.proofs.Common.{◌≡◌, ◌≢◌, inl, inr, ⊎_elim, ℕ, ◌-◌, Bool, true, false, List, [], ◌∷◌, ◌++◌, refl, sym, ap, ◌∙◌, subst, Option, Some, None, Result, Ok, Err, slice_get, nat_eq, if◌then◌else◌, codes}
 use Rattle.std.specs.Prelude.{Contains}
 use Rattle.base_kit.proofs.Elements.{contains_in, get_in}
 use Rattle.cfg_ast.specs.declared.classes.DestClass.{DestClass}
@@ -9,7 +9,7 @@ use Rattle.cfg_ast.specs.declared.refusal.ReadRefusal.TheVariants as read_refusa
 use Rattle.cfg_ast.specs.meaning.Classes.{classes_of}
 use Rattle.cfg_ast.specs.declared.refusal.Fault.{Fault}
 use Rattle.cfg_ast.specs.meaning.Meaning.{judged, refused_by, least_fault, lesser_fault, meaning_faults}
-use Rattle.cfg_ast.specs.text.Reading.{network_of_text, reading_of, IsGiven}
+use Rattle.cfg_ast.specs.text.Reading.{network_of_text, reading_of}
 use Rattle.cfg_ast.specs.text.Stanzas.{◌>>=◌}
 use Rattle.cfg_check.specs.Faultless.{IsFaultless}
 use Rattle.cfg_check.proofs.Faultless.{faultless_of}
@@ -17,7 +17,7 @@ use Rattle.cfg_print.specs.Prints.{is_too_long}
 use Rattle.config_emit.specs.Pool.{pool_line}
 use Rattle.compress_laws.specs.Compressed.{Compresses}
 use Rattle.compress_laws.specs.Laws.{text_of, PlanCompresses}
-use Rattle.io_kit.specs.Ends.{Took, with_end}
+use Rattle.io_kit.specs.Ends.{with_end}
 use Rattle.bonsai_top.specs.declared.command.Command.{Command}
 use Rattle.bonsai_top.specs.declared.command.Command.TheVariants as command
 use Rattle.answer_kit.specs.declared.status.Status.{Status}
@@ -27,8 +27,8 @@ use Rattle.answer_kit.specs.Kinds.{line_reason}
 use Rattle.bonsai_top.specs.Commands.{command_of}
 use Rattle.answer_groups.specs.CompressText.{pool_overlap, IsTextOr, IsEmission, IsUnlessPool, IsCompressOf}
 use Rattle.bonsai_top.specs.Headline.{IsHeadline}
-use Rattle.bonsai_top.specs.Meets.{Tells, HasCause, RunMeets}
-use Rattle.answer_kit.specs.Outcome.{Outcome, done, refused}
+use Rattle.bonsai_top.specs.Meets.{RunMeets}
+use Rattle.answer_kit.specs.Outcome.{Outcome, refused}
 use Rattle.bonsai_top.specs.Outcomes.{IsOutcomeOfReading, IsOutcomeOfText, IsOutcomeAt, IsOutcome}
 use Rattle.bonsai_top.specs.Words.{file_of, second_of}
 

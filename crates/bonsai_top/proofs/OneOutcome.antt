@@ -1,6 +1,6 @@
 -- There is one outcome, where the files that decide it are told.
-use Rattle.std.proofs.Common.{◌≡◌, inl, inr, ℕ, ◌-◌, Bool, true, false, List, refl, sym, ap, ◌∙◌, arith, Option, Some, None, Result, Ok, Err, slice_get, nat_eq, if◌then◌else◌}
-use Rattle.std.specs.Prelude.{Contains, IsSome}
+use Rattle.std.proofs.Common.{◌≡◌, inl, inr, ℕ, true, List, refl, sym, ◌∙◌, arith, Option, Some, None, Result, Ok, Err}
+use Rattle.std.specs.Prelude.{IsSome}
 use Rattle.cfg_ast.specs.declared.network.Network.{Network}
 use Rattle.cfg_ast.specs.declared.refusal.ReadRefusal.{ReadRefusal}
 use Rattle.cfg_ast.specs.declared.refusal.ReadRefusal.TheVariants as read_refusal
