@@ -1,5 +1,5 @@
 -- The loop that folds routes.
-use Rattle.std.proofs.Common.{◌≡◌, ◌≢◌, ℕ, zero, suc, ◌+◌, ◌<◌, ◌≤◌, Bool, true, false, List, [], ◌∷◌, length, map, Option, Some, None, refl, sym, ◌∙◌, ap, subst, arith, inl, inr}
+use Rattle.std.proofs.Common.{◌≡◌, ◌≢◌, ℕ, zero, suc, ◌<◌, ◌≤◌, Bool, true, false, List, [], ◌∷◌, length, map, Option, Some, None, refl, sym, ◌∙◌, ap, subst, arith, inl, inr}
 use Rattle.std.specs.Prelude.{Contains, slice_get, slice_index, slice_set, nat_eq, if◌then◌else◌}
 use Rattle.std.specs.List.{range_with_len}
 use Rattle.std.specs.Option.{option_map}
@@ -12,7 +12,7 @@ use Rattle.base_kit.proofs.Elements.{In, in_contains}
 use Rattle.srp_core.specs.declared.route.Route.{Route}
 use Rattle.srp_core.specs.Routes.{Key, path_of, size_of}
 use Rattle.srp_core.specs.Problem.{Problem, count as count_of, initial, key_of, IsProblem}
-use Rattle.srp_core.specs.Quotient.{group_of, IsFirstMember, IsQuotient}
+use Rattle.srp_core.specs.Quotient.{group_of}
 use Rattle.srp_core.specs.Stability.{label, HaveSameKeys, both_none, both_some}
 use Rattle.srp_core.specs.Lifts.{GroupTakes, IsFirstOn}
 use Rattle.srp_core.specs.Filling.{IsFoldedPart, IsNextToFold}

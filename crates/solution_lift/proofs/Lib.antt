@@ -1,3 +1,4 @@
+mod Carries
 mod Directions
 mod FoldLoop
 mod LastSides

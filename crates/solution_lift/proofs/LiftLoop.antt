@@ -1,11 +1,11 @@
 -- The loop that lifts routes.
-use Rattle.std.proofs.Common.{◌≡◌, ℕ, ◌+◌, ◌<◌, ◌≤◌, List, length, Option, Some, None, refl, sym, ◌∙◌, ap, arith, inl, inr}
+use Rattle.std.proofs.Common.{◌≡◌, ℕ, ◌<◌, ◌≤◌, List, length, Option, Some, None, refl, sym, ◌∙◌, ap, arith, inl, inr}
 use Rattle.std.specs.Prelude.{slice_get, slice_set}
 use Rattle.std.specs.Option.{option_map}
 use Rattle.std.proofs.lemmas.Bool.{cases_lt, cases_eq}
 use Rattle.std.proofs.lemmas.Option.{slice_get_within}
 use Rattle.srp_core.specs.declared.route.Route.{Route}
-use Rattle.srp_core.specs.Routes.{path_of, size_of}
+use Rattle.srp_core.specs.Routes.{path_of}
 use Rattle.srp_core.specs.Problem.{Problem, count, initial, key_of}
 use Rattle.srp_core.specs.Quotient.{group_of}
 use Rattle.srp_core.specs.Stability.{label}

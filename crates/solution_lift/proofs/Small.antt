@@ -1,9 +1,7 @@
 -- The parts of the problem of the groups.
-use Rattle.std.proofs.Common.{◌≡◌, ◌∙◌, ◌<◌, ℕ, Bool, List, [], map, length, Option, Some, ap, sym, subst, arith}
+use Rattle.std.proofs.Common.{◌≡◌, ◌∙◌, ◌<◌, ℕ, Bool, List, [], map, Option, Some, ap, sym, subst, arith}
 use Rattle.std.specs.Prelude.{All, Contains, slice_index_or}
 use Rattle.std.specs.List.{range_with_len}
-use Rattle.std.proofs.lemmas.List.{length-map}
-use Rattle.std.proofs.lemmas.List.FromFn.{length-range_with_len}
 use Rattle.std.proofs.lemmas.Simd.{map-map}
 use Rattle.base_kit.specs.declared.protocol.Protocol.{Protocol}
 use Rattle.base_kit.specs.declared.act_graph.Edge.{Edge}
@@ -19,7 +17,7 @@ use Rattle.srp_core.specs.declared.route.Route.TheVariants.{Bgp, Ospf}
 use Rattle.base_kit.specs.declared.protocol.Protocol.TheVariants.{Ospf as OverOspf}
 use Rattle.srp_core.specs.Routes.{Key, size_of, IsRouteOf}
 use Rattle.srp_core.specs.Stability.{HaveSameKeys, both_none, both_some}
-use Rattle.srp_core.specs.Problem.{Problem, count as count_of, initial, is_lone, IsProblem}
+use Rattle.srp_core.specs.Problem.{Problem, initial, is_lone, IsProblem}
 use Rattle.srp_core.specs.Quotient.{IsAdmissible}
 use Rattle.srp_quotient.specs.Groups.{first_member, number_of_group, quotient_edges, quotient_problem, small_of}
 
@@ -47,10 +45,6 @@ parts_are S groups count links q firsts names numbers init lone acts edges l p f
     let lone_are = o ∙ ap (map (is_lone S)) f ∙ map-map (is_lone S) (first_member groups) (range_with_len 0 count) in
     let edges_are = e ∙ ap (λ (ls : List QLink). quotient_edges S.protocol S.edges count ls) l in
     λ j. record { protocol = p j; names = names_are j; numbers = numbers_are j; init = init_are j; lone = lone_are j; acts = a j; edges = edges_are j }
-
-pub size_is : (S : Problem) (groups : List ℕ) (count : ℕ) → count_of (small_of S groups count) ≡ count
-unfolding quotient_problem
-size_is S groups count = length-map (range_with_len 0 count) (number_of_group S groups (quotient_links S.edges groups count)) ∙ length-range_with_len 0 count
 
 -- in OSPF routes of equal keys are equal
 pub one_cost : (P : Problem) (a b : Option Route) → P.protocol ≡ OverOspf → ((r : Route) → a ≡ Some r → IsRouteOf P.protocol r) → ((r : Route) → b ≡ Some r → IsRouteOf P.protocol r) → HaveSameKeys P P a b → a ≡ b

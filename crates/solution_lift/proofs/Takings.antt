@@ -1,6 +1,6 @@
 -- What a router takes from the list of its candidates.
-use Rattle.std.proofs.Common.{◌≡◌, ◌≢◌, ◌⊎◌, ℕ, zero, suc, ◌+◌, ◌<◌, ◌≤◌, Bool, true, false, cond, List, [], ◌∷◌, ◌++◌, length, get_or, Option, Some, None, refl, sym, ◌∙◌, ap, subst, arith, inl, inr}
-use Rattle.std.specs.Prelude.{Contains, nat_eq, slice_get, slice_index, option_and_then, if◌then◌else◌}
+use Rattle.std.proofs.Common.{◌≡◌, ◌≢◌, ℕ, zero, suc, ◌+◌, ◌<◌, ◌≤◌, Bool, true, false, cond, List, [], ◌∷◌, ◌++◌, length, get_or, Option, Some, None, refl, sym, ◌∙◌, ap, subst, arith, inl, inr}
+use Rattle.std.specs.Prelude.{nat_eq, slice_get, slice_index, option_and_then, if◌then◌else◌}
 use Rattle.std.specs.Option.{option_map_or}
 use Rattle.std.proofs.lemmas.Bool.{cases_lt}
 use Rattle.std.proofs.lemmas.Bool.Decides.{nat_tests}
@@ -12,9 +12,9 @@ use Rattle.by_key.proofs.OrderedByKey.{IsOrdered, ordered_append}
 use Rattle.srp_core.specs.declared.route.Route.{Route}
 use Rattle.srp_core.specs.declared.route.Candidate.{Candidate}
 use Rattle.srp_core.specs.Routes.{Key, path_of, is_on}
-use Rattle.srp_core.specs.Problem.{Problem, number, initial, step, key_of, Precedes, AreOrdered}
+use Rattle.srp_core.specs.Problem.{Problem, number, initial, step_over, key_of, Precedes, AreOrdered}
 use Rattle.srp_core.specs.Stability.{label, IsCandidateOver}
-use Rattle.srp_core.specs.Candidates.{passed, over, listed, over_edges, candidates}
+use Rattle.srp_core.specs.Candidates.{passed, over, candidate_of, over_edges, candidates}
 use Rattle.solution_lift.specs.Carrying.{Takes, TakesNone}
 use Rattle.solution_lift.specs.Sides.{is_edge_from, is_from}
 use Rattle.solution_lift.proofs.TaskOrder.{ordered_get}
@@ -24,7 +24,7 @@ use Rattle.solution_lift.proofs.TaskOrder.{ordered_get}
 module _ (P : Problem) (E : List (Option Route)) where
   given : (e : Edge) (r : Route) → IsCandidateOver P E e r → over P E e ≡ Some r
   given e r o =
-      ap (option_and_then (λ from. option_and_then (passed (number P e.importer)) (step P e from))) o.labelled
+      ap (option_and_then (λ from. option_and_then (passed (number P e.importer)) (step_over P e from))) o.labelled
       ∙ ap (option_and_then (passed (number P e.importer))) o.stepped
       ∙ ap (λ (b : Bool). if b then None else Some r) o.passes
 
@@ -32,15 +32,15 @@ module _ (P : Problem) (E : List (Option Route)) where
   passes_at own c r true e h = absurd cc
   passes_at own c r false e h = let same : c ≡ r = cc in (same, ap (λ (x : Route). is_on own (path_of x)) (sym same) ∙ e)
 
-  stepped_at : (e : Edge) (from r : Route) (s : Option Route) → label E e.exporter ≡ Some from → step P e from ≡ s → option_and_then (passed (number P e.importer)) s ≡ Some r → IsCandidateOver P E e r
+  stepped_at : (e : Edge) (from r : Route) (s : Option Route) → label E e.exporter ≡ Some from → step_over P e from ≡ s → option_and_then (passed (number P e.importer)) s ≡ Some r → IsCandidateOver P E e r
   stepped_at e from r None l s h = absurd cc
   stepped_at e from r (Some c) l s h =
       let p = passes_at (number P e.importer) c r (is_on (number P e.importer) (path_of c)) refl h in
       record { from = from; labelled = l; stepped = s ∙ ap Some p.0; passes = p.1 }
 
-  labelled_at : (e : Edge) (r : Route) (o : Option Route) → label E e.exporter ≡ o → option_and_then (λ from. option_and_then (passed (number P e.importer)) (step P e from)) o ≡ Some r → IsCandidateOver P E e r
+  labelled_at : (e : Edge) (r : Route) (o : Option Route) → label E e.exporter ≡ o → option_and_then (λ from. option_and_then (passed (number P e.importer)) (step_over P e from)) o ≡ Some r → IsCandidateOver P E e r
   labelled_at e r None l h = absurd cc
-  labelled_at e r (Some from) l h = stepped_at e from r (step P e from) l refl h
+  labelled_at e r (Some from) l h = stepped_at e from r (step_over P e from) l refl h
 
   gives : (e : Edge) (r : Route) → over P E e ≡ Some r → IsCandidateOver P E e r
   gives e r h = labelled_at e r (label E e.exporter) refl h
@@ -57,7 +57,7 @@ module _ (P : Problem) (E : List (Option Route)) where
       over_it : over P E edge ≡ Some k.route
 
     abbrev here : Bool → ℕ → Option Route → List Candidate
-    here b place o = if b then listed (Some place) o else []
+    here b place o = if b then candidate_of (Some place) o else []
 
     listed_here : (e : Edge) (es : List Edge) (place : ℕ) (k : Candidate) (b : Bool) (o : Option Route) → nat_eq e.importer u ≡ b → over P E e ≡ o → In (here b place o) k → IsListed (e ∷ es) place k
     listed_here e es place k false o t g at = absurd at
@@ -83,7 +83,7 @@ module _ (P : Problem) (E : List (Option Route)) where
     ]
 
     at_here : (place : ℕ) (r : Route) (b : Bool) (o : Option Route) → b ≡ true → o ≡ Some r → In (here b place o) (record { edge = Some place; route = r })
-    at_here place r b o t g = subst (λ (c : Bool). In (here c place o) (record { edge = Some place; route = r })) (sym t) (subst (λ (p : Option Route). In (listed (Some place) p) (record { edge = Some place; route = r })) (sym g) (inl refl))
+    at_here place r b o t g = subst (λ (c : Bool). In (here c place o) (record { edge = Some place; route = r })) (sym t) (subst (λ (p : Option Route). In (candidate_of (Some place) p) (record { edge = Some place; route = r })) (sym g) (inl refl))
 
     over_edges_in : (edges : List Edge) (place j : ℕ) (e : Edge) (r : Route) → slice_get edges j ≡ Some e → e.importer ≡ u → over P E e ≡ Some r → In (over_edges P E u place edges) (record { edge = Some (place + j); route = r })
     unfolding over_edges
@@ -127,30 +127,30 @@ module _ (P : Problem) (E : List (Option Route)) where
         let n : q ≡ place + 1 + l.j = cc in
         omega arith))
 
-    start_listed : (o : Option Route) → IsOrdered EdgeBefore (listed None o)
+    start_listed : (o : Option Route) → IsOrdered EdgeBefore (candidate_of None o)
     start_listed None = tt
     start_listed (Some r) = ((λ y none. absurd none), tt)
 
-    no_edge : (o : Option Route) (k : Candidate) → In (listed None o) k → k.edge ≡ None
+    no_edge : (o : Option Route) (k : Candidate) → In (candidate_of None o) k → k.edge ≡ None
     no_edge None k at = absurd at
     no_edge (Some r) k (inl same) = sym (ap (λ (c : Candidate). c.edge) same)
     no_edge (Some r) k (inr none) = absurd none
 
     candidates_by_edges : IsOrdered EdgeBefore (candidates P E u)
     unfolding candidates EdgeBefore
-    candidates_by_edges = ordered_append EdgeBefore (listed None (initial P u)) (over_edges P E u 0 P.edges) (start_listed (initial P u)) (by_edges P.edges 0)
+    candidates_by_edges = ordered_append EdgeBefore (candidate_of None (initial P u)) (over_edges P E u 0 P.edges) (start_listed (initial P u)) (by_edges P.edges 0)
         (λ x y i j p q a b. (let none = no_edge (initial P u) x i in absurd (cc)))
 
     over_edge : (k : Candidate) (p : ℕ) → In (candidates P E u) k → k.edge ≡ Some p → IsListed P.edges 0 k
     unfolding candidates
-    over_edge k p at e = elim (append_in (listed None (initial P u)) (over_edges P E u 0 P.edges) k at) [
+    over_edge k p at e = elim (append_in (candidate_of None (initial P u)) (over_edges P E u 0 P.edges) k at) [
       | inl start ↦ (let none = no_edge (initial P u) k start in absurd (cc))
       | inr later ↦ in_over_edges P.edges 0 k later
     ]
 
     candidate_in : (j : ℕ) (e : Edge) (r : Route) → slice_get P.edges j ≡ Some e → e.importer ≡ u → IsCandidateOver P E e r → In (candidates P E u) (record { edge = Some (0 + j); route = r })
     unfolding candidates
-    candidate_in j e r at imp o = in_right (listed None (initial P u)) (over_edges P E u 0 P.edges) _ (over_edges_in P.edges 0 j e r at imp (given e r o))
+    candidate_in j e r at imp o = in_right (candidate_of None (initial P u)) (over_edges P E u 0 P.edges) _ (over_edges_in P.edges 0 j e r at imp (given e r o))
 
     -- ---- the first that fits
 

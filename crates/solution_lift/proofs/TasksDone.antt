@@ -1,5 +1,5 @@
 -- What the loops that lift and fold routes share: the tasks that are done, and the sources of routes.
-use Rattle.std.proofs.Common.{◌≡◌, ◌≢◌, ◌⊎◌, ℕ, ◌+◌, ◌<◌, ◌≤◌, List, ◌∷◌, length, set, get_or, Option, Some, None, refl, sym, ◌∙◌, ap, subst, arith, inl, inr, get_or-set_same, get_or-set_other, nat_eq}
+use Rattle.std.proofs.Common.{◌≡◌, ◌≢◌, ◌⊎◌, ℕ, ◌+◌, ◌<◌, ◌≤◌, List, length, Option, Some, None, refl, sym, ◌∙◌, ap, subst, arith, inl, inr, get_or-set_same, get_or-set_other, nat_eq}
 use Rattle.std.specs.Prelude.{slice_get, slice_index, slice_set, replicate, option_and_then}
 use Rattle.std.specs.Option.{option_map}
 use Rattle.std.specs.HashMap as map
@@ -7,7 +7,7 @@ use Rattle.std.proofs.lemmas.Bool.{cases_lt, cases_eq}
 use Rattle.std.proofs.lemmas.List.{get_or-replicate, get_or_past, length-replicate}
 use Rattle.srp_core.specs.declared.route.Route.{Route}
 use Rattle.srp_core.specs.Routes.{path_of, size_of}
-use Rattle.srp_core.specs.Problem.{Problem, number}
+use Rattle.srp_core.specs.Problem.{Problem}
 use Rattle.srp_core.specs.Stability.{label}
 use Rattle.srp_core.specs.Lifts.{IsFirstOn}
 use Rattle.solution_lift.specs.declared.tasks.Task.{Task}

@@ -1,12 +1,12 @@
 ghost use Rattle.std.specs.Prelude.{◌≡◌, ℕ, ◌<◌, IfOk, length};
 ghost use Rattle.base_kit.specs.Partition.{IsNumbered};
-ghost use Rattle.base_kit.specs.declared.protocol.Protocol.TheVariants.{Bgp as OverBgp, Ospf as OverOspf};
 ghost use Rattle.srp_core.specs.Filling.{CanBeFolded};
 ghost use Rattle.srp_core.specs.Lifts.{IsFold};
 ghost use Rattle.srp_core.specs.Problem as problem;
-ghost use Rattle.srp_core.specs.Quotient.{group_of, IsAdmissible, Corresponds};
+ghost use Rattle.srp_core.specs.Quotient.{IsAdmissible, IsQuotient};
 ghost use Rattle.srp_core.specs.Stability.{label, IsStable};
 ghost use Rattle.srp_quotient.specs.Groups.{first_member, small_of};
+ghost use Rattle.solution_lift.specs.Carried.{IsFolding};
 
 use crate::next::next;
 use crate::problem::quotient_srp;
@@ -68,7 +68,44 @@ fn fold_costs(alloc: Global, p: &Partition, count: u32, labels: &Labels) -> Resu
     Ok(lower)
 }
 
-/// Labels of the groups from stable labels of the routers.
+/// Labels of the groups from stable labels of the routers, where the problem of the groups is at hand.
+///
+/// They are those that `fold` gives.
+///
+/// # Errors
+/// Out of memory.
+pub fn fold_into(
+    alloc: Global,
+    srp: &Srp,
+    small: &Srp,
+    p: &Partition,
+    labels: &Labels,
+) -> Result<Labels, NoMemory>
+    requires groups { IsAdmissible srp.now p.now }
+    requires quotient { IsQuotient srp.now p.now small.now }
+    requires stable { IsStable srp.now labels.now }
+    ensures { IfOk result (IsFolding srp.now small.now p.now labels.now) }
+{
+    folds();
+    ospf_folds();
+    equal_keys();
+    let _routers = srp.count();
+    let _rules = small.count();
+    let count = p.groups();
+    match srp.protocol() {
+        Protocol::Bgp => {
+            let lower = fold_routes(alloc, srp, small, p, count, labels)?;
+            Ok(lower)
+        }
+        Protocol::Ospf => {
+            let lower = fold_costs(alloc, p, count, labels)?;
+            Ok(lower)
+        }
+    }
+}
+
+/// Labels of the groups from stable labels of the routers. They are stable in the problem of the groups
+/// and correspond.
 ///
 /// In OSPF a group has the cost of its members. In BGP a group that originates has its initial route,
 /// and every other takes its route from the group of the router from which its first member took it.
@@ -78,29 +115,13 @@ fn fold_costs(alloc: Global, p: &Partition, count: u32, labels: &Labels) -> Resu
 pub fn fold(alloc: Global, srp: &Srp, p: &Partition, labels: &Labels) -> Result<Labels, NoMemory>
     requires groups { IsAdmissible srp.now p.now }
     requires stable { IsStable srp.now labels.now }
-    ensures stable { IfOk result (λ lower. (groups : ℕ) → IsNumbered p.now groups → IsStable (small_of srp.now p.now groups) lower) }
-    ensures corresponds { IfOk result (λ lower. (groups : ℕ) → IsNumbered p.now groups → Corresponds srp.now (small_of srp.now p.now groups) p.now labels.now lower) }
-    ensures routes { IfOk result (λ lower. srp.now.protocol ≡ OverBgp → (groups : ℕ) → IsNumbered p.now groups → IsFold srp.now (small_of srp.now p.now groups) p.now labels.now lower) }
-    ensures costs { IfOk result (λ lower. srp.now.protocol ≡ OverOspf → (u : ℕ) → u < problem.count srp.now → label lower (group_of p.now u) ≡ label labels.now u) }
+    ensures { IfOk result (λ lower. (groups : ℕ) → IsNumbered p.now groups → IsFolding srp.now (small_of srp.now p.now groups) p.now labels.now lower) }
 {
     quotient_is_quotient();
-    folds();
-    ospf_folds();
-    equal_keys();
     let _routers = srp.count();
-    let count = p.groups();
+    let _groups = p.groups();
     let graph = srp.graph()?;
     let links = quotient(alloc, &graph, p)?;
     let small = quotient_srp(alloc, srp, p, &links)?;
-    let _rules = small.count();
-    match srp.protocol() {
-        Protocol::Bgp => {
-            let lower = fold_routes(alloc, srp, &small, p, count, labels)?;
-            Ok(lower)
-        }
-        Protocol::Ospf => {
-            let lower = fold_costs(alloc, p, count, labels)?;
-            Ok(lower)
-        }
-    }
+    fold_into(alloc, srp, &small, p, labels)
 }

@@ -8,6 +8,7 @@
 
 mod edges;
 mod folding;
+pub mod laws;
 mod lifting;
 mod next;
 mod problem;
@@ -15,6 +16,6 @@ mod sides;
 mod tables;
 mod tasks;
 
-pub use folding::fold;
-pub use lifting::lift;
+pub use folding::{fold, fold_into};
+pub use lifting::{lift, lift_from};
 pub use problem::quotient_srp;

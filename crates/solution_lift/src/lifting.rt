@@ -1,13 +1,12 @@
 ghost use Rattle.std.specs.Prelude.{◌≡◌, ℕ, ◌<◌, IfOk, length};
 ghost use Rattle.base_kit.specs.Partition.{IsNumbered};
-ghost use Rattle.base_kit.specs.declared.protocol.Protocol.TheVariants.{Bgp as OverBgp, Ospf as OverOspf};
 ghost use Rattle.abstract_net.specs.Links.{quotient_links};
 ghost use Rattle.srp_core.specs.Filling.{CanBeLifted};
 ghost use Rattle.srp_core.specs.Lifts.{IsLift};
-ghost use Rattle.srp_core.specs.Problem.{count};
-ghost use Rattle.srp_core.specs.Quotient.{group_of, IsAdmissible, Corresponds};
+ghost use Rattle.srp_core.specs.Quotient.{group_of, IsAdmissible, IsQuotient};
 ghost use Rattle.srp_core.specs.Stability.{label, IsStable};
 ghost use Rattle.srp_quotient.specs.Groups.{small_of};
+ghost use Rattle.solution_lift.specs.Carried.{IsLifting};
 
 use crate::next::next;
 use crate::problem::quotient_srp;
@@ -70,7 +69,41 @@ fn lift_costs(
     Ok(upper)
 }
 
-/// Labels of the routers from stable labels of the groups.
+/// Labels of the routers from stable labels of the groups, where the problem of the groups is at hand.
+///
+/// They are those that `lift` gives.
+///
+/// # Errors
+/// Out of memory.
+pub fn lift_from(
+    alloc: Global,
+    srp: &Srp,
+    small: &Srp,
+    p: &Partition,
+    labels: &Labels,
+) -> Result<Labels, NoMemory>
+    requires groups { IsAdmissible srp.now p.now }
+    requires quotient { IsQuotient srp.now p.now small.now }
+    requires stable { IsStable small.now labels.now }
+    ensures { IfOk result (IsLifting srp.now small.now p.now labels.now) }
+{
+    lifts();
+    ospf_lifts();
+    let routers = srp.count();
+    let _rules = small.count();
+    match srp.protocol() {
+        Protocol::Bgp => {
+            let upper = lift_routes(alloc, srp, small, p, labels)?;
+            Ok(upper)
+        }
+        Protocol::Ospf => {
+            let upper = lift_costs(alloc, p, labels, routers)?;
+            Ok(upper)
+        }
+    }
+}
+
+/// Labels of the routers from stable labels of the groups. They are stable and correspond.
 ///
 /// In OSPF a router has the cost of its group. In BGP a router that originates has its initial route.
 /// For every other whose group has a route, the first number on that route's path is that of a group:
@@ -89,26 +122,11 @@ pub fn lift(
     requires groups { IsAdmissible srp.now p.now }
     requires links { (groups : ℕ) → IsNumbered p.now groups → q.now.links ≡ quotient_links srp.now.edges p.now groups }
     requires stable { (groups : ℕ) → IsNumbered p.now groups → IsStable (small_of srp.now p.now groups) labels.now }
-    ensures stable { IfOk result (λ upper. IsStable srp.now upper) }
-    ensures corresponds { IfOk result (λ upper. (groups : ℕ) → IsNumbered p.now groups → Corresponds srp.now (small_of srp.now p.now groups) p.now upper labels.now) }
-    ensures routes { IfOk result (λ upper. srp.now.protocol ≡ OverBgp → (groups : ℕ) → IsNumbered p.now groups → IsLift srp.now (small_of srp.now p.now groups) p.now labels.now upper) }
-    ensures costs { IfOk result (λ upper. srp.now.protocol ≡ OverOspf → (u : ℕ) → u < count srp.now → label upper u ≡ label labels.now (group_of p.now u)) }
+    ensures { IfOk result (λ upper. (groups : ℕ) → IsNumbered p.now groups → IsLifting srp.now (small_of srp.now p.now groups) p.now labels.now upper) }
 {
     quotient_is_quotient();
-    lifts();
-    ospf_lifts();
+    let _routers = srp.count();
     let _groups = p.groups();
-    let routers = srp.count();
     let small = quotient_srp(alloc, srp, p, q)?;
-    let _rules = small.count();
-    match srp.protocol() {
-        Protocol::Bgp => {
-            let upper = lift_routes(alloc, srp, &small, p, labels)?;
-            Ok(upper)
-        }
-        Protocol::Ospf => {
-            let upper = lift_costs(alloc, p, labels, routers)?;
-            Ok(upper)
-        }
-    }
+    lift_from(alloc, srp, &small, p, labels)
 }

@@ -1,11 +1,10 @@
-use Rattle.std.proofs.Common.{◌≡◌, ◌<◌, ◌≤◌, ◌+◌, ℕ, List, length, get_or, Option, Some, None, refl, ap, sym, ◌∙◌, subst, arith, nat_eq}
+use Rattle.std.proofs.Common.{◌<◌, ℕ, List, length, get_or, Option, None, refl, ap, sym, ◌∙◌, subst, arith}
 use Rattle.std.specs.Prelude.{slice_index, slice_set, replicate}
 use Rattle.std.specs.List.{range_with_len}
 use Rattle.std.proofs.lemmas.List.FromFn.{length-map-range_with_len}
 use Rattle.srp_core.specs.declared.route.Route.{Route}
 use Rattle.srp_core.specs.Filling.{IsFoldedPart}
 use Rattle.srp_quotient.specs.Groups.{first_member}
-use Rattle.solution_lift.specs.declared.tasks.Task.{Task}
 use Rattle.solution_lift.proofs.Ranges.{get_any}
 use Rattle.solution_lift.proofs.TasksDone.{IsSoFar, none_so_far, more_so_far, order_of, next_of, first_sourced, known_by}
 use Rattle.solution_lift.proofs.FoldLoop.{next_group, all_done, group_first, next_part}

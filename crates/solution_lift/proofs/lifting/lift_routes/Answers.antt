@@ -1,14 +1,10 @@
-use Rattle.std.proofs.Common.{◌≡◌, ◌<◌, ◌≤◌, ◌+◌, ℕ, List, length, get_or, Option, Some, None, ap, sym, ◌∙◌, subst, arith, nat_eq}
+use Rattle.std.proofs.Common.{◌≡◌, ◌<◌, ℕ, List, length, get_or, Option, Some, None, ap, sym, ◌∙◌, subst, arith}
 use Rattle.std.specs.Prelude.{slice_index, slice_set, replicate}
 use Rattle.std.specs.List.{range_with_len}
 use Rattle.std.proofs.lemmas.List.FromFn.{length-range_with_len}
 use Rattle.srp_core.specs.declared.route.Route.{Route}
-use Rattle.srp_core.specs.Routes.{path_of}
-use Rattle.srp_core.specs.Problem.{initial}
-use Rattle.srp_core.specs.Lifts.{IsFirstOn}
 use Rattle.srp_core.specs.Filling.{IsLiftedPart}
 use Rattle.solution_lift.specs.declared.tasks.Task.{Task}
-use Rattle.solution_lift.specs.Carrying.{source_of}
 use Rattle.solution_lift.proofs.Ranges.{get_any, range_at}
 use Rattle.solution_lift.proofs.TasksDone.{IsSoFar, none_so_far, more_so_far, order_of, next_of, first_sourced, known_by}
 use Rattle.solution_lift.proofs.LiftLoop.{next_task, all_done, next_part}

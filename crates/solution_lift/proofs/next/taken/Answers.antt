@@ -1,4 +1,4 @@
-use Rattle.std.proofs.Common.{◌≡◌, ◌≢◌, ◌<◌, ℕ, List, true, length, ap, ◌∙◌, arith}
+use Rattle.std.proofs.Common.{◌≡◌, ◌≢◌, true, ◌∙◌, arith}
 use Rattle.srp_core.specs.declared.route.Candidate.{Candidate}
 use Rattle.srp_core.specs.Problem.{key_of}
 use Rattle.solution_lift.specs.Sides.{is_from}
