@@ -1,5 +1,5 @@
 -- What is written of a plan compresses the network.
-use Rattle.std.proofs.Common.{◌≡◌, ◌≤◌, ℕ, List, refl, sym, ap, ◌∙◌, length, subst, Ok}
+use Rattle.std.proofs.Common.{◌≡◌, ℕ, List, sym, ap, ◌∙◌, length, subst, Ok}
 use Rattle.std.specs.Prelude.{map, Option, Contains}
 use Rattle.std.specs.List.{range_with_len}
 use Rattle.base_kit.specs.Prefixes.{Prefix}
@@ -8,7 +8,6 @@ use Rattle.cfg_ast.specs.meaning.Meaning.{judged}
 use Rattle.std.proofs.lemmas.List.{length-map}
 use Rattle.std.proofs.lemmas.List.FromFn.{length-map-range_with_len}
 use Rattle.cfg_ast.specs.printing.Bare.{bare, bare_router}
-use Rattle.cfg_ast.specs.text.Members.{members_of_text}
 use Rattle.cfg_ast.specs.text.Reading.{reading_of, network_of_text}
 use Rattle.cfg_check.specs.Laws.{FaultlessIsAccepted}
 use Rattle.cfg_round_trip.specs.Laws.{HasFewLines, PrintedIsReadBack}
@@ -28,7 +27,7 @@ use Rattle.srp_quotient.specs.Laws.{QuotientIsQuotient}
 use Rattle.compress_laws.specs.Compressed.{IsCompressedFor, Compresses}
 use Rattle.compress_laws.specs.Laws.{text_of}
 use Rattle.emit_forms.proofs.Groups.{problem_of}
-use Rattle.compress_laws.proofs.Names.{names_noted}
+use Rattle.compress_laws.proofs.Names.{names_noted, names_read}
 
 -- the laws that the proof puts together
 pub record Given : Type 0 where
@@ -93,6 +92,7 @@ module _ (g : Given) (e : Plan) (plan : IsPlan e) (coarse : IsCoarsest e.problem
         read = back.read;
         reads = accepted_text back.read (text_of e) back.reads (g.accepted back.read stands.faultless);
         routers = as_many back.read back.same;
+        names = names_read e some.prefix back.read some.of (stands.problem some.prefix some.has);
         members = g.members_back (emitted e) (notes_of e) can.well_formed can.notes ∙ names_noted e some.prefix some.of;
         fewer_routers = less.routers;
         fewer_links = less.links;

@@ -1,11 +1,10 @@
 -- The text of a class's plan compresses the network.
-use Rattle.std.proofs.Common.{◌≡◌, ℕ, ◌≤◌, Bool, true, false, ◌||◌, List, length, refl, sym, ap, ◌∙◌, subst, arith}
-use Rattle.std.specs.Prelude.{Contains, filter, ◌==◌, nat_lt}
+use Rattle.std.proofs.Common.{◌≡◌, ℕ, ◌≤◌, Bool, true, false, ◌||◌, List, length, subst, arith}
+use Rattle.std.specs.Prelude.{nat_lt}
 use Rattle.std.proofs.lemmas.Bool.Decides.{nat_tests}
 use Rattle.cfg_ast.specs.declared.classes.DestClass.{DestClass}
 use Rattle.cfg_ast.specs.declared.network.Network.{Network}
 use Rattle.cfg_print.specs.Prints.{is_too_long, count_newlines}
-use Rattle.config_emit.specs.Plan.{Plan}
 use Rattle.compress_laws.specs.Compressed.{Compresses}
 use Rattle.compress_laws.specs.Laws.{text_of, TextCompresses, PlanFits, PlanCompresses}
 

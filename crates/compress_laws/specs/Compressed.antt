@@ -13,6 +13,7 @@ use Rattle.cfg_ast.specs.text.Reading.{reading_of}
 use Rattle.srp_core.specs.declared.route.Route.{Route}
 use Rattle.srp_core.specs.Problem.{Problem}
 use Rattle.srp_core.specs.ProblemOf.{IsProblemOf}
+use Rattle.srp_quotient.specs.Groups.{first_member}
 use Rattle.srp_core.specs.Stability.{IsStable}
 use Rattle.srp_core.specs.Quotient.{IsCoarsest, IsQuotient}
 use Rattle.srp_core.specs.Laws.{Below, Above}
@@ -45,8 +46,12 @@ router_name network u = slice_index_or (map name_of_router network.routers) u []
 abbrev pub names_of_groups : Network → List ℕ → ℕ → List (List (List ℕ))
 names_of_groups network groups count = map (λ g. map (router_name network) (members_of groups g)) (range_with_len 0 count)
 
--- The bytes are read without refusal, as a network whose routers are the groups, in their order, and whose
--- notes name the members. It has no more routers and no more links, and is the compressed network for
+-- for each group the name of its first member
+abbrev pub names_of_first_members : Network → List ℕ → ℕ → List (List ℕ)
+names_of_first_members network groups count = map (λ g. router_name network (first_member groups g)) (range_with_len 0 count)
+
+-- The bytes are read without refusal, as a network whose routers are the groups, in their order, each under
+-- the name of its first member, and whose notes name the members. It has no more routers and no more links, and is the compressed network for
 -- every prefix of the class.
 pub record Compresses (network : Network) (class : DestClass) (bytes : List ℕ) : Type 0 where
   pub groups : List ℕ
@@ -55,6 +60,7 @@ pub record Compresses (network : Network) (class : DestClass) (bytes : List ℕ)
   pub read : Network
   pub reads : reading_of bytes ≡ Ok read
   pub routers : length read.routers ≡ count
+  pub names : map name_of_router read.routers ≡ names_of_first_members network groups count
   pub members : members_of_text bytes ≡ names_of_groups network groups count
   pub fewer_routers : length read.routers ≤ length network.routers
   pub fewer_links : length (links_of read) ≤ length (links_of network)

@@ -1,4 +1,4 @@
-use Rattle.compress_laws.proofs.Compressing.{Given, compresses}
+use Rattle.compress_laws.proofs.Compressing.{compresses}
 use Rattle.compress_laws.proofs.laws.text_compresses.Goals as goal
 
 pub returns : goal.returns
