@@ -1,0 +1,5 @@
+pub mod Cables
+pub mod FatTrees
+pub mod Laws
+pub mod Switches
+pub mod SwitchLines

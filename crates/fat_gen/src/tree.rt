@@ -1,0 +1,80 @@
+ghost use Rattle.std.specs.Prelude.{◌≡◌, ◌≤◌, ◌++◌, IfOk, OnOk, flat_map, length, string_bytes};
+ghost use Rattle.std.specs.List.{enumerate_from};
+ghost use Rattle.fat_gen.specs.Switches.{switches};
+ghost use Rattle.fat_gen.specs.Cables.{cables};
+ghost use Rattle.fat_gen.specs.SwitchLines.{switch_lines};
+ghost use Rattle.fat_gen.specs.FatTrees.{is_size, text_by_half, fat_tree_text, IsFatTree};
+
+use crate::cable::Cable;
+use crate::cables::cables;
+use crate::lines::put_switch;
+use crate::ports::ports_at;
+use crate::refusal::FatRefusal;
+use crate::switch::Switch;
+use crate::switches::switches;
+use std::alloc::{AllocError, Global};
+
+fn is_size(size: u32) -> bool
+    ensures { result ≡ is_size size }
+{
+    size % 2 == 0 && 4 <= size && size <= 20
+}
+
+fn put_with_ports(
+    alloc: Global,
+    text: &mut String,
+    place: u16,
+    switch: Switch,
+    cables: &[Cable],
+) -> Result<(), AllocError>
+    requires { length cables.now ≤ 4000 }
+    ensures { OnOk result (string_bytes text.new ≡ string_bytes text.old ++ switch_lines cables.now (place, switch)) }
+{
+    let ports = ports_at(alloc, place, cables)?;
+    put_switch(text, place, switch, &ports)
+}
+
+fn put_switches(
+    alloc: Global,
+    text: &mut String,
+    switches: &[Switch],
+    cables: &[Cable],
+) -> Result<(), AllocError>
+    requires switches { length switches.now ≤ 500 }
+    requires cables { length cables.now ≤ 4000 }
+    ensures { OnOk result (string_bytes text.new ≡ string_bytes text.old ++ flat_map (switch_lines cables.now) (enumerate_from 0 switches.now)) }
+{
+    for i in 0..switches.len() {
+        put_with_ports(alloc, text, i as u16, switches[i], cables)?;
+    }
+    Ok(())
+}
+
+fn text_by_half(alloc: Global, half: u8) -> Result<Vec<u8>, AllocError>
+    requires { half ≤ 10 }
+    ensures { IfOk result (λ bytes. bytes.items ≡ text_by_half half) }
+{
+    let switches = switches(alloc, half)?;
+    let cables = cables(alloc, half)?;
+    let mut text = String::new(alloc);
+    put_switches(alloc, &mut text, &switches, &cables)?;
+    Ok(text.into_bytes())
+}
+
+/// The running configurations of the switches of the fat tree of a size: 5 k k / 4 routers of one
+/// autonomous system each and k k k / 2 BGP sessions, for the size k. Each edge switch originates a
+/// network of hosts.
+///
+/// # Errors
+///
+/// `BadSize` exactly where the size is odd, or not from 4 to 20. `Memory` where memory ran out.
+#[tactic(auto, unfolding(crate::specs::FatTrees::fat_tree_text))]
+pub fn fat_tree(alloc: Global, k: u32) -> Result<Vec<u8>, FatRefusal>
+    ensures { IsFatTree (λ bytes. bytes.items) result k }
+{
+    if !is_size(k) {
+        return Err(FatRefusal::BadSize);
+    }
+    let bytes = text_by_half(alloc, (k / 2) as u8)?;
+    Ok(bytes)
+}
