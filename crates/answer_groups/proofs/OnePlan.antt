@@ -15,7 +15,7 @@ use Rattle.answer_groups.specs.CompressText.{IsPlanOf, text_of, IsTextOr, IsEmis
 use Rattle.answer_kit.specs.Outcome.{Outcome}
 use Rattle.answer_kit.proofs.NumberedOnce.{one_count_of_groups}
 use Rattle.answer_kit.proofs.OneClass.{some_prefix, one_list_of_groups}
-use Rattle.answer_groups.proofs.OneProblem.{one_problem}
+use Rattle.class_laws.proofs.OneProblem.{one_problem}
 
 abbrev pub plan_with : Network → DestClass → Problem → List ℕ → ℕ → List QLink → Plan
 plan_with network class problem groups count links = record { network = network; class = class; problem = problem; groups = groups; count = count; links = links }

@@ -28,7 +28,7 @@ use Rattle.srp_core.proofs.Offers.{edge_act as edge_fits}
 use Rattle.srp_build.specs.ActOrder.{AreActsByFirstUse}
 use Rattle.srp_build.specs.FirstActs.{IsActOfLines, IsFirstWith, HasFirstActs}
 use Rattle.answer_kit.proofs.NumberedOnce.{one_numbering, one_count_of_groups}
-use Rattle.answer_groups.proofs.OneEdges.{same_length, same_at, edge_act, one_list}
+use Rattle.class_laws.proofs.OneEdges.{same_length, same_at, edge_act, one_list}
 
 -- ---- lists
 

@@ -1,0 +1,2 @@
+mod OneEdges
+pub mod OneProblem
