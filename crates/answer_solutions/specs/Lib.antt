@@ -1,2 +1,4 @@
+pub mod Carries
 pub mod Checks
 pub mod OneAnswer
+pub mod ReadBack

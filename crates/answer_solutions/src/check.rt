@@ -1,14 +1,15 @@
-ghost use Rattle.std.specs.Prelude.{◌≡◌, ◌≤◌, ℕ, List, codes, Contains, IfOk};
+ghost use Rattle.std.specs.Prelude.{◌≡◌, ◌≤◌, ℕ, List, codes, Contains};
 ghost use Rattle.cfg_ast.specs.meaning.Classes.{classes_of};
 ghost use Rattle.io_kit.specs.Ends.{Rose};
 ghost use Rattle.srp_core.specs.Stability.{AreLabels};
 ghost use Rattle.solution_text.specs.Solutions.{AreApart};
-ghost use Rattle.answer_solutions.specs.Checks.{name_of_break, break_reason, IsJudgement, IsCheckOf, IsCheckAnswer};
+ghost use Rattle.answer_solutions.specs.Checks.{IsJudgement, IsCheckOf, IsCheckAnswer};
 ghost use Rattle.answer_kit.specs.Groups.{IsProblemOfClass};
-ghost use Rattle.answer_kit.specs.Outcome.{done, not_stable};
+ghost use Rattle.answer_kit.specs.Outcome.{done};
 ghost use Rattle.answer_kit.specs.Replies.{Answers, Only};
 ghost use Rattle.answer_kit.specs.SecondFiles.{IsOfSolution};
 
+use crate::breaks::broken;
 use answer_kit::{Reply, class_at, no_class, problem_of_class, solution_of};
 use base_kit::NoMemory;
 use cfg_ast::DestClass;
@@ -17,48 +18,13 @@ use dest_classes::classes;
 use io_kit::Source;
 use solution_check::{Answer, check};
 use srp_core::{Labels, Srp};
-use std::alloc::{AllocError, Global};
-
-fn name_of_break(why: u8) -> &'static str
-    ensures { result.now ≡ name_of_break why }
-{
-    if why == 1 {
-        "wrong-origin"
-    } else if why == 2 {
-        "not-a-candidate"
-    } else if why == 3 {
-        "better-candidate"
-    } else {
-        "none-with-candidate"
-    }
-}
-
-fn break_reason(alloc: Global, problem: &Srp, router: u32, why: u8) -> Result<Vec<u8>, AllocError>
-    ensures { IfOk result (λ bytes. bytes.items ≡ break_reason problem.now router why) }
-{
-    let name = match problem.names().as_slice().get(router as usize) {
-        Some(name) => name.as_str(),
-        None => "",
-    };
-    let reason = name_of_break(why);
-    let text = format!(in alloc; "{name} {reason}")?;
-    Ok(text.into_bytes())
-}
+use std::alloc::Global;
 
 fn stable(alloc: Global) -> Reply
     ensures { Answers result (Only (done (codes "stable\n"))) ⊥ ⊥ }
 {
     match Vec::from_slice(alloc, b"stable\n") {
         Ok(bytes) => Reply::Output(bytes),
-        Err(_) => Reply::NoMemory,
-    }
-}
-
-fn broken(alloc: Global, problem: &Srp, router: u32, why: u8) -> Reply
-    ensures { Answers result (Only (not_stable (break_reason problem.now router why))) ⊥ ⊥ }
-{
-    match break_reason(alloc, problem, router, why) {
-        Ok(reason) => Reply::NotStable(reason),
         Err(_) => Reply::NoMemory,
     }
 }

@@ -1,0 +1,23 @@
+ghost use Rattle.std.specs.Prelude.{◌≡◌, length};
+ghost use Rattle.srp_core.specs.Stability.{AreLabels};
+ghost use Rattle.solution_text.specs.Printed.{labels_text};
+ghost use Rattle.answer_kit.specs.Outcome.{done};
+ghost use Rattle.answer_kit.specs.Replies.{Answers, Only};
+
+use answer_kit::Reply;
+use base_kit::NoMemory;
+use solution_text::print_labels;
+use srp_core::{Labels, Srp};
+use std::alloc::Global;
+
+/// The text of labels of a problem.
+pub fn printed(alloc: Global, problem: &Srp, labels: &Labels) -> Reply
+    requires { AreLabels problem.now labels.now }
+    ensures { Answers result (Only (done (labels_text problem.now.names labels.now))) ⊥ ⊥ }
+{
+    let _routers = problem.count();
+    match print_labels(alloc, labels, problem.names()) {
+        Ok(bytes) => Reply::Output(bytes),
+        Err(NoMemory) => Reply::NoMemory,
+    }
+}
