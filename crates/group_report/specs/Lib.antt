@@ -1,0 +1,4 @@
+pub mod GroupLines
+pub mod JsonData
+pub mod JsonText
+pub mod Reports
