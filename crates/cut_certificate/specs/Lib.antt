@@ -1,0 +1,13 @@
+pub mod Answers
+pub mod Blocks
+pub mod Certificates
+pub mod Evenness
+pub mod Forms
+pub mod InUse
+pub mod Kept
+pub mod Members
+pub mod Names
+pub mod Numbering
+pub mod Outgoing
+pub mod Texts
+pub mod Uneven

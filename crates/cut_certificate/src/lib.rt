@@ -1,0 +1,29 @@
+//! Certificates of coarseness: lists of splits that lead from the blocks of equal color to the coarsest
+//! admissible partition of a graph, so that a reader needs to trust no refinement.
+//!
+//! `verify` reads the text of a certificate exactly by the definition `certificate_of_text`: the
+//! certificate, or the first line at fault with its kind. What it accepts names the coarsest admissible
+//! partition. `certify` makes a certificate, and `print_certificate` writes it as a text that `verify`
+//! accepts.
+#![tactic(auto)]
+
+mod blocks;
+mod certificate;
+mod forms;
+mod groups;
+mod lines;
+mod mirrors;
+mod names;
+mod numbering;
+mod outgoing;
+mod reading;
+mod refusal;
+mod router_names;
+mod standing;
+#[cfg(test)]
+mod tests;
+mod words;
+
+pub use certificate::{Certificate, Split};
+pub use reading::verify;
+pub use refusal::{CutKind, CutRefusal};
