@@ -1,0 +1,15 @@
+pub mod Routes
+pub mod BestChoices
+pub mod AtRest
+pub mod Runs
+pub mod Reaching
+pub mod Below
+pub mod ShortPaths
+pub mod Walks
+pub mod RoundsEnough
+pub mod OneOrder
+pub mod AlikeRuns
+mod NameTexts
+mod ScheduleRouters
+mod WordsLeft
+mod RankOrder

@@ -1,0 +1,7 @@
+use Rattle.std.proofs.Common.{refl}
+use Rattle.route_run.specs.Activations.{labels_after, no_labels}
+use Rattle.route_run.proofs.RoundsEnough.{rounds_enough_by}
+use Rattle.route_run.proofs.laws.rounds.Goals as goal
+
+pub returns : goal.returns
+returns c = λ problem most run rules none_lone few inside has. rounds_enough_by problem rules run inside (labels_after problem (no_labels problem) run) refl most none_lone few has

@@ -1,0 +1,9 @@
+pub mod Activations
+pub mod Choices
+pub mod Lone
+pub mod Names
+pub mod Orders
+pub mod Ranks
+pub mod Reading
+pub mod Rounds
+pub mod Schedules

@@ -1,0 +1,117 @@
+ghost use Rattle.std.specs.Prelude.{◌≡◌, IfOk, nat_eq};
+ghost use Rattle.std.specs.HashSet.{contains};
+ghost use Rattle.std.specs.Ordering.{nat_cmp};
+ghost use Rattle.std.specs.Cmp.Lexicographic.{slice_cmp};
+ghost use Rattle.srp_core.specs.Routes.{preference_of, size_of, path_of, comms_of, chosen};
+ghost use Rattle.route_run.specs.Activations.{beats, same_route};
+
+use crate::lone::chosen;
+use base_kit::NoMemory;
+use srp_core::Route;
+use std::alloc::Global;
+use std::cmp::Ordering;
+use std::collections::HashSet;
+
+// How the numbers of lone routers on two paths compare.
+fn compare_lone(
+    alloc: Global,
+    lone: &HashSet<u32>,
+    path: &[u32],
+    other: &[u32],
+) -> Result<Ordering, NoMemory>
+    ensures { IfOk result (λ order. order ≡ slice_cmp nat_cmp (chosen (contains nat_eq lone.now) path.now) (chosen (contains nat_eq lone.now) other.now)) }
+{
+    let first = chosen(alloc, lone, path)?;
+    let second = chosen(alloc, lone, other)?;
+    Ok(first.cmp(&second))
+}
+
+fn preference_of(route: &Route) -> u32
+    ensures { result ≡ preference_of route.now }
+{
+    match route {
+        Route::Bgp { lp, .. } => *lp,
+        Route::Ospf { .. } => 0,
+    }
+}
+
+fn size_of(route: &Route) -> u64
+    ensures { result ≡ size_of route.now }
+{
+    match route {
+        Route::Bgp { path, .. } => path.len() as u64,
+        Route::Ospf { cost } => u64::from(*cost),
+    }
+}
+
+fn path_of(route: &Route) -> &[u32]
+    ensures { result.now ≡ path_of route.now }
+{
+    match route {
+        Route::Bgp { path, .. } => path.as_slice(),
+        Route::Ospf { .. } => &[],
+    }
+}
+
+fn comms_of(route: &Route) -> &[u32]
+    ensures { result.now ≡ comms_of route.now }
+{
+    match route {
+        Route::Bgp { comms, .. } => comms.as_slice(),
+        Route::Ospf { .. } => &[],
+    }
+}
+
+/// Whether the first route has the better key, by the numbers of lone routers. These are looked at where
+/// all else is equal.
+#[tactic(auto, unfolding(srp_core::specs::Routes::compare_keys))]
+pub(crate) fn beats(
+    alloc: Global,
+    lone: &HashSet<u32>,
+    route: &Route,
+    other: &Route,
+) -> Result<bool, NoMemory>
+    ensures { IfOk result (λ better. better ≡ beats (contains nat_eq lone.now) route.now other.now) }
+{
+    let preference = preference_of(route);
+    let other_preference = preference_of(other);
+    if preference != other_preference {
+        return Ok(other_preference < preference);
+    }
+    let size = size_of(route);
+    let other_size = size_of(other);
+    if size != other_size {
+        return Ok(size < other_size);
+    }
+    match comms_of(route).cmp(&comms_of(other)) {
+        Ordering::Less => Ok(true),
+        Ordering::Greater => Ok(false),
+        Ordering::Equal => {
+            let order = compare_lone(alloc, lone, path_of(route), path_of(other))?;
+            Ok(order == Ordering::Less)
+        }
+    }
+}
+
+/// Whether two routes are equal.
+pub(crate) fn same_route(a: &Route, b: &Route) -> bool
+    ensures { result ≡ same_route a.now b.now }
+{
+    match (a, b) {
+        (
+            Route::Bgp { lp, path, comms },
+            Route::Bgp {
+                lp: other_lp,
+                path: other_path,
+                comms: other_comms,
+            },
+        ) => {
+            *lp == *other_lp
+                && path.as_slice() == other_path.as_slice()
+                && comms.as_slice() == other_comms.as_slice()
+        }
+        (Route::Ospf { cost }, Route::Ospf { cost: other }) => *cost == *other,
+        (Route::Bgp { .. }, Route::Ospf { .. }) => false,
+        (Route::Ospf { .. }, Route::Bgp { .. }) => false,
+    }
+}
