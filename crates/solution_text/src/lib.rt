@@ -13,6 +13,8 @@ mod printing;
 mod reading;
 mod refusal;
 mod said;
+#[cfg(test)]
+mod tests;
 mod words;
 
 pub use printing::print_labels;
