@@ -1,4 +1,5 @@
--- From what a run does to the headline: where `compress` is done, what was written compresses the network.
+-- From what a run does to the headline: where `compress` is done, what was written compresses the network;
+-- where `fold` or `lift` is done, what was written corresponds to the solution.
 use Rattle.std.proofs.Common.{◌≡◌, ◌≢◌, inl, inr, ⊎_elim, ℕ, ◌-◌, Bool, true, false, List, [], ◌∷◌, ◌++◌, refl, sym, ap, ◌∙◌, subst, Option, Some, None, Result, Ok, Err, slice_get, nat_eq, if◌then◌else◌, codes}
 use Rattle.std.specs.Prelude.{Contains}
 use Rattle.base_kit.proofs.Elements.{contains_in, get_in}
@@ -26,10 +27,13 @@ use Rattle.answer_kit.specs.ClassNumbers.{class_at, no_class, IsOfClass}
 use Rattle.answer_kit.specs.Kinds.{line_reason}
 use Rattle.bonsai_top.specs.Commands.{command_of}
 use Rattle.answer_groups.specs.CompressText.{pool_overlap, IsTextOr, IsEmission, IsUnlessPool, IsCompressOf}
-use Rattle.bonsai_top.specs.Headline.{IsHeadline}
+use Rattle.bonsai_top.specs.Headline.{IsHeadline, IsCarriedDown, IsCarriedUp}
 use Rattle.bonsai_top.specs.Meets.{RunMeets}
 use Rattle.answer_kit.specs.Outcome.{Outcome, refused}
-use Rattle.bonsai_top.specs.Outcomes.{IsOutcomeOfReading, IsOutcomeOfText, IsOutcomeAt, IsOutcome}
+use Rattle.bonsai_top.specs.Outcomes.{IsAnswerTo, IsOutcomeOfReading, IsOutcomeOfText, IsOutcomeAt, IsOutcome}
+use Rattle.bonsai_top.proofs.DoneCarries.{fold_is_done, lift_is_done}
+use Rattle.answer_solutions.specs.Carries.{IsFoldAnswer, IsLiftAnswer}
+use Rattle.answer_solutions.specs.ReadBack.{FoldIsReadBack, LiftIsReadBack}
 use Rattle.bonsai_top.specs.Words.{file_of, second_of}
 
 -- ---- a network that is accepted has no fault
@@ -106,47 +110,85 @@ module _ (compresses : PlanCompresses) (text : List ℕ) (n : Network) (read : I
   has_bytes None found is = absurd (no_refusal (no_class number) is)
   has_bytes (Some class) found is = record { class = class; class_is = found; compresses = of_class class (found_in (classes_of n) (number - 1) class (nat_eq number 0) found) is }
 
-record HasNetwork (text : List ℕ) (number : ℕ) (o : Outcome) : Type 0 where
+-- ---- the answer to a command
+
+-- The text was read, and this is an answer to the command over its network.
+record HasAnswer (command : Command) (text : List ℕ) (second : Option (List ℕ)) (o : Outcome) : Type 0 where
   network : Network
   reads : reading_of text ≡ Ok network
-  bytes : HasBytes network number o
+  read : IsRead text network
+  answer : IsAnswerTo command network second o
 
-module _ (compresses : PlanCompresses) (text : List ℕ) (number : ℕ) (o : Outcome) (status : o.status ≡ Done) where
+module _ (command : Command) (second : Option (List ℕ)) (text : List ℕ) (o : Outcome) (status : o.status ≡ Done) where
   refused_not : (reason : List ℕ) → o ≡ refused reason → ⊥
   refused_not reason e = (let s : (refused reason).status ≡ Done = ap (λ (x : Outcome). x.status) (sym e) ∙ status in cc)
 
-  of_reading : (r : Result Network ReadRefusal) → reading_of text ≡ r → (second : Option (List ℕ)) → IsOutcomeOfReading (command.Compress number) second r o → HasNetwork text number o
-  of_reading (Ok n) reads second is = record { network = n; reads = reads; bytes = has_bytes compresses text n (reads_well text n reads) number o status (class_at (classes_of n) number) refl is }
-  of_reading (Err (read_refusal.At line kind)) reads second is = absurd (refused_not (line_reason line kind) is)
-  of_reading (Err read_refusal.Memory) reads second is = absurd is
+  of_reading : (r : Result Network ReadRefusal) → reading_of text ≡ r → IsOutcomeOfReading command second r o → HasAnswer command text second o
+  of_reading (Ok n) reads is = record { network = n; reads = reads; read = reads_well text n reads; answer = is }
+  of_reading (Err (read_refusal.At line kind)) reads is = absurd (refused_not (line_reason line kind) is)
+  of_reading (Err read_refusal.Memory) reads is = absurd is
 
-  of_text : (second : Option (List ℕ)) → IsOutcomeOfText (command.Compress number) second text o → HasNetwork text number o
-  of_text second (inl long) = absurd (refused_not (codes "FileTooLong") long.1)
-  of_text second (inr read) = of_reading (reading_of text) refl second read.1
+  of_text : IsOutcomeOfText command second text o → HasAnswer command text second o
+  of_text (inl long) = absurd (refused_not (codes "FileTooLong") long.1)
+  of_text (inr read) = of_reading (reading_of text) refl read.1
 
-of_outcome : PlanCompresses → (words : List (List ℕ)) (contents : List ℕ → Option (List ℕ)) (text : List ℕ) (number : ℕ) (o : Outcome) → o.status ≡ Done → command_of words ≡ Some (command.Compress number) → contents (file_of words) ≡ Some text → IsOutcome words contents o → HasNetwork text number o
-unfolding IsOutcome
-of_outcome compresses words contents text number o status names told is =
-    let at : IsOutcomeAt (Some (command.Compress number)) (contents (file_of words)) (contents (second_of words)) o = subst (λ (c : Option Command). IsOutcomeAt c (contents (file_of words)) (contents (second_of words)) o) names is in
-    of_text compresses text number o status (contents (second_of words)) (subst (λ (c : Option (List ℕ)). IsOutcomeAt (Some (command.Compress number)) c (contents (second_of words)) o) told at)
+module _ (words : List (List ℕ)) (contents : List ℕ → Option (List ℕ)) (named : Command) (text : List ℕ) (o : Outcome) (status : o.status ≡ Done) where
+  of_outcome : command_of words ≡ Some named → contents (file_of words) ≡ Some text → IsOutcome words contents o → HasAnswer named text (contents (second_of words)) o
+  unfolding IsOutcome
+  of_outcome names told is =
+      let at : IsOutcomeAt (Some named) (contents (file_of words)) (contents (second_of words)) o = subst (λ (c : Option Command). IsOutcomeAt c (contents (file_of words)) (contents (second_of words)) o) names is in
+      of_text named (contents (second_of words)) text o status (subst (λ (c : Option (List ℕ)). IsOutcomeAt (Some named) c (contents (second_of words)) o) told at)
 
-pub headline : PlanCompresses → (words : List (List ℕ)) (contents : List ℕ → Option (List ℕ)) (first second : List ℕ) (first_rose second_rose : Type 0) (result : Status) (out_old out_new : Option (List ℕ)) (out_before out_now : ℕ) (err_old err_new : Option (List ℕ)) (err_before err_now : ℕ)
-    → RunMeets (IsOutcome words contents) first second first_rose second_rose result out_old out_new out_before out_now err_old err_new err_before err_now
-    → result ≡ Done → (number : ℕ) → command_of words ≡ Some (command.Compress number) → (text before : List ℕ) → contents (file_of words) ≡ Some text → out_old ≡ Some before → IsHeadline text number before out_new
-headline compresses words contents first second first_rose second_rose result out_old out_new out_before out_now err_old err_new err_before err_now meets is number names text before told taken =
-    elim meets.cause [
-      | inl allowed ↦ (let h = of_outcome compresses words contents text number meets.outcome status names told allowed in
-          record { network = h.network; reads = h.reads; class = h.bytes.class; class_is = h.bytes.class_is; bytes = meets.outcome.out; took = took; compresses = h.bytes.compresses })
-      | inr (inl failed) ↦ absurd (let s = ap (λ (x : Outcome). x.status) (sym failed.1) ∙ status in cc)
-      | inr (inr (inl failed)) ↦ absurd (let s = ap (λ (x : Outcome). x.status) (sym failed.1) ∙ status in cc)
-      | inr (inr (inr memory)) ↦ absurd (let s = ap (λ (x : Outcome). x.status) (sym memory) ∙ status in cc)
-    ]
-  where
-    no_fault_of_writing : result ≢ WriteFault
-    no_fault_of_writing w = (let s : Done ≡ WriteFault = sym is ∙ w in cc)
+-- a run that is done told an answer to its command, and all of its bytes
+record HasTold (named : Command) (text : List ℕ) (second : Option (List ℕ)) (before : List ℕ) (after : Option (List ℕ)) : Type 0 where
+  outcome : Outcome
+  status : outcome.status ≡ Done
+  answer : HasAnswer named text second outcome
+  took : after ≡ Some (before ++ outcome.out)
 
-    status : meets.outcome.status ≡ Done
-    status = ⊎_elim (λ e. sym e ∙ is) (λ w. absurd (no_fault_of_writing w)) meets.told.status
+module _ (words : List (List ℕ)) (contents : List ℕ → Option (List ℕ)) (first second : List ℕ) (first_rose second_rose : Type 0) (result : Status) (out_old out_new : Option (List ℕ)) (out_before out_now : ℕ) (err_old err_new : Option (List ℕ)) (err_before err_now : ℕ)
+    (meets : RunMeets (IsOutcome words contents) first second first_rose second_rose result out_old out_new out_before out_now err_old err_new err_before err_now) (is : result ≡ Done) where
+  no_fault_of_writing : result ≢ WriteFault
+  no_fault_of_writing w = (let s : Done ≡ WriteFault = sym is ∙ w in cc)
 
-    took : out_new ≡ Some (before ++ meets.outcome.out)
-    took = meets.told.out_all no_fault_of_writing ∙ ap (λ (o : Option (List ℕ)). with_end o meets.outcome.out) taken
+  told_status : meets.outcome.status ≡ Done
+  told_status = ⊎_elim (λ e. sym e ∙ is) (λ w. absurd (no_fault_of_writing w)) meets.told.status
+
+  has_told : (named : Command) → command_of words ≡ Some named → (text before : List ℕ) → contents (file_of words) ≡ Some text → out_old ≡ Some before → HasTold named text (contents (second_of words)) before out_new
+  has_told named names text before told taken =
+      elim meets.cause [
+        | inl allowed ↦ record {
+          outcome = meets.outcome;
+          status = told_status;
+          answer = of_outcome words contents named text meets.outcome told_status names told allowed;
+          took = meets.told.out_all no_fault_of_writing ∙ ap (λ (o : Option (List ℕ)). with_end o meets.outcome.out) taken;
+        }
+        | inr (inl failed) ↦ absurd (let s = ap (λ (x : Outcome). x.status) (sym failed.1) ∙ told_status in cc)
+        | inr (inr (inl failed)) ↦ absurd (let s = ap (λ (x : Outcome). x.status) (sym failed.1) ∙ told_status in cc)
+        | inr (inr (inr memory)) ↦ absurd (let s = ap (λ (x : Outcome). x.status) (sym memory) ∙ told_status in cc)
+      ]
+
+  -- ---- compress
+
+  pub headline : PlanCompresses → (number : ℕ) → command_of words ≡ Some (command.Compress number) → (text before : List ℕ) → contents (file_of words) ≡ Some text → out_old ≡ Some before → IsHeadline text number before out_new
+  headline compresses number names text before told taken =
+      let h = has_told (command.Compress number) names text before told taken in
+      let n = h.answer.network in
+      let b = has_bytes compresses text n h.answer.read number h.outcome h.status (class_at (classes_of n) number) refl h.answer.answer in
+      record { network = n; reads = h.answer.reads; class = b.class; class_is = b.class_is; bytes = h.outcome.out; took = h.took; compresses = b.compresses }
+
+  -- ---- fold and lift
+
+  pub folded : FoldIsReadBack → (number : ℕ) → command_of words ≡ Some (command.Fold number) → (text solution before : List ℕ) → contents (file_of words) ≡ Some text → contents (second_of words) ≡ Some solution → out_old ≡ Some before → IsCarriedDown text solution number before out_new
+  folded reads number names text solution before told also taken =
+      let h = has_told (command.Fold number) names text before told taken in
+      let n = h.answer.network in
+      let answer = subst (λ (c : Option (List ℕ)). IsFoldAnswer n number c h.outcome) also h.answer.answer in
+      record { network = n; reads = h.answer.reads; bytes = h.outcome.out; took = h.took; carried = reads n ∣ (text, h.answer.read.given) ∣₁ h.answer.read.faultless number solution h.outcome.out (subst (IsFoldAnswer n number (Some solution)) (fold_is_done n number solution h.outcome h.status answer) answer) }
+
+  pub lifted : LiftIsReadBack → (number : ℕ) → command_of words ≡ Some (command.Lift number) → (text solution before : List ℕ) → contents (file_of words) ≡ Some text → contents (second_of words) ≡ Some solution → out_old ≡ Some before → IsCarriedUp text solution number before out_new
+  lifted reads number names text solution before told also taken =
+      let h = has_told (command.Lift number) names text before told taken in
+      let n = h.answer.network in
+      let answer = subst (λ (c : Option (List ℕ)). IsLiftAnswer n number c h.outcome) also h.answer.answer in
+      record { network = n; reads = h.answer.reads; bytes = h.outcome.out; took = h.took; carried = reads n ∣ (text, h.answer.read.given) ∣₁ h.answer.read.faultless number solution h.outcome.out (subst (IsLiftAnswer n number (Some solution)) (lift_is_done n number solution h.outcome h.status answer) answer) }

@@ -1,3 +1,4 @@
+mod DoneCarries
 mod Headlines
 mod Lines
 mod Named

@@ -6,7 +6,7 @@ use Rattle.cfg_ast.specs.declared.refusal.ReadRefusal.{ReadRefusal}
 use Rattle.cfg_ast.specs.declared.refusal.ReadRefusal.TheVariants as read_refusal
 use Rattle.cfg_ast.specs.text.Reading.{reading_of}
 use Rattle.answer_groups.specs.OneAnswer.{GroupsAnswerIsOne, CompressAnswerIsOne}
-use Rattle.answer_solutions.specs.OneAnswer.{CheckAnswerIsOne}
+use Rattle.answer_solutions.specs.OneAnswer.{CheckAnswerIsOne, FoldAnswerIsOne, LiftAnswerIsOne}
 use Rattle.bonsai_top.specs.declared.command.Command.{Command}
 use Rattle.bonsai_top.specs.declared.command.Command.TheVariants as command
 use Rattle.bonsai_top.specs.Commands.{command_of, reads_first, reads_second, is_read}
@@ -24,14 +24,18 @@ always_first command.Classes = refl
 always_first (command.Groups number) = refl
 always_first (command.Compress number) = refl
 always_first (command.Check number) = refl
+always_first (command.Fold number) = refl
+always_first (command.Lift number) = refl
 
 -- the laws of the commands
-module _ (groups : GroupsAnswerIsOne) (compress : CompressAnswerIsOne) (check : CheckAnswerIsOne) where
+module _ (groups : GroupsAnswerIsOne) (compress : CompressAnswerIsOne) (check : CheckAnswerIsOne) (fold : FoldAnswerIsOne) (lift : LiftAnswerIsOne) where
   one_answer : (command : Command) (n : Network) (second : Option (List ℕ)) → IsToldTo command second → (o p : Outcome) → IsAnswerTo command n second o → IsAnswerTo command n second p → o ≡ p
   one_answer command.Classes n second told o p x y = x ∙ sym y
   one_answer (command.Groups number) n second told o p x y = groups n number o p x y
   one_answer (command.Compress number) n second told o p x y = compress n number o p x y
   one_answer (command.Check number) n second told o p x y = check n number second (told refl) o p x y
+  one_answer (command.Fold number) n second told o p x y = fold n number second (told refl) o p x y
+  one_answer (command.Lift number) n second told o p x y = lift n number second (told refl) o p x y
 
   one_of_reading : (command : Command) (second : Option (List ℕ)) → IsToldTo command second → (r : Result Network ReadRefusal) (o p : Outcome) → IsOutcomeOfReading command second r o → IsOutcomeOfReading command second r p → o ≡ p
   one_of_reading command second told (Ok n) o p x y = one_answer command n second told o p x y

@@ -14,6 +14,8 @@ built form.Classes = Some command.Classes
 built (form.Groups class) = Some (command.Groups class)
 built (form.Compress class) = Some (command.Compress class)
 built (form.Check class) = Some (command.Check class)
+built (form.Fold class) = Some (command.Fold class)
+built (form.Lift class) = Some (command.Lift class)
 built other = None
 
 -- the command that the words name
@@ -26,6 +28,8 @@ reads_first command.Classes = true
 reads_first (command.Groups class) = true
 reads_first (command.Compress class) = true
 reads_first (command.Check class) = true
+reads_first (command.Fold class) = true
+reads_first (command.Lift class) = true
 
 -- whether it reads the second one
 abbrev pub reads_second : Command → Bool
@@ -33,6 +37,8 @@ reads_second command.Classes = false
 reads_second (command.Groups class) = false
 reads_second (command.Compress class) = false
 reads_second (command.Check class) = true
+reads_second (command.Fold class) = true
+reads_second (command.Lift class) = true
 
 abbrev pub is_read : (Command → Bool) → Option Command → Bool
 is_read reads None = false

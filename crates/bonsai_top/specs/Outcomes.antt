@@ -13,6 +13,7 @@ use Rattle.answer_kit.specs.Kinds.{line_reason}
 use Rattle.answer_groups.specs.ClassLines.{classes_text}
 use Rattle.answer_groups.specs.CompressText.{IsCompressAnswer}
 use Rattle.answer_groups.specs.GroupLines.{IsGroupsAnswer}
+use Rattle.answer_solutions.specs.Carries.{IsFoldAnswer, IsLiftAnswer}
 use Rattle.answer_solutions.specs.Checks.{IsCheckAnswer}
 
 -- what a command is to write of a network, with the second file where it is told
@@ -21,6 +22,8 @@ IsAnswerTo command.Classes network second o = o ≡ done (classes_text network)
 IsAnswerTo (command.Groups class) network second o = IsGroupsAnswer network class o
 IsAnswerTo (command.Compress class) network second o = IsCompressAnswer network class o
 IsAnswerTo (command.Check class) network second o = IsCheckAnswer network class second o
+IsAnswerTo (command.Fold class) network second o = IsFoldAnswer network class second o
+IsAnswerTo (command.Lift class) network second o = IsLiftAnswer network class second o
 
 -- the answer of a network, or the line and kind that refuse the text
 abbrev pub IsOutcomeOfReading : Command → Option (List ℕ) → Result Network ReadRefusal → Outcome → Type 0

@@ -31,6 +31,8 @@ pub enum Command {
     Groups(u32),
     Compress(u32),
     Check(u32),
+    Fold(u32),
+    Lift(u32),
 }
 
 // A number of at most nine digits.
@@ -134,6 +136,8 @@ fn built(form: Form) -> Option<Command>
         Form::Groups(class) => Some(Command::Groups(class)),
         Form::Compress(class) => Some(Command::Compress(class)),
         Form::Check(class) => Some(Command::Check(class)),
+        Form::Fold(class) => Some(Command::Fold(class)),
+        Form::Lift(class) => Some(Command::Lift(class)),
         _ => None,
     }
 }

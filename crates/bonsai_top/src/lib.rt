@@ -11,8 +11,6 @@
 mod command;
 pub mod laws;
 mod tell;
-#[cfg(test)]
-mod tests;
 mod top;
 mod work;
 

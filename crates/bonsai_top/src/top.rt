@@ -4,7 +4,7 @@ ghost use Rattle.bonsai_top.specs.Words.{words_of, file_of, second_of};
 ghost use Rattle.bonsai_top.specs.Commands.{command_of, FirstRose, SecondRose};
 ghost use Rattle.bonsai_top.specs.Outcomes.{IsOutcome};
 ghost use Rattle.bonsai_top.specs.Meets.{RunMeets};
-ghost use Rattle.bonsai_top.specs.Headline.{IsHeadline};
+ghost use Rattle.bonsai_top.specs.Headline.{IsHeadline, IsCarriedDown, IsCarriedUp};
 ghost use Rattle.bonsai_top.specs.declared.command.Command.TheVariants as command;
 
 use crate::command::{file_word, read_words, second_word};
@@ -40,6 +40,15 @@ pub fn run<S: Source, O: Sink, E: Sink>(
     ensures headline { result ≡ Status.Done → (number : ℕ) → command_of (words_of words.now) ≡ Some (command.Compress number) → (text before : List ℕ)
         → S.contents files.old (file_of (words_of words.now)) ≡ Some text → O.taken out.old ≡ Some before → IsHeadline text number before (O.taken out.new) }
 
+    // Where `fold` or `lift` is done over files that are told, what was written is read as stable labels of
+    // the other problem that correspond to the solution.
+    ensures folded { result ≡ Status.Done → (number : ℕ) → command_of (words_of words.now) ≡ Some (command.Fold number) → (text solution before : List ℕ)
+        → S.contents files.old (file_of (words_of words.now)) ≡ Some text → S.contents files.old (second_of (words_of words.now)) ≡ Some solution → O.taken out.old ≡ Some before
+        → IsCarriedDown text solution number before (O.taken out.new) }
+    ensures lifted { result ≡ Status.Done → (number : ℕ) → command_of (words_of words.now) ≡ Some (command.Lift number) → (text solution before : List ℕ)
+        → S.contents files.old (file_of (words_of words.now)) ≡ Some text → S.contents files.old (second_of (words_of words.now)) ≡ Some solution → O.taken out.old ≡ Some before
+        → IsCarriedUp text solution number before (O.taken out.new) }
+
     // The files are as they were, and no count of faults falls.
     ensures contents { S.contents files.new ≡ S.contents files.old }
     ensures files_later { (n : List ℕ) → S.faults files.old n ≤ S.faults files.new n }
@@ -53,6 +62,8 @@ pub fn run<S: Source, O: Sink, E: Sink>(
     ensures write_fault { result ≡ Status.WriteFault → Rose (E.faults err.old) (E.faults err.new) ⊎ Rose (O.faults out.old) (O.faults out.new) }
 {
     compress_laws::laws::plan_compresses();
+    answer_solutions::laws::fold_is_read_back();
+    answer_solutions::laws::lift_is_read_back();
     match read_words(words) {
         None => tell(out, err, &Reply::Misuse, "", ""),
         Some(command) => {

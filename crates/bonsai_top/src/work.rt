@@ -8,7 +8,7 @@ ghost use Rattle.answer_kit.specs.Replies.{Answers, Only, Refuses};
 use crate::command::Command;
 use answer_groups::{classes, compress, groups};
 use answer_kit::{Reply, line_reason, refusal};
-use answer_solutions::check;
+use answer_solutions::{check, fold, lift};
 use cfg_ast::ReadRefusal;
 use cfg_check::{Checked, check_network};
 use cfg_parse::read_network;
@@ -49,6 +49,8 @@ fn answer<S: Source>(
         Command::Groups(class) => groups::answer(alloc, checked, class),
         Command::Compress(class) => compress::answer(alloc, checked, class),
         Command::Check(class) => check::answer(alloc, checked, class, second, files),
+        Command::Fold(class) => fold::answer(alloc, checked, class, second, files),
+        Command::Lift(class) => lift::answer(alloc, checked, class, second, files),
     }
 }
 

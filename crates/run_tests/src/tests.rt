@@ -2,8 +2,8 @@ ghost use Rattle.std.specs.Prelude.{◌≡◌, ◌≤◌, ◌<◌, ℕ, List, []
 ghost use Rattle.io_kit.specs.Ends.{Rose, Gave};
 ghost use Rattle.io_kit.specs.Files.{all_begun, contents_of};
 
-use crate::{Status, run};
 use base_kit::{List, Text};
+use bonsai_top::{Status, run};
 use io_kit::{Failed, MemFile, MemSink, MemSource, Source, SureSink, SureSource};
 use std::alloc::{AllocError, Global};
 use std::test::Fail;

@@ -1,0 +1,5 @@
+//! Tests of the top call over files and outputs in memory. It has no code of its own.
+#![tactic(auto)]
+
+#[cfg(test)]
+mod tests;
