@@ -3,6 +3,7 @@ pub mod Closing
 pub mod Evened
 pub mod GroupLines
 pub mod Grouped
+pub mod Leaders
 pub mod LineWords
 pub mod LinesLeft
 pub mod Made
@@ -13,6 +14,7 @@ pub mod Reached
 pub mod RouterNames
 pub mod Scans
 pub mod Seen
+pub mod Sound
 pub mod StepsOf
 pub mod Used
 pub mod Verified

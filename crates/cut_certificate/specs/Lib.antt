@@ -9,5 +9,6 @@ pub mod Members
 pub mod Names
 pub mod Numbering
 pub mod Outgoing
+pub mod Printed
 pub mod Texts
 pub mod Uneven

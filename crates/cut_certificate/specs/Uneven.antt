@@ -1,8 +1,10 @@
 -- What keeps blocks from being even.
-use Rattle.std.specs.Prelude.{◌≡◌, ◌≢◌, ℕ, ◌<◌, true, false, List, length, slice_index}
+use Rattle.std.specs.Prelude.{◌≡◌, ◌≢◌, ℕ, ◌-◌, ◌<◌, ◌≤◌, true, false, List, length, slice_index}
 use Rattle.base_kit.specs.declared.act_graph.Edge.{Edge}
+use Rattle.base_kit.specs.Partition.{IsMirroredAt}
 use Rattle.cut_certificate.specs.declared.outgoing.Placed.{Placed}
 use Rattle.cut_certificate.specs.Blocks.{act_at, reaches}
+use Rattle.cut_certificate.specs.Evenness.{mirror_each_other}
 
 -- an edge of the router into another block, of which the other router has no twin
 pub record IsUnmatched (edges : List Edge) (numbers : List ℕ) (p : Placed) (router other : ℕ) : Type 0 where
@@ -12,3 +14,27 @@ pub record IsUnmatched (edges : List Edge) (numbers : List ℕ) (p : Placed) (ro
   pub leaves : slice_index numbers p.edge.exporter ≢ slice_index numbers router
   pub reached : reaches edges numbers (slice_index numbers p.edge.exporter) p.edge.act router ≡ true
   pub unreached : reaches edges numbers (slice_index numbers p.edge.exporter) p.edge.act other ≡ false
+
+-- the edge parts the block of the router: it leads from one member into another block, and another member has no twin
+pub record IsParting (edges : List Edge) (numbers : List ℕ) (p : Placed) (router : ℕ) : Type 0 where
+  pub one : ℕ
+  pub other : ℕ
+  pub member : router < length numbers
+  pub one_member : one < length numbers
+  pub other_member : other < length numbers
+  pub one_together : slice_index numbers one ≡ slice_index numbers router
+  pub other_together : slice_index numbers other ≡ slice_index numbers router
+  pub unmatched : IsUnmatched edges numbers p one other
+
+-- a member of each block, by the numbers of the blocks less one
+pub record AreLeaders (numbers leaders : List ℕ) : Type 0 where
+  pub member : (u : ℕ) → u < length numbers → slice_index leaders (slice_index numbers u - 1) < length numbers
+  pub together : (u : ℕ) → u < length numbers → slice_index numbers (slice_index leaders (slice_index numbers u - 1)) ≡ slice_index numbers u
+
+-- each router from here on and the leader of its block mirror each other
+pub record AreEvenFrom (edges : List Edge) (numbers leaders : List ℕ) (from : ℕ) : Type 0 where
+  pub each : (u : ℕ) → from ≤ u → u < length numbers → mirror_each_other edges numbers (slice_index leaders (slice_index numbers u - 1)) u ≡ true
+
+-- members of one block mirror each other
+pub record AreMirrored (edges : List Edge) (numbers : List ℕ) : Type 0 where
+  pub each : (u v : ℕ) → u < length numbers → v < length numbers → slice_index numbers u ≡ slice_index numbers v → IsMirroredAt edges numbers u v

@@ -1,6 +1,6 @@
 //! The routers of a graph in numbered blocks.
 
-ghost use Rattle.std.specs.Prelude.{◌≡◌, ◌<◌, ◌≤◌, ◌&&◌, ◌==◌, IfOk, length};
+ghost use Rattle.std.specs.Prelude.{◌^◌, slice_index, ◌≡◌, ◌<◌, ◌≤◌, ◌&&◌, ◌==◌, IfOk, length};
 ghost use Rattle.base_kit.specs.Sets.{has};
 ghost use Rattle.cut_certificate.specs.Answers.{Steps};
 ghost use Rattle.cut_certificate.specs.Blocks.{act_at, first_blocks, is_block, number_after, numbers_after, split_by};
@@ -117,6 +117,15 @@ impl Blocks {
         ensures in_use { AreInUse self.now.numbers self.now.count }
     {
         self.count
+    }
+
+    /// The number of a router's block.
+    pub(crate) fn number_of(&self, router: u32) -> u32
+        requires router { router < length self.now.numbers }
+        requires few { length self.now.numbers < 2 ^ 32 }
+        ensures { result ≡ slice_index self.now.numbers router }
+    {
+        self.numbers[router as usize] as u32
     }
 
     fn are_blocks(&self, split: Split) -> bool

@@ -3,12 +3,12 @@
 //!
 //! `verify` reads the text of a certificate exactly by the definition `certificate_of_text`: the
 //! certificate, or the first line at fault with its kind. What it accepts names the coarsest admissible
-//! partition. `certify` makes a certificate, and `print_certificate` writes it as a text that `verify`
-//! accepts.
+//! partition. `certify` makes a certificate that is accepted.
 #![tactic(auto)]
 
 mod blocks;
 mod certificate;
+mod certifying;
 mod forms;
 mod groups;
 mod lines;
@@ -25,5 +25,6 @@ mod tests;
 mod words;
 
 pub use certificate::{Certificate, Split};
+pub use certifying::certify;
 pub use reading::verify;
 pub use refusal::{CutKind, CutRefusal};

@@ -1,6 +1,6 @@
 ghost use Rattle.std.specs.Prelude.{◌≡◌, IfOk, length};
 
-use crate::{CutKind, CutRefusal, verify};
+use crate::{CutKind, CutRefusal, certify, verify};
 use base_kit::{ActGraph, Edge, List, Text};
 use std::alloc::Global;
 use std::test::Fail;
@@ -65,6 +65,22 @@ fn fault_of(
         Err(CutRefusal::At { line, why }) => Ok(Some((line, why))),
         Err(CutRefusal::Memory) => Ok(Some((0, CutKind::NoEnd))),
     }
+}
+
+#[test]
+fn a_ring_is_split_once(rt: HostRuntime) -> Result<(), Fail> {
+    let graph = ring(rt.alloc())?;
+    let made = certify(rt.alloc(), &graph)?;
+    let splits = made.splits.as_slice();
+    let groups = made.groups.as_slice();
+    assert_eq!(rt; splits.len(), 1);
+    assert_eq!(rt; groups.len(), 3);
+    if groups.len() == 3 {
+        assert_eq!(rt; groups[0].as_slice(), [0u32].as_slice());
+        assert_eq!(rt; groups[1].as_slice(), [1u32, 3].as_slice());
+        assert_eq!(rt; groups[2].as_slice(), [2u32].as_slice());
+    }
+    Ok(())
 }
 
 #[test]

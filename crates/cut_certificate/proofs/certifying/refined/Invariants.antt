@@ -1,0 +1,18 @@
+use Rattle.std.proofs.Common.{◌≡◌, ◌+◌, ◌-◌, ◌*◌, cond, nat_eq, length}
+use Rattle.cut_certificate.specs.Certificates.{AreAfter}
+use Rattle.cut_certificate.specs.InUse.{AreInUse}
+use Rattle.cut_certificate.proofs.certifying.refined.Given as goal
+
+-- the splits so far lead to the blocks
+abbrev pub invariant-splitting : goal.invariant-splitting
+invariant-splitting l = record {
+  after : AreAfter l.graph l.fn.first l.splits l.blocks;
+  total : length l.blocks.numbers ≡ l.graph.count;
+  counted : l.count ≡ l.blocks.count;
+  in_use : AreInUse l.blocks.numbers l.blocks.count;
+  few : length l.splits + l.fn.first.count ≡ l.count;
+}
+
+-- each split makes one block more, and the routers are gone over again once behind it
+abbrev pub decreases-splitting : goal.decreases-splitting
+decreases-splitting l = 2 * (l.graph.count - l.count) + cond (nat_eq l.from 0) 0 1

@@ -1,0 +1,159 @@
+//! Splits as long as a block is not even.
+
+ghost use Rattle.std.specs.Prelude.{◌≡◌, ◌<◌, ◌≤◌, ◌^◌, ◌⊎◌, All, IfOk, MatchOption, Ok, length, true};
+ghost use Rattle.cut_certificate.specs.Blocks.{split_by};
+ghost use Rattle.cut_certificate.specs.Certificates.{AreAfter, IsAccepted};
+ghost use Rattle.cut_certificate.specs.Evenness.{mirror_each_other};
+ghost use Rattle.cut_certificate.specs.InUse.{AreInUse};
+ghost use Rattle.cut_certificate.specs.Outgoing.{AreIndexed};
+ghost use Rattle.cut_certificate.specs.Uneven.{AreEvenFrom, AreLeaders, AreMirrored, IsParting, IsUnmatched};
+
+use crate::blocks::Blocks;
+use crate::certificate::{Certificate, Split};
+use crate::groups::groups_of;
+use crate::mirrors::unmatched;
+use crate::outgoing::{Placed, by_importer};
+use crate::refusal::Stop;
+use base_kit::{ActGraph, List, NoMemory};
+use std::alloc::Global;
+
+// A member of each block.
+fn leaders(alloc: Global, numbers: &[usize], count: usize) -> Result<Vec<u32>, NoMemory>
+    requires few { length numbers.now < 2 ^ 32 }
+    requires known { All (λ number. (0 < number) × (number ≤ count)) numbers.now }
+    ensures total { IfOk result (λ v. length v.items ≡ count) }
+    ensures leaders { IfOk result (λ v. AreLeaders numbers.now v.items) }
+{
+    let mut leaders = vec![in alloc; 0; count]?;
+    for router in 0..numbers.len() {
+        leaders[numbers[router] - 1] = router as u32;
+    }
+    Ok(leaders)
+}
+
+// An edge of one of two routers of which the other one has no twin.
+fn uneven(
+    graph: &ActGraph,
+    outgoing: &[Vec<Placed>],
+    numbers: &[usize],
+    router: u32,
+    other: u32,
+) -> Option<Placed>
+    requires index { AreIndexed graph.now outgoing.now }
+    requires total { length numbers.now ≡ graph.now.count }
+    requires router { router < graph.now.count }
+    requires other { other < graph.now.count }
+    ensures { MatchOption result (mirror_each_other graph.now.edges numbers.now router other ≡ true) (λ p. IsUnmatched graph.now.edges numbers.now p router other ⊎ IsUnmatched graph.now.edges numbers.now p other router) }
+{
+    match unmatched(graph, outgoing, numbers, router, other) {
+        Some(p) => Some(p),
+        None => unmatched(graph, outgoing, numbers, other, router),
+    }
+}
+
+// The first router from a place on that differs from the leader of its block, and an edge that parts
+// the two.
+fn next_uneven(
+    graph: &ActGraph,
+    outgoing: &[Vec<Placed>],
+    numbers: &[usize],
+    leaders: &[u32],
+    from: u32,
+) -> Option<(u32, Placed)>
+    requires index { AreIndexed graph.now outgoing.now }
+    requires total { length numbers.now ≡ graph.now.count }
+    requires known { All (λ number. (0 < number) × (number ≤ length leaders.now)) numbers.now }
+    requires leaders { AreLeaders numbers.now leaders.now }
+    ensures { MatchOption result (AreEvenFrom graph.now.edges numbers.now leaders.now from) (λ f. IsParting graph.now.edges numbers.now f.1 f.0) }
+{
+    for router in from..graph.count {
+        let leader = leaders[numbers[router as usize] - 1];
+        if let Some(p) = uneven(graph, outgoing, numbers, leader, router) {
+            return Some((router, p));
+        }
+    }
+    None
+}
+
+// The blocks after the split by an edge that parts the block of the router.
+fn divided(
+    alloc: Global,
+    graph: &ActGraph,
+    outgoing: &[Vec<Placed>],
+    blocks: &Blocks,
+    router: u32,
+    p: Placed,
+) -> Result<(Blocks, Split), NoMemory>
+    requires index { AreIndexed graph.now outgoing.now }
+    requires total { length blocks.now.numbers ≡ graph.now.count }
+    requires few { graph.now.count < 2 ^ 32 }
+    requires parting { IsParting graph.now.edges blocks.now.numbers p router }
+    ensures made { IfOk result (λ r. split_by graph.now.edges blocks.now r.1 ≡ Ok r.0) }
+    ensures place { IfOk result (λ r. r.1.edge < length graph.now.edges) }
+    ensures in_use { IfOk result (λ r. AreInUse r.0.numbers r.0.count) }
+{
+    let _count = blocks.count();
+    let block = blocks.number_of(router);
+    let by = blocks.number_of(p.edge.exporter);
+    let edge = p.place;
+    let split = Split { block, by, edge };
+    match blocks.split_by(alloc, graph, outgoing, split, p.edge.act) {
+        Ok(next) => {
+            let _count = next.count();
+            Ok((next, split))
+        }
+        Err(Stop::Memory) => Err(NoMemory),
+        Err(Stop::Fault(_)) => unreachable!(),
+    }
+}
+
+// Splits until all blocks are even.
+fn refined(
+    alloc: Global,
+    graph: &ActGraph,
+    outgoing: &[Vec<Placed>],
+    first: Blocks,
+) -> Result<(Blocks, List<Split>), NoMemory>
+    requires index { AreIndexed graph.now outgoing.now }
+    requires total { length first.numbers ≡ graph.now.count }
+    requires few { graph.now.count < 2 ^ 32 }
+    ensures after { IfOk result (λ r. AreAfter graph.now first r.1 r.0) }
+    ensures even { IfOk result (λ r. AreMirrored graph.now.edges r.0.numbers) }
+    ensures few { IfOk result (λ r. length r.1 ≤ graph.now.count) }
+{
+    let mut count = first.count();
+    let mut blocks = first;
+    let mut splits = List::new(alloc);
+    let mut from = 0;
+    'splitting: loop {
+        let leaders = leaders(alloc, blocks.numbers(), count)?;
+        match next_uneven(graph, outgoing, blocks.numbers(), &leaders, from) {
+            Some((router, p)) => {
+                let (next, split) = divided(alloc, graph, outgoing, &blocks, router, p)?;
+                splits.push(split)?;
+                count = next.count();
+                blocks = next;
+                from = router;
+            }
+            None => {
+                if from == 0 {
+                    return Ok((blocks, splits));
+                }
+                from = 0;
+            }
+        }
+    }
+}
+
+/// A certificate of the graph that is accepted, with at most as many splits as routers.
+pub fn certify(alloc: Global, graph: &ActGraph) -> Result<Certificate, NoMemory>
+    ensures accepted { IfOk result (IsAccepted graph.now) }
+    ensures few { IfOk result (λ c. length c.splits ≤ graph.now.count) }
+{
+    let _count = graph.count;
+    let outgoing = by_importer(alloc, graph)?;
+    let first = Blocks::first(alloc, graph)?;
+    let (blocks, splits) = refined(alloc, graph, &outgoing, first)?;
+    let groups = groups_of(alloc, blocks.numbers())?;
+    Ok(Certificate { splits, groups })
+}
