@@ -1,0 +1,4 @@
+pub mod OneReach
+pub mod OneRun
+mod NameLines
+mod OneAnswer

@@ -1,0 +1,169 @@
+ghost use Rattle.std.specs.Prelude.{◌≡◌, ◌≤◌, ◌++◌, ℕ, All, List, Contains, IfOk, string_bytes};
+ghost use Rattle.cfg_ast.specs.meaning.Classes.{classes_of};
+ghost use Rattle.io_kit.specs.Ends.{Rose};
+ghost use Rattle.srp_core.specs.Problem.{count};
+ghost use Rattle.srp_core.specs.Stability.{AreLabels, IsStable};
+ghost use Rattle.solution_text.specs.Solutions.{AreApart};
+ghost use Rattle.route_run.specs.Schedules.{routers_of, run_of, IsSingle};
+ghost use Rattle.answer_kit.specs.Outcome.{done, not_stable};
+ghost use Rattle.answer_kit.specs.Replies.{Answers, Only};
+ghost use Rattle.answer_kit.specs.SecondFiles.{IsOfSolution};
+ghost use Rattle.answer_solutions.specs.Checks.{name_of_break, break_reason};
+ghost use Rattle.answer_runs.specs.Reaches.{name_lines, IsOrderTold, IsReach, IsReachOf, IsReachAnswer};
+
+use crate::name::name_of;
+use answer_kit::{Reply, class_at, no_class, problem_of_class, solution_of};
+use base_kit::NoMemory;
+use cfg_ast::DestClass;
+use cfg_check::Checked;
+use dest_classes::classes;
+use io_kit::Source;
+use route_run::{Activation, reach};
+use solution_check::{Answer, check};
+use srp_core::{Labels, Srp};
+use std::alloc::{AllocError, Global};
+
+// Puts a line with the name of each router that is activated, which is one.
+fn put_name(text: &mut String, problem: &Srp, activation: Activation) -> Result<(), AllocError>
+    requires { IsSingle activation }
+    ensures { IfOk result (λ _. string_bytes text.new ≡ string_bytes text.old ++ name_lines problem.now (routers_of (count problem.now) activation)) }
+{
+    match activation {
+        Activation::One(router) => {
+            let name = name_of(problem, router);
+            text.push_str(name)?;
+            text.push_str("\n")?;
+            Ok(())
+        }
+        Activation::Round => Ok(()),
+    }
+}
+
+fn name_lines(alloc: Global, problem: &Srp, schedule: &[Activation]) -> Result<Vec<u8>, AllocError>
+    requires { All IsSingle schedule.now }
+    ensures { IfOk result (λ bytes. bytes.items ≡ name_lines problem.now (run_of (count problem.now) schedule.now)) }
+{
+    let mut text = String::new(alloc);
+    for activation in schedule {
+        put_name(&mut text, problem, *activation)?;
+    }
+    Ok(text.into_bytes())
+}
+
+// The order of stable labels, a name a line.
+fn order_text(alloc: Global, problem: &Srp, labels: &Labels) -> Result<Vec<u8>, NoMemory>
+    requires { IsStable problem.now labels.now }
+    ensures { IfOk result (λ bytes. IsOrderTold problem.now labels.now (done bytes.items)) }
+{
+    let schedule = reach(alloc, problem, labels)?;
+    let text = name_lines(alloc, problem, schedule.as_slice())?;
+    Ok(text)
+}
+
+fn ordered(alloc: Global, problem: &Srp, labels: &Labels) -> Reply
+    requires { IsStable problem.now labels.now }
+    ensures { Answers result (IsOrderTold problem.now labels.now) ⊥ ⊥ }
+{
+    match order_text(alloc, problem, labels) {
+        Ok(bytes) => Reply::Output(bytes),
+        Err(NoMemory) => Reply::NoMemory,
+    }
+}
+
+fn name_of_break(why: u8) -> &'static str
+    ensures { result.now ≡ name_of_break why }
+{
+    if why == 1 {
+        "wrong-origin"
+    } else if why == 2 {
+        "not-a-candidate"
+    } else if why == 3 {
+        "better-candidate"
+    } else {
+        "none-with-candidate"
+    }
+}
+
+fn break_reason(alloc: Global, problem: &Srp, router: u32, why: u8) -> Result<Vec<u8>, AllocError>
+    ensures { IfOk result (λ bytes. bytes.items ≡ break_reason problem.now router why) }
+{
+    let name = name_of(problem, router);
+    let reason = name_of_break(why);
+    let text = format!(in alloc; "{name} {reason}")?;
+    Ok(text.into_bytes())
+}
+
+fn broken(alloc: Global, problem: &Srp, router: u32, why: u8) -> Reply
+    ensures { Answers result (Only (not_stable (break_reason problem.now router why))) ⊥ ⊥ }
+{
+    match break_reason(alloc, problem, router, why) {
+        Ok(reason) => Reply::NotStable(reason),
+        Err(_) => Reply::NoMemory,
+    }
+}
+
+// The order of labels of the problem, or why they have none.
+fn reached(alloc: Global, problem: &Srp, labels: &Labels) -> Reply
+    requires { AreLabels problem.now labels.now }
+    ensures { Answers result (IsReach problem.now labels.now) ⊥ ⊥ }
+{
+    match check(alloc, problem, labels) {
+        Ok(Answer::Stable) => ordered(alloc, problem, labels),
+        Ok(Answer::Not { router, why }) => broken(alloc, problem, router, why),
+        Err(NoMemory) => Reply::NoMemory,
+    }
+}
+
+// The order of the labels of the problem that the second file gives.
+fn answer_of_problem<S: Source>(alloc: Global, problem: &Srp, second: &str, files: &mut S) -> Reply
+    requires { AreApart problem.now.names }
+    ensures answers { Answers result (IsOfSolution problem.now (S.contents files.old second.now) (IsReach problem.now)) ⊥ (Rose (S.faults files.old second.now) (S.faults files.new second.now)) }
+    ensures contents { S.contents files.new ≡ S.contents files.old }
+    ensures later { (n : List ℕ) → S.faults files.old n ≤ S.faults files.new n }
+{
+    match solution_of(alloc, problem, second, files) {
+        Ok(labels) => reached(alloc, problem, &labels),
+        Err(reply) => reply,
+    }
+}
+
+// The order of the solution of a class.
+fn answer_of_class<S: Source>(
+    alloc: Global,
+    checked: &Checked,
+    class: &DestClass,
+    second: &str,
+    files: &mut S,
+) -> Reply
+    requires { Contains (classes_of checked.now.network) class.now }
+    ensures answers { Answers result (IsReachOf checked.now.network (S.contents files.old second.now) class.now) ⊥ (Rose (S.faults files.old second.now) (S.faults files.new second.now)) }
+    ensures contents { S.contents files.new ≡ S.contents files.old }
+    ensures later { (n : List ℕ) → S.faults files.old n ≤ S.faults files.new n }
+{
+    match problem_of_class(alloc, checked, class) {
+        Ok(problem) => answer_of_problem(alloc, &problem, second, files),
+        Err(NoMemory) => Reply::NoMemory,
+    }
+}
+
+/// The order of the solution in the second file, of the class of this number, a name a line. Run from no
+/// labels it leads to a solution in which each router has the same key.
+pub fn answer<S: Source>(
+    alloc: Global,
+    checked: &Checked,
+    number: u32,
+    second: &str,
+    files: &mut S,
+) -> Reply
+    ensures answers { Answers result (IsReachAnswer checked.now.network number (S.contents files.old second.now)) ⊥ (Rose (S.faults files.old second.now) (S.faults files.new second.now)) }
+    ensures contents { S.contents files.new ≡ S.contents files.old }
+    ensures later { (n : List ℕ) → S.faults files.old n ≤ S.faults files.new n }
+{
+    let Ok(classes) = classes(alloc, checked) else {
+        return Reply::NoMemory;
+    };
+    match class_at(classes.as_slice(), number) {
+        Some(class) => answer_of_class(alloc, checked, class, second, files),
+        None => no_class(alloc, number),
+    }
+}

@@ -1,0 +1,150 @@
+ghost use Rattle.std.specs.Prelude.{◌≡◌, ◌≤◌, ◌<◌, ℕ, All, List, Contains, IfOk, length};
+ghost use Rattle.cfg_ast.specs.meaning.Classes.{classes_of};
+ghost use Rattle.io_kit.specs.Ends.{Rose};
+ghost use Rattle.srp_core.specs.Problem.{count};
+ghost use Rattle.srp_core.specs.Stability.{AreLabels};
+ghost use Rattle.route_run.specs.Activations.{labels_after, no_labels};
+ghost use Rattle.route_run.specs.Schedules.{run_of};
+ghost use Rattle.answer_kit.specs.Outcome.{done, refused};
+ghost use Rattle.answer_kit.specs.Replies.{Answers, Only};
+ghost use Rattle.answer_kit.specs.SecondFiles.{IsOfSecond};
+ghost use Rattle.answer_runs.specs.Schedules.{schedule_limit, long_schedule, schedule_reason, rest_line, IsRest, IsOfSchedule, IsRunOf, IsRunAnswer};
+
+use crate::name::name_of;
+use answer_kit::{Reply, class_at, no_class, problem_of_class, read_second};
+use base_kit::{List, NoMemory};
+use cfg_ast::DestClass;
+use cfg_check::Checked;
+use dest_classes::classes;
+use io_kit::Source;
+use route_run::{Activation, ScheduleRefusal, moving, read_schedule, run_schedule};
+use solution_text::print_labels;
+use srp_core::{Labels, Srp};
+use std::alloc::{AllocError, Global};
+
+// A schedule has at most this many bytes.
+const SCHEDULE_LIMIT: usize = 16_777_216;
+
+// Whether labels are at rest, in a line.
+fn rest_line(alloc: Global, problem: &Srp, moving: Option<u32>) -> Result<Vec<u8>, AllocError>
+    ensures { IfOk result (λ bytes. bytes.items ≡ rest_line problem.now moving) }
+{
+    match moving {
+        None => Vec::from_slice(alloc, b"rest\n"),
+        Some(router) => {
+            let name = name_of(problem, router);
+            let text = format!(in alloc; "moving {name}\n")?;
+            Ok(text.into_bytes())
+        }
+    }
+}
+
+// The line, and the labels behind it.
+fn rest_text(alloc: Global, problem: &Srp, labels: &Labels) -> Result<Vec<u8>, NoMemory>
+    requires { AreLabels problem.now labels.now }
+    ensures { IfOk result (λ bytes. IsRest problem.now labels.now (done bytes.items)) }
+{
+    let _routers = problem.count();
+    let moving = moving(alloc, problem, labels)?;
+    let mut text = rest_line(alloc, problem, moving)?;
+    let lines = print_labels(alloc, labels, problem.names())?;
+    text.extend_from_slice(&lines)?;
+    Ok(text)
+}
+
+// Runs a schedule of the problem.
+fn ran(alloc: Global, problem: &Srp, schedule: &List<Activation>) -> Reply
+    requires { All (λ u. u < count problem.now) (run_of (count problem.now) schedule.now) }
+    ensures { Answers result (IsRest problem.now (labels_after problem.now (no_labels problem.now) (run_of (count problem.now) schedule.now))) ⊥ ⊥ }
+{
+    let Ok(labels) = run_schedule(alloc, problem, schedule) else {
+        return Reply::NoMemory;
+    };
+    match rest_text(alloc, problem, &labels) {
+        Ok(bytes) => Reply::Output(bytes),
+        Err(NoMemory) => Reply::NoMemory,
+    }
+}
+
+fn reason(alloc: Global, line: u32) -> Result<Vec<u8>, AllocError>
+    ensures { IfOk result (λ bytes. bytes.items ≡ schedule_reason line) }
+{
+    let text = format!(in alloc; "schedule line {line}: UnknownRouter")?;
+    Ok(text.into_bytes())
+}
+
+// The refusal of a schedule, by its line.
+fn schedule_refusal(alloc: Global, line: u32) -> Reply
+    ensures { Answers result (Only (refused (schedule_reason line))) ⊥ ⊥ }
+{
+    match reason(alloc, line) {
+        Ok(bytes) => Reply::Refusal(bytes),
+        Err(_) => Reply::NoMemory,
+    }
+}
+
+// Runs the schedule of a text.
+fn run_text(alloc: Global, problem: &Srp, text: &[u8]) -> Reply
+    requires { length text.now ≤ schedule_limit }
+    ensures { Answers result (IsOfSchedule problem.now text.now) ⊥ ⊥ }
+{
+    let _routers = problem.count();
+    match read_schedule(alloc, text, problem.names()) {
+        Ok(schedule) => ran(alloc, problem, &schedule),
+        Err(ScheduleRefusal::UnknownRouter(line)) => schedule_refusal(alloc, line),
+        Err(ScheduleRefusal::Memory) => Reply::NoMemory,
+    }
+}
+
+// Runs the schedule that the second file gives.
+fn answer_of_problem<S: Source>(alloc: Global, problem: &Srp, second: &str, files: &mut S) -> Reply
+    ensures answers { Answers result (IsOfSecond schedule_limit long_schedule (S.contents files.old second.now) (IsOfSchedule problem.now)) ⊥ (Rose (S.faults files.old second.now) (S.faults files.new second.now)) }
+    ensures contents { S.contents files.new ≡ S.contents files.old }
+    ensures later { (n : List ℕ) → S.faults files.old n ≤ S.faults files.new n }
+{
+    match read_second(alloc, second, SCHEDULE_LIMIT, "schedule FileTooLong", files) {
+        Ok(text) => run_text(alloc, problem, &text),
+        Err(reply) => reply,
+    }
+}
+
+// Runs the schedule on a class.
+fn answer_of_class<S: Source>(
+    alloc: Global,
+    checked: &Checked,
+    class: &DestClass,
+    second: &str,
+    files: &mut S,
+) -> Reply
+    requires { Contains (classes_of checked.now.network) class.now }
+    ensures answers { Answers result (IsRunOf checked.now.network (S.contents files.old second.now) class.now) ⊥ (Rose (S.faults files.old second.now) (S.faults files.new second.now)) }
+    ensures contents { S.contents files.new ≡ S.contents files.old }
+    ensures later { (n : List ℕ) → S.faults files.old n ≤ S.faults files.new n }
+{
+    match problem_of_class(alloc, checked, class) {
+        Ok(problem) => answer_of_problem(alloc, &problem, second, files),
+        Err(NoMemory) => Reply::NoMemory,
+    }
+}
+
+/// Runs the schedule in the second file on the class of this number, from no labels: whether the labels
+/// are at rest behind it, and the labels.
+pub fn answer<S: Source>(
+    alloc: Global,
+    checked: &Checked,
+    number: u32,
+    second: &str,
+    files: &mut S,
+) -> Reply
+    ensures answers { Answers result (IsRunAnswer checked.now.network number (S.contents files.old second.now)) ⊥ (Rose (S.faults files.old second.now) (S.faults files.new second.now)) }
+    ensures contents { S.contents files.new ≡ S.contents files.old }
+    ensures later { (n : List ℕ) → S.faults files.old n ≤ S.faults files.new n }
+{
+    let Ok(classes) = classes(alloc, checked) else {
+        return Reply::NoMemory;
+    };
+    match class_at(classes.as_slice(), number) {
+        Some(class) => answer_of_class(alloc, checked, class, second, files),
+        None => no_class(alloc, number),
+    }
+}
