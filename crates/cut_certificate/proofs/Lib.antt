@@ -18,3 +18,4 @@ pub mod Sound
 pub mod StepsOf
 pub mod Used
 pub mod Verified
+pub mod Written

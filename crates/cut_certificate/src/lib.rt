@@ -3,7 +3,8 @@
 //!
 //! `verify` reads the text of a certificate exactly by the definition `certificate_of_text`: the
 //! certificate, or the first line at fault with its kind. What it accepts names the coarsest admissible
-//! partition. `certify` makes a certificate that is accepted.
+//! partition. `certify` makes a certificate that is accepted, and
+//! `print_certificate` writes it as a text.
 #![tactic(auto)]
 
 mod blocks;
@@ -16,6 +17,7 @@ mod mirrors;
 mod names;
 mod numbering;
 mod outgoing;
+mod printing;
 mod reading;
 mod refusal;
 mod router_names;
@@ -26,5 +28,6 @@ mod words;
 
 pub use certificate::{Certificate, Split};
 pub use certifying::certify;
+pub use printing::print_certificate;
 pub use reading::verify;
 pub use refusal::{CutKind, CutRefusal};

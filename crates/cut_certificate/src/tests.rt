@@ -1,6 +1,6 @@
 ghost use Rattle.std.specs.Prelude.{◌≡◌, IfOk, length};
 
-use crate::{CutKind, CutRefusal, certify, verify};
+use crate::{CutKind, CutRefusal, certify, print_certificate, verify};
 use base_kit::{ActGraph, Edge, List, Text};
 use std::alloc::Global;
 use std::test::Fail;
@@ -80,6 +80,16 @@ fn a_ring_is_split_once(rt: HostRuntime) -> Result<(), Fail> {
         assert_eq!(rt; groups[1].as_slice(), [1u32, 3].as_slice());
         assert_eq!(rt; groups[2].as_slice(), [2u32].as_slice());
     }
+    Ok(())
+}
+
+#[test]
+fn the_text_of_a_certificate(rt: HostRuntime) -> Result<(), Fail> {
+    let graph = ring(rt.alloc())?;
+    let names = names(rt.alloc())?;
+    let made = certify(rt.alloc(), &graph)?;
+    let text = print_certificate(rt.alloc(), &graph, &names, &made)?;
+    assert_eq!(rt; fault_of(rt.alloc(), &graph, &names, &text)?, None);
     Ok(())
 }
 
