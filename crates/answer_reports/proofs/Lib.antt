@@ -1,0 +1,6 @@
+mod Groupings
+mod OneAnswer
+mod OnePlan
+mod Readings
+mod Summaries
+mod Trials

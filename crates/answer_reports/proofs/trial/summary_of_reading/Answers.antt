@@ -1,0 +1,33 @@
+use Rattle.std.proofs.Common.{sym, ap, ◌∙◌, subst, Result, Ok}
+use Rattle.cfg_ast.specs.declared.network.Network.{Network}
+use Rattle.cfg_ast.specs.declared.refusal.ReadRefusal.{ReadRefusal}
+use Rattle.cfg_ast.specs.meaning.Meaning.{judged}
+use Rattle.cfg_ast.specs.text.Reading.{network_of_text}
+use Rattle.answer_kit.proofs.Replies.{answers_as}
+use Rattle.answer_reports.specs.Trials.{IsSummaryOfReading}
+use Rattle.answer_reports.proofs.Readings.{reading_judged, reading_refused, answers_refused}
+use Rattle.answer_reports.proofs.trial.summary_of_reading.Goals as goal
+
+-- the text is no network
+pub returns-in-Err : goal.returns-in-Err
+returns-in-Err c =
+    let text = c.args.text.now in
+    answers_refused c.text_refusal.result text c.in-Err.refusal (network_of_text text) (reading_refused text c.in-Err.refusal) c.in-Err.ensures c.text_refusal.ensures
+
+abbrev accepted_as : Network → Result Network ReadRefusal
+accepted_as n = Ok n
+
+-- the network has no fault
+pub returns-in-Ok-check_network : goal.returns-in-Ok-check_network
+returns-in-Ok-check_network c =
+    let text = c.args.text.now in
+    let checked = c.in-Ok-check_network.ensures in
+    let read = reading_judged text c.in-Ok.network _ c.in-Ok.ensures (checked.accepted ∙ ap accepted_as (sym checked.ok)) in
+    answers_as c.answer.result _ _ ⊥ ⊥ ⊥ ⊥ (λ o is. subst (λ (r : Result Network ReadRefusal). IsSummaryOfReading r o) (sym read) is) (λ e. e) (λ e. e) c.answer.ensures
+
+-- the network has a fault
+pub returns-in-Err-check_network : goal.returns-in-Err-check_network
+returns-in-Err-check_network c =
+    let text = c.args.text.now in
+    answers_refused c.text_refusal-in-Err-check_network.result text c.in-Err-check_network.refusal (judged c.in-Ok.network) (λ e. reading_judged text c.in-Ok.network _ c.in-Ok.ensures e)
+    c.in-Err-check_network.ensures.refused c.text_refusal-in-Err-check_network.ensures

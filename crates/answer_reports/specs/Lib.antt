@@ -1,0 +1,5 @@
+pub mod Groupings
+pub mod OneAnswer
+pub mod ReportAnswers
+pub mod Summaries
+pub mod Trials

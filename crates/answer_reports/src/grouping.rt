@@ -1,0 +1,87 @@
+ghost use Rattle.std.specs.Prelude.{◌≡◌, ◌<◌, IfOk, Contains};
+ghost use Rattle.base_kit.specs.Partition.{IsCoarsest};
+ghost use Rattle.cfg_ast.specs.meaning.Classes.{classes_of};
+ghost use Rattle.cfg_ast.specs.meaning.PolicyFaults.{communities_of};
+ghost use Rattle.cfg_ast.specs.meaning.Topology.{links_of};
+ghost use Rattle.route_maps.specs.Within.{AreWithin};
+ghost use Rattle.answer_reports.specs.Groupings.{IsGroupingOf};
+
+use abstract_net::{Quotient, quotient};
+use answer_kit::store_of;
+use base_kit::{ActGraph, List, NoMemory, Steps};
+use cfg_ast::{DestClass, Link};
+use cfg_check::Checked;
+use dd_core::Store;
+use refine_partition::{Partition, coarsest};
+use srp_build::build;
+use srp_core::Srp;
+use std::alloc::Global;
+use std::marker::Brand;
+use std::sync::ledger::{Blank, Ledger};
+
+/// The problem of a class, its groups, and the links between them.
+#[derive(Drop)]
+pub struct Grouping {
+    pub problem: Srp,
+    pub groups: Partition,
+    pub quotient: Quotient,
+}
+
+// The coarsest admissible partition, by turns that this ledger counts.
+fn counted<L: Ledger>(alloc: Global, graph: &ActGraph, blank: Blank) -> Result<Partition, NoMemory>
+    requires name { blank.name ≡ L.name }
+    requires parts { blank.parts ≡ L.parts }
+    requires some { 0 < L.parts }
+    ensures { IfOk result (λ groups. IsCoarsest graph.now groups) }
+{
+    let mut turns = Steps::<L>::new(blank);
+    let groups = coarsest(alloc, graph, &mut turns)?;
+    Ok(groups)
+}
+
+fn coarsest_of(alloc: Global, graph: &ActGraph) -> Result<Partition, NoMemory>
+    ensures { IfOk result (λ groups. IsCoarsest graph.now groups) }
+{
+    counted::<Brand>(alloc, graph, Blank::new(1))
+}
+
+/// The grouping of a class, from the links of the network and a store of diagrams over all communities
+/// that the network names. The store may grow.
+pub(crate) fn grouping_of(
+    alloc: Global,
+    checked: &Checked,
+    links: &List<Link>,
+    class: &DestClass,
+    store: &mut Store,
+) -> Result<Grouping, NoMemory>
+    requires links { links.now ≡ links_of checked.now.network }
+    requires class { Contains (classes_of checked.now.network) class.now }
+    requires known { AreWithin store.old.universe (communities_of checked.now.network) }
+    ensures universe { store.new.universe ≡ store.old.universe }
+    ensures grouping { IfOk result (IsGroupingOf checked.now.network class.now) }
+{
+    let problem = build(alloc, checked, links, class, store)?;
+    let graph = problem.graph()?;
+    let groups = coarsest_of(alloc, &graph)?;
+    let quotient = quotient(alloc, &graph, &groups)?;
+    Ok(Grouping {
+        problem,
+        groups,
+        quotient,
+    })
+}
+
+/// The grouping of a class, over a store of its own.
+pub(crate) fn grouping_alone(
+    alloc: Global,
+    checked: &Checked,
+    links: &List<Link>,
+    class: &DestClass,
+) -> Result<Grouping, NoMemory>
+    requires links { links.now ≡ links_of checked.now.network }
+    requires class { Contains (classes_of checked.now.network) class.now }
+    ensures { IfOk result (IsGroupingOf checked.now.network class.now) }
+{
+    let mut store = store_of(alloc, checked)?;
+    grouping_of(alloc, checked, links, class, &mut store)
+}
