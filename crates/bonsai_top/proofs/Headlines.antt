@@ -25,12 +25,12 @@ use Rattle.answer_kit.specs.declared.status.Status.{Status}
 use Rattle.answer_kit.specs.declared.status.Status.TheVariants.{Done, WriteFault}
 use Rattle.answer_kit.specs.ClassNumbers.{class_at, no_class, IsOfClass}
 use Rattle.answer_kit.specs.Kinds.{line_reason}
-use Rattle.bonsai_top.specs.Commands.{command_of}
+use Rattle.bonsai_top.specs.Commands.{command_of, reads_first}
 use Rattle.answer_groups.specs.CompressText.{pool_overlap, IsTextOr, IsEmission, IsUnlessPool, IsCompressOf}
 use Rattle.bonsai_top.specs.Headline.{IsHeadline, IsCarriedDown, IsCarriedUp}
 use Rattle.bonsai_top.specs.Meets.{RunMeets}
 use Rattle.answer_kit.specs.Outcome.{Outcome, refused}
-use Rattle.bonsai_top.specs.Outcomes.{IsAnswerTo, IsOutcomeOfReading, IsOutcomeOfText, IsOutcomeAt, IsOutcome}
+use Rattle.bonsai_top.specs.Outcomes.{IsAnswerTo, IsOutcomeOfReading, IsOutcomeOfText, IsOutcomeOfFiles, IsOutcomeBy, IsOutcomeAt, IsOutcome}
 use Rattle.bonsai_top.proofs.DoneCarries.{fold_is_done, lift_is_done}
 use Rattle.answer_solutions.specs.Carries.{IsFoldAnswer, IsLiftAnswer}
 use Rattle.answer_solutions.specs.ReadBack.{FoldIsReadBack, LiftIsReadBack}
@@ -133,11 +133,12 @@ module _ (command : Command) (second : Option (List ℕ)) (text : List ℕ) (o :
   of_text (inr read) = of_reading (reading_of text) refl read.1
 
 module _ (words : List (List ℕ)) (contents : List ℕ → Option (List ℕ)) (named : Command) (text : List ℕ) (o : Outcome) (status : o.status ≡ Done) where
-  of_outcome : command_of words ≡ Some named → contents (file_of words) ≡ Some text → IsOutcome words contents o → HasAnswer named text (contents (second_of words)) o
+  of_outcome : reads_first named ≡ true → command_of words ≡ Some named → contents (file_of words) ≡ Some text → IsOutcome words contents o → HasAnswer named text (contents (second_of words)) o
   unfolding IsOutcome
-  of_outcome names told is =
+  of_outcome reads names told is =
       let at : IsOutcomeAt (Some named) (contents (file_of words)) (contents (second_of words)) o = subst (λ (c : Option Command). IsOutcomeAt c (contents (file_of words)) (contents (second_of words)) o) names is in
-      of_text named (contents (second_of words)) text o status (subst (λ (c : Option (List ℕ)). IsOutcomeAt (Some named) c (contents (second_of words)) o) told at)
+      let files : IsOutcomeOfFiles named (contents (file_of words)) (contents (second_of words)) o = subst (λ (b : Bool). IsOutcomeBy b named (contents (file_of words)) (contents (second_of words)) o) reads at in
+      of_text named (contents (second_of words)) text o status (subst (λ (c : Option (List ℕ)). IsOutcomeOfFiles named c (contents (second_of words)) o) told files)
 
 -- a run that is done told an answer to its command, and all of its bytes
 record HasTold (named : Command) (text : List ℕ) (second : Option (List ℕ)) (before : List ℕ) (after : Option (List ℕ)) : Type 0 where
@@ -154,15 +155,15 @@ module _ (words : List (List ℕ)) (contents : List ℕ → Option (List ℕ)) (
   told_status : meets.outcome.status ≡ Done
   told_status = ⊎_elim (λ e. sym e ∙ is) (λ w. absurd (no_fault_of_writing w)) meets.told.status
 
-  has_told : (named : Command) → command_of words ≡ Some named → (text before : List ℕ) → contents (file_of words) ≡ Some text → out_old ≡ Some before → HasTold named text (contents (second_of words)) before out_new
-  has_told named names text before told taken =
+  has_told : (named : Command) → reads_first named ≡ true → command_of words ≡ Some named → (text before : List ℕ) → contents (file_of words) ≡ Some text → out_old ≡ Some before → HasTold named text (contents (second_of words)) before out_new
+  has_told named reads names text before told taken =
       elim meets.cause [
         | inl allowed ↦ record {
-          outcome = meets.outcome;
-          status = told_status;
-          answer = of_outcome words contents named text meets.outcome told_status names told allowed;
-          took = meets.told.out_all no_fault_of_writing ∙ ap (λ (o : Option (List ℕ)). with_end o meets.outcome.out) taken;
-        }
+            outcome = meets.outcome;
+            status = told_status;
+            answer = of_outcome words contents named text meets.outcome told_status reads names told allowed;
+            took = meets.told.out_all no_fault_of_writing ∙ ap (λ (o : Option (List ℕ)). with_end o meets.outcome.out) taken;
+          }
         | inr (inl failed) ↦ absurd (let s = ap (λ (x : Outcome). x.status) (sym failed.1) ∙ told_status in cc)
         | inr (inr (inl failed)) ↦ absurd (let s = ap (λ (x : Outcome). x.status) (sym failed.1) ∙ told_status in cc)
         | inr (inr (inr memory)) ↦ absurd (let s = ap (λ (x : Outcome). x.status) (sym memory) ∙ told_status in cc)
@@ -172,7 +173,7 @@ module _ (words : List (List ℕ)) (contents : List ℕ → Option (List ℕ)) (
 
   pub headline : PlanCompresses → (number : ℕ) → command_of words ≡ Some (command.Compress number) → (text before : List ℕ) → contents (file_of words) ≡ Some text → out_old ≡ Some before → IsHeadline text number before out_new
   headline compresses number names text before told taken =
-      let h = has_told (command.Compress number) names text before told taken in
+      let h = has_told (command.Compress number) refl names text before told taken in
       let n = h.answer.network in
       let b = has_bytes compresses text n h.answer.read number h.outcome h.status (class_at (classes_of n) number) refl h.answer.answer in
       record { network = n; reads = h.answer.reads; class = b.class; class_is = b.class_is; bytes = h.outcome.out; took = h.took; compresses = b.compresses }
@@ -181,14 +182,14 @@ module _ (words : List (List ℕ)) (contents : List ℕ → Option (List ℕ)) (
 
   pub folded : FoldIsReadBack → (number : ℕ) → command_of words ≡ Some (command.Fold number) → (text solution before : List ℕ) → contents (file_of words) ≡ Some text → contents (second_of words) ≡ Some solution → out_old ≡ Some before → IsCarriedDown text solution number before out_new
   folded reads number names text solution before told also taken =
-      let h = has_told (command.Fold number) names text before told taken in
+      let h = has_told (command.Fold number) refl names text before told taken in
       let n = h.answer.network in
       let answer = subst (λ (c : Option (List ℕ)). IsFoldAnswer n number c h.outcome) also h.answer.answer in
       record { network = n; reads = h.answer.reads; bytes = h.outcome.out; took = h.took; carried = reads n ∣ (text, h.answer.read.given) ∣₁ h.answer.read.faultless number solution h.outcome.out (subst (IsFoldAnswer n number (Some solution)) (fold_is_done n number solution h.outcome h.status answer) answer) }
 
   pub lifted : LiftIsReadBack → (number : ℕ) → command_of words ≡ Some (command.Lift number) → (text solution before : List ℕ) → contents (file_of words) ≡ Some text → contents (second_of words) ≡ Some solution → out_old ≡ Some before → IsCarriedUp text solution number before out_new
   lifted reads number names text solution before told also taken =
-      let h = has_told (command.Lift number) names text before told taken in
+      let h = has_told (command.Lift number) refl names text before told taken in
       let n = h.answer.network in
       let answer = subst (λ (c : Option (List ℕ)). IsLiftAnswer n number c h.outcome) also h.answer.answer in
       record { network = n; reads = h.answer.reads; bytes = h.outcome.out; took = h.took; carried = reads n ∣ (text, h.answer.read.given) ∣₁ h.answer.read.faultless number solution h.outcome.out (subst (IsLiftAnswer n number (Some solution)) (lift_is_done n number solution h.outcome h.status answer) answer) }

@@ -1,3 +1,4 @@
+mod ByFiles
 mod DoneCarries
 mod Headlines
 mod Lines

@@ -7,28 +7,21 @@ use Rattle.cfg_ast.specs.declared.refusal.ReadRefusal.TheVariants as read_refusa
 use Rattle.cfg_ast.specs.text.Reading.{reading_of}
 use Rattle.answer_groups.specs.OneAnswer.{GroupsAnswerIsOne, CompressAnswerIsOne}
 use Rattle.answer_solutions.specs.OneAnswer.{CheckAnswerIsOne, FoldAnswerIsOne, LiftAnswerIsOne}
+use Rattle.answer_reports.specs.OneAnswer.{ReportAnswerIsOne, JsonAnswerIsOne, SummaryAnswerIsOne, TrialAnswerIsOne}
 use Rattle.bonsai_top.specs.declared.command.Command.{Command}
 use Rattle.bonsai_top.specs.declared.command.Command.TheVariants as command
 use Rattle.bonsai_top.specs.Commands.{command_of, reads_first, reads_second, is_read}
 use Rattle.bonsai_top.specs.OneOutcome.{OutcomeIsOne}
 use Rattle.answer_kit.specs.Outcome.{Outcome}
-use Rattle.bonsai_top.specs.Outcomes.{IsAnswerTo, IsOutcomeOfReading, IsOutcomeOfText, IsOutcomeOf, IsOutcomeAt, IsOutcome}
+use Rattle.bonsai_top.specs.Outcomes.{IsAnswerTo, IsOutcomeOfReading, IsOutcomeOfText, IsOutcomeOfFiles, IsOutcomeWithoutFiles, IsOutcomeBy, IsOutcomeAt, IsOutcome}
 use Rattle.bonsai_top.specs.Words.{file_of, second_of}
 
 -- the second file is told, if the command reads it
 abbrev IsToldTo : Command → Option (List ℕ) → Type 0
 IsToldTo command second = reads_second command ≡ true → IsSome second
 
-always_first : (command : Command) → reads_first command ≡ true
-always_first command.Classes = refl
-always_first (command.Groups number) = refl
-always_first (command.Compress number) = refl
-always_first (command.Check number) = refl
-always_first (command.Fold number) = refl
-always_first (command.Lift number) = refl
-
 -- the laws of the commands
-module _ (groups : GroupsAnswerIsOne) (compress : CompressAnswerIsOne) (check : CheckAnswerIsOne) (fold : FoldAnswerIsOne) (lift : LiftAnswerIsOne) where
+module _ (groups : GroupsAnswerIsOne) (compress : CompressAnswerIsOne) (check : CheckAnswerIsOne) (fold : FoldAnswerIsOne) (lift : LiftAnswerIsOne) (report : ReportAnswerIsOne) (json : JsonAnswerIsOne) (summary : SummaryAnswerIsOne) (trial : TrialAnswerIsOne) where
   one_answer : (command : Command) (n : Network) (second : Option (List ℕ)) → IsToldTo command second → (o p : Outcome) → IsAnswerTo command n second o → IsAnswerTo command n second p → o ≡ p
   one_answer command.Classes n second told o p x y = x ∙ sym y
   one_answer (command.Groups number) n second told o p x y = groups n number o p x y
@@ -36,6 +29,10 @@ module _ (groups : GroupsAnswerIsOne) (compress : CompressAnswerIsOne) (check : 
   one_answer (command.Check number) n second told o p x y = check n number second (told refl) o p x y
   one_answer (command.Fold number) n second told o p x y = fold n number second (told refl) o p x y
   one_answer (command.Lift number) n second told o p x y = lift n number second (told refl) o p x y
+  one_answer (command.Report number) n second told o p x y = report n number o p x y
+  one_answer (command.Json number) n second told o p x y = json n number o p x y
+  one_answer command.Summary n second told o p x y = summary n o p x y
+  one_answer (command.Trial size) n second told o p x y = trial size o p x y
 
   one_of_reading : (command : Command) (second : Option (List ℕ)) → IsToldTo command second → (r : Result Network ReadRefusal) (o p : Outcome) → IsOutcomeOfReading command second r o → IsOutcomeOfReading command second r p → o ≡ p
   one_of_reading command second told (Ok n) o p x y = one_answer command n second told o p x y
@@ -48,13 +45,29 @@ module _ (groups : GroupsAnswerIsOne) (compress : CompressAnswerIsOne) (check : 
   one_of_text command second told text o p (inr x) (inl y) = absurd (omega (arith, x.0, y.0))
   one_of_text command second told text o p (inr x) (inr y) = one_of_reading command second told (reading_of text) o p x.1 y.1
 
-  one_of_files : (command : Command) (first second : Option (List ℕ)) → IsSome first → IsToldTo command second → (o p : Outcome) → IsOutcomeOf command first second o → IsOutcomeOf command first second p → o ≡ p
+  one_of_files : (command : Command) (first second : Option (List ℕ)) → IsSome first → IsToldTo command second → (o p : Outcome) → IsOutcomeOfFiles command first second o → IsOutcomeOfFiles command first second p → o ≡ p
   one_of_files command None second told_first told o p x y = cc
   one_of_files command (Some text) second told_first told o p x y = one_of_text command second told text o p x y
 
+  one_without_files : (command : Command) (o p : Outcome) → IsOutcomeWithoutFiles command o → IsOutcomeWithoutFiles command p → o ≡ p
+  one_without_files (command.Trial size) o p x y = trial size o p x y
+  one_without_files command.Classes o p x y = absurd x
+  one_without_files (command.Groups number) o p x y = absurd x
+  one_without_files (command.Compress number) o p x y = absurd x
+  one_without_files (command.Check number) o p x y = absurd x
+  one_without_files (command.Fold number) o p x y = absurd x
+  one_without_files (command.Lift number) o p x y = absurd x
+  one_without_files (command.Report number) o p x y = absurd x
+  one_without_files (command.Json number) o p x y = absurd x
+  one_without_files command.Summary o p x y = absurd x
+
+  one_by : (reads : Bool) (command : Command) → reads_first command ≡ reads → (first second : Option (List ℕ)) → (reads ≡ true → IsSome first) → IsToldTo command second → (o p : Outcome) → IsOutcomeBy reads command first second o → IsOutcomeBy reads command first second p → o ≡ p
+  one_by true command is first second told_first told o p x y = one_of_files command first second (told_first refl) told o p x y
+  one_by false command is first second told_first told o p x y = one_without_files command o p x y
+
   one_at : (command : Option Command) (first second : Option (List ℕ)) → (is_read reads_first command ≡ true → IsSome first) → (is_read reads_second command ≡ true → IsSome second) → (o p : Outcome) → IsOutcomeAt command first second o → IsOutcomeAt command first second p → o ≡ p
   one_at None first second told_first told o p x y = x ∙ sym y
-  one_at (Some command) first second told_first told o p x y = one_of_files command first second (told_first (always_first command)) told o p x y
+  one_at (Some command) first second told_first told o p x y = one_by (reads_first command) command refl first second told_first told o p x y
 
   pub outcome_is_one : OutcomeIsOne
   unfolding IsOutcome

@@ -16,6 +16,10 @@ built (form.Compress class) = Some (command.Compress class)
 built (form.Check class) = Some (command.Check class)
 built (form.Fold class) = Some (command.Fold class)
 built (form.Lift class) = Some (command.Lift class)
+built (form.Report class) = Some (command.Report class)
+built (form.Json class) = Some (command.Json class)
+built form.Summary = Some command.Summary
+built (form.Trial size) = Some (command.Trial size)
 built other = None
 
 -- the command that the words name
@@ -30,6 +34,10 @@ reads_first (command.Compress class) = true
 reads_first (command.Check class) = true
 reads_first (command.Fold class) = true
 reads_first (command.Lift class) = true
+reads_first (command.Report class) = true
+reads_first (command.Json class) = true
+reads_first command.Summary = true
+reads_first (command.Trial size) = false
 
 -- whether it reads the second one
 abbrev pub reads_second : Command → Bool
@@ -39,6 +47,10 @@ reads_second (command.Compress class) = false
 reads_second (command.Check class) = true
 reads_second (command.Fold class) = true
 reads_second (command.Lift class) = true
+reads_second (command.Report class) = false
+reads_second (command.Json class) = false
+reads_second command.Summary = false
+reads_second (command.Trial size) = false
 
 abbrev pub is_read : (Command → Bool) → Option Command → Bool
 is_read reads None = false

@@ -1,5 +1,5 @@
 -- The outcomes that the words allow over the contents of the files.
-use Rattle.std.specs.Prelude.{◌≡◌, ◌≤◌, ◌<◌, ◌⊎◌, ℕ, List, length, codes, Option, Some, None, IfSome, Result, Ok, Err}
+use Rattle.std.specs.Prelude.{◌≡◌, ◌≤◌, ◌<◌, ◌⊎◌, ℕ, Bool, true, false, List, length, codes, Option, Some, None, IfSome, Result, Ok, Err}
 use Rattle.cfg_ast.specs.declared.network.Network.{Network}
 use Rattle.cfg_ast.specs.declared.refusal.ReadRefusal.{ReadRefusal}
 use Rattle.cfg_ast.specs.declared.refusal.ReadRefusal.TheVariants as read_refusal
@@ -7,12 +7,15 @@ use Rattle.cfg_ast.specs.text.Reading.{reading_of}
 use Rattle.bonsai_top.specs.declared.command.Command.{Command}
 use Rattle.bonsai_top.specs.declared.command.Command.TheVariants as command
 use Rattle.bonsai_top.specs.Words.{file_of, second_of}
-use Rattle.bonsai_top.specs.Commands.{command_of}
+use Rattle.bonsai_top.specs.Commands.{command_of, reads_first}
 use Rattle.answer_kit.specs.Outcome.{Outcome, done, refused, usage}
 use Rattle.answer_kit.specs.Kinds.{line_reason}
 use Rattle.answer_groups.specs.ClassLines.{classes_text}
 use Rattle.answer_groups.specs.CompressText.{IsCompressAnswer}
 use Rattle.answer_groups.specs.GroupLines.{IsGroupsAnswer}
+use Rattle.answer_reports.specs.ReportAnswers.{IsReportAnswer, IsJsonAnswer}
+use Rattle.answer_reports.specs.Summaries.{IsSummaryAnswer}
+use Rattle.answer_reports.specs.Trials.{IsTrialAnswer}
 use Rattle.answer_solutions.specs.Carries.{IsFoldAnswer, IsLiftAnswer}
 use Rattle.answer_solutions.specs.Checks.{IsCheckAnswer}
 
@@ -24,6 +27,10 @@ IsAnswerTo (command.Compress class) network second o = IsCompressAnswer network 
 IsAnswerTo (command.Check class) network second o = IsCheckAnswer network class second o
 IsAnswerTo (command.Fold class) network second o = IsFoldAnswer network class second o
 IsAnswerTo (command.Lift class) network second o = IsLiftAnswer network class second o
+IsAnswerTo (command.Report class) network second o = IsReportAnswer network class o
+IsAnswerTo (command.Json class) network second o = IsJsonAnswer network class o
+IsAnswerTo command.Summary network second o = IsSummaryAnswer network o
+IsAnswerTo (command.Trial size) network second o = IsTrialAnswer size o
 
 -- the answer of a network, or the line and kind that refuse the text
 abbrev pub IsOutcomeOfReading : Command → Option (List ℕ) → Result Network ReadRefusal → Outcome → Type 0
@@ -41,8 +48,21 @@ IsOutcomeOfText command second text o =
     ((text_limit < length text) × (o ≡ refused (codes "FileTooLong"))) ⊎ ((length text ≤ text_limit) × IsOutcomeOfReading command second (reading_of text) o)
 
 -- a command over its files; one that decides and is not told allows any outcome
+abbrev pub IsOutcomeOfFiles : Command → Option (List ℕ) → Option (List ℕ) → Outcome → Type 0
+IsOutcomeOfFiles command first second o = IfSome first (λ text. IsOutcomeOfText command second text o)
+
+-- what the one command that reads no file is to write
+abbrev pub IsOutcomeWithoutFiles : Command → Outcome → Type 0
+IsOutcomeWithoutFiles (command.Trial size) o = IsTrialAnswer size o
+IsOutcomeWithoutFiles other o = ⊥
+
+abbrev pub IsOutcomeBy : Bool → Command → Option (List ℕ) → Option (List ℕ) → Outcome → Type 0
+IsOutcomeBy true command first second o = IsOutcomeOfFiles command first second o
+IsOutcomeBy false command first second o = IsOutcomeWithoutFiles command o
+
+-- a command, by whether it reads a file
 abbrev pub IsOutcomeOf : Command → Option (List ℕ) → Option (List ℕ) → Outcome → Type 0
-IsOutcomeOf command first second o = IfSome first (λ text. IsOutcomeOfText command second text o)
+IsOutcomeOf command first second o = IsOutcomeBy (reads_first command) command first second o
 
 abbrev pub IsOutcomeAt : Option Command → Option (List ℕ) → Option (List ℕ) → Outcome → Type 0
 IsOutcomeAt None first second o = o ≡ usage

@@ -33,6 +33,10 @@ pub enum Command {
     Check(u32),
     Fold(u32),
     Lift(u32),
+    Report(u32),
+    Json(u32),
+    Summary,
+    Trial(u32),
 }
 
 // A number of at most nine digits.
@@ -138,6 +142,10 @@ fn built(form: Form) -> Option<Command>
         Form::Check(class) => Some(Command::Check(class)),
         Form::Fold(class) => Some(Command::Fold(class)),
         Form::Lift(class) => Some(Command::Lift(class)),
+        Form::Report(class) => Some(Command::Report(class)),
+        Form::Json(class) => Some(Command::Json(class)),
+        Form::Summary => Some(Command::Summary),
+        Form::Trial(size) => Some(Command::Trial(size)),
         _ => None,
     }
 }

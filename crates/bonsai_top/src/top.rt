@@ -1,7 +1,7 @@
-ghost use Rattle.std.specs.Prelude.{◌≡◌, ◌≤◌, ◌⊎◌, ℕ, List, Some, None, IsSome};
+ghost use Rattle.std.specs.Prelude.{◌≡◌, ◌≤◌, ◌⊎◌, ℕ, List, Some, None, IsSome, false};
 ghost use Rattle.io_kit.specs.Ends.{Rose};
 ghost use Rattle.bonsai_top.specs.Words.{words_of, file_of, second_of};
-ghost use Rattle.bonsai_top.specs.Commands.{command_of, FirstRose, SecondRose};
+ghost use Rattle.bonsai_top.specs.Commands.{command_of, is_read, reads_first, FirstRose, SecondRose};
 ghost use Rattle.bonsai_top.specs.Outcomes.{IsOutcome};
 ghost use Rattle.bonsai_top.specs.Meets.{RunMeets};
 ghost use Rattle.bonsai_top.specs.Headline.{IsHeadline, IsCarriedDown, IsCarriedUp};
@@ -30,10 +30,11 @@ pub fn run<S: Source, O: Sink, E: Sink>(
         (SecondRose (command_of (words_of words.now)) (S.faults files.old (second_of (words_of words.now))) (S.faults files.new (second_of (words_of words.now)))) result
         (O.taken out.old) (O.taken out.new) (O.faults out.old) (O.faults out.new) (E.taken err.old) (E.taken err.new) (E.faults err.old) (E.faults err.new) }
 
-    // Words that name no command, and these alone, are misuse, and then no file is touched.
+    // Words that name no command, and these alone, are misuse. Where they name none, or one that reads no
+    // file, no file is touched.
     ensures usage { command_of (words_of words.now) ≡ None → (result ≡ Status.Usage) ⊎ (result ≡ Status.WriteFault) }
     ensures usage_only { result ≡ Status.Usage → command_of (words_of words.now) ≡ None }
-    ensures unread { command_of (words_of words.now) ≡ None → files.new ≡ files.old }
+    ensures unread { is_read reads_first (command_of (words_of words.now)) ≡ false → files.new ≡ files.old }
 
     // The headline: where `compress` is done over a file that is told, what was written is read as the
     // compressed network.

@@ -1,13 +1,15 @@
-ghost use Rattle.std.specs.Prelude.{◌≡◌, ◌≤◌, ℕ, List, length, codes, Some};
+ghost use Rattle.std.specs.Prelude.{◌≡◌, ◌≤◌, ℕ, List, length, codes, Some, false};
 ghost use Rattle.cfg_ast.specs.text.Reading.{reading_of};
-ghost use Rattle.bonsai_top.specs.Commands.{FirstRose, SecondRose};
+ghost use Rattle.io_kit.specs.Ends.{Rose};
+ghost use Rattle.bonsai_top.specs.Commands.{reads_first, FirstRose, SecondRose};
 ghost use Rattle.answer_kit.specs.Outcome.{refused};
-ghost use Rattle.bonsai_top.specs.Outcomes.{IsAnswerTo, IsOutcomeOfReading, IsOutcomeOf, text_limit};
+ghost use Rattle.bonsai_top.specs.Outcomes.{IsAnswerTo, IsOutcomeOfReading, IsOutcomeOfFiles, IsOutcomeWithoutFiles, IsOutcomeOf, text_limit};
 ghost use Rattle.answer_kit.specs.Replies.{Answers, Only, Refuses};
 
 use crate::command::Command;
 use answer_groups::{classes, compress, groups};
 use answer_kit::{Reply, line_reason, refusal};
+use answer_reports::{json, report, summary, trial};
 use answer_solutions::{check, fold, lift};
 use cfg_ast::ReadRefusal;
 use cfg_check::{Checked, check_network};
@@ -51,6 +53,10 @@ fn answer<S: Source>(
         Command::Check(class) => check::answer(alloc, checked, class, second, files),
         Command::Fold(class) => fold::answer(alloc, checked, class, second, files),
         Command::Lift(class) => lift::answer(alloc, checked, class, second, files),
+        Command::Report(class) => report::answer(alloc, checked, class),
+        Command::Json(class) => json::answer(alloc, checked, class),
+        Command::Summary => summary::answer(alloc, checked),
+        Command::Trial(size) => trial::answer(alloc, size),
     }
 }
 
@@ -78,7 +84,46 @@ fn over_text<S: Source>(
     }
 }
 
-/// Reads the first file, and does the command's work.
+// Reads the first file, and does the command's work.
+fn over_files<S: Source>(
+    alloc: Global,
+    command: Command,
+    first: &str,
+    second: &str,
+    files: &mut S,
+) -> Reply
+    ensures answers { Answers result (IsOutcomeOfFiles command (S.contents files.old first.now) (S.contents files.old second.now))
+        (Rose (S.faults files.old first.now) (S.faults files.new first.now))
+        (SecondRose (Some command) (S.faults files.old second.now) (S.faults files.new second.now)) }
+    ensures contents { S.contents files.new ≡ S.contents files.old }
+    ensures later { (n : List ℕ) → S.faults files.old n ≤ S.faults files.new n }
+{
+    match read_all(alloc, files, first, TEXT_LIMIT) {
+        Ok(text) => over_text(alloc, command, &text, second, files),
+        Err(InFault::TooLong) => refusal(alloc, "FileTooLong"),
+        Err(InFault::Failed) => Reply::ReadFailed,
+        Err(InFault::Memory) => Reply::NoMemory,
+    }
+}
+
+// A command that reads no file.
+fn without_files(alloc: Global, command: Command) -> Reply
+    requires { reads_first command ≡ false }
+    ensures { Answers result (IsOutcomeWithoutFiles command) ⊥ ⊥ }
+{
+    match command {
+        Command::Trial(size) => trial::answer(alloc, size),
+        _ => unreachable!(),
+    }
+}
+
+fn reads_file(command: Command) -> bool
+    ensures { result ≡ reads_first command }
+{
+    !matches!(command, Command::Trial(_))
+}
+
+/// Does the command's work, over the files where it reads one.
 pub fn work<S: Source>(
     alloc: Global,
     command: Command,
@@ -91,11 +136,11 @@ pub fn work<S: Source>(
         (SecondRose (Some command) (S.faults files.old second.now) (S.faults files.new second.now)) }
     ensures contents { S.contents files.new ≡ S.contents files.old }
     ensures later { (n : List ℕ) → S.faults files.old n ≤ S.faults files.new n }
+    ensures unread { reads_first command ≡ false → files.new ≡ files.old }
 {
-    match read_all(alloc, files, first, TEXT_LIMIT) {
-        Ok(text) => over_text(alloc, command, &text, second, files),
-        Err(InFault::TooLong) => refusal(alloc, "FileTooLong"),
-        Err(InFault::Failed) => Reply::ReadFailed,
-        Err(InFault::Memory) => Reply::NoMemory,
+    if reads_file(command) {
+        over_files(alloc, command, first, second, files)
+    } else {
+        without_files(alloc, command)
     }
 }

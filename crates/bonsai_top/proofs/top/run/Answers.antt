@@ -1,7 +1,8 @@
-use Rattle.std.proofs.Common.{sym, inl}
-use Rattle.bonsai_top.specs.Commands.{FirstRose, SecondRose, command_of}
+use Rattle.std.proofs.Common.{◌≡◌, false, sym, inl, subst, Option}
+use Rattle.bonsai_top.specs.Commands.{FirstRose, SecondRose, command_of, is_read, reads_first}
 use Rattle.answer_kit.specs.Outcome.{usage}
 use Rattle.bonsai_top.specs.Outcomes.{IsOutcome}
+use Rattle.bonsai_top.specs.declared.command.Command.{Command}
 use Rattle.bonsai_top.specs.Words.{file_of, second_of, words_of}
 use Rattle.bonsai_top.proofs.Headlines.{headline, folded, lifted}
 use Rattle.bonsai_top.proofs.Named.{outcome_misuse, answers_words}
@@ -55,3 +56,6 @@ returns-in-None-clause-meets g c =
     meets (IsOutcome words contents) first second (FirstRose (command_of words) (files first) (files first)) (SecondRose (command_of words) (files second) (files second)) c.tell.result
     _ _ (g.O.Sink.faults c.args.out.now) (g.O.Sink.faults c.tell.new.out) _ _ (g.E.Sink.faults c.args.err.now) (g.E.Sink.faults c.tell.new.err)
     usage (inl (outcome_misuse words contents (sym c.in-None.ensures))) c.tell.ensures.tells
+
+pub returns-in-Some-clause-unread : goal.returns-in-Some-clause-unread
+returns-in-Some-clause-unread g c = λ none. c.work-reply.ensures.unread (subst (λ (n : Option Command). is_read reads_first n ≡ false) (sym c.in-Some.ensures) none)
