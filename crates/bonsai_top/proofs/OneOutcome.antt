@@ -8,6 +8,7 @@ use Rattle.cfg_ast.specs.text.Reading.{reading_of}
 use Rattle.answer_groups.specs.OneAnswer.{GroupsAnswerIsOne, CompressAnswerIsOne}
 use Rattle.answer_solutions.specs.OneAnswer.{CheckAnswerIsOne, FoldAnswerIsOne, LiftAnswerIsOne}
 use Rattle.answer_reports.specs.OneAnswer.{ReportAnswerIsOne, JsonAnswerIsOne, SummaryAnswerIsOne, TrialAnswerIsOne}
+use Rattle.answer_runs.specs.OneAnswer.{RunAnswerIsOne, ReachAnswerIsOne}
 use Rattle.bonsai_top.specs.declared.command.Command.{Command}
 use Rattle.bonsai_top.specs.declared.command.Command.TheVariants as command
 use Rattle.bonsai_top.specs.Commands.{command_of, reads_first, reads_second, is_read}
@@ -21,7 +22,7 @@ abbrev IsToldTo : Command → Option (List ℕ) → Type 0
 IsToldTo command second = reads_second command ≡ true → IsSome second
 
 -- the laws of the commands
-module _ (groups : GroupsAnswerIsOne) (compress : CompressAnswerIsOne) (check : CheckAnswerIsOne) (fold : FoldAnswerIsOne) (lift : LiftAnswerIsOne) (report : ReportAnswerIsOne) (json : JsonAnswerIsOne) (summary : SummaryAnswerIsOne) (trial : TrialAnswerIsOne) where
+module _ (groups : GroupsAnswerIsOne) (compress : CompressAnswerIsOne) (check : CheckAnswerIsOne) (fold : FoldAnswerIsOne) (lift : LiftAnswerIsOne) (run : RunAnswerIsOne) (reach : ReachAnswerIsOne) (report : ReportAnswerIsOne) (json : JsonAnswerIsOne) (summary : SummaryAnswerIsOne) (trial : TrialAnswerIsOne) where
   one_answer : (command : Command) (n : Network) (second : Option (List ℕ)) → IsToldTo command second → (o p : Outcome) → IsAnswerTo command n second o → IsAnswerTo command n second p → o ≡ p
   one_answer command.Classes n second told o p x y = x ∙ sym y
   one_answer (command.Groups number) n second told o p x y = groups n number o p x y
@@ -29,6 +30,8 @@ module _ (groups : GroupsAnswerIsOne) (compress : CompressAnswerIsOne) (check : 
   one_answer (command.Check number) n second told o p x y = check n number second (told refl) o p x y
   one_answer (command.Fold number) n second told o p x y = fold n number second (told refl) o p x y
   one_answer (command.Lift number) n second told o p x y = lift n number second (told refl) o p x y
+  one_answer (command.Run number) n second told o p x y = run n number second (told refl) o p x y
+  one_answer (command.Reach number) n second told o p x y = reach n number second (told refl) o p x y
   one_answer (command.Report number) n second told o p x y = report n number o p x y
   one_answer (command.Json number) n second told o p x y = json n number o p x y
   one_answer command.Summary n second told o p x y = summary n o p x y
@@ -60,6 +63,8 @@ module _ (groups : GroupsAnswerIsOne) (compress : CompressAnswerIsOne) (check : 
   one_without_files (command.Report number) o p x y = absurd x
   one_without_files (command.Json number) o p x y = absurd x
   one_without_files command.Summary o p x y = absurd x
+  one_without_files (command.Run number) o p x y = absurd x
+  one_without_files (command.Reach number) o p x y = absurd x
 
   one_by : (reads : Bool) (command : Command) → reads_first command ≡ reads → (first second : Option (List ℕ)) → (reads ≡ true → IsSome first) → IsToldTo command second → (o p : Outcome) → IsOutcomeBy reads command first second o → IsOutcomeBy reads command first second p → o ≡ p
   one_by true command is first second told_first told o p x y = one_of_files command first second (told_first refl) told o p x y

@@ -20,6 +20,8 @@ built (form.Report class) = Some (command.Report class)
 built (form.Json class) = Some (command.Json class)
 built form.Summary = Some command.Summary
 built (form.Trial size) = Some (command.Trial size)
+built (form.Run class) = Some (command.Run class)
+built (form.Reach class) = Some (command.Reach class)
 built other = None
 
 -- the command that the words name
@@ -34,6 +36,8 @@ reads_first (command.Compress class) = true
 reads_first (command.Check class) = true
 reads_first (command.Fold class) = true
 reads_first (command.Lift class) = true
+reads_first (command.Run class) = true
+reads_first (command.Reach class) = true
 reads_first (command.Report class) = true
 reads_first (command.Json class) = true
 reads_first command.Summary = true
@@ -47,6 +51,8 @@ reads_second (command.Compress class) = false
 reads_second (command.Check class) = true
 reads_second (command.Fold class) = true
 reads_second (command.Lift class) = true
+reads_second (command.Run class) = true
+reads_second (command.Reach class) = true
 reads_second (command.Report class) = false
 reads_second (command.Json class) = false
 reads_second command.Summary = false

@@ -16,6 +16,8 @@ use Rattle.answer_groups.specs.GroupLines.{IsGroupsAnswer}
 use Rattle.answer_reports.specs.ReportAnswers.{IsReportAnswer, IsJsonAnswer}
 use Rattle.answer_reports.specs.Summaries.{IsSummaryAnswer}
 use Rattle.answer_reports.specs.Trials.{IsTrialAnswer}
+use Rattle.answer_runs.specs.Reaches.{IsReachAnswer}
+use Rattle.answer_runs.specs.Schedules.{IsRunAnswer}
 use Rattle.answer_solutions.specs.Carries.{IsFoldAnswer, IsLiftAnswer}
 use Rattle.answer_solutions.specs.Checks.{IsCheckAnswer}
 
@@ -27,6 +29,8 @@ IsAnswerTo (command.Compress class) network second o = IsCompressAnswer network 
 IsAnswerTo (command.Check class) network second o = IsCheckAnswer network class second o
 IsAnswerTo (command.Fold class) network second o = IsFoldAnswer network class second o
 IsAnswerTo (command.Lift class) network second o = IsLiftAnswer network class second o
+IsAnswerTo (command.Run class) network second o = IsRunAnswer network class second o
+IsAnswerTo (command.Reach class) network second o = IsReachAnswer network class second o
 IsAnswerTo (command.Report class) network second o = IsReportAnswer network class o
 IsAnswerTo (command.Json class) network second o = IsJsonAnswer network class o
 IsAnswerTo command.Summary network second o = IsSummaryAnswer network o

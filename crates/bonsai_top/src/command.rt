@@ -37,6 +37,8 @@ pub enum Command {
     Json(u32),
     Summary,
     Trial(u32),
+    Run(u32),
+    Reach(u32),
 }
 
 // A number of at most nine digits.
@@ -146,6 +148,8 @@ fn built(form: Form) -> Option<Command>
         Form::Json(class) => Some(Command::Json(class)),
         Form::Summary => Some(Command::Summary),
         Form::Trial(size) => Some(Command::Trial(size)),
+        Form::Run(class) => Some(Command::Run(class)),
+        Form::Reach(class) => Some(Command::Reach(class)),
         _ => None,
     }
 }

@@ -11,6 +11,8 @@ pub fn outcome_is_one()
     answer_solutions::laws::check_answer_is_one();
     answer_solutions::laws::fold_answer_is_one();
     answer_solutions::laws::lift_answer_is_one();
+    answer_runs::laws::run_answer_is_one();
+    answer_runs::laws::reach_answer_is_one();
     answer_reports::laws::report_answer_is_one();
     answer_reports::laws::json_answer_is_one();
     answer_reports::laws::summary_answer_is_one();

@@ -10,6 +10,7 @@ use crate::command::Command;
 use answer_groups::{classes, compress, groups};
 use answer_kit::{Reply, line_reason, refusal};
 use answer_reports::{json, report, summary, trial};
+use answer_runs::{reach, run};
 use answer_solutions::{check, fold, lift};
 use cfg_ast::ReadRefusal;
 use cfg_check::{Checked, check_network};
@@ -53,6 +54,8 @@ fn answer<S: Source>(
         Command::Check(class) => check::answer(alloc, checked, class, second, files),
         Command::Fold(class) => fold::answer(alloc, checked, class, second, files),
         Command::Lift(class) => lift::answer(alloc, checked, class, second, files),
+        Command::Run(class) => run::answer(alloc, checked, class, second, files),
+        Command::Reach(class) => reach::answer(alloc, checked, class, second, files),
         Command::Report(class) => report::answer(alloc, checked, class),
         Command::Json(class) => json::answer(alloc, checked, class),
         Command::Summary => summary::answer(alloc, checked),
