@@ -2,11 +2,10 @@
 use Rattle.std.proofs.Common.{◌≡◌, ℕ, Bool, true, false, List, sym, subst, Option, Some}
 use Rattle.io_kit.specs.Ends.{Rose}
 use Rattle.answer_kit.specs.declared.reply.Reply.{Reply}
-use Rattle.answer_kit.specs.Outcome.{Outcome}
 use Rattle.answer_kit.specs.Replies.{Answers}
 use Rattle.answer_kit.proofs.Replies.{answers_as}
 use Rattle.bonsai_top.specs.declared.command.Command.{Command}
-use Rattle.bonsai_top.specs.Commands.{reads_first, FirstRose, SecondRose}
+use Rattle.bonsai_top.specs.Commands.{reads_first, FirstRose}
 use Rattle.bonsai_top.specs.Outcomes.{IsOutcomeOfFiles, IsOutcomeWithoutFiles, IsOutcomeBy, IsOutcomeOf}
 
 -- it reads one

@@ -1,5 +1,5 @@
 -- An answer of `fold` or `lift` that is done has bytes and no line.
-use Rattle.std.proofs.Common.{◌≡◌, ℕ, List, inl, inr, refl, sym, ap, ◌∙◌, Option, Some, None, Result, Ok, Err}
+use Rattle.std.proofs.Common.{◌≡◌, ℕ, List, inl, inr, sym, ap, ◌∙◌, Option, Some, None, Result, Ok, Err}
 use Rattle.cfg_ast.specs.declared.classes.DestClass.{DestClass}
 use Rattle.cfg_ast.specs.declared.network.Network.{Network}
 use Rattle.cfg_ast.specs.meaning.Classes.{classes_of}
@@ -14,8 +14,8 @@ use Rattle.solution_text.specs.Solutions.{labels_of_text}
 use Rattle.answer_kit.specs.declared.status.Status.TheVariants.{Done}
 use Rattle.answer_kit.specs.ClassNumbers.{class_at, no_class, IsOfClass}
 use Rattle.answer_kit.specs.Outcome.{Outcome, done, refused, not_stable}
-use Rattle.answer_kit.specs.SecondFiles.{IsOfLabels, IsOfLabelsIn, IsOfSolution, long_solution, solution_reason}
-use Rattle.answer_solutions.specs.Carries.{IsIfStable, IsOfStable, IsFolded, IsLifted, IsFoldOfLabels, IsLiftOfLabels, IsFoldOf, IsLiftOf, IsFoldAnswer, IsLiftAnswer}
+use Rattle.answer_kit.specs.SecondFiles.{IsOfLabels, IsOfSolution, long_solution, solution_reason}
+use Rattle.answer_solutions.specs.Carries.{IsIfStable, IsFolded, IsLifted, IsFoldOfLabels, IsLiftOfLabels, IsFoldOf, IsLiftOf, IsFoldAnswer, IsLiftAnswer}
 use Rattle.answer_solutions.specs.Checks.{break_reason}
 
 -- what is told where it is told that the work is done

@@ -159,11 +159,11 @@ module _ (words : List (List ℕ)) (contents : List ℕ → Option (List ℕ)) (
   has_told named reads names text before told taken =
       elim meets.cause [
         | inl allowed ↦ record {
-            outcome = meets.outcome;
-            status = told_status;
-            answer = of_outcome words contents named text meets.outcome told_status reads names told allowed;
-            took = meets.told.out_all no_fault_of_writing ∙ ap (λ (o : Option (List ℕ)). with_end o meets.outcome.out) taken;
-          }
+          outcome = meets.outcome;
+          status = told_status;
+          answer = of_outcome words contents named text meets.outcome told_status reads names told allowed;
+          took = meets.told.out_all no_fault_of_writing ∙ ap (λ (o : Option (List ℕ)). with_end o meets.outcome.out) taken;
+        }
         | inr (inl failed) ↦ absurd (let s = ap (λ (x : Outcome). x.status) (sym failed.1) ∙ told_status in cc)
         | inr (inr (inl failed)) ↦ absurd (let s = ap (λ (x : Outcome). x.status) (sym failed.1) ∙ told_status in cc)
         | inr (inr (inr memory)) ↦ absurd (let s = ap (λ (x : Outcome). x.status) (sym memory) ∙ told_status in cc)
