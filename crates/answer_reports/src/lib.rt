@@ -6,7 +6,7 @@
 #![tactic(auto)]
 
 mod grouping;
-pub mod json;
+pub mod json_report;
 pub mod laws;
 mod links;
 pub mod report;

@@ -9,7 +9,7 @@ ghost use Rattle.answer_kit.specs.Replies.{Answers, Only, Refuses};
 use crate::command::Command;
 use answer_groups::{classes, compress, groups};
 use answer_kit::{Reply, line_reason, refusal};
-use answer_reports::{json, report, summary, trial};
+use answer_reports::{json_report, report, summary, trial};
 use answer_runs::{reach, run};
 use answer_solutions::{check, fold, lift};
 use cfg_ast::ReadRefusal;
@@ -57,7 +57,7 @@ fn answer<S: Source>(
         Command::Run(class) => run::answer(alloc, checked, class, second, files),
         Command::Reach(class) => reach::answer(alloc, checked, class, second, files),
         Command::Report(class) => report::answer(alloc, checked, class),
-        Command::Json(class) => json::answer(alloc, checked, class),
+        Command::Json(class) => json_report::answer(alloc, checked, class),
         Command::Summary => summary::answer(alloc, checked),
         Command::Trial(size) => trial::answer(alloc, size),
     }

@@ -1,6 +1,6 @@
 use Rattle.group_report.specs.JsonText.{json_text}
 use Rattle.answer_reports.proofs.Groupings.{reported}
-use Rattle.answer_reports.proofs.json.text_of_class.Goals as goal
+use Rattle.answer_reports.proofs.json_report.text_of_class.Goals as goal
 
 pub returns : goal.returns
 returns c =
