@@ -70,7 +70,7 @@ range_in a zero u h = absurd h
 range_in a (suc n) u (inl e) = (omega arith, omega arith)
 range_in a (suc n) u (inr h) = let r = range_in (a + 1) n u h in (omega (arith, r.0), omega (arith, r.1))
 
-is_member : (numbers : List ℕ) (block u : ℕ) → u < length numbers → slice_index numbers u ≡ block → In (members_of numbers block) u
+pub is_member : (numbers : List ℕ) (block u : ℕ) → u < length numbers → slice_index numbers u ≡ block → In (members_of numbers block) u
 is_member numbers block u hu is = in_filter (λ router. nat_eq (slice_index numbers router) block) (range_with_len 0 (length numbers)) u (in_range 0 (length numbers) u (omega arith) (omega arith)) (same_test _ _ is)
 
 member_is : (numbers : List ℕ) (block u : ℕ) → In (members_of numbers block) u → (u < length numbers) × (slice_index numbers u ≡ block)

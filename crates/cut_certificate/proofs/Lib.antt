@@ -12,6 +12,7 @@ pub mod NextNumber
 pub mod PlacedEdges
 pub mod Reached
 pub mod RouterNames
+pub mod SameColors
 pub mod Scans
 pub mod Seen
 pub mod Sound

@@ -5,6 +5,7 @@ pub mod Evenness
 pub mod Forms
 pub mod InUse
 pub mod Kept
+pub mod Laws
 pub mod Members
 pub mod Names
 pub mod Numbering

@@ -12,6 +12,7 @@ mod certificate;
 mod certifying;
 mod forms;
 mod groups;
+pub mod laws;
 mod lines;
 mod mirrors;
 mod names;

@@ -1,0 +1,11 @@
+//! The commands on certificates: `certify` and `verify`.
+//!
+//! Each answers with a reply whose outcome its definition allows, or that the second file could not be
+//! read, or out of memory. Which certificate `certify` writes is free. The module `laws` says that `verify`
+//! has one such outcome where the file is told.
+#![tactic(auto)]
+
+pub mod certify;
+pub mod laws;
+mod problem;
+pub mod verify;
