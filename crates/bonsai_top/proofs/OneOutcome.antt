@@ -9,10 +9,11 @@ use Rattle.answer_groups.specs.OneAnswer.{GroupsAnswerIsOne, CompressAnswerIsOne
 use Rattle.answer_solutions.specs.OneAnswer.{CheckAnswerIsOne, FoldAnswerIsOne, LiftAnswerIsOne}
 use Rattle.answer_reports.specs.OneAnswer.{ReportAnswerIsOne, JsonAnswerIsOne, SummaryAnswerIsOne, TrialAnswerIsOne}
 use Rattle.answer_runs.specs.OneAnswer.{RunAnswerIsOne, ReachAnswerIsOne}
+use Rattle.answer_certificates.specs.OneAnswer.{VerifyAnswerIsOne}
 use Rattle.bonsai_top.specs.declared.command.Command.{Command}
 use Rattle.bonsai_top.specs.declared.command.Command.TheVariants as command
 use Rattle.bonsai_top.specs.Commands.{command_of, reads_first, reads_second, is_read}
-use Rattle.bonsai_top.specs.OneOutcome.{OutcomeIsOne}
+use Rattle.bonsai_top.specs.OneOutcome.{is_free, leaves_free, OutcomeIsOne}
 use Rattle.answer_kit.specs.Outcome.{Outcome}
 use Rattle.bonsai_top.specs.Outcomes.{IsAnswerTo, IsOutcomeOfReading, IsOutcomeOfText, IsOutcomeOfFiles, IsOutcomeWithoutFiles, IsOutcomeBy, IsOutcomeAt, IsOutcome}
 use Rattle.bonsai_top.specs.Words.{file_of, second_of}
@@ -22,35 +23,37 @@ abbrev IsToldTo : Command → Option (List ℕ) → Type 0
 IsToldTo command second = reads_second command ≡ true → IsSome second
 
 -- the laws of the commands
-module _ (groups : GroupsAnswerIsOne) (compress : CompressAnswerIsOne) (check : CheckAnswerIsOne) (fold : FoldAnswerIsOne) (lift : LiftAnswerIsOne) (run : RunAnswerIsOne) (reach : ReachAnswerIsOne) (report : ReportAnswerIsOne) (json : JsonAnswerIsOne) (summary : SummaryAnswerIsOne) (trial : TrialAnswerIsOne) where
-  one_answer : (command : Command) (n : Network) (second : Option (List ℕ)) → IsToldTo command second → (o p : Outcome) → IsAnswerTo command n second o → IsAnswerTo command n second p → o ≡ p
-  one_answer command.Classes n second told o p x y = x ∙ sym y
-  one_answer (command.Groups number) n second told o p x y = groups n number o p x y
-  one_answer (command.Compress number) n second told o p x y = compress n number o p x y
-  one_answer (command.Check number) n second told o p x y = check n number second (told refl) o p x y
-  one_answer (command.Fold number) n second told o p x y = fold n number second (told refl) o p x y
-  one_answer (command.Lift number) n second told o p x y = lift n number second (told refl) o p x y
-  one_answer (command.Run number) n second told o p x y = run n number second (told refl) o p x y
-  one_answer (command.Reach number) n second told o p x y = reach n number second (told refl) o p x y
-  one_answer (command.Report number) n second told o p x y = report n number o p x y
-  one_answer (command.Json number) n second told o p x y = json n number o p x y
-  one_answer command.Summary n second told o p x y = summary n o p x y
-  one_answer (command.Trial size) n second told o p x y = trial size o p x y
+module _ (groups : GroupsAnswerIsOne) (compress : CompressAnswerIsOne) (check : CheckAnswerIsOne) (fold : FoldAnswerIsOne) (lift : LiftAnswerIsOne) (verify : VerifyAnswerIsOne) (run : RunAnswerIsOne) (reach : ReachAnswerIsOne) (report : ReportAnswerIsOne) (json : JsonAnswerIsOne) (summary : SummaryAnswerIsOne) (trial : TrialAnswerIsOne) where
+  one_answer : (command : Command) → is_free command ≡ false → (n : Network) (second : Option (List ℕ)) → IsToldTo command second → (o p : Outcome) → IsAnswerTo command n second o → IsAnswerTo command n second p → o ≡ p
+  one_answer command.Classes fixed n second told o p x y = x ∙ sym y
+  one_answer (command.Groups number) fixed n second told o p x y = groups n number o p x y
+  one_answer (command.Compress number) fixed n second told o p x y = compress n number o p x y
+  one_answer (command.Check number) fixed n second told o p x y = check n number second (told refl) o p x y
+  one_answer (command.Fold number) fixed n second told o p x y = fold n number second (told refl) o p x y
+  one_answer (command.Lift number) fixed n second told o p x y = lift n number second (told refl) o p x y
+  one_answer (command.Certify number) fixed n second told o p x y = absurd cc
+  one_answer (command.Verify number) fixed n second told o p x y = verify n number second (told refl) o p x y
+  one_answer (command.Run number) fixed n second told o p x y = run n number second (told refl) o p x y
+  one_answer (command.Reach number) fixed n second told o p x y = reach n number second (told refl) o p x y
+  one_answer (command.Report number) fixed n second told o p x y = report n number o p x y
+  one_answer (command.Json number) fixed n second told o p x y = json n number o p x y
+  one_answer command.Summary fixed n second told o p x y = summary n o p x y
+  one_answer (command.Trial size) fixed n second told o p x y = trial size o p x y
 
-  one_of_reading : (command : Command) (second : Option (List ℕ)) → IsToldTo command second → (r : Result Network ReadRefusal) (o p : Outcome) → IsOutcomeOfReading command second r o → IsOutcomeOfReading command second r p → o ≡ p
-  one_of_reading command second told (Ok n) o p x y = one_answer command n second told o p x y
-  one_of_reading command second told (Err (read_refusal.At line kind)) o p x y = x ∙ sym y
-  one_of_reading command second told (Err read_refusal.Memory) o p x y = absurd x
+  one_of_reading : (command : Command) → is_free command ≡ false → (second : Option (List ℕ)) → IsToldTo command second → (r : Result Network ReadRefusal) (o p : Outcome) → IsOutcomeOfReading command second r o → IsOutcomeOfReading command second r p → o ≡ p
+  one_of_reading command fixed second told (Ok n) o p x y = one_answer command fixed n second told o p x y
+  one_of_reading command fixed second told (Err (read_refusal.At line kind)) o p x y = x ∙ sym y
+  one_of_reading command fixed second told (Err read_refusal.Memory) o p x y = absurd x
 
-  one_of_text : (command : Command) (second : Option (List ℕ)) → IsToldTo command second → (text : List ℕ) (o p : Outcome) → IsOutcomeOfText command second text o → IsOutcomeOfText command second text p → o ≡ p
-  one_of_text command second told text o p (inl x) (inl y) = x.1 ∙ sym y.1
-  one_of_text command second told text o p (inl x) (inr y) = absurd (omega (arith, x.0, y.0))
-  one_of_text command second told text o p (inr x) (inl y) = absurd (omega (arith, x.0, y.0))
-  one_of_text command second told text o p (inr x) (inr y) = one_of_reading command second told (reading_of text) o p x.1 y.1
+  one_of_text : (command : Command) → is_free command ≡ false → (second : Option (List ℕ)) → IsToldTo command second → (text : List ℕ) (o p : Outcome) → IsOutcomeOfText command second text o → IsOutcomeOfText command second text p → o ≡ p
+  one_of_text command fixed second told text o p (inl x) (inl y) = x.1 ∙ sym y.1
+  one_of_text command fixed second told text o p (inl x) (inr y) = absurd (omega (arith, x.0, y.0))
+  one_of_text command fixed second told text o p (inr x) (inl y) = absurd (omega (arith, x.0, y.0))
+  one_of_text command fixed second told text o p (inr x) (inr y) = one_of_reading command fixed second told (reading_of text) o p x.1 y.1
 
-  one_of_files : (command : Command) (first second : Option (List ℕ)) → IsSome first → IsToldTo command second → (o p : Outcome) → IsOutcomeOfFiles command first second o → IsOutcomeOfFiles command first second p → o ≡ p
-  one_of_files command None second told_first told o p x y = cc
-  one_of_files command (Some text) second told_first told o p x y = one_of_text command second told text o p x y
+  one_of_files : (command : Command) → is_free command ≡ false → (first second : Option (List ℕ)) → IsSome first → IsToldTo command second → (o p : Outcome) → IsOutcomeOfFiles command first second o → IsOutcomeOfFiles command first second p → o ≡ p
+  one_of_files command fixed None second told_first told o p x y = cc
+  one_of_files command fixed (Some text) second told_first told o p x y = one_of_text command fixed second told text o p x y
 
   one_without_files : (command : Command) (o p : Outcome) → IsOutcomeWithoutFiles command o → IsOutcomeWithoutFiles command p → o ≡ p
   one_without_files (command.Trial size) o p x y = trial size o p x y
@@ -65,15 +68,17 @@ module _ (groups : GroupsAnswerIsOne) (compress : CompressAnswerIsOne) (check : 
   one_without_files command.Summary o p x y = absurd x
   one_without_files (command.Run number) o p x y = absurd x
   one_without_files (command.Reach number) o p x y = absurd x
+  one_without_files (command.Certify number) o p x y = absurd x
+  one_without_files (command.Verify number) o p x y = absurd x
 
-  one_by : (reads : Bool) (command : Command) → reads_first command ≡ reads → (first second : Option (List ℕ)) → (reads ≡ true → IsSome first) → IsToldTo command second → (o p : Outcome) → IsOutcomeBy reads command first second o → IsOutcomeBy reads command first second p → o ≡ p
-  one_by true command is first second told_first told o p x y = one_of_files command first second (told_first refl) told o p x y
-  one_by false command is first second told_first told o p x y = one_without_files command o p x y
+  one_by : (reads : Bool) (command : Command) → is_free command ≡ false → reads_first command ≡ reads → (first second : Option (List ℕ)) → (reads ≡ true → IsSome first) → IsToldTo command second → (o p : Outcome) → IsOutcomeBy reads command first second o → IsOutcomeBy reads command first second p → o ≡ p
+  one_by true command fixed is first second told_first told o p x y = one_of_files command fixed first second (told_first refl) told o p x y
+  one_by false command fixed is first second told_first told o p x y = one_without_files command o p x y
 
-  one_at : (command : Option Command) (first second : Option (List ℕ)) → (is_read reads_first command ≡ true → IsSome first) → (is_read reads_second command ≡ true → IsSome second) → (o p : Outcome) → IsOutcomeAt command first second o → IsOutcomeAt command first second p → o ≡ p
-  one_at None first second told_first told o p x y = x ∙ sym y
-  one_at (Some command) first second told_first told o p x y = one_by (reads_first command) command refl first second told_first told o p x y
+  one_at : (command : Option Command) → leaves_free command ≡ false → (first second : Option (List ℕ)) → (is_read reads_first command ≡ true → IsSome first) → (is_read reads_second command ≡ true → IsSome second) → (o p : Outcome) → IsOutcomeAt command first second o → IsOutcomeAt command first second p → o ≡ p
+  one_at None fixed first second told_first told o p x y = x ∙ sym y
+  one_at (Some command) fixed first second told_first told o p x y = one_by (reads_first command) command fixed refl first second told_first told o p x y
 
   pub outcome_is_one : OutcomeIsOne
   unfolding IsOutcome
-  outcome_is_one words contents told o p x y = one_at (command_of words) (contents (file_of words)) (contents (second_of words)) told.first told.second o p x y
+  outcome_is_one words contents told fixed o p x y = one_at (command_of words) fixed (contents (file_of words)) (contents (second_of words)) told.first told.second o p x y

@@ -22,6 +22,8 @@ built form.Summary = Some command.Summary
 built (form.Trial size) = Some (command.Trial size)
 built (form.Run class) = Some (command.Run class)
 built (form.Reach class) = Some (command.Reach class)
+built (form.Certify class) = Some (command.Certify class)
+built (form.Verify class) = Some (command.Verify class)
 built other = None
 
 -- the command that the words name
@@ -36,6 +38,8 @@ reads_first (command.Compress class) = true
 reads_first (command.Check class) = true
 reads_first (command.Fold class) = true
 reads_first (command.Lift class) = true
+reads_first (command.Certify class) = true
+reads_first (command.Verify class) = true
 reads_first (command.Run class) = true
 reads_first (command.Reach class) = true
 reads_first (command.Report class) = true
@@ -51,6 +55,8 @@ reads_second (command.Compress class) = false
 reads_second (command.Check class) = true
 reads_second (command.Fold class) = true
 reads_second (command.Lift class) = true
+reads_second (command.Certify class) = false
+reads_second (command.Verify class) = true
 reads_second (command.Run class) = true
 reads_second (command.Reach class) = true
 reads_second (command.Report class) = false

@@ -1,5 +1,7 @@
 -- There is one outcome, where the files that decide it are told.
-use Rattle.std.specs.Prelude.{◌≡◌, ℕ, true, List, Option, IsSome}
+use Rattle.std.specs.Prelude.{◌≡◌, ℕ, Bool, true, false, List, Option, Some, None, IsSome}
+use Rattle.bonsai_top.specs.declared.command.Command.{Command}
+use Rattle.bonsai_top.specs.declared.command.Command.TheVariants as command
 use Rattle.bonsai_top.specs.Words.{file_of, second_of}
 use Rattle.bonsai_top.specs.Commands.{command_of, reads_first, reads_second, is_read}
 use Rattle.answer_kit.specs.Outcome.{Outcome}
@@ -10,6 +12,15 @@ pub record AreTold (words : List (List ℕ)) (contents : List ℕ → Option (Li
   pub first : is_read reads_first (command_of words) ≡ true → IsSome (contents (file_of words))
   pub second : is_read reads_second (command_of words) ≡ true → IsSome (contents (second_of words))
 
--- two outcomes that the words allow over files that are told are equal
+-- whether a command may choose what it writes: which certificate `certify` gives is free
+abbrev pub is_free : Command → Bool
+is_free (command.Certify class) = true
+is_free other = false
+
+abbrev pub leaves_free : Option Command → Bool
+leaves_free None = false
+leaves_free (Some command) = is_free command
+
+-- two outcomes that the words allow over files that are told are equal, if nothing is free
 abbrev pub OutcomeIsOne : Type 0
-OutcomeIsOne = (words : List (List ℕ)) (contents : List ℕ → Option (List ℕ)) → AreTold words contents → (o p : Outcome) → IsOutcome words contents o → IsOutcome words contents p → o ≡ p
+OutcomeIsOne = (words : List (List ℕ)) (contents : List ℕ → Option (List ℕ)) → AreTold words contents → leaves_free (command_of words) ≡ false → (o p : Outcome) → IsOutcome words contents o → IsOutcome words contents p → o ≡ p

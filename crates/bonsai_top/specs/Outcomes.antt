@@ -10,6 +10,8 @@ use Rattle.bonsai_top.specs.Words.{file_of, second_of}
 use Rattle.bonsai_top.specs.Commands.{command_of, reads_first}
 use Rattle.answer_kit.specs.Outcome.{Outcome, done, refused, usage}
 use Rattle.answer_kit.specs.Kinds.{line_reason}
+use Rattle.answer_certificates.specs.Certified.{IsCertifyAnswer}
+use Rattle.answer_certificates.specs.Verified.{IsVerifyAnswer}
 use Rattle.answer_groups.specs.ClassLines.{classes_text}
 use Rattle.answer_groups.specs.CompressText.{IsCompressAnswer}
 use Rattle.answer_groups.specs.GroupLines.{IsGroupsAnswer}
@@ -29,6 +31,8 @@ IsAnswerTo (command.Compress class) network second o = IsCompressAnswer network 
 IsAnswerTo (command.Check class) network second o = IsCheckAnswer network class second o
 IsAnswerTo (command.Fold class) network second o = IsFoldAnswer network class second o
 IsAnswerTo (command.Lift class) network second o = IsLiftAnswer network class second o
+IsAnswerTo (command.Certify class) network second o = IsCertifyAnswer network class o
+IsAnswerTo (command.Verify class) network second o = IsVerifyAnswer network class second o
 IsAnswerTo (command.Run class) network second o = IsRunAnswer network class second o
 IsAnswerTo (command.Reach class) network second o = IsReachAnswer network class second o
 IsAnswerTo (command.Report class) network second o = IsReportAnswer network class o

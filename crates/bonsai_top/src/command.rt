@@ -39,6 +39,8 @@ pub enum Command {
     Trial(u32),
     Run(u32),
     Reach(u32),
+    Certify(u32),
+    Verify(u32),
 }
 
 // A number of at most nine digits.
@@ -150,6 +152,8 @@ fn built(form: Form) -> Option<Command>
         Form::Trial(size) => Some(Command::Trial(size)),
         Form::Run(class) => Some(Command::Run(class)),
         Form::Reach(class) => Some(Command::Reach(class)),
+        Form::Certify(class) => Some(Command::Certify(class)),
+        Form::Verify(class) => Some(Command::Verify(class)),
         _ => None,
     }
 }

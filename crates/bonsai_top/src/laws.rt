@@ -2,7 +2,8 @@
 
 ghost use Rattle.bonsai_top.specs.OneOutcome.{OutcomeIsOne};
 
-/// The words allow one outcome, where the files that the command reads are told.
+/// The words allow one outcome, where the files that the command reads are told. Which certificate `certify`
+/// writes is free.
 pub fn outcome_is_one()
     ensures { OutcomeIsOne }
 {
@@ -11,6 +12,7 @@ pub fn outcome_is_one()
     answer_solutions::laws::check_answer_is_one();
     answer_solutions::laws::fold_answer_is_one();
     answer_solutions::laws::lift_answer_is_one();
+    answer_certificates::laws::verify_answer_is_one();
     answer_runs::laws::run_answer_is_one();
     answer_runs::laws::reach_answer_is_one();
     answer_reports::laws::report_answer_is_one();

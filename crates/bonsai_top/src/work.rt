@@ -7,6 +7,7 @@ ghost use Rattle.bonsai_top.specs.Outcomes.{IsAnswerTo, IsOutcomeOfReading, IsOu
 ghost use Rattle.answer_kit.specs.Replies.{Answers, Only, Refuses};
 
 use crate::command::Command;
+use answer_certificates::{certify, verify};
 use answer_groups::{classes, compress, groups};
 use answer_kit::{Reply, line_reason, refusal};
 use answer_reports::{json_report, report, summary, trial};
@@ -54,6 +55,8 @@ fn answer<S: Source>(
         Command::Check(class) => check::answer(alloc, checked, class, second, files),
         Command::Fold(class) => fold::answer(alloc, checked, class, second, files),
         Command::Lift(class) => lift::answer(alloc, checked, class, second, files),
+        Command::Certify(class) => certify::answer(alloc, checked, class),
+        Command::Verify(class) => verify::answer(alloc, checked, class, second, files),
         Command::Run(class) => run::answer(alloc, checked, class, second, files),
         Command::Reach(class) => reach::answer(alloc, checked, class, second, files),
         Command::Report(class) => report::answer(alloc, checked, class),
