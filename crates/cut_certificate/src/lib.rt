@@ -32,3 +32,4 @@ pub use certifying::certify;
 pub use printing::print_certificate;
 pub use reading::verify;
 pub use refusal::{CutKind, CutRefusal};
+pub use standing::Stage;

@@ -17,9 +17,10 @@ use base_kit::{ActGraph, List, NoMemory};
 use std::alloc::Global;
 use std::marker::Model;
 
-/// What may come next: the head, splits and then groups, groups, or nothing more.
+/// What may come next in the text of a certificate: the head, splits and then groups, groups, or nothing
+/// more.
 #[derive(Clone, Copy, Debug, PartialEq, Eq)]
-pub(crate) enum Stage {
+pub enum Stage {
     Opening,
     Splitting,
     Naming,
