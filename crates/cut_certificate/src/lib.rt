@@ -23,8 +23,6 @@ mod reading;
 mod refusal;
 mod router_names;
 mod standing;
-#[cfg(test)]
-mod tests;
 mod words;
 
 pub use certificate::{Certificate, Split};
