@@ -10,7 +10,7 @@ use Rattle.abstract_net.specs.declared.qlink.QLink.{QLink}
 use Rattle.abstract_net.specs.Carried.{HasEdgeBetween}
 use Rattle.base_kit.proofs.Elements.{In, contains_in, in_contains, in_map, map_in, in_filter, filter_in, in_flat_map, flat_map_in, in_get, get_in, in_range, range_in}
 use Rattle.abstract_net.specs.Carried.{IsJoined, side_of, act_at, IsEdgeAt, IsCarried, IsBelow}
-use Rattle.abstract_net.specs.Links.{link_at, importer_at, exporter_at, link_bound, on_link, by_link, goes, first_acts, acts_into, link_between, links_of_pair, links_from, quotient_links, IsInside, QuotientCarries}
+use Rattle.abstract_net.specs.Links.{link_at, importer_at, exporter_at, link_bound, on_link, by_link, goes, first_acts, acts_into, group_link, links_of_pair, group_links_from, quotient_links, IsInside, QuotientCarries}
 
 eq_from_test : (a b : ℕ) → nat_eq a b ≡ true → a ≡ b
 eq_from_test a b h = grind (arith, nat_tests)
@@ -147,7 +147,7 @@ pub record IsListed (es : List Edge) (groups : List ℕ) (count : ℕ) (l : QLin
   pub ordered : g < h
   pub inside : h < count
   pub few : i < max (length (acts_into es groups g h)) (length (acts_into es groups h g))
-  pub is : link_between g h (acts_into es groups g h) (acts_into es groups h g) i ≡ l
+  pub is : group_link g h (acts_into es groups g h) (acts_into es groups h g) i ≡ l
 
 pub range_above : (a n m : ℕ) → In (range_with_len a n) m → a ≤ m
 range_above a zero m h = absurd h
@@ -160,39 +160,39 @@ in_range_from a n m x y = let P : ℕ → Type 0 = λ k. In (range_with_len a n)
 is_listed : (es : List Edge) (groups : List ℕ) (count : ℕ) (l : QLink) → In (quotient_links es groups count) l → IsListed es groups count l
 unfolding quotient_links
 is_listed es groups count l at =
-    let g = flat_map_in (links_from es groups count) (range_with_len 0 count) l at in
+    let g = flat_map_in (group_links_from es groups count) (range_with_len 0 count) l at in
     let h = flat_map_in (links_of_pair es groups g.0) (range_with_len (g.0 + 1) (count - (g.0 + 1))) l g.2 in
-    let i = map_in (link_between g.0 h.0 (acts_into es groups g.0 h.0) (acts_into es groups h.0 g.0)) (range_with_len 0 (max (length (acts_into es groups g.0 h.0)) (length (acts_into es groups h.0 g.0)))) l h.2 in
+    let i = map_in (group_link g.0 h.0 (acts_into es groups g.0 h.0) (acts_into es groups h.0 g.0)) (range_with_len 0 (max (length (acts_into es groups g.0 h.0)) (length (acts_into es groups h.0 g.0)))) l h.2 in
     let a = range_above (g.0 + 1) (count - (g.0 + 1)) h.0 h.1 in
     let b = range_in (g.0 + 1) (count - (g.0 + 1)) h.0 h.1 in
     let c = range_in 0 (max (length (acts_into es groups g.0 h.0)) (length (acts_into es groups h.0 g.0))) i.0 i.1 in
     let d = range_in 0 count g.0 g.1 in
     record { g = g.0; h = h.0; i = i.0; ordered = omega arith; inside = omega arith; few = omega arith; is = i.2 }
 
-listed : (es : List Edge) (groups : List ℕ) (count g h i : ℕ) → g < h → h < count → i < max (length (acts_into es groups g h)) (length (acts_into es groups h g)) → In (quotient_links es groups count) (link_between g h (acts_into es groups g h) (acts_into es groups h g) i)
+listed : (es : List Edge) (groups : List ℕ) (count g h i : ℕ) → g < h → h < count → i < max (length (acts_into es groups g h)) (length (acts_into es groups h g)) → In (quotient_links es groups count) (group_link g h (acts_into es groups g h) (acts_into es groups h g) i)
 unfolding quotient_links
 listed es groups count g h i x y z =
-    in_flat_map (links_from es groups count) (range_with_len 0 count) g _ (in_range_from 0 count g (omega arith) (omega arith))
+    in_flat_map (group_links_from es groups count) (range_with_len 0 count) g _ (in_range_from 0 count g (omega arith) (omega arith))
     (in_flat_map (links_of_pair es groups g) (range_with_len (g + 1) (count - (g + 1))) h _ (in_range_from (g + 1) (count - (g + 1)) h (omega arith) (omega arith))
-    (in_map (link_between g h (acts_into es groups g h) (acts_into es groups h g)) _ i (in_range_from 0 _ i (omega arith) (omega arith))))
+    (in_map (group_link g h (acts_into es groups g h) (acts_into es groups h g)) _ i (in_range_from 0 _ i (omega arith) (omega arith))))
 
 test_false : (a b : ℕ) → a ≢ b → nat_eq a b ≡ false
 test_false a b h = grind (arith, nat_tests)
 
-low_side : (g h i : ℕ) (xs ys : List ℕ) → side_of g (link_between g h xs ys i) ≡ slice_get xs i
+low_side : (g h i : ℕ) (xs ys : List ℕ) → side_of g (group_link g h xs ys i) ≡ slice_get xs i
 low_side g h i xs ys = ap (λ (b : Bool). if b then slice_get xs i else slice_get ys i) (eq-eqb g g refl)
 
-high_side : (g h i : ℕ) (xs ys : List ℕ) → g < h → side_of h (link_between g h xs ys i) ≡ slice_get ys i
+high_side : (g h i : ℕ) (xs ys : List ℕ) → g < h → side_of h (group_link g h xs ys i) ≡ slice_get ys i
 high_side g h i xs ys less = ap (λ (b : Bool). if b then slice_get xs i else slice_get ys i) (test_false g h (λ e. absurd (omega arith)))
 
-real_at : (es : List Edge) (groups : List ℕ) (a b i g h k : ℕ) → a < b → IsJoined (link_between a b (acts_into es groups a b) (acts_into es groups b a) i) g h → side_of g (link_between a b (acts_into es groups a b) (acts_into es groups b a) i) ≡ Some k → IsEdgeAt es groups k g h
+real_at : (es : List Edge) (groups : List ℕ) (a b i g h k : ℕ) → a < b → IsJoined (group_link a b (acts_into es groups a b) (acts_into es groups b a) i) g h → side_of g (group_link a b (acts_into es groups a b) (acts_into es groups b a) i) ≡ Some k → IsEdgeAt es groups k g h
 real_at es groups a b i g h k less (inl j) s =
     let P : ℕ → ℕ → Type 0 = λ x y. IsEdgeAt es groups k x y in
-    let t : side_of a (link_between a b (acts_into es groups a b) (acts_into es groups b a) i) ≡ Some k = ap (λ (x : ℕ). side_of x (link_between a b (acts_into es groups a b) (acts_into es groups b a) i)) j.0 ∙ s in
+    let t : side_of a (group_link a b (acts_into es groups a b) (acts_into es groups b a) i) ≡ Some k = ap (λ (x : ℕ). side_of x (group_link a b (acts_into es groups a b) (acts_into es groups b a) i)) j.0 ∙ s in
     subst (P g) j.1 (subst (λ (x : ℕ). P x b) j.0 (act_place es groups a b k (get_in (acts_into es groups a b) i k (sym (low_side a b i (acts_into es groups a b) (acts_into es groups b a)) ∙ t))))
 real_at es groups a b i g h k less (inr j) s =
     let P : ℕ → ℕ → Type 0 = λ x y. IsEdgeAt es groups k x y in
-    let t : side_of b (link_between a b (acts_into es groups a b) (acts_into es groups b a) i) ≡ Some k = ap (λ (x : ℕ). side_of x (link_between a b (acts_into es groups a b) (acts_into es groups b a) i)) j.0 ∙ s in
+    let t : side_of b (group_link a b (acts_into es groups a b) (acts_into es groups b a) i) ≡ Some k = ap (λ (x : ℕ). side_of x (group_link a b (acts_into es groups a b) (acts_into es groups b a) i)) j.0 ∙ s in
     subst (P g) j.1 (subst (λ (x : ℕ). P x a) j.0 (act_place es groups b a k (get_in (acts_into es groups b a) i k (sym (high_side a b i (acts_into es groups a b) (acts_into es groups b a) less) ∙ t))))
 
 -- a side that is not there leaves the other one
@@ -201,21 +201,21 @@ get_none [] i h = omega arith
 get_none (x ∷ xs) zero h = cc
 get_none (x ∷ xs) (suc i) h = let r = get_none xs i h in omega arith
 
-used_at : (es : List Edge) (groups : List ℕ) (a b i g h : ℕ) → a < b → i < max (length (acts_into es groups a b)) (length (acts_into es groups b a)) → IsJoined (link_between a b (acts_into es groups a b) (acts_into es groups b a) i) g h → side_of g (link_between a b (acts_into es groups a b) (acts_into es groups b a) i) ≡ None → (k : ℕ) × (side_of h (link_between a b (acts_into es groups a b) (acts_into es groups b a) i) ≡ Some k)
+used_at : (es : List Edge) (groups : List ℕ) (a b i g h : ℕ) → a < b → i < max (length (acts_into es groups a b)) (length (acts_into es groups b a)) → IsJoined (group_link a b (acts_into es groups a b) (acts_into es groups b a) i) g h → side_of g (group_link a b (acts_into es groups a b) (acts_into es groups b a) i) ≡ None → (k : ℕ) × (side_of h (group_link a b (acts_into es groups a b) (acts_into es groups b a) i) ≡ Some k)
 used_at es groups a b i g h less few (inl j) s =
     let xs = acts_into es groups a b in
     let ys = acts_into es groups b a in
-    let t : side_of a (link_between a b xs ys i) ≡ None = ap (λ (x : ℕ). side_of x (link_between a b xs ys i)) j.0 ∙ s in
+    let t : side_of a (group_link a b xs ys i) ≡ None = ap (λ (x : ℕ). side_of x (group_link a b xs ys i)) j.0 ∙ s in
     let short = get_none xs i (sym (low_side a b i xs ys) ∙ t) in
     let k = get_some ys i (omega arith) in
-    (k.0, ap (λ (x : ℕ). side_of x (link_between a b xs ys i)) (sym j.1) ∙ high_side a b i xs ys less ∙ k.1)
+    (k.0, ap (λ (x : ℕ). side_of x (group_link a b xs ys i)) (sym j.1) ∙ high_side a b i xs ys less ∙ k.1)
 used_at es groups a b i g h less few (inr j) s =
     let xs = acts_into es groups a b in
     let ys = acts_into es groups b a in
-    let t : side_of b (link_between a b xs ys i) ≡ None = ap (λ (x : ℕ). side_of x (link_between a b xs ys i)) j.0 ∙ s in
+    let t : side_of b (group_link a b xs ys i) ≡ None = ap (λ (x : ℕ). side_of x (group_link a b xs ys i)) j.0 ∙ s in
     let short = get_none ys i (sym (high_side a b i xs ys less) ∙ t) in
     let k = get_some xs i (omega arith) in
-    (k.0, ap (λ (x : ℕ). side_of x (link_between a b xs ys i)) (sym j.1) ∙ low_side a b i xs ys ∙ k.1)
+    (k.0, ap (λ (x : ℕ). side_of x (group_link a b xs ys i)) (sym j.1) ∙ low_side a b i xs ys ∙ k.1)
 
 in_order : (a b : ℕ) → a ≢ b → (a < b) ⊎ (b < a)
 in_order a b h = elim (cases_lt a b) [ inl x ↦ inl x | inr x ↦ inr (omega arith) ]
@@ -229,8 +229,8 @@ module _ (es : List Edge) (groups : List ℕ) (count : ℕ) (inside : (e : Edge)
       let i = in_get (acts_into es groups g h) a.place a.has in
       let few = slice_get_within (acts_into es groups g h) i.0 a.place i.1 in
       elim (in_order g h apart) [
-        | inl less ↦ record { link = link_between g h (acts_into es groups g h) (acts_into es groups h g) i.0; has = contains_in _ _ (listed es groups count g h i.0 less (omega arith) (omega arith)); joined = inl (refl, refl); edge = a.place; side = low_side g h i.0 (acts_into es groups g h) (acts_into es groups h g) ∙ i.1; does = a.does }
-        | inr less ↦ record { link = link_between h g (acts_into es groups h g) (acts_into es groups g h) i.0; has = contains_in _ _ (listed es groups count h g i.0 less (omega arith) (omega arith)); joined = inr (refl, refl); edge = a.place; side = high_side h g i.0 (acts_into es groups h g) (acts_into es groups g h) less ∙ i.1; does = a.does }
+        | inl less ↦ record { link = group_link g h (acts_into es groups g h) (acts_into es groups h g) i.0; has = contains_in _ _ (listed es groups count g h i.0 less (omega arith) (omega arith)); joined = inl (refl, refl); edge = a.place; side = low_side g h i.0 (acts_into es groups g h) (acts_into es groups h g) ∙ i.1; does = a.does }
+        | inr less ↦ record { link = group_link h g (acts_into es groups h g) (acts_into es groups g h) i.0; has = contains_in _ _ (listed es groups count h g i.0 less (omega arith) (omega arith)); joined = inr (refl, refl); edge = a.place; side = high_side h g i.0 (acts_into es groups h g) (acts_into es groups g h) less ∙ i.1; does = a.does }
       ]
 
 pub quotient_carries : QuotientCarries

@@ -10,7 +10,7 @@ use Rattle.base_kit.proofs.Elements.{In}
 use Rattle.by_key.specs.ByKey.{with_key, by_key}
 use Rattle.by_key.proofs.KeyedItems.{key_is}
 use Rattle.abstract_net.specs.declared.steps.Step.{Step}
-use Rattle.abstract_net.specs.Links.{by_link, acts_into, joined_sides, links_of_pair, links_from, quotient_links}
+use Rattle.abstract_net.specs.Links.{by_link, acts_into, joined_sides, links_of_pair, group_links_from, quotient_links}
 use Rattle.abstract_net.specs.GroupSteps.{step_at, low_of, high_of, sorted_steps, edges_into, links_of_run, same_ends, links_of_steps}
 use Rattle.abstract_net.proofs.Places.{cell, steps_by_link, low_before_high, into_low, into_high}
 use Rattle.abstract_net.proofs.RunLinks.{links_one, links_parts}
@@ -88,14 +88,14 @@ module _ (es : List Edge) (groups : List ℕ) (count : ℕ) where
   unfolding links_of_steps
   no_cell g h le = ap links_of_steps (none_in (cell es groups steps g h) (λ x at. (let a = in_cell g h x at in let l = a.low in let u = a.high in let o = a.ordered in omega arith)))
 
-  row_links : (g : ℕ) → g < count → links_of_steps (row g) ≡ links_from es groups count g
+  row_links : (g : ℕ) → g < count → links_of_steps (row g) ≡ group_links_from es groups count g
   row_links g inside =
       ap links_of_steps (row_cells g)
       ∙ links_parts (cell es groups steps g) 0 count (λ i j x y less a b. (let p = in_cell g i x a in let q = in_cell g j y b in let u = p.high in let v = q.high in high_differs x y (λ e. absurd (omega arith))))
       ∙ from_later (λ h. links_of_steps (cell es groups steps g h)) (links_of_pair es groups g) 0 count (g + 1) (omega arith) (omega arith) (λ h less. no_cell g h (omega arith)) (λ h from. cell_links g h (omega arith))
       ∙ ap (λ (k : ℕ). flat_map (links_of_pair es groups g) (range_with_len (g + 1) k)) (let z : 0 + count - (g + 1) ≡ count - (g + 1) = omega arith in z)
 
-  all_rows : (a n : ℕ) → a + n ≤ count → flat_map (λ g. links_of_steps (row g)) (range_with_len a n) ≡ flat_map (links_from es groups count) (range_with_len a n)
+  all_rows : (a n : ℕ) → a + n ≤ count → flat_map (λ g. links_of_steps (row g)) (range_with_len a n) ≡ flat_map (group_links_from es groups count) (range_with_len a n)
   all_rows a zero h = refl
   all_rows a (suc n) h = λ i. row_links a (omega arith) i ++ all_rows (a + 1) n (omega arith) i
 

@@ -11,7 +11,7 @@ use Rattle.base_kit.specs.declared.act_graph.Edge.{Edge}
 use Rattle.base_kit.proofs.Elements.{In}
 use Rattle.abstract_net.specs.Carried.{act_at}
 use Rattle.abstract_net.proofs.Sums.{total, one, length_total, length_mapped, total_swap, outside_range}
-use Rattle.abstract_net.specs.Links.{link_bound, on_link, by_link, goes, first_acts, acts_into, link_between, links_of_pair, links_from, quotient_links, is_pair, HasEnds, NoMoreLinks}
+use Rattle.abstract_net.specs.Links.{link_bound, on_link, by_link, goes, first_acts, acts_into, group_link, links_of_pair, group_links_from, quotient_links, is_pair, HasEnds, NoMoreLinks}
 use Rattle.abstract_net.proofs.Carried.{range_above}
 
 if_length : (b : Bool) (x n : ℕ) (xs ys : List ℕ) → length xs ≤ n → length ys ≤ n → length (if b then xs else x ∷ ys) ≤ suc n
@@ -94,11 +94,11 @@ module _ (es : List Edge) (groups : List ℕ) (count bound : ℕ) (low high : �
       let a = acts_few g h (λ e. absurd (omega arith)) in
       let b = acts_few h g (λ e. absurd (omega arith)) in
       let c = turned g h in
-      let d = length_mapped (link_between g h (acts_into es groups g h) (acts_into es groups h g)) (range_with_len 0 (max (length (acts_into es groups g h)) (length (acts_into es groups h g)))) in
+      let d = length_mapped (group_link g h (acts_into es groups g h) (acts_into es groups h g)) (range_with_len 0 (max (length (acts_into es groups g h)) (length (acts_into es groups h g)))) in
       let e = length-range_with_len 0 (max (length (acts_into es groups g h)) (length (acts_into es groups h g))) in
       omega arith
 
-  from_few : (g : ℕ) → length (links_from es groups count g) ≤ total (λ l. total (λ h. one (is_pair (low l) (high l) g h)) (range_with_len (g + 1) (count - (g + 1)))) (range_with_len 0 bound)
+  from_few : (g : ℕ) → length (group_links_from es groups count g) ≤ total (λ l. total (λ h. one (is_pair (low l) (high l) g h)) (range_with_len (g + 1) (count - (g + 1)))) (range_with_len 0 bound)
   from_few g =
       let a = length_total (links_of_pair es groups g) (range_with_len (g + 1) (count - (g + 1))) in
       let b = total_below (λ h. length (links_of_pair es groups g h)) (λ h. total (λ l. one (is_pair (low l) (high l) g h)) (range_with_len 0 bound)) (range_with_len (g + 1) (count - (g + 1))) (λ h at. pair_few g h (let c = range_above (g + 1) (count - (g + 1)) h at in omega arith)) in
@@ -108,8 +108,8 @@ module _ (es : List Edge) (groups : List ℕ) (count bound : ℕ) (low high : �
   fewer : length (quotient_links es groups count) ≤ bound
   unfolding quotient_links
   fewer =
-      let a = length_total (links_from es groups count) (range_with_len 0 count) in
-      let b = total_below (λ g. length (links_from es groups count g)) (λ g. total (λ l. total (λ h. one (is_pair (low l) (high l) g h)) (range_with_len (g + 1) (count - (g + 1)))) (range_with_len 0 bound)) (range_with_len 0 count) (λ g at. from_few g) in
+      let a = length_total (group_links_from es groups count) (range_with_len 0 count) in
+      let b = total_below (λ g. length (group_links_from es groups count g)) (λ g. total (λ l. total (λ h. one (is_pair (low l) (high l) g h)) (range_with_len (g + 1) (count - (g + 1)))) (range_with_len 0 bound)) (range_with_len 0 count) (λ g at. from_few g) in
       let c = total_swap (λ g l. total (λ h. one (is_pair (low l) (high l) g h)) (range_with_len (g + 1) (count - (g + 1)))) (range_with_len 0 count) (range_with_len 0 bound) in
       let d = total_below (λ l. total (λ g. total (λ h. one (is_pair (low l) (high l) g h)) (range_with_len (g + 1) (count - (g + 1)))) (range_with_len 0 count)) (λ _. 1) (range_with_len 0 bound) (λ l at. one_pair (low l) (high l) count) in
       let e = all_ones 0 bound in

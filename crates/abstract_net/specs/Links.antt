@@ -38,21 +38,21 @@ first_acts es seen (k ∷ ks) = if list_any (nat_eq (act_at es k)) seen then fir
 unfoldable pub acts_into : List Edge → List ℕ → ℕ → ℕ → List ℕ
 acts_into es groups g h = first_acts es [] (filter (goes es groups g h) (by_link es))
 
-abbrev pub link_between : ℕ → ℕ → List ℕ → List ℕ → ℕ → QLink
-link_between g h xs ys i = record { low = g; high = h; to_low = slice_get xs i; to_high = slice_get ys i }
+abbrev pub group_link : ℕ → ℕ → List ℕ → List ℕ → ℕ → QLink
+group_link g h xs ys i = record { low = g; high = h; to_low = slice_get xs i; to_high = slice_get ys i }
 
 -- the i-th acts of both directions on one link
 abbrev pub joined_sides : ℕ → ℕ → List ℕ → List ℕ → List QLink
-joined_sides g h xs ys = map (link_between g h xs ys) (range_with_len 0 (max (length xs) (length ys)))
+joined_sides g h xs ys = map (group_link g h xs ys) (range_with_len 0 (max (length xs) (length ys)))
 
 abbrev pub links_of_pair : List Edge → List ℕ → ℕ → ℕ → List QLink
 links_of_pair es groups g h = joined_sides g h (acts_into es groups g h) (acts_into es groups h g)
 
-abbrev pub links_from : List Edge → List ℕ → ℕ → ℕ → List QLink
-links_from es groups count g = flat_map (links_of_pair es groups g) (range_with_len (g + 1) (count - (g + 1)))
+abbrev pub group_links_from : List Edge → List ℕ → ℕ → ℕ → List QLink
+group_links_from es groups count g = flat_map (links_of_pair es groups g) (range_with_len (g + 1) (count - (g + 1)))
 
 unfoldable pub quotient_links : List Edge → List ℕ → ℕ → List QLink
-quotient_links es groups count = flat_map (links_from es groups count) (range_with_len 0 count)
+quotient_links es groups count = flat_map (group_links_from es groups count) (range_with_len 0 count)
 
 pub record IsInside (groups : List ℕ) (count : ℕ) (e : Edge) : Type 0 where
   pub importer : slice_index groups e.importer < count

@@ -1,7 +1,8 @@
 ghost use Rattle.std.specs.Prelude.{◌≡◌, ◌≤◌, ◌<◌, ◌^◌, ℕ, List, length, IfOk, IfErr, IfSome};
 ghost use Rattle.io_kit.specs.Ends.{Rose};
 ghost use Rattle.srp_core.specs.Stability.{AreLabels};
-ghost use Rattle.solution_text.specs.Solutions.{AreApart, labels_of_text};
+ghost use Rattle.solution_text.specs.Solutions.{labels_of_text};
+ghost use Rattle.base_kit.specs.Names.{AreApart};
 ghost use Rattle.answer_kit.specs.Outcome.{refused};
 ghost use Rattle.answer_kit.specs.Replies.{Answers, Only};
 ghost use Rattle.answer_kit.specs.SecondFiles.{name_of_solution_kind, solution_reason, solution_limit, IsOfLabelsIn, IsOfSolution, AllowsNoLabels, GivesLabels};

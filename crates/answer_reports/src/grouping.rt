@@ -1,5 +1,5 @@
 ghost use Rattle.std.specs.Prelude.{◌≡◌, ◌<◌, IfOk, Contains};
-ghost use Rattle.base_kit.specs.Partition.{IsCoarsest};
+ghost use Rattle.base_kit.specs.Partition.{IsCoarsestOn};
 ghost use Rattle.cfg_ast.specs.meaning.Classes.{classes_of};
 ghost use Rattle.cfg_ast.specs.meaning.PolicyFaults.{communities_of};
 ghost use Rattle.cfg_ast.specs.meaning.Topology.{links_of};
@@ -32,7 +32,7 @@ fn counted<L: Ledger>(alloc: Global, graph: &ActGraph, blank: Blank) -> Result<P
     requires name { blank.name ≡ L.name }
     requires parts { blank.parts ≡ L.parts }
     requires some { 0 < L.parts }
-    ensures { IfOk result (λ groups. IsCoarsest graph.now groups) }
+    ensures { IfOk result (λ groups. IsCoarsestOn graph.now groups) }
 {
     let mut turns = Steps::<L>::new(blank);
     let groups = coarsest(alloc, graph, &mut turns)?;
@@ -40,7 +40,7 @@ fn counted<L: Ledger>(alloc: Global, graph: &ActGraph, blank: Blank) -> Result<P
 }
 
 fn coarsest_of(alloc: Global, graph: &ActGraph) -> Result<Partition, NoMemory>
-    ensures { IfOk result (λ groups. IsCoarsest graph.now groups) }
+    ensures { IfOk result (λ groups. IsCoarsestOn graph.now groups) }
 {
     counted::<Brand>(alloc, graph, Blank::new(1))
 }

@@ -3,7 +3,7 @@ ghost use Rattle.cfg_ast.specs.meaning.Classes.{classes_of};
 ghost use Rattle.io_kit.specs.Ends.{Rose};
 ghost use Rattle.srp_core.specs.Problem.{count};
 ghost use Rattle.srp_core.specs.Stability.{AreLabels, IsStable};
-ghost use Rattle.solution_text.specs.Solutions.{AreApart};
+ghost use Rattle.base_kit.specs.Names.{AreApart};
 ghost use Rattle.route_run.specs.Schedules.{routers_of, run_of, IsSingle};
 ghost use Rattle.answer_kit.specs.Outcome.{done, not_stable};
 ghost use Rattle.answer_kit.specs.Replies.{Answers, Only};

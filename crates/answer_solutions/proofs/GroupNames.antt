@@ -12,7 +12,7 @@ use Rattle.cfg_ast.specs.printing.WellFormed.{IsWellFormedRouter}
 use Rattle.cfg_ast.specs.text.Words.{is_router_name}
 use Rattle.srp_core.specs.Problem.{Problem}
 use Rattle.srp_quotient.specs.Groups.{first_member, quotient_problem, small_of}
-use Rattle.solution_text.specs.Solutions.{AreApart}
+use Rattle.base_kit.specs.Names.{AreApart}
 use Rattle.solution_text.proofs.RouterNames.{bytes_eq-sym}
 
 -- ---- first members

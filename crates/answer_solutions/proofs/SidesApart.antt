@@ -6,7 +6,7 @@ use Rattle.cfg_ast.specs.declared.classes.DestClass.{DestClass}
 use Rattle.cfg_ast.specs.meaning.Classes.{classes_of}
 use Rattle.cfg_check.specs.Faultless.{IsFaultless}
 use Rattle.srp_core.specs.Problem.{Problem}
-use Rattle.solution_text.specs.Solutions.{AreApart}
+use Rattle.base_kit.specs.Names.{AreApart}
 use Rattle.answer_kit.proofs.NamesApart.{problem_apart}
 use Rattle.answer_kit.proofs.OneClass.{some_prefix}
 use Rattle.answer_solutions.specs.declared.sides.Sides.{Sides}

@@ -2,7 +2,7 @@ ghost use Rattle.std.specs.Prelude.{◌≡◌, ◌≤◌, ℕ, List, codes, Cont
 ghost use Rattle.cfg_ast.specs.meaning.Classes.{classes_of};
 ghost use Rattle.io_kit.specs.Ends.{Rose};
 ghost use Rattle.srp_core.specs.Stability.{AreLabels};
-ghost use Rattle.solution_text.specs.Solutions.{AreApart};
+ghost use Rattle.base_kit.specs.Names.{AreApart};
 ghost use Rattle.answer_solutions.specs.Checks.{IsJudgement, IsCheckOf, IsCheckAnswer};
 ghost use Rattle.answer_kit.specs.Groups.{IsProblemOfClass};
 ghost use Rattle.answer_kit.specs.Outcome.{done};

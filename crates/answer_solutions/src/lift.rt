@@ -3,7 +3,7 @@ ghost use Rattle.cfg_ast.specs.meaning.Classes.{classes_of};
 ghost use Rattle.io_kit.specs.Ends.{Rose};
 ghost use Rattle.srp_core.specs.Quotient.{IsAdmissible, IsQuotient};
 ghost use Rattle.srp_core.specs.Stability.{AreLabels, IsStable};
-ghost use Rattle.solution_text.specs.Solutions.{AreApart};
+ghost use Rattle.base_kit.specs.Names.{AreApart};
 ghost use Rattle.answer_kit.specs.Replies.{Answers};
 ghost use Rattle.answer_kit.specs.SecondFiles.{IsOfSolution};
 ghost use Rattle.answer_solutions.specs.Carries.{AreSides, IsLifted, IsLiftOfLabels, IsLiftOf, IsLiftAnswer};

@@ -4,8 +4,8 @@ use Rattle.std.specs.Prelude.{slice_index}
 use Rattle.std.proofs.lemmas.Grind.{common_steps}
 use Rattle.base_kit.specs.declared.act_graph.Edge.{Edge}
 use Rattle.base_kit.specs.declared.act_graph.ActGraph.{ActGraph}
-use Rattle.base_kit.specs.Partition.{color, HasTwinIfOutgoing, IsMirroredAt, IsAdmissible, Refines}
-use Rattle.base_kit.specs.Join.{IsChain, IsJoin}
+use Rattle.base_kit.specs.Partition.{color, HasTwinIfOutgoing, IsMirroredAt, IsAdmissibleOn, Refines}
+use Rattle.base_kit.specs.Join.{IsChain, IsJoinByChains}
 
 pub mirrored_refl : (edges : List Edge) (groups : List ℕ) (u : ℕ) → IsMirroredAt edges groups u u
 unfolding IsMirroredAt
@@ -38,13 +38,13 @@ mirrored_coarser edges finer coarser count u v exporters refines hu mirrored k d
 }
 
 -- along a chain colors are equal
-chain_colors : (graph : ActGraph) (first second : List ℕ) → IsAdmissible graph first → IsAdmissible graph second → (chain : List ℕ) (u w : ℕ) → u < graph.count → IsChain graph.count first second u chain w → color graph u ≡ color graph w
+chain_colors : (graph : ActGraph) (first second : List ℕ) → IsAdmissibleOn graph first → IsAdmissibleOn graph second → (chain : List ℕ) (u w : ℕ) → u < graph.count → IsChain graph.count first second u chain w → color graph u ≡ color graph w
 chain_colors graph first second a b [] u w hu e = ap (color graph) e
 chain_colors graph first second a b (v ∷ vs) u w hu (hv, step, rest) =
     elim step [ inl same ↦ a.colors u v hu hv same | inr same ↦ b.colors u v hu hv same ] ∙ chain_colors graph first second a b vs v w hv rest
 
 -- along a chain edges are mirrored in the join
-chain_mirrors : (graph : ActGraph) (first second join : List ℕ) → IsAdmissible graph first → IsAdmissible graph second → IsJoin graph.count first second join → (chain : List ℕ) (u w : ℕ) → u < graph.count → IsChain graph.count first second u chain w → IsMirroredAt graph.edges join u w
+chain_mirrors : (graph : ActGraph) (first second join : List ℕ) → IsAdmissibleOn graph first → IsAdmissibleOn graph second → IsJoinByChains graph.count first second join → (chain : List ℕ) (u w : ℕ) → u < graph.count → IsChain graph.count first second u chain w → IsMirroredAt graph.edges join u w
 chain_mirrors graph first second join a b joined [] u w hu e = subst (IsMirroredAt graph.edges join u) e (mirrored_refl graph.edges join u)
 chain_mirrors graph first second join a b joined (v ∷ vs) u w hu (hv, step, rest) =
     let later = chain_mirrors graph first second join a b joined vs v w hv rest in
@@ -53,7 +53,7 @@ chain_mirrors graph first second join a b joined (v ∷ vs) u w hu (hv, step, re
       | inr same ↦ mirrored_trans graph.edges join u v w (joined.second_refines u v hu hv same) (mirrored_coarser graph.edges second join graph.count u v graph.exporters_in_range joined.second_refines hu (b.edges u v hu hv same)) later
     ]
 
-pub join_admissible : (graph : ActGraph) (first second join : List ℕ) → IsAdmissible graph first → IsAdmissible graph second → IsJoin graph.count first second join → IsAdmissible graph join
+pub join_admissible : (graph : ActGraph) (first second join : List ℕ) → IsAdmissibleOn graph first → IsAdmissibleOn graph second → IsJoinByChains graph.count first second join → IsAdmissibleOn graph join
 join_admissible graph first second join a b joined = record {
   total = joined.total;
   colors = λ u w hu hw same. let (chain, is) = joined.chained u w hu hw same in chain_colors graph first second a b chain u w hu is;

@@ -9,7 +9,7 @@ IsChain count first second u (v ∷ vs) w =
     (v < count) × ((slice_index first u ≡ slice_index first v) ⊎ (slice_index second u ≡ slice_index second v)) × IsChain count first second v vs w
 
 -- both refine the join, and routers that are together in it are joined by a chain
-pub record IsJoin (count : ℕ) (first second join : List ℕ) : Type 0 where
+pub record IsJoinByChains (count : ℕ) (first second join : List ℕ) : Type 0 where
   pub total : length join ≡ count
   pub first_refines : Refines count first join
   pub second_refines : Refines count second join

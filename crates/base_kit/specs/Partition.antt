@@ -22,7 +22,7 @@ unfoldable pub IsMirroredAt : List Edge → List ℕ → ℕ → ℕ → Type 0
 IsMirroredAt edges groups router other = All (HasTwinIfOutgoing edges groups router other) edges
 
 -- members of one group have equal colors, and mirror each other's edges into other groups
-pub record IsAdmissible (graph : ActGraph) (groups : List ℕ) : Type 0 where
+pub record IsAdmissibleOn (graph : ActGraph) (groups : List ℕ) : Type 0 where
   pub total : length groups ≡ graph.count
   pub colors : (u v : ℕ) → u < graph.count → v < graph.count → slice_index groups u ≡ slice_index groups v → color graph u ≡ color graph v
   pub edges : (u v : ℕ) → u < graph.count → v < graph.count → slice_index groups u ≡ slice_index groups v → IsMirroredAt graph.edges groups u v
@@ -33,9 +33,9 @@ Refines count finer coarser =
     (u v : ℕ) → u < count → v < count → slice_index finer u ≡ slice_index finer v → slice_index coarser u ≡ slice_index coarser v
 
 -- an admissible partition that every admissible partition refines
-pub record IsCoarsest (graph : ActGraph) (groups : List ℕ) : Type 0 where
-  pub admissible : IsAdmissible graph groups
-  pub refined : (others : List ℕ) → IsAdmissible graph others → Refines graph.count others groups
+pub record IsCoarsestOn (graph : ActGraph) (groups : List ℕ) : Type 0 where
+  pub admissible : IsAdmissibleOn graph groups
+  pub refined : (others : List ℕ) → IsAdmissibleOn graph others → Refines graph.count others groups
 
 -- The groups are numbered from 0 below `count`, by their least members: before each router stands a
 -- member of each group with a smaller number.

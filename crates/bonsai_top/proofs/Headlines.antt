@@ -17,7 +17,7 @@ use Rattle.cfg_check.proofs.Faultless.{faultless_of}
 use Rattle.cfg_print.specs.Prints.{is_too_long}
 use Rattle.config_emit.specs.Pool.{pool_line}
 use Rattle.compress_laws.specs.Compressed.{Compresses}
-use Rattle.compress_laws.specs.Laws.{text_of, PlanCompresses}
+use Rattle.compress_laws.specs.Laws.{compressed_text, PlanCompresses}
 use Rattle.io_kit.specs.Ends.{with_end}
 use Rattle.bonsai_top.specs.declared.command.Command.{Command}
 use Rattle.bonsai_top.specs.declared.command.Command.TheVariants as command
@@ -93,9 +93,9 @@ module _ (compresses : PlanCompresses) (text : List ℕ) (n : Network) (read : I
   no_refusal reason e = (let s : (refused reason).status ≡ Done = ap (λ (x : Outcome). x.status) (sym e) ∙ status in cc)
 
   emitted : (class : DestClass) → Contains (classes_of n) class → pool_line n class ≡ None → IsEmission n class o → Compresses n class o.out
-  emitted class has apart is = step (is_too_long (text_of is.plan)) refl is.written
+  emitted class has apart is = step (is_too_long (compressed_text is.plan)) refl is.written
     where
-      step : (b : Bool) → is_too_long (text_of is.plan) ≡ b → IsTextOr b (text_of is.plan) o → Compresses n class o.out
+      step : (b : Bool) → is_too_long (compressed_text is.plan) ≡ b → IsTextOr b (compressed_text is.plan) o → Compresses n class o.out
       step true long written = absurd (no_refusal (codes "OutputTooLong") written)
       step false short written = subst (λ (bytes : List ℕ). Compresses n class bytes) (sym (ap (λ (x : Outcome). x.out) written)) (compresses n class is.plan ∣ (text, read.given) ∣₁ read.faultless has is.is apart short)
 

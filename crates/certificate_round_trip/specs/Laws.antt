@@ -1,18 +1,14 @@
 -- What is read back of the text that is printed of a certificate.
-use Rattle.std.specs.Prelude.{◌≡◌, ℕ, ◌≤◌, true, false, List, [], ◌∷◌, length, Ok, bytes_eq}
+use Rattle.std.specs.Prelude.{◌≡◌, ℕ, ◌≤◌, true, false, List, [], ◌∷◌, length, Ok}
 use Rattle.std.specs.List.{AllByRecursion, list_any}
 use Rattle.base_kit.specs.declared.act_graph.Edge.{Edge}
 use Rattle.base_kit.specs.declared.act_graph.ActGraph.{ActGraph}
+use Rattle.base_kit.specs.Names.{AreApart}
 use Rattle.cfg_ast.specs.text.Words.{is_router_name}
 use Rattle.cut_certificate.specs.declared.certificate.Certificate.{Certificate}
 use Rattle.cut_certificate.specs.Certificates.{IsAccepted}
 use Rattle.cut_certificate.specs.Printed.{certificate_text}
 use Rattle.cut_certificate.specs.Texts.{certificate_of_text, is_edge_over}
-
--- no two names are equal
-abbrev pub AreApart : List (List ℕ) → Type 0
-AreApart [] = Unit {0}
-AreApart (name ∷ names) = (list_any (bytes_eq name) names ≡ false) × AreApart names
 
 -- no two edges have one importer and one link
 abbrev pub AreOfLinks : List Edge → Type 0

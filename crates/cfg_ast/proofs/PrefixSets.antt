@@ -4,8 +4,8 @@ use Rattle.std.specs.Prelude.{filter, filter_map, flat_map, nat_eq}
 use Rattle.std.specs.List.{list_any}
 use Rattle.std.proofs.lemmas.List.Folds.{list_any-append}
 use Rattle.std.proofs.lemmas.Bool.Decides.{nat_tests}
-use Rattle.base_kit.specs.Prefixes.{Prefix}
-use Rattle.cfg_ast.specs.meaning.Classes.{same_prefix, is_before, with_prefix, with_prefixes, has_prefix, AllAfter, AreAscending}
+use Rattle.base_kit.specs.Prefixes.{Prefix, same_prefix}
+use Rattle.cfg_ast.specs.meaning.Classes.{is_before, with_prefix, with_prefixes, has_prefix, AllAfter, AreAscending}
 
 -- equal prefixes are one
 pub one_prefix : (p q : Prefix) → same_prefix p q ≡ true → p ≡ q

@@ -16,14 +16,15 @@ use Rattle.std.proofs.lemmas.List.Quantifiers.{position-Some}
 use Rattle.std.proofs.lemmas.Slice.Eq.{bytes_eq-Decides}
 use Rattle.std.proofs.lemmas.List.Folds.{list_any-append}
 use Rattle.std.proofs.lemmas.Map.Text.{btree_map_updates_text, btree_set_updates_text}
-use Rattle.base_kit.specs.Prefixes.{Prefix}
+use Rattle.base_kit.specs.Prefixes.{Prefix, same_prefix}
 use Rattle.cfg_ast.specs.declared.bgp.NetLine.{NetLine}
 use Rattle.cfg_ast.specs.declared.bgp.Neighbor.{Neighbor}
 use Rattle.cfg_ast.specs.declared.interface.Interface.{Interface}
 use Rattle.cfg_ast.specs.declared.ospf.AreaLine.{AreaLine}
 use Rattle.cfg_ast.specs.text.Reading.{has_interface}
-use Rattle.cfg_ast.specs.text.Stanzas.{same_prefix, same_area_line, has_network, has_neighbor}
-use Rattle.cfg_parse.specs.Indexes.{name_of_interface, HasNames, HasKeys, HasPlaces, HasSeqs, HasAddresses, AreApart, pair_order, prefix_order, area_order, area_key, prefix_of}
+use Rattle.cfg_ast.specs.text.Stanzas.{same_area_line, has_network, has_neighbor}
+use Rattle.cfg_parse.specs.Indexes.{name_of_interface, HasNames, HasKeys, HasPlaces, HasSeqs, HasAddresses, pair_order, prefix_order, area_order, area_key, prefix_of}
+use Rattle.base_kit.specs.Names.{AreApart}
 
 -- ---- sets
 

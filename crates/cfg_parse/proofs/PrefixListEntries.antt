@@ -10,7 +10,8 @@ use Rattle.std.proofs.lemmas.List.{map_push, map-set, get_or-map}
 use Rattle.cfg_ast.specs.declared.policy.PrefixEntry.{PrefixEntry}
 use Rattle.cfg_ast.specs.declared.policy.PrefixList.{PrefixList}
 use Rattle.cfg_ast.specs.text.PolicyLines.{is_prefix_list, has_prefix_entry, has_seq, put_prefix_entry}
-use Rattle.cfg_parse.specs.Indexes.{HasSeqs, AreApart, ArePrefixListsIndexed, name_of_prefix_list, seq_of_prefix_entry, prefix_entry_seqs, no_prefix_list, pair_order}
+use Rattle.cfg_parse.specs.Indexes.{HasSeqs, ArePrefixListsIndexed, name_of_prefix_list, seq_of_prefix_entry, prefix_entry_seqs, no_prefix_list, pair_order}
+use Rattle.base_kit.specs.Names.{AreApart}
 use Rattle.cfg_parse.specs.InOrder.{by_seq, prefix_list_in_order, with_last_prefix_entry}
 use Rattle.cfg_parse.proofs.InOrder.{by_seq_last, by_seq_one, has_by_seq}
 use Rattle.cfg_parse.proofs.Indexed.{position_map, parts_kept, places_kept, places_noted, seqs_changed, seqs_new, apart_last, none_named, has_with, has_without}

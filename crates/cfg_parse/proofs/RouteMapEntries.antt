@@ -10,7 +10,8 @@ use Rattle.std.proofs.lemmas.List.{map_push, map-set, get_or-map}
 use Rattle.cfg_ast.specs.declared.policy.MapEntry.{MapEntry}
 use Rattle.cfg_ast.specs.declared.policy.RouteMap.{RouteMap}
 use Rattle.cfg_ast.specs.text.PolicyLines.{is_route_map, has_map_entry, has_entry_seq, put_map_entry}
-use Rattle.cfg_parse.specs.Indexes.{HasSeqs, AreApart, AreRouteMapsIndexed, name_of_route_map, seq_of_map_entry, map_entry_seqs, no_route_map, pair_order}
+use Rattle.cfg_parse.specs.Indexes.{HasSeqs, AreRouteMapsIndexed, name_of_route_map, seq_of_map_entry, map_entry_seqs, no_route_map, pair_order}
+use Rattle.base_kit.specs.Names.{AreApart}
 use Rattle.cfg_parse.specs.InOrder.{by_seq, route_map_in_order, with_last_map_entry}
 use Rattle.cfg_parse.proofs.InOrder.{by_seq_last, by_seq_one, has_by_seq}
 use Rattle.cfg_parse.proofs.Indexed.{position_map, parts_kept, places_kept, places_noted, seqs_changed, seqs_new, apart_last, none_named, has_with, has_without}

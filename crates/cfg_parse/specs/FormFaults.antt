@@ -3,7 +3,7 @@
 -- is judged by the lines before it, and the first line with a fault decides.
 use Rattle.std.specs.Prelude.{◌≡◌, ℕ, Bool, true, false, ◌&&◌, List, [], ◌∷◌, ◌==◌, if◌then◌else◌, Option, Some, None, Result, Ok, Err, bytes_eq}
 use Rattle.std.specs.List.{list_any, cons_option}
-use Rattle.base_kit.specs.Prefixes.{Prefix}
+use Rattle.base_kit.specs.Prefixes.{Prefix, same_prefix}
 use Rattle.cfg_ast.specs.declared.line.Line.{Line}
 use Rattle.cfg_ast.specs.declared.items.Scope.TheVariants as scope
 use Rattle.cfg_ast.specs.declared.items.RouterItem.{RouterItem}
@@ -20,7 +20,7 @@ use Rattle.cfg_ast.specs.text.TextLines.{TextLine}
 use Rattle.cfg_ast.specs.text.RouterForms.{router_item_of}
 use Rattle.cfg_ast.specs.text.PolicyForms.{policy_item_of}
 use Rattle.cfg_ast.specs.text.PolicyLines.{is_policy_line}
-use Rattle.cfg_ast.specs.text.Stanzas.{refusal_of, same_prefix}
+use Rattle.cfg_ast.specs.text.Stanzas.{refusal_of}
 use Rattle.cfg_ast.specs.text.Reading.{at_start, steps, ending, texts_of, network_of_text}
 
 -- ---- what may stand once

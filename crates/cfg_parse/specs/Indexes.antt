@@ -1,5 +1,5 @@
 -- What a set or a map beside a list says of the items of the list.
-use Rattle.std.specs.Prelude.{◌≡◌, ℕ, false, List, [], ◌∷◌, Option, nat_eq, bytes_eq, slice_index_or, map}
+use Rattle.std.specs.Prelude.{◌≡◌, ℕ, List, [], Option, nat_eq, bytes_eq, slice_index_or, map}
 use Rattle.std.specs.List.{list_any, position}
 use Rattle.std.specs.Ordering.{nat_cmp, ordering_then, is_eq}
 use Rattle.std.specs.declared.cmp.Ordering.{Ordering}
@@ -7,6 +7,7 @@ use Rattle.std.specs.Prelude.{String}
 use Rattle.std.specs.BTreeMap as tree
 use Rattle.std.specs.BTreeSet as sorted
 use Rattle.base_kit.specs.Prefixes.{Prefix}
+use Rattle.base_kit.specs.Names.{AreApart}
 use Rattle.base_kit.specs.contracts.prefix.PrefixOrd.TheImpl as prefix_ord
 use Rattle.cfg_ast.specs.declared.bgp.NetLine.{NetLine}
 use Rattle.cfg_ast.specs.declared.bgp.Neighbor.{Neighbor}
@@ -87,11 +88,6 @@ map_entry_seqs m = map seq_of_map_entry m.entries
 -- the set has a place and a number where the item at the place has the number
 abbrev pub HasSeqs : {X : Type 0} → (X → List ℕ) → X → sorted.BTreeSet (ℕ × ℕ) → List X → Type 0
 HasSeqs seqs vacant set items = (place seq : ℕ) → sorted.contains pair_order set (place, seq) ≡ list_any (λ n. nat_eq n seq) (seqs (slice_index_or items place vacant))
-
--- no two are equal
-abbrev pub AreApart : List (List ℕ) → Type 0
-AreApart [] = Unit {0}
-AreApart (name ∷ names) = (list_any (bytes_eq name) names ≡ false) × AreApart names
 
 abbrev pub no_prefix_list : PrefixList
 no_prefix_list = record { name = []; entries = [] }

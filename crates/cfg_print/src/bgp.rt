@@ -1,6 +1,6 @@
 ghost use Rattle.std.specs.Prelude.{◌≡◌, ◌++◌, ◌∷◌, [], OnOk, string_bytes, flat_map, map, codes};
 ghost use Rattle.std.specs.Fmt.{decimal};
-ghost use Rattle.cfg_ast.specs.printing.Printed.{line, line_text, lines_text, line_of, line_if, base_line, network_line, remote_line, peer_shut_line, peer_sends_line, applied_line, neighbor_lines, bgp_lines};
+ghost use Rattle.cfg_ast.specs.printing.Printed.{line, line_text, lines_text, line_of_given, line_if, base_line, network_line, remote_line, peer_shut_line, peer_sends_line, applied_line, neighbor_lines, bgp_lines};
 
 use crate::words::{mask_of, put, put_address, put_closing};
 use base_kit::List;
@@ -17,7 +17,7 @@ fn put_base(text: &mut String, base: &Base) -> Result<(), AllocError>
 }
 
 fn put_some_base(text: &mut String, base: &Option<Base>) -> Result<(), AllocError>
-    ensures { OnOk result (string_bytes text.new ≡ string_bytes text.old ++ lines_text (line_of base_line base.now)) }
+    ensures { OnOk result (string_bytes text.new ≡ string_bytes text.old ++ lines_text (line_of_given base_line base.now)) }
 {
     match base {
         Some(base) => put_base(text, base),
@@ -115,7 +115,7 @@ fn put_if_applied(
     way: &str,
     named: &Option<Named>,
 ) -> Result<(), AllocError>
-    ensures { OnOk result (string_bytes text.new ≡ string_bytes text.old ++ lines_text (line_of (applied_line addr what.now way.now) named.now)) }
+    ensures { OnOk result (string_bytes text.new ≡ string_bytes text.old ++ lines_text (line_of_given (applied_line addr what.now way.now) named.now)) }
 {
     match named {
         Some(named) => put_applied(text, addr, what, way, named),

@@ -1,5 +1,5 @@
 ghost use Rattle.std.specs.Prelude.{◌≡◌, ◌++◌, OnOk, string_bytes, flat_map};
-ghost use Rattle.cfg_ast.specs.printing.Printed.{line_text, lines_text, line_of, line_if, ip_address_line, cost_line, shutdown_line, interface_lines};
+ghost use Rattle.cfg_ast.specs.printing.Printed.{line_text, lines_text, line_of_given, line_if, ip_address_line, cost_line, shutdown_line, interface_lines};
 
 use crate::words::{mask_of, put_address};
 use base_kit::List;
@@ -19,7 +19,7 @@ fn put_address_line(text: &mut String, address: &Address) -> Result<(), AllocErr
 }
 
 fn put_some_address(text: &mut String, address: &Option<Address>) -> Result<(), AllocError>
-    ensures { OnOk result (string_bytes text.new ≡ string_bytes text.old ++ lines_text (line_of ip_address_line address.now)) }
+    ensures { OnOk result (string_bytes text.new ≡ string_bytes text.old ++ lines_text (line_of_given ip_address_line address.now)) }
 {
     match address {
         Some(address) => put_address_line(text, address),
@@ -29,7 +29,7 @@ fn put_some_address(text: &mut String, address: &Option<Address>) -> Result<(), 
 
 #[tactic(auto, unfolding(cfg_ast::specs::printing::Printed::cost_line))]
 fn put_some_cost(text: &mut String, cost: Option<u16>) -> Result<(), AllocError>
-    ensures { OnOk result (string_bytes text.new ≡ string_bytes text.old ++ lines_text (line_of cost_line cost)) }
+    ensures { OnOk result (string_bytes text.new ≡ string_bytes text.old ++ lines_text (line_of_given cost_line cost)) }
 {
     match cost {
         Some(cost) => write!(text, " ip ospf cost {cost}\n"),

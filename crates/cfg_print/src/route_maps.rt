@@ -1,7 +1,7 @@
 ghost use Rattle.std.specs.Prelude.{◌≡◌, ◌++◌, ◌∷◌, [], OnOk, string_bytes, flat_map, map, codes, if◌then◌else◌};
 ghost use Rattle.std.specs.Fmt.{decimal};
 ghost use Rattle.cfg_ast.specs.declared.policy.Change.TheVariants.{Clear, Replace, Append};
-ghost use Rattle.cfg_ast.specs.printing.Printed.{line_text, lines_text, line_of, map_head_line, match_prefixes_line, match_comms_line, lp_line, change_line, delete_line, prepend_line, map_entry_lines, route_map_lines};
+ghost use Rattle.cfg_ast.specs.printing.Printed.{line_text, lines_text, line_of_given, map_head_line, match_prefixes_line, match_comms_line, lp_line, change_line, delete_line, prepend_line, map_entry_lines, route_map_lines};
 ghost use Rattle.cfg_print.specs.Spaced.{spaced_words};
 
 use crate::words::{
@@ -31,7 +31,7 @@ fn put_match_prefixes(text: &mut String, line: &NameLine) -> Result<(), AllocErr
 }
 
 fn put_some_prefixes(text: &mut String, line: &Option<NameLine>) -> Result<(), AllocError>
-    ensures { OnOk result (string_bytes text.new ≡ string_bytes text.old ++ lines_text (line_of match_prefixes_line line.now)) }
+    ensures { OnOk result (string_bytes text.new ≡ string_bytes text.old ++ lines_text (line_of_given match_prefixes_line line.now)) }
 {
     match line {
         Some(line) => put_match_prefixes(text, line),
@@ -58,7 +58,7 @@ fn put_match_comms(text: &mut String, line: &NameLine, exact: bool) -> Result<()
 }
 
 fn put_some_comms(text: &mut String, line: &Option<NameLine>, exact: bool) -> Result<(), AllocError>
-    ensures { OnOk result (string_bytes text.new ≡ string_bytes text.old ++ lines_text (line_of (match_comms_line exact) line.now)) }
+    ensures { OnOk result (string_bytes text.new ≡ string_bytes text.old ++ lines_text (line_of_given (match_comms_line exact) line.now)) }
 {
     match line {
         Some(line) => put_match_comms(text, line, exact),
@@ -75,7 +75,7 @@ fn put_lp(text: &mut String, lp: u32) -> Result<(), AllocError>
 }
 
 fn put_some_lp(text: &mut String, lp: Option<u32>) -> Result<(), AllocError>
-    ensures { OnOk result (string_bytes text.new ≡ string_bytes text.old ++ lines_text (line_of lp_line lp)) }
+    ensures { OnOk result (string_bytes text.new ≡ string_bytes text.old ++ lines_text (line_of_given lp_line lp)) }
 {
     match lp {
         Some(lp) => put_lp(text, lp),
@@ -116,7 +116,7 @@ fn put_change(text: &mut String, change: &Change) -> Result<(), AllocError>
 }
 
 fn put_some_change(text: &mut String, change: &Option<Change>) -> Result<(), AllocError>
-    ensures { OnOk result (string_bytes text.new ≡ string_bytes text.old ++ lines_text (line_of change_line change.now)) }
+    ensures { OnOk result (string_bytes text.new ≡ string_bytes text.old ++ lines_text (line_of_given change_line change.now)) }
 {
     match change {
         Some(change) => put_change(text, change),
@@ -133,7 +133,7 @@ fn put_delete(text: &mut String, list: &Named) -> Result<(), AllocError>
 }
 
 fn put_some_delete(text: &mut String, list: &Option<Named>) -> Result<(), AllocError>
-    ensures { OnOk result (string_bytes text.new ≡ string_bytes text.old ++ lines_text (line_of delete_line list.now)) }
+    ensures { OnOk result (string_bytes text.new ≡ string_bytes text.old ++ lines_text (line_of_given delete_line list.now)) }
 {
     match list {
         Some(list) => put_delete(text, list),
@@ -150,7 +150,7 @@ fn put_prepend(text: &mut String, prepend: &Prepend) -> Result<(), AllocError>
 }
 
 fn put_some_prepend(text: &mut String, prepend: &Option<Prepend>) -> Result<(), AllocError>
-    ensures { OnOk result (string_bytes text.new ≡ string_bytes text.old ++ lines_text (line_of prepend_line prepend.now)) }
+    ensures { OnOk result (string_bytes text.new ≡ string_bytes text.old ++ lines_text (line_of_given prepend_line prepend.now)) }
 {
     match prepend {
         Some(prepend) => put_prepend(text, prepend),

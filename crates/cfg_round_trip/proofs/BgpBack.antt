@@ -18,7 +18,7 @@ use Rattle.cfg_ast.specs.text.TextLines.{TextLine}
 use Rattle.cfg_ast.specs.text.RouterForms.{router_item_of}
 use Rattle.cfg_ast.specs.text.Stanzas.{has_network, has_neighbor, set_neighbor, at_neighbor, peer_of, set_process, set_bgp}
 use Rattle.cfg_ast.specs.text.Reading.{in_bgp, take_inner}
-use Rattle.cfg_ast.specs.printing.Printed.{line_of, line_if, closing, base_line, network_line, remote_line, peer_shut_line, peer_sends_line, applied_line, neighbor_lines}
+use Rattle.cfg_ast.specs.printing.Printed.{line_of_given, line_if, closing, base_line, network_line, remote_line, peer_shut_line, peer_sends_line, applied_line, neighbor_lines}
 use Rattle.cfg_ast.specs.printing.Bare.{bare_named, bare_base, bare_net, bare_neighbor, bare_bgp}
 use Rattle.cfg_ast.specs.printing.WellFormed.{IsBetween, IsNumber, IsWellFormedBase, IsWellFormedNamed, IsWellFormedNetLine, same_net, IsWellFormedNeighbor, same_neighbor, IsWellFormedBgp}
 use Rattle.cfg_round_trip.proofs.ItemsBack.{base_item, network_item, remote_item, peer_shut_item, peer_sends_item, peer_list_item, peer_map_item}
@@ -31,7 +31,7 @@ taken l b c said read set = rw (read, set) refl
 abbrev process_with : ℕ → Option Base → List NetLine → List Neighbor → BgpProcess
 process_with number base networks neighbors = record { number = number; line = 0; base = base; networks = networks; neighbors = neighbors }
 
-base_stage : (number : ℕ) (o : Option Base) → IfSome o IsWellFormedBase → Inner (line_of base_line o) (in_bgp (process_with number None [] [])) (in_bgp (process_with number (option_map bare_base o) [] []))
+base_stage : (number : ℕ) (o : Option Base) → IfSome o IsWellFormedBase → Inner (line_of_given base_line o) (in_bgp (process_with number None [] [])) (in_bgp (process_with number (option_map bare_base o) [] []))
 unfolding base_line set_bgp set_process
 base_stage number None is = inner_none _
 base_stage number (Some base) is = inner_line (base_line base) _ _ refl refl (taken (base_line base) _ _ _ (base_item base is) refl)
@@ -112,28 +112,28 @@ sends_stage b done addr remote shut false is new = inner_none _
 sends_stage b done addr remote shut true is new = inner_line (peer_sends_line addr) _ _ refl refl (peer_taken (peer_sends_line addr) b done _ _ _ (peer_sends_item addr is) refl refl new refl)
 
 list_in_stage : (b : BgpProcess) (done : List Neighbor) (addr remote : ℕ) (shut sends : Bool) (o : Option Named) → IsNumber addr → IsNewTo done addr → IfSome o IsWellFormedNamed
-    → Lasts b done (line_of (applied_line addr (codes "prefix-list") (codes "in")) o) (neighbor_with addr remote shut sends None None None None) (neighbor_with addr remote shut sends (option_map bare_named o) None None None)
+    → Lasts b done (line_of_given (applied_line addr (codes "prefix-list") (codes "in")) o) (neighbor_with addr remote shut sends None None None None) (neighbor_with addr remote shut sends (option_map bare_named o) None None None)
 unfolding applied_line set_neighbor
 list_in_stage b done addr remote shut sends None is new named = inner_none _
 list_in_stage b done addr remote shut sends (Some list) is new named =
     inner_line (applied_line addr (codes "prefix-list") (codes "in") list) _ _ refl refl (peer_taken (applied_line addr (codes "prefix-list") (codes "in") list) b done _ _ _ (peer_list_item addr true list is named) refl refl new refl)
 
 list_out_stage : (b : BgpProcess) (done : List Neighbor) (addr remote : ℕ) (shut sends : Bool) (li o : Option Named) → IsNumber addr → IsNewTo done addr → IfSome o IsWellFormedNamed
-    → Lasts b done (line_of (applied_line addr (codes "prefix-list") (codes "out")) o) (neighbor_with addr remote shut sends li None None None) (neighbor_with addr remote shut sends li (option_map bare_named o) None None)
+    → Lasts b done (line_of_given (applied_line addr (codes "prefix-list") (codes "out")) o) (neighbor_with addr remote shut sends li None None None) (neighbor_with addr remote shut sends li (option_map bare_named o) None None)
 unfolding applied_line set_neighbor
 list_out_stage b done addr remote shut sends li None is new named = inner_none _
 list_out_stage b done addr remote shut sends li (Some list) is new named =
     inner_line (applied_line addr (codes "prefix-list") (codes "out") list) _ _ refl refl (peer_taken (applied_line addr (codes "prefix-list") (codes "out") list) b done _ _ _ (peer_list_item addr false list is named) refl refl new refl)
 
 map_in_stage : (b : BgpProcess) (done : List Neighbor) (addr remote : ℕ) (shut sends : Bool) (li lo o : Option Named) → IsNumber addr → IsNewTo done addr → IfSome o IsWellFormedNamed
-    → Lasts b done (line_of (applied_line addr (codes "route-map") (codes "in")) o) (neighbor_with addr remote shut sends li lo None None) (neighbor_with addr remote shut sends li lo (option_map bare_named o) None)
+    → Lasts b done (line_of_given (applied_line addr (codes "route-map") (codes "in")) o) (neighbor_with addr remote shut sends li lo None None) (neighbor_with addr remote shut sends li lo (option_map bare_named o) None)
 unfolding applied_line set_neighbor
 map_in_stage b done addr remote shut sends li lo None is new named = inner_none _
 map_in_stage b done addr remote shut sends li lo (Some m) is new named =
     inner_line (applied_line addr (codes "route-map") (codes "in") m) _ _ refl refl (peer_taken (applied_line addr (codes "route-map") (codes "in") m) b done _ _ _ (peer_map_item addr true m is named) refl refl new refl)
 
 map_out_stage : (b : BgpProcess) (done : List Neighbor) (addr remote : ℕ) (shut sends : Bool) (li lo mi o : Option Named) → IsNumber addr → IsNewTo done addr → IfSome o IsWellFormedNamed
-    → Lasts b done (line_of (applied_line addr (codes "route-map") (codes "out")) o) (neighbor_with addr remote shut sends li lo mi None) (neighbor_with addr remote shut sends li lo mi (option_map bare_named o))
+    → Lasts b done (line_of_given (applied_line addr (codes "route-map") (codes "out")) o) (neighbor_with addr remote shut sends li lo mi None) (neighbor_with addr remote shut sends li lo mi (option_map bare_named o))
 unfolding applied_line set_neighbor
 map_out_stage b done addr remote shut sends li lo mi None is new named = inner_none _
 map_out_stage b done addr remote shut sends li lo mi (Some m) is new named =
@@ -146,10 +146,10 @@ neighbor_inner b p is new =
     let one = remote_line p.addr p.remote ∷ [] in
     let two = line_if p.shut (peer_shut_line p.addr) in
     let three = line_if p.sends (peer_sends_line p.addr) in
-    let four = line_of (applied_line p.addr (codes "prefix-list") (codes "in")) p.list_in in
-    let five = line_of (applied_line p.addr (codes "prefix-list") (codes "out")) p.list_out in
-    let six = line_of (applied_line p.addr (codes "route-map") (codes "in")) p.map_in in
-    let seven = line_of (applied_line p.addr (codes "route-map") (codes "out")) p.map_out in
+    let four = line_of_given (applied_line p.addr (codes "prefix-list") (codes "in")) p.list_in in
+    let five = line_of_given (applied_line p.addr (codes "prefix-list") (codes "out")) p.list_out in
+    let six = line_of_given (applied_line p.addr (codes "route-map") (codes "in")) p.map_in in
+    let seven = line_of_given (applied_line p.addr (codes "route-map") (codes "out")) p.map_out in
     let li = option_map bare_named p.list_in in
     let lo = option_map bare_named p.list_out in
     let mi = option_map bare_named p.map_in in
@@ -179,11 +179,11 @@ neighbors_stage number base nets done (p ∷ ps) are once new rs d =
 
 -- the lines behind the first
 abbrev pub bgp_rest : BgpProcess → List TextLine
-bgp_rest b = line_of base_line b.base ++ map network_line b.networks ++ flat_map neighbor_lines b.neighbors ++ closing ∷ []
+bgp_rest b = line_of_given base_line b.base ++ map network_line b.networks ++ flat_map neighbor_lines b.neighbors ++ closing ∷ []
 
 pub bgp_inner : (b : BgpProcess) → IsWellFormedBgp b → Inner (bgp_rest b) (in_bgp (process_with b.number None [] [])) (in_bgp (bare_bgp b))
 bgp_inner b is =
-    let one = line_of base_line b.base in
+    let one = line_of_given base_line b.base in
     let two = map network_line b.networks in
     let three = flat_map neighbor_lines b.neighbors in
     let base = option_map bare_base b.base in

@@ -24,7 +24,7 @@ use Rattle.cfg_ast.specs.declared.policy.MapEntry.{MapEntry}
 use Rattle.cfg_ast.specs.declared.policy.Change.{Change}
 use Rattle.cfg_ast.specs.declared.policy.Change.TheVariants.{Clear, Replace, Append}
 use Rattle.cfg_ast.specs.text.Members.{is_end_line, member_on}
-use Rattle.cfg_ast.specs.printing.Printed.{address_text, community_text, act_text, line, inner, closing, line_of, line_if, closed, ip_address_line, cost_line, shutdown_line, interface_lines, base_line, network_line, remote_line, peer_shut_line, peer_sends_line, applied_line, neighbor_lines, bgp_lines, passive_default_line, passive_line, not_passive_line, network_area_line, ospf_lines, prefix_entry_line, prefix_list_lines, community_list_line, community_list_lines, map_head_line, match_prefixes_line, match_comms_line, lp_line, change_line, delete_line, prepend_line, map_entry_lines, route_map_lines, lines_of_some}
+use Rattle.cfg_ast.specs.printing.Printed.{address_text, community_text, act_text, line, inner, closing, line_of_given, line_if, closed, ip_address_line, cost_line, shutdown_line, interface_lines, base_line, network_line, remote_line, peer_shut_line, peer_sends_line, applied_line, neighbor_lines, bgp_lines, passive_default_line, passive_line, not_passive_line, network_area_line, ospf_lines, prefix_entry_line, prefix_list_lines, community_list_line, community_list_lines, map_head_line, match_prefixes_line, match_comms_line, lp_line, change_line, delete_line, prepend_line, map_entry_lines, route_map_lines, lines_of_some}
 use Rattle.cfg_round_trip.proofs.LineBytes.{each_append}
 
 pub record IsOther (l : TextLine) : Type 0 where
@@ -63,7 +63,7 @@ pub all_flat_map : {X : Type 0} (f : X → List TextLine) → ((x : X) → AreOt
 all_flat_map f one [] = tt
 all_flat_map f one (x ∷ xs) = each_append IsOther (f x) (flat_map f xs) (one x) (all_flat_map f one xs)
 
-some_other : {X : Type 0} (write : X → TextLine) → ((x : X) → IsOther (write x)) → (o : Option X) → AreOthers (line_of write o)
+some_other : {X : Type 0} (write : X → TextLine) → ((x : X) → IsOther (write x)) → (o : Option X) → AreOthers (line_of_given write o)
 some_other write one None = tt
 some_other write one (Some x) = (one x, tt)
 
@@ -99,8 +99,8 @@ cost_other cost = inner_other (codes "ip") (codes "ospf" ∷ codes "cost" ∷ de
 pub interface_others : (i : Interface) → AreOthers (interface_lines i)
 unfolding interface_lines
 interface_others i =
-    let a = line_of ip_address_line i.address in
-    let b = line_of cost_line i.cost in
+    let a = line_of_given ip_address_line i.address in
+    let b = line_of_given cost_line i.cost in
     let c = line_if i.shut shutdown_line in
     let two = more a b (some_other ip_address_line address_other i.address) (some_other cost_line cost_other i.cost) in
     let three = more (a ++ b) c two (chosen_other i.shut shutdown_line (inner_other (codes "shutdown") [] refl)) in
@@ -137,10 +137,10 @@ unfolding neighbor_lines
 neighbor_others p =
     let a = line_if p.shut (peer_shut_line p.addr) in
     let b = line_if p.sends (peer_sends_line p.addr) in
-    let c = line_of (applied_line p.addr (codes "prefix-list") (codes "in")) p.list_in in
-    let d = line_of (applied_line p.addr (codes "prefix-list") (codes "out")) p.list_out in
-    let e = line_of (applied_line p.addr (codes "route-map") (codes "in")) p.map_in in
-    let f = line_of (applied_line p.addr (codes "route-map") (codes "out")) p.map_out in
+    let c = line_of_given (applied_line p.addr (codes "prefix-list") (codes "in")) p.list_in in
+    let d = line_of_given (applied_line p.addr (codes "prefix-list") (codes "out")) p.list_out in
+    let e = line_of_given (applied_line p.addr (codes "route-map") (codes "in")) p.map_in in
+    let f = line_of_given (applied_line p.addr (codes "route-map") (codes "out")) p.map_out in
     let two = more a b (chosen_other p.shut (peer_shut_line p.addr) (shut_other p.addr)) (chosen_other p.sends (peer_sends_line p.addr) (sends_other p.addr)) in
     let three = more (a ++ b) c two (some_other (applied_line p.addr (codes "prefix-list") (codes "in")) (applied_other p.addr (codes "prefix-list") (codes "in")) p.list_in) in
     let four = more (a ++ b ++ c) d three (some_other (applied_line p.addr (codes "prefix-list") (codes "out")) (applied_other p.addr (codes "prefix-list") (codes "out")) p.list_out) in
@@ -150,7 +150,7 @@ neighbor_others p =
 pub bgp_others : (b : BgpProcess) → AreOthers (bgp_lines b)
 unfolding bgp_lines
 bgp_others b =
-    let x = line_of base_line b.base in
+    let x = line_of_given base_line b.base in
     let y = map network_line b.networks in
     let z = flat_map neighbor_lines b.neighbors in
     let two = more x y (some_other base_line base_other b.base) (all_map network_line network_other b.networks) in
@@ -232,12 +232,12 @@ prepend_other p = inner_other (codes "set") (codes "as-path" ∷ codes "prepend"
 entry_others : (name : List ℕ) (e : MapEntry) → AreOthers (map_entry_lines name e)
 unfolding map_entry_lines
 entry_others name e =
-    let a = line_of match_prefixes_line e.prefixes in
-    let b = line_of (match_comms_line e.exact) e.comms in
-    let c = line_of lp_line e.lp in
-    let d = line_of change_line e.change in
-    let f = line_of delete_line e.delete in
-    let g = line_of prepend_line e.prepend in
+    let a = line_of_given match_prefixes_line e.prefixes in
+    let b = line_of_given (match_comms_line e.exact) e.comms in
+    let c = line_of_given lp_line e.lp in
+    let d = line_of_given change_line e.change in
+    let f = line_of_given delete_line e.delete in
+    let g = line_of_given prepend_line e.prepend in
     let two = more a b (some_other match_prefixes_line match_prefixes_other e.prefixes) (some_other (match_comms_line e.exact) (match_comms_other e.exact) e.comms) in
     let three = more (a ++ b) c two (some_other lp_line lp_other e.lp) in
     let four = more (a ++ b ++ c) d three (some_other change_line change_other e.change) in

@@ -27,7 +27,7 @@ use Rattle.cfg_ast.specs.declared.policy.RouteMap.{RouteMap}
 use Rattle.cfg_ast.specs.declared.policy.MapEntry.{MapEntry}
 use Rattle.cfg_ast.specs.declared.policy.Change.{Change}
 use Rattle.cfg_ast.specs.declared.policy.Change.TheVariants.{Clear, Replace, Append}
-use Rattle.cfg_ast.specs.printing.Printed.{address_text, community_text, prefix_text, act_text, line, closing, line_of, line_if, closed, ip_address_line, cost_line, shutdown_line, interface_lines, base_line, network_line, peer_line, remote_line, peer_shut_line, peer_sends_line, applied_line, neighbor_lines, bgp_lines, passive_default_line, passive_line, not_passive_line, network_area_line, ospf_lines, bound_words, prefix_entry_line, prefix_list_lines, community_list_name, community_list_line, community_list_lines, map_head_line, match_prefixes_line, match_comms_line, lp_line, change_line, delete_line, prepend_line, map_entry_lines, route_map_lines, lines_of_some, member_line, router_lines, routers_lines, printed_lines}
+use Rattle.cfg_ast.specs.printing.Printed.{address_text, community_text, prefix_text, act_text, line, closing, line_of_given, line_if, closed, ip_address_line, cost_line, shutdown_line, interface_lines, base_line, network_line, peer_line, remote_line, peer_shut_line, peer_sends_line, applied_line, neighbor_lines, bgp_lines, passive_default_line, passive_line, not_passive_line, network_area_line, ospf_lines, bound_words, prefix_entry_line, prefix_list_lines, community_list_name, community_list_line, community_list_lines, map_head_line, match_prefixes_line, match_comms_line, lp_line, change_line, delete_line, prepend_line, map_entry_lines, route_map_lines, lines_of_some, member_line, router_lines, routers_lines, printed_lines}
 use Rattle.cfg_ast.specs.printing.WellFormed.{IsBetween, IsNumber, IsListName, IsCommunitySet, IsWellFormedAddress, IsWellFormedInterface, IsWellFormedNetLine, IsWellFormedNamed, IsWellFormedNeighbor, IsWellFormedBase, IsWellFormedBgp, IsWellFormedArea, IsInterfaceName, IsWellFormedOspf, AreBounds, IsWellFormedPrefixEntry, IsWellFormedPrefixList, IsWellFormedCommunityLine, IsWellFormedCommunityList, IsWellFormedNameLine, IsWellFormedChange, IsWellFormedPrepend, IsWellFormedMapEntry, IsWellFormedRouteMap, IsWellFormedRouter, IsWellFormed}
 use Rattle.cfg_round_trip.specs.Notes.{IsRouterName, AreNotes}
 use Rattle.cfg_round_trip.proofs.PrintedLines.{IsPrintedWord, IsPrintedLine}
@@ -50,7 +50,7 @@ AreLines ls = AllByRecursion IsPrintedLine ls
 abbrev AreWords : List (List ℕ) → Type 0
 AreWords ws = AllByRecursion IsPrintedWord ws
 
-some_line : {X : Type 0} (P : X → Type 0) (write : X → TextLine) → ((x : X) → P x → IsPrintedLine (write x)) → (o : Option X) → IfSome o P → AreLines (line_of write o)
+some_line : {X : Type 0} (P : X → Type 0) (write : X → TextLine) → ((x : X) → P x → IsPrintedLine (write x)) → (o : Option X) → IfSome o P → AreLines (line_of_given write o)
 some_line P write one None is = tt
 some_line P write one (Some x) is = (one x is, tt)
 
@@ -98,8 +98,8 @@ interface_is i is =
     let address = some_line IsWellFormedAddress ip_address_line address_is i.address is.address in
     let cost = some_line (IsBetween 1 65535) cost_line cost_is i.cost is.cost in
     let shut = chosen_line i.shut shutdown_line shutdown_is in
-    let a = line_of ip_address_line i.address in
-    let c = line_of cost_line i.cost in
+    let a = line_of_given ip_address_line i.address in
+    let c = line_of_given cost_line i.cost in
     let s = line_if i.shut shutdown_line in
     (head, each_append IsPrintedLine (a ++ c ++ s) (closing ∷ []) (each_append IsPrintedLine (a ++ c) s (each_append IsPrintedLine a c address cost) shut) last_closing)
 
@@ -143,10 +143,10 @@ peer_is p is =
     let outward = word_as_tested (codes "out") refl in
     let a = line_if p.shut (peer_shut_line p.addr) in
     let b = line_if p.sends (peer_sends_line p.addr) in
-    let c = line_of (applied_line p.addr (codes "prefix-list") (codes "in")) p.list_in in
-    let d = line_of (applied_line p.addr (codes "prefix-list") (codes "out")) p.list_out in
-    let e = line_of (applied_line p.addr (codes "route-map") (codes "in")) p.map_in in
-    let f = line_of (applied_line p.addr (codes "route-map") (codes "out")) p.map_out in
+    let c = line_of_given (applied_line p.addr (codes "prefix-list") (codes "in")) p.list_in in
+    let d = line_of_given (applied_line p.addr (codes "prefix-list") (codes "out")) p.list_out in
+    let e = line_of_given (applied_line p.addr (codes "route-map") (codes "in")) p.map_in in
+    let f = line_of_given (applied_line p.addr (codes "route-map") (codes "out")) p.map_out in
     let is_c = some_line IsWellFormedNamed (applied_line p.addr (codes "prefix-list") (codes "in")) (applied_is p.addr (codes "prefix-list") (codes "in") is.addr list inward) p.list_in is.list_in in
     let is_d = some_line IsWellFormedNamed (applied_line p.addr (codes "prefix-list") (codes "out")) (applied_is p.addr (codes "prefix-list") (codes "out") is.addr list outward) p.list_out is.list_out in
     let is_e = some_line IsWellFormedNamed (applied_line p.addr (codes "route-map") (codes "in")) (applied_is p.addr (codes "route-map") (codes "in") is.addr map inward) p.map_in is.map_in in
@@ -161,7 +161,7 @@ bgp_is : (b : BgpProcess) → IsWellFormedBgp b → AreLines (bgp_lines b)
 unfolding bgp_lines
 bgp_is b is =
     let head = words_line 0 (codes "router") (codes "bgp" ∷ decimal b.number ∷ []) (word_as_tested (codes "router") refl) (word_as_tested (codes "bgp") refl, (decimal_prints b.number is.number.1, tt)) in
-    let x = line_of base_line b.base in
+    let x = line_of_given base_line b.base in
     let y = map network_line b.networks in
     let z = flat_map neighbor_lines b.neighbors in
     let base = some_line IsWellFormedBase base_line base_is b.base is.base in
@@ -299,12 +299,12 @@ prepend_is p is =
 entry_is : (name : List ℕ) → IsListName name → (e : MapEntry) → IsWellFormedMapEntry e → AreLines (map_entry_lines name e)
 unfolding map_entry_lines
 entry_is name named e is =
-    let a = line_of match_prefixes_line e.prefixes in
-    let b = line_of (match_comms_line e.exact) e.comms in
-    let c = line_of lp_line e.lp in
-    let d = line_of change_line e.change in
-    let f = line_of delete_line e.delete in
-    let g = line_of prepend_line e.prepend in
+    let a = line_of_given match_prefixes_line e.prefixes in
+    let b = line_of_given (match_comms_line e.exact) e.comms in
+    let c = line_of_given lp_line e.lp in
+    let d = line_of_given change_line e.change in
+    let f = line_of_given delete_line e.delete in
+    let g = line_of_given prepend_line e.prepend in
     let two = each_append IsPrintedLine a b (some_line IsWellFormedNameLine match_prefixes_line match_prefixes_is e.prefixes is.prefixes) (some_line IsWellFormedNameLine (match_comms_line e.exact) (match_comms_is e.exact) e.comms is.comms) in
     let three = each_append IsPrintedLine (a ++ b) c two (some_line IsNumber lp_line lp_is e.lp is.lp) in
     let four = each_append IsPrintedLine (a ++ b ++ c) d three (some_line IsWellFormedChange change_line change_is e.change is.change) in

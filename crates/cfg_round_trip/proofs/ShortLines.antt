@@ -28,7 +28,7 @@ use Rattle.cfg_ast.specs.declared.policy.RouteMap.{RouteMap}
 use Rattle.cfg_ast.specs.declared.policy.MapEntry.{MapEntry}
 use Rattle.cfg_ast.specs.declared.policy.Change.{Change}
 use Rattle.cfg_ast.specs.declared.policy.Change.TheVariants.{Clear, Replace, Append}
-use Rattle.cfg_ast.specs.printing.Printed.{address_text, community_text, prefix_text, act_text, line, closing, line_of, line_if, closed, ip_address_line, cost_line, shutdown_line, interface_lines, base_line, network_line, remote_line, peer_shut_line, peer_sends_line, applied_line, neighbor_lines, bgp_lines, passive_default_line, passive_line, not_passive_line, network_area_line, ospf_lines, bound_words, prefix_entry_line, prefix_list_lines, community_list_name, community_list_line, community_list_lines, map_head_line, match_prefixes_line, match_comms_line, lp_line, change_line, delete_line, prepend_line, map_entry_lines, route_map_lines, lines_of_some, member_line, router_lines, routers_lines, printed_lines}
+use Rattle.cfg_ast.specs.printing.Printed.{address_text, community_text, prefix_text, act_text, line, closing, line_of_given, line_if, closed, ip_address_line, cost_line, shutdown_line, interface_lines, base_line, network_line, remote_line, peer_shut_line, peer_sends_line, applied_line, neighbor_lines, bgp_lines, passive_default_line, passive_line, not_passive_line, network_area_line, ospf_lines, bound_words, prefix_entry_line, prefix_list_lines, community_list_name, community_list_line, community_list_lines, map_head_line, match_prefixes_line, match_comms_line, lp_line, change_line, delete_line, prepend_line, map_entry_lines, route_map_lines, lines_of_some, member_line, router_lines, routers_lines, printed_lines}
 use Rattle.cfg_ast.specs.printing.WellFormed.{IsBetween, IsNumber, IsListName, IsInterfaceName, IsCommunitySet, AreBounds, IsWellFormedBase, IsWellFormedAddress, IsWellFormedInterface, IsWellFormedNetLine, IsWellFormedNamed, IsWellFormedNeighbor, IsWellFormedBgp, IsWellFormedArea, IsWellFormedOspf, IsWellFormedPrefixEntry, IsWellFormedPrefixList, IsWellFormedCommunityLine, IsWellFormedCommunityList, IsWellFormedChange, IsWellFormedPrepend, IsWellFormedMapEntry, IsWellFormedRouteMap, IsWellFormedRouter, IsWellFormed}
 use Rattle.cfg_given.proofs.Each.{all_both}
 use Rattle.cfg_round_trip.specs.Notes.{IsRouterName, AreNotes}
@@ -45,7 +45,7 @@ AreShort ls = AllByRecursion IsShortLine ls
 closing_short : IsShortLine closing
 closing_short = omega arith
 
-some_line : {X : Type 0} (P : X → Type 0) (write : X → TextLine) → ((x : X) → P x → IsShortLine (write x)) → (o : Option X) → IfSome o P → AreShort (line_of write o)
+some_line : {X : Type 0} (P : X → Type 0) (write : X → TextLine) → ((x : X) → P x → IsShortLine (write x)) → (o : Option X) → IfSome o P → AreShort (line_of_given write o)
 some_line P write one None is = tt
 some_line P write one (Some x) is = (one x is, tt)
 
@@ -78,8 +78,8 @@ cost_line_short n is = light_line 1 (codes "ip" ∷ codes "ospf" ∷ codes "cost
 interface_short : (i : Interface) → IsWellFormedInterface i → AreShort (interface_lines i)
 unfolding interface_lines
 interface_short i is =
-    let a = line_of ip_address_line i.address in
-    let b = line_of cost_line i.cost in
+    let a = line_of_given ip_address_line i.address in
+    let b = line_of_given cost_line i.cost in
     let c = line_if i.shut shutdown_line in (
       light_line 0 (codes "interface" ∷ i.name ∷ []) (omega (arith, interface_name_short i.name is.name)),
       pieces (a ++ b ++ c) (closing ∷ []) (pieces (a ++ b) c (pieces a b (some_line IsWellFormedAddress ip_address_line address_line_short i.address is.address) (some_line (IsBetween 1 65535) cost_line cost_line_short i.cost is.cost)) (line_when i.shut shutdown_line (light_line 1 (codes "shutdown" ∷ []) (omega arith)))) (closing_short, tt),
@@ -119,10 +119,10 @@ neighbor_short p is =
     let one = remote_line p.addr p.remote ∷ [] in
     let two = line_if p.shut (peer_shut_line p.addr) in
     let three = line_if p.sends (peer_sends_line p.addr) in
-    let four = line_of (applied_line p.addr (codes "prefix-list") (codes "in")) p.list_in in
-    let five = line_of (applied_line p.addr (codes "prefix-list") (codes "out")) p.list_out in
-    let six = line_of (applied_line p.addr (codes "route-map") (codes "in")) p.map_in in
-    let seven = line_of (applied_line p.addr (codes "route-map") (codes "out")) p.map_out in
+    let four = line_of_given (applied_line p.addr (codes "prefix-list") (codes "in")) p.list_in in
+    let five = line_of_given (applied_line p.addr (codes "prefix-list") (codes "out")) p.list_out in
+    let six = line_of_given (applied_line p.addr (codes "route-map") (codes "in")) p.map_in in
+    let seven = line_of_given (applied_line p.addr (codes "route-map") (codes "out")) p.map_out in
     pieces (one ++ two ++ three ++ four ++ five ++ six) seven
     (pieces (one ++ two ++ three ++ four ++ five) six
     (pieces (one ++ two ++ three ++ four) five
@@ -139,7 +139,7 @@ bgp_short : (b : BgpProcess) → IsWellFormedBgp b → AreShort (bgp_lines b)
 unfolding bgp_lines
 bgp_short b is =
     let high = is.number.1 in
-    let one = line_of base_line b.base in
+    let one = line_of_given base_line b.base in
     let two = map network_line b.networks in
     let three = flat_map neighbor_lines b.neighbors in (
       light_line 0 (codes "router" ∷ codes "bgp" ∷ decimal b.number ∷ []) (omega (arith, number_short b.number high)),
@@ -266,12 +266,12 @@ record IsGoodEntry (e : MapEntry) : Type 0 where
 entry_short : (name : List ℕ) → IsListName name → (e : MapEntry) → IsGoodEntry e → AreShort (map_entry_lines name e)
 unfolding map_entry_lines
 entry_short name named e is =
-    let one = line_of match_prefixes_line e.prefixes in
-    let two = line_of (match_comms_line e.exact) e.comms in
-    let three = line_of lp_line e.lp in
-    let four = line_of change_line e.change in
-    let five = line_of delete_line e.delete in
-    let six = line_of prepend_line e.prepend in (
+    let one = line_of_given match_prefixes_line e.prefixes in
+    let two = line_of_given (match_comms_line e.exact) e.comms in
+    let three = line_of_given lp_line e.lp in
+    let four = line_of_given change_line e.change in
+    let five = line_of_given delete_line e.delete in
+    let six = line_of_given prepend_line e.prepend in (
       map_head_short name e named is.formed.seq,
       pieces (one ++ two ++ three ++ four ++ five ++ six) (closing ∷ [])
           (pieces (one ++ two ++ three ++ four ++ five) six

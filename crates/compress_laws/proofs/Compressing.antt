@@ -25,7 +25,7 @@ use Rattle.srp_core.specs.Stability.{IsStable}
 use Rattle.srp_quotient.specs.Groups.{quotient_problem}
 use Rattle.srp_quotient.specs.Laws.{QuotientIsQuotient}
 use Rattle.compress_laws.specs.Compressed.{IsCompressedFor, Compresses}
-use Rattle.compress_laws.specs.Laws.{text_of}
+use Rattle.compress_laws.specs.Laws.{compressed_text}
 use Rattle.emit_forms.proofs.Groups.{problem_of}
 use Rattle.compress_laws.proofs.Names.{names_noted, names_read}
 
@@ -78,7 +78,7 @@ module _ (g : Given) (e : Plan) (plan : IsPlan e) (coarse : IsCoarsest e.problem
   unfolding reading_of
   accepted_text read bytes reads ok = rw reads ok
 
-  pub compresses : HasFewLines (emitted e) (notes_of e) → Compresses e.network e.class (text_of e)
+  pub compresses : HasFewLines (emitted e) (notes_of e) → Compresses e.network e.class (compressed_text e)
   compresses few =
       let can = g.can_be_printed e plan in
       let back = g.read_back (emitted e) (notes_of e) can.well_formed can.notes few can.short in
@@ -90,7 +90,7 @@ module _ (g : Given) (e : Plan) (plan : IsPlan e) (coarse : IsCoarsest e.problem
         count = e.count;
         numbered = plan.numbered;
         read = back.read;
-        reads = accepted_text back.read (text_of e) back.reads (g.accepted back.read stands.faultless);
+        reads = accepted_text back.read (compressed_text e) back.reads (g.accepted back.read stands.faultless);
         routers = as_many back.read back.same;
         names = names_read e some.prefix back.read some.of (stands.problem some.prefix some.has);
         members = g.members_back (emitted e) (notes_of e) can.well_formed can.notes ∙ names_noted e some.prefix some.of;

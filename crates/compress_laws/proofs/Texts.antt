@@ -6,7 +6,7 @@ use Rattle.cfg_ast.specs.declared.classes.DestClass.{DestClass}
 use Rattle.cfg_ast.specs.declared.network.Network.{Network}
 use Rattle.cfg_print.specs.Prints.{is_too_long, count_newlines}
 use Rattle.compress_laws.specs.Compressed.{Compresses}
-use Rattle.compress_laws.specs.Laws.{text_of, TextCompresses, PlanFits, PlanCompresses}
+use Rattle.compress_laws.specs.Laws.{compressed_text, TextCompresses, PlanFits, PlanCompresses}
 
 second : (a b : Bool) → (a || b) ≡ false → b ≡ false
 second true b e = absurd cc
@@ -18,6 +18,6 @@ few bs e = let f = second (nat_lt 16777216 (length bs)) (nat_lt 1000000 (count_n
 
 pub plan_compresses : PlanFits → TextCompresses → PlanCompresses
 plan_compresses fits compresses n class e given ok has is apart short =
-    subst (λ (c : DestClass). Compresses n c (text_of e)) is.class_is
-    (subst (λ (m : Network). Compresses m e.class (text_of e)) is.network_is
-    (compresses e (fits n class e given ok has is apart) is.coarsest (few (text_of e) short)))
+    subst (λ (c : DestClass). Compresses n c (compressed_text e)) is.class_is
+    (subst (λ (m : Network). Compresses m e.class (compressed_text e)) is.network_is
+    (compresses e (fits n class e given ok has is apart) is.coarsest (few (compressed_text e) short)))

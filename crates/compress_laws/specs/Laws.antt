@@ -17,12 +17,12 @@ use Rattle.config_emit.specs.Laws.{IsPlan}
 use Rattle.compress_laws.specs.Compressed.{Compresses}
 
 -- the text that is written of a plan
-abbrev pub text_of : Plan → List ℕ
-text_of e = printed (emitted e) (notes_of e)
+abbrev pub compressed_text : Plan → List ℕ
+compressed_text e = printed (emitted e) (notes_of e)
 
 -- Where its groups are the coarsest ones and it has at most 1,000,000 lines, it compresses the network.
 abbrev pub TextCompresses : Type 0
-TextCompresses = (e : Plan) → IsPlan e → IsCoarsest e.problem e.groups → HasFewLines (emitted e) (notes_of e) → Compresses e.network e.class (text_of e)
+TextCompresses = (e : Plan) → IsPlan e → IsCoarsest e.problem e.groups → HasFewLines (emitted e) (notes_of e) → Compresses e.network e.class (compressed_text e)
 
 -- A plan of a class of a network that may be used fits together, where no prefix of the class meets the
 -- addresses of the links.
@@ -31,4 +31,4 @@ PlanFits = (n : Network) (class : DestClass) (e : Plan) → ∥ IsGiven n ∥₁
 
 -- A text of the plan of a class of a network that may be used compresses that network.
 abbrev pub PlanCompresses : Type 0
-PlanCompresses = (n : Network) (class : DestClass) (e : Plan) → ∥ IsGiven n ∥₁ → IsFaultless n → Contains (classes_of n) class → IsPlanOf n class e → pool_line n class ≡ None → is_too_long (text_of e) ≡ false → Compresses n class (text_of e)
+PlanCompresses = (n : Network) (class : DestClass) (e : Plan) → ∥ IsGiven n ∥₁ → IsFaultless n → Contains (classes_of n) class → IsPlanOf n class e → pool_line n class ≡ None → is_too_long (compressed_text e) ≡ false → Compresses n class (compressed_text e)

@@ -27,11 +27,11 @@ use Rattle.srp_core.specs.Problem.{initial, number}
 use Rattle.srp_quotient.specs.Groups.{first_member, touches, quotient_problem}
 use Rattle.config_emit.specs.ActLinks.{act_to, act_link}
 use Rattle.config_emit.specs.BgpSteps.{announced, neighbor_of}
-use Rattle.config_emit.specs.Emitted.{net_line, net_lines, base_of, base_line, neighbor_at, process_of, bgp_of, ospf_of, emitted_router}
+use Rattle.config_emit.specs.Emitted.{class_line_of, net_lines, base_of, written_base, neighbor_at, process_of, written_bgp, ospf_of, emitted_router}
 use Rattle.config_emit.specs.GroupMaps.{plain_now, plains_now}
 use Rattle.config_emit.specs.Interfaces.{class_interfaces, is_at, links_at, link_interfaces, link_address, side_number}
 use Rattle.config_emit.specs.MapNumbers.{map_number, KnowsClosed, AreKnown}
-use Rattle.config_emit.specs.Maps.{other_end, into_map, out_map, sends_by, maps_at, maps_over, maps_of, name_of_map, lists_of_map, written_map}
+use Rattle.config_emit.specs.Maps.{other_end, act_in_map, act_out_map, sends_by, maps_at, maps_over, maps_of, name_of_map, lists_of_map, written_map}
 use Rattle.config_emit.specs.Plan.{Plan, small, act_into}
 use Rattle.config_emit.specs.RouterMaps.{use_now, use_of, with_uses, act_into_end, uses_on, use_name}
 use Rattle.config_emit.specs.Sources.{IsSound, HasNumbers}
@@ -42,31 +42,31 @@ use Rattle.config_emit.proofs.OspfRouters.{starts_same}
 
 -- ---- `network` lines
 
-no_lines : (r : Router) (ps : List Prefix) → ((p : Prefix) → In ps p → is_some (initial_route r p) ≡ false) → filter_map (net_line r) ps ≡ []
+no_lines : (r : Router) (ps : List Prefix) → ((p : Prefix) → In ps p → is_some (initial_route r p) ≡ false) → filter_map (class_line_of r) ps ≡ []
 no_lines r [] none = refl
-no_lines r (p ∷ ps) none = ap (λ b. cons_option (cond b (Some (announced p)) None) (filter_map (net_line r) ps)) (none p (inl refl)) ∙ no_lines r ps (λ o at. none o (inr at))
+no_lines r (p ∷ ps) none = ap (λ b. cons_option (cond b (Some (announced p)) None) (filter_map (class_line_of r) ps)) (none p (inl refl)) ∙ no_lines r ps (λ o at. none o (inr at))
 
-all_lines : (r : Router) (ps : List Prefix) → ((p : Prefix) → In ps p → is_some (initial_route r p) ≡ true) → map announced ps ≡ filter_map (net_line r) ps
+all_lines : (r : Router) (ps : List Prefix) → ((p : Prefix) → In ps p → is_some (initial_route r p) ≡ true) → map announced ps ≡ filter_map (class_line_of r) ps
 all_lines r [] some = refl
 all_lines r (p ∷ ps) some =
     ap (λ ls. announced p ∷ ls) (all_lines r ps (λ o at. some o (inr at)))
-    ∙ sym (ap (λ b. cons_option (cond b (Some (announced p)) None) (filter_map (net_line r) ps)) (some p (inl refl)))
+    ∙ sym (ap (λ b. cons_option (cond b (Some (announced p)) None) (filter_map (class_line_of r) ps)) (some p (inl refl)))
 
 pub no_net_lines : (e : Plan) (g : ℕ) → IsSound e → is_some (initial e.problem (first_member e.groups g)) ≡ false → [] ≡ net_lines e g
 no_net_lines e g sound none = step (slice_get e.network.routers (first_member e.groups g)) refl where
-  step : (o : Option Router) → slice_get e.network.routers (first_member e.groups g) ≡ o → [] ≡ option_map_or (λ r. filter_map (net_line r) e.class.prefixes) o []
+  step : (o : Option Router) → slice_get e.network.routers (first_member e.groups g) ≡ o → [] ≡ option_map_or (λ r. filter_map (class_line_of r) e.class.prefixes) o []
   step None at = refl
   step (Some r) at = sym (no_lines r e.class.prefixes (λ p has. starts_same e p (first_member e.groups g) r sound (contains_in e.class.prefixes p has) at ∙ none))
 
 pub net_lines_are : (e : Plan) (g : ℕ) (r : Router) → IsSound e → slice_get e.network.routers (first_member e.groups g) ≡ Some r → is_some (initial e.problem (first_member e.groups g)) ≡ true → map announced e.class.prefixes ≡ net_lines e g
 net_lines_are e g r sound at some =
     all_lines r e.class.prefixes (λ p has. starts_same e p (first_member e.groups g) r sound (contains_in e.class.prefixes p has) at ∙ some)
-    ∙ sym (ap (λ o. option_map_or (λ r. filter_map (net_line r) e.class.prefixes) o []) at)
+    ∙ sym (ap (λ o. option_map_or (λ r. filter_map (class_line_of r) e.class.prefixes) o []) at)
 
-pub base_is : (e : Plan) (g : ℕ) (r : Router) → slice_get e.network.routers (first_member e.groups g) ≡ Some r → base_of (net_lines e g) r ≡ base_line e g
+pub base_is : (e : Plan) (g : ℕ) (r : Router) → slice_get e.network.routers (first_member e.groups g) ≡ Some r → base_of (net_lines e g) r ≡ written_base e g
 base_is e g r at = sym (ap (λ o. option_map_or (base_of (net_lines e g)) o None) at)
 
-pub no_base : (e : Plan) (g : ℕ) → slice_get e.network.routers (first_member e.groups g) ≡ None → None ≡ base_line e g
+pub no_base : (e : Plan) (g : ℕ) → slice_get e.network.routers (first_member e.groups g) ≡ None → None ≡ written_base e g
 no_base e g at = sym (ap (λ o. option_map_or (base_of (net_lines e g)) o None) at)
 
 -- ---- maps
@@ -129,12 +129,12 @@ neighbor_is e known numbers closed g is are knows (t, l) at =
     let us = maps_of e g in
     let addr = (link_address t (1 - side_number g l)).addr in
     let remote = number (small e) far in
-    let in_name = name_is_used known us (into_map (act_into_end e.problem.acts g x)) (knows_into known e.problem.acts numbers closed are knows (act_to g x)) all in
-    let out_name = out_name_is_used known us (out_map (act_into_end e.problem.acts far x)) (knows_out known e.problem.acts numbers are (act_to far x)) all in
-    ap (λ n. made addr remote (sends_by (act_into_end e.problem.acts far x)) n (option_map (use_name (map (use_of known) us)) (option_and_then (map_number known) (out_map (act_into_end e.problem.acts far x))))) in_name
-    ∙ ap (λ n. made addr remote (sends_by (act_into_end e.problem.acts far x)) (name_of_map us (Some (into_map (act_into_end e.problem.acts g x)))) n) out_name
-    ∙ ap (λ o. made addr remote (sends_by o) (name_of_map us (Some (into_map (act_into_end e.problem.acts g x)))) (name_of_map us (out_map o))) far_is
-    ∙ ap (λ o. made addr remote (sends_by (act_into e far l)) (name_of_map us (Some (into_map o))) (name_of_map us (out_map (act_into e far l)))) here_is
+    let in_name = name_is_used known us (act_in_map (act_into_end e.problem.acts g x)) (knows_into known e.problem.acts numbers closed are knows (act_to g x)) all in
+    let out_name = out_name_is_used known us (act_out_map (act_into_end e.problem.acts far x)) (knows_out known e.problem.acts numbers are (act_to far x)) all in
+    ap (λ n. made addr remote (sends_by (act_into_end e.problem.acts far x)) n (option_map (use_name (map (use_of known) us)) (option_and_then (map_number known) (act_out_map (act_into_end e.problem.acts far x))))) in_name
+    ∙ ap (λ n. made addr remote (sends_by (act_into_end e.problem.acts far x)) (name_of_map us (Some (act_in_map (act_into_end e.problem.acts g x)))) n) out_name
+    ∙ ap (λ o. made addr remote (sends_by o) (name_of_map us (Some (act_in_map (act_into_end e.problem.acts g x)))) (name_of_map us (act_out_map o))) far_is
+    ∙ ap (λ o. made addr remote (sends_by (act_into e far l)) (name_of_map us (Some (act_in_map o))) (name_of_map us (act_out_map (act_into e far l)))) here_is
 
 mapped_agree : {X Y Z : Type 0} (f : Y → Z) (draw : X → Y) (h : X → Z) (p : X → Bool) (xs : List X) → ((x : X) → p x ≡ true → f (draw x) ≡ h x) → map f (map draw (filter p xs)) ≡ map h (filter p xs)
 mapped_agree f draw h p [] same = refl
@@ -151,20 +151,20 @@ neighbors_are e known numbers closed g is are knows =
 
 -- ---- the process
 
-pub no_process : (e : Plan) (g : ℕ) → number (small e) g ≡ 0 → None ≡ bgp_of OverBgp e g
+pub no_process : (e : Plan) (g : ℕ) → number (small e) g ≡ 0 → None ≡ written_bgp OverBgp e g
 no_process e g none = sym (ap (λ b. cond b None (Some (process_of e g))) (zero_test (number (small e) g) none))
 
 processed : ℕ → Option Base → List NetLine → List Neighbor → BgpProcess
 processed n base networks neighbors = record { number = n; line = 0; base = base; networks = networks; neighbors = neighbors }
 
-pub process_is : (e : Plan) (g n : ℕ) (base : Option Base) (networks : List NetLine) (neighbors : List Neighbor) → (number (small e) g ≡ 0 → ⊥) → n ≡ number (small e) g → base ≡ base_line e g → networks ≡ net_lines e g → neighbors ≡ map (neighbor_at e g) (links_at e g)
-    → Some (let p : BgpProcess = record { number = n; line = 0; base = base; networks = networks; neighbors = neighbors } in p) ≡ bgp_of OverBgp e g
+pub process_is : (e : Plan) (g n : ℕ) (base : Option Base) (networks : List NetLine) (neighbors : List Neighbor) → (number (small e) g ≡ 0 → ⊥) → n ≡ number (small e) g → base ≡ written_base e g → networks ≡ net_lines e g → neighbors ≡ map (neighbor_at e g) (links_at e g)
+    → Some (let p : BgpProcess = record { number = n; line = 0; base = base; networks = networks; neighbors = neighbors } in p) ≡ written_bgp OverBgp e g
 unfolding processed
 process_is e g n base networks neighbors some numbered base_is networks_are neighbors_are =
     ap (λ k. Some (processed k base networks neighbors)) numbered
     ∙ ap (λ b. Some (processed (number (small e) g) b networks neighbors)) base_is
-    ∙ ap (λ ns. Some (processed (number (small e) g) (base_line e g) ns neighbors)) networks_are
-    ∙ ap (λ ns. Some (processed (number (small e) g) (base_line e g) (net_lines e g) ns)) neighbors_are
+    ∙ ap (λ ns. Some (processed (number (small e) g) (written_base e g) ns neighbors)) networks_are
+    ∙ ap (λ ns. Some (processed (number (small e) g) (written_base e g) (net_lines e g) ns)) neighbors_are
     ∙ sym (ap (λ b. cond b None (Some (process_of e g))) (more_test (number (small e) g) some))
 
 -- ---- the router
@@ -173,7 +173,7 @@ router : List ℕ → List Interface → Option BgpProcess → Option OspfProces
 router name interfaces bgp ospf lists maps = record { name = name; line = 0; interfaces = interfaces; bgp = bgp; ospf = ospf; prefix_lists = []; community_lists = lists; route_maps = maps }
 
 pub router_is : (e : Plan) (g : ℕ) (name : List ℕ) (interfaces : List Interface) (bgp : Option BgpProcess) (prefix_lists : List PrefixList) (lists : List CommunityList) (maps : List RouteMap) → e.problem.protocol ≡ OverBgp
-    → name ≡ slice_index_or (small e).names g [] → interfaces ≡ class_interfaces e g ++ link_interfaces e g → bgp ≡ bgp_of OverBgp e g → prefix_lists ≡ []
+    → name ≡ slice_index_or (small e).names g [] → interfaces ≡ class_interfaces e g ++ link_interfaces e g → bgp ≡ written_bgp OverBgp e g → prefix_lists ≡ []
     → lists ≡ flat_map lists_of_map (enumerate_from 1 (maps_of e g)) → maps ≡ map (written_map (number (small e) g)) (enumerate_from 1 (maps_of e g))
     → (let r : Router = record { name = name; line = 0; interfaces = interfaces; bgp = bgp; ospf = None; prefix_lists = prefix_lists; community_lists = lists; route_maps = maps } in r) ≡ emitted_router e g
 unfolding router
@@ -182,11 +182,11 @@ router_is e g name interfaces bgp prefix_lists lists maps is named are process n
     let all = class_interfaces e g ++ link_interfaces e g in
     let written = flat_map lists_of_map (enumerate_from 1 (maps_of e g)) in
     let written_maps = map (written_map (number (small e) g)) (enumerate_from 1 (maps_of e g)) in
-    let over : Protocol → Router = λ q. router names all (bgp_of q e g) (ospf_of q e g) written written_maps in
+    let over : Protocol → Router = λ q. router names all (written_bgp q e g) (ospf_of q e g) written written_maps in
     ap (λ (ls : List PrefixList). let r : Router = record { name = name; line = 0; interfaces = interfaces; bgp = bgp; ospf = None; prefix_lists = ls; community_lists = lists; route_maps = maps } in r) none
     ∙ ap (λ n. router n interfaces bgp None lists maps) named
     ∙ ap (λ xs. router names xs bgp None lists maps) are
     ∙ ap (λ b. router names all b None lists maps) process
-    ∙ ap (λ ls. router names all (bgp_of OverBgp e g) None ls maps) lists_are
-    ∙ ap (λ ms. router names all (bgp_of OverBgp e g) None written ms) maps_are
+    ∙ ap (λ ls. router names all (written_bgp OverBgp e g) None ls maps) lists_are
+    ∙ ap (λ ms. router names all (written_bgp OverBgp e g) None written ms) maps_are
     ∙ ap over (sym is)

@@ -5,12 +5,12 @@ use Rattle.std.specs.List.{cons_option, enumerate_from}
 use Rattle.std.specs.Option.{option_map, option_map_or, option_and_then, option_or}
 use Rattle.std.proofs.lemmas.List.{take_more}
 use Rattle.std.proofs.lemmas.List.Folds.{find-append}
-use Rattle.base_kit.specs.Prefixes.{Prefix}
+use Rattle.base_kit.specs.Prefixes.{Prefix, same_prefix}
 use Rattle.base_kit.specs.declared.protocol.Protocol.{Protocol}
 use Rattle.base_kit.specs.declared.protocol.Protocol.TheVariants.{Bgp as OverBgp, Ospf as OverOspf}
 use Rattle.base_kit.proofs.Elements.{In, contains_in}
 use Rattle.cfg_ast.specs.meaning.Addresses.{Address}
-use Rattle.cfg_ast.specs.meaning.Classes.{same_prefix, is_up_in, initial_route}
+use Rattle.cfg_ast.specs.meaning.Classes.{is_up_in, initial_route}
 use Rattle.cfg_ast.specs.meaning.Topology.{subnet_of_address}
 use Rattle.cfg_ast.specs.printing.Bare.{bare_address}
 use Rattle.cfg_ast.specs.declared.interface.Interface.{Interface}

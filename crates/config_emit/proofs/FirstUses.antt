@@ -18,7 +18,7 @@ use Rattle.config_emit.specs.ActLinks.{act_to, act_link}
 use Rattle.config_emit.specs.Interfaces.{is_at}
 use Rattle.config_emit.specs.LinkSteps.{act_by}
 use Rattle.config_emit.specs.MapNumbers.{place_from, number_of, map_number, IsKnown, KnowsClosed, AreKnown}
-use Rattle.config_emit.specs.Maps.{other_end, closed_map, into_map, out_map, is_whole, if_written, maps_at, firsts, map_name, named, number_of_map, name_of_map}
+use Rattle.config_emit.specs.Maps.{other_end, closed_map, act_in_map, act_out_map, is_whole, if_written, maps_at, firsts, map_name, named, number_of_map, name_of_map}
 use Rattle.config_emit.specs.Plan.{Plan, act_into}
 use Rattle.config_emit.specs.RouterMaps.{use_of, has_number, with_uses, listed_use, act_into_end, uses_on, use_name}
 use Rattle.config_emit.specs.declared.act_links.ActLink.{ActLink}
@@ -188,11 +188,11 @@ uses_at : (e : Plan) (known : List Plain) (g t : ℕ) (l : QLink) → touches g 
 uses_at e known g t l at =
     let x = act_link e.problem.protocol e.problem.edges e.links (t, l) in
     let far = act_into_end e.problem.acts (other_end g l) x in
-    ap (λ o. listed_use (map_number known (into_map o)) (Some (into_map o)) ++ listed_use (option_and_then (map_number known) (out_map far)) (out_map far)) (end_is e g t l at)
-    ∙ ap (λ o. listed_use (map_number known (into_map (act_into e g l))) (Some (into_map (act_into e g l))) ++ listed_use (option_and_then (map_number known) (out_map o)) (out_map o)) (end_is e (other_end g l) t l (other_touches g l))
-    ∙ ap (λ us. us ++ listed_use (option_and_then (map_number known) (out_map (act_into e (other_end g l) l))) (out_map (act_into e (other_end g l) l))) (listed_same known (into_map (act_into e g l)))
-    ∙ ap (λ us. map (use_of known) (if_written (Some (into_map (act_into e g l)))) ++ us) (out_same known (out_map (act_into e (other_end g l) l)))
-    ∙ sym (map-append (use_of known) (if_written (Some (into_map (act_into e g l)))) (if_written (out_map (act_into e (other_end g l) l))))
+    ap (λ o. listed_use (map_number known (act_in_map o)) (Some (act_in_map o)) ++ listed_use (option_and_then (map_number known) (act_out_map far)) (act_out_map far)) (end_is e g t l at)
+    ∙ ap (λ o. listed_use (map_number known (act_in_map (act_into e g l))) (Some (act_in_map (act_into e g l))) ++ listed_use (option_and_then (map_number known) (act_out_map o)) (act_out_map o)) (end_is e (other_end g l) t l (other_touches g l))
+    ∙ ap (λ us. us ++ listed_use (option_and_then (map_number known) (act_out_map (act_into e (other_end g l) l))) (act_out_map (act_into e (other_end g l) l))) (listed_same known (act_in_map (act_into e g l)))
+    ∙ ap (λ us. map (use_of known) (if_written (Some (act_in_map (act_into e g l)))) ++ us) (out_same known (act_out_map (act_into e (other_end g l) l)))
+    ∙ sym (map-append (use_of known) (if_written (Some (act_in_map (act_into e g l)))) (if_written (act_out_map (act_into e (other_end g l) l))))
 
 pub all_uses : (e : Plan) (known : List Plain) (g n : ℕ) (ls : List QLink)
     → flat_map (uses_on known e.problem.acts g) (map (act_link e.problem.protocol e.problem.edges e.links) (filter (is_at g) (enumerate_from n ls))) ≡ map (use_of known) (flat_map (maps_at e g) (filter (touches g) ls))
@@ -219,18 +219,18 @@ by_in (a ∷ acts) (suc k) = elim (by_in acts k) [ inl at ↦ inl (inr at) | inr
 closed_is_known : (known : List Plain) (closed : ℕ) → KnowsClosed known closed → IsKnown known closed_map
 closed_is_known known closed is = record { known = λ _. is.any }
 
-pub knows_into : (known : List Plain) (acts : List Act) (numbers : List ActMaps) (closed : ℕ) → AreKnown known acts numbers → KnowsClosed known closed → (p : Option ℕ) → IsKnown known (into_map (option_map (act_by acts) p))
+pub knows_into : (known : List Plain) (acts : List Act) (numbers : List ActMaps) (closed : ℕ) → AreKnown known acts numbers → KnowsClosed known closed → (p : Option ℕ) → IsKnown known (act_in_map (option_map (act_by acts) p))
 knows_into known acts numbers closed are is None = closed_is_known known closed is
 knows_into known acts numbers closed are is (Some k) = elim (by_in acts k) [
   | inl at ↦ (are.known (act_by acts k) (contains_in acts (act_by acts k) at)).into
-  | inr none ↦ subst (λ a. IsKnown known (into_map (Some a))) (sym none) (closed_is_known known closed is)
+  | inr none ↦ subst (λ a. IsKnown known (act_in_map (Some a))) (sym none) (closed_is_known known closed is)
 ]
 
-pub knows_out : (known : List Plain) (acts : List Act) (numbers : List ActMaps) → AreKnown known acts numbers → (p : Option ℕ) (m : Plain) → out_map (option_map (act_by acts) p) ≡ Some m → IsKnown known m
+pub knows_out : (known : List Plain) (acts : List Act) (numbers : List ActMaps) → AreKnown known acts numbers → (p : Option ℕ) (m : Plain) → act_out_map (option_map (act_by acts) p) ≡ Some m → IsKnown known m
 knows_out known acts numbers are None m e = absurd (let none : None ≡ Some m = e in cc)
 knows_out known acts numbers are (Some k) m e = elim (by_in acts k) [
   | inl at ↦ (are.known (act_by acts k) (contains_in acts (act_by acts k) at)).out m e
-  | inr none ↦ absurd (let never : None ≡ Some m = ap (λ a. out_map (Some a)) (sym none) ∙ e in cc)
+  | inr none ↦ absurd (let never : None ≡ Some m = ap (λ a. act_out_map (Some a)) (sym none) ∙ e in cc)
 ]
 
 written_in : (o : Option Plain) (m : Plain) → In (if_written o) m → (o ≡ Some m) × (is_whole m.entries ≡ false)
@@ -250,10 +250,10 @@ uses_known e known numbers closed g are is m at =
     let into_is = act_same e g 0 l here in
     let out_is = act_same e (other_end g l) 0 l (other_touches g l) in
     let x = act_link e.problem.protocol e.problem.edges e.links (0, l) in
-    elim (append_in (if_written (Some (into_map (act_into e g l)))) (if_written (out_map (act_into e (other_end g l) l))) m at_link.2) [
-      | inl first ↦ (let w = written_in (Some (into_map (act_into e g l))) m first in
-          let same : into_map (act_into e g l) ≡ m = cc in
-          (subst (IsKnown known) (sym (ap into_map into_is) ∙ same) (knows_into known e.problem.acts numbers closed are is (act_to g x))).known w.1)
-      | inr second ↦ (let w = written_in (out_map (act_into e (other_end g l) l)) m second in
-          (knows_out known e.problem.acts numbers are (act_to (other_end g l) x) m (ap out_map (sym out_is) ∙ w.0)).known w.1)
+    elim (append_in (if_written (Some (act_in_map (act_into e g l)))) (if_written (act_out_map (act_into e (other_end g l) l))) m at_link.2) [
+      | inl first ↦ (let w = written_in (Some (act_in_map (act_into e g l))) m first in
+          let same : act_in_map (act_into e g l) ≡ m = cc in
+          (subst (IsKnown known) (sym (ap act_in_map into_is) ∙ same) (knows_into known e.problem.acts numbers closed are is (act_to g x))).known w.1)
+      | inr second ↦ (let w = written_in (act_out_map (act_into e (other_end g l) l)) m second in
+          (knows_out known e.problem.acts numbers are (act_to (other_end g l) x) m (ap act_out_map (sym out_is) ∙ w.0)).known w.1)
     ]

@@ -9,7 +9,7 @@ use Rattle.route_maps.specs.Same.{same_map}
 use Rattle.route_maps.specs.declared.plain.Plain.{Plain}
 use Rattle.srp_core.specs.declared.route.Act.{Act}
 use Rattle.srp_core.specs.declared.route.Act.TheVariants.{Import, Cost}
-use Rattle.config_emit.specs.Maps.{closed_map, into_map, out_map, sends_by, is_whole}
+use Rattle.config_emit.specs.Maps.{closed_map, act_in_map, act_out_map, sends_by, is_whole}
 use Rattle.config_emit.specs.MapNumbers.{with_map, number_of, map_number, IsKnown, IsGrown, act_maps, KnowsAct, HasMaps, KnowsClosed, AreKnown}
 use Rattle.config_emit.specs.declared.act_maps.ActMaps.{ActMaps}
 use Rattle.config_emit.proofs.ListSteps.{no_more}
@@ -75,11 +75,11 @@ out_kept (Some m) old new is grown = map_kept m old new (is m refl) grown
 act_kept : (act : Act) (old new : List Plain) → KnowsAct old act → IsGrown old new → act_maps old (Some act) ≡ act_maps new (Some act)
 unfolding made
 act_kept act old new is grown =
-    ap (λ n. made n (option_and_then (map_number old) (out_map (Some act))) (sends_by (Some act))) (map_kept (into_map (Some act)) old new is.into grown)
-    ∙ ap (λ n. made (map_number new (into_map (Some act))) n (sends_by (Some act))) (out_kept (out_map (Some act)) old new is.out grown)
+    ap (λ n. made n (option_and_then (map_number old) (act_out_map (Some act))) (sends_by (Some act))) (map_kept (act_in_map (Some act)) old new is.into grown)
+    ∙ ap (λ n. made (map_number new (act_in_map (Some act))) n (sends_by (Some act))) (out_kept (act_out_map (Some act)) old new is.out grown)
 
 knows_kept : (act : Act) (old new : List Plain) → KnowsAct old act → IsGrown old new → KnowsAct new act
-knows_kept act old new is grown = record { into = known_kept (into_map (Some act)) old new is.into grown; out = λ m e. known_kept m old new (is.out m e) grown }
+knows_kept act old new is grown = record { into = known_kept (act_in_map (Some act)) old new is.into grown; out = λ m e. known_kept m old new (is.out m e) grown }
 
 pub closed_kept : (number : ℕ) (old new : List Plain) → KnowsClosed old number → IsGrown old new → KnowsClosed new number
 closed_kept number old new is grown = record { any = any_kept closed_map old new is.any grown; is = is.is ∙ number_kept closed_map old new is.any grown }

@@ -24,7 +24,7 @@ use Rattle.srp_core.specs.Problem.{initial, number}
 use Rattle.srp_core.specs.ProblemOf.{route_from, start_route}
 use Rattle.srp_quotient.specs.Groups.{first_member, touches, edge_into, quotient_problem}
 use Rattle.config_emit.specs.ActLinks.{ends_at, act_to, act_link, act_links, LinksByGroup, links_of}
-use Rattle.config_emit.specs.Emitted.{area_number, ospf_on, ospf_of, bgp_of, emitted_router}
+use Rattle.config_emit.specs.Emitted.{area_number, ospf_on, ospf_of, written_bgp, emitted_router}
 use Rattle.config_emit.specs.Interfaces.{class_interfaces_on, class_interfaces, is_at, links_at, side_number, link_address, link_interface, link_interfaces, cost_by}
 use Rattle.config_emit.specs.LinkSteps.{act_by, interface_of_link}
 use Rattle.config_emit.specs.Maps.{maps_over, maps_of, lists_of_map, written_map}
@@ -125,7 +125,7 @@ pub router_is : (e : Plan) (g : ℕ) (name : List ℕ) (interfaces : List Interf
     → (let r : Router = record { name = name; line = 0; interfaces = interfaces; bgp = None; ospf = ospf; prefix_lists = prefix_lists; community_lists = lists; route_maps = maps } in r) ≡ emitted_router e g
 unfolding made maps_of
 router_is e g name interfaces ospf prefix_lists lists maps is named are process none no_lists no_maps =
-    let over : Protocol → Router = λ q. made (slice_index_or (small e).names g []) (class_interfaces e g ++ link_interfaces e g) (bgp_of q e g) (ospf_of q e g) (flat_map lists_of_map (enumerate_from 1 (maps_over q e g))) (map (written_map (number (small e) g)) (enumerate_from 1 (maps_over q e g))) in
+    let over : Protocol → Router = λ q. made (slice_index_or (small e).names g []) (class_interfaces e g ++ link_interfaces e g) (written_bgp q e g) (ospf_of q e g) (flat_map lists_of_map (enumerate_from 1 (maps_over q e g))) (map (written_map (number (small e) g)) (enumerate_from 1 (maps_over q e g))) in
     ap (λ (ls : List PrefixList). let r : Router = record { name = name; line = 0; interfaces = interfaces; bgp = None; ospf = ospf; prefix_lists = ls; community_lists = lists; route_maps = maps } in r) none
     ∙ ap (λ n. made n interfaces None ospf lists maps) named
     ∙ ap (λ xs. made (slice_index_or (small e).names g []) xs None ospf lists maps) are

@@ -22,26 +22,26 @@ use Rattle.cfg_ast.specs.declared.ospf.AreaLine.{AreaLine}
 use Rattle.cfg_ast.specs.declared.ospf.OspfProcess.{OspfProcess}
 use Rattle.abstract_net.specs.declared.qlink.QLink.{QLink}
 use Rattle.srp_core.specs.Problem.{number}
-use Rattle.config_emit.specs.Plan.{Plan, small, router_of, act_into}
-use Rattle.config_emit.specs.Maps.{other_end, into_map, out_map, sends_by, maps_of, name_of_map, lists_of_map, written_map}
+use Rattle.config_emit.specs.Plan.{Plan, small, first_router_of, act_into}
+use Rattle.config_emit.specs.Maps.{other_end, act_in_map, act_out_map, sends_by, maps_of, name_of_map, lists_of_map, written_map}
 use Rattle.config_emit.specs.Interfaces.{class_interfaces, links_at, side_number, link_address, link_interfaces}
 
 -- ---- BGP
 
-abbrev pub net_line : Router → Prefix → Option NetLine
-net_line r p = if is_some (initial_route r p) then Some (record { prefix = p; line = 0 }) else None
+abbrev pub class_line_of : Router → Prefix → Option NetLine
+class_line_of r p = if is_some (initial_route r p) then Some (record { prefix = p; line = 0 }) else None
 
 -- a `network` line for each prefix of the class that the group originates
 abbrev pub net_lines : Plan → ℕ → List NetLine
-net_lines e g = option_map_or (λ r. filter_map (net_line r) e.class.prefixes) (router_of e g) []
+net_lines e g = option_map_or (λ r. filter_map (class_line_of r) e.class.prefixes) (first_router_of e g) []
 
 abbrev pub base_of : List NetLine → Router → Option Base
 base_of [] r = None
 base_of (n ∷ ns) r = if nat_eq (default_preference r) 100 then None else Some (record { value = default_preference r; line = 0 })
 
 -- the first member's default preference, where the group originates the class and it is not 100
-abbrev pub base_line : Plan → ℕ → Option Base
-base_line e g = option_map_or (base_of (net_lines e g)) (router_of e g) None
+abbrev pub written_base : Plan → ℕ → Option Base
+written_base e g = option_map_or (base_of (net_lines e g)) (first_router_of e g) None
 
 -- The neighbour that g has at a link: the other end's address and AS number. Its in map is that of the act into g;
 -- its out map and the sending are those of the act into the other end.
@@ -54,29 +54,29 @@ neighbor_at e g (t, l) = record {
   sends = sends_by (act_into e (other_end g l) l);
   list_in = None;
   list_out = None;
-  map_in = name_of_map (maps_of e g) (Some (into_map (act_into e g l)));
-  map_out = name_of_map (maps_of e g) (out_map (act_into e (other_end g l) l));
+  map_in = name_of_map (maps_of e g) (Some (act_in_map (act_into e g l)));
+  map_out = name_of_map (maps_of e g) (act_out_map (act_into e (other_end g l) l));
 }
 
 abbrev pub process_of : Plan → ℕ → BgpProcess
 process_of e g = record {
   number = number (small e) g;
   line = 0;
-  base = base_line e g;
+  base = written_base e g;
   networks = net_lines e g;
   neighbors = map (neighbor_at e g) (links_at e g);
 }
 
 -- a group has a process where it has an AS number, as it does where it originates the class or has a link
-abbrev pub bgp_of : Protocol → Plan → ℕ → Option BgpProcess
-bgp_of OverBgp e g = if nat_eq (number (small e) g) 0 then None else Some (process_of e g)
-bgp_of OverOspf e g = None
+abbrev pub written_bgp : Protocol → Plan → ℕ → Option BgpProcess
+written_bgp OverBgp e g = if nat_eq (number (small e) g) 0 then None else Some (process_of e g)
+written_bgp OverOspf e g = None
 
 -- ---- OSPF
 
 -- a `network` line for the address of an interface alone
-abbrev pub area_line : ℕ → Interface → Option AreaLine
-area_line area x = option_map (λ (a : Address). record { addr = a.addr; wild = 0; area = area; line = 0 }) x.address
+abbrev pub host_area_line : ℕ → Interface → Option AreaLine
+host_area_line area x = option_map (λ (a : Address). record { addr = a.addr; wild = 0; area = area; line = 0 }) x.address
 
 abbrev pub interface_name : Interface → List ℕ
 interface_name x = x.name
@@ -90,7 +90,7 @@ ospf_on area class (x ∷ xs) = Some (record {
   passive_default = false;
   passive = map interface_name class;
   not_passive = [];
-  areas = filter_map (area_line area) (x ∷ xs);
+  areas = filter_map (host_area_line area) (x ∷ xs);
 })
 
 -- the area of the network read
@@ -109,7 +109,7 @@ emitted_router e g = record {
   name = slice_index_or (small e).names g [];
   line = 0;
   interfaces = class_interfaces e g ++ link_interfaces e g;
-  bgp = bgp_of e.problem.protocol e g;
+  bgp = written_bgp e.problem.protocol e g;
   ospf = ospf_of e.problem.protocol e g;
   prefix_lists = [];
   community_lists = flat_map lists_of_map (enumerate_from 1 (maps_of e g));
@@ -122,9 +122,9 @@ emitted e = record { routers = map (emitted_router e) (range_with_len 0 e.count)
 
 -- ---- notes
 
-abbrev pub name_at : Plan → ℕ → List ℕ
-name_at e u = slice_index_or e.problem.names u []
+abbrev pub group_name : Plan → ℕ → List ℕ
+group_name e u = slice_index_or e.problem.names u []
 
 -- for each group the names of its members, ascending by place
 unfoldable pub notes_of : Plan → Notes
-notes_of e = record { members = map (λ g. map (name_at e) (members_of e.groups g)) (range_with_len 0 e.count) }
+notes_of e = record { members = map (λ g. map (group_name e) (members_of e.groups g)) (range_with_len 0 e.count) }

@@ -16,7 +16,7 @@ use Rattle.abstract_net.specs.declared.qlink.QLink.{QLink}
 use Rattle.srp_core.specs.declared.route.Act.{Act}
 use Rattle.srp_core.specs.declared.route.Act.TheVariants.{Import, Cost}
 use Rattle.srp_quotient.specs.Groups.{touches}
-use Rattle.config_emit.specs.Plan.{Plan, router_of, act_into}
+use Rattle.config_emit.specs.Plan.{Plan, first_router_of, act_into}
 
 -- ---- the prefixes of the class
 
@@ -48,7 +48,7 @@ abbrev pub class_interfaces_on : Protocol → List Prefix → Router → List In
 class_interfaces_on q prefixes r = filter_map (class_interface_in q r) (enumerate_from 1 prefixes)
 
 unfoldable pub class_interfaces : Plan → ℕ → List Interface
-class_interfaces e g = option_map_or (class_interfaces_on e.problem.protocol e.class.prefixes) (router_of e g) []
+class_interfaces e g = option_map_or (class_interfaces_on e.problem.protocol e.class.prefixes) (first_router_of e g) []
 
 -- ---- the links
 

@@ -10,7 +10,7 @@ use Rattle.std.specs.declared.hash.BuildHasherDefault.{BuildHasherDefault}
 use Rattle.route_maps.specs.Same.{same_map}
 use Rattle.route_maps.specs.declared.plain.Plain.{Plain}
 use Rattle.srp_core.specs.declared.route.Act.{Act}
-use Rattle.config_emit.specs.Maps.{closed_map, into_map, out_map, sends_by, is_whole}
+use Rattle.config_emit.specs.Maps.{closed_map, act_in_map, act_out_map, sends_by, is_whole}
 use Rattle.config_emit.specs.MapKeys.{shown, said, is_map, same_keys}
 use Rattle.config_emit.specs.declared.map_keys.EntryKey.{EntryKey}
 use Rattle.config_emit.specs.declared.act_maps.ActMaps.{ActMaps}
@@ -53,11 +53,11 @@ pub record IsGrown (old new : List Plain) : Type 0 where
 
 -- the maps that an act gives both ends, by their numbers
 abbrev pub act_maps : List Plain → Option Act → ActMaps
-act_maps maps act = record { into = map_number maps (into_map act); out = option_and_then (map_number maps) (out_map act); sends = sends_by act }
+act_maps maps act = record { into = map_number maps (act_in_map act); out = option_and_then (map_number maps) (act_out_map act); sends = sends_by act }
 
 pub record KnowsAct (maps : List Plain) (act : Act) : Type 0 where
-  pub into : IsKnown maps (into_map (Some act))
-  pub out : (m : Plain) → out_map (Some act) ≡ Some m → IsKnown maps m
+  pub into : IsKnown maps (act_in_map (Some act))
+  pub out : (m : Plain) → act_out_map (Some act) ≡ Some m → IsKnown maps m
 
 pub record HasMaps (maps : List Plain) (act : Act) (numbers : ActMaps) : Type 0 where
   pub known : KnowsAct maps act

@@ -31,16 +31,16 @@ abbrev pub closed_map : Plain
 closed_map = record { entries = [] }
 
 -- the importer's in map; a direction that carries nothing has one that denies all
-abbrev pub into_map : Option Act → Plain
-into_map (Some (Import out sends into)) = into
-into_map (Some (Cost cost)) = closed_map
-into_map None = closed_map
+abbrev pub act_in_map : Option Act → Plain
+act_in_map (Some (Import out sends into)) = into
+act_in_map (Some (Cost cost)) = closed_map
+act_in_map None = closed_map
 
 -- the exporter's out map, none where nothing is carried
-abbrev pub out_map : Option Act → Option Plain
-out_map (Some (Import out sends into)) = Some out
-out_map (Some (Cost cost)) = None
-out_map None = None
+abbrev pub act_out_map : Option Act → Option Plain
+act_out_map (Some (Import out sends into)) = Some out
+act_out_map (Some (Cost cost)) = None
+act_out_map None = None
 
 -- whether the exporter sends communities
 abbrev pub sends_by : Option Act → Bool
@@ -65,7 +65,7 @@ if_written (Some m) = if is_whole m.entries then [] else m ∷ []
 
 -- the maps of the neighbour that g has at a link: its in map, then its out map
 abbrev pub maps_at : Plan → ℕ → QLink → List Plain
-maps_at e g l = if_written (Some (into_map (act_into e g l))) ++ if_written (out_map (act_into e (other_end g l) l))
+maps_at e g l = if_written (Some (act_in_map (act_into e g l))) ++ if_written (act_out_map (act_into e (other_end g l) l))
 
 -- of maps that are equal but for names and lines the first
 abbrev pub firsts : List Plain → List Plain → List Plain

@@ -26,8 +26,8 @@ abbrev pub small : Plan → Problem
 small e = quotient_problem e.problem e.groups e.count e.links
 
 -- the router by which a group is written: its first member
-abbrev pub router_of : Plan → ℕ → Option Router
-router_of e g = slice_get e.network.routers (first_member e.groups g)
+abbrev pub first_router_of : Plan → ℕ → Option Router
+first_router_of e g = slice_get e.network.routers (first_member e.groups g)
 
 -- the act of the edge at a place
 abbrev pub act_of_place : Plan → ℕ → Act

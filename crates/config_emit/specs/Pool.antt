@@ -14,12 +14,12 @@ use Rattle.cfg_ast.specs.declared.network.Router.{Router}
 abbrev pub meets_pool : Prefix → Bool
 meets_pool p = nat_eq (p.addr / 2 ^ (32 - min p.len 10)) (1681915904 / 2 ^ (32 - min p.len 10))
 
-abbrev pub address_line : Interface → Option ℕ
-address_line x = option_map (λ (a : Address). a.line) x.address
+abbrev pub line_of_address : Interface → Option ℕ
+line_of_address x = option_map (λ (a : Address). a.line) x.address
 
 -- the line of the address that a router has in the prefix
 abbrev pub line_on : Prefix → Router → Option ℕ
-line_on p r = option_and_then address_line (find (is_up_in p) r.interfaces)
+line_on p r = option_and_then line_of_address (find (is_up_in p) r.interfaces)
 
 -- that of the first originator
 abbrev pub line_at : Network → List Origin → Prefix → Option ℕ

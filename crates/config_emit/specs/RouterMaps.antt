@@ -11,7 +11,7 @@ use Rattle.srp_core.specs.declared.route.Act.{Act}
 use Rattle.config_emit.specs.ActLinks.{act_to}
 use Rattle.config_emit.specs.LinkSteps.{act_by}
 use Rattle.config_emit.specs.MapNumbers.{place_from, number_of, act_maps}
-use Rattle.config_emit.specs.Maps.{into_map, out_map, map_name, named}
+use Rattle.config_emit.specs.Maps.{act_in_map, act_out_map, map_name, named}
 use Rattle.config_emit.specs.declared.act_links.ActLink.{ActLink}
 use Rattle.config_emit.specs.declared.router_maps.MapUse.{MapUse}
 
@@ -45,8 +45,8 @@ act_into_end acts g x = option_map (act_by acts) (act_to g x)
 -- the uses at a link of g: its in map, then its out map
 abbrev pub uses_on : List Plain → List Act → ℕ → ActLink → List (ℕ × Plain)
 uses_on known acts g x =
-    listed_use (act_maps known (act_into_end acts g x)).into (Some (into_map (act_into_end acts g x)))
-    ++ listed_use (act_maps known (act_into_end acts (far_end g x) x)).out (out_map (act_into_end acts (far_end g x) x))
+    listed_use (act_maps known (act_into_end acts g x)).into (Some (act_in_map (act_into_end acts g x)))
+    ++ listed_use (act_maps known (act_into_end acts (far_end g x) x)).out (act_out_map (act_into_end acts (far_end g x) x))
 
 abbrev pub PlacesByNumber : Type 0
 PlacesByNumber = HashMap ℕ ℕ (BuildHasherDefault FoldHasher)

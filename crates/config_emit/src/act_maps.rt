@@ -1,7 +1,7 @@
 ghost use Rattle.std.specs.Prelude.{◌≡◌, false, Some, None, IfOk, OnOk, option_copied};
 ghost use Rattle.std.specs.Option.{option_map};
 ghost use Rattle.config_emit.specs.LinkSteps.{act_by};
-ghost use Rattle.config_emit.specs.Maps.{closed_map, into_map, out_map};
+ghost use Rattle.config_emit.specs.Maps.{closed_map, act_in_map, act_out_map};
 ghost use Rattle.config_emit.specs.MapNumbers.{maps_now, AreNumbers, IsGrown, IsKnown, map_number, act_maps, HasMaps, KnowsClosed, AreKnown, ArePolicies};
 ghost use Rattle.srp_core.specs.declared.route.Act.TheVariants as act;
 
@@ -158,7 +158,7 @@ pub(crate) fn maps_at(policies: &Policies, place: Option<u32>) -> ActMaps
 /// The in map that an act gives its importer.
 pub(crate) fn into_map<'a>(policies: &Policies<'a>, place: Option<u32>) -> &'a Plain
     requires { ArePolicies policies.now }
-    ensures { result.now ≡ into_map (option_map (act_by policies.now.acts.now) place) }
+    ensures { result.now ≡ act_in_map (option_map (act_by policies.now.acts.now) place) }
 {
     match place {
         Some(place) => match policies.acts.get(place as usize) {
@@ -171,7 +171,7 @@ pub(crate) fn into_map<'a>(policies: &Policies<'a>, place: Option<u32>) -> &'a P
 
 /// The out map that an act gives its exporter.
 pub(crate) fn out_map<'a>(policies: &Policies<'a>, place: Option<u32>) -> Option<&'a Plain>
-    ensures { option_copied result ≡ out_map (option_map (act_by policies.now.acts.now) place) }
+    ensures { option_copied result ≡ act_out_map (option_map (act_by policies.now.acts.now) place) }
 {
     match policies.acts.get(place? as usize) {
         Some(Act::Import { out, .. }) => Some(out),

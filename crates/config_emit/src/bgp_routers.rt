@@ -3,7 +3,7 @@ ghost use Rattle.std.specs.List.{enumerate_from, range_with_len};
 ghost use Rattle.base_kit.specs.declared.protocol.Protocol.TheVariants as over;
 ghost use Rattle.srp_quotient.specs.Groups.{number_of_group};
 ghost use Rattle.config_emit.specs.ActLinks.{act_link};
-ghost use Rattle.config_emit.specs.Emitted.{net_lines, base_line, bgp_of, emitted_router};
+ghost use Rattle.config_emit.specs.Emitted.{net_lines, written_base, written_bgp, emitted_router};
 ghost use Rattle.config_emit.specs.GroupMaps.{ArePlanned, AreGroupMaps, plains_now};
 ghost use Rattle.config_emit.specs.Interfaces.{links_at};
 ghost use Rattle.config_emit.specs.Maps.{lists_of_map, written_map};
@@ -46,7 +46,7 @@ fn base_line(source: &Source, group: u32, nets: &[NetLine]) -> Option<Base>
     requires source { IsSource source.now }
     requires inside { group < source.now.count }
     requires nets { nets.now ≡ net_lines (plan_of source.now) group }
-    ensures { result ≡ base_line (plan_of source.now) group }
+    ensures { result ≡ written_base (plan_of source.now) group }
 {
     let first = first_member(source.groups, group);
     match router_at(source.network.routers.as_slice(), first) {
@@ -71,7 +71,7 @@ fn process(
     requires numbers { HasNumbers (plan_of source.now) numbers.now }
     requires links { AreLinksOf (plan_of source.now) group links.now }
     requires inside { group < source.now.count }
-    ensures { IfOk result (λ process. process ≡ bgp_of over.Bgp (plan_of source.now) group) }
+    ensures { IfOk result (λ process. process ≡ written_bgp over.Bgp (plan_of source.now) group) }
 {
     let number = number_at(numbers, group);
     if number == 0 {

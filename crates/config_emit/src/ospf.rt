@@ -1,12 +1,12 @@
 ghost use Rattle.std.specs.Prelude.{◌≡◌, map, filter_map, IfOk};
-ghost use Rattle.config_emit.specs.Emitted.{area_line, interface_name, ospf_on};
+ghost use Rattle.config_emit.specs.Emitted.{host_area_line, interface_name, ospf_on};
 
 use base_kit::{List, NoMemory, Text};
 use cfg_ast::{AreaLine, Interface, OspfProcess};
 use std::alloc::Global;
 
 fn area_line(area: u32, interface: &Interface) -> Option<AreaLine>
-    ensures { result ≡ area_line area interface.now }
+    ensures { result ≡ host_area_line area interface.now }
 {
     match &interface.address {
         Some(address) => Some(AreaLine {
@@ -24,7 +24,7 @@ fn area_lines(
     area: u32,
     interfaces: &[Interface],
 ) -> Result<List<AreaLine>, NoMemory>
-    ensures { IfOk result (λ lines. lines ≡ filter_map (area_line area) interfaces.now) }
+    ensures { IfOk result (λ lines. lines ≡ filter_map (host_area_line area) interfaces.now) }
 {
     let mut lines = List::new(alloc);
     for interface in interfaces {

@@ -1,7 +1,7 @@
 ghost use Rattle.std.specs.Prelude.{◌≡◌, find, option_copied};
 ghost use Rattle.std.specs.Option.{option_and_then, unwrap_or};
 ghost use Rattle.cfg_ast.specs.meaning.Classes.{is_up_in};
-ghost use Rattle.config_emit.specs.Pool.{meets_pool, address_line, line_on, line_at, pool_line};
+ghost use Rattle.config_emit.specs.Pool.{meets_pool, line_of_address, line_on, line_at, pool_line};
 
 use base_kit::Prefix;
 use cfg_ast::{DestClass, Interface, Network, Origin, Router};
@@ -30,7 +30,7 @@ pub(crate) fn is_up_in(p: Prefix, interface: &Interface) -> bool
 }
 
 fn address_line(interface: &Interface) -> Option<u32>
-    ensures { result ≡ address_line interface.now }
+    ensures { result ≡ line_of_address interface.now }
 {
     match &interface.address {
         Some(address) => Some(address.line()),

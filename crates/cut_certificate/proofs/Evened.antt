@@ -6,7 +6,7 @@ use Rattle.std.proofs.lemmas.Bool.{cases_eq}
 use Rattle.std.proofs.lemmas.List.Sums.{AllPass-from_list_all, list_all-from_AllPass}
 use Rattle.base_kit.specs.declared.act_graph.Edge.{Edge}
 use Rattle.base_kit.specs.declared.act_graph.ActGraph.{ActGraph}
-use Rattle.base_kit.specs.Partition.{color, HasTwinIfOutgoing, IsMirroredAt, IsAdmissible, members_of}
+use Rattle.base_kit.specs.Partition.{color, HasTwinIfOutgoing, IsMirroredAt, IsAdmissibleOn, members_of}
 use Rattle.base_kit.proofs.Elements.{In, in_at, in_map, in_filter, filter_in, map_in}
 use Rattle.base_kit.proofs.Mirrors.{mirrored_refl, mirrored_trans}
 use Rattle.cut_certificate.specs.Blocks.{distinct, place_among, groups_of, reaches}
@@ -117,7 +117,7 @@ even_mirrors edges numbers e u v hu hv same =
     mirrored_trans edges numbers u first v (sym (member_is numbers block first own).1) to (all v (is_member numbers block v hv (sym same)))
 
 pub even_admissible : (graph : ActGraph) (numbers : List ℕ) → length numbers ≡ graph.count → ((u v : ℕ) → u < graph.count → v < graph.count → slice_index numbers u ≡ slice_index numbers v → color graph u ≡ color graph v)
-    → are_even graph.edges numbers ≡ true → IsAdmissible graph numbers
+    → are_even graph.edges numbers ≡ true → IsAdmissibleOn graph numbers
 even_admissible graph numbers total colors e = record {
   total = total;
   colors = colors;
@@ -128,7 +128,7 @@ mirrors_even : (edges : List Edge) (numbers : List ℕ) (group : List ℕ) → (
 mirrors_even edges numbers [] each = refl
 mirrors_even edges numbers (first ∷ members) each = in_all (mirror_each_other edges numbers first) members (λ u h. both _ _ (each first u (inl refl) (inr h)) (each u first (inr h) (inl refl)))
 
-pub admissible_even : (graph : ActGraph) (numbers : List ℕ) → IsAdmissible graph numbers → are_even graph.edges numbers ≡ true
+pub admissible_even : (graph : ActGraph) (numbers : List ℕ) → IsAdmissibleOn graph numbers → are_even graph.edges numbers ≡ true
 unfolding are_even groups_of
 admissible_even graph numbers admissible =
     in_all (is_even graph.edges numbers) (map (members_of numbers) (distinct numbers)) (λ group h.

@@ -4,7 +4,7 @@ use Rattle.std.specs.Prelude.{bytes_eq}
 use Rattle.std.specs.List.{list_all}
 use Rattle.base_kit.specs.declared.act_graph.Edge.{Edge}
 use Rattle.cfg_ast.specs.text.Words.{is_router_name}
-use Rattle.cut_certificate.specs.Forms.{group_form, saying_of}
+use Rattle.cut_certificate.specs.Forms.{group_form, certificate_line_of}
 use Rattle.cut_certificate.specs.Forms.Saying.{Group}
 use Rattle.cut_certificate.specs.Texts.{Standing, with_saying, with_line}
 
@@ -19,5 +19,5 @@ no_edges edges routers s (name ∷ names) = by (list_all is_router_name (name �
 
 pub group_line : (edges : List Edge) (routers : List ℕ → Option ℕ) (s : Standing) (line : List (List ℕ)) (word : List ℕ) (words : List (List ℕ)) → line ≡ word ∷ words → bytes_eq word (codes "bonsai") ≡ false → bytes_eq word (codes "split") ≡ false → bytes_eq word (codes "group") ≡ true
     → with_line edges routers s line ≡ with_saying [] routers s (group_form words)
-unfolding saying_of
+unfolding certificate_line_of
 group_line edges routers s line word words is head split group = rw (is, head, split, group) (no_edges edges routers s words)

@@ -5,7 +5,7 @@ use Rattle.std.proofs.lemmas.Bool.{cases_eq}
 use Rattle.std.proofs.lemmas.List.{get_or-set_same, get_or-set_other, length_push}
 use Rattle.base_kit.specs.declared.act_graph.Edge.{Edge}
 use Rattle.base_kit.specs.declared.act_graph.ActGraph.{ActGraph}
-use Rattle.base_kit.specs.Partition.{IsAdmissible}
+use Rattle.base_kit.specs.Partition.{IsAdmissibleOn}
 use Rattle.base_kit.proofs.Mirrors.{mirrored_trans}
 use Rattle.cut_certificate.specs.Blocks.{Blocks, first_blocks, groups_of, split_by}
 use Rattle.cut_certificate.specs.declared.certificate.Split.{Split}
@@ -73,7 +73,7 @@ even_with_leaders edges numbers leaders are even = record {
       mirrored_trans edges numbers u leader v (sym (are.together u hu)) to from;
 }
 
-pub mirrored_admissible : (graph : ActGraph) (blocks : Blocks) → IsReached graph blocks → AreMirrored graph.edges blocks.numbers → IsAdmissible graph blocks.numbers
+pub mirrored_admissible : (graph : ActGraph) (blocks : Blocks) → IsReached graph blocks → AreMirrored graph.edges blocks.numbers → IsAdmissibleOn graph blocks.numbers
 mirrored_admissible graph blocks are mirrored = record {
   total = are.total;
   colors = are.colors;

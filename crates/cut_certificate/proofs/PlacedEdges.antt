@@ -12,7 +12,7 @@ use Rattle.base_kit.specs.declared.act_graph.Edge.{Edge}
 use Rattle.base_kit.specs.declared.act_graph.ActGraph.{ActGraph}
 use Rattle.cut_certificate.specs.declared.outgoing.Placed.{Placed}
 use Rattle.cut_certificate.specs.Outgoing.{placed, is_of, edges_of, AreByImporter, AreIndexed}
-use Rattle.cut_certificate.specs.Blocks.{act_at, leads_into, leads_from, reaches}
+use Rattle.cut_certificate.specs.Blocks.{edge_act, leads_into, leads_from, reaches}
 use Rattle.cut_certificate.specs.Evenness.{is_matched, is_mirrored}
 use Rattle.cut_certificate.specs.Uneven.{IsUnmatched}
 use Rattle.cut_certificate.specs.Texts.{is_edge_over, edge_named}
@@ -96,7 +96,7 @@ pub record IsFound (n : ℕ) (es : List Edge) (p : Placed) : Type 0 where
   pub at : ℕ
   pub place : p.place ≡ n + at
   pub inside : at < length es
-  pub act : act_at es at ≡ p.edge.act
+  pub act : edge_act es at ≡ p.edge.act
 
 found_next : (n : ℕ) (e : Edge) (es : List Edge) (p : Placed) → IsFound (n + 1) es p → IsFound n (e ∷ es) p
 found_next n e es p f = record { at = suc f.at; place = f.place ∙ omega arith; inside = (let i = f.inside in omega arith); act = f.act }
@@ -191,7 +191,7 @@ unmatched_is graph numbers router other p others is l known leaves none =
     let place : p.place ≡ l.found.at = l.found.place ∙ omega arith in
     record {
       inside = (let i = l.found.inside in omega (arith, place));
-      act = ap (act_at graph.edges) place ∙ l.found.act;
+      act = ap (edge_act graph.edges) place ∙ l.found.act;
       exporter = known;
       leaves = leaves;
       reached = reached_by graph.edges numbers router p.edge l.importer l.contains;
@@ -214,8 +214,8 @@ pub named_nowhere : (edges : List Edge) (router link : ℕ) (list : List Placed)
 named_nowhere edges router link list is none =
     moved_none (edge_named edges router link) (sym (edge_place router link 0 edges) ∙ ap (λ (ps : List Placed). option_map (λ (q : Placed). q.place) (find (over link) ps)) (sym is) ∙ ap (option_map (λ (q : Placed). q.place)) none)
 
-pub named_act : (edges : List Edge) (router link : ℕ) (list : List Placed) (p : Placed) → list ≡ edges_of edges router → find (λ (q : Placed). nat_eq q.edge.link link) list ≡ Some p → p.edge.act ≡ act_at edges p.place
+pub named_act : (edges : List Edge) (router link : ℕ) (list : List Placed) (p : Placed) → list ≡ edges_of edges router → find (λ (q : Placed). nat_eq q.edge.link link) list ≡ Some p → p.edge.act ≡ edge_act edges p.place
 named_act edges router link list p is found =
     let f = edge_found router link 0 edges p (ap (find (over link)) (sym is) ∙ found) in
     let place : p.place ≡ f.at = f.place ∙ omega arith in
-    sym (ap (act_at edges) place ∙ f.act)
+    sym (ap (edge_act edges) place ∙ f.act)

@@ -5,10 +5,10 @@ use Rattle.std.proofs.lemmas.Bool.{cases_eq}
 use Rattle.std.proofs.lemmas.List.Folds.{Any-from_list_any, list_any-from_Any}
 use Rattle.base_kit.specs.declared.act_graph.Edge.{Edge}
 use Rattle.base_kit.specs.declared.act_graph.ActGraph.{ActGraph}
-use Rattle.base_kit.specs.Partition.{color, IsMirroredAt, IsAdmissible, Refines}
+use Rattle.base_kit.specs.Partition.{color, IsMirroredAt, IsAdmissibleOn, Refines}
 use Rattle.cut_certificate.specs.declared.certificate.Split.{Split}
 use Rattle.cut_certificate.specs.declared.certificate.Certificate.{Certificate}
-use Rattle.cut_certificate.specs.Blocks.{Blocks, distinct, place_among, number_among, first_blocks, leads_into, leads_from, reaches, number_after, act_at, blocks_after, split_by}
+use Rattle.cut_certificate.specs.Blocks.{Blocks, distinct, place_among, number_among, first_blocks, leads_into, leads_from, reaches, number_after, edge_act, blocks_after, split_by}
 use Rattle.cut_certificate.specs.Certificates.{AreAfter, IsAccepted, AreCoarsest}
 use Rattle.cut_certificate.proofs.Seen.{same_test, test_same, at_place, place_below, distinct_has}
 use Rattle.cut_certificate.proofs.StepsOf.{made}
@@ -18,7 +18,7 @@ pub record IsReached (graph : ActGraph) (blocks : Blocks) : Type 0 where
   pub total : length blocks.numbers ≡ graph.count
   pub below : (u : ℕ) → u < graph.count → slice_index blocks.numbers u ≤ blocks.count
   pub colors : (u v : ℕ) → u < graph.count → v < graph.count → slice_index blocks.numbers u ≡ slice_index blocks.numbers v → color graph u ≡ color graph v
-  pub above : (others : List ℕ) → IsAdmissible graph others → Refines graph.count others blocks.numbers
+  pub above : (others : List ℕ) → IsAdmissibleOn graph others → Refines graph.count others blocks.numbers
 
 -- ---- the start
 
@@ -92,7 +92,7 @@ reaches_if edges numbers block act router (k, edge, inside, at, (importer, acts,
     list_any-from_Any (leads_from numbers block act router) edges (k, edge, inside, at, both _ _ (same_test _ _ importer) (both _ _ (same_test _ _ acts) (same_test _ _ into)))
 
 -- a router that is together with one that reaches the block reaches it too
-reaches_too : (graph : ActGraph) (numbers others : List ℕ) (block by act u v : ℕ) → Refines graph.count others numbers → IsAdmissible graph others → u < graph.count → v < graph.count → slice_index others u ≡ slice_index others v
+reaches_too : (graph : ActGraph) (numbers others : List ℕ) (block by act u v : ℕ) → Refines graph.count others numbers → IsAdmissibleOn graph others → u < graph.count → v < graph.count → slice_index others u ≡ slice_index others v
     → slice_index numbers u ≡ block → block ≢ by → reaches graph.edges numbers by act u ≡ true → reaches graph.edges numbers by act v ≡ true
 unfolding IsMirroredAt
 reaches_too graph numbers others block by act u v refines admissible hu hv same member apart e =
@@ -141,7 +141,7 @@ next_reached graph blocks next split are e =
     by = split.by
 
     act : ℕ
-    act = act_at graph.edges split.edge
+    act = edge_act graph.edges split.edge
 
     more : ℕ
     more = blocks.count + 1
@@ -170,7 +170,7 @@ next_reached graph blocks next split are e =
     other_block : nat_eq split.block split.by ≡ false → block ≢ by
     other_block apart same = absurd (let t = same_test block by same in cc)
 
-    kept : (others : List ℕ) → IsAdmissible graph others → (u v : ℕ) → u < graph.count → v < graph.count → slice_index others u ≡ slice_index others v → block ≢ by → (slice_index numbers u ≡ block) ⊎ (slice_index numbers u ≢ block)
+    kept : (others : List ℕ) → IsAdmissibleOn graph others → (u v : ℕ) → u < graph.count → v < graph.count → slice_index others u ≡ slice_index others v → block ≢ by → (slice_index numbers u ≡ block) ⊎ (slice_index numbers u ≢ block)
         → number_after edges numbers block by act more u ≡ number_after edges numbers block by act more v
     kept others admissible u v hu hv same apart (inl here) =
         let refines = are.above others admissible in

@@ -10,11 +10,11 @@ use Rattle.cut_certificate.specs.declared.refusal.CutKind.{CutKind}
 use Rattle.cut_certificate.specs.declared.refusal.CutKind.TheVariants as kinds
 use Rattle.cut_certificate.specs.declared.standing.Stage.{Stage}
 use Rattle.cut_certificate.specs.declared.standing.Stage.TheVariants.{Opening, Splitting, Naming, Closed}
-use Rattle.cut_certificate.specs.Blocks.{Blocks, number_after, numbers_after, act_at, is_block, are_parts, blocks_after, split_by, groups_of}
+use Rattle.cut_certificate.specs.Blocks.{Blocks, number_after, numbers_after, edge_act, is_block, are_parts, blocks_after, split_by, groups_of}
 use Rattle.cut_certificate.specs.Evenness.{are_even}
-use Rattle.cut_certificate.specs.Forms.{Saying, saying_of}
+use Rattle.cut_certificate.specs.Forms.{CertificateLine, certificate_line_of}
 use Rattle.cut_certificate.specs.Forms.Saying.{Head, Divide, Group, End}
-use Rattle.cut_certificate.specs.Texts.{Standing, is_edge_over, edge_named, routers_named, with_head, with_blocks, with_edge, with_router, with_split, is_group, with_members, with_group, closed, with_end, with_saying, with_line}
+use Rattle.cut_certificate.specs.Texts.{Standing, is_edge_over, edge_named, routers_named, with_head, with_blocks, with_edge, with_router, with_split, is_next_group, with_members, with_group, with_all_groups, with_closing, with_saying, with_line}
 
 -- a line leaves splits and blocks as they are, or makes a split
 pub data IsStep (edges : List Edge) (s next : Standing) : Type 0 where
@@ -57,7 +57,7 @@ module _ (edges : List Edge) (routers : List ℕ → Option ℕ) (s next : Stand
 
   members_step : (found : Option (List ℕ)) → with_members s found ≡ Ok next → IsStep edges s next
   members_step None e = absurd cc
-  members_step (Some members) e = group_step members (is_group (slice_get (groups_of s.blocks.numbers) s.named) members) e
+  members_step (Some members) e = group_step members (is_next_group (slice_get (groups_of s.blocks.numbers) s.named) members) e
 
   named_step : (words : List (List ℕ)) (stage : Stage) → with_group routers s words stage ≡ Ok next → IsStep edges s next
   named_step words Splitting e = members_step (routers_named routers words) e
@@ -70,16 +70,16 @@ module _ (edges : List Edge) (routers : List ℕ → Option ℕ) (s next : Stand
   close_step true false even e = absurd cc
   close_step true true even e = let same : record s { stage = Closed } ≡ next = cc in subst (IsStep edges s) same (stays refl refl (λ c. inr even))
 
-  closed_step : closed edges s ≡ Ok next → IsStep edges s next
+  closed_step : with_all_groups edges s ≡ Ok next → IsStep edges s next
   closed_step e = close_step (nat_eq s.named (length (groups_of s.blocks.numbers))) (are_even edges s.blocks.numbers) refl e
 
-  end_step : (stage : Stage) → with_end edges s stage ≡ Ok next → IsStep edges s next
+  end_step : (stage : Stage) → with_closing edges s stage ≡ Ok next → IsStep edges s next
   end_step Splitting e = closed_step e
   end_step Naming e = closed_step e
   end_step Opening e = absurd cc
   end_step Closed e = absurd cc
 
-  saying_step : (o : Option Saying) → with_saying edges routers s o ≡ Ok next → IsStep edges s next
+  saying_step : (o : Option CertificateLine) → with_saying edges routers s o ≡ Ok next → IsStep edges s next
   saying_step None e = absurd cc
   saying_step (Some Head) e = head_step s.stage e
   saying_step (Some (Divide block by name link)) e = split_step block by name link s.stage refl e
@@ -88,7 +88,7 @@ module _ (edges : List Edge) (routers : List ℕ → Option ℕ) (s next : Stand
 
   pub line_step : (ws : List (List ℕ)) → with_line edges routers s ws ≡ Ok next → IsStep edges s next
   line_step [] e = let same : s ≡ next = cc in subst (IsStep edges s) same (stays refl refl (λ c. inl c))
-  line_step (w ∷ ws) e = saying_step (saying_of w ws) e
+  line_step (w ∷ ws) e = saying_step (certificate_line_of w ws) e
 
 -- ---- splits keep how many routers there are
 
@@ -119,7 +119,7 @@ made edges blocks split next e = by (is_block blocks split.block && is_block blo
     by true f false g true h e = let same : blocks_after edges blocks split ≡ next = cc in record { is = sym same; known = f; apart = g; parts = h }
 
 pub split_total : (edges : List Edge) (blocks : Blocks) (split : Split) (next : Blocks) → split_by edges blocks split ≡ Ok next → length next.numbers ≡ length blocks.numbers
-split_total edges blocks split next e = ap (λ (b : Blocks). length b.numbers) (made edges blocks split next e).is ∙ numbers_total edges blocks.numbers split.block split.by (act_at edges split.edge) (blocks.count + 1)
+split_total edges blocks split next e = ap (λ (b : Blocks). length b.numbers) (made edges blocks split next e).is ∙ numbers_total edges blocks.numbers split.block split.by (edge_act edges split.edge) (blocks.count + 1)
 
 pub line_total : (edges : List Edge) (routers : List ℕ → Option ℕ) (s next : Standing) (ws : List (List ℕ)) → with_line edges routers s ws ≡ Ok next → length next.blocks.numbers ≡ length s.blocks.numbers
 line_total edges routers s next ws e = elim (line_step edges routers s next ws e) [

@@ -11,7 +11,7 @@ use Rattle.cut_certificate.specs.declared.certificate.Split.{Split}
 use Rattle.cut_certificate.specs.declared.certificate.Certificate.{Certificate}
 use Rattle.cut_certificate.specs.Blocks.{Blocks, first_blocks, groups_of}
 use Rattle.cut_certificate.specs.Certificates.{AreAfter, IsAccepted}
-use Rattle.cut_certificate.specs.Printed.{name_of, importer_at, link_at, head_line, split_line, group_line, end_line, certificate_text}
+use Rattle.cut_certificate.specs.Printed.{printed_name, edge_importer, edge_link, head_line, split_line, named_group_line, end_line, certificate_text}
 use Rattle.cut_certificate.proofs.Grouped.{groups_in_range}
 use Rattle.cut_certificate.proofs.Reached.{first_reached, all_reached}
 use Rattle.cut_certificate.proofs.Scans.{first_left}
@@ -35,20 +35,20 @@ lines_done write xs k text all le before = sym (ap (λ ys. text ++ lines_text (m
 
 -- ---- a group
 
-pub member_more : (names : List (List ℕ)) (members : List ℕ) (k : ℕ) (old mid new all : List ℕ) → k < length members → mid ≡ old ++ 32 ∷ [] → new ≡ mid ++ name_of names (get_or members k 0) → old ++ spaced (map (name_of names) (drop k members)) ≡ all → new ++ spaced (map (name_of names) (drop (k + 1) members)) ≡ all
+pub member_more : (names : List (List ℕ)) (members : List ℕ) (k : ℕ) (old mid new all : List ℕ) → k < length members → mid ≡ old ++ 32 ∷ [] → new ≡ mid ++ printed_name names (get_or members k 0) → old ++ spaced (map (printed_name names) (drop k members)) ≡ all → new ++ spaced (map (printed_name names) (drop (k + 1) members)) ≡ all
 member_more names members k old mid new all h first second before =
-    let name = name_of names (get_or members k 0) in
-    let rest = spaced (map (name_of names) (drop (k + 1) members)) in
+    let name = printed_name names (get_or members k 0) in
+    let rest = spaced (map (printed_name names) (drop (k + 1) members)) in
     ap (λ (t : List ℕ). t ++ rest) (second ∙ ap (λ (t : List ℕ). t ++ name) first) ∙ regrouped old (32 ∷ []) name rest
-    ∙ sym (ap (λ ys. old ++ spaced (map (name_of names) ys)) (first_left members k 0 h)) ∙ before
+    ∙ sym (ap (λ ys. old ++ spaced (map (printed_name names) ys)) (first_left members k 0 h)) ∙ before
   where
     regrouped : (a b c d : List ℕ) → ((a ++ b) ++ c) ++ d ≡ a ++ ((b ++ c) ++ d)
     regrouped a b c d = simp append_assoc
 
-pub group_written : (names : List (List ℕ)) (members : List ℕ) (k : ℕ) (old text all : List ℕ) → length members ≤ k → text ++ spaced (map (name_of names) (drop k members)) ≡ old ++ codes "group" ++ spaced (map (name_of names) members) → all ≡ text ++ 10 ∷ [] → all ≡ old ++ line_text (group_line names members)
+pub group_written : (names : List (List ℕ)) (members : List ℕ) (k : ℕ) (old text all : List ℕ) → length members ≤ k → text ++ spaced (map (printed_name names) (drop k members)) ≡ old ++ codes "group" ++ spaced (map (printed_name names) members) → all ≡ text ++ 10 ∷ [] → all ≡ old ++ line_text (named_group_line names members)
 group_written names members k old text all le before last =
-    let words = map (name_of names) members in
-    let whole : text ≡ old ++ codes "group" ++ spaced words = sym (ap (λ ys. text ++ spaced (map (name_of names) ys)) (drop_all k members le) ∙ append-nil text) ∙ before in
+    let words = map (printed_name names) members in
+    let whole : text ≡ old ++ codes "group" ++ spaced words = sym (ap (λ ys. text ++ spaced (map (printed_name names) ys)) (drop_all k members le) ∙ append-nil text) ∙ before in
     last ∙ ap (λ (t : List ℕ). t ++ 10 ∷ []) whole ∙ regrouped old (codes "group") (spaced words) (10 ∷ []) ∙ ap (λ (t : List ℕ). old ++ (t ++ 10 ∷ [])) (sym (joined (codes "group") words))
   where
     regrouped : (a b c d : List ℕ) → ((a ++ b) ++ c) ++ d ≡ a ++ ((b ++ c) ++ d)
@@ -56,12 +56,12 @@ group_written names members k old text all le before last =
 
 -- ---- what is named
 
-pub importer_is : (edges : List Edge) (k : ℕ) (d : Edge) → k < length edges → importer_at edges k ≡ (get_or edges k d).importer
+pub importer_is : (edges : List Edge) (k : ℕ) (d : Edge) → k < length edges → edge_importer edges k ≡ (get_or edges k d).importer
 importer_is [] k d h = absurd (omega arith)
 importer_is (e ∷ edges) zero d h = refl
 importer_is (e ∷ edges) (suc k) d h = importer_is edges k d (omega arith)
 
-pub link_is : (edges : List Edge) (k : ℕ) (d : Edge) → k < length edges → link_at edges k ≡ (get_or edges k d).link
+pub link_is : (edges : List Edge) (k : ℕ) (d : Edge) → k < length edges → edge_link edges k ≡ (get_or edges k d).link
 link_is [] k d h = absurd (omega arith)
 link_is (e ∷ edges) zero d h = refl
 link_is (e ∷ edges) (suc k) d h = link_is edges k d (omega arith)
@@ -89,11 +89,11 @@ end_text : line_text end_line ≡ codes "end\n"
 end_text = refl
 
 pub text_written : (edges : List Edge) (names : List (List ℕ)) (c : Certificate) (none first second third all : List ℕ) → none ≡ [] → first ≡ none ++ codes "bonsai certificate 1\n" → second ≡ first ++ lines_text (map (split_line edges names) c.splits)
-    → third ≡ second ++ lines_text (map (group_line names) c.groups) → all ≡ third ++ codes "end\n" → all ≡ certificate_text edges names c
+    → third ≡ second ++ lines_text (map (named_group_line names) c.groups) → all ≡ third ++ codes "end\n" → all ≡ certificate_text edges names c
 unfolding certificate_text
 text_written edges names c none first second third all e0 e1 e2 e3 e4 =
     let splits = map (split_line edges names) c.splits in
-    let groups = map (group_line names) c.groups in
+    let groups = map (named_group_line names) c.groups in
     e4 ∙ ap (λ (t : List ℕ). t ++ codes "end\n") (e3 ∙ ap (λ (t : List ℕ). t ++ lines_text groups) (e2 ∙ ap (λ (t : List ℕ). t ++ lines_text splits) (e1 ∙ ap (λ (t : List ℕ). t ++ codes "bonsai certificate 1\n") e0)))
     ∙ ap (λ (t : List ℕ). ((t ++ lines_text splits) ++ lines_text groups) ++ codes "end\n") (sym head_text)
     ∙ ap (λ (t : List ℕ). ((line_text head_line ++ lines_text splits) ++ lines_text groups) ++ t) (sym end_text ∙ sym (append-nil (line_text end_line)))

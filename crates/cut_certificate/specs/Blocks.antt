@@ -65,12 +65,12 @@ unfoldable pub numbers_after : List Edge → List ℕ → ℕ → ℕ → ℕ �
 numbers_after edges numbers block by act next = map (number_after edges numbers block by act next) (range_with_len 0 (length numbers))
 
 -- how the edge at a place acts
-abbrev pub act_at : List Edge → ℕ → ℕ
-act_at edges place = slice_index (map (λ (e : Edge). e.act) edges) place
+abbrev pub edge_act : List Edge → ℕ → ℕ
+edge_act edges place = slice_index (map (λ (e : Edge). e.act) edges) place
 
 abbrev pub blocks_after : List Edge → Blocks → Split → Blocks
 blocks_after edges blocks split =
-    record { numbers = numbers_after edges blocks.numbers split.block split.by (act_at edges split.edge) (blocks.count + 1); count = blocks.count + 1 }
+    record { numbers = numbers_after edges blocks.numbers split.block split.by (edge_act edges split.edge) (blocks.count + 1); count = blocks.count + 1 }
 
 abbrev pub is_block : Blocks → ℕ → Bool
 is_block blocks number = nat_le 1 number && nat_le number blocks.count

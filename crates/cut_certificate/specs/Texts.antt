@@ -1,8 +1,8 @@
 -- The certificate of a text, or its first line at fault.
 use Rattle.std.specs.Prelude.{ℕ, ◌+◌, Bool, false, ◌&&◌, ◌==◌, List, [], ◌∷◌, ◌++◌, length, map, if◌then◌else◌, Option, Some, None, Result, Ok, Err, bytes_eq, slice_get}
-use Rattle.std.specs.Option.{option_map}
 use Rattle.std.specs.List.{position}
 use Rattle.base_kit.specs.declared.act_graph.Edge.{Edge}
+use Rattle.base_kit.specs.Options.{all_given}
 use Rattle.base_kit.specs.declared.act_graph.ActGraph.{ActGraph}
 use Rattle.cfg_ast.specs.text.TextLines.{TextLine, text_line}
 use Rattle.cfg_ast.specs.text.Members.{all_lines_of}
@@ -16,7 +16,7 @@ use Rattle.cut_certificate.specs.declared.standing.Stage.{Stage}
 use Rattle.cut_certificate.specs.declared.standing.Stage.TheVariants.{Opening, Splitting, Naming, Closed}
 use Rattle.cut_certificate.specs.Blocks.{Blocks, first_blocks, groups_of, split_by}
 use Rattle.cut_certificate.specs.Evenness.{are_even}
-use Rattle.cut_certificate.specs.Forms.{Saying, saying_of}
+use Rattle.cut_certificate.specs.Forms.{CertificateLine, certificate_line_of}
 use Rattle.cut_certificate.specs.Forms.Saying.{Head, Divide, Group, End}
 
 -- how far a certificate has been read: its splits, the blocks behind them, and how many groups were named
@@ -33,11 +33,6 @@ opening graph = record { stage = Opening; splits = []; blocks = first_blocks gra
 
 abbrev pub router_named : List (List ℕ) → List ℕ → Option ℕ
 router_named names name = position (bytes_eq name) names
-
-abbrev pub all_given : {X : Type 0} → List (Option X) → Option (List X)
-all_given [] = Some []
-all_given (None ∷ xs) = None
-all_given (Some x ∷ xs) = option_map (λ rest. x ∷ rest) (all_given xs)
 
 -- In what follows `routers` gives the router of a name.
 abbrev pub routers_named : (List ℕ → Option ℕ) → List (List ℕ) → Option (List ℕ)
@@ -78,14 +73,14 @@ with_split edges routers s block by name link stage = Err BadForm
 -- ---- groups
 
 -- the next group has exactly these members, in this order
-abbrev pub is_group : Option (List ℕ) → List ℕ → Bool
-is_group None members = false
-is_group (Some group) members = bytes_eq group members
+abbrev pub is_next_group : Option (List ℕ) → List ℕ → Bool
+is_next_group None members = false
+is_next_group (Some group) members = bytes_eq group members
 
 abbrev pub with_members : Standing → Option (List ℕ) → Result Standing CutKind
 with_members s None = Err UnknownRouter
 with_members s (Some members) =
-    if is_group (slice_get (groups_of s.blocks.numbers) s.named) members then Ok (record s { stage = Naming; named = s.named + 1 }) else Err WrongGroups
+    if is_next_group (slice_get (groups_of s.blocks.numbers) s.named) members then Ok (record s { stage = Naming; named = s.named + 1 }) else Err WrongGroups
 
 abbrev pub with_group : (List ℕ → Option ℕ) → Standing → List (List ℕ) → Stage → Result Standing CutKind
 with_group routers s words Splitting = with_members s (routers_named routers words)
@@ -94,29 +89,29 @@ with_group routers s words stage = Err BadForm
 
 -- ---- the end
 
-abbrev pub closed : List Edge → Standing → Result Standing CutKind
-closed edges s =
+abbrev pub with_all_groups : List Edge → Standing → Result Standing CutKind
+with_all_groups edges s =
     if s.named == length (groups_of s.blocks.numbers) then (if are_even edges s.blocks.numbers then Ok (record s { stage = Closed }) else Err NotAdmissible)
     else Err WrongGroups
 
-abbrev pub with_end : List Edge → Standing → Stage → Result Standing CutKind
-with_end edges s Splitting = closed edges s
-with_end edges s Naming = closed edges s
-with_end edges s stage = Err BadForm
+abbrev pub with_closing : List Edge → Standing → Stage → Result Standing CutKind
+with_closing edges s Splitting = with_all_groups edges s
+with_closing edges s Naming = with_all_groups edges s
+with_closing edges s stage = Err BadForm
 
 -- ---- lines
 
-abbrev pub with_saying : List Edge → (List ℕ → Option ℕ) → Standing → Option Saying → Result Standing CutKind
+abbrev pub with_saying : List Edge → (List ℕ → Option ℕ) → Standing → Option CertificateLine → Result Standing CutKind
 with_saying edges routers s None = Err BadForm
 with_saying edges routers s (Some Head) = with_head s s.stage
 with_saying edges routers s (Some (Divide block by name link)) = with_split edges routers s block by name link s.stage
 with_saying edges routers s (Some (Group words)) = with_group routers s words s.stage
-with_saying edges routers s (Some End) = with_end edges s s.stage
+with_saying edges routers s (Some End) = with_closing edges s s.stage
 
 -- a line without words says nothing
 abbrev pub with_line : List Edge → (List ℕ → Option ℕ) → Standing → List (List ℕ) → Result Standing CutKind
 with_line edges routers s [] = Ok s
-with_line edges routers s (word ∷ words) = with_saying edges routers s (saying_of word words)
+with_line edges routers s (word ∷ words) = with_saying edges routers s (certificate_line_of word words)
 
 -- ---- texts
 

@@ -3,7 +3,7 @@
 ghost use Rattle.std.specs.Prelude.{◌^◌, slice_index, ◌≡◌, ◌<◌, ◌≤◌, ◌&&◌, ◌==◌, IfOk, length};
 ghost use Rattle.base_kit.specs.Sets.{has};
 ghost use Rattle.cut_certificate.specs.Answers.{Steps};
-ghost use Rattle.cut_certificate.specs.Blocks.{act_at, first_blocks, is_block, number_after, numbers_after, split_by};
+ghost use Rattle.cut_certificate.specs.Blocks.{edge_act, first_blocks, is_block, number_after, numbers_after, split_by};
 ghost use Rattle.cut_certificate.specs.InUse.{AreInUse};
 ghost use Rattle.cut_certificate.specs.Outgoing.{AreIndexed};
 
@@ -152,7 +152,7 @@ impl Blocks {
     ) -> Result<Blocks, Stop>
         requires index { AreIndexed graph.now outgoing.now }
         requires total { length self.now.numbers ≡ graph.now.count }
-        requires act { act ≡ act_at graph.now.edges split.edge }
+        requires act { act ≡ edge_act graph.now.edges split.edge }
         ensures { Steps result (split_by graph.now.edges self.now split) }
     {
         if !self.are_blocks(split) {

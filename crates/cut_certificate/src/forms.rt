@@ -5,7 +5,7 @@ ghost use Rattle.std.specs.Option.{is_some};
 ghost use Rattle.std.specs.List.{list_all};
 ghost use Rattle.cfg_ast.specs.text.Lines.{words_of};
 ghost use Rattle.cfg_ast.specs.text.Words.{is_router_name};
-ghost use Rattle.cut_certificate.specs.Forms.{end_form, group_form, head_form, split_form};
+ghost use Rattle.cut_certificate.specs.Forms.{closing_form, group_form, head_form, split_form};
 ghost use Rattle.cut_certificate.specs.Forms.Saying.{Divide};
 
 use crate::router_names::is_router_name;
@@ -68,7 +68,7 @@ pub(crate) fn is_group(line: &[u8]) -> bool
 
 /// Whether there is no word.
 pub(crate) fn is_end(line: &[u8]) -> bool
-    ensures { result ≡ is_some (end_form (words_of line.now)) }
+    ensures { result ≡ is_some (closing_form (words_of line.now)) }
 {
     next_word(line).is_none()
 }

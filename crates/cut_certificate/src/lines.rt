@@ -5,7 +5,7 @@ ghost use Rattle.std.specs.List.{find, list_all};
 ghost use Rattle.cfg_ast.specs.text.Lines.{words_of};
 ghost use Rattle.cfg_ast.specs.text.Words.{is_router_name};
 ghost use Rattle.cut_certificate.specs.Answers.{Steps};
-ghost use Rattle.cut_certificate.specs.Forms.{end_form, group_form, head_form, split_form};
+ghost use Rattle.cut_certificate.specs.Forms.{closing_form, group_form, head_form, split_form};
 ghost use Rattle.cut_certificate.specs.Names.{AreWithin, place_in};
 ghost use Rattle.cut_certificate.specs.Outgoing.{AreIndexed};
 ghost use Rattle.cut_certificate.specs.Texts.{edge_named, routers_named, with_edge, with_line, with_members, with_saying};
@@ -164,7 +164,7 @@ fn with_end(
     requires index { AreIndexed graph.now outgoing.now }
     requires total { length standing.blocks.numbers ≡ graph.now.count }
     requires few { length standing.blocks.numbers < 2 ^ 32 }
-    ensures { Steps result (with_saying graph.now.edges (λ name. None) standing (end_form (words_of line.now))) }
+    ensures { Steps result (with_saying graph.now.edges (λ name. None) standing (closing_form (words_of line.now))) }
 {
     if !is_end(line) {
         return Err(Stop::Fault(CutKind::BadForm));

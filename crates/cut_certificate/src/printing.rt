@@ -1,7 +1,7 @@
 ghost use Rattle.std.specs.Prelude.{◌≡◌, ◌<◌, ◌++◌, All, IfOk, OnOk, length, map, string_bytes};
 ghost use Rattle.cfg_ast.specs.printing.Printed.{line_text, lines_text};
 ghost use Rattle.cut_certificate.specs.Certificates.{IsAccepted};
-ghost use Rattle.cut_certificate.specs.Printed.{certificate_text, group_line, split_line};
+ghost use Rattle.cut_certificate.specs.Printed.{certificate_text, named_group_line, split_line};
 
 use crate::certificate::{Certificate, Split};
 use base_kit::{ActGraph, List, NoMemory, Text};
@@ -44,7 +44,7 @@ fn put_splits(
 
 fn put_group(text: &mut String, names: &[Text], members: &[u32]) -> Result<(), AllocError>
     requires { All (λ router. router < length names.now) members.now }
-    ensures { OnOk result (string_bytes text.new ≡ string_bytes text.old ++ line_text (group_line names.now members.now)) }
+    ensures { OnOk result (string_bytes text.new ≡ string_bytes text.old ++ line_text (named_group_line names.now members.now)) }
 {
     text.push_str("group")?;
     for router in members {
@@ -57,7 +57,7 @@ fn put_group(text: &mut String, names: &[Text], members: &[u32]) -> Result<(), A
 
 fn put_groups(text: &mut String, names: &[Text], groups: &[List<u32>]) -> Result<(), AllocError>
     requires { All (All (λ router. router < length names.now)) groups.now }
-    ensures { OnOk result (string_bytes text.new ≡ string_bytes text.old ++ lines_text (map (group_line names.now) groups.now)) }
+    ensures { OnOk result (string_bytes text.new ≡ string_bytes text.old ++ lines_text (map (named_group_line names.now) groups.now)) }
 {
     for group in groups {
         put_group(text, names, group.as_slice())?;

@@ -2,10 +2,10 @@
 
 ghost use Rattle.std.specs.Prelude.{◌≡◌, ◌<◌, ◌^◌, IfOk, Some, length, slice_get};
 ghost use Rattle.cut_certificate.specs.Answers.{Steps};
-ghost use Rattle.cut_certificate.specs.Blocks.{act_at, groups_of, split_by};
+ghost use Rattle.cut_certificate.specs.Blocks.{edge_act, groups_of, split_by};
 ghost use Rattle.cut_certificate.specs.Kept.{AreKept};
 ghost use Rattle.cut_certificate.specs.Outgoing.{AreIndexed};
-ghost use Rattle.cut_certificate.specs.Texts.{closed, ended, is_group, opening, with_blocks, with_head, with_members};
+ghost use Rattle.cut_certificate.specs.Texts.{with_all_groups, ended, is_next_group, opening, with_blocks, with_head, with_members};
 
 use crate::blocks::Blocks;
 use crate::certificate::{Certificate, Split};
@@ -68,7 +68,7 @@ fn groups_at(
 
 // Whether the group of that place has exactly these members, in this order.
 fn is_group(groups: &[List<u32>], place: usize, members: &[u32]) -> bool
-    ensures { result ≡ is_group (slice_get groups.now place) members.now }
+    ensures { result ≡ is_next_group (slice_get groups.now place) members.now }
 {
     match groups.get(place) {
         Some(group) => group.as_slice() == members,
@@ -133,7 +133,7 @@ impl Standing {
         requires stage { self.stage ≡ Stage.Splitting }
         requires index { AreIndexed graph.now outgoing.now }
         requires total { length self.blocks.numbers ≡ graph.now.count }
-        requires act { act ≡ act_at graph.now.edges split.edge }
+        requires act { act ≡ edge_act graph.now.edges split.edge }
         ensures { Steps result (with_blocks self split (split_by graph.now.edges self.blocks split)) }
     {
         let Standing {
@@ -189,7 +189,7 @@ impl Standing {
         requires index { AreIndexed graph.now outgoing.now }
         requires total { length self.blocks.numbers ≡ graph.now.count }
         requires few { length self.blocks.numbers < 2 ^ 32 }
-        ensures { Steps result (closed graph.now.edges self) }
+        ensures { Steps result (with_all_groups graph.now.edges self) }
     {
         let Standing {
             stage,

@@ -7,10 +7,10 @@ use Rattle.std.specs.List.{AllByRecursion}
 use Rattle.std.specs.List.Sorted.{IsStrictlySortedBy}
 use Rattle.std.specs.Ordering.{is_lt}
 use Rattle.std.specs.declared.cmp.Ordering.TheVariants.{Less}
-use Rattle.base_kit.specs.Prefixes.{Prefix}
+use Rattle.base_kit.specs.Prefixes.{Prefix, same_prefix}
 use Rattle.cfg_ast.specs.declared.classes.Origin.{Origin}
 use Rattle.cfg_ast.specs.declared.network.Network.{Network}
-use Rattle.cfg_ast.specs.meaning.Classes.{same_prefix, is_before, has_prefix, AllAfter, AreAscending, originated, origins_of}
+use Rattle.cfg_ast.specs.meaning.Classes.{is_before, has_prefix, AllAfter, AreAscending, originated, origins_of}
 use Rattle.cfg_ast.proofs.PrefixSets.{one_prefix, same_prefix-self, not_same_before, cases_prefix, has_not_before, AllAfter-trans}
 use Rattle.cfg_ast.proofs.ClassFacts.{originated_ascends}
 use Rattle.dest_classes.specs.Routes.{prefix_cmp}

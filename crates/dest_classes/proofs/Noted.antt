@@ -6,11 +6,11 @@ use Rattle.std.specs.List.{enumerate_from, cons_option}
 use Rattle.std.proofs.Math.Seq.{get_or-append_seam}
 use Rattle.std.proofs.lemmas.Option.{slice_get-get_or}
 use Rattle.std.proofs.lemmas.Bool.Decides.{nat_tests}
-use Rattle.base_kit.specs.Prefixes.{Prefix}
+use Rattle.base_kit.specs.Prefixes.{Prefix, same_prefix}
 use Rattle.cfg_ast.specs.declared.classes.Origin.{Origin}
 use Rattle.cfg_ast.specs.declared.network.Router.{Router}
 use Rattle.cfg_ast.specs.declared.network.Network.{Network}
-use Rattle.cfg_ast.specs.meaning.Classes.{same_prefix, initial_route, origin_at, origins_of}
+use Rattle.cfg_ast.specs.meaning.Classes.{initial_route, origin_at, origins_of}
 use Rattle.dest_classes.specs.declared.routes.Route.{Route}
 use Rattle.dest_classes.specs.Routes.{routes_on, ends_with_router, with_origin, all_noted, noted_from}
 use Rattle.dest_classes.proofs.Starts.{leads_to, start_in, initial_is}

@@ -2,8 +2,8 @@
 use Rattle.std.proofs.Common.{◌≡◌, arith}
 use Rattle.std.specs.Ordering.{is_eq, is_lt}
 use Rattle.std.proofs.lemmas.Bool.Decides.{nat_tests}
-use Rattle.base_kit.specs.Prefixes.{Prefix}
-use Rattle.cfg_ast.specs.meaning.Classes.{same_prefix, is_before}
+use Rattle.base_kit.specs.Prefixes.{Prefix, same_prefix}
+use Rattle.cfg_ast.specs.meaning.Classes.{is_before}
 use Rattle.dest_classes.specs.Routes.{prefix_cmp}
 
 pub is_eq-prefix_cmp : (p q : Prefix) → is_eq (prefix_cmp p q) ≡ same_prefix p q

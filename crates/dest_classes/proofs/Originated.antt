@@ -4,13 +4,13 @@ use Rattle.std.specs.Prelude.{filter, filter_map, flat_map, find, is_some}
 use Rattle.std.specs.Option.{option_map, option_map_or}
 use Rattle.std.specs.List.{list_any, enumerate_from, cons_option}
 use Rattle.std.proofs.lemmas.List.Folds.{list_any-append}
-use Rattle.base_kit.specs.Prefixes.{Prefix}
+use Rattle.base_kit.specs.Prefixes.{Prefix, same_prefix}
 use Rattle.cfg_ast.specs.declared.bgp.BgpProcess.{BgpProcess}
 use Rattle.cfg_ast.specs.declared.classes.Origin.{Origin}
 use Rattle.cfg_ast.specs.declared.interface.Interface.{Interface}
 use Rattle.cfg_ast.specs.declared.network.Network.{Network}
 use Rattle.cfg_ast.specs.declared.network.Router.{Router}
-use Rattle.cfg_ast.specs.meaning.Classes.{same_prefix, has_prefix, up_subnet, is_up_in, route_by_process, initial_route, originated_by, originated, origin_at, origins_of}
+use Rattle.cfg_ast.specs.meaning.Classes.{has_prefix, up_subnet, is_up_in, route_by_process, initial_route, originated_by, originated, origin_at, origins_of}
 use Rattle.cfg_ast.specs.meaning.Topology.{is_in_area_interface, cost_of_interface}
 use Rattle.cfg_ast.proofs.PrefixSets.{one_prefix, has-with_prefixes}
 use Rattle.dest_classes.proofs.Noted.{some_of}

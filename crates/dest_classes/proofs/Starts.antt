@@ -3,12 +3,12 @@ use Rattle.std.proofs.Common.{◌≡◌, ℕ, Bool, true, false, cond, true≢fa
 use Rattle.std.specs.Prelude.{filter_map, find}
 use Rattle.std.specs.List.{list_any, cons_option}
 use Rattle.std.specs.Option.{option_map, option_map_or}
-use Rattle.base_kit.specs.Prefixes.{Prefix}
+use Rattle.base_kit.specs.Prefixes.{Prefix, same_prefix}
 use Rattle.cfg_ast.specs.declared.bgp.BgpProcess.{BgpProcess}
 use Rattle.cfg_ast.specs.declared.bgp.NetLine.{NetLine}
 use Rattle.cfg_ast.specs.declared.interface.Interface.{Interface}
 use Rattle.cfg_ast.specs.declared.network.Router.{Router}
-use Rattle.cfg_ast.specs.meaning.Classes.{same_prefix, up_subnet, is_up_in, route_by_process, initial_route}
+use Rattle.cfg_ast.specs.meaning.Classes.{up_subnet, is_up_in, route_by_process, initial_route}
 use Rattle.cfg_ast.specs.meaning.Topology.{is_in_area_interface, cost_of_interface}
 use Rattle.cfg_ast.proofs.PrefixSets.{one_prefix}
 use Rattle.dest_classes.specs.declared.routes.Route.{Route}

@@ -15,7 +15,7 @@ use Rattle.srp_quotient.specs.Groups.{first_member, touches}
 use Rattle.config_emit.specs.Emitted.{emitted_router, emitted}
 use Rattle.config_emit.specs.Interfaces.{class_interfaces, side_number, link_address, link_interfaces}
 use Rattle.config_emit.specs.Laws.{IsPlan}
-use Rattle.config_emit.specs.Plan.{Plan, router_of}
+use Rattle.config_emit.specs.Plan.{Plan, first_router_of}
 use Rattle.config_emit.specs.Pool.{meets_pool}
 use Rattle.emit_faults.proofs.Apart.{map_nil}
 use Rattle.emit_faults.proofs.Routers.{of_routers, router_pairs, firsts_differ}
@@ -81,8 +81,8 @@ unfolding shared_address_lines
 class_class e plan g h other below lower a b c d =
     let f = first_of e plan g below in
     let k = first_of e plan h lower in
-    let here : In (up_addresses_of f.router) c.of.address = subst (λ (r : Router). In (up_addresses_of r) c.of.address) (one_router (router_of e g) c.of.router f.router c.of.at f.at) c.of.address_in in
-    let there : In (up_addresses_of k.router) d.of.address = subst (λ (r : Router). In (up_addresses_of r) d.of.address) (one_router (router_of e h) d.of.router k.router d.of.at k.at) d.of.address_in in
+    let here : In (up_addresses_of f.router) c.of.address = subst (λ (r : Router). In (up_addresses_of r) c.of.address) (one_router (first_router_of e g) c.of.router f.router c.of.at f.at) c.of.address_in in
+    let there : In (up_addresses_of k.router) d.of.address = subst (λ (r : Router). In (up_addresses_of r) d.of.address) (one_router (first_router_of e h) d.of.router k.router d.of.at k.at) d.of.address_in in
     let pairs = flat_pairs up_addresses_of (λ (x y : Address). same_address y x ≡ false) e.network.routers (pairs_repeats same_address (up_addresses e.network) (map_nil address_line (repeats same_address (up_addresses e.network)) plan.faultless.shared_address)) in
     ap (λ (x : Address). same_address x a) (sym d.is) ∙ ap (λ (x : Address). same_address (bare_address d.of.address) x) (sym c.is)
     ∙ elim (pairs_either (λ (r s : Router). (x y : Address) → In (up_addresses_of r) x → In (up_addresses_of s) y → same_address y x ≡ false) e.network.routers (first_member e.groups g) (first_member e.groups h) f.router k.router pairs (firsts_differ e g h other f k) f.at k.at) [

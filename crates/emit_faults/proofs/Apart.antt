@@ -13,7 +13,7 @@ use Rattle.abstract_net.specs.Links.{QuotientCarries}
 use Rattle.srp_core.specs.Problem.{count, number}
 use Rattle.srp_core.specs.Quotient.{first_number}
 use Rattle.srp_quotient.specs.Groups.{first_member, is_used}
-use Rattle.config_emit.specs.Emitted.{neighbor_at, bgp_of, emitted_router, emitted}
+use Rattle.config_emit.specs.Emitted.{neighbor_at, written_bgp, emitted_router, emitted}
 use Rattle.config_emit.specs.Interfaces.{links_at}
 use Rattle.config_emit.specs.Laws.{IsPlan}
 use Rattle.config_emit.specs.Plan.{Plan, small}
@@ -114,9 +114,9 @@ pub no_internal_peer : (e : Plan) → IsPlan e → QuotientCarries → internal_
 unfolding internal_peer_lines
 no_internal_peer e plan law =
     ap (map neighbor_line)
-    (flat_none internal_peers_of (emitted e).routers (of_routers e (λ r. internal_peers_of r ≡ []) (λ g below. step g below (bgp_of e.problem.protocol e g) refl)))
+    (flat_none internal_peers_of (emitted e).routers (of_routers e (λ r. internal_peers_of r ≡ []) (λ g below. step g below (written_bgp e.problem.protocol e g) refl)))
   where
-    step : (g : ℕ) → g < e.count → (o : Option BgpProcess) → bgp_of e.problem.protocol e g ≡ o → internal_peers_in o ≡ []
+    step : (g : ℕ) → g < e.count → (o : Option BgpProcess) → written_bgp e.problem.protocol e g ≡ o → internal_peers_in o ≡ []
     step g below None made = refl
     step g below (Some b) made =
         let p = process_is e g b made in

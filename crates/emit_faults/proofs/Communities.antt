@@ -21,7 +21,7 @@ use Rattle.srp_core.specs.declared.route.Act.{Act}
 use Rattle.srp_core.specs.declared.route.Act.TheVariants.{Import, Cost}
 use Rattle.config_emit.specs.Emitted.{emitted_router, emitted}
 use Rattle.config_emit.specs.Laws.{IsPlan, IsActWithin}
-use Rattle.config_emit.specs.Maps.{into_map, out_map, maps_of, match_lists, deletion_lists, lists_of_entry, lists_of_map}
+use Rattle.config_emit.specs.Maps.{act_in_map, act_out_map, maps_of, match_lists, deletion_lists, lists_of_entry, lists_of_map}
 use Rattle.config_emit.specs.Plan.{Plan, act_into}
 use Rattle.emit_faults.proofs.Policies.{of_entries}
 use Rattle.emit_faults.proofs.Routers.{of_routers}
@@ -39,7 +39,7 @@ map_within e plan g m of =
     set : List ℕ
     set = communities_of e.network
 
-    step : (o : Option Act) → IfSome o (IsActWithin set) → IfSome o (λ act. IsMapWithin set (into_map (Some act)) × IfSome (out_map (Some act)) (IsMapWithin set))
+    step : (o : Option Act) → IfSome o (IsActWithin set) → IfSome o (λ act. IsMapWithin set (act_in_map (Some act)) × IfSome (act_out_map (Some act)) (IsMapWithin set))
     step None is = tt
     step (Some (Import out sends into)) is = (is.1, is.0)
     step (Some (Cost cost)) is = (tt, tt)

@@ -17,7 +17,7 @@ use Rattle.cfg_ast.specs.meaning.RouterFaults.{router_line, neighbor_line, first
 use Rattle.cfg_ast.specs.meaning.Topology.{neighbors_of}
 use Rattle.abstract_net.specs.declared.qlink.QLink.{QLink}
 use Rattle.srp_core.specs.Problem.{number}
-use Rattle.config_emit.specs.Emitted.{neighbor_at, process_of, bgp_of, emitted_router, emitted}
+use Rattle.config_emit.specs.Emitted.{neighbor_at, process_of, written_bgp, emitted_router, emitted}
 use Rattle.config_emit.specs.Interfaces.{is_at, links_at}
 use Rattle.config_emit.specs.Laws.{IsPlan}
 use Rattle.config_emit.specs.Plan.{Plan, small}
@@ -115,7 +115,7 @@ neighbors_few e g = over e.problem.protocol
     step true = omega arith
     step false = let same = length-map (links_at e g) (neighbor_at e g) in omega arith
 
-    over : (q : Protocol) → length (option_map_or (λ (process : BgpProcess). process.neighbors) (bgp_of q e g) []) ≤ length (links_at e g)
+    over : (q : Protocol) → length (option_map_or (λ (process : BgpProcess). process.neighbors) (written_bgp q e g) []) ≤ length (links_at e g)
     over OverOspf = omega arith
     over OverBgp = step (nat_eq (number (small e) g) 0)
 
@@ -145,7 +145,7 @@ no_neighbors : (e : Plan) → e.problem.protocol ≡ OverOspf → (gs : List ℕ
 no_neighbors e ospf [] = refl
 no_neighbors e ospf (g ∷ gs) =
     flat_map-cons neighbors_of (emitted_router e g) (map (emitted_router e) gs)
-    ∙ ap (λ (ns : List Neighbor). ns ++ flat_map neighbors_of (map (emitted_router e) gs)) (ap (λ q. option_map_or (λ (process : BgpProcess). process.neighbors) (bgp_of q e g) []) ospf)
+    ∙ ap (λ (ns : List Neighbor). ns ++ flat_map neighbors_of (map (emitted_router e) gs)) (ap (λ q. option_map_or (λ (process : BgpProcess). process.neighbors) (written_bgp q e g) []) ospf)
     ∙ no_neighbors e ospf gs
 
 pub no_more_neighbors : (e : Plan) → (e.problem.protocol ≡ OverBgp → 2 * length e.links ≤ 131072) → too_many_neighbors_lines (emitted e) ≡ []

@@ -19,7 +19,7 @@ use Rattle.abstract_net.specs.declared.qlink.QLink.{QLink}
 use Rattle.route_maps.specs.declared.plain.Plain.{Plain}
 use Rattle.route_maps.specs.declared.plain.PlainEntry.{PlainEntry}
 use Rattle.srp_core.specs.Problem.{number}
-use Rattle.config_emit.specs.Emitted.{neighbor_at, bgp_of, emitted_router, emitted}
+use Rattle.config_emit.specs.Emitted.{neighbor_at, written_bgp, emitted_router, emitted}
 use Rattle.config_emit.specs.Interfaces.{links_at}
 use Rattle.config_emit.specs.Maps.{maps_of, deletion_name, named, name_of_list, names_line, number_of_map, written_list, match_lists, deletion_lists, lists_of_entry, lists_of_map, written_entry, denying_entry, written_entries, written_map}
 use Rattle.config_emit.specs.Plan.{Plan, small}
@@ -41,9 +41,9 @@ pub record IsNeighborOf (e : Plan) (g : ℕ) (n : Neighbor) : Type 0 where
   pub is : neighbor_at e g (place, link) ≡ n
 
 pub neighbor_of : (e : Plan) (g : ℕ) (n : Neighbor) → In (neighbors_of (emitted_router e g)) n → IsNeighborOf e g n
-neighbor_of e g n h = step (bgp_of e.problem.protocol e g) refl h
+neighbor_of e g n h = step (written_bgp e.problem.protocol e g) refl h
   where
-    step : (o : Option BgpProcess) → bgp_of e.problem.protocol e g ≡ o → In (option_map_or (λ (process : BgpProcess). process.neighbors) o []) n → IsNeighborOf e g n
+    step : (o : Option BgpProcess) → written_bgp e.problem.protocol e g ≡ o → In (option_map_or (λ (process : BgpProcess). process.neighbors) o []) n → IsNeighborOf e g n
     step None made h = absurd h
     step (Some b) made h =
         let p = process_is e g b made in

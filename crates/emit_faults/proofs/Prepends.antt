@@ -25,9 +25,9 @@ use Rattle.srp_core.specs.Acts.{IsActOf}
 use Rattle.srp_core.specs.Problem.{number}
 use Rattle.srp_core.specs.declared.route.Act.{Act}
 use Rattle.srp_core.specs.declared.route.Act.TheVariants.{Import, Cost}
-use Rattle.config_emit.specs.Emitted.{neighbor_at, process_of, bgp_of, emitted_router, emitted}
+use Rattle.config_emit.specs.Emitted.{neighbor_at, process_of, written_bgp, emitted_router, emitted}
 use Rattle.config_emit.specs.Laws.{IsPlan}
-use Rattle.config_emit.specs.Maps.{into_map, maps_of, map_name, number_of_map, written_prepend, written_entries, written_map}
+use Rattle.config_emit.specs.Maps.{act_in_map, maps_of, map_name, number_of_map, written_prepend, written_entries, written_map}
 use Rattle.config_emit.specs.Plan.{Plan, small, act_into}
 use Rattle.emit_faults.proofs.Policies.{neighbor_of, written_of, of_entries, entry_of, no_line}
 use Rattle.emit_faults.proofs.Routers.{of_routers}
@@ -42,7 +42,7 @@ use Rattle.emit_forms.proofs.Policies.{map_at, number_few}
 
 own_number : (e : Plan) (g : ℕ) → e.problem.protocol ≡ OverBgp → number (small e) g ≢ 0 → has_number (emitted_router e g) (number (small e) g) ≡ true
 own_number e g bgp some =
-    ap (λ q. option_map_or (λ (process : BgpProcess). nat_eq process.number (number (small e) g)) (bgp_of q e g) false) bgp
+    ap (λ q. option_map_or (λ (process : BgpProcess). nat_eq process.number (number (small e) g)) (written_bgp q e g) false) bgp
     ∙ ap (λ b. option_map_or (λ (process : BgpProcess). nat_eq process.number (number (small e) g)) (cond b None (Some (process_of e g))) false) (other_number (number (small e) g) 0 some)
     ∙ same_number (number (small e) g) (number (small e) g) refl
 
@@ -90,10 +90,10 @@ acts_add_nothing e plan bgp =
     fits (Import out sends into) is = recursion_from_All AddsNothing into.entries is
     fits (Cost cost) is = tt
 
-into_adds_nothing : (e : Plan) → IsPlan e → e.problem.protocol ≡ OverBgp → (g : ℕ) (l : QLink) → AllByRecursion AddsNothing (into_map (act_into e g l)).entries
+into_adds_nothing : (e : Plan) → IsPlan e → e.problem.protocol ≡ OverBgp → (g : ℕ) (l : QLink) → AllByRecursion AddsNothing (act_in_map (act_into e g l)).entries
 into_adds_nothing e plan bgp g l = step (act_into e g l) (act_holds AddsNoneIn e tt (acts_add_nothing e plan bgp) g l)
   where
-    step : (o : Option Act) → IfSome o AddsNoneIn → AllByRecursion AddsNothing (into_map o).entries
+    step : (o : Option Act) → IfSome o AddsNoneIn → AllByRecursion AddsNothing (act_in_map o).entries
     step None is = tt
     step (Some (Import out sends into)) is = is
     step (Some (Cost cost)) is = tt
@@ -182,7 +182,7 @@ none_inbound e plan few =
     let name = in_name e g of.link m of.over of.of.link_in of.of.touched made in
     ap (has_prepending_map (emitted_router e g)) name.is
     ∙ not_prepending e few g name.plain name.at
-    (subst (λ (q : Plain). AllByRecursion AddsNothing q.entries) (one_some (into_map (act_into e g of.link)) name.plain name.of) (into_adds_nothing e plan of.over g of.link)))))))
+    (subst (λ (q : Plain). AllByRecursion AddsNothing q.entries) (one_some (act_in_map (act_into e g of.link)) name.plain name.of) (into_adds_nothing e plan of.over g of.link)))))))
   where
     one_some : (x y : Plain) → Some x ≡ Some y → x ≡ y
     one_some x y same = cc

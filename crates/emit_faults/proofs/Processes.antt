@@ -12,7 +12,7 @@ use Rattle.cfg_ast.specs.declared.network.Router.{Router}
 use Rattle.cfg_ast.specs.declared.ospf.AreaLine.{AreaLine}
 use Rattle.cfg_ast.specs.declared.ospf.OspfProcess.{OspfProcess}
 use Rattle.cfg_ast.specs.meaning.RouterFaults.{unlike_first, ProtocolLine, lines_in_order, protocol_lines_of, protocol_lines, is_same_protocol, same_protocol, line_of_protocol, mixed_protocol_lines, area_line as line_of_area, areas_in, areas_of, area_lines, same_area, other_area_lines}
-use Rattle.config_emit.specs.Emitted.{bgp_of, area_line, ospf_on, area_number, ospf_of, emitted}
+use Rattle.config_emit.specs.Emitted.{written_bgp, host_area_line, ospf_on, area_number, ospf_of, emitted}
 use Rattle.config_emit.specs.Interfaces.{class_interfaces, link_interfaces}
 use Rattle.config_emit.specs.Plan.{Plan}
 use Rattle.emit_faults.proofs.Routers.{of_routers}
@@ -28,8 +28,8 @@ same_itself : (q : Protocol) → is_same_protocol q q ≡ true
 same_itself protocol.Bgp = refl
 same_itself protocol.Ospf = refl
 
-one_line : (q : Protocol) (e : Plan) (g : ℕ) (l : ProtocolLine) → In (lines_in_order (bgp_of q e g) (ospf_of q e g)) l → l.protocol ≡ q
-one_line protocol.Bgp e g l h = step (bgp_of protocol.Bgp e g) h
+one_line : (q : Protocol) (e : Plan) (g : ℕ) (l : ProtocolLine) → In (lines_in_order (written_bgp q e g) (ospf_of q e g)) l → l.protocol ≡ q
+one_line protocol.Bgp e g l h = step (written_bgp protocol.Bgp e g) h
   where
     step : (o : Option BgpProcess) → In (lines_in_order o None) l → l.protocol ≡ protocol.Bgp
     step None h = absurd h
@@ -57,7 +57,7 @@ no_mixed_protocols e =
 
 -- ---- one area
 
-made_area : (area : ℕ) (x : Interface) (l : AreaLine) → area_line area x ≡ Some l → l.area ≡ area
+made_area : (area : ℕ) (x : Interface) (l : AreaLine) → host_area_line area x ≡ Some l → l.area ≡ area
 made_area area x l made = step x.address made
   where
     step : (o : Option Address) → option_map (λ (a : Address). let line : AreaLine = record { addr = a.addr; wild = 0; area = area; line = 0 } in line) o ≡ Some l → l.area ≡ area
@@ -70,7 +70,7 @@ one_area protocol.Ospf e g l h = step (class_interfaces e g ++ link_interfaces e
   where
     step : (xs : List Interface) → In (areas_in (ospf_on (area_number e) (class_interfaces e g) xs)) l → l.area ≡ area_number e
     step [] h = absurd h
-    step (x ∷ xs) h = let f = filter_map_in (area_line (area_number e)) (x ∷ xs) l h in made_area (area_number e) f.0 l f.2
+    step (x ∷ xs) h = let f = filter_map_in (host_area_line (area_number e)) (x ∷ xs) l h in made_area (area_number e) f.0 l f.2
 
 pub no_other_area : (e : Plan) → other_area_lines (emitted e) ≡ []
 unfolding other_area_lines

@@ -10,7 +10,7 @@ use Rattle.cfg_ast.specs.declared.bgp.BgpProcess.{BgpProcess}
 use Rattle.cfg_ast.specs.declared.network.Router.{Router}
 use Rattle.srp_core.specs.Problem.{number}
 use Rattle.srp_quotient.specs.Groups.{first_member}
-use Rattle.config_emit.specs.Emitted.{process_of, bgp_of, emitted_router, emitted}
+use Rattle.config_emit.specs.Emitted.{process_of, written_bgp, emitted_router, emitted}
 use Rattle.config_emit.specs.Plan.{Plan, small}
 use Rattle.emit_forms.proofs.Groups.{HasFirst}
 use Rattle.emit_forms.proofs.Pairwise.{IsPairwise, weaker, pairs_map, range_pairs}
@@ -50,13 +50,13 @@ pub record IsProcessOf (e : Plan) (g : ℕ) (b : BgpProcess) : Type 0 where
   pub some : number (small e) g ≢ 0
   pub is : process_of e g ≡ b
 
-pub process_is : (e : Plan) (g : ℕ) (b : BgpProcess) → bgp_of e.problem.protocol e g ≡ Some b → IsProcessOf e g b
+pub process_is : (e : Plan) (g : ℕ) (b : BgpProcess) → written_bgp e.problem.protocol e g ≡ Some b → IsProcessOf e g b
 process_is e g b made = step e.problem.protocol refl made
   where
     by_test : (t : Bool) → nat_eq (number (small e) g) 0 ≡ t → cond t None (Some (process_of e g)) ≡ Some b → (number (small e) g ≢ 0) × (process_of e g ≡ b)
     by_test true is e = absurd cc
     by_test false is e = (λ zero. (let f = same_number _ 0 zero in cc), cc)
 
-    step : (q : Protocol) → e.problem.protocol ≡ q → bgp_of q e g ≡ Some b → IsProcessOf e g b
+    step : (q : Protocol) → e.problem.protocol ≡ q → written_bgp q e g ≡ Some b → IsProcessOf e g b
     step OverOspf over made = absurd cc
     step OverBgp over made = let t = by_test (nat_eq (number (small e) g) 0) refl made in record { over = over; some = t.0; is = t.1 }

@@ -19,7 +19,7 @@ use Rattle.route_maps.specs.Same.{same_line, same_list, same_match, same_change,
 use Rattle.route_maps.specs.declared.plain.Plain.{Plain}
 use Rattle.route_maps.specs.declared.plain.PlainEntry.{PlainEntry}
 use Rattle.srp_quotient.specs.Groups.{touches}
-use Rattle.config_emit.specs.Maps.{other_end, into_map, out_map, is_whole, if_written, maps_at, firsts, maps_over, maps_of, map_name, named, name_of_map, number_of_map}
+use Rattle.config_emit.specs.Maps.{other_end, act_in_map, act_out_map, is_whole, if_written, maps_at, firsts, maps_over, maps_of, map_name, named, name_of_map, number_of_map}
 use Rattle.config_emit.specs.Plan.{Plan, act_into}
 use Rattle.emit_forms.proofs.Names.{bytes_self}
 
@@ -153,16 +153,16 @@ name_use e g m n given made = step (is_whole m.entries) made given
     step true made given = absurd cc
     step false made given = let same : named (map_name (number_of_map (maps_of e g) m)) ≡ n = cc in record { plain = m; of = refl; is = ap (λ (x : Named). x.name) (sym same); at = in_maps e g m (given (inl refl)) }
 
-pub in_name : (e : Plan) (g : ℕ) (l : QLink) (n : Named) → e.problem.protocol ≡ OverBgp → In e.links l → touches g l ≡ true → name_of_map (maps_of e g) (Some (into_map (act_into e g l))) ≡ Some n → IsNameOf e g (Some (into_map (act_into e g l))) n
+pub in_name : (e : Plan) (g : ℕ) (l : QLink) (n : Named) → e.problem.protocol ≡ OverBgp → In e.links l → touches g l ≡ true → name_of_map (maps_of e g) (Some (act_in_map (act_into e g l))) ≡ Some n → IsNameOf e g (Some (act_in_map (act_into e g l))) n
 in_name e g l n bgp at touched made =
-    name_use e g (into_map (act_into e g l)) n
-    (λ here. use_in e g l (into_map (act_into e g l)) bgp at touched (in_left (if_written (Some (into_map (act_into e g l)))) (if_written (out_map (act_into e (other_end g l) l))) (into_map (act_into e g l)) here)) made
+    name_use e g (act_in_map (act_into e g l)) n
+    (λ here. use_in e g l (act_in_map (act_into e g l)) bgp at touched (in_left (if_written (Some (act_in_map (act_into e g l)))) (if_written (act_out_map (act_into e (other_end g l) l))) (act_in_map (act_into e g l)) here)) made
 
-pub out_name : (e : Plan) (g : ℕ) (l : QLink) (n : Named) → e.problem.protocol ≡ OverBgp → In e.links l → touches g l ≡ true → name_of_map (maps_of e g) (out_map (act_into e (other_end g l) l)) ≡ Some n → IsNameOf e g (out_map (act_into e (other_end g l) l)) n
-out_name e g l n bgp at touched made = step (out_map (act_into e (other_end g l) l)) refl made
+pub out_name : (e : Plan) (g : ℕ) (l : QLink) (n : Named) → e.problem.protocol ≡ OverBgp → In e.links l → touches g l ≡ true → name_of_map (maps_of e g) (act_out_map (act_into e (other_end g l) l)) ≡ Some n → IsNameOf e g (act_out_map (act_into e (other_end g l) l)) n
+out_name e g l n bgp at touched made = step (act_out_map (act_into e (other_end g l) l)) refl made
   where
-    step : (o : Option Plain) → out_map (act_into e (other_end g l) l) ≡ o → name_of_map (maps_of e g) o ≡ Some n → IsNameOf e g o n
+    step : (o : Option Plain) → act_out_map (act_into e (other_end g l) l) ≡ o → name_of_map (maps_of e g) o ≡ Some n → IsNameOf e g o n
     step None is made = absurd cc
     step (Some m) is made =
         name_use e g m n
-        (λ here. use_in e g l m bgp at touched (in_right (if_written (Some (into_map (act_into e g l)))) (if_written (out_map (act_into e (other_end g l) l))) m (subst (λ (o : Option Plain). In (if_written o) m) (sym is) here))) made
+        (λ here. use_in e g l m bgp at touched (in_right (if_written (Some (act_in_map (act_into e g l)))) (if_written (act_out_map (act_into e (other_end g l) l))) m (subst (λ (o : Option Plain). In (if_written o) m) (sym is) here))) made

@@ -21,7 +21,7 @@ use Rattle.cfg_check.specs.Faultless.{IsFaultless}
 use Rattle.abstract_net.specs.declared.qlink.QLink.{QLink}
 use Rattle.config_emit.specs.Laws.{IsPlan}
 use Rattle.config_emit.specs.Interfaces.{class_interface_in, class_interfaces_on, class_interfaces, is_at, links_at, side_number, link_address, link_interface, link_interfaces}
-use Rattle.config_emit.specs.Plan.{Plan, router_of}
+use Rattle.config_emit.specs.Plan.{Plan, first_router_of}
 use Rattle.config_emit.specs.Pool.{meets_pool, line_at, pool_line}
 use Rattle.emit_forms.proofs.Interfaces.{IsClassAt, class_of_entry, class_at, IsLinkAt, link_at, side_below}
 use Rattle.emit_forms.proofs.Origins.{IsBefore, class_is, class_pairs}
@@ -132,7 +132,7 @@ one_router o r s e f = cc
 
 class_apart : (e : Plan) → IsPlan e → (g : ℕ) (x y : Interface) (c : IsClassAt e g x) (d : IsClassAt e g y) → IsBefore c.prefix d.prefix → AreApart x y
 class_apart e plan g x y c d before =
-    let here : In (up_addresses_of c.router) d.address = subst (λ (r : Router). In (up_addresses_of r) d.address) (one_router (router_of e g) d.router c.router d.at c.at) d.address_in in
+    let here : In (up_addresses_of c.router) d.address = subst (λ (r : Router). In (up_addresses_of r) d.address) (one_router (first_router_of e g) d.router c.router d.at c.at) d.address_in in
     apart_by x y (bare_address c.address) (bare_address d.address) c.given d.given
     (elim (pick (λ (a b : Address). overlap b a ≡ false) (up_addresses_of c.router) c.address d.address (router_apart e.network plan.faultless c.router c.router_in) c.address_in here) [
       | inl same ↦ absurd (let f = sym c.subnet ∙ ap subnet_of_address same ∙ d.subnet in let g = not_before_self d.prefix in let h = subst (λ (p : Prefix). IsBefore p d.prefix) f before in cc)
@@ -165,9 +165,9 @@ links_pairs e g =
 
 class_pairs_apart : (e : Plan) → IsPlan e → (g : ℕ) → IsPairwise AreApart (class_interfaces e g)
 unfolding class_interfaces
-class_pairs_apart e plan g = step (router_of e g) refl
+class_pairs_apart e plan g = step (first_router_of e g) refl
   where
-    step : (o : Option Router) → router_of e g ≡ o → IsPairwise AreApart (option_map_or (class_interfaces_on e.problem.protocol e.class.prefixes) o [])
+    step : (o : Option Router) → first_router_of e g ≡ o → IsPairwise AreApart (option_map_or (class_interfaces_on e.problem.protocol e.class.prefixes) o [])
     step None at = tt
     step (Some r) at =
         pairs_filter_map (class_interface_in e.problem.protocol r) (λ (p q : ℕ × Prefix). IsBefore p.1 q.1) AreApart (enumerate_from 1 e.class.prefixes)

@@ -25,7 +25,7 @@ use Rattle.srp_core.specs.Quotient.{first_number}
 use Rattle.srp_quotient.specs.Groups.{first_member, touches, number_of_group, is_used, quotient_problem}
 use Rattle.config_emit.specs.Laws.{IsPlan}
 use Rattle.config_emit.specs.Maps.{other_end}
-use Rattle.config_emit.specs.Plan.{Plan, small, router_of}
+use Rattle.config_emit.specs.Plan.{Plan, small, first_router_of}
 use Rattle.emit_forms.specs.Laws.{GroupsAreNoMore}
 use Rattle.emit_forms.proofs.Origins.{class_is, some_prefix, router_forms, ascending_few}
 use Rattle.emit_forms.proofs.Pairwise.{weaker, range_pairs}
@@ -65,7 +65,7 @@ pub record HasFirst (e : Plan) (g : ℕ) : Type 0 where
   pub inside : first_member e.groups g < length e.groups
   pub group : slice_index e.groups (first_member e.groups g) ≡ g
   pub router : Router
-  pub at : router_of e g ≡ Some router
+  pub at : first_router_of e g ≡ Some router
   pub is_in : In e.network.routers router
 
 pub first_of : (e : Plan) → IsPlan e → (g : ℕ) → g < e.count → HasFirst e g

@@ -6,14 +6,14 @@ use Rattle.std.specs.Option.{option_map, option_map_or}
 use Rattle.std.specs.List.{enumerate_from}
 use Rattle.std.proofs.lemmas.List.Filters.{length-filter_both}
 use Rattle.std.proofs.lemmas.Option.{slice_get_within}
-use Rattle.base_kit.specs.Prefixes.{Prefix}
+use Rattle.base_kit.specs.Prefixes.{Prefix, same_prefix}
 use Rattle.base_kit.specs.declared.protocol.Protocol.{Protocol}
 use Rattle.base_kit.specs.declared.protocol.Protocol.TheVariants.{Bgp as OverBgp, Ospf as OverOspf}
 use Rattle.base_kit.proofs.Elements.{In, map_in, filter_in, filter_map_in, in_filter_map, enumerate_in, get_in}
 use Rattle.cfg_ast.specs.meaning.Addresses.{Address}
 use Rattle.cfg_ast.specs.declared.interface.Interface.{Interface}
 use Rattle.cfg_ast.specs.declared.network.Router.{Router}
-use Rattle.cfg_ast.specs.meaning.Classes.{same_prefix, is_up_in, initial_route}
+use Rattle.cfg_ast.specs.meaning.Classes.{is_up_in, initial_route}
 use Rattle.cfg_ast.specs.meaning.RouterFaults.{up_addresses_of}
 use Rattle.cfg_ast.specs.meaning.Topology.{subnet_of_address, up_address, is_in_area_interface}
 use Rattle.cfg_ast.specs.printing.Bare.{bare_address}
@@ -24,7 +24,7 @@ use Rattle.abstract_net.specs.declared.qlink.QLink.{QLink}
 use Rattle.srp_quotient.specs.Groups.{first_member, touches}
 use Rattle.config_emit.specs.Laws.{IsPlan}
 use Rattle.config_emit.specs.Interfaces.{interface_in, cost_over, class_interface, class_interface_in, class_interfaces_on, class_interfaces, is_at, links_at, side_number, link_address, link_interface, link_interfaces}
-use Rattle.config_emit.specs.Plan.{Plan, router_of}
+use Rattle.config_emit.specs.Plan.{Plan, first_router_of}
 use Rattle.emit_forms.proofs.Acts.{IsCost, cost_form, link_cost}
 use Rattle.emit_forms.proofs.Groups.{end_of}
 use Rattle.emit_forms.proofs.Names.{class_name_is, link_name_is, numbers_apart, fronts_apart}
@@ -41,7 +41,7 @@ pub record IsClassAt (e : Plan) (g : ℕ) (x : Interface) : Type 0 where
   pub prefix_in : In e.class.prefixes prefix
   pub early : number ≤ length e.class.prefixes
   pub router : Router
-  pub at : router_of e g ≡ Some router
+  pub at : first_router_of e g ≡ Some router
   pub router_in : In e.network.routers router
   pub originates : is_some (initial_route router prefix) ≡ true
   pub origin : Interface
@@ -85,7 +85,7 @@ made_address : (q : Protocol) (number : ℕ) (origin x : Interface) (a : Address
 made_address q number origin x a is given = ap (λ (y : Interface). y.address) (sym is) ∙ ap (option_map bare_address) given
 
 -- the interface that is made of a prefix and its number
-pub class_of_entry : (e : Plan) (g : ℕ) (r : Router) (number : ℕ) (prefix : Prefix) (x : Interface) → router_of e g ≡ Some r → In (enumerate_from 1 e.class.prefixes) (number, prefix) → class_interface_in e.problem.protocol r (number, prefix) ≡ Some x
+pub class_of_entry : (e : Plan) (g : ℕ) (r : Router) (number : ℕ) (prefix : Prefix) (x : Interface) → first_router_of e g ≡ Some r → In (enumerate_from 1 e.class.prefixes) (number, prefix) → class_interface_in e.problem.protocol r (number, prefix) ≡ Some x
     → (c : IsClassAt e g x) × (c.prefix ≡ prefix)
 class_of_entry e g r number prefix x at numbered made =
     let c = cond_some (is_some (initial_route r prefix)) (option_map (class_interface e.problem.protocol number) (interface_in e.problem.protocol r prefix)) x made in
@@ -116,16 +116,16 @@ class_of_entry e g r number prefix x at numbered made =
       refl,
     )
 
-class_of_router : (e : Plan) (g : ℕ) (r : Router) (x : Interface) → router_of e g ≡ Some r → In (class_interfaces_on e.problem.protocol e.class.prefixes r) x → IsClassAt e g x
+class_of_router : (e : Plan) (g : ℕ) (r : Router) (x : Interface) → first_router_of e g ≡ Some r → In (class_interfaces_on e.problem.protocol e.class.prefixes r) x → IsClassAt e g x
 class_of_router e g r x at h =
     let f = filter_map_in (class_interface_in e.problem.protocol r) (enumerate_from 1 e.class.prefixes) x h in
     (class_of_entry e g r f.0.0 f.0.1 x at f.1 f.2).0
 
 pub class_at : (e : Plan) (g : ℕ) (x : Interface) → In (class_interfaces e g) x → IsClassAt e g x
 unfolding class_interfaces
-class_at e g x h = step (router_of e g) refl h
+class_at e g x h = step (first_router_of e g) refl h
   where
-    step : (o : Option Router) → router_of e g ≡ o → In (option_map_or (class_interfaces_on e.problem.protocol e.class.prefixes) o []) x → IsClassAt e g x
+    step : (o : Option Router) → first_router_of e g ≡ o → In (option_map_or (class_interfaces_on e.problem.protocol e.class.prefixes) o []) x → IsClassAt e g x
     step None at h = absurd h
     step (Some r) at h = class_of_router e g r x at h
 
@@ -230,7 +230,7 @@ HaveOtherNames x y = bytes_eq x.name y.name ≡ false
 
 pub class_names : (e : Plan) → IsPlan e → (g : ℕ) → IsPairwise HaveOtherNames (class_interfaces e g)
 unfolding class_interfaces
-class_names e plan g = step (router_of e g) refl
+class_names e plan g = step (first_router_of e g) refl
   where
     few : (j : ℕ) (p : Prefix) → In (enumerate_from 1 e.class.prefixes) (j, p) → j < 10 ^ 14
     few j p h =
@@ -248,7 +248,7 @@ class_names e plan g = step (router_of e g) refl
         let n = map_some (class_interface e.problem.protocol k) (interface_in e.problem.protocol r q) y d.1 in
         ap (λ (z : Interface). bytes_eq z.name y.name) (sym m.2) ∙ ap (λ (z : Interface). bytes_eq (codes "Vlan" ++ decimal j) z.name) (sym n.2) ∙ numbers_apart (codes "Vlan") j k (few j p h) (few k q i) (λ same. absurd (omega arith))
 
-    step : (o : Option Router) → router_of e g ≡ o → IsPairwise HaveOtherNames (option_map_or (class_interfaces_on e.problem.protocol e.class.prefixes) o [])
+    step : (o : Option Router) → first_router_of e g ≡ o → IsPairwise HaveOtherNames (option_map_or (class_interfaces_on e.problem.protocol e.class.prefixes) o [])
     step None at = tt
     step (Some r) at = pairs_filter_map (class_interface_in e.problem.protocol r) IsEarlier HaveOtherNames (enumerate_from 1 e.class.prefixes) (apart r) (numbered_pairs 1 e.class.prefixes)
 

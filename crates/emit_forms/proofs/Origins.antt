@@ -5,14 +5,14 @@ use Rattle.std.specs.Prelude.{Contains, IfSome, filter, filter_map, flat_map, is
 use Rattle.std.specs.Option.{option_map}
 use Rattle.std.proofs.Math.Nat.{mul-mod_left, div-mul-le_self}
 use Rattle.std.proofs.lemmas.Bool.Decides.{nat_tests}
-use Rattle.base_kit.specs.Prefixes.{Prefix}
+use Rattle.base_kit.specs.Prefixes.{Prefix, same_prefix}
 use Rattle.base_kit.proofs.Elements.{In, contains_in, in_contains, map_in, filter_in, in_filter, filter_map_in, flat_map_in}
 use Rattle.cfg_ast.specs.meaning.Addresses.{Address}
 use Rattle.cfg_ast.specs.declared.classes.DestClass.{DestClass}
 use Rattle.cfg_ast.specs.declared.interface.Interface.{Interface}
 use Rattle.cfg_ast.specs.declared.network.Network.{Network}
 use Rattle.cfg_ast.specs.declared.network.Router.{Router}
-use Rattle.cfg_ast.specs.meaning.Classes.{same_prefix, is_before, with_prefix, with_prefixes, AllAfter, AreAscending, up_subnet, initial_route, originated_by, originated, is_same_class, is_least, class_of, classes_of}
+use Rattle.cfg_ast.specs.meaning.Classes.{is_before, with_prefix, with_prefixes, AllAfter, AreAscending, up_subnet, initial_route, originated_by, originated, is_same_class, is_least, class_of, classes_of}
 use Rattle.cfg_ast.specs.meaning.Topology.{subnet_of_address, up_address}
 use Rattle.cfg_ast.specs.printing.WellFormed.{IsPrefix, IsWellFormedAddress, IsWellFormedInterface, IsWellFormedRouter, IsWellFormed}
 use Rattle.cfg_ast.proofs.ClassFacts.{is_one_class, class_ascends}

@@ -23,7 +23,7 @@ use Rattle.srp_core.specs.declared.route.Act.{Act}
 use Rattle.srp_core.specs.declared.route.Act.TheVariants.{Import, Cost}
 use Rattle.srp_quotient.specs.Groups.{touches}
 use Rattle.config_emit.specs.Laws.{IsPlan, IsPrintableAct}
-use Rattle.config_emit.specs.Maps.{other_end, closed_map, into_map, out_map, is_whole, if_written, maps_at, firsts, maps_over, maps_of, list_name, deletion_name, number_of_map, written_list, match_list, match_lists, deletion_lists, lists_of_entry, lists_of_map}
+use Rattle.config_emit.specs.Maps.{other_end, closed_map, act_in_map, act_out_map, is_whole, if_written, maps_at, firsts, maps_over, maps_of, list_name, deletion_name, number_of_map, written_list, match_list, match_lists, deletion_lists, lists_of_entry, lists_of_map}
 use Rattle.config_emit.specs.Plan.{Plan, act_into}
 use Rattle.emit_forms.proofs.Acts.{act_prints}
 use Rattle.emit_forms.proofs.Names.{differ, one_list, no_letter}
@@ -69,18 +69,18 @@ written_in (Some x) m h = step (is_whole x.entries) h
     step false (inr h) = absurd h
 
 -- what holds of the maps of acts, and of the map without entries, holds of each map of a group
-pub map_holds : (P : Plain → Type 0) (e : Plan) → P closed_map → ((g : ℕ) (l : QLink) → IfSome (act_into e g l) (λ act. P (into_map (Some act)) × IfSome (out_map (Some act)) P)) → (g : ℕ) (m : Plain) → IsMapOf e g m → P m
+pub map_holds : (P : Plain → Type 0) (e : Plan) → P closed_map → ((g : ℕ) (l : QLink) → IfSome (act_into e g l) (λ act. P (act_in_map (Some act)) × IfSome (act_out_map (Some act)) P)) → (g : ℕ) (m : Plain) → IsMapOf e g m → P m
 map_holds P e closed acts g m of =
-    elim (append_in (if_written (Some (into_map (act_into e g of.link)))) (if_written (out_map (act_into e (other_end g of.link) of.link))) m of.here) [
-      | inl h ↦ some_holds P (Some (into_map (act_into e g of.link))) m (in_map (act_into e g of.link) (acts g of.link)) (written_in (Some (into_map (act_into e g of.link))) m h)
-      | inr h ↦ some_holds P (out_map (act_into e (other_end g of.link) of.link)) m (out (act_into e (other_end g of.link) of.link) (acts (other_end g of.link) of.link)) (written_in (out_map (act_into e (other_end g of.link) of.link)) m h)
+    elim (append_in (if_written (Some (act_in_map (act_into e g of.link)))) (if_written (act_out_map (act_into e (other_end g of.link) of.link))) m of.here) [
+      | inl h ↦ some_holds P (Some (act_in_map (act_into e g of.link))) m (in_map (act_into e g of.link) (acts g of.link)) (written_in (Some (act_in_map (act_into e g of.link))) m h)
+      | inr h ↦ some_holds P (act_out_map (act_into e (other_end g of.link) of.link)) m (out (act_into e (other_end g of.link) of.link) (acts (other_end g of.link) of.link)) (written_in (act_out_map (act_into e (other_end g of.link) of.link)) m h)
     ]
   where
-    in_map : (o : Option Act) → IfSome o (λ act. P (into_map (Some act)) × IfSome (out_map (Some act)) P) → P (into_map o)
+    in_map : (o : Option Act) → IfSome o (λ act. P (act_in_map (Some act)) × IfSome (act_out_map (Some act)) P) → P (act_in_map o)
     in_map None is = closed
     in_map (Some act) is = is.0
 
-    out : (o : Option Act) → IfSome o (λ act. P (into_map (Some act)) × IfSome (out_map (Some act)) P) → IfSome (out_map o) P
+    out : (o : Option Act) → IfSome o (λ act. P (act_in_map (Some act)) × IfSome (act_out_map (Some act)) P) → IfSome (act_out_map o) P
     out None is = tt
     out (Some act) is = is.1
 
@@ -90,7 +90,7 @@ closed_prints = record { entries = tt; ascending = tt }
 pub map_prints : (e : Plan) → IsPlan e → (g : ℕ) (m : Plain) → IsMapOf e g m → IsPrintable m
 map_prints e plan g m of = map_holds IsPrintable e closed_prints (λ h l. step (act_into e h l) (act_prints e plan h l)) g m of
   where
-    step : (o : Option Act) → IfSome o IsPrintableAct → IfSome o (λ act. IsPrintable (into_map (Some act)) × IfSome (out_map (Some act)) IsPrintable)
+    step : (o : Option Act) → IfSome o IsPrintableAct → IfSome o (λ act. IsPrintable (act_in_map (Some act)) × IfSome (act_out_map (Some act)) IsPrintable)
     step None is = tt
     step (Some (Import out sends into)) is = (is.1, is.0)
     step (Some (Cost cost)) is = (closed_prints, tt)
@@ -118,9 +118,9 @@ two_each e g [] = omega arith
 two_each e g (l ∷ ls) =
     let first = ap length (flat_map-cons (maps_at e g) l ls) in
     let both = length-append (maps_at e g l) (flat_map (maps_at e g) ls) in
-    let here = length-append (if_written (Some (into_map (act_into e g l)))) (if_written (out_map (act_into e (other_end g l) l))) in
-    let one = written_few (Some (into_map (act_into e g l))) in
-    let two = written_few (out_map (act_into e (other_end g l) l)) in
+    let here = length-append (if_written (Some (act_in_map (act_into e g l)))) (if_written (act_out_map (act_into e (other_end g l) l))) in
+    let one = written_few (Some (act_in_map (act_into e g l))) in
+    let two = written_few (act_out_map (act_into e (other_end g l) l)) in
     let rest = two_each e g ls in omega arith
 
 pub few_maps : (e : Plan) → length e.links ≤ 1048576 → (g : ℕ) → length (maps_of e g) ≤ 2097152

@@ -29,10 +29,10 @@ use Rattle.abstract_net.specs.declared.qlink.QLink.{QLink}
 use Rattle.route_maps.specs.declared.plain.Plain.{Plain}
 use Rattle.srp_core.specs.Problem.{number}
 use Rattle.config_emit.specs.Laws.{IsPlan}
-use Rattle.config_emit.specs.Emitted.{net_line, net_lines, base_of, base_line, neighbor_at, process_of, bgp_of, area_line, interface_name, ospf_on, area_number, ospf_of}
+use Rattle.config_emit.specs.Emitted.{class_line_of, net_lines, base_of, written_base, neighbor_at, process_of, written_bgp, host_area_line, interface_name, ospf_on, area_number, ospf_of}
 use Rattle.config_emit.specs.Interfaces.{class_interfaces, is_at, links_at, side_number, link_interfaces}
-use Rattle.config_emit.specs.Maps.{other_end, into_map, out_map, is_whole, map_name, named, number_of_map, maps_of, name_of_map}
-use Rattle.config_emit.specs.Plan.{Plan, small, router_of, act_into}
+use Rattle.config_emit.specs.Maps.{other_end, act_in_map, act_out_map, is_whole, map_name, named, number_of_map, maps_of, name_of_map}
+use Rattle.config_emit.specs.Plan.{Plan, small, first_router_of, act_into}
 use Rattle.emit_forms.proofs.Addresses.{AreApart, interfaces_apart}
 use Rattle.emit_forms.proofs.Groups.{end_of, linked, number_below}
 use Rattle.emit_forms.proofs.Interfaces.{IsLinkOf, link_of, class_names}
@@ -46,11 +46,11 @@ use Rattle.emit_forms.proofs.Policies.{number_few}
 -- a `network` line has a prefix of the class that the first member originates
 pub record IsNetOf (e : Plan) (g : ℕ) (net : NetLine) : Type 0 where
   pub router : Router
-  pub at : router_of e g ≡ Some router
+  pub at : first_router_of e g ≡ Some router
   pub prefix_in : In e.class.prefixes net.prefix
   pub originates : is_some (initial_route router net.prefix) ≡ true
 
-net_is : (r : Router) (p : Prefix) (net : NetLine) → net_line r p ≡ Some net → (is_some (initial_route r p) ≡ true) × (net.prefix ≡ p)
+net_is : (r : Router) (p : Prefix) (net : NetLine) → class_line_of r p ≡ Some net → (is_some (initial_route r p) ≡ true) × (net.prefix ≡ p)
 net_is r p net e = step (is_some (initial_route r p)) e
   where
     step : (b : Bool) → cond b (Some (record { prefix = p; line = 0 })) None ≡ Some net → (b ≡ true) × (net.prefix ≡ p)
@@ -58,12 +58,12 @@ net_is r p net e = step (is_some (initial_route r p)) e
     step false e = absurd cc
 
 pub net_of : (e : Plan) (g : ℕ) (net : NetLine) → In (net_lines e g) net → IsNetOf e g net
-net_of e g net h = step (router_of e g) refl h
+net_of e g net h = step (first_router_of e g) refl h
   where
-    step : (o : Option Router) → router_of e g ≡ o → In (option_map_or (λ r. filter_map (net_line r) e.class.prefixes) o []) net → IsNetOf e g net
+    step : (o : Option Router) → first_router_of e g ≡ o → In (option_map_or (λ r. filter_map (class_line_of r) e.class.prefixes) o []) net → IsNetOf e g net
     step None at h = absurd h
     step (Some r) at h =
-        let f = filter_map_in (net_line r) e.class.prefixes net h in
+        let f = filter_map_in (class_line_of r) e.class.prefixes net h in
         let is = net_is r f.0 net f.2 in
         record { router = r; at = at; prefix_in = subst (In e.class.prefixes) (sym is.1) f.1; originates = ap (λ p. is_some (initial_route r p)) is.1 ∙ is.0 }
 
@@ -76,12 +76,12 @@ nets_form e plan g =
     record { prefix = is.prefix; some = is.some })
 
 nets_once : (e : Plan) → IsPlan e → (g : ℕ) → IsDistinct same_net (net_lines e g)
-nets_once e plan g = distinct_from same_net (net_lines e g) (step (router_of e g))
+nets_once e plan g = distinct_from same_net (net_lines e g) (step (first_router_of e g))
   where
-    step : (o : Option Router) → IsPairwise (λ (a b : NetLine). same_net a b ≡ false) (option_map_or (λ r. filter_map (net_line r) e.class.prefixes) o [])
+    step : (o : Option Router) → IsPairwise (λ (a b : NetLine). same_net a b ≡ false) (option_map_or (λ r. filter_map (class_line_of r) e.class.prefixes) o [])
     step None = tt
     step (Some r) =
-        pairs_filter_map (net_line r) IsBefore (λ (a b : NetLine). same_net a b ≡ false) e.class.prefixes
+        pairs_filter_map (class_line_of r) IsBefore (λ (a b : NetLine). same_net a b ≡ false) e.class.prefixes
         (λ p q a b h i before is is'.
         not_same_before a.prefix b.prefix
         (subst (λ (z : Prefix). IsBefore z b.prefix) (sym (net_is r p a is).1) (subst (IsBefore p) (sym (net_is r q b is').1) before)))
@@ -100,8 +100,8 @@ preference_form r form = step r.bgp form.bgp
     step None is = omega arith
     step (Some process) is = by_base process.base is.base
 
-base_form : (e : Plan) → IsPlan e → (g : ℕ) → IfSome (base_line e g) IsWellFormedBase
-base_form e plan g = step (router_of e g) refl
+base_form : (e : Plan) → IsPlan e → (g : ℕ) → IfSome (written_base e g) IsWellFormedBase
+base_form e plan g = step (first_router_of e g) refl
   where
     on : (r : Router) → IsWellFormedRouter r → (b : Bool) → IfSome (cond b None (Some (record { value = default_preference r; line = 0 }))) IsWellFormedBase
     on r form true = tt
@@ -111,7 +111,7 @@ base_form e plan g = step (router_of e g) refl
     of r form [] = tt
     of r form (net ∷ nets) = on r form (nat_eq (default_preference r) 100)
 
-    step : (o : Option Router) → router_of e g ≡ o → IfSome (option_map_or (base_of (net_lines e g)) o None) IsWellFormedBase
+    step : (o : Option Router) → first_router_of e g ≡ o → IfSome (option_map_or (base_of (net_lines e g)) o None) IsWellFormedBase
     step None at = tt
     step (Some r) at = of r (router_forms e.network plan.well_formed r (get_in e.network.routers _ r at)) (net_lines e g)
 
@@ -140,8 +140,8 @@ neighbor_form e plan law few bgp g t l of =
       remote = subst (λ h. IsBetween 1 4294967295 (number (small e) h)) (sym end.1.other) (positive (number (small e) end.0) some, most);
       list_in = tt;
       list_out = tt;
-      map_in = name_form e few g (Some (into_map (act_into e g l)));
-      map_out = name_form e few g (out_map (act_into e (other_end g l) l));
+      map_in = name_form e few g (Some (act_in_map (act_into e g l)));
+      map_out = name_form e few g (act_out_map (act_into e (other_end g l) l));
     }
   where
     positive : (n : ℕ) → n ≢ 0 → 1 ≤ n
@@ -175,7 +175,7 @@ number_form e plan g below some = (positive (number (small e) g) some, number_be
     positive zero some = absurd (some refl)
     positive (suc n) some = omega arith
 
-pub bgp_form : (e : Plan) → IsPlan e → QuotientCarries → length e.links ≤ 1048576 → (g : ℕ) → g < e.count → IfSome (bgp_of e.problem.protocol e g) IsWellFormedBgp
+pub bgp_form : (e : Plan) → IsPlan e → QuotientCarries → length e.links ≤ 1048576 → (g : ℕ) → g < e.count → IfSome (written_bgp e.problem.protocol e g) IsWellFormedBgp
 bgp_form e plan law few g below = over e.problem.protocol refl
   where
     step : e.problem.protocol ≡ OverBgp → (b : Bool) → nat_eq (number (small e) g) 0 ≡ b → IfSome (cond b None (Some (process_of e g))) IsWellFormedBgp
@@ -189,7 +189,7 @@ bgp_form e plan law few g below = over e.problem.protocol refl
       neighbors_once = neighbors_once e g;
     }
 
-    over : (q : Protocol) → e.problem.protocol ≡ q → IfSome (bgp_of q e g) IsWellFormedBgp
+    over : (q : Protocol) → e.problem.protocol ≡ q → IfSome (written_bgp q e g) IsWellFormedBgp
     over OverOspf is = tt
     over OverBgp is = step is (nat_eq (number (small e) g) 0) refl
 
@@ -208,7 +208,7 @@ area_form e plan = step (slice_get (area_lines e.network) 0) refl
         on None form h = absurd h
         on (Some process) form h = (all_in IsWellFormedArea process.areas line form.areas h).area
 
-area_of_interface : (area : ℕ) (x : Interface) (line : AreaLine) → area_line area x ≡ Some line → (a : Address) × (x.address ≡ Some a) × (a.addr ≡ line.addr) × (line.wild ≡ 0) × (line.area ≡ area)
+area_of_interface : (area : ℕ) (x : Interface) (line : AreaLine) → host_area_line area x ≡ Some line → (a : Address) × (x.address ≡ Some a) × (a.addr ≡ line.addr) × (line.wild ≡ 0) × (line.area ≡ area)
 area_of_interface area x line e = step x.address e
   where
     step : (o : Option Address) → option_map (λ (a : Address). let made : AreaLine = record { addr = a.addr; wild = 0; area = area; line = 0 } in made) o ≡ Some line → (a : Address) × (o ≡ Some a) × (a.addr ≡ line.addr) × (line.wild ≡ 0) × (line.area ≡ area)
@@ -217,11 +217,11 @@ area_of_interface area x line e = step x.address e
         let same : ◌≡◌ {A = AreaLine} (record { addr = a.addr; wild = 0; area = area; line = 0 }) line = cc in
         (a, refl, ap (λ (l : AreaLine). l.addr) same, ap (λ (l : AreaLine). l.wild) (sym same), ap (λ (l : AreaLine). l.area) (sym same))
 
-areas_form : (area : ℕ) → IsNumber area → (xs : List Interface) → AllByRecursion IsWellFormedInterface xs → AllByRecursion IsWellFormedArea (filter_map (area_line area) xs)
+areas_form : (area : ℕ) → IsNumber area → (xs : List Interface) → AllByRecursion IsWellFormedInterface xs → AllByRecursion IsWellFormedArea (filter_map (host_area_line area) xs)
 areas_form area is xs forms =
-    all_from IsWellFormedArea (filter_map (area_line area) xs)
+    all_from IsWellFormedArea (filter_map (host_area_line area) xs)
     (λ line h.
-    let f = filter_map_in (area_line area) xs line h in
+    let f = filter_map_in (host_area_line area) xs line h in
     let a = area_of_interface area f.0 line f.2 in
     let addr = (some_holds IsWellFormedAddress f.0.address a.0 (all_in IsWellFormedInterface xs f.0 forms f.1).address a.1).addr in
     record { addr = subst IsNumber a.2 addr; wild = subst IsNumber (sym a.3) (omega arith); area = subst IsNumber (sym a.4) is })
@@ -230,10 +230,10 @@ areas_form area is xs forms =
 pub same_overlap : (a b : Address) → a.addr ≡ b.addr → overlap a b ≡ true
 same_overlap a b same = same_number (a.addr / 2 ^ (32 - min a.len b.len)) (b.addr / 2 ^ (32 - min a.len b.len)) (ap (λ n. n / 2 ^ (32 - min a.len b.len)) same)
 
-areas_once : (area : ℕ) (xs : List Interface) → IsPairwise AreApart xs → IsDistinct same_area_line (filter_map (area_line area) xs)
+areas_once : (area : ℕ) (xs : List Interface) → IsPairwise AreApart xs → IsDistinct same_area_line (filter_map (host_area_line area) xs)
 areas_once area xs apart =
-    distinct_from same_area_line (filter_map (area_line area) xs)
-    (pairs_filter_map (area_line area) AreApart (λ (l m : AreaLine). same_area_line l m ≡ false) xs
+    distinct_from same_area_line (filter_map (host_area_line area) xs)
+    (pairs_filter_map (host_area_line area) AreApart (λ (l m : AreaLine). same_area_line l m ≡ false) xs
     (λ x y l m h i away is is'.
     let a = area_of_interface area x l is in
     let b = area_of_interface area y m is' in

@@ -17,7 +17,7 @@ use Rattle.abstract_net.specs.Links.{QuotientCarries}
 use Rattle.route_maps.specs.declared.plain.Plain.{Plain}
 use Rattle.srp_core.specs.Problem.{number}
 use Rattle.config_emit.specs.Laws.{IsPlan, EmittedCanBePrinted}
-use Rattle.config_emit.specs.Emitted.{emitted_router, emitted, name_at, notes_of}
+use Rattle.config_emit.specs.Emitted.{emitted_router, emitted, group_name, notes_of}
 use Rattle.config_emit.specs.Interfaces.{class_interfaces, link_interfaces}
 use Rattle.config_emit.specs.Plan.{Plan, small}
 use Rattle.emit_forms.specs.Laws.{GroupsHaveFewLinks}
@@ -70,7 +70,7 @@ form : (e : Plan) → IsPlan e → QuotientCarries → length e.links ≤ 104857
 form e plan law few = record { routers = each_router e IsWellFormedRouter (router_form e plan law few) }
 
 -- the name of a member of a group
-member_name : (e : Plan) → IsPlan e → (u : ℕ) → u < length e.groups → is_router_name (name_at e u) ≡ true
+member_name : (e : Plan) → IsPlan e → (u : ℕ) → u < length e.groups → is_router_name (group_name e u) ≡ true
 member_name e plan u below =
     let total = groups_total e plan in
     let r = get_at e.network.routers u (omega arith) in
@@ -81,13 +81,13 @@ member_name e plan u below =
 notes : (e : Plan) → IsPlan e → AreNotes (emitted e) (notes_of e)
 unfolding emitted notes_of
 notes e plan = record {
-  total = length-map-range_with_len (λ g. map (name_at e) (members_of e.groups g)) 0 e.count ∙ sym (length-map-range_with_len (emitted_router e) 0 e.count);
-  names = all_from (AllByRecursion IsRouterName) (map (λ g. map (name_at e) (members_of e.groups g)) (range_with_len 0 e.count))
+  total = length-map-range_with_len (λ g. map (group_name e) (members_of e.groups g)) 0 e.count ∙ sym (length-map-range_with_len (emitted_router e) 0 e.count);
+  names = all_from (AllByRecursion IsRouterName) (map (λ g. map (group_name e) (members_of e.groups g)) (range_with_len 0 e.count))
       (λ names h.
-      let m = map_in (λ g. map (name_at e) (members_of e.groups g)) (range_with_len 0 e.count) names h in
-      subst (AllByRecursion IsRouterName) m.2 (all_from IsRouterName (map (name_at e) (members_of e.groups m.0))
+      let m = map_in (λ g. map (group_name e) (members_of e.groups g)) (range_with_len 0 e.count) names h in
+      subst (AllByRecursion IsRouterName) m.2 (all_from IsRouterName (map (group_name e) (members_of e.groups m.0))
       (λ name i.
-      let u = map_in (name_at e) (members_of e.groups m.0) name i in
+      let u = map_in (group_name e) (members_of e.groups m.0) name i in
       let inside = range_in 0 (length e.groups) u.0 (filter_in (λ router. slice_index e.groups router == m.0) (range_with_len 0 (length e.groups)) u.0 u.1).0 in
       subst IsRouterName u.2 (member_name e plan u.0 (omega arith)))));
 }

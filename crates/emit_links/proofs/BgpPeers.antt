@@ -23,7 +23,7 @@ use Rattle.net_topology.proofs.OneAddress.{one_address}
 use Rattle.config_emit.specs.Plan.{Plan, small}
 use Rattle.config_emit.specs.Maps.{other_end}
 use Rattle.config_emit.specs.Interfaces.{class_interfaces, is_at, links_at, side_number, link_address, link_interface, link_interfaces}
-use Rattle.config_emit.specs.Emitted.{neighbor_at, process_of, bgp_of, emitted_router, emitted}
+use Rattle.config_emit.specs.Emitted.{neighbor_at, process_of, written_bgp, emitted_router, emitted}
 use Rattle.emit_links.specs.Laws.{first_item, links_before, link_at}
 use Rattle.emit_links.proofs.EmittedPlaces.{router_at, group_places, in_numbered, link_in, inside_count}
 use Rattle.emit_links.proofs.OspfSpots.{even_address, side_small}
@@ -130,7 +130,7 @@ nothing_at (y ∷ ys) none = absurd (none y (inl refl))
 
 module _ (e : Plan) (over : e.problem.protocol ≡ OverBgp) (numbers : HasNumbers e) (between : AreBetween e.links e.count) where
   bgp_is : (g : ℕ) → (emitted_router e g).bgp ≡ (if nat_eq (number (small e) g) 0 then None else Some (process_of e g))
-  bgp_is g = ap (λ (q : Protocol). bgp_of q e g) over
+  bgp_is g = ap (λ (q : Protocol). written_bgp q e g) over
 
   places_if : (g : ℕ) (b : Bool) → nat_eq (number (small e) g) 0 ≡ b → places_on neighbors_of (g, emitted_router e g) ≡ map (bgp_place e g) (enumerate_from 0 (links_at e g))
   unfolding links_at

@@ -13,7 +13,7 @@ use Rattle.abstract_net.specs.declared.qlink.QLink.{QLink}
 use Rattle.abstract_net.specs.Links.{QuotientCarries}
 use Rattle.net_topology.proofs.OneProtocol.{no_sessions, no_adjacencies}
 use Rattle.config_emit.specs.Plan.{Plan}
-use Rattle.config_emit.specs.Emitted.{bgp_of, ospf_of, emitted_router, emitted}
+use Rattle.config_emit.specs.Emitted.{written_bgp, ospf_of, emitted_router, emitted}
 use Rattle.config_emit.specs.Laws.{IsPlan}
 use Rattle.emit_forms.proofs.Groups.{linked}
 use Rattle.emit_links.specs.Laws.{link_at, EmittedLinks}
@@ -27,7 +27,7 @@ unfolding emitted
 emitted_in e r at = let made = map_in (emitted_router e) (range_with_len 0 e.count) r at in (made.0, made.2)
 
 pub without_bgp : (e : Plan) → e.problem.protocol ≡ OverOspf → (r : Router) → In (emitted e).routers r → r.bgp ≡ None
-without_bgp e over r at = let made = emitted_in e r at in sym (ap (λ (q : Router). q.bgp) made.1) ∙ ap (λ (q : Protocol). bgp_of q e made.0) over
+without_bgp e over r at = let made = emitted_in e r at in sym (ap (λ (q : Router). q.bgp) made.1) ∙ ap (λ (q : Protocol). written_bgp q e made.0) over
 
 pub without_ospf : (e : Plan) → e.problem.protocol ≡ OverBgp → (r : Router) → In (emitted e).routers r → r.ospf ≡ None
 without_ospf e over r at = let made = emitted_in e r at in sym (ap (λ (q : Router). q.ospf) made.1) ∙ ap (λ (q : Protocol). ospf_of q e made.0) over

@@ -21,9 +21,9 @@ use Rattle.cfg_ast.specs.declared.ospf.AreaLine.{AreaLine}
 use Rattle.cfg_ast.specs.declared.ospf.OspfProcess.{OspfProcess}
 use Rattle.abstract_net.specs.declared.qlink.QLink.{QLink}
 use Rattle.srp_quotient.specs.Groups.{touches}
-use Rattle.config_emit.specs.Plan.{Plan, router_of}
+use Rattle.config_emit.specs.Plan.{Plan, first_router_of}
 use Rattle.config_emit.specs.Interfaces.{interface_in, class_interface, class_interface_in, class_interfaces_on, class_interfaces, is_at, links_at, side_number, link_address, link_interface, link_interfaces}
-use Rattle.config_emit.specs.Emitted.{area_line, area_number, interface_name, ospf_on, ospf_of, emitted_router, emitted}
+use Rattle.config_emit.specs.Emitted.{host_area_line, area_number, interface_name, ospf_on, ospf_of, emitted_router, emitted}
 use Rattle.emit_forms.proofs.Groups.{any_in}
 use Rattle.emit_links.specs.Laws.{first_item, links_before, link_at}
 use Rattle.emit_links.proofs.EmittedPlaces.{enumerate_append, none_of, group_places, in_numbered, link_in, links_of_some}
@@ -48,7 +48,7 @@ class_name_on q prefixes (Some r) x at =
 
 class_name : (e : Plan) (g : ℕ) (x : Interface) → In (class_interfaces e g) x → HasClassName x
 unfolding class_interfaces
-class_name e g x at = class_name_on e.problem.protocol e.class.prefixes (router_of e g) x at
+class_name e g x at = class_name_on e.problem.protocol e.class.prefixes (first_router_of e g) x at
 
 other_names : (j k : ℕ) → bytes_eq (codes "Vlan" ++ decimal j) (codes "GigabitEthernet0/" ++ decimal k) ≡ false
 other_names j k = refl
@@ -60,7 +60,7 @@ equal_bytes (x ∷ xs) = rw (same_number x x refl) (equal_bytes xs)
 -- ---- the process of a group
 
 abbrev process_with : ℕ → List Interface → List Interface → OspfProcess
-process_with area class all = record { number = 1; line = 0; passive_default = false; passive = map interface_name class; not_passive = []; areas = filter_map (area_line area) all }
+process_with area class all = record { number = 1; line = 0; passive_default = false; passive = map interface_name class; not_passive = []; areas = filter_map (host_area_line area) all }
 
 has_process : (area : ℕ) (class all : List Interface) (x : Interface) → In all x → ospf_on area class all ≡ Some (process_with area class all)
 has_process area class [] x at = absurd at
@@ -70,11 +70,11 @@ has_process area class (y ∷ ys) x at = refl
 in_area : (r : Router) (area : ℕ) (class all : List Interface) (x y : Interface) (a : Address) → r.ospf ≡ Some (process_with area class all) → In all y → y.address ≡ Some a → x.address ≡ Some a → x.shut ≡ false → is_in_area_interface r x ≡ true
 in_area r area class all x y a process at listed address up =
     let line : AreaLine = record { addr = a.addr; wild = 0; area = area; line = 0 } in
-    let has = in_filter_map (area_line area) all y line at (ap (option_map (λ (b : Address). record { addr = b.addr; wild = 0; area = area; line = 0 })) listed) in
+    let has = in_filter_map (host_area_line area) all y line at (ap (option_map (λ (b : Address). record { addr = b.addr; wild = 0; area = area; line = 0 })) listed) in
     let is_up : up_address x ≡ Some a = ap (λ (b : Bool). cond b None x.address) up ∙ address in
     ap (λ (o : Option Address). option_map_or (process_has_address r.ospf) o false) is_up
     ∙ ap (λ (o : Option OspfProcess). process_has_address o a) process
-    ∙ any_in (λ (l : AreaLine). line_has_address l a.addr) (filter_map (area_line area) all) line has (same_number (bit_or a.addr 0) (bit_or a.addr 0) refl)
+    ∙ any_in (λ (l : AreaLine). line_has_address l a.addr) (filter_map (host_area_line area) all) line has (same_number (bit_or a.addr 0) (bit_or a.addr 0) refl)
 
 passive : (r : Router) (area : ℕ) (class all : List Interface) (x : Interface) → r.ospf ≡ Some (process_with area class all) → In class x → is_active_interface r x ≡ false
 passive r area class all x process at =

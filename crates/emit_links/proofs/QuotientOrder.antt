@@ -6,7 +6,7 @@ use Rattle.base_kit.proofs.Elements.{In, append_in, flat_map_in, map_in, range_i
 use Rattle.base_kit.specs.declared.act_graph.Edge.{Edge}
 use Rattle.by_key.proofs.SortedByKey.{Rises}
 use Rattle.abstract_net.specs.declared.qlink.QLink.{QLink}
-use Rattle.abstract_net.specs.Links.{link_between, acts_into, links_of_pair, links_from, quotient_links}
+use Rattle.abstract_net.specs.Links.{group_link, acts_into, links_of_pair, group_links_from, quotient_links}
 use Rattle.emit_links.proofs.PairedLinks.{AreBetween}
 
 abbrev low_end : QLink → ℕ
@@ -31,24 +31,24 @@ record IsOfPair (count g : ℕ) (l : QLink) : Type 0 where
   high : g < l.high
   inside : l.high < count
 
-of_pair : (es : List Edge) (groups : List ℕ) (count g : ℕ) (l : QLink) → In (links_from es groups count g) l → IsOfPair count g l
+of_pair : (es : List Edge) (groups : List ℕ) (count g : ℕ) (l : QLink) → In (group_links_from es groups count g) l → IsOfPair count g l
 of_pair es groups count g l at =
     let pair = flat_map_in (links_of_pair es groups g) (range_with_len (g + 1) (count - (g + 1))) l at in
-    let made = map_in (link_between g pair.0 (acts_into es groups g pair.0) (acts_into es groups pair.0 g)) (range_with_len 0 (max (length (acts_into es groups g pair.0)) (length (acts_into es groups pair.0 g)))) l pair.2 in
+    let made = map_in (group_link g pair.0 (acts_into es groups g pair.0) (acts_into es groups pair.0 g)) (range_with_len 0 (max (length (acts_into es groups g pair.0)) (length (acts_into es groups pair.0 g)))) l pair.2 in
     let high : pair.0 ≡ l.high = ap (λ (m : QLink). m.high) made.2 in
     let more = range_from (g + 1) (count - (g + 1)) pair.0 pair.1 in
     let less = range_in (g + 1) (count - (g + 1)) pair.0 pair.1 in
     record { low = sym (ap (λ (m : QLink). m.low) made.2); high = omega arith; inside = omega arith }
 
-rises_from : (es : List Edge) (groups : List ℕ) (count a n : ℕ) → Rises low_end (flat_map (links_from es groups count) (range_with_len a n))
+rises_from : (es : List Edge) (groups : List ℕ) (count a n : ℕ) → Rises low_end (flat_map (group_links_from es groups count) (range_with_len a n))
 rises_from es groups count a zero = tt
 rises_from es groups count a (suc n) =
-    rises_append (links_from es groups count a) (flat_map (links_from es groups count) (range_with_len (a + 1) n))
-    (rises_at_one a (links_from es groups count a) (λ l at. (of_pair es groups count a l at).low))
+    rises_append (group_links_from es groups count a) (flat_map (group_links_from es groups count) (range_with_len (a + 1) n))
+    (rises_at_one a (group_links_from es groups count a) (λ l at. (of_pair es groups count a l at).low))
     (rises_from es groups count (a + 1) n)
     (λ l m at also.
     let first = of_pair es groups count a l at in
-    let from = flat_map_in (links_from es groups count) (range_with_len (a + 1) n) m also in
+    let from = flat_map_in (group_links_from es groups count) (range_with_len (a + 1) n) m also in
     let second = of_pair es groups count from.0 m from.2 in
     let behind = range_from (a + 1) n from.0 from.1 in
     let low = first.low in
@@ -58,7 +58,7 @@ rises_from es groups count a (suc n) =
 pub quotient_between : (es : List Edge) (groups : List ℕ) (count : ℕ) → AreBetween (quotient_links es groups count) count
 unfolding quotient_links
 quotient_between es groups count = record {
-  low = λ l at. let from = flat_map_in (links_from es groups count) (range_with_len 0 count) l at in let pair = of_pair es groups count from.0 l from.2 in let low = pair.low in let high = pair.high in omega arith;
-  high = λ l at. let from = flat_map_in (links_from es groups count) (range_with_len 0 count) l at in (of_pair es groups count from.0 l from.2).inside;
+  low = λ l at. let from = flat_map_in (group_links_from es groups count) (range_with_len 0 count) l at in let pair = of_pair es groups count from.0 l from.2 in let low = pair.low in let high = pair.high in omega arith;
+  high = λ l at. let from = flat_map_in (group_links_from es groups count) (range_with_len 0 count) l at in (of_pair es groups count from.0 l from.2).inside;
   rises = rises_from es groups count 0 count;
 }

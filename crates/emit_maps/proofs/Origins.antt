@@ -19,9 +19,9 @@ use Rattle.srp_core.specs.declared.route.Act.{Act}
 use Rattle.srp_core.specs.declared.route.Route.{Route}
 use Rattle.srp_core.specs.Problem.{count, initial, number}
 use Rattle.srp_core.specs.ProblemOf.{start_route, route_from}
-use Rattle.config_emit.specs.Emitted.{emitted_router, process_of, bgp_of, net_line, net_lines, base_of, base_line}
+use Rattle.config_emit.specs.Emitted.{emitted_router, process_of, written_bgp, class_line_of, net_lines, base_of, written_base}
 use Rattle.config_emit.specs.Laws.{IsPlan}
-use Rattle.config_emit.specs.Plan.{Plan, small, router_of, act_into}
+use Rattle.config_emit.specs.Plan.{Plan, small, first_router_of, act_into}
 use Rattle.srp_quotient.specs.Groups.{first_member, touches}
 use Rattle.emit_forms.proofs.Acts.{act_between}
 use Rattle.emit_forms.proofs.Groups.{first_of, problem_of, end_of}
@@ -38,24 +38,24 @@ start_at p [] k r e = absurd cc
 start_at p (x ∷ rs) zero r e = let same : x ≡ r = cc in ap (start_route p) same
 start_at p (x ∷ rs) (suc k) r e = start_at p rs k r e
 
-no_lines : (r : Router) (ps : List Prefix) → ((p : Prefix) → In ps p → initial_route r p ≡ None) → filter_map (net_line r) ps ≡ []
+no_lines : (r : Router) (ps : List Prefix) → ((p : Prefix) → In ps p → initial_route r p ≡ None) → filter_map (class_line_of r) ps ≡ []
 no_lines r [] none = refl
 no_lines r (p ∷ ps) none =
-    ap (λ (o : Option (Option ℕ)). cons_option (if is_some o then Some (record { prefix = p; line = 0 }) else None) (filter_map (net_line r) ps)) (none p (inl refl))
+    ap (λ (o : Option (Option ℕ)). cons_option (if is_some o then Some (record { prefix = p; line = 0 }) else None) (filter_map (class_line_of r) ps)) (none p (inl refl))
     ∙ no_lines r ps (λ q i. none q (inr i))
 
 based_on : (o : Option Router) (lines : List NetLine) → lines ≡ [] → option_map_or (base_of lines) o None ≡ None
 based_on None lines none = refl
 based_on (Some r) lines none = ap (λ (ls : List NetLine). base_of ls r) none
 
-no_base : (e : Plan) (g : ℕ) → base_line e g ≡ None → own_preference (emitted_router e g) true ≡ None
-no_base e g none = step (bgp_of e.problem.protocol e g) (of e.problem.protocol)
+no_base : (e : Plan) (g : ℕ) → written_base e g ≡ None → own_preference (emitted_router e g) true ≡ None
+no_base e g none = step (written_bgp e.problem.protocol e g) (of e.problem.protocol)
   where
     HasNoBase : Option BgpProcess → Type 0
     HasNoBase None = Unit {0}
     HasNoBase (Some process) = process.base ≡ None
 
-    of : (q : Protocol) → HasNoBase (bgp_of q e g)
+    of : (q : Protocol) → HasNoBase (written_bgp q e g)
     of OverOspf = tt
     of OverBgp = by (nat_eq (number (small e) g) 0)
       where
@@ -84,6 +84,6 @@ no_own e plan law bgp g l at touched act is =
     let here : (p : Prefix) → In e.class.prefixes p → initial_route first.router p ≡ None =
     λ p i. (let of = plan.problem p (contains_in e.class.prefixes p i) in
     no_start p first.router (sym (start_at p e.network.routers (first_member e.groups g) first.router first.at) ∙ sym (ap (λ (l : List (Option Route)). slice_index_or l (first_member e.groups g) None) of.init) ∙ none)) in
-    let lines : option_map_or (λ r. filter_map (net_line r) e.class.prefixes) (router_of e g) [] ≡ [] =
-    ap (λ (o : Option Router). option_map_or (λ r. filter_map (net_line r) e.class.prefixes) o []) first.at ∙ no_lines first.router e.class.prefixes here in
-    no_base e g (based_on (router_of e g) (net_lines e g) lines)
+    let lines : option_map_or (λ r. filter_map (class_line_of r) e.class.prefixes) (first_router_of e g) [] ≡ [] =
+    ap (λ (o : Option Router). option_map_or (λ r. filter_map (class_line_of r) e.class.prefixes) o []) first.at ∙ no_lines first.router e.class.prefixes here in
+    no_base e g (based_on (first_router_of e g) (net_lines e g) lines)

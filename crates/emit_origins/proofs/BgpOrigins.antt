@@ -4,7 +4,7 @@ use Rattle.std.specs.Prelude.{is_some, slice_get, slice_index, Contains, if◌th
 use Rattle.std.specs.List.{list_any}
 use Rattle.std.specs.Option.{option_map, option_map_or}
 use Rattle.std.proofs.lemmas.Bool.Decides.{nat_tests}
-use Rattle.base_kit.specs.Prefixes.{Prefix}
+use Rattle.base_kit.specs.Prefixes.{Prefix, same_prefix}
 use Rattle.base_kit.specs.declared.protocol.Protocol.TheVariants.{Bgp as OverBgp}
 use Rattle.base_kit.proofs.Elements.{In, in_contains, in_filter_map, in_left}
 use Rattle.base_kit.proofs.SetFacts.{other_number}
@@ -13,7 +13,7 @@ use Rattle.cfg_ast.specs.declared.bgp.BgpProcess.{BgpProcess}
 use Rattle.cfg_ast.specs.declared.bgp.NetLine.{NetLine}
 use Rattle.cfg_ast.specs.declared.interface.Interface.{Interface}
 use Rattle.cfg_ast.specs.declared.network.Router.{Router}
-use Rattle.cfg_ast.specs.meaning.Classes.{initial_route, route_by_process, is_announced, is_up_in, same_prefix}
+use Rattle.cfg_ast.specs.meaning.Classes.{initial_route, route_by_process, is_announced, is_up_in}
 use Rattle.cfg_ast.specs.meaning.Policy.{default_preference}
 use Rattle.cfg_ast.specs.printing.Bare.{bare_address}
 use Rattle.srp_core.specs.Problem.{initial, number}
@@ -22,7 +22,7 @@ use Rattle.srp_core.specs.declared.route.Route.{Route}
 use Rattle.srp_core.specs.declared.route.Route.TheVariants.{Bgp}
 use Rattle.srp_quotient.specs.Groups.{first_member, is_used, touches}
 use Rattle.srp_core.specs.Quotient.{first_number}
-use Rattle.config_emit.specs.Emitted.{emitted_router, process_of, bgp_of, net_line, net_lines, base_of}
+use Rattle.config_emit.specs.Emitted.{emitted_router, process_of, written_bgp, class_line_of, net_lines, base_of}
 use Rattle.config_emit.specs.Interfaces.{interface_in, class_interface, class_interfaces, link_interfaces}
 use Rattle.config_emit.specs.Laws.{IsPlan}
 use Rattle.config_emit.specs.Plan.{Plan, small}
@@ -87,13 +87,13 @@ module _ (e : Plan) (plan : IsPlan e) (bgp : e.problem.protocol ≡ OverBgp) (p 
       (sym (ap (λ (b : Bool). if b then first_number e.problem.numbers e.groups g else 0) used) ∙ sym (number_at e g below) ∙ same)
 
   process : (emitted_router e g).bgp ≡ Some (process_of e g)
-  process = ap (λ q. bgp_of q e g) bgp ∙ ap (λ (b : Bool). if b then None else Some (process_of e g)) (other_number (number (small e) g) 0 has_number)
+  process = ap (λ q. written_bgp q e g) bgp ∙ ap (λ (b : Bool). if b then None else Some (process_of e g)) (other_number (number (small e) g) 0 has_number)
 
   net : In (net_lines e g) (record { prefix = p; line = 0 })
   net =
       let line : NetLine = record { prefix = p; line = 0 } in
-      let made : net_line first.router p ≡ Some line = ap (λ (o : Option (Option ℕ)). if is_some o then Some line else None) is in
-      subst (λ (o : Option Router). In (option_map_or (λ r. filter_map (net_line r) e.class.prefixes) o []) line) (sym first.at) (in_filter_map (net_line first.router) e.class.prefixes p line (in_contains e.class.prefixes p at) made)
+      let made : class_line_of first.router p ≡ Some line = ap (λ (o : Option (Option ℕ)). if is_some o then Some line else None) is in
+      subst (λ (o : Option Router). In (option_map_or (λ r. filter_map (class_line_of r) e.class.prefixes) o []) line) (sym first.at) (in_filter_map (class_line_of first.router) e.class.prefixes p line (in_contains e.class.prefixes p at) made)
 
   up : list_any (is_up_in p) (emitted_router e g).interfaces ≡ true
   up =

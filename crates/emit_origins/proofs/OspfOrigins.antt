@@ -15,7 +15,7 @@ use Rattle.cfg_ast.specs.meaning.Classes.{initial_route, route_by_process, is_an
 use Rattle.cfg_ast.specs.meaning.Topology.{line_has_address, process_has_address, is_in_area_interface, cost_of_interface, default_cost_of, type_of}
 use Rattle.cfg_ast.specs.printing.Bare.{bare_address}
 use Rattle.srp_core.specs.ProblemOf.{start_route, route_from}
-use Rattle.config_emit.specs.Emitted.{emitted_router, bgp_of, ospf_of, ospf_on, area_line, area_number}
+use Rattle.config_emit.specs.Emitted.{emitted_router, written_bgp, ospf_of, ospf_on, host_area_line, area_number}
 use Rattle.config_emit.specs.Interfaces.{interface_in, class_interface, class_interfaces, link_interfaces, cost_over}
 use Rattle.config_emit.specs.Laws.{IsPlan}
 use Rattle.config_emit.specs.Plan.{Plan}
@@ -49,8 +49,8 @@ in_process : (area : ℕ) (class xs : List Interface) (x : Interface) (a : Addre
 in_process area class [] x a h has = absurd h
 in_process area class (y ∷ xs) x a h has =
     let line : AreaLine = record { addr = a.addr; wild = 0; area = area; line = 0 } in
-    any_passes (λ (l : AreaLine). line_has_address l a.addr) (filter_map (area_line area) (y ∷ xs)) line
-    (in_filter_map (area_line area) (y ∷ xs) x line h (ap (option_map (λ (b : Address). record { addr = b.addr; wild = 0; area = area; line = 0 })) has))
+    any_passes (λ (l : AreaLine). line_has_address l a.addr) (filter_map (host_area_line area) (y ∷ xs)) line
+    (in_filter_map (host_area_line area) (y ∷ xs) x line h (ap (option_map (λ (b : Address). record { addr = b.addr; wild = 0; area = area; line = 0 })) has))
     (same_number (bit_or a.addr 0) (bit_or a.addr 0) refl)
 
 module _ (e : Plan) (plan : IsPlan e) (few : length e.links ≤ 1048576) (ospf : e.problem.protocol ≡ OverOspf) (p : Prefix) (at : Contains e.class.prefixes p) (g : ℕ) (first : HasFirst e g) (cost : ℕ) (is : initial_route first.router p ≡ Some (Some cost)) where
@@ -82,7 +82,7 @@ module _ (e : Plan) (plan : IsPlan e) (few : length e.links ≤ 1048576) (ospf :
       one_passes (λ y. is_in_area_interface (emitted_router e g) y && is_up_in p y) (class_interfaces e g ++ link_interfaces e g) x x_in (both (is_in_area_interface (emitted_router e g) x) (is_up_in p x) in_area x_up) one in
       let own : x.cost ≡ Some cost = ap (λ q. cost_over q from.origin) ospf ∙ from.costs in
       let costs : cost_of_interface x ≡ Some cost = ap (λ (o : Option ℕ). if is_some o then o else default_cost_of (type_of x)) own in
-      ap (λ (o : Option BgpProcess). option_map (route_from (emitted_router e g)) (route_by_process (emitted_router e g) o p)) (ap (λ q. bgp_of q e g) ospf)
+      ap (λ (o : Option BgpProcess). option_map (route_from (emitted_router e g)) (route_by_process (emitted_router e g) o p)) (ap (λ q. written_bgp q e g) ospf)
       ∙ ap (λ (o : Option Interface). option_map (route_from (emitted_router e g)) (option_map cost_of_interface o)) area
       ∙ ap (λ (o : Option ℕ). Some (route_from (emitted_router e g) o)) costs
       ∙ sym (ap (option_map (route_from first.router)) is)

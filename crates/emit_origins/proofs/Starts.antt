@@ -4,13 +4,13 @@ use Rattle.std.specs.Prelude.{is_some, min, slice_get, slice_index_or, Contains}
 use Rattle.std.specs.List.{enumerate_from}
 use Rattle.std.specs.Option.{option_map, option_map_or}
 use Rattle.std.proofs.lemmas.Nat.{shl-shr}
-use Rattle.base_kit.specs.Prefixes.{Prefix}
+use Rattle.base_kit.specs.Prefixes.{Prefix, same_prefix}
 use Rattle.base_kit.proofs.Elements.{In, in_contains, in_filter_map, in_enumerate, in_get, append_in}
 use Rattle.base_kit.proofs.SetFacts.{same_number}
 use Rattle.cfg_ast.specs.declared.interface.Interface.{Interface}
 use Rattle.cfg_ast.specs.declared.network.Router.{Router}
 use Rattle.cfg_ast.specs.meaning.Addresses.{Address}
-use Rattle.cfg_ast.specs.meaning.Classes.{initial_route, is_up_in, same_prefix}
+use Rattle.cfg_ast.specs.meaning.Classes.{initial_route, is_up_in}
 use Rattle.cfg_ast.specs.meaning.RouterFaults.{overlap}
 use Rattle.cfg_ast.specs.meaning.Topology.{subnet_of_address, up_address}
 use Rattle.cfg_ast.specs.printing.Bare.{bare_address}

@@ -14,7 +14,7 @@ use Rattle.srp_core.specs.Problem.{number}
 use Rattle.srp_quotient.specs.Groups.{touches}
 use Rattle.config_emit.specs.Plan.{Plan, small}
 use Rattle.config_emit.specs.Interfaces.{class_interfaces, is_at, links_at, link_interface, link_interfaces}
-use Rattle.config_emit.specs.Emitted.{neighbor_at, process_of, bgp_of, emitted_router}
+use Rattle.config_emit.specs.Emitted.{neighbor_at, process_of, written_bgp, emitted_router}
 use Rattle.emit_links.specs.Laws.{first_item, links_before, item_at}
 
 -- ---- lists
@@ -69,7 +69,7 @@ interface_at_item e over g t l at touching =
 
 pub runs_bgp : (e : Plan) → e.problem.protocol ≡ OverBgp → (g : ℕ) → number (small e) g ≢ 0 → (emitted_router e g).bgp ≡ Some (process_of e g)
 runs_bgp e over g some =
-    ap (λ (q : Protocol). bgp_of q e g) over ∙ ap (λ (b : Bool). if b then None else Some (process_of e g)) (not_none (number (small e) g) some)
+    ap (λ (q : Protocol). written_bgp q e g) over ∙ ap (λ (b : Bool). if b then None else Some (process_of e g)) (not_none (number (small e) g) some)
   where
     not_none : (m : ℕ) → m ≢ 0 → nat_eq m 0 ≡ false
     not_none m some = grind (arith, nat_tests)

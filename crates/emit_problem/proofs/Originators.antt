@@ -1,12 +1,12 @@
 -- Some router originates a prefix of a class.
 use Rattle.std.proofs.Common.{◌≡◌, Bool, true, false, ◌||◌, List, [], ◌∷◌, inl, inr, refl, sym, ◌∙◌, subst, is_some}
 use Rattle.std.specs.Prelude.{Contains, filter_map, flat_map}
-use Rattle.base_kit.specs.Prefixes.{Prefix}
+use Rattle.base_kit.specs.Prefixes.{Prefix, same_prefix}
 use Rattle.base_kit.proofs.Elements.{In, contains_in, flat_map_in, filter_in, in_filter}
 use Rattle.cfg_ast.specs.declared.classes.DestClass.{DestClass}
 use Rattle.cfg_ast.specs.declared.network.Network.{Network}
 use Rattle.cfg_ast.specs.declared.network.Router.{Router}
-use Rattle.cfg_ast.specs.meaning.Classes.{same_prefix, has_prefix, with_prefixes, up_subnet, initial_route, originated_by, originated, is_same_class, class_of, classes_of}
+use Rattle.cfg_ast.specs.meaning.Classes.{has_prefix, with_prefixes, up_subnet, initial_route, originated_by, originated, is_same_class, class_of, classes_of}
 use Rattle.cfg_ast.proofs.ClassFacts.{is_one_class}
 use Rattle.cfg_ast.proofs.PrefixSets.{one_prefix, same_prefix-self, has-with_prefixes}
 use Rattle.emit_forms.proofs.Origins.{IsClassOf, class_is}

@@ -29,7 +29,7 @@ use Rattle.srp_core.specs.Quotient.{first_number}
 use Rattle.srp_quotient.specs.Groups.{first_member, is_used, number_of_group, quotient_problem}
 use Rattle.srp_quotient.specs.Laws.{QuotientIsProblem}
 use Rattle.config_emit.specs.Plan.{Plan, small}
-use Rattle.config_emit.specs.Emitted.{process_of, bgp_of, emitted_router, emitted}
+use Rattle.config_emit.specs.Emitted.{process_of, written_bgp, emitted_router, emitted}
 use Rattle.config_emit.specs.Laws.{IsPlan}
 use Rattle.emit_forms.specs.Laws.{GroupsHaveFewLinks}
 use Rattle.emit_forms.proofs.Groups.{first_of, problem_of, number_at}
@@ -119,9 +119,9 @@ ospf_number e plan over g = by (is_used e.problem e.groups e.links g)
     by false = refl
 
 number_of : (e : Plan) → IsPlan e → (q : Protocol) → e.problem.protocol ≡ q → (g : ℕ) → g < e.count → as_number_of (emitted_router e g) ≡ number_of_group e.problem e.groups e.links g
-number_of e plan OverOspf over g below = ap (λ (q : Protocol). option_map_or (λ (process : BgpProcess). process.number) (bgp_of q e g) 0) over ∙ sym (ospf_number e plan over g)
+number_of e plan OverOspf over g below = ap (λ (q : Protocol). option_map_or (λ (process : BgpProcess). process.number) (written_bgp q e g) 0) over ∙ sym (ospf_number e plan over g)
 number_of e plan OverBgp over g below =
-    ap (λ (q : Protocol). option_map_or (λ (process : BgpProcess). process.number) (bgp_of q e g) 0) over ∙ by (nat_eq (number (small e) g) 0) refl ∙ number_at e g below
+    ap (λ (q : Protocol). option_map_or (λ (process : BgpProcess). process.number) (written_bgp q e g) 0) over ∙ by (nat_eq (number (small e) g) 0) refl ∙ number_at e g below
   where
     by : (b : Bool) → nat_eq (number (small e) g) 0 ≡ b → option_map_or (λ (process : BgpProcess). process.number) (if b then None else Some (process_of e g)) 0 ≡ number (small e) g
     by true is = sym (is_zero (number (small e) g) is)
@@ -199,7 +199,7 @@ protocol origins law few e plan OverOspf over =
     by None none =
         let s = some_start e plan in
         let r = emitted_router e s.group in
-        let route : initial_route r s.prefix ≡ None = ap (λ (o : Option BgpProcess). route_by_process r o s.prefix) (ap (λ (q : Protocol). bgp_of q e s.group) over) ∙ no_area_route r s.prefix none in
+        let route : initial_route r s.prefix ≡ None = ap (λ (o : Option BgpProcess). route_by_process r o s.prefix) (ap (λ (q : Protocol). written_bgp q e s.group) over) ∙ no_area_route r s.prefix none in
         let nothing : start_route s.prefix r ≡ None = ap (option_map (route_from r)) route in
         let something : start_route s.prefix r ≡ Some s.route = made_start origins e plan s.prefix s.has s.group s.below ∙ s.started in
         absurd (let clash = sym nothing ∙ something in cc)

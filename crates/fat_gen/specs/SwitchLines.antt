@@ -25,14 +25,14 @@ abbrev pub name_line : Switch → List ℕ
 name_line switch = codes "hostname " ++ name_text switch ++ codes "\n"
 
 -- the line of an address with its mask
-abbrev pub address_line : ℕ → List ℕ → List ℕ
-address_line address mask = codes " ip address " ++ address_text address ++ codes " " ++ mask ++ codes "\n"
+abbrev pub masked_address_line : ℕ → List ℕ → List ℕ
+masked_address_line address mask = codes " ip address " ++ address_text address ++ codes " " ++ mask ++ codes "\n"
 
 -- the interface to the hosts of a network has its first address
 abbrev pub interface_into : ℕ → List ℕ
 interface_into network =
     codes "interface Vlan1\n"
-    ++ address_line (network + 1) (codes "255.255.255.0")
+    ++ masked_address_line (network + 1) (codes "255.255.255.0")
 
 -- an edge switch has hosts
 abbrev pub host_interface : Switch → List ℕ
@@ -40,58 +40,58 @@ host_interface (Core number) = []
 host_interface (Aggregation pod number) = []
 host_interface (Edge pod number) = interface_into (host_network pod number)
 
-abbrev pub interface_line : ℕ → List ℕ
-interface_line number = codes "interface GigabitEthernet0/" ++ decimal number ++ codes "\n"
+abbrev pub ethernet_line : ℕ → List ℕ
+ethernet_line number = codes "interface GigabitEthernet0/" ++ decimal number ++ codes "\n"
 
 -- ports are numbered from 0
 abbrev pub port_interface : ℕ × Port → List ℕ
 port_interface (number, port) =
-    interface_line number
-    ++ address_line port.own (codes "255.255.255.254")
+    ethernet_line number
+    ++ masked_address_line port.own (codes "255.255.255.254")
 
 abbrev pub port_interfaces : List Port → List ℕ
 port_interfaces ports = flat_map port_interface (enumerate_from 0 ports)
 
-abbrev pub process_line : ℕ → List ℕ
-process_line place = codes "router bgp " ++ decimal (as_number place) ++ codes "\n"
+abbrev pub bgp_line : ℕ → List ℕ
+bgp_line place = codes "router bgp " ++ decimal (as_number place) ++ codes "\n"
 
-abbrev pub network_line : Switch → List ℕ
-network_line (Core number) = []
-network_line (Aggregation pod number) = []
-network_line (Edge pod number) = codes " network " ++ address_text (host_network pod number) ++ codes " mask 255.255.255.0\n"
+abbrev pub announced_line : Switch → List ℕ
+announced_line (Core number) = []
+announced_line (Aggregation pod number) = []
+announced_line (Edge pod number) = codes " network " ++ address_text (host_network pod number) ++ codes " mask 255.255.255.0\n"
 
 -- the end of a line that gives a neighbour's AS number
 abbrev pub remote_words : ℕ → List ℕ
 remote_words number = codes " remote-as " ++ decimal number ++ codes "\n"
 
-abbrev pub remote_line : ℕ → ℕ → List ℕ
-remote_line address number = codes " neighbor " ++ address_text address ++ remote_words number
+abbrev pub remote_as_line : ℕ → ℕ → List ℕ
+remote_as_line address number = codes " neighbor " ++ address_text address ++ remote_words number
 
 abbrev pub sends_line : ℕ → List ℕ
 sends_line address = codes " neighbor " ++ address_text address ++ codes " send-community\n"
 
 -- the switch at the other end of a port's cable is a neighbour, to which communities are sent
-abbrev pub neighbor_lines : Port → List ℕ
-neighbor_lines port =
-    remote_line port.peer (as_number port.other)
+abbrev pub switch_neighbors : Port → List ℕ
+switch_neighbors port =
+    remote_as_line port.peer (as_number port.other)
     ++ sends_line port.peer
 
-abbrev pub interface_lines : Switch → List Port → List ℕ
-interface_lines switch ports =
+abbrev pub switch_interfaces : Switch → List Port → List ℕ
+switch_interfaces switch ports =
     host_interface switch
     ++ port_interfaces ports
 
 abbrev pub process_lines : ℕ → Switch → List Port → List ℕ
 process_lines place switch ports =
-    process_line place
-    ++ network_line switch
-    ++ flat_map neighbor_lines ports
+    bgp_line place
+    ++ announced_line switch
+    ++ flat_map switch_neighbors ports
 
 -- the lines of a switch with its place and its ports
 abbrev pub lines_with : ℕ → Switch → List Port → List ℕ
 lines_with place switch ports =
     name_line switch
-    ++ interface_lines switch ports
+    ++ switch_interfaces switch ports
     ++ process_lines place switch ports
     ++ codes "end\n"
 

@@ -1,5 +1,5 @@
 ghost use Rattle.std.specs.Prelude.{◌≡◌, ◌<◌, ◌≤◌, ◌+◌, ◌++◌, OnOk, codes, flat_map, string_bytes};
-ghost use Rattle.fat_gen.specs.SwitchLines.{name_text, as_number, host_network, name_line, address_line, interface_into, host_interface, interface_line, port_interface, port_interfaces, process_line, network_line, remote_words, remote_line, sends_line, neighbor_lines, interface_lines, process_lines, lines_with};
+ghost use Rattle.fat_gen.specs.SwitchLines.{name_text, as_number, host_network, name_line, masked_address_line, interface_into, host_interface, ethernet_line, port_interface, port_interfaces, bgp_line, announced_line, remote_words, remote_as_line, sends_line, switch_neighbors, switch_interfaces, process_lines, lines_with};
 
 use crate::cable::Port;
 use crate::switch::Switch;
@@ -39,7 +39,7 @@ fn put_name_line(text: &mut String, switch: Switch) -> Result<(), AllocError>
 }
 
 fn put_address_line(text: &mut String, address: u32, mask: &str) -> Result<(), AllocError>
-    ensures { OnOk result (string_bytes text.new ≡ string_bytes text.old ++ address_line address mask.now) }
+    ensures { OnOk result (string_bytes text.new ≡ string_bytes text.old ++ masked_address_line address mask.now) }
 {
     text.push_str(" ip address ")?;
     put_address(text, address)?;
@@ -65,7 +65,7 @@ fn put_host_interface(text: &mut String, switch: Switch) -> Result<(), AllocErro
 }
 
 fn put_interface_line(text: &mut String, number: usize) -> Result<(), AllocError>
-    ensures { OnOk result (string_bytes text.new ≡ string_bytes text.old ++ interface_line number) }
+    ensures { OnOk result (string_bytes text.new ≡ string_bytes text.old ++ ethernet_line number) }
 {
     write!(text, "interface GigabitEthernet0/{number}\n")
 }
@@ -87,14 +87,14 @@ fn put_port_interfaces(text: &mut String, ports: &[Port]) -> Result<(), AllocErr
 }
 
 fn put_process_line(text: &mut String, place: u16) -> Result<(), AllocError>
-    ensures { OnOk result (string_bytes text.new ≡ string_bytes text.old ++ process_line place) }
+    ensures { OnOk result (string_bytes text.new ≡ string_bytes text.old ++ bgp_line place) }
 {
     let number = as_number(place);
     write!(text, "router bgp {number}\n")
 }
 
 fn put_network_line(text: &mut String, switch: Switch) -> Result<(), AllocError>
-    ensures { OnOk result (string_bytes text.new ≡ string_bytes text.old ++ network_line switch) }
+    ensures { OnOk result (string_bytes text.new ≡ string_bytes text.old ++ announced_line switch) }
 {
     let Switch::Edge { pod, number } = switch else {
         return Ok(());
@@ -111,7 +111,7 @@ fn put_remote_words(text: &mut String, number: u32) -> Result<(), AllocError>
 }
 
 fn put_remote_line(text: &mut String, address: u32, number: u32) -> Result<(), AllocError>
-    ensures { OnOk result (string_bytes text.new ≡ string_bytes text.old ++ remote_line address number) }
+    ensures { OnOk result (string_bytes text.new ≡ string_bytes text.old ++ remote_as_line address number) }
 {
     text.push_str(" neighbor ")?;
     put_address(text, address)?;
@@ -133,14 +133,14 @@ fn put_sends_line(text: &mut String, address: u32) -> Result<(), AllocError>
 }
 
 fn put_neighbor(text: &mut String, port: Port) -> Result<(), AllocError>
-    ensures { OnOk result (string_bytes text.new ≡ string_bytes text.old ++ neighbor_lines port) }
+    ensures { OnOk result (string_bytes text.new ≡ string_bytes text.old ++ switch_neighbors port) }
 {
     put_remote_line(text, port.peer, as_number(port.other))?;
     put_sends_line(text, port.peer)
 }
 
 fn put_neighbors(text: &mut String, ports: &[Port]) -> Result<(), AllocError>
-    ensures { OnOk result (string_bytes text.new ≡ string_bytes text.old ++ flat_map neighbor_lines ports.now) }
+    ensures { OnOk result (string_bytes text.new ≡ string_bytes text.old ++ flat_map switch_neighbors ports.now) }
 {
     for port in ports {
         put_neighbor(text, *port)?;
@@ -149,7 +149,7 @@ fn put_neighbors(text: &mut String, ports: &[Port]) -> Result<(), AllocError>
 }
 
 fn put_interface_lines(text: &mut String, switch: Switch, ports: &[Port]) -> Result<(), AllocError>
-    ensures { OnOk result (string_bytes text.new ≡ string_bytes text.old ++ interface_lines switch ports.now) }
+    ensures { OnOk result (string_bytes text.new ≡ string_bytes text.old ++ switch_interfaces switch ports.now) }
 {
     put_host_interface(text, switch)?;
     put_port_interfaces(text, ports)

@@ -4,7 +4,7 @@ use Rattle.std.specs.Prelude.{filter_map, nat_eq, option_and_then, slice_get}
 use Rattle.std.specs.Option.{option_map, option_map_or}
 use Rattle.std.specs.List.{list_any}
 use Rattle.std.proofs.lemmas.Option.{slice_get-map}
-use Rattle.base_kit.specs.Prefixes.{Prefix}
+use Rattle.base_kit.specs.Prefixes.{Prefix, same_prefix}
 use Rattle.cfg_ast.specs.meaning.Addresses.{Address}
 use Rattle.cfg_ast.specs.declared.bgp.Base.{Base}
 use Rattle.cfg_ast.specs.declared.bgp.BgpProcess.{BgpProcess}
@@ -13,7 +13,7 @@ use Rattle.cfg_ast.specs.declared.interface.Interface.{Interface}
 use Rattle.cfg_ast.specs.declared.network.Router.{Router}
 use Rattle.cfg_ast.specs.declared.ospf.AreaLine.{AreaLine}
 use Rattle.cfg_ast.specs.declared.ospf.OspfProcess.{OspfProcess}
-use Rattle.cfg_ast.specs.meaning.Classes.{same_prefix, is_up_in, is_announced, area_interface_in, route_by_process, initial_route}
+use Rattle.cfg_ast.specs.meaning.Classes.{is_up_in, is_announced, area_interface_in, route_by_process, initial_route}
 use Rattle.cfg_ast.specs.meaning.Policy.{default_preference}
 use Rattle.cfg_ast.specs.meaning.Topology.{up_address, subnet_of_address, line_has_address, process_has_address, is_in_area_interface, is_passive_in, is_active_interface, cost_of_interface, cost_of, neighbors_of, has_number, up_addresses_at, same_subnet, share_subnet}
 use Rattle.cfg_ast.specs.printing.Bare.{bare_address, bare_interface, bare_bgp, bare_area, bare_ospf, bare_base, bare_net, bare_neighbor, bare_router}

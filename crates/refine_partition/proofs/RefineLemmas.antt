@@ -7,7 +7,7 @@ use Rattle.std.proofs.Math.ListN.{length-set}
 use Rattle.std.proofs.lemmas.List.Elements.{All-get_or, All-contains, All-push, All-weaker, Contains-get_or, Contains-push, Contains-append_left, Contains-push_cases}
 use Rattle.base_kit.specs.declared.act_graph.Edge.{Edge}
 use Rattle.base_kit.specs.declared.act_graph.ActGraph.{ActGraph}
-use Rattle.base_kit.specs.Partition.{HasTwinIfOutgoing, IsMirroredAt, IsAdmissible, Refines, IsCoarsest}
+use Rattle.base_kit.specs.Partition.{HasTwinIfOutgoing, IsMirroredAt, IsAdmissibleOn, Refines, IsCoarsestOn}
 use Rattle.base_kit.proofs.Mirrors.{mirrored_coarser}
 use Rattle.refine_partition.specs.Splits.{HasAct, ActAlike, IsStart}
 use Rattle.refine_partition.specs.Planned.{IsDivided}
@@ -30,7 +30,7 @@ refining_start graph numbers count queue start waiting known =
 
 -- routers of an admissible partition that refines the blocks have edges of the same acts into a block
 -- that they are no members of
-acts_kept : (graph : ActGraph) (numbers others : List ℕ) (taken u v : ℕ) → IsAdmissible graph others → Refines graph.count others numbers → u < graph.count → v < graph.count → slice_index others u ≡ slice_index others v → slice_index numbers u ≢ taken → (act : ℕ) → HasAct graph.edges numbers taken u act → HasAct graph.edges numbers taken v act
+acts_kept : (graph : ActGraph) (numbers others : List ℕ) (taken u v : ℕ) → IsAdmissibleOn graph others → Refines graph.count others numbers → u < graph.count → v < graph.count → slice_index others u ≡ slice_index others v → slice_index numbers u ≢ taken → (act : ℕ) → HasAct graph.edges numbers taken u act → HasAct graph.edges numbers taken v act
 unfolding IsMirroredAt
 acts_kept graph numbers others taken u v admissible refines hu hv same outside act has =
     let (k, e, inside, at, (importer, acts, into)) = has.edge in
@@ -111,7 +111,7 @@ refining_turn graph taken numbers next origins queue left queue' before after re
     }
 
 -- where nothing waits the blocks are the coarsest partition
-pub refining_end : (graph : ActGraph) (numbers : List ℕ) (count : ℕ) → IsRefining graph numbers count [] → IsCoarsest graph numbers
+pub refining_end : (graph : ActGraph) (numbers : List ℕ) (count : ℕ) → IsRefining graph numbers count [] → IsCoarsestOn graph numbers
 unfolding IsMirroredAt
 refining_end graph numbers count refining = record {
   admissible = record {
@@ -133,7 +133,7 @@ refining_end graph numbers count refining = record {
 }
 
 -- numbers that are equal where the blocks are give the same partition
-pub coarsest_by_number : (graph : ActGraph) (blocks numbers : List ℕ) (count : ℕ) → IsCoarsest graph blocks → length numbers ≡ length blocks → IsNumbering blocks numbers count → IsCoarsest graph numbers
+pub coarsest_by_number : (graph : ActGraph) (blocks numbers : List ℕ) (count : ℕ) → IsCoarsestOn graph blocks → length numbers ≡ length blocks → IsNumbering blocks numbers count → IsCoarsestOn graph numbers
 coarsest_by_number graph blocks numbers count coarsest size numbering =
     let total : length numbers ≡ graph.count = size ∙ coarsest.admissible.total in
     let apart : Refines graph.count numbers blocks = λ u v hu hv same. numbering.apart u v (omega arith) (omega arith) same in

@@ -1,7 +1,7 @@
 -- The blocks that wait for their turn.
 use Rattle.std.specs.Prelude.{◌≡◌, ◌≢◌, ℕ, ◌+◌, ◌*◌, ◌<◌, ◌≤◌, List, length, slice_index, slice_index_or, Bool, true, false, Contains, All, ◌⊎◌}
 use Rattle.base_kit.specs.declared.act_graph.ActGraph.{ActGraph}
-use Rattle.base_kit.specs.Partition.{color, IsAdmissible, Refines}
+use Rattle.base_kit.specs.Partition.{color, IsAdmissibleOn, Refines}
 use Rattle.refine_partition.specs.Splits.{ActAlike}
 
 -- a block that is marked as waiting stands in the queue
@@ -41,6 +41,6 @@ pub record IsRefining (graph : ActGraph) (numbers : List ℕ) (count : ℕ) (que
   pub below : (u : ℕ) → u < graph.count → slice_index numbers u < count
   pub small : count ≤ graph.count
   pub colors : (u v : ℕ) → u < graph.count → v < graph.count → slice_index numbers u ≡ slice_index numbers v → color graph u ≡ color graph v
-  pub refined : (others : List ℕ) → IsAdmissible graph others → Refines graph.count others numbers
+  pub refined : (others : List ℕ) → IsAdmissibleOn graph others → Refines graph.count others numbers
   pub even : (block : ℕ) → block < count → ¬ Contains queue block → IsEven graph numbers block
   pub known : All (λ block. block < count) queue

@@ -1,7 +1,7 @@
 //! Partitions of routers into numbered groups, and the coarsest admissible one.
 
 ghost use Rattle.std.specs.Prelude.{◌≡◌, ◌<◌, ◌≤◌, ◌+◌, ◌*◌, ◌^◌, IfOk, Contains, length, slice_index};
-ghost use Rattle.base_kit.specs.Partition.{IsNumbered, IsCoarsest, members_of};
+ghost use Rattle.base_kit.specs.Partition.{IsNumbered, IsCoarsestOn, members_of};
 
 use crate::blocks::blocks_of;
 use crate::numbering::numbers_of;
@@ -77,7 +77,7 @@ pub fn coarsest<L: Ledger>(
     graph: &ActGraph,
     turns: &mut Steps<L>,
 ) -> Result<Partition, NoMemory>
-    ensures coarsest { IfOk result (λ p. IsCoarsest graph.now p) }
+    ensures coarsest { IfOk result (λ p. IsCoarsestOn graph.now p) }
     ensures turns { turns.new ≤ turns.old + 2 * graph.now.count }
 {
     let _count = graph.count;

@@ -1,7 +1,7 @@
 //! Refinement by a list of pending blocks.
 
 ghost use Rattle.std.specs.Prelude.{◌≡◌, ℕ, ◌<◌, ◌≤◌, ◌+◌, ◌*◌, All, Contains, IfOk, OnOk, length, slice_index};
-ghost use Rattle.base_kit.specs.Partition.{IsCoarsest};
+ghost use Rattle.base_kit.specs.Partition.{IsCoarsestOn};
 ghost use Rattle.refine_partition.specs.Pending.{AreAllWaiting, AreMarked, IsWaiting, ArePiecesWaiting};
 
 use crate::splitting::Splitting;
@@ -87,7 +87,7 @@ pub fn refined<L: Ledger>(
     graph: &ActGraph,
     turns: &mut Steps<L>,
 ) -> Result<Splitting, NoMemory>
-    ensures coarsest { IfOk result (λ s. IsCoarsest graph.now s.numbers) }
+    ensures coarsest { IfOk result (λ s. IsCoarsestOn graph.now s.numbers) }
     ensures turns { turns.new ≤ turns.old + 2 * graph.now.count }
 {
     let mut splitting = Splitting::start(alloc, graph)?;

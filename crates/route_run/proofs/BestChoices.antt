@@ -8,7 +8,7 @@ use Rattle.std.proofs.lemmas.List.MinMax.{IsFirstBest-from_best_of}
 use Rattle.base_kit.proofs.Elements.{In, contains_in, in_contains}
 use Rattle.srp_core.specs.declared.route.Route.{Route}
 use Rattle.srp_core.specs.declared.route.Candidate.{Candidate}
-use Rattle.route_run.specs.Activations.{beats, is_unbeaten, first_best, same_route, is_held, is_kept, chosen_of}
+use Rattle.route_run.specs.Activations.{beats, is_unbeaten, first_best, same_route, is_held, is_still_best, chosen_of}
 use Rattle.route_run.specs.Choices.{IsBestUpto}
 use Rattle.route_run.proofs.Routes.{same_itself, same_is, candidates_rank, beats_too}
 
@@ -99,7 +99,7 @@ module _ (test : ℕ → Bool) (all : List Candidate) (place : ℕ) (best : IsBe
   pub beaten_too : (r : Route) → beats test (get_or all place d).route r ≡ true → is_unbeaten test all r ≡ false
   beaten_too r e = beaten_by test all r (get_or all place d) (at_place all place d best.0) e
 
-  pub best_kept : is_kept test all (Some (get_or all place d).route) ≡ true
+  pub best_kept : is_still_best test all (Some (get_or all place d).route) ≡ true
   best_kept =
       and_from (is_held all (get_or all place d).route) (is_unbeaten test all (get_or all place d).route)
       (passes_some (λ (c : Candidate). same_route c.route (get_or all place d).route) all (get_or all place d) (at_place all place d best.0) (same_itself (get_or all place d).route))
@@ -112,15 +112,15 @@ best_place test (a ∷ all) c i = let b = IsFirstBest-from_best_of (candidates_r
 
 -- ---- the choice
 
-pub chosen_kept : (test : ℕ → Bool) (all : List Candidate) (label : Option Route) → is_kept test all label ≡ true → chosen_of test all label ≡ label
+pub chosen_kept : (test : ℕ → Bool) (all : List Candidate) (label : Option Route) → is_still_best test all label ≡ true → chosen_of test all label ≡ label
 unfolding chosen_of
-chosen_kept test all label e = cond-true (is_kept test all label) label (first_best test all) e
+chosen_kept test all label e = cond-true (is_still_best test all label) label (first_best test all) e
 
-pub chosen_first : (test : ℕ → Bool) (all : List Candidate) (label : Option Route) → is_kept test all label ≡ false → chosen_of test all label ≡ first_best test all
+pub chosen_first : (test : ℕ → Bool) (all : List Candidate) (label : Option Route) → is_still_best test all label ≡ false → chosen_of test all label ≡ first_best test all
 unfolding chosen_of
-chosen_first test all label e = cond-false (is_kept test all label) label (first_best test all) e
+chosen_first test all label e = cond-false (is_still_best test all label) label (first_best test all) e
 
-kept_nothing : (test : ℕ → Bool) (label : Option Route) → is_kept test [] label ≡ false
+kept_nothing : (test : ℕ → Bool) (label : Option Route) → is_still_best test [] label ≡ false
 kept_nothing test None = refl
 kept_nothing test (Some r) = refl
 
@@ -136,7 +136,7 @@ pub record IsBestCandidate (test : ℕ → Bool) (all : List Candidate) (r : Rou
   pub same : candidate.route ≡ r
   pub unbeaten : (d : Candidate) → In all d → beats test d.route r ≡ false
 
-kept_best : (test : ℕ → Bool) (all : List Candidate) (r : Route) → is_kept test all (Some r) ≡ true → IsBestCandidate test all r
+kept_best : (test : ℕ → Bool) (all : List Candidate) (r : Route) → is_still_best test all (Some r) ≡ true → IsBestCandidate test all r
 kept_best test all r e =
     let parts = and_parts (is_held all r) (is_unbeaten test all r) e in
     let held = some_passes (λ (c : Candidate). same_route c.route r) all parts.0 in
@@ -150,15 +150,15 @@ first_by test all (Some c) r is e =
     record { candidate = c; inside = f.0; same = same; unbeaten = subst (Unbeaten test all) same (by_unbeaten test all c.route f.1) }
 
 pub chosen_some : (test : ℕ → Bool) (all : List Candidate) (label : Option Route) (r : Route) → chosen_of test all label ≡ Some r → IsBestCandidate test all r
-chosen_some test all label r e = elim (cases_Bool (is_kept test all label)) [
-  | inl kept ↦ kept_best test all r (subst (λ (o : Option Route). is_kept test all o ≡ true) (sym (chosen_kept test all label kept) ∙ e) kept)
+chosen_some test all label r e = elim (cases_Bool (is_still_best test all label)) [
+  | inl kept ↦ kept_best test all r (subst (λ (o : Option Route). is_still_best test all o ≡ true) (sym (chosen_kept test all label kept) ∙ e) kept)
   | inr other ↦ first_by test all (find (λ (c : Candidate). is_unbeaten test all c.route) all) r refl (sym (chosen_first test all label other) ∙ e)
 ]
 
 -- where none is chosen there is no candidate
 pub chosen_nothing : (test : ℕ → Bool) (all : List Candidate) (label : Option Route) → chosen_of test all label ≡ None → (c : Candidate) → ¬ In all c
-chosen_nothing test all label e c i = elim (cases_Bool (is_kept test all label)) [
-  | inl kept ↦ (let none : is_kept test all None ≡ true = subst (λ (o : Option Route). is_kept test all o ≡ true) (sym (chosen_kept test all label kept) ∙ e) kept in cc)
+chosen_nothing test all label e c i = elim (cases_Bool (is_still_best test all label)) [
+  | inl kept ↦ (let none : is_still_best test all None ≡ true = subst (λ (o : Option Route). is_still_best test all o ≡ true) (sym (chosen_kept test all label kept) ∙ e) kept in cc)
   | inr other ↦ (let b = best_place test all c i in let some : Some (get_or all b.0 c).route ≡ None = sym (first_best_is test all b.0 b.1 c) ∙ sym (chosen_first test all label other) ∙ e in cc)
 ]
 
@@ -175,12 +175,12 @@ and_true true c e = sym e
 and_true false c e = refl
 
 -- where a route is unbeaten, it is kept exactly where it is held
-pub held_kept : (test : ℕ → Bool) (all : List Candidate) (r : Route) → is_unbeaten test all r ≡ true → is_held all r ≡ is_kept test all (Some r)
+pub held_kept : (test : ℕ → Bool) (all : List Candidate) (r : Route) → is_unbeaten test all r ≡ true → is_held all r ≡ is_still_best test all (Some r)
 held_kept test all r e = and_true (is_held all r) (is_unbeaten test all r) e
 
 -- the first best candidate is taken where the label is not kept, and is another one
-pub best_taken : (test : ℕ → Bool) (all : List Candidate) (place : ℕ) → IsBestUpto test all (length all) place → (label : Option Route) (c : Candidate) → is_kept test all label ≡ false → c ≡ get_or all place c → (chosen_of test all label ≡ Some c.route) × (Some c.route ≢ label)
+pub best_taken : (test : ℕ → Bool) (all : List Candidate) (place : ℕ) → IsBestUpto test all (length all) place → (label : Option Route) (c : Candidate) → is_still_best test all label ≡ false → c ≡ get_or all place c → (chosen_of test all label ≡ Some c.route) × (Some c.route ≢ label)
 best_taken test all place best label c kept is = (
   chosen_first test all label kept ∙ first_best_is test all place best c ∙ ap (λ (x : Candidate). Some x.route) (sym is),
-  (λ e. true≢false (sym (subst (λ (o : Option Route). is_kept test all o ≡ true) (ap (λ (x : Candidate). Some x.route) (sym is) ∙ e) (best_kept test all place best c)) ∙ kept)),
+  (λ e. true≢false (sym (subst (λ (o : Option Route). is_still_best test all o ≡ true) (ap (λ (x : Candidate). Some x.route) (sym is) ∙ e) (best_kept test all place best c)) ∙ kept)),
 )

@@ -36,14 +36,14 @@ abbrev pub is_held : List Candidate → Route → Bool
 is_held all route = list_any (λ candidate. same_route candidate.route route) all
 
 -- whether the label is a candidate of best key
-abbrev pub is_kept : (ℕ → Bool) → List Candidate → Option Route → Bool
-is_kept is_lone all None = false
-is_kept is_lone all (Some route) = is_held all route && is_unbeaten is_lone all route
+abbrev pub is_still_best : (ℕ → Bool) → List Candidate → Option Route → Bool
+is_still_best is_lone all None = false
+is_still_best is_lone all (Some route) = is_held all route && is_unbeaten is_lone all route
 
 -- The label that a router chooses: the one it has if that is a candidate of best key, else the first
 -- candidate of best key, and none where there is no candidate.
 unfoldable pub chosen_of : (ℕ → Bool) → List Candidate → Option Route → Option Route
-chosen_of is_lone all label = if is_kept is_lone all label then label else first_best is_lone all
+chosen_of is_lone all label = if is_still_best is_lone all label then label else first_best is_lone all
 
 -- the label that an activation gives the router
 abbrev pub chosen_label : Problem → List (Option Route) → ℕ → Option Route

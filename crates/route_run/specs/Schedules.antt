@@ -35,11 +35,11 @@ pub record LineWord : Type 0 where
   pub line : ℕ
   pub word : List ℕ
 
-abbrev pub word_at : ℕ → List ℕ → LineWord
-word_at line word = record { line = line; word = word }
+abbrev pub line_word : ℕ → List ℕ → LineWord
+line_word line word = record { line = line; word = word }
 
 abbrev pub words_at : ℕ → List (List ℕ) → List LineWord
-words_at line words = map (word_at line) words
+words_at line words = map (line_word line) words
 
 abbrev pub words_on : TextLine → List LineWord
 words_on l = words_at l.number l.words

@@ -1,6 +1,6 @@
 ghost use Rattle.std.specs.Prelude.{◌≡◌, ◌+◌, ◌<◌, IfOk, MatchOption, length, nat_eq};
 ghost use Rattle.std.specs.HashSet.{contains};
-ghost use Rattle.route_run.specs.Activations.{is_held, is_kept, chosen_of};
+ghost use Rattle.route_run.specs.Activations.{is_held, is_still_best, chosen_of};
 ghost use Rattle.route_run.specs.Choices.{IsBestUpto, IsChoice};
 
 use crate::comparing::{beats, same_route};
@@ -80,7 +80,7 @@ fn is_kept(
     label: &Option<Route>,
 ) -> Result<bool, NoMemory>
     requires { IsBestUpto (contains nat_eq lone.now) candidates.now (length candidates.now) best }
-    ensures { IfOk result (λ kept. kept ≡ is_kept (contains nat_eq lone.now) candidates.now label.now) }
+    ensures { IfOk result (λ kept. kept ≡ is_still_best (contains nat_eq lone.now) candidates.now label.now) }
 {
     match label {
         Some(route) => {

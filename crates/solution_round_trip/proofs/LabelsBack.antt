@@ -12,7 +12,7 @@ use Rattle.cfg_ast.specs.printing.WellFormed.{IsBetween}
 use Rattle.cfg_round_trip.proofs.WordsBack.{number_back, community_back}
 use Rattle.srp_core.specs.declared.route.Route.{Route}
 use Rattle.srp_core.specs.declared.route.Route.TheVariants.{Bgp, Ospf}
-use Rattle.solution_text.specs.Forms.{community_above, communities_above, bgp_form, label_form, saying, saying_of}
+use Rattle.solution_text.specs.Forms.{community_above, communities_above, bgp_label_form, label_form, saying, named_label_of}
 use Rattle.solution_text.specs.Printed.{path_words, label_words}
 use Rattle.solution_round_trip.specs.Laws.{IsBgpInRange, IsLabelInRange}
 use Rattle.solution_round_trip.proofs.PathsBack.{path_back}
@@ -34,8 +34,8 @@ all_above_none : (comms : List ℕ) → AllByRecursion (IsBetween 1 4294901759) 
 all_above_none [] each = tt
 all_above_none (c ∷ comms) each = (let low = each.0.0 in omega (arith, low), all_above_none comms each.1)
 
-bgp_back : (lp : ℕ) (path comms : List ℕ) → IsBgpInRange lp path comms → bgp_form (decimal lp ∷ codes "path" ∷ path_words path ++ (codes "comms" ∷ map community_text comms)) ≡ Some (Bgp lp path comms)
-unfolding bgp_form
+bgp_back : (lp : ℕ) (path comms : List ℕ) → IsBgpInRange lp path comms → bgp_label_form (decimal lp ∷ codes "path" ∷ path_words path ++ (codes "comms" ∷ map community_text comms)) ≡ Some (Bgp lp path comms)
+unfolding bgp_label_form
 bgp_back lp path comms range =
     rw (
       number_back lp range.preference,
@@ -60,8 +60,8 @@ label_back protocol (Some (Ospf cost)) range = rw (number_back cost range.1) ref
 label_back protocol (Some (Bgp lp path comms)) range = rw (bgp_back lp path comms range.1) refl
 
 -- the words of a line
-pub words_back : (protocol : Protocol) (name : List ℕ) (label : Option Route) → is_router_name name ≡ true → IsLabelInRange protocol label → saying_of (name ∷ label_words label) ≡ Some (saying name label)
-unfolding saying_of
+pub words_back : (protocol : Protocol) (name : List ℕ) (label : Option Route) → is_router_name name ≡ true → IsLabelInRange protocol label → named_label_of (name ∷ label_words label) ≡ Some (saying name label)
+unfolding named_label_of
 words_back protocol name None named range = rw (named, label_back protocol None range) refl
 words_back protocol name (Some (Ospf cost)) named range = rw (named, label_back protocol (Some (Ospf cost)) range) refl
 words_back protocol name (Some (Bgp lp path comms)) named range = rw (named, label_back protocol (Some (Bgp lp path comms)) range) refl

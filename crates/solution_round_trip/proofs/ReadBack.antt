@@ -13,9 +13,11 @@ use Rattle.cfg_ast.specs.printing.Printed.{lines_text}
 use Rattle.cfg_round_trip.proofs.TextLines.{all_lines_back}
 use Rattle.srp_core.specs.declared.route.Route.{Route}
 use Rattle.srp_core.specs.declared.route.Route.TheVariants.{Bgp, Ospf}
-use Rattle.solution_text.specs.Forms.{Saying, saying, saying_of}
+use Rattle.solution_text.specs.Forms.{NamedLabel, saying, named_label_of}
 use Rattle.solution_text.specs.Printed.{label_words, label_lines, labels_text}
-use Rattle.solution_text.specs.Solutions.{AreApart, are_some, has_words, solution_lines, sayings, is_foreign, first_fault, said_of, all_given, labels_by, labels_of_text}
+use Rattle.solution_text.specs.Solutions.{are_some, has_words, solution_lines, named_labels, is_foreign, first_fault, said_of, labels_by, labels_of_text}
+use Rattle.base_kit.specs.Names.{AreApart}
+use Rattle.base_kit.specs.Options.{all_given}
 use Rattle.solution_text.proofs.RouterNames.{bytes_eq-sym}
 use Rattle.solution_round_trip.specs.Laws.{IsLabelInRange, AreNames, PrintedIsReadBack}
 use Rattle.solution_round_trip.proofs.LabelsBack.{words_back}
@@ -26,17 +28,17 @@ use Rattle.solution_round_trip.proofs.LinesBack.{lines_print}
 abbrev words_of : List TextLine → List (List (List ℕ))
 words_of ls = map (λ (l : TextLine). l.words) ls
 
-abbrev says_of : List (List ℕ) → List (Option Route) → List Saying
+abbrev says_of : List (List ℕ) → List (Option Route) → List NamedLabel
 says_of [] labels = []
 says_of (name ∷ names) [] = []
 says_of (name ∷ names) (label ∷ labels) = saying name label ∷ says_of names labels
 
 -- each line says what stands at its place
-abbrev Say : List TextLine → List Saying → Type 0
+abbrev Say : List TextLine → List NamedLabel → Type 0
 Say [] [] = Unit {0}
 Say [] (s ∷ ss) = ⊥
 Say (l ∷ ls) [] = ⊥
-Say (l ∷ ls) (s ∷ ss) = ((saying_of l.words ≡ Some s) × (are_some l.words ≡ true)) × Say ls ss
+Say (l ∷ ls) (s ∷ ss) = ((named_label_of l.words ≡ Some s) × (are_some l.words ≡ true)) × Say ls ss
 
 words_are : (ls ks : List TextLine) → map bare_line ls ≡ map bare_line ks → words_of ls ≡ words_of ks
 words_are ls ks same = sym (bare_words ls) ∙ ap words_of same ∙ bare_words ks
@@ -61,21 +63,21 @@ printed_say protocol (name ∷ names) [] (l ∷ ls) named range same = cc
 printed_say protocol (name ∷ names) (label ∷ labels) [] named range same = cc
 printed_say protocol (name ∷ names) (label ∷ labels) (l ∷ ls) named range same =
     let here : l.words ≡ name ∷ label_words label = first_of l.words (name ∷ label_words label) (words_of ls) (words_of (label_lines names labels)) same in (
-      (ap saying_of here ∙ words_back protocol name label named.0 range.0, ap are_some here),
+      (ap named_label_of here ∙ words_back protocol name label named.0 range.0, ap are_some here),
       printed_say protocol names labels ls named.1 range.1 (rest_of l.words (name ∷ label_words label) (words_of ls) (words_of (label_lines names labels)) same),
     )
 
-all_kept : (ls : List TextLine) (ss : List Saying) → Say ls ss → filter has_words ls ≡ ls
+all_kept : (ls : List TextLine) (ss : List NamedLabel) → Say ls ss → filter has_words ls ≡ ls
 all_kept [] [] say = refl
 all_kept [] (s ∷ ss) say = absurd say
 all_kept (l ∷ ls) [] say = absurd say
 all_kept (l ∷ ls) (s ∷ ss) say = rw (say.0.1) (ap (λ (ks : List TextLine). l ∷ ks) (all_kept ls ss say.1))
 
-all_said : (ls : List TextLine) (ss : List Saying) → Say ls ss → sayings ls ≡ ss
+all_said : (ls : List TextLine) (ss : List NamedLabel) → Say ls ss → named_labels ls ≡ ss
 all_said [] [] say = refl
 all_said [] (s ∷ ss) say = absurd say
 all_said (l ∷ ls) [] say = absurd say
-all_said (l ∷ ls) (s ∷ ss) say = rw (say.0.0) (ap (λ (more : List Saying). s ∷ more) (all_said ls ss say.1))
+all_said (l ∷ ls) (s ∷ ss) say = rw (say.0.0) (ap (λ (more : List NamedLabel). s ∷ more) (all_said ls ss say.1))
 
 -- ---- no line is at fault
 
@@ -140,7 +142,7 @@ no_fault protocol all earlier (name ∷ names) (label ∷ labels) (l ∷ ls) say
 
 -- ---- each name has its label
 
-said_other : (name : List ℕ) (label : Option Route) (ss : List Saying) (names : List (List ℕ)) → list_any (bytes_eq name) names ≡ false → map (said_of (saying name label ∷ ss)) names ≡ map (said_of ss) names
+said_other : (name : List ℕ) (label : Option Route) (ss : List NamedLabel) (names : List (List ℕ)) → list_any (bytes_eq name) names ≡ false → map (said_of (saying name label ∷ ss)) names ≡ map (said_of ss) names
 said_other name label ss [] none = refl
 said_other name label ss (other ∷ names) none =
     rw (others_first name other names (bytes_eq name other) refl none)
@@ -149,7 +151,7 @@ said_other name label ss (other ∷ names) none =
 given_front : (x : Option (Option Route)) (label : Option Route) (xs : List (Option (Option Route))) (labels : List (Option Route)) → x ≡ Some label → all_given xs ≡ Some labels → all_given (x ∷ xs) ≡ Some (label ∷ labels)
 given_front x label xs labels here more = rw (here, more) refl
 
-said_own : (name : List ℕ) (label : Option Route) (ss : List Saying) → said_of (saying name label ∷ ss) name ≡ Some label
+said_own : (name : List ℕ) (label : Option Route) (ss : List NamedLabel) → said_of (saying name label ∷ ss) name ≡ Some label
 said_own name label ss = rw (own name) refl
 
 all_labels : (names : List (List ℕ)) (labels : List (Option Route)) → length labels ≡ length names → AreApart names → all_given (map (said_of (says_of names labels)) names) ≡ Some labels
@@ -163,16 +165,16 @@ all_labels (name ∷ names) (label ∷ labels) total apart =
 
 -- ---- the text
 
-labels_as : (says : List Saying) (names : List (List ℕ)) (labels : List (Option Route)) → all_given (map (said_of says) names) ≡ Some labels → labels_by says names ≡ Some labels
+labels_as : (says : List NamedLabel) (names : List (List ℕ)) (labels : List (Option Route)) → all_given (map (said_of says) names) ≡ Some labels → labels_by says names ≡ Some labels
 unfolding labels_by
 labels_as says names labels given = given
 
-text_as : (protocol : Protocol) (names : List (List ℕ)) (labels : List (Option Route)) (bs : List ℕ) → first_fault protocol names [] (solution_lines bs) ≡ None → labels_by (sayings (solution_lines bs)) names ≡ Some labels
+text_as : (protocol : Protocol) (names : List (List ℕ)) (labels : List (Option Route)) (bs : List ℕ) → first_fault protocol names [] (solution_lines bs) ≡ None → labels_by (named_labels (solution_lines bs)) names ≡ Some labels
     → labels_of_text protocol names bs ≡ Ok labels
 unfolding labels_of_text
 text_as protocol names labels bs none given = rw (none, given) refl
 
-lines_as : (bs : List ℕ) (ss : List Saying) → Say (map (text_line bs) (all_lines_of bs)) ss → solution_lines bs ≡ map (text_line bs) (all_lines_of bs)
+lines_as : (bs : List ℕ) (ss : List NamedLabel) → Say (map (text_line bs) (all_lines_of bs)) ss → solution_lines bs ≡ map (text_line bs) (all_lines_of bs)
 unfolding solution_lines
 lines_as bs ss say = all_kept (map (text_line bs) (all_lines_of bs)) ss say
 
@@ -186,7 +188,7 @@ read_text protocol names labels are total range =
     let lines = lines_as bs (says_of names labels) say in
     text_as protocol names labels bs
     (ap (first_fault protocol names []) lines ∙ no_fault protocol names [] names labels ls say (all_known names) (all_new names) are.apart range)
-    (labels_as (sayings (solution_lines bs)) names labels (ap (λ (ks : List TextLine). all_given (map (said_of (sayings ks)) names)) lines ∙ ap (λ (ss : List Saying). all_given (map (said_of ss) names)) (all_said ls (says_of names labels) say) ∙ all_labels names labels total are.apart))
+    (labels_as (named_labels (solution_lines bs)) names labels (ap (λ (ks : List TextLine). all_given (map (said_of (named_labels ks)) names)) lines ∙ ap (λ (ss : List NamedLabel). all_given (map (said_of ss) names)) (all_said ls (says_of names labels) say) ∙ all_labels names labels total are.apart))
 
 pub printed_is_read_back : PrintedIsReadBack
 unfolding labels_text

@@ -16,7 +16,8 @@ use Rattle.srp_core.specs.Quotient.{IsQuotient}
 use Rattle.srp_core.specs.Routes.{IsRouteOf}
 use Rattle.srp_core.specs.Stability.{IsStable}
 use Rattle.solution_text.specs.Printed.{labels_text}
-use Rattle.solution_text.specs.Solutions.{AreApart, labels_of_text}
+use Rattle.solution_text.specs.Solutions.{labels_of_text}
+use Rattle.base_kit.specs.Names.{AreApart}
 
 -- a preference, the AS numbers of a path and communities that can be written
 pub record IsBgpInRange (lp : ℕ) (path comms : List ℕ) : Type 0 where

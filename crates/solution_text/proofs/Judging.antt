@@ -12,8 +12,10 @@ use Rattle.solution_text.specs.declared.refusal.SolKind.{SolKind}
 use Rattle.solution_text.specs.declared.refusal.SolKind.TheVariants.{BadForm, UnknownRouter, Repeated, WrongProtocol}
 use Rattle.solution_text.specs.declared.refusal.SolRefusal.{SolRefusal}
 use Rattle.solution_text.specs.declared.refusal.SolRefusal.TheVariants.{At}
-use Rattle.solution_text.specs.Forms.{Saying, saying_of}
-use Rattle.solution_text.specs.Solutions.{AreApart, has_words, are_some, sayings, is_foreign, kind_of, named_too, at_line, first_fault, said_of, all_given, labels_by, judged, solution_lines, labels_of_text}
+use Rattle.solution_text.specs.Forms.{NamedLabel, named_label_of}
+use Rattle.solution_text.specs.Solutions.{has_words, are_some, named_labels, is_foreign, kind_of, named_too, first_at_line, first_fault, said_of, labels_by, labels_unless, solution_lines, labels_of_text}
+use Rattle.base_kit.specs.Names.{AreApart}
+use Rattle.base_kit.specs.Options.{all_given}
 use Rattle.solution_text.specs.Steps.{Standing, nothing_said, has_line, said_at, itself, all_labels, with_label, with_place, with_saying, with_words, go_on, ended, answer_from}
 use Rattle.solution_text.proofs.RouterNames.{bytes_eq-sym, moved, position_first}
 
@@ -43,8 +45,8 @@ given [] labels = []
 given (b ∷ seen) [] = []
 given (b ∷ seen) (label ∷ labels) = given_at b label ∷ given seen labels
 
--- the standing is what the sayings say of the names
-record IsOf (says : List Saying) (names : List (List ℕ)) (s : Standing) : Type 0 where
+-- the standing is what the named_labels say of the names
+record IsOf (says : List NamedLabel) (names : List (List ℕ)) (s : Standing) : Type 0 where
   total : length s.seen ≡ length names
   labels_total : length s.labels ≡ length names
   said : given s.seen s.labels ≡ map (said_of says) names
@@ -77,7 +79,7 @@ all_of_given (b ∷ seen) [] e = absurd (omega arith)
 all_of_given (true ∷ seen) (label ∷ labels) e = ap (option_map (λ rest. label ∷ rest)) (all_of_given seen labels (omega arith)) ∙ all_cons label labels (list_all itself seen)
 all_of_given (false ∷ seen) (label ∷ labels) e = refl
 
-labels_of : (says : List Saying) (names : List (List ℕ)) (s : Standing) → IsOf says names s → all_labels s ≡ labels_by says names
+labels_of : (says : List NamedLabel) (names : List (List ℕ)) (s : Standing) → IsOf says names s → all_labels s ≡ labels_by says names
 unfolding labels_by
 labels_of says names s is = sym (all_of_given s.seen s.labels (omega (arith, is.total, is.labels_total))) ∙ ap all_given is.said
 
@@ -87,15 +89,15 @@ abbrev or_new : Option (Option Route) → Bool → Option Route → Option (Opti
 or_new (Some label) b new = Some label
 or_new None b new = cond b (Some new) None
 
-said_by : (says : List Saying) (s t : Saying) (name : List ℕ) (b : Bool) → said_of (says ++ s ∷ []) name ≡ or_new (said_of says name) (bytes_eq s.name name) s.label → bytes_eq t.name name ≡ b → said_of (t ∷ says ++ s ∷ []) name ≡ or_new (said_of (t ∷ says) name) (bytes_eq s.name name) s.label
+said_by : (says : List NamedLabel) (s t : NamedLabel) (name : List ℕ) (b : Bool) → said_of (says ++ s ∷ []) name ≡ or_new (said_of says name) (bytes_eq s.name name) s.label → bytes_eq t.name name ≡ b → said_of (t ∷ says ++ s ∷ []) name ≡ or_new (said_of (t ∷ says) name) (bytes_eq s.name name) s.label
 said_by says s t name true rest e = rw e refl
 said_by says s t name false rest e = rw e rest
 
-said_one : (s : Saying) (name : List ℕ) (b : Bool) → bytes_eq s.name name ≡ b → said_of (s ∷ []) name ≡ cond (bytes_eq s.name name) (Some s.label) None
+said_one : (s : NamedLabel) (name : List ℕ) (b : Bool) → bytes_eq s.name name ≡ b → said_of (s ∷ []) name ≡ cond (bytes_eq s.name name) (Some s.label) None
 said_one s name true e = rw e refl
 said_one s name false e = rw e refl
 
-said_push : (says : List Saying) (s : Saying) (name : List ℕ) → said_of (says ++ s ∷ []) name ≡ or_new (said_of says name) (bytes_eq s.name name) s.label
+said_push : (says : List NamedLabel) (s : NamedLabel) (name : List ℕ) → said_of (says ++ s ∷ []) name ≡ or_new (said_of says name) (bytes_eq s.name name) s.label
 said_push [] s name = said_one s name (bytes_eq s.name name) refl
 said_push (t ∷ says) s name = said_by says s t name (bytes_eq t.name name) (said_push says s name) refl
 
@@ -107,7 +109,7 @@ old_kept (Some label) new = refl
 old_kept None new = refl
 
 -- names that are not that of the saying keep what is said of them
-others_kept : (says : List Saying) (s : Saying) (names : List (List ℕ)) → list_any (bytes_eq s.name) names ≡ false → map (said_of says) names ≡ map (said_of (says ++ s ∷ [])) names
+others_kept : (says : List NamedLabel) (s : NamedLabel) (names : List (List ℕ)) → list_any (bytes_eq s.name) names ≡ false → map (said_of says) names ≡ map (said_of (says ++ s ∷ [])) names
 others_kept says s [] none = refl
 others_kept says s (name ∷ names) none =
     let parts = neither (bytes_eq s.name name) (list_any (bytes_eq s.name) names) none in
@@ -142,7 +144,7 @@ place_cases test name names k b is e = by b is (sym (moved_nothing (position tes
 
 -- ---- the saying at its place
 
-said_here : (says : List Saying) (s : Saying) (name : List ℕ) (names : List (List ℕ)) → bytes_eq s.name name ≡ true → list_any (bytes_eq name) names ≡ false → said_of says s.name ≡ None → Some s.label ∷ map (said_of says) names ≡ map (said_of (says ++ s ∷ [])) (name ∷ names)
+said_here : (says : List NamedLabel) (s : NamedLabel) (name : List ℕ) (names : List (List ℕ)) → bytes_eq s.name name ≡ true → list_any (bytes_eq name) names ≡ false → said_of says s.name ≡ None → Some s.label ∷ map (said_of says) names ≡ map (said_of (says ++ s ∷ [])) (name ∷ names)
 said_here says s name names e none new =
     let same : name ≡ s.name = same_name name s.name e in
     let old : said_of says name ≡ None = ap (said_of says) same ∙ new in
@@ -150,12 +152,12 @@ said_here says s name names e none new =
     let rest = others_kept says s names (ap (λ (n : List ℕ). list_any (bytes_eq n) names) (sym same) ∙ none) in
     ap (λ (x : Option (Option Route)). x ∷ map (said_of says) names) (sym here) ∙ ap (λ (xs : List (Option (Option Route))). said_of (says ++ s ∷ []) name ∷ xs) rest
 
-said_there : (says : List Saying) (s : Saying) (name : List ℕ) (names : List (List ℕ)) (place : ℕ) → bytes_eq s.name name ≡ false → set (map (said_of says) names) place (Some s.label) ≡ map (said_of (says ++ s ∷ [])) names → said_of says name ∷ set (map (said_of says) names) place (Some s.label) ≡ map (said_of (says ++ s ∷ [])) (name ∷ names)
+said_there : (says : List NamedLabel) (s : NamedLabel) (name : List ℕ) (names : List (List ℕ)) (place : ℕ) → bytes_eq s.name name ≡ false → set (map (said_of says) names) place (Some s.label) ≡ map (said_of (says ++ s ∷ [])) names → said_of says name ∷ set (map (said_of says) names) place (Some s.label) ≡ map (said_of (says ++ s ∷ [])) (name ∷ names)
 said_there says s name names place e rest =
     let here : said_of (says ++ s ∷ []) name ≡ said_of says name = said_push says s name ∙ ap (λ (b : Bool). or_new (said_of says name) b s.label) e ∙ old_kept (said_of says name) s.label in
     ap (λ (x : Option (Option Route)). x ∷ set (map (said_of says) names) place (Some s.label)) (sym here) ∙ ap (λ (xs : List (Option (Option Route))). said_of (says ++ s ∷ []) name ∷ xs) rest
 
-said_after : (says : List Saying) (s : Saying) (names : List (List ℕ)) (k : ℕ) → AreApart names → position (bytes_eq s.name) names ≡ Some k → said_of says s.name ≡ None → set (map (said_of says) names) k (Some s.label) ≡ map (said_of (says ++ s ∷ [])) names
+said_after : (says : List NamedLabel) (s : NamedLabel) (names : List (List ℕ)) (k : ℕ) → AreApart names → position (bytes_eq s.name) names ≡ Some k → said_of says s.name ≡ None → set (map (said_of says) names) k (Some s.label) ≡ map (said_of (says ++ s ∷ [])) names
 said_after says s [] k apart found new = absurd cc
 said_after says s (name ∷ names) k apart found new = elim (place_cases (bytes_eq s.name) name names k (bytes_eq s.name name) refl found) [
   | inl here ↦ ap (λ (n : ℕ). set (map (said_of says) (name ∷ names)) n (Some s.label)) here.1 ∙ said_here says s name names here.0 apart.0 new
@@ -165,7 +167,7 @@ said_after says s (name ∷ names) k apart found new = elim (place_cases (bytes_
 ]
 
 -- the name stands at its place
-pub named_at : (says : List Saying) (wanted : List ℕ) (names : List (List ℕ)) (k : ℕ) → position (bytes_eq wanted) names ≡ Some k → (k < length names) × (slice_index_or (map (said_of says) names) k None ≡ said_of says wanted)
+pub named_at : (says : List NamedLabel) (wanted : List ℕ) (names : List (List ℕ)) (k : ℕ) → position (bytes_eq wanted) names ≡ Some k → (k < length names) × (slice_index_or (map (said_of says) names) k None ≡ said_of says wanted)
 named_at says wanted [] k found = absurd cc
 named_at says wanted (name ∷ names) k found = elim (place_cases (bytes_eq wanted) name names k (bytes_eq wanted name) refl found) [
   | inl here ↦ (omega (arith, here.1), ap (λ (n : ℕ). slice_index_or (map (said_of says) (name ∷ names)) n None) here.1 ∙ ap (said_of says) (same_name name wanted here.0))
@@ -191,11 +193,11 @@ given_set (b ∷ seen) (l ∷ labels) zero label e = refl
 given_set (b ∷ seen) (l ∷ labels) (suc k) label e = ap (λ (xs : List (Option (Option Route))). given_at b l ∷ xs) (given_set seen labels k label (omega arith))
 
 -- what the standing says of a name
-line_of_name : (says : List Saying) (names : List (List ℕ)) (s : Standing) (wanted : List ℕ) (k : ℕ) → IsOf says names s → position (bytes_eq wanted) names ≡ Some k → has_line s k ≡ is_some (said_of says wanted)
+line_of_name : (says : List NamedLabel) (names : List (List ℕ)) (s : Standing) (wanted : List ℕ) (k : ℕ) → IsOf says names s → position (bytes_eq wanted) names ≡ Some k → has_line s k ≡ is_some (said_of says wanted)
 line_of_name says names s wanted k is found =
     sym (seen_at s.seen s.labels k (omega (arith, is.total, is.labels_total))) ∙ ap (λ (xs : List (Option (Option Route))). is_some (slice_index_or xs k None)) is.said ∙ ap is_some (named_at says wanted names k found).1
 
-is_of_more : (says : List Saying) (names : List (List ℕ)) (st : Standing) (s : Saying) (k : ℕ) → AreApart names → IsOf says names st → position (bytes_eq s.name) names ≡ Some k → said_of says s.name ≡ None → IsOf (says ++ s ∷ []) names (said_at st k s.label)
+is_of_more : (says : List NamedLabel) (names : List (List ℕ)) (st : Standing) (s : NamedLabel) (k : ℕ) → AreApart names → IsOf says names st → position (bytes_eq s.name) names ≡ Some k → said_of says s.name ≡ None → IsOf (says ++ s ∷ []) names (said_at st k s.label)
 is_of_more says names st s k apart is found new = record {
   total = length-set st.seen k true ∙ is.total;
   labels_total = length-set st.labels k s.label ∙ is.labels_total;
@@ -204,7 +206,7 @@ is_of_more says names st s k apart is found new = record {
 
 -- ---- the names of earlier lines
 
-abbrev AreEarlier : List Saying → List (List ℕ) → Type 0
+abbrev AreEarlier : List NamedLabel → List (List ℕ) → Type 0
 AreEarlier says earlier = (wanted : List ℕ) → list_any (bytes_eq wanted) earlier ≡ is_some (said_of says wanted)
 
 more_by : (found : Option (Option Route)) (b : Bool) (new : Option Route) → (b || is_some found) ≡ is_some (or_new found b new)
@@ -213,7 +215,7 @@ more_by None false new = refl
 more_by (Some label) true new = refl
 more_by (Some label) false new = refl
 
-earlier_more : (says : List Saying) (earlier : List (List ℕ)) (s : Saying) → AreEarlier says earlier → AreEarlier (says ++ s ∷ []) (s.name ∷ earlier)
+earlier_more : (says : List NamedLabel) (earlier : List (List ℕ)) (s : NamedLabel) → AreEarlier says earlier → AreEarlier (says ++ s ∷ []) (s.name ∷ earlier)
 earlier_more says earlier s are wanted =
     ap (λ (b : Bool). bytes_eq wanted s.name || b) (are wanted) ∙ ap (λ (b : Bool). b || is_some (said_of says wanted)) (bytes_eq-sym wanted s.name) ∙ more_by (said_of says wanted) (bytes_eq s.name wanted) s.label ∙ ap is_some (sym (said_push says s wanted))
 
@@ -237,48 +239,48 @@ any_place test (name ∷ names) =
 
 module _ (protocol : Protocol) (names : List (List ℕ)) (apart : AreApart names) (place_of : List ℕ → Option ℕ) (is_place : (wanted : List ℕ) → place_of wanted ≡ position (bytes_eq wanted) names) (end : ℕ) where
   -- what the lines say from here on, by the lines before
-  abbrev judged_from : List Saying → List (List ℕ) → List TextLine → Labels
-  judged_from says earlier lines = judged (first_fault protocol names earlier lines) end (labels_by (says ++ sayings lines) names)
+  abbrev judged_from : List NamedLabel → List (List ℕ) → List TextLine → Labels
+  judged_from says earlier lines = labels_unless (first_fault protocol names earlier lines) end (labels_by (says ++ named_labels lines) names)
 
   abbrev Agrees : List TextLine → Type 0
-  Agrees ls = (says : List Saying) (earlier : List (List ℕ)) (st : Standing) → IsOf says names st → AreEarlier says earlier → answer_from protocol place_of end ls st ≡ judged_from says earlier (filter has_words ls)
+  Agrees ls = (says : List NamedLabel) (earlier : List (List ℕ)) (st : Standing) → IsOf says names st → AreEarlier says earlier → answer_from protocol place_of end ls st ≡ judged_from says earlier (filter has_words ls)
 
   -- where the line is at fault, so is the text
-  fault_first : (says : List Saying) (earlier : List (List ℕ)) (l : TextLine) (ls : List TextLine) (kind : SolKind) → kind_of protocol names earlier (saying_of l.words) ≡ Some kind → judged_from says earlier (l ∷ ls) ≡ Err (At l.number kind)
+  fault_first : (says : List NamedLabel) (earlier : List (List ℕ)) (l : TextLine) (ls : List TextLine) (kind : SolKind) → kind_of protocol names earlier (named_label_of l.words) ≡ Some kind → judged_from says earlier (l ∷ ls) ≡ Err (At l.number kind)
   unfolding first_fault
-  fault_first says earlier l ls kind e = ap (λ (k : Option SolKind). judged (at_line l.number k (first_fault protocol names (named_too (saying_of l.words) earlier) ls)) end (labels_by (says ++ sayings (l ∷ ls)) names)) e
+  fault_first says earlier l ls kind e = ap (λ (k : Option SolKind). labels_unless (first_at_line l.number k (first_fault protocol names (named_too (named_label_of l.words) earlier) ls)) end (labels_by (says ++ named_labels (l ∷ ls)) names)) e
 
   -- where it is not, the other lines decide
-  no_fault : (says : List Saying) (earlier : List (List ℕ)) (l : TextLine) (ls : List TextLine) (s : Saying) → saying_of l.words ≡ Some s → kind_of protocol names earlier (Some s) ≡ None → judged_from says earlier (l ∷ ls) ≡ judged_from (says ++ s ∷ []) (s.name ∷ earlier) ls
+  no_fault : (says : List NamedLabel) (earlier : List (List ℕ)) (l : TextLine) (ls : List TextLine) (s : NamedLabel) → named_label_of l.words ≡ Some s → kind_of protocol names earlier (Some s) ≡ None → judged_from says earlier (l ∷ ls) ≡ judged_from (says ++ s ∷ []) (s.name ∷ earlier) ls
   unfolding first_fault
   no_fault says earlier l ls s e none =
-      ap (λ (o : Option Saying). judged (at_line l.number (kind_of protocol names earlier o) (first_fault protocol names (named_too o earlier) ls)) end (labels_by (says ++ cons_option o (sayings ls)) names)) e
-      ∙ ap (λ (k : Option SolKind). judged (at_line l.number k (first_fault protocol names (s.name ∷ earlier) ls)) end (labels_by (says ++ s ∷ sayings ls) names)) none
-      ∙ ap (λ (xs : List Saying). judged (first_fault protocol names (s.name ∷ earlier) ls) end (labels_by xs names)) (sym (append_assoc says (s ∷ []) (sayings ls)))
+      ap (λ (o : Option NamedLabel). labels_unless (first_at_line l.number (kind_of protocol names earlier o) (first_fault protocol names (named_too o earlier) ls)) end (labels_by (says ++ cons_option o (named_labels ls)) names)) e
+      ∙ ap (λ (k : Option SolKind). labels_unless (first_at_line l.number k (first_fault protocol names (s.name ∷ earlier) ls)) end (labels_by (says ++ s ∷ named_labels ls) names)) none
+      ∙ ap (λ (xs : List NamedLabel). labels_unless (first_fault protocol names (s.name ∷ earlier) ls) end (labels_by xs names)) (sym (append_assoc says (s ∷ []) (named_labels ls)))
 
   -- the place of the router that a line names
-  record Names (s : Saying) (k : ℕ) : Type 0 where
+  record Names (s : NamedLabel) (k : ℕ) : Type 0 where
     found : position (bytes_eq s.name) names ≡ Some k
     known : list_any (bytes_eq s.name) names ≡ true
 
-  names_place : (s : Saying) (k : ℕ) → position (bytes_eq s.name) names ≡ Some k → Names s k
+  names_place : (s : NamedLabel) (k : ℕ) → position (bytes_eq s.name) names ≡ Some k → Names s k
   names_place s k found = record { found = found; known = any_place (bytes_eq s.name) names ∙ ap is_some found }
 
-  known_kind : (earlier : List (List ℕ)) (s : Saying) (k : ℕ) → Names s k → kind_of protocol names earlier (Some s) ≡ cond (list_any (bytes_eq s.name) earlier) (Some Repeated) (cond (is_foreign protocol s.label) (Some WrongProtocol) None)
+  known_kind : (earlier : List (List ℕ)) (s : NamedLabel) (k : ℕ) → Names s k → kind_of protocol names earlier (Some s) ≡ cond (list_any (bytes_eq s.name) earlier) (Some Repeated) (cond (is_foreign protocol s.label) (Some WrongProtocol) None)
   known_kind earlier s k is = rw is.known refl
 
   -- a line that names a router
-  agrees_named : (l : TextLine) (ls : List TextLine) → Agrees ls → (says : List Saying) (earlier : List (List ℕ)) (st : Standing) → IsOf says names st → AreEarlier says earlier → (s : Saying) → saying_of l.words ≡ Some s → (k : ℕ) → Names s k
+  agrees_named : (l : TextLine) (ls : List TextLine) → Agrees ls → (says : List NamedLabel) (earlier : List (List ℕ)) (st : Standing) → IsOf says names st → AreEarlier says earlier → (s : NamedLabel) → named_label_of l.words ≡ Some s → (k : ℕ) → Names s k
       → (said : Option (Option Route)) → said_of says s.name ≡ said → (foreign : Bool) → is_foreign protocol s.label ≡ foreign → go_on (with_label protocol l.number st k s.label) (answer_from protocol place_of end ls) ≡ judged_from says earlier (l ∷ filter has_words ls)
   agrees_named l ls rest says earlier st is are s e k named (Some label) said foreign f =
       let there : has_line st k ≡ true = line_of_name says names st s.name k is named.found ∙ ap is_some said in
       let before : list_any (bytes_eq s.name) earlier ≡ true = are s.name ∙ ap is_some said in
-      let kind : kind_of protocol names earlier (saying_of l.words) ≡ Some Repeated = ap (kind_of protocol names earlier) e ∙ known_kind earlier s k named ∙ ap (λ (b : Bool). cond b (Some Repeated) (cond (is_foreign protocol s.label) (Some WrongProtocol) None)) before in
+      let kind : kind_of protocol names earlier (named_label_of l.words) ≡ Some Repeated = ap (kind_of protocol names earlier) e ∙ known_kind earlier s k named ∙ ap (λ (b : Bool). cond b (Some Repeated) (cond (is_foreign protocol s.label) (Some WrongProtocol) None)) before in
       ap (λ (b : Bool). go_on (cond b (Err (At l.number Repeated)) (cond (is_foreign protocol s.label) (Err (At l.number WrongProtocol)) (Ok (said_at st k s.label)))) (answer_from protocol place_of end ls)) there ∙ sym (fault_first says earlier l (filter has_words ls) Repeated kind)
   agrees_named l ls rest says earlier st is are s e k named None said true f =
       let there : has_line st k ≡ false = line_of_name says names st s.name k is named.found ∙ ap is_some said in
       let before : list_any (bytes_eq s.name) earlier ≡ false = are s.name ∙ ap is_some said in
-      let kind : kind_of protocol names earlier (saying_of l.words) ≡ Some WrongProtocol = ap (kind_of protocol names earlier) e ∙ known_kind earlier s k named ∙ ap (λ (b : Bool). cond b (Some Repeated) (cond (is_foreign protocol s.label) (Some WrongProtocol) None)) before ∙ ap (λ (b : Bool). cond b (Some WrongProtocol) None) f in
+      let kind : kind_of protocol names earlier (named_label_of l.words) ≡ Some WrongProtocol = ap (kind_of protocol names earlier) e ∙ known_kind earlier s k named ∙ ap (λ (b : Bool). cond b (Some Repeated) (cond (is_foreign protocol s.label) (Some WrongProtocol) None)) before ∙ ap (λ (b : Bool). cond b (Some WrongProtocol) None) f in
       ap (λ (b : Bool). go_on (cond b (Err (At l.number Repeated)) (cond (is_foreign protocol s.label) (Err (At l.number WrongProtocol)) (Ok (said_at st k s.label)))) (answer_from protocol place_of end ls)) there
       ∙ ap (λ (b : Bool). go_on (cond b (Err (At l.number WrongProtocol)) (Ok (said_at st k s.label))) (answer_from protocol place_of end ls)) f ∙ sym (fault_first says earlier l (filter has_words ls) WrongProtocol kind)
   agrees_named l ls rest says earlier st is are s e k named None said false f =
@@ -290,32 +292,32 @@ module _ (protocol : Protocol) (names : List (List ℕ)) (apart : AreApart names
       ∙ rest (says ++ s ∷ []) (s.name ∷ earlier) (said_at st k s.label) (is_of_more says names st s k apart is named.found said) (earlier_more says earlier s are)
       ∙ sym (no_fault says earlier l (filter has_words ls) s e kind)
 
-  agrees_placed : (l : TextLine) (ls : List TextLine) → Agrees ls → (says : List Saying) (earlier : List (List ℕ)) (st : Standing) → IsOf says names st → AreEarlier says earlier → (s : Saying) → saying_of l.words ≡ Some s → (p : Option ℕ) → position (bytes_eq s.name) names ≡ p
+  agrees_placed : (l : TextLine) (ls : List TextLine) → Agrees ls → (says : List NamedLabel) (earlier : List (List ℕ)) (st : Standing) → IsOf says names st → AreEarlier says earlier → (s : NamedLabel) → named_label_of l.words ≡ Some s → (p : Option ℕ) → position (bytes_eq s.name) names ≡ p
       → go_on (with_place protocol l.number st s.label p) (answer_from protocol place_of end ls) ≡ judged_from says earlier (l ∷ filter has_words ls)
   agrees_placed l ls rest says earlier st is are s e None found =
       let unknown : list_any (bytes_eq s.name) names ≡ false = any_place (bytes_eq s.name) names ∙ ap is_some found in
-      let kind : kind_of protocol names earlier (saying_of l.words) ≡ Some UnknownRouter = ap (kind_of protocol names earlier) e ∙ ap (λ (b : Bool). cond (not b) (Some UnknownRouter) (cond (list_any (bytes_eq s.name) earlier) (Some Repeated) (cond (is_foreign protocol s.label) (Some WrongProtocol) None))) unknown in
+      let kind : kind_of protocol names earlier (named_label_of l.words) ≡ Some UnknownRouter = ap (kind_of protocol names earlier) e ∙ ap (λ (b : Bool). cond (not b) (Some UnknownRouter) (cond (list_any (bytes_eq s.name) earlier) (Some Repeated) (cond (is_foreign protocol s.label) (Some WrongProtocol) None))) unknown in
       sym (fault_first says earlier l (filter has_words ls) UnknownRouter kind)
   agrees_placed l ls rest says earlier st is are s e (Some k) found = agrees_named l ls rest says earlier st is are s e k (names_place s k found) (said_of says s.name) refl (is_foreign protocol s.label) refl
 
-  agrees_said : (l : TextLine) (ls : List TextLine) → Agrees ls → (says : List Saying) (earlier : List (List ℕ)) (st : Standing) → IsOf says names st → AreEarlier says earlier → (o : Option Saying) → saying_of l.words ≡ o
+  agrees_said : (l : TextLine) (ls : List TextLine) → Agrees ls → (says : List NamedLabel) (earlier : List (List ℕ)) (st : Standing) → IsOf says names st → AreEarlier says earlier → (o : Option NamedLabel) → named_label_of l.words ≡ o
       → go_on (with_saying protocol place_of l.number st o) (answer_from protocol place_of end ls) ≡ judged_from says earlier (l ∷ filter has_words ls)
   agrees_said l ls rest says earlier st is are None e = sym (fault_first says earlier l (filter has_words ls) BadForm (ap (kind_of protocol names earlier) e))
   agrees_said l ls rest says earlier st is are (Some s) e =
       ap (λ (p : Option ℕ). go_on (with_place protocol l.number st s.label p) (answer_from protocol place_of end ls)) (is_place s.name) ∙ agrees_placed l ls rest says earlier st is are s e (position (bytes_eq s.name) names) refl
 
-  agrees_words : (l : TextLine) (ls : List TextLine) → Agrees ls → (says : List Saying) (earlier : List (List ℕ)) (st : Standing) → IsOf says names st → AreEarlier says earlier → (ws : List (List ℕ)) → l.words ≡ ws
+  agrees_words : (l : TextLine) (ls : List TextLine) → Agrees ls → (says : List NamedLabel) (earlier : List (List ℕ)) (st : Standing) → IsOf says names st → AreEarlier says earlier → (ws : List (List ℕ)) → l.words ≡ ws
       → go_on (with_words protocol place_of l.number st ws) (answer_from protocol place_of end ls) ≡ judged_from says earlier (cond (are_some ws) (l ∷ filter has_words ls) (filter has_words ls))
   agrees_words l ls rest says earlier st is are [] e = rest says earlier st is are
-  agrees_words l ls rest says earlier st is are (w ∷ ws) e = agrees_said l ls rest says earlier st is are (saying_of (w ∷ ws)) (ap saying_of e)
+  agrees_words l ls rest says earlier st is are (w ∷ ws) e = agrees_said l ls rest says earlier st is are (named_label_of (w ∷ ws)) (ap named_label_of e)
 
-  none_at_fault : (says : List Saying) (earlier : List (List ℕ)) → judged None end (labels_by (says ++ []) names) ≡ judged_from says earlier []
+  none_at_fault : (says : List NamedLabel) (earlier : List (List ℕ)) → labels_unless None end (labels_by (says ++ []) names) ≡ judged_from says earlier []
   unfolding first_fault
   none_at_fault says earlier = refl
 
   agrees : (ls : List TextLine) → Agrees ls
   unfolding answer_from
-  agrees [] says earlier st is are = ap (judged None end) (labels_of says names st is ∙ ap (λ (xs : List Saying). labels_by xs names) (sym (append-nil says))) ∙ none_at_fault says earlier
+  agrees [] says earlier st is are = ap (labels_unless None end) (labels_of says names st is ∙ ap (λ (xs : List NamedLabel). labels_by xs names) (sym (append-nil says))) ∙ none_at_fault says earlier
   agrees (l ∷ ls) says earlier st is are = agrees_words l ls (agrees ls) says earlier st is are l.words refl
 
 -- the answer of all lines, where nothing is said before

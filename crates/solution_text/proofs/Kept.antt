@@ -15,15 +15,16 @@ use Rattle.srp_core.specs.Stability.{label}
 use Rattle.solution_text.specs.declared.refusal.SolKind.{SolKind}
 use Rattle.solution_text.specs.declared.refusal.SolKind.TheVariants.{UnknownRouter, Repeated, WrongProtocol}
 use Rattle.solution_text.specs.declared.refusal.SolRefusal.{SolRefusal}
-use Rattle.solution_text.specs.Forms.{Saying, saying_of}
-use Rattle.solution_text.specs.Solutions.{sayings, is_foreign, kind_of, named_too, at_line, first_fault, said_of, all_given, labels_by, judged, solution_lines, labels_of_text}
+use Rattle.solution_text.specs.Forms.{NamedLabel, named_label_of}
+use Rattle.solution_text.specs.Solutions.{named_labels, is_foreign, kind_of, named_too, first_at_line, first_fault, said_of, labels_by, labels_unless, solution_lines, labels_of_text}
+use Rattle.base_kit.specs.Options.{all_given}
 
 -- the labels, where no line is at fault and no router is missing
 record AreJudged (fault : Option SolRefusal) (found : Option (List (Option Route))) (labels : List (Option Route)) : Type 0 where
   sound : fault ≡ None
   given : found ≡ Some labels
 
-judged_ok : (fault : Option SolRefusal) (line : ℕ) (found : Option (List (Option Route))) (labels : List (Option Route)) → judged fault line found ≡ Ok labels → AreJudged fault found labels
+judged_ok : (fault : Option SolRefusal) (line : ℕ) (found : Option (List (Option Route))) (labels : List (Option Route)) → labels_unless fault line found ≡ Ok labels → AreJudged fault found labels
 judged_ok None line None labels e = absurd cc
 judged_ok None line (Some found) labels e = record { sound = refl; given = let same : found ≡ labels = cc in ap Some same }
 judged_ok (Some fault) line found labels e = absurd cc
@@ -45,7 +46,7 @@ pub labels_total : (protocol : Protocol) (names : List (List ℕ)) (bs : List �
 unfolding labels_of_text labels_by
 labels_total protocol names bs labels e =
     let j = judged_ok _ _ _ labels e in
-    given_length (map (said_of (sayings (solution_lines bs))) names) labels j.given ∙ map_length (said_of (sayings (solution_lines bs))) names
+    given_length (map (said_of (named_labels (solution_lines bs))) names) labels j.given ∙ map_length (said_of (named_labels (solution_lines bs))) names
   where
     map_length : {X Y : Type 0} (f : X → Y) (xs : List X) → length (map f xs) ≡ length xs
     map_length f [] = refl
@@ -56,8 +57,8 @@ labels_total protocol names bs labels e =
 abbrev IsOwn : Protocol → Option Route → Type 0
 IsOwn protocol l = is_foreign protocol l ≡ false
 
-abbrev AreOwn : Protocol → List Saying → Type 0
-AreOwn protocol says = AllByRecursion (λ (s : Saying). IsOwn protocol s.label) says
+abbrev AreOwn : Protocol → List NamedLabel → Type 0
+AreOwn protocol says = AllByRecursion (λ (s : NamedLabel). IsOwn protocol s.label) says
 
 none_behind : (a b c : Bool) (x y z : SolKind) → cond a (Some x) (cond b (Some y) (cond c (Some z) None)) ≡ None → c ≡ false
 none_behind true b c x y z e = absurd cc
@@ -65,33 +66,33 @@ none_behind false true c x y z e = absurd cc
 none_behind false false true x y z e = absurd cc
 none_behind false false false x y z e = refl
 
-kind_none : (protocol : Protocol) (names earlier : List (List ℕ)) (s : Saying) → kind_of protocol names earlier (Some s) ≡ None → IsOwn protocol s.label
+kind_none : (protocol : Protocol) (names earlier : List (List ℕ)) (s : NamedLabel) → kind_of protocol names earlier (Some s) ≡ None → IsOwn protocol s.label
 kind_none protocol names earlier s e = none_behind (not (list_any (bytes_eq s.name) names)) (list_any (bytes_eq s.name) earlier) (is_foreign protocol s.label) UnknownRouter Repeated WrongProtocol e
 
-no_fault_parts : (line : ℕ) (kind : Option SolKind) (later : Option SolRefusal) → at_line line kind later ≡ None → (kind ≡ None) × (later ≡ None)
+no_fault_parts : (line : ℕ) (kind : Option SolKind) (later : Option SolRefusal) → first_at_line line kind later ≡ None → (kind ≡ None) × (later ≡ None)
 no_fault_parts line None later e = (refl, e)
 no_fault_parts line (Some kind) later e = absurd cc
 
-own_by : (protocol : Protocol) (names earlier : List (List ℕ)) (o : Option Saying) (rest : List Saying) → kind_of protocol names earlier o ≡ None → AreOwn protocol rest → AreOwn protocol (cons_option o rest)
+own_by : (protocol : Protocol) (names earlier : List (List ℕ)) (o : Option NamedLabel) (rest : List NamedLabel) → kind_of protocol names earlier o ≡ None → AreOwn protocol rest → AreOwn protocol (cons_option o rest)
 own_by protocol names earlier None rest e own = own
 own_by protocol names earlier (Some s) rest e own = (kind_none protocol names earlier s e, own)
 
 -- without a fault no saying has a route of the other protocol
-sayings_own : (protocol : Protocol) (names earlier : List (List ℕ)) (ls : List TextLine) → first_fault protocol names earlier ls ≡ None → AreOwn protocol (sayings ls)
+sayings_own : (protocol : Protocol) (names earlier : List (List ℕ)) (ls : List TextLine) → first_fault protocol names earlier ls ≡ None → AreOwn protocol (named_labels ls)
 unfolding first_fault
 sayings_own protocol names earlier [] e = tt
 sayings_own protocol names earlier (l ∷ ls) e =
-    let parts = no_fault_parts l.number (kind_of protocol names earlier (saying_of l.words)) (first_fault protocol names (named_too (saying_of l.words) earlier) ls) e in
-    own_by protocol names earlier (saying_of l.words) (sayings ls) parts.0 (sayings_own protocol names (named_too (saying_of l.words) earlier) ls parts.1)
+    let parts = no_fault_parts l.number (kind_of protocol names earlier (named_label_of l.words)) (first_fault protocol names (named_too (named_label_of l.words) earlier) ls) e in
+    own_by protocol names earlier (named_label_of l.words) (named_labels ls) parts.0 (sayings_own protocol names (named_too (named_label_of l.words) earlier) ls parts.1)
 
-found_by : (protocol : Protocol) (s : Saying) (says : List Saying) (name : List ℕ) (l : Option Route) (b : Bool) → bytes_eq s.name name ≡ b → IsOwn protocol s.label → (said_of says name ≡ Some l → IsOwn protocol l) → said_of (s ∷ says) name ≡ Some l → IsOwn protocol l
+found_by : (protocol : Protocol) (s : NamedLabel) (says : List NamedLabel) (name : List ℕ) (l : Option Route) (b : Bool) → bytes_eq s.name name ≡ b → IsOwn protocol s.label → (said_of says name ≡ Some l → IsOwn protocol l) → said_of (s ∷ says) name ≡ Some l → IsOwn protocol l
 found_by protocol s says name l true t own rest e =
-    let same : Some s.label ≡ Some l = sym (ap (λ (b : Bool). option_map (λ (s : Saying). s.label) (cond b (Some s) (find (λ (s : Saying). bytes_eq s.name name) says))) t) ∙ e in
+    let same : Some s.label ≡ Some l = sym (ap (λ (b : Bool). option_map (λ (s : NamedLabel). s.label) (cond b (Some s) (find (λ (s : NamedLabel). bytes_eq s.name name) says))) t) ∙ e in
     let label_is : s.label ≡ l = cc in
     subst (IsOwn protocol) label_is own
-found_by protocol s says name l false t own rest e = rest (sym (ap (λ (b : Bool). option_map (λ (s : Saying). s.label) (cond b (Some s) (find (λ (s : Saying). bytes_eq s.name name) says))) t) ∙ e)
+found_by protocol s says name l false t own rest e = rest (sym (ap (λ (b : Bool). option_map (λ (s : NamedLabel). s.label) (cond b (Some s) (find (λ (s : NamedLabel). bytes_eq s.name name) says))) t) ∙ e)
 
-said_own : (protocol : Protocol) (says : List Saying) (name : List ℕ) (l : Option Route) → AreOwn protocol says → said_of says name ≡ Some l → IsOwn protocol l
+said_own : (protocol : Protocol) (says : List NamedLabel) (name : List ℕ) (l : Option Route) → AreOwn protocol says → said_of says name ≡ Some l → IsOwn protocol l
 said_own protocol [] name l own e = absurd cc
 said_own protocol (s ∷ says) name l own e = found_by protocol s says name l (bytes_eq s.name name) refl own.0 (said_own protocol says name l own.1) e
 
@@ -99,7 +100,7 @@ given_cons : (x : Option (Option Route)) (found : List (Option (Option Route))) 
 given_cons None found labels e = absurd cc
 given_cons (Some l) found labels e = let m = mapped_some l (all_given found) labels e in (l, m.0, refl, m.1, m.2)
 
-given_own : (protocol : Protocol) (says : List Saying) (names : List (List ℕ)) (labels : List (Option Route)) → AreOwn protocol says → all_given (map (said_of says) names) ≡ Some labels → (u : ℕ) (r : Route) → label labels u ≡ Some r → is_foreign protocol (Some r) ≡ false
+given_own : (protocol : Protocol) (says : List NamedLabel) (names : List (List ℕ)) (labels : List (Option Route)) → AreOwn protocol says → all_given (map (said_of says) names) ≡ Some labels → (u : ℕ) (r : Route) → label labels u ≡ Some r → is_foreign protocol (Some r) ≡ false
 given_own protocol says [] labels own e u r at = absurd (nothing labels e u at)
   where
     nothing : (ls : List (Option Route)) → Some [] ≡ Some ls → (u : ℕ) → label ls u ≡ Some r → ⊥
@@ -130,4 +131,4 @@ pub labels_routes : (protocol : Protocol) (names : List (List ℕ)) (bs : List �
 unfolding labels_of_text labels_by
 labels_routes protocol names bs labels e sets u r at =
     let j = judged_ok _ _ _ labels e in
-    route_by protocol r (given_own protocol (sayings (solution_lines bs)) names labels (sayings_own protocol names [] (solution_lines bs) j.sound) j.given u r at) (set_at labels u r sets at)
+    route_by protocol r (given_own protocol (named_labels (solution_lines bs)) names labels (sayings_own protocol names [] (solution_lines bs) j.sound) j.given u r at) (set_at labels u r sets at)

@@ -13,7 +13,7 @@ use Rattle.srp_core.specs.declared.route.Route.{Route}
 use Rattle.solution_text.specs.declared.refusal.SolRefusal.{SolRefusal}
 use Rattle.solution_text.specs.declared.refusal.SolRefusal.TheVariants as sol_refusal
 use Rattle.solution_text.specs.Answers.{Reads}
-use Rattle.solution_text.specs.Forms.{Saying, saying_of}
+use Rattle.solution_text.specs.Forms.{NamedLabel, named_label_of}
 use Rattle.solution_text.specs.Solutions.{is_foreign}
 use Rattle.solution_text.specs.Steps.{Standing, has_line, said_at, with_label, with_place, with_saying, with_words, ended, answer_from}
 use Rattle.solution_text.proofs.Judging.{answer_next, answer_fault, answer_done, named_at}
@@ -83,13 +83,13 @@ place_count : (protocol : Protocol) (n : ℕ) (s : Standing) (l : Option Route) 
 place_count protocol n s l None next e = absurd cc
 place_count protocol n s l (Some k) next e = label_count protocol n s k l (has_line s k) (is_foreign protocol l) next refl refl e
 
-saying_count : (protocol : Protocol) (place_of : List ℕ → Option ℕ) (n : ℕ) (s : Standing) (o : Option Saying) (next : Standing) → with_saying protocol place_of n s o ≡ Ok next → length next.seen ≡ length s.seen
+saying_count : (protocol : Protocol) (place_of : List ℕ → Option ℕ) (n : ℕ) (s : Standing) (o : Option NamedLabel) (next : Standing) → with_saying protocol place_of n s o ≡ Ok next → length next.seen ≡ length s.seen
 saying_count protocol place_of n s None next e = absurd cc
 saying_count protocol place_of n s (Some says) next e = place_count protocol n s says.label (place_of says.name) next e
 
 pub words_count : (protocol : Protocol) (place_of : List ℕ → Option ℕ) (n : ℕ) (s : Standing) (ws : List (List ℕ)) (next : Standing) → with_words protocol place_of n s ws ≡ Ok next → length next.seen ≡ length s.seen
 words_count protocol place_of n s [] next e = let same : s ≡ next = cc in ap (λ (x : Standing). length x.seen) (sym same)
-words_count protocol place_of n s (w ∷ ws) next e = saying_count protocol place_of n s (saying_of (w ∷ ws)) next e
+words_count protocol place_of n s (w ∷ ws) next e = saying_count protocol place_of n s (named_label_of (w ∷ ws)) next e
 
 -- ---- answers
 

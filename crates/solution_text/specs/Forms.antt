@@ -58,16 +58,16 @@ abbrev pub bgp_route : ℕ → List ℕ × List (List ℕ) → Option Route
 bgp_route preference (path, words) = option_map (λ comms. Bgp preference path comms) (communities_above 0 words)
 
 -- LP path AS .. comms C ..
-unfoldable pub bgp_form : List (List ℕ) → Option Route
-bgp_form (preference ∷ mark ∷ words) =
+unfoldable pub bgp_label_form : List (List ℕ) → Option Route
+bgp_label_form (preference ∷ mark ∷ words) =
     if bytes_eq mark (codes "path") then option_and_then (λ lp. option_and_then (bgp_route lp) (path_of_words words)) (number_word preference)
     else None
-bgp_form _ = None
+bgp_label_form _ = None
 
 -- C
-abbrev pub cost_form : List (List ℕ) → Option Route
-cost_form (cost ∷ []) = option_map (λ c. Ospf c) (number_word cost)
-cost_form _ = None
+abbrev pub ospf_label_form : List (List ℕ) → Option Route
+ospf_label_form (cost ∷ []) = option_map (λ c. Ospf c) (number_word cost)
+ospf_label_form _ = None
 
 -- no word more
 abbrev pub none_form : List (List ℕ) → Option (Option Route)
@@ -78,21 +78,21 @@ none_form _ = None
 unfoldable pub label_form : List ℕ → List (List ℕ) → Option (Option Route)
 label_form word words =
     if bytes_eq word (codes "none") then none_form words
-    else (if bytes_eq word (codes "cost") then option_map (λ r. Some r) (cost_form words)
-    else (if bytes_eq word (codes "bgp") then option_map (λ r. Some r) (bgp_form words)
+    else (if bytes_eq word (codes "cost") then option_map (λ r. Some r) (ospf_label_form words)
+    else (if bytes_eq word (codes "bgp") then option_map (λ r. Some r) (bgp_label_form words)
     else None))
 
 -- ---- lines
 
 -- a router's name and its label
-pub record Saying : Type 0 where
+pub record NamedLabel : Type 0 where
   pub name : List ℕ
   pub label : Option Route
 
-abbrev pub saying : List ℕ → Option Route → Saying
+abbrev pub saying : List ℕ → Option Route → NamedLabel
 saying name label = record { name = name; label = label }
 
 -- what the words of a line say, if they are of one of the forms
-unfoldable pub saying_of : List (List ℕ) → Option Saying
-saying_of (name ∷ word ∷ words) = if is_router_name name then option_map (saying name) (label_form word words) else None
-saying_of _ = None
+unfoldable pub named_label_of : List (List ℕ) → Option NamedLabel
+named_label_of (name ∷ word ∷ words) = if is_router_name name then option_map (saying name) (label_form word words) else None
+named_label_of _ = None

@@ -8,8 +8,8 @@ use Rattle.srp_core.specs.declared.route.Route.{Route}
 use Rattle.solution_text.specs.declared.refusal.SolKind.TheVariants.{BadForm, UnknownRouter, Repeated, WrongProtocol}
 use Rattle.solution_text.specs.declared.refusal.SolRefusal.{SolRefusal}
 use Rattle.solution_text.specs.declared.refusal.SolRefusal.TheVariants.{At}
-use Rattle.solution_text.specs.Forms.{Saying, saying_of}
-use Rattle.solution_text.specs.Solutions.{is_foreign, judged}
+use Rattle.solution_text.specs.Forms.{NamedLabel, named_label_of}
+use Rattle.solution_text.specs.Solutions.{is_foreign, labels_unless}
 
 -- which routers have a line, and the labels of these; the others have none
 pub record Standing : Type 0 where
@@ -58,20 +58,20 @@ abbrev pub with_place : Protocol → ℕ → Standing → Option Route → Optio
 with_place protocol line s label None = Err (At line UnknownRouter)
 with_place protocol line s label (Some place) = with_label protocol line s place label
 
-abbrev pub with_saying : Protocol → (List ℕ → Option ℕ) → ℕ → Standing → Option Saying → Result Standing SolRefusal
+abbrev pub with_saying : Protocol → (List ℕ → Option ℕ) → ℕ → Standing → Option NamedLabel → Result Standing SolRefusal
 with_saying protocol place_of line s None = Err (At line BadForm)
 with_saying protocol place_of line s (Some says) = with_place protocol line s says.label (place_of says.name)
 
 -- a line without words says nothing
 abbrev pub with_words : Protocol → (List ℕ → Option ℕ) → ℕ → Standing → List (List ℕ) → Result Standing SolRefusal
 with_words protocol place_of line s [] = Ok s
-with_words protocol place_of line s (word ∷ words) = with_saying protocol place_of line s (saying_of (word ∷ words))
+with_words protocol place_of line s (word ∷ words) = with_saying protocol place_of line s (named_label_of (word ∷ words))
 
 -- ---- all lines
 
 -- the answer behind the last line
 abbrev pub ended : ℕ → Standing → Result (List (Option Route)) SolRefusal
-ended line s = judged None line (all_labels s)
+ended line s = labels_unless None line (all_labels s)
 
 abbrev pub go_on : Result Standing SolRefusal → (Standing → Result (List (Option Route)) SolRefusal) → Result (List (Option Route)) SolRefusal
 go_on (Ok s) f = f s

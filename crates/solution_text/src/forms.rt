@@ -2,7 +2,7 @@ ghost use Rattle.std.specs.Prelude.{◌≡◌, ◌≤◌, ◌<◌, ◌∷◌, �
 ghost use Rattle.cfg_ast.specs.text.Lines.{words_of};
 ghost use Rattle.cfg_ast.specs.text.Words.{is_colon, community_word};
 ghost use Rattle.base_kit.specs.Sets.{IsAscending};
-ghost use Rattle.solution_text.specs.Forms.{is_star, piece_of, path_of_words, above, community_above, communities_above, bgp_route, bgp_form, cost_form, none_form, label_form};
+ghost use Rattle.solution_text.specs.Forms.{is_star, piece_of, path_of_words, above, community_above, communities_above, bgp_route, bgp_label_form, ospf_label_form, none_form, label_form};
 
 use crate::words::{behind, has, next_word, place_of};
 use base_kit::{List, NoMemory, NumSet};
@@ -130,7 +130,7 @@ fn bgp_route(alloc: Global, lp: u32, line: &[u8]) -> Result<Option<Route>, NoMem
 
 #[tactic(auto, unfolding(crate::specs::Forms::bgp_form))]
 fn bgp_form(alloc: Global, line: &[u8]) -> Result<Option<Route>, NoMemory>
-    ensures { IfOk result (λ route. route ≡ bgp_form (words_of line.now)) }
+    ensures { IfOk result (λ route. route ≡ bgp_label_form (words_of line.now)) }
 {
     let Some((preference, rest)) = next_word(line) else {
         return Ok(None);
@@ -149,7 +149,7 @@ fn bgp_form(alloc: Global, line: &[u8]) -> Result<Option<Route>, NoMemory>
 
 // The number on a line of one word.
 fn cost_form(line: &[u8]) -> Option<Route>
-    ensures { result ≡ cost_form (words_of line.now) }
+    ensures { result ≡ ospf_label_form (words_of line.now) }
 {
     let (word, rest) = next_word(line)?;
     match next_word(rest) {

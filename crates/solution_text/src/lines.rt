@@ -1,7 +1,7 @@
 ghost use Rattle.std.specs.Prelude.{◌≡◌, ◌<◌, ◌≤◌, ◌∷◌, length};
 ghost use Rattle.cfg_ast.specs.text.Lines.{words_of};
 ghost use Rattle.solution_text.specs.Answers.{Reads};
-ghost use Rattle.solution_text.specs.Forms.{saying_of};
+ghost use Rattle.solution_text.specs.Forms.{named_label_of};
 ghost use Rattle.solution_text.specs.Solutions.{is_foreign};
 ghost use Rattle.solution_text.specs.Steps.{AreWithin, place_in, with_label, with_saying, with_words};
 
@@ -67,7 +67,7 @@ fn with_saying(
     text: &[u8],
 ) -> Result<Said, SolRefusal>
     requires { AreWithin places.now (length said.seen) }
-    ensures { Reads result (with_saying protocol (place_in places.now) line said (saying_of (name.now ∷ words_of text.now))) }
+    ensures { Reads result (with_saying protocol (place_in places.now) line said (named_label_of (name.now ∷ words_of text.now))) }
 {
     let bad_form = SolRefusal::At {
         line,

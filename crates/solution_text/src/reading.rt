@@ -5,7 +5,8 @@ ghost use Rattle.srp_core.specs.declared.route.Route.{Route};
 ghost use Rattle.srp_core.specs.Routes.{IsRouteOf};
 ghost use Rattle.srp_core.specs.Stability.{label};
 ghost use Rattle.solution_text.specs.Answers.{Reads};
-ghost use Rattle.solution_text.specs.Solutions.{AreApart, labels_of_text};
+ghost use Rattle.solution_text.specs.Solutions.{labels_of_text};
+ghost use Rattle.base_kit.specs.Names.{AreApart};
 ghost use Rattle.solution_text.specs.Steps.{AreWithin, place_in, nothing_said, answer_from};
 
 use crate::lines::with_line;

@@ -1,5 +1,5 @@
 ghost use Rattle.std.specs.Prelude.{◌≡◌, ◌≤◌, IfOk, length};
-ghost use Rattle.solution_text.specs.Solutions.{AreApart};
+ghost use Rattle.base_kit.specs.Names.{AreApart};
 
 use crate::{SolKind, SolRefusal, print_labels, read_labels};
 use base_kit::{List, Protocol, Text};

@@ -6,7 +6,7 @@ use Rattle.std.specs.Prelude.{◌≡◌, ℕ, Bool, true, false, not, ◌&&◌, 
 use Rattle.std.specs.Option.{option_map, option_map_or, option_eq}
 use Rattle.std.specs.List.{enumerate_from, list_any}
 use Rattle.std.specs.Bool.{beq}
-use Rattle.base_kit.specs.Prefixes.{Prefix}
+use Rattle.base_kit.specs.Prefixes.{Prefix, same_prefix}
 use Rattle.cfg_ast.specs.declared.bgp.BgpProcess.{BgpProcess}
 use Rattle.cfg_ast.specs.declared.bgp.NetLine.{NetLine}
 use Rattle.cfg_ast.specs.declared.classes.DestClass.{DestClass}
@@ -17,9 +17,6 @@ use Rattle.cfg_ast.specs.declared.network.Router.{Router}
 use Rattle.cfg_ast.specs.declared.policy.PrefixList.{PrefixList}
 use Rattle.cfg_ast.specs.meaning.PrefixLists.{prefix_list_permits}
 use Rattle.cfg_ast.specs.meaning.Topology.{up_address, subnet_of_address, is_in_area_interface, cost_of_interface}
-
-abbrev pub same_prefix : Prefix → Prefix → Bool
-same_prefix p q = nat_eq p.addr q.addr && nat_eq p.len q.len
 
 -- prefixes are ordered by address, and then by length
 abbrev pub is_before : Prefix → Prefix → Bool

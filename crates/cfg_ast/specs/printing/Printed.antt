@@ -61,9 +61,9 @@ abbrev pub closing : TextLine
 closing = line 0 (codes "!" ∷ [])
 
 -- the line of something that may be absent
-abbrev pub line_of : {A : Type 0} → (A → TextLine) → Option A → List TextLine
-line_of write None = []
-line_of write (Some a) = write a ∷ []
+abbrev pub line_of_given : {A : Type 0} → (A → TextLine) → Option A → List TextLine
+line_of_given write None = []
+line_of_given write (Some a) = write a ∷ []
 
 abbrev pub line_if : Bool → TextLine → List TextLine
 line_if b l = if b then l ∷ [] else []
@@ -87,7 +87,7 @@ shutdown_line = inner (codes "shutdown" ∷ [])
 unfoldable pub interface_lines : Interface → List TextLine
 interface_lines i =
     line 0 (codes "interface" ∷ i.name ∷ [])
-    ∷ line_of ip_address_line i.address ++ line_of cost_line i.cost ++ line_if i.shut shutdown_line ++ closing ∷ []
+    ∷ line_of_given ip_address_line i.address ++ line_of_given cost_line i.cost ++ line_if i.shut shutdown_line ++ closing ∷ []
 
 -- ---- BGP
 
@@ -119,15 +119,15 @@ neighbor_lines n =
     remote_line n.addr n.remote
     ∷ line_if n.shut (peer_shut_line n.addr)
     ++ line_if n.sends (peer_sends_line n.addr)
-    ++ line_of (applied_line n.addr (codes "prefix-list") (codes "in")) n.list_in
-    ++ line_of (applied_line n.addr (codes "prefix-list") (codes "out")) n.list_out
-    ++ line_of (applied_line n.addr (codes "route-map") (codes "in")) n.map_in
-    ++ line_of (applied_line n.addr (codes "route-map") (codes "out")) n.map_out
+    ++ line_of_given (applied_line n.addr (codes "prefix-list") (codes "in")) n.list_in
+    ++ line_of_given (applied_line n.addr (codes "prefix-list") (codes "out")) n.list_out
+    ++ line_of_given (applied_line n.addr (codes "route-map") (codes "in")) n.map_in
+    ++ line_of_given (applied_line n.addr (codes "route-map") (codes "out")) n.map_out
 
 unfoldable pub bgp_lines : BgpProcess → List TextLine
 bgp_lines b =
     line 0 (codes "router" ∷ codes "bgp" ∷ decimal b.number ∷ [])
-    ∷ line_of base_line b.base ++ map network_line b.networks ++ flat_map neighbor_lines b.neighbors ++ closing ∷ []
+    ∷ line_of_given base_line b.base ++ map network_line b.networks ++ flat_map neighbor_lines b.neighbors ++ closing ∷ []
 
 -- ---- OSPF
 
@@ -201,12 +201,12 @@ prepend_line p = inner (codes "set" ∷ codes "as-path" ∷ codes "prepend" ∷ 
 unfoldable pub map_entry_lines : List ℕ → MapEntry → List TextLine
 map_entry_lines name e =
     map_head_line name e
-    ∷ line_of match_prefixes_line e.prefixes
-    ++ line_of (match_comms_line e.exact) e.comms
-    ++ line_of lp_line e.lp
-    ++ line_of change_line e.change
-    ++ line_of delete_line e.delete
-    ++ line_of prepend_line e.prepend
+    ∷ line_of_given match_prefixes_line e.prefixes
+    ++ line_of_given (match_comms_line e.exact) e.comms
+    ++ line_of_given lp_line e.lp
+    ++ line_of_given change_line e.change
+    ++ line_of_given delete_line e.delete
+    ++ line_of_given prepend_line e.prepend
     ++ closing ∷ []
 
 abbrev pub route_map_lines : RouteMap → List TextLine

@@ -3,7 +3,7 @@
 -- the reading of lines ensures. Nothing here hangs on the numbers of lines, or on how many there are.
 use Rattle.std.specs.Prelude.{◌≡◌, ◌≤◌, ℕ, Bool, true, false, List, length, map, ◌==◌, Option, Some, None, IfSome, bytes_eq, codes}
 use Rattle.std.specs.List.{AllByRecursion, IsDistinct}
-use Rattle.base_kit.specs.Prefixes.{Prefix}
+use Rattle.base_kit.specs.Prefixes.{Prefix, same_prefix}
 use Rattle.base_kit.specs.Sets.{IsAscending}
 use Rattle.cfg_ast.specs.meaning.Addresses.{Address}
 use Rattle.cfg_ast.specs.declared.network.Named.{Named}
@@ -28,7 +28,7 @@ use Rattle.cfg_ast.specs.declared.policy.MapEntry.{MapEntry}
 use Rattle.cfg_ast.specs.declared.policy.RouteMap.{RouteMap}
 use Rattle.cfg_ast.specs.text.Words.{is_router_name, is_interface_name, is_list_name, bits_behind}
 use Rattle.cfg_ast.specs.text.PolicyForms.{has_mark}
-use Rattle.cfg_ast.specs.text.Stanzas.{same_prefix, same_area_line}
+use Rattle.cfg_ast.specs.text.Stanzas.{same_area_line}
 
 -- ---- words and numbers
 

@@ -2,7 +2,7 @@
 -- OSPF process (RFC 2328), in the style of IOS.
 use Rattle.std.specs.Prelude.{ℕ, Bool, true, false, ◌&&◌, List, [], ◌∷◌, ◌++◌, ◌==◌, if◌then◌else◌, Option, Some, None, Result, Ok, Err, bytes_eq, is_some}
 use Rattle.std.specs.List.{list_any}
-use Rattle.base_kit.specs.Prefixes.{Prefix}
+use Rattle.base_kit.specs.Prefixes.{Prefix, same_prefix}
 use Rattle.cfg_ast.specs.declared.network.Named.{Named}
 use Rattle.cfg_ast.specs.declared.interface.Interface.{Interface}
 use Rattle.cfg_ast.specs.declared.bgp.Base.{Base}
@@ -50,9 +50,6 @@ set_interface n item.Shutdown i = Ok (record i { shut = true })
 set_interface n _ i = Ok i
 
 -- ---- a BGP process
-
-abbrev pub same_prefix : Prefix → Prefix → Bool
-same_prefix p q = (p.addr == q.addr) && (p.len == q.len)
 
 -- some `network` line has the prefix
 unfoldable pub has_network : List NetLine → Prefix → Bool

@@ -3,7 +3,7 @@ use Rattle.std.specs.declared.alloc.Global.{Global}
 use Rattle.cfg_ast.specs.printing.Printed.{lines_text}
 use Rattle.cut_certificate.specs.declared.certificate.Split.{Split}
 use Rattle.cut_certificate.specs.Blocks.{first_blocks}
-use Rattle.cut_certificate.specs.Printed.{split_line, group_line}
+use Rattle.cut_certificate.specs.Printed.{split_line, named_group_line}
 use Rattle.cut_certificate.proofs.Written.{splits_known, groups_known, text_written}
 use Rattle.cut_certificate.proofs.printing.print_certificate.Goals as goal
 
@@ -25,5 +25,5 @@ returns c =
     ap (λ (v : Vec ℕ Global). v.items) c.into_bytes.ensures.value
     ∙ text_written edges names cert (string_bytes c.new-text.result) (string_bytes c.push_str.new.self) (string_bytes c.put_splits.new.text) (string_bytes c.put_groups.new.text) (string_bytes c.push_str-2.new.self) c.new-text.ensures.bytes c.in_ok-push_str.ensures.bytes
     (c.in_ok-put_splits.ensures ∙ ap (λ (ns : List (List ℕ)). string_bytes c.push_str.new.self ++ lines_text (map (split_line edges ns) c.as_slice-2.result.now)) c.as_slice.ensures ∙ ap (λ (ss : List Split). string_bytes c.push_str.new.self ++ lines_text (map (split_line edges names) ss)) c.as_slice-2.ensures)
-    (c.in_ok-put_groups.ensures ∙ ap (λ (ns : List (List ℕ)). string_bytes c.put_splits.new.text ++ lines_text (map (group_line ns) c.as_slice-4.result.now)) c.as_slice-3.ensures ∙ ap (λ (gs : List (List ℕ)). string_bytes c.put_splits.new.text ++ lines_text (map (group_line names) gs)) c.as_slice-4.ensures)
+    (c.in_ok-put_groups.ensures ∙ ap (λ (ns : List (List ℕ)). string_bytes c.put_splits.new.text ++ lines_text (map (named_group_line ns) c.as_slice-4.result.now)) c.as_slice-3.ensures ∙ ap (λ (gs : List (List ℕ)). string_bytes c.put_splits.new.text ++ lines_text (map (named_group_line names) gs)) c.as_slice-4.ensures)
     c.in_ok-push_str-2.ensures.bytes

@@ -2,7 +2,7 @@ use Rattle.std.proofs.Common.{◌≡◌, nat_eq, sym, ap, ◌∙◌, subst, leng
 use Rattle.std.specs.Prelude.{MatchOption}
 use Rattle.std.specs.HashSet.{contains}
 use Rattle.srp_core.specs.declared.route.Candidate.{Candidate}
-use Rattle.route_run.specs.Activations.{is_kept}
+use Rattle.route_run.specs.Activations.{is_still_best}
 use Rattle.route_run.specs.Choices.{IsBestUpto}
 use Rattle.route_run.proofs.BestChoices.{chosen_none, chosen_kept, best_taken}
 use Rattle.route_run.proofs.choosing.choose.Goals as goal
@@ -33,7 +33,7 @@ returns c =
     let found : IsBestUpto test first (length first) c.in-Some.best = subst (λ (o : Option ℕ). MatchOption o (length first ≡ 0) (IsBestUpto test first (length first))) c.in-Some.is c.in_ok-first_best.ensures in
     let best : IsBestUpto test all (length all) c.in-Some.best = subst (λ (l : List Candidate). IsBestUpto test l (length l) c.in-Some.best) c.as_slice.ensures found in
     let other = sym c.in_ok-is_kept-in-Some.ensures ∙ c.if-branch.false in
-    let kept : is_kept test c.args.candidates c.args.label.now ≡ false = (let same = c.as_slice-in-Some.ensures in cc) in
+    let kept : is_still_best test c.args.candidates c.args.label.now ≡ false = (let same = c.as_slice-in-Some.ensures in cc) in
     let candidate = c.swap_remove-candidate.result in
     let is : candidate ≡ get_or all c.in-Some.best candidate = c.swap_remove-candidate.ensures.value ∙ ap (λ (l : List Candidate). get_or l c.in-Some.best candidate) c.into_vec-candidates.ensures in
     best_taken test all c.in-Some.best best c.args.label.now candidate kept is

@@ -6,7 +6,7 @@ use Rattle.cfg_ast.specs.text.Members.{all_lines_of}
 use Rattle.cfg_ast.proofs.Pieces.{begins_next}
 use Rattle.solution_text.specs.declared.refusal.SolKind.TheVariants.{Missing}
 use Rattle.solution_text.specs.declared.refusal.SolRefusal.TheVariants.{At}
-use Rattle.solution_text.specs.Solutions.{judged}
+use Rattle.solution_text.specs.Solutions.{labels_unless}
 use Rattle.solution_text.specs.Steps.{Standing, place_in, answer_from}
 use Rattle.solution_text.proofs.LinesLeft.{Cut, count_left, left_next, left_fault, none_left, none_counted, lines_counted, words_count, refused_too}
 use Rattle.solution_text.proofs.reading.read_lines.Goals as goal
@@ -67,7 +67,7 @@ returns-in-Some c =
     let bs = c.args.bytes.now in
     let place_of = place_in c.args.places.now in
     let last = length (all_lines_of bs) + 1 in
-    sym c.loop-from.invariant.answer ∙ none_left c.args.protocol place_of last bs (c.loop-from.line + 1) c.loop-from.from c.loop-from.said c.loop-from-test.false ∙ ap (judged None last) (sym c.in-Some.ensures)
+    sym c.loop-from.invariant.answer ∙ none_left c.args.protocol place_of last bs (c.loop-from.line + 1) c.loop-from.from c.loop-from.said c.loop-from-test.false ∙ ap (labels_unless None last) (sym c.in-Some.ensures)
 
 pub returns-in-None : goal.returns-in-None
 returns-in-None c =
@@ -75,4 +75,4 @@ returns-in-None c =
     let place_of = place_in c.args.places.now in
     let last = length (all_lines_of bs) + 1 in
     let at : last ≡ c.loop-from.line + 1 = omega (arith, c.loop-from.invariant.left, none_counted bs (c.loop-from.line + 1) c.loop-from.from c.loop-from-test.false) in
-    sym c.loop-from.invariant.answer ∙ none_left c.args.protocol place_of last bs (c.loop-from.line + 1) c.loop-from.from c.loop-from.said c.loop-from-test.false ∙ ap (judged None last) (sym c.in-None.ensures) ∙ ap (λ (n : ℕ). Err (At n Missing)) at
+    sym c.loop-from.invariant.answer ∙ none_left c.args.protocol place_of last bs (c.loop-from.line + 1) c.loop-from.from c.loop-from.said c.loop-from-test.false ∙ ap (labels_unless None last) (sym c.in-None.ensures) ∙ ap (λ (n : ℕ). Err (At n Missing)) at

@@ -4,7 +4,7 @@ use Rattle.cut_certificate.specs.declared.refusal.CutKind.TheVariants as kinds
 use Rattle.cut_certificate.specs.declared.standing.Stage.TheVariants.{Closed}
 use Rattle.cut_certificate.specs.Blocks.{groups_of}
 use Rattle.cut_certificate.specs.Evenness.{is_even}
-use Rattle.cut_certificate.specs.Texts.{Standing, closed}
+use Rattle.cut_certificate.specs.Texts.{Standing, with_all_groups}
 use Rattle.cut_certificate.proofs.Closing.{closed_uneven, closed_even}
 use Rattle.cut_certificate.proofs.Grouped.{groups_in_range}
 use Rattle.cut_certificate.proofs.standing.Standing.closed.Goals as goal
@@ -25,7 +25,7 @@ returns-then-not-are_even c =
     let s : Standing = record { stage = c.self.inside.stage; splits = c.self.inside.splits; blocks = c.self.inside.blocks; named = c.self.inside.named } in
     let named : s.named ≡ length groups = c.if-named-len.false ∙ c.len.ensures in
     let uneven : list_all (is_even edges s.blocks.numbers) groups ≡ false = ap (λ (ns : List ℕ). list_all (is_even edges ns) groups) (sym c.numbers.ensures) ∙ ap (list_all (is_even edges c.numbers.result.now)) (sym c.as_slice.ensures) ∙ sym c.if-not-are_even.ensures in
-    subst (λ (t : Standing). closed edges t ≡ Err kinds.NotAdmissible) c.self.view_is (closed_uneven edges s groups c.in_ok-groups.ensures named uneven)
+    subst (λ (t : Standing). with_all_groups edges t ≡ Err kinds.NotAdmissible) c.self.view_is (closed_uneven edges s groups c.in_ok-groups.ensures named uneven)
 
 pub returns : goal.returns
 returns c =
@@ -34,4 +34,4 @@ returns c =
     let s : Standing = record { stage = c.self.inside.stage; splits = c.self.inside.splits; blocks = c.self.inside.blocks; named = c.self.inside.named } in
     let named : s.named ≡ length groups = c.if-named-len.false ∙ c.len.ensures in
     let even : list_all (is_even edges s.blocks.numbers) groups ≡ true = ap (λ (ns : List ℕ). list_all (is_even edges ns) groups) (sym c.numbers.ensures) ∙ ap (list_all (is_even edges c.numbers.result.now)) (sym c.as_slice.ensures) ∙ sym c.if-not-are_even.ensures in
-    subst (λ (t : Standing). closed edges t ≡ Ok (record s { stage = Closed })) c.self.view_is (closed_even edges s groups c.in_ok-groups.ensures named even)
+    subst (λ (t : Standing). with_all_groups edges t ≡ Ok (record s { stage = Closed })) c.self.view_is (closed_even edges s groups c.in_ok-groups.ensures named even)
