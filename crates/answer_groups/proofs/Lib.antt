@@ -1,5 +1,4 @@
 mod Compressing
-mod LineSteps
 mod OneAnswer
 mod OneGrouping
 mod OnePlan

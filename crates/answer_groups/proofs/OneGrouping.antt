@@ -11,7 +11,8 @@ use Rattle.srp_core.specs.Problem.{Problem}
 use Rattle.srp_core.specs.Quotient.{IsCoarsest}
 use Rattle.srp_core.proofs.Alike.{one_start}
 use Rattle.srp_core.proofs.AlikeOf.{one_problem}
-use Rattle.answer_groups.specs.GroupLines.{mark_by, mark_of, group_mark, member_word, group_line, line_of_group, group_lines, HasGroupLines, AreGroupLines}
+use Rattle.answer_groups.specs.GroupLines.{AreGroupLines}
+use Rattle.group_report.specs.GroupLines.{mark_by, mark_of, group_mark, member_word, group_line, line_of_group, group_lines, HasGroupLines}
 use Rattle.answer_kit.proofs.NumberedOnce.{one_count_of_groups}
 use Rattle.answer_kit.proofs.OneClass.{some_prefix, one_list_of_groups}
 

@@ -11,8 +11,8 @@ use Rattle.cfg_ast.specs.meaning.Classes.{classes_of}
 use Rattle.cfg_ast.specs.printing.Printed.{prefix_text}
 
 -- the name of a router by its place
-abbrev pub name_at : Network → ℕ → List ℕ
-name_at network place = option_map_or (λ (router : Router). router.name) (slice_get network.routers place) []
+abbrev pub router_name_at : Network → ℕ → List ℕ
+router_name_at network place = option_map_or (λ (router : Router). router.name) (slice_get network.routers place) []
 
 -- a prefix behind a blank
 abbrev pub prefix_word : Prefix → List ℕ
@@ -24,7 +24,7 @@ cost_suffix (Some cost) = codes ":" ++ decimal cost
 
 -- the name of an originating router behind a blank, in OSPF with its cost
 abbrev pub origin_word : Network → Origin → List ℕ
-origin_word network origin = codes " " ++ name_at network origin.router ++ cost_suffix origin.cost
+origin_word network origin = codes " " ++ router_name_at network origin.router ++ cost_suffix origin.cost
 
 -- the line of a class with its number
 abbrev pub class_line : Network → ℕ × DestClass → List ℕ

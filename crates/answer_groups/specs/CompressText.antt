@@ -8,7 +8,7 @@ use Rattle.cfg_print.specs.Prints.{is_too_long}
 use Rattle.config_emit.specs.Plan.{Plan}
 use Rattle.config_emit.specs.Pool.{pool_line}
 pub use Rattle.compress_laws.specs.Built.{IsPlanOf}
-pub use Rattle.compress_laws.specs.Laws.{text_of}
+pub use Rattle.compress_laws.specs.Laws.{compressed_text}
 use Rattle.answer_kit.specs.Outcome.{Outcome, done, refused}
 use Rattle.answer_kit.specs.ClassNumbers.{class_at, IsOfClass}
 
@@ -21,7 +21,7 @@ IsTextOr false text o = o ≡ done text
 pub record IsEmission (network : Network) (class : DestClass) (o : Outcome) : Type 0 where
   pub plan : Plan
   pub is : IsPlanOf network class plan
-  pub written : IsTextOr (is_too_long (text_of plan)) (text_of plan) o
+  pub written : IsTextOr (is_too_long (compressed_text plan)) (compressed_text plan) o
 
 -- a refusal, where a prefix of the class meets the addresses of the links
 abbrev pub pool_overlap : ℕ → List ℕ

@@ -1,6 +1,6 @@
 ghost use Rattle.std.specs.Prelude.{◌≡◌, ◌++◌, IfOk, OnOk, flat_map, string_bytes};
 ghost use Rattle.std.specs.List.{enumerate_from};
-ghost use Rattle.answer_groups.specs.ClassLines.{name_at, prefix_word, origin_word, class_line, class_lines, classes_text};
+ghost use Rattle.answer_groups.specs.ClassLines.{router_name_at, prefix_word, origin_word, class_line, class_lines, classes_text};
 ghost use Rattle.answer_kit.specs.Outcome.{done};
 ghost use Rattle.answer_kit.specs.Replies.{Answers, Only};
 
@@ -14,7 +14,7 @@ use std::alloc::{AllocError, Global};
 use std::fmt::Write;
 
 fn name_at(network: &Network, place: u32) -> &str
-    ensures { result.now ≡ name_at network.now place }
+    ensures { result.now ≡ router_name_at network.now place }
 {
     match network.routers.as_slice().get(place as usize) {
         Some(router) => router.name.as_str(),

@@ -3,12 +3,12 @@ ghost use Rattle.cfg_ast.specs.meaning.Classes.{classes_of};
 ghost use Rattle.answer_groups.specs.GroupLines.{AreGroupLines, IsGroupsOf, IsGroupsAnswer};
 ghost use Rattle.answer_kit.specs.Replies.{Answers};
 
-use crate::group_lines::group_lines;
 use answer_kit::{Reply, class_at, coarsest_of, no_class, problem_of_class};
 use base_kit::NoMemory;
 use cfg_ast::DestClass;
 use cfg_check::Checked;
 use dest_classes::classes;
+use group_report::group_lines;
 use std::alloc::Global;
 
 // The lines of the groups of a class.

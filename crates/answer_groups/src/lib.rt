@@ -6,6 +6,5 @@
 
 pub mod classes;
 pub mod compress;
-mod group_lines;
 pub mod groups;
 pub mod laws;

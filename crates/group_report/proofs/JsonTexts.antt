@@ -14,7 +14,7 @@ use Rattle.serde_json.specs.declared.value.Value.{Value}
 use Rattle.serde_json.specs.Written.{compact_text, items_text, comma_if, has_float, items_have_float}
 use Rattle.group_report.specs.GroupLines.{originates}
 use Rattle.group_report.specs.Reports.{Report}
-use Rattle.group_report.specs.JsonText.{boolean_text, listed, name_string, first_member, group_object, object_of_group, group_objects, counts_object, unmatched_object, json_object, json_text}
+use Rattle.group_report.specs.JsonText.{boolean_text, json_list, name_string, member_that_names, group_object, object_of_group, group_objects, counts_object, unmatched_object, json_object, json_text}
 use Rattle.group_report.specs.JsonData.{list_data, name_data, group_data, data_of_group, groups_data, counts_data, unmatched_data, report_data}
 
 -- ---- lists
@@ -30,13 +30,13 @@ items_from d (e ∷ ds) =
     ap (λ (t : List ℕ). compact_text d ++ 44 ∷ t) (items_from e ds)
     ∙ sym (append_assoc (compact_text d) (44 ∷ join_with_byte 44 (map compact_text (e ∷ ds))) (93 ∷ []))
 
-list_text : (ds : List Data) → compact_text (list_data ds) ≡ listed (map compact_text ds)
+list_text : (ds : List Data) → compact_text (list_data ds) ≡ json_list (map compact_text ds)
 list_text [] = refl
 list_text (d ∷ ds) = ap (λ (t : List ℕ). 91 ∷ t) (items_from d ds)
 
 -- a list of values that have these texts
-list_of : {X : Type 0} (value : X → Data) (text : X → List ℕ) (xs : List X) → ((x : X) → compact_text (value x) ≡ text x) → compact_text (list_data (map value xs)) ≡ listed (map text xs)
-list_of value text xs same = list_text (map value xs) ∙ ap listed (map_map compact_text value text xs same)
+list_of : {X : Type 0} (value : X → Data) (text : X → List ℕ) (xs : List X) → ((x : X) → compact_text (value x) ≡ text x) → compact_text (list_data (map value xs)) ≡ json_list (map text xs)
+list_of value text xs same = list_text (map value xs) ∙ ap json_list (map_map compact_text value text xs same)
 
 -- ---- objects
 
@@ -78,11 +78,11 @@ report_shape class groups links routers unmatched = simp append_assoc
 
 group_text : (problem : Problem) (members : List ℕ) → compact_text (group_data problem members) ≡ group_object problem members
 group_text problem members =
-    let first = first_member members in
+    let first = member_that_names members in
     let texts : object_text ((codes "lone", compact_text (boolean (is_lone problem first))) ∷ (codes "members", compact_text (list_data (map (name_data problem) members))) ∷ (codes "name", name_string problem first) ∷ (codes "origin", compact_text (boolean (originates problem first))) ∷ [])
-    ≡ object_text ((codes "lone", boolean_text (is_lone problem first)) ∷ (codes "members", listed (map (name_string problem) members)) ∷ (codes "name", name_string problem first) ∷ (codes "origin", boolean_text (originates problem first)) ∷ []) =
+    ≡ object_text ((codes "lone", boolean_text (is_lone problem first)) ∷ (codes "members", json_list (map (name_string problem) members)) ∷ (codes "name", name_string problem first) ∷ (codes "origin", boolean_text (originates problem first)) ∷ []) =
     λ j. object_text ((codes "lone", boolean_is (is_lone problem first) j) ∷ (codes "members", list_of (name_data problem) (name_string problem) members (λ x. refl) j) ∷ (codes "name", name_string problem first) ∷ (codes "origin", boolean_is (originates problem first) j) ∷ []) in
-    texts ∙ group_shape (boolean_text (is_lone problem first)) (listed (map (name_string problem) members)) (name_string problem first) (boolean_text (originates problem first))
+    texts ∙ group_shape (boolean_text (is_lone problem first)) (json_list (map (name_string problem) members)) (name_string problem first) (boolean_text (originates problem first))
 
 counts_text : (after before : ℕ) → compact_text (counts_data after before) ≡ counts_object after before
 counts_text after before = counts_shape (decimal after) (decimal before)
@@ -94,11 +94,11 @@ groups_text : (problem : Problem) (groups : List ℕ) (count : ℕ) → compact_
 groups_text problem groups count = list_of (data_of_group problem groups) (object_of_group problem groups) (range_with_len 0 count) (λ group. group_text problem (members_of groups group))
 
 module _ (r : Report) where
-  texts : compact_text (report_data r) ≡ object_text ((codes "class", decimal r.class_number) ∷ (codes "groups", group_objects r.problem r.groups r.group_count) ∷ (codes "links", counts_object (length r.links) r.links_before) ∷ (codes "routers", counts_object r.group_count (count r.problem)) ∷ (codes "unmatched", listed (map (unmatched_object r.problem) r.unmatched)) ∷ [])
+  texts : compact_text (report_data r) ≡ object_text ((codes "class", decimal r.class_number) ∷ (codes "groups", group_objects r.problem r.groups r.group_count) ∷ (codes "links", counts_object (length r.links) r.links_before) ∷ (codes "routers", counts_object r.group_count (count r.problem)) ∷ (codes "unmatched", json_list (map (unmatched_object r.problem) r.unmatched)) ∷ [])
   texts = λ j. object_text ((codes "class", decimal r.class_number) ∷ (codes "groups", groups_text r.problem r.groups r.group_count j) ∷ (codes "links", counts_text (length r.links) r.links_before j) ∷ (codes "routers", counts_text r.group_count (count r.problem) j) ∷ (codes "unmatched", list_of (unmatched_data r.problem) (unmatched_object r.problem) r.unmatched (unmatched_text r.problem) j) ∷ [])
 
   pub report_object : compact_text (report_data r) ≡ json_object r
-  report_object = texts ∙ report_shape (decimal r.class_number) (group_objects r.problem r.groups r.group_count) (counts_object (length r.links) r.links_before) (counts_object r.group_count (count r.problem)) (listed (map (unmatched_object r.problem) r.unmatched))
+  report_object = texts ∙ report_shape (decimal r.class_number) (group_objects r.problem r.groups r.group_count) (counts_object (length r.links) r.links_before) (counts_object r.group_count (count r.problem)) (json_list (map (unmatched_object r.problem) r.unmatched))
 
 -- ---- no floats
 

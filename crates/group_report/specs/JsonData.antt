@@ -8,7 +8,7 @@ use Rattle.srp_core.specs.Problem.{Problem, count, is_lone}
 use Rattle.serde_json.specs.Data.{Data, unsigned, boolean, number, string, array, object, member, no_members}
 use Rattle.serde_json.specs.View.{items_of}
 use Rattle.group_report.specs.GroupLines.{name_at, originates}
-use Rattle.group_report.specs.JsonText.{first_member}
+use Rattle.group_report.specs.JsonText.{member_that_names}
 use Rattle.group_report.specs.Reports.{Report}
 
 abbrev pub list_data : List Data → Data
@@ -19,10 +19,10 @@ name_data problem router = string (name_at problem router)
 
 abbrev pub group_data : Problem → List ℕ → Data
 group_data problem members = object (
-    member (codes "lone") (boolean (is_lone problem (first_member members))) (
+    member (codes "lone") (boolean (is_lone problem (member_that_names members))) (
     member (codes "members") (list_data (map (name_data problem) members)) (
-    member (codes "name") (name_data problem (first_member members)) (
-    member (codes "origin") (boolean (originates problem (first_member members)))
+    member (codes "name") (name_data problem (member_that_names members)) (
+    member (codes "origin") (boolean (originates problem (member_that_names members)))
     no_members))))
 
 abbrev pub data_of_group : Problem → List ℕ → ℕ → Data

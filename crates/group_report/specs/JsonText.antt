@@ -14,33 +14,33 @@ boolean_text true = codes "true"
 boolean_text false = codes "false"
 
 -- values in brackets, with a comma between two
-abbrev pub listed : List (List ℕ) → List ℕ
-listed values = codes "[" ++ join_with_byte 44 values ++ codes "]"
+abbrev pub json_list : List (List ℕ) → List ℕ
+json_list values = codes "[" ++ join_with_byte 44 values ++ codes "]"
 
 abbrev pub name_string : Problem → ℕ → List ℕ
 name_string problem router = quoted (name_at problem router)
 
 -- the first member, whose name the group has
-abbrev pub first_member : List ℕ → ℕ
-first_member members = slice_index members 0
+abbrev pub member_that_names : List ℕ → ℕ
+member_that_names members = slice_index members 0
 
 abbrev pub group_object : Problem → List ℕ → List ℕ
 group_object problem members =
     codes "{\"lone\":"
-    ++ boolean_text (is_lone problem (first_member members))
+    ++ boolean_text (is_lone problem (member_that_names members))
     ++ codes ",\"members\":"
-    ++ listed (map (name_string problem) members)
+    ++ json_list (map (name_string problem) members)
     ++ codes ",\"name\":"
-    ++ name_string problem (first_member members)
+    ++ name_string problem (member_that_names members)
     ++ codes ",\"origin\":"
-    ++ boolean_text (originates problem (first_member members))
+    ++ boolean_text (originates problem (member_that_names members))
     ++ codes "}"
 
 abbrev pub object_of_group : Problem → List ℕ → ℕ → List ℕ
 object_of_group problem groups group = group_object problem (members_of groups group)
 
 abbrev pub group_objects : Problem → List ℕ → ℕ → List ℕ
-group_objects problem groups count = listed (map (object_of_group problem groups) (range_with_len 0 count))
+group_objects problem groups count = json_list (map (object_of_group problem groups) (range_with_len 0 count))
 
 -- how many there are between groups, and how many there were
 abbrev pub counts_object : ℕ → ℕ → List ℕ
@@ -70,7 +70,7 @@ json_object r =
     ++ codes ",\"routers\":"
     ++ counts_object r.group_count (count r.problem)
     ++ codes ",\"unmatched\":"
-    ++ listed (map (unmatched_object r.problem) r.unmatched)
+    ++ json_list (map (unmatched_object r.problem) r.unmatched)
     ++ codes "}"
 
 -- the line

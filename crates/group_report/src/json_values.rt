@@ -3,7 +3,7 @@ ghost use Rattle.base_kit.specs.Partition.{IsNumbered};
 ghost use Rattle.cfg_ast.specs.printing.Printed.{address_text};
 ghost use Rattle.serde_json.specs.View.{view};
 ghost use Rattle.group_report.specs.JsonData.{name_data, group_data, groups_data, counts_data, unmatched_data};
-ghost use Rattle.group_report.specs.JsonText.{first_member};
+ghost use Rattle.group_report.specs.JsonText.{member_that_names};
 
 use crate::facts::{is_lone, name_at, originates};
 use cfg_ast::Unmatched;
@@ -14,7 +14,7 @@ use srp_core::Srp;
 use std::alloc::{AllocError, Global};
 
 fn first_member(members: &[u32]) -> u32
-    ensures { result ≡ first_member members.now }
+    ensures { result ≡ member_that_names members.now }
 {
     match members {
         [] => 0,
