@@ -11,7 +11,7 @@ use Rattle.config_emit.specs.declared.emitted.EmitRefusal.{EmitRefusal}
 use Rattle.config_emit.specs.declared.emitted.EmitRefusal.TheVariants.{PoolOverlap, Memory}
 use Rattle.config_emit.specs.declared.emitted.Emitted.{Emitted}
 use Rattle.answer_groups.specs.Compressing.{IsOfPlan, IsEmittedFor, IsTextOf}
-use Rattle.answer_groups.specs.CompressText.{pool_overlap, text_of, IsPlanOf, IsTextOr, IsEmission, IsUnlessPool, IsCompressOf}
+use Rattle.answer_groups.specs.CompressText.{pool_overlap, compressed_text, IsPlanOf, IsTextOr, IsEmission, IsUnlessPool, IsCompressOf}
 use Rattle.answer_kit.specs.Outcome.{Outcome, refused}
 
 -- what `emit` answers for the plan of a class
@@ -27,7 +27,7 @@ apart n class x of = sym (λ j. pool_line (of.is.network_is j) (of.is.class_is j
 -- the text of what is emitted
 pub text_of_class : (n : Network) (class : DestClass) (x : Emitted) → IsOfPlan n class x → (o : Outcome) → IsTextOf x o → IsCompressOf n class o
 text_of_class n class x of o is =
-    let text : printed x.network x.notes ≡ text_of of.plan = λ j. printed (of.emitted.network j) (of.emitted.notes j) in
+    let text : printed x.network x.notes ≡ compressed_text of.plan = λ j. printed (of.emitted.network j) (of.emitted.notes j) in
     let written = subst (λ (t : List ℕ). IsTextOr (is_too_long t) t o) text is in
     subst (λ (line : Option ℕ). IsUnlessPool line (IsEmission n class) o) (sym (apart n class x of)) (record { plan = of.plan; is = of.is; written = written })
 

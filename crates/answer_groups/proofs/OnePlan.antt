@@ -11,7 +11,7 @@ use Rattle.abstract_net.specs.Links.{quotient_links}
 use Rattle.srp_core.specs.Problem.{Problem}
 use Rattle.srp_core.proofs.AlikeOf.{one_problem as problems_alike}
 use Rattle.config_emit.specs.Plan.{Plan}
-use Rattle.answer_groups.specs.CompressText.{IsPlanOf, text_of, IsTextOr, IsEmission, IsUnlessPool}
+use Rattle.answer_groups.specs.CompressText.{IsPlanOf, compressed_text, IsTextOr, IsEmission, IsUnlessPool}
 use Rattle.answer_kit.specs.Outcome.{Outcome}
 use Rattle.answer_kit.proofs.NumberedOnce.{one_count_of_groups}
 use Rattle.answer_kit.proofs.OneClass.{some_prefix, one_list_of_groups}
@@ -40,7 +40,7 @@ one_text_or false text o p x y = x ∙ sym y
 one_emission : (n : Network) (class : DestClass) → Contains (classes_of n) class → (o p : Outcome) → IsEmission n class o → IsEmission n class p → o ≡ p
 one_emission n class has o p x y =
     let plans = one_plan n class has x.plan y.plan x.is y.is in
-    one_text_or (is_too_long (text_of y.plan)) (text_of y.plan) o p (subst (λ (e : Plan). IsTextOr (is_too_long (text_of e)) (text_of e) o) plans x.written) y.written
+    one_text_or (is_too_long (compressed_text y.plan)) (compressed_text y.plan) o p (subst (λ (e : Plan). IsTextOr (is_too_long (compressed_text e)) (compressed_text e) o) plans x.written) y.written
 
 pub one_compress : (n : Network) (class : DestClass) → Contains (classes_of n) class → (line : Option ℕ) (o p : Outcome) → IsUnlessPool line (IsEmission n class) o → IsUnlessPool line (IsEmission n class) p → o ≡ p
 one_compress n class has (Some line) o p x y = x ∙ sym y

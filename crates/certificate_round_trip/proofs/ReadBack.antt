@@ -30,7 +30,7 @@ use Rattle.cut_certificate.specs.Blocks.{Blocks, distinct, place_among, first_bl
 use Rattle.cut_certificate.specs.Certificates.{AreAfter, IsAccepted}
 use Rattle.cut_certificate.specs.Evenness.{are_even}
 use Rattle.cut_certificate.specs.Forms.{certificate_line_of}
-use Rattle.cut_certificate.specs.Forms.Saying.{Divide, Group, End}
+use Rattle.cut_certificate.specs.Forms.CertificateLine.{Divide, Group, End}
 use Rattle.cut_certificate.specs.InUse.{AreInUse}
 use Rattle.cut_certificate.specs.Printed.{printed_name, edge_importer, edge_link, head_line, split_line, named_group_line, end_line, certificate_lines, certificate_text}
 use Rattle.cut_certificate.specs.Texts.{Standing, opening, router_named, routers_named, is_edge_over, edge_named, with_blocks, with_edge, with_router, with_split, is_next_group, with_members, with_group, with_all_groups, with_closing, with_saying, with_line, certificate_of, ended, go_on, certificate_from, certificate_of_text}

@@ -5,7 +5,7 @@ use Rattle.std.specs.List.{list_all}
 use Rattle.base_kit.specs.declared.act_graph.Edge.{Edge}
 use Rattle.cfg_ast.specs.text.Words.{is_router_name}
 use Rattle.cut_certificate.specs.Forms.{group_form, certificate_line_of}
-use Rattle.cut_certificate.specs.Forms.Saying.{Group}
+use Rattle.cut_certificate.specs.Forms.CertificateLine.{Group}
 use Rattle.cut_certificate.specs.Texts.{Standing, with_saying, with_line}
 
 -- it needs no edges

@@ -13,7 +13,7 @@ use Rattle.cut_certificate.specs.declared.standing.Stage.TheVariants.{Opening, S
 use Rattle.cut_certificate.specs.Blocks.{Blocks, number_after, numbers_after, edge_act, is_block, are_parts, blocks_after, split_by, groups_of}
 use Rattle.cut_certificate.specs.Evenness.{are_even}
 use Rattle.cut_certificate.specs.Forms.{CertificateLine, certificate_line_of}
-use Rattle.cut_certificate.specs.Forms.Saying.{Head, Divide, Group, End}
+use Rattle.cut_certificate.specs.Forms.CertificateLine.{Head, Divide, Group, End}
 use Rattle.cut_certificate.specs.Texts.{Standing, is_edge_over, edge_named, routers_named, with_head, with_blocks, with_edge, with_router, with_split, is_next_group, with_members, with_group, with_all_groups, with_closing, with_saying, with_line}
 
 -- a line leaves splits and blocks as they are, or makes a split

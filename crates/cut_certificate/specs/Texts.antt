@@ -17,7 +17,7 @@ use Rattle.cut_certificate.specs.declared.standing.Stage.TheVariants.{Opening, S
 use Rattle.cut_certificate.specs.Blocks.{Blocks, first_blocks, groups_of, split_by}
 use Rattle.cut_certificate.specs.Evenness.{are_even}
 use Rattle.cut_certificate.specs.Forms.{CertificateLine, certificate_line_of}
-use Rattle.cut_certificate.specs.Forms.Saying.{Head, Divide, Group, End}
+use Rattle.cut_certificate.specs.Forms.CertificateLine.{Head, Divide, Group, End}
 
 -- how far a certificate has been read: its splits, the blocks behind them, and how many groups were named
 pub record Standing : Type 0 where

@@ -6,7 +6,7 @@ ghost use Rattle.std.specs.List.{list_all};
 ghost use Rattle.cfg_ast.specs.text.Lines.{words_of};
 ghost use Rattle.cfg_ast.specs.text.Words.{is_router_name};
 ghost use Rattle.cut_certificate.specs.Forms.{closing_form, group_form, head_form, split_form};
-ghost use Rattle.cut_certificate.specs.Forms.Saying.{Divide};
+ghost use Rattle.cut_certificate.specs.Forms.CertificateLine.{Divide};
 
 use crate::router_names::is_router_name;
 use crate::words::next_word;

@@ -27,7 +27,7 @@ module _ (P : Problem) (good : IsProblem P) (graph : ActGraph) (is : IsGraphOf P
     ]
   ]
 
-  pub from_graph : (groups : List ℕ) → partition.IsAdmissible graph groups → IsAdmissible P groups
+  pub from_graph : (groups : List ℕ) → partition.IsAdmissibleOn graph groups → IsAdmissible P groups
   unfolding IsMirroredAt
   from_graph groups a = record {
     total = a.total ∙ is.routers;
@@ -45,7 +45,7 @@ module _ (P : Problem) (good : IsProblem P) (graph : ActGraph) (is : IsGraphOf P
         });
   }
 
-  pub to_graph : (groups : List ℕ) → IsAdmissible P groups → partition.IsAdmissible graph groups
+  pub to_graph : (groups : List ℕ) → IsAdmissible P groups → partition.IsAdmissibleOn graph groups
   unfolding IsMirroredAt
   to_graph groups a = record {
     total = a.total ∙ sym is.routers;
@@ -77,22 +77,22 @@ module _ (P : Problem) (good : IsProblem P) (graph : ActGraph) (is : IsGraphOf P
         });
   }
 
-  pub admissible_both : (groups : List ℕ) → IsAdmissible P groups ↔ partition.IsAdmissible graph groups
+  pub admissible_both : (groups : List ℕ) → IsAdmissible P groups ↔ partition.IsAdmissibleOn graph groups
   admissible_both groups = (to_graph groups, from_graph groups)
 
-  pub coarsest_to : (groups : List ℕ) → IsCoarsest P groups → partition.IsCoarsest graph groups
+  pub coarsest_to : (groups : List ℕ) → IsCoarsest P groups → partition.IsCoarsestOn graph groups
   coarsest_to groups c = record {
     admissible = to_graph groups c.admissible;
     refined = λ others a u v hu hv same. (let e = is.routers in c.refined others (from_graph others a) u v (omega arith) (omega arith) same);
   }
 
-  pub coarsest_from : (groups : List ℕ) → partition.IsCoarsest graph groups → IsCoarsest P groups
+  pub coarsest_from : (groups : List ℕ) → partition.IsCoarsestOn graph groups → IsCoarsest P groups
   coarsest_from groups c = record {
     admissible = from_graph groups c.admissible;
     refined = λ others a u v hu hv same. c.refined others (to_graph others a) u v (in_graph u hu) (in_graph v hv) same;
   }
 
-  pub coarsest_both : (groups : List ℕ) → IsCoarsest P groups ↔ partition.IsCoarsest graph groups
+  pub coarsest_both : (groups : List ℕ) → IsCoarsest P groups ↔ partition.IsCoarsestOn graph groups
   coarsest_both groups = (coarsest_to groups, coarsest_from groups)
 
 -- what the graph keeps of the problem's edges

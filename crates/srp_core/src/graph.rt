@@ -32,8 +32,8 @@ impl Srp {
     /// problem, in the same order. Its admissible partitions are those of the problem.
     pub fn graph(&self) -> Result<ActGraph, NoMemory>
         ensures graph { IfOk result (λ graph. IsGraphOf self.now graph) }
-        ensures admissible { IfOk result (λ graph. (groups : List ℕ) → IsAdmissible self.now groups ↔ partition.IsAdmissible graph groups) }
-        ensures coarsest { IfOk result (λ graph. (groups : List ℕ) → IsCoarsest self.now groups ↔ partition.IsCoarsest graph groups) }
+        ensures admissible { IfOk result (λ graph. (groups : List ℕ) → IsAdmissible self.now groups ↔ partition.IsAdmissibleOn graph groups) }
+        ensures coarsest { IfOk result (λ graph. (groups : List ℕ) → IsCoarsest self.now groups ↔ partition.IsCoarsestOn graph groups) }
     {
         let colors = colors(self)?;
         let edges = Vec::from_slice(self.alloc(), self.edges())?;
