@@ -176,7 +176,7 @@ fn with_end(
 }
 
 /// How far the certificate has been read behind this line too.
-#[tactic(auto, unfolding(crate::specs::Forms::saying_of))]
+#[tactic(auto, unfolding(crate::specs::Forms::certificate_line_of))]
 pub(crate) fn with_line(
     alloc: Global,
     graph: &ActGraph,
