@@ -128,7 +128,7 @@ fn bgp_route(alloc: Global, lp: u32, line: &[u8]) -> Result<Option<Route>, NoMem
     }
 }
 
-#[tactic(auto, unfolding(crate::specs::Forms::bgp_form))]
+#[tactic(auto, unfolding(crate::specs::Forms::bgp_label_form))]
 fn bgp_form(alloc: Global, line: &[u8]) -> Result<Option<Route>, NoMemory>
     ensures { IfOk result (λ route. route ≡ bgp_label_form (words_of line.now)) }
 {

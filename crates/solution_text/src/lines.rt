@@ -56,7 +56,7 @@ fn with_label(
 }
 
 // The line that begins with this word, and goes on so.
-#[tactic(auto, unfolding(crate::specs::Forms::saying_of), using(crate::proofs::RouterNames::router_name_is_ascii))]
+#[tactic(auto, unfolding(crate::specs::Forms::named_label_of), using(crate::proofs::RouterNames::router_name_is_ascii))]
 fn with_saying(
     alloc: Global,
     protocol: Protocol,
