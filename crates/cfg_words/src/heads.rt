@@ -1,9 +1,9 @@
 ghost use Rattle.std.specs.Prelude.{◌≡◌, ◌++◌, length, map, if◌then◌else◌, Some};
 ghost use Rattle.std.specs.List.{AllByRecursion};
 ghost use Rattle.std.specs.Option.{option_map};
-ghost use Rattle.cfg_ast.specs.text.Heads.{is_word_for, begins, longest, longer, class_in, top_heads, interface_heads, bgp_heads, ospf_heads, entry_heads, heads_of, policy_heads_of, Row};
+ghost use Rattle.cfg_ast.specs.text.Heads.{is_word_for, begins, longest, longer, class_in, heads_of, policy_heads_of};
 ghost use Rattle.cfg_ast.specs.text.Lines.{IsWordIn, texts};
-ghost use Rattle.cfg_words.specs.Rows.{row_of, rows_of};
+ghost use Rattle.cfg_words.specs.Rows.{row_of, rows_of, first_byte};
 
 use crate::numbers::read_between;
 use crate::tables::{bgp, entry, interface, ospf, top};
@@ -26,6 +26,8 @@ fn is_word_for(head_word: &str, word: &[u8]) -> bool
     }
 }
 
+// Whether the head begins the line. Heads of one table share their first words more often than their
+// last, so the last word is looked at first.
 fn begins(head: &[&str], bytes: &[u8], words: &[Span]) -> bool
     requires { AllByRecursion (IsWordIn bytes.now) words.now }
     ensures { result ≡ begins (map (λ word. word.now) head.now) (texts bytes.now words.now) }
@@ -35,7 +37,7 @@ fn begins(head: &[&str], bytes: &[u8], words: &[Span]) -> bool
         [first, others @ ..] => match words {
             [] => false,
             [word, rest @ ..] => {
-                is_word_for(first, text(bytes, *word)) && begins(others, bytes, rest)
+                begins(others, bytes, rest) && is_word_for(first, text(bytes, *word))
             }
         },
     }
@@ -51,14 +53,13 @@ fn is_longer(row: &Head, best: &Option<Head>) -> bool
     }
 }
 
-// The longest head that begins the line, of these rows and the best one before them.
+// The longest head of these rows that begins the line.
 #[tactic(auto, using(crate::proofs::Longest::longer_assoc))]
-fn longest_with(best: Option<Head>, rows: &[Head], bytes: &[u8], words: &[Span]) -> Option<Head>
+fn longest(rows: &[Head], bytes: &[u8], words: &[Span]) -> Option<Head>
     requires { AllByRecursion (IsWordIn bytes.now) words.now }
-    ensures { option_map row_of result
-        ≡ longer (option_map row_of best) (longest (rows_of rows.now) (texts bytes.now words.now)) }
+    ensures { option_map row_of result ≡ longest (rows_of rows.now) (texts bytes.now words.now) }
 {
-    let mut best = best;
+    let mut best = None;
     for row in rows {
         if begins(row.0, bytes, words) && is_longer(row, &best) {
             best = Some(*row);
@@ -67,94 +68,55 @@ fn longest_with(best: Option<Head>, rows: &[Head], bytes: &[u8], words: &[Span])
     best
 }
 
-fn class_of(best: Option<Head>) -> Option<HeadClass>
-    ensures { result ≡ option_map (λ (row : Row). row.class) (option_map row_of best) }
+// The first byte of the line, and 0 where it has none.
+fn first_byte(bytes: &[u8], words: &[Span]) -> u8
+    requires { AllByRecursion (IsWordIn bytes.now) words.now }
+    ensures { result ≡ first_byte (texts bytes.now words.now) }
 {
-    match best {
+    match words {
+        [] => 0,
+        [word, ..] => match text(bytes, *word) {
+            [] => 0,
+            [first, ..] => *first,
+        },
+    }
+}
+
+fn class_among(rows: &[Head], bytes: &[u8], words: &[Span]) -> Option<HeadClass>
+    requires { AllByRecursion (IsWordIn bytes.now) words.now }
+    ensures { result ≡ class_in (rows_of rows.now) (texts bytes.now words.now) }
+{
+    match longest(rows, bytes, words) {
         Some(head) => Some(head.1),
         None => None,
     }
 }
 
-#[tactic(auto, using(crate::proofs::Longest::longest_append))]
-fn top_class(bytes: &[u8], words: &[Span]) -> Option<HeadClass>
-    requires { AllByRecursion (IsWordIn bytes.now) words.now }
-    ensures { result ≡ class_in top_heads (texts bytes.now words.now) }
-{
-    let best = longest_with(None, top::known(), bytes, words);
-    let best = longest_with(best, top::refused(), bytes, words);
-    let best = longest_with(best, top::ignored_services(), bytes, words);
-    let best = longest_with(best, top::ignored_device(), bytes, words);
-    class_of(best)
-}
-
-#[tactic(auto, using(crate::proofs::Longest::longest_append))]
-fn interface_class(bytes: &[u8], words: &[Span]) -> Option<HeadClass>
-    requires { AllByRecursion (IsWordIn bytes.now) words.now }
-    ensures { result ≡ class_in interface_heads (texts bytes.now words.now) }
-{
-    let best = longest_with(None, interface::known(), bytes, words);
-    let best = longest_with(best, interface::refused(), bytes, words);
-    let best = longest_with(best, interface::ignored(), bytes, words);
-    class_of(best)
-}
-
-#[tactic(auto, using(crate::proofs::Longest::longest_append))]
-fn bgp_class(bytes: &[u8], words: &[Span]) -> Option<HeadClass>
-    requires { AllByRecursion (IsWordIn bytes.now) words.now }
-    ensures { result ≡ class_in bgp_heads (texts bytes.now words.now) }
-{
-    let best = longest_with(None, bgp::known(), bytes, words);
-    let best = longest_with(best, bgp::refused(), bytes, words);
-    let best = longest_with(best, bgp::ignored(), bytes, words);
-    class_of(best)
-}
-
-#[tactic(auto, using(crate::proofs::Longest::longest_append))]
-fn ospf_class(bytes: &[u8], words: &[Span]) -> Option<HeadClass>
-    requires { AllByRecursion (IsWordIn bytes.now) words.now }
-    ensures { result ≡ class_in ospf_heads (texts bytes.now words.now) }
-{
-    let best = longest_with(None, ospf::known(), bytes, words);
-    let best = longest_with(best, ospf::refused(), bytes, words);
-    let best = longest_with(best, ospf::ignored(), bytes, words);
-    class_of(best)
-}
-
-#[tactic(auto, using(crate::proofs::Longest::longest_append))]
-fn entry_class(bytes: &[u8], words: &[Span]) -> Option<HeadClass>
-    requires { AllByRecursion (IsWordIn bytes.now) words.now }
-    ensures { result ≡ class_in entry_heads (texts bytes.now words.now) }
-{
-    let best = longest_with(None, entry::known(), bytes, words);
-    let best = longest_with(best, entry::refused(), bytes, words);
-    let best = longest_with(best, entry::ignored(), bytes, words);
-    class_of(best)
-}
-
 /// What the longest head that begins the line says of it, in a scope of router lines. `None` where no
 /// head of the scope's tables begins it.
-#[tactic(auto, unfolding(cfg_ast::specs::text::Heads::heads_of))]
+#[tactic(auto, using(crate::proofs::Longest::class_begun), unfolding(cfg_ast::specs::text::Heads::heads_of))]
 pub fn router_class(bytes: &[u8], words: &[Span], scope: Scope) -> Option<HeadClass>
     requires { AllByRecursion (IsWordIn bytes.now) words.now }
     ensures { result ≡ class_in (heads_of scope) (texts bytes.now words.now) }
 {
+    let first = first_byte(bytes, words);
     match scope {
-        Scope::Top => top_class(bytes, words),
-        Scope::Interface => interface_class(bytes, words),
-        Scope::Bgp => bgp_class(bytes, words),
-        Scope::Ospf => ospf_class(bytes, words),
+        Scope::Top => class_among(top::begun_by(first), bytes, words),
+        Scope::Interface => class_among(interface::begun_by(first), bytes, words),
+        Scope::Bgp => class_among(bgp::begun_by(first), bytes, words),
+        Scope::Ospf => class_among(ospf::begun_by(first), bytes, words),
     }
 }
 
 /// The same in a scope of policy lines.
-#[tactic(auto, unfolding(cfg_ast::specs::text::Heads::policy_heads_of))]
+#[tactic(auto, using(crate::proofs::Longest::class_begun), unfolding(cfg_ast::specs::text::Heads::policy_heads_of))]
 pub fn policy_class(bytes: &[u8], words: &[Span], scope: PolicyScope) -> Option<HeadClass>
     requires { AllByRecursion (IsWordIn bytes.now) words.now }
     ensures { result ≡ class_in (policy_heads_of scope) (texts bytes.now words.now) }
 {
+    let first = first_byte(bytes, words);
     match scope {
-        PolicyScope::Top => top_class(bytes, words),
-        PolicyScope::Entry => entry_class(bytes, words),
+        PolicyScope::Top => class_among(top::begun_by(first), bytes, words),
+        PolicyScope::Entry => class_among(entry::begun_by(first), bytes, words),
     }
 }

@@ -2,8 +2,9 @@
 //!
 //! A head is the words that a line begins with. `router_class` and `policy_class` find the longest head
 //! in the tables of a scope that begins the line, and answer what the definitions say of it: its form,
-//! or that it is refused or ignored. The tables are constants, each equal to the table of the
-//! definitions. The other calls read single words, exactly by their definitions.
+//! or that it is refused or ignored. A line is compared only with the heads that begin with its first
+//! byte: the tables are constants, each equal to what the table of the definitions has for that byte.
+//! The other calls read single words, exactly by their definitions.
 #![tactic(auto)]
 
 mod heads;

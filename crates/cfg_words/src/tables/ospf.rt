@@ -1,57 +1,44 @@
 //! The heads of lines of an OSPF process.
 
 ghost use Rattle.std.specs.Prelude.{◌≡◌};
-ghost use Rattle.cfg_ast.specs.text.Heads.{known_in_ospf, refused_in_ospf, ignored_in_ospf};
-ghost use Rattle.cfg_words.specs.Rows.{rows_of};
+ghost use Rattle.cfg_ast.specs.text.Heads.{ospf_heads};
+ghost use Rattle.cfg_words.specs.Rows.{rows_of, begun_by};
 
 use crate::heads::Head;
 use cfg_ast::HeadClass::{Ignored, Refused, Router};
 use cfg_ast::RouterForm;
 
-const KNOWN: [Head; 3] = [
-    Head(&["network"], Router(RouterForm::Area)),
-    Head(&["passive-interface"], Router(RouterForm::Passive)),
-    Head(&["no", "passive-interface"], Router(RouterForm::NotPassive)),
-];
-
-#[tactic(auto, unfolding(cfg_ast::specs::text::Heads::known_in_ospf))]
-pub(crate) fn known() -> &'static [Head]
-    ensures { rows_of result.now ≡ known_in_ospf }
+/// The heads whose first word begins with this byte, in the order of the definition.
+#[tactic(auto, unfolding(cfg_ast::specs::text::Heads::known_in_ospf, cfg_ast::specs::text::Heads::refused_in_ospf, cfg_ast::specs::text::Heads::ignored_in_ospf))]
+pub(crate) fn begun_by(first: u8) -> &'static [Head]
+    ensures { rows_of result.now ≡ begun_by first ospf_heads }
 {
-    &KNOWN
-}
-
-const REFUSED: [Head; 11] = [
-    Head(&["auto-cost"], Refused),
-    Head(&["redistribute"], Refused),
-    Head(&["default-information"], Refused),
-    Head(&["default-metric"], Refused),
-    Head(&["distance"], Refused),
-    Head(&["area"], Refused),
-    Head(&["max-metric"], Refused),
-    Head(&["distribute-list"], Refused),
-    Head(&["maximum-paths"], Refused),
-    Head(&["summary-address"], Refused),
-    Head(&["neighbor"], Refused),
-];
-
-#[tactic(auto, unfolding(cfg_ast::specs::text::Heads::refused_in_ospf))]
-pub(crate) fn refused() -> &'static [Head]
-    ensures { rows_of result.now ≡ refused_in_ospf }
-{
-    &REFUSED
-}
-
-const IGNORED: [Head; 4] = [
-    Head(&["router-id"], Ignored),
-    Head(&["log-adjacency-changes"], Ignored),
-    Head(&["no", "log-adjacency-changes"], Ignored),
-    Head(&["timers"], Ignored),
-];
-
-#[tactic(auto, unfolding(cfg_ast::specs::text::Heads::ignored_in_ospf))]
-pub(crate) fn ignored() -> &'static [Head]
-    ensures { rows_of result.now ≡ ignored_in_ospf }
-{
-    &IGNORED
+    match first {
+        b'a' => &[Head(&["auto-cost"], Refused), Head(&["area"], Refused)],
+        b'd' => &[
+            Head(&["default-information"], Refused),
+            Head(&["default-metric"], Refused),
+            Head(&["distance"], Refused),
+            Head(&["distribute-list"], Refused),
+        ],
+        b'l' => &[Head(&["log-adjacency-changes"], Ignored)],
+        b'm' => &[
+            Head(&["max-metric"], Refused),
+            Head(&["maximum-paths"], Refused),
+        ],
+        b'n' => &[
+            Head(&["network"], Router(RouterForm::Area)),
+            Head(&["no", "passive-interface"], Router(RouterForm::NotPassive)),
+            Head(&["neighbor"], Refused),
+            Head(&["no", "log-adjacency-changes"], Ignored),
+        ],
+        b'p' => &[Head(&["passive-interface"], Router(RouterForm::Passive))],
+        b'r' => &[
+            Head(&["redistribute"], Refused),
+            Head(&["router-id"], Ignored),
+        ],
+        b's' => &[Head(&["summary-address"], Refused)],
+        b't' => &[Head(&["timers"], Ignored)],
+        _ => &[],
+    }
 }
