@@ -7,7 +7,7 @@ ghost use Rattle.solution_check.specs.Breaks.{HoldsBest, BreaksBy, Judges};
 ghost use Rattle.solution_check.specs.Lone.{IsLoneOf};
 ghost use Rattle.solution_check.specs.Offers.{AreOwn, is_wrong_origin};
 
-use crate::lone::{Lone, lone_numbers};
+use crate::lone::{Lone, lone_of_labels};
 use crate::offers::same_route;
 use crate::weights::{has_candidate, weigh};
 use base_kit::{Edge, NoMemory, Protocol};
@@ -99,7 +99,7 @@ pub fn check(alloc: Global, srp: &Srp, labels: &Labels) -> Result<Answer, NoMemo
     requires { AreLabels srp.now labels.now }
     ensures { IfOk result (Judges srp.now labels.now) }
 {
-    let lone = lone_numbers(alloc, srp, labels)?;
+    let lone = lone_of_labels(alloc, srp, labels)?;
     let edges = srp.edges();
     let mut first = 0;
     for router in 0..srp.count() {

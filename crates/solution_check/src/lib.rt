@@ -2,7 +2,8 @@
 //!
 //! `check` answers `Stable` exactly where the labels are stable, and else names the first router, in
 //! order, that breaks it, with the first of four reasons that fits. It goes over the edges of each
-//! router once, and makes no path anew: what a neighbour gives is compared in pieces.
+//! router once, and makes no path anew: what a neighbour gives is compared in pieces. `lone_numbers` and
+//! `lone_on` tell the lone routers on a path, for others who compare keys.
 #![tactic(auto)]
 
 mod judgement;
@@ -12,3 +13,4 @@ mod offers;
 mod weights;
 
 pub use judgement::{Answer, check};
+pub use lone::{lone_numbers, lone_on};

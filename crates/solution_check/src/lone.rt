@@ -3,8 +3,8 @@ ghost use Rattle.std.specs.Option.{option_eq};
 ghost use Rattle.base_kit.specs.Sets.{has, IsAscending};
 ghost use Rattle.std.specs.HashSet.{contains};
 ghost use Rattle.srp_core.specs.Problem.{has_marked_number};
-ghost use Rattle.srp_core.specs.Routes.{chosen, is_on};
-ghost use Rattle.solution_check.specs.Lone.{chosen_of, IsLoneOf};
+ghost use Rattle.srp_core.specs.Routes.{chosen, is_on, path_of};
+ghost use Rattle.solution_check.specs.Lone.{chosen_of, HasNumbers, IsLoneOf};
 
 use base_kit::{List, NoMemory, NumSet};
 use srp_core::{Labels, Route, Srp};
@@ -86,12 +86,22 @@ fn chosen(alloc: Global, numbers: &HashSet<u32>, path: &[u32]) -> Result<NumSet,
     Ok(as_set(alloc, found))
 }
 
+/// The numbers on the path of a route that are in the set, ascending. With `lone_numbers` they are those
+/// of lone routers, by which keys of routes differ.
+pub fn lone_on(alloc: Global, numbers: &HashSet<u32>, route: &Route) -> Result<NumSet, NoMemory>
+    ensures { IfOk result (λ set. set ≡ chosen (contains nat_eq numbers.now) (path_of route.now)) }
+{
+    match route {
+        Route::Bgp { path, .. } => chosen(alloc, numbers, path.as_slice()),
+        Route::Ospf { .. } => Ok(NumSet::new(alloc)),
+    }
+}
+
 fn lone_of(alloc: Global, numbers: &HashSet<u32>, label: &Option<Route>) -> Result<NumSet, NoMemory>
     ensures { IfOk result (λ set. set ≡ chosen_of (contains nat_eq numbers.now) label.now) }
 {
     match label {
-        Some(Route::Bgp { path, .. }) => chosen(alloc, numbers, path.as_slice()),
-        Some(Route::Ospf { .. }) => Ok(NumSet::new(alloc)),
+        Some(route) => lone_on(alloc, numbers, route),
         None => Ok(NumSet::new(alloc)),
     }
 }
@@ -110,12 +120,19 @@ fn lone_paths(
     Ok(paths)
 }
 
-/// The lone numbers of a problem and its labels.
-pub(crate) fn lone_numbers(alloc: Global, srp: &Srp, labels: &Labels) -> Result<Lone, NoMemory>
-    ensures { IfOk result (IsLoneOf srp.now labels.now) }
+/// The numbers of the lone routers of a problem, looked up in constant time.
+pub fn lone_numbers(alloc: Global, srp: &Srp) -> Result<HashSet<u32>, NoMemory>
+    ensures { IfOk result (HasNumbers srp.now) }
 {
     let _routers = srp.count();
-    let numbers = marked(alloc, srp.lone(), srp.numbers())?;
+    marked(alloc, srp.lone(), srp.numbers())
+}
+
+/// The lone numbers of a problem and its labels.
+pub(crate) fn lone_of_labels(alloc: Global, srp: &Srp, labels: &Labels) -> Result<Lone, NoMemory>
+    ensures { IfOk result (IsLoneOf srp.now labels.now) }
+{
+    let numbers = lone_numbers(alloc, srp)?;
     let paths = lone_paths(alloc, &numbers, labels.as_slice())?;
     Ok(Lone { numbers, paths })
 }
