@@ -1,3 +1,5 @@
+//! The lines of a text and the words of a line, one after the other.
+
 ghost use Rattle.std.specs.Prelude.{◌≡◌, ◌==◌, ◌+◌, ◌≤◌, ◌<◌, ◌∷◌, [], length, drop, not, MatchOption, IfSome};
 ghost use Rattle.std.specs.List.{list_any, position_or_len};
 ghost use Rattle.cfg_ast.specs.text.Lines.{is_blank, words_of, newline_from, without_return};
@@ -67,7 +69,7 @@ fn word_length(line: &[u8]) -> usize
 }
 
 /// The first word of a line, and the line behind it.
-pub(crate) fn next_word(line: &[u8]) -> Option<(&[u8], &[u8])>
+pub fn next_word(line: &[u8]) -> Option<(&[u8], &[u8])>
     ensures words { MatchOption result (words_of line.now ≡ []) (λ cut. words_of line.now ≡ cut.0.now ∷ words_of cut.1.now) }
     ensures shorter { IfSome result (λ cut. length cut.1.now < length line.now) }
 {
@@ -82,7 +84,7 @@ pub(crate) fn next_word(line: &[u8]) -> Option<(&[u8], &[u8])>
 
 /// The place of the first newline from `from` on, or the end.
 #[tactic(auto, using(cfg_ast::proofs::Places::first_next, cfg_ast::proofs::Places::first_here, cfg_ast::proofs::Places::first_end))]
-pub(crate) fn newline_from(bytes: &[u8], from: usize) -> usize
+pub fn newline_from(bytes: &[u8], from: usize) -> usize
     requires { from ≤ length bytes.now }
     ensures place { result ≡ newline_from bytes.now from }
     ensures bounds { (from ≤ result) × (result ≤ length bytes.now) }
@@ -95,7 +97,7 @@ pub(crate) fn newline_from(bytes: &[u8], from: usize) -> usize
 }
 
 /// The end of a line without a carriage return.
-pub(crate) fn without_return(bytes: &[u8], from: usize, end: usize) -> usize
+pub fn without_return(bytes: &[u8], from: usize, end: usize) -> usize
     requires front { from ≤ end }
     requires end { end ≤ length bytes.now }
     ensures place { result ≡ without_return bytes.now from end }
