@@ -1,5 +1,6 @@
 mod Carries
 mod Directions
+mod Fitting
 mod FoldLoop
 mod LastSides
 mod LiftLoop

@@ -1,6 +1,6 @@
 -- What a router takes from the list of its candidates.
 use Rattle.std.proofs.Common.{◌≡◌, ◌≢◌, ℕ, zero, suc, ◌+◌, ◌<◌, ◌≤◌, Bool, true, false, cond, List, [], ◌∷◌, ◌++◌, length, get_or, Option, Some, None, refl, sym, ◌∙◌, ap, subst, arith, inl, inr}
-use Rattle.std.specs.Prelude.{nat_eq, slice_get, slice_index, option_and_then, if◌then◌else◌}
+use Rattle.std.specs.Prelude.{All, nat_eq, slice_get, slice_index, option_and_then, if◌then◌else◌}
 use Rattle.std.specs.Option.{option_map_or}
 use Rattle.std.proofs.lemmas.Bool.{cases_lt}
 use Rattle.std.proofs.lemmas.Bool.Decides.{nat_tests}
@@ -266,3 +266,7 @@ none_more Fits list i c at before here k d less g = elim (cases_lt k i) [
       let cd : c ≡ d = cc in
       subst (λ (e : Candidate). Fits k e) cd (subst (λ (n : ℕ). Fits n c) same here)
 ]
+
+-- what holds of all holds of the one at a place
+pub each_of : {X : Type 0} (Holds : X → Type 0) (items list : List X) → list ≡ items → All Holds items → (k : ℕ) (x : X) → slice_get list k ≡ Some x → Holds x
+each_of Holds items list is all k x at = All-contains Holds items x all (contains_in items x (subst (λ xs. In xs x) is (get_in list k x at)))

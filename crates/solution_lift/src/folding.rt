@@ -16,6 +16,7 @@ use crate::tasks::tasks_of;
 use abstract_net::quotient;
 use base_kit::{NoMemory, Protocol};
 use refine_partition::Partition;
+use solution_check::lone_numbers;
 use srp_core::laws::filling::fold_steps;
 use srp_core::laws::keys::across_quotients;
 use srp_core::laws::{equal_keys, folds, ospf_folds};
@@ -44,12 +45,13 @@ fn fold_routes(
     let firsts = first_members(alloc, p, count)?;
     let own = places(alloc, count)?;
     let sources = sources_of(alloc, srp.numbers(), &groups)?;
+    let lone = lone_numbers(alloc, small)?;
     let tasks = tasks_of(alloc, labels.as_slice(), &firsts)?;
     let mut lower = no_labels(alloc, count)?;
     for task in &tasks {
         let asked = labels.as_slice();
         let route = next(
-            alloc, small, asked, &firsts, &own, &sources, &lower, task.place,
+            alloc, small, asked, &firsts, &own, &sources, &lone, &lower, task.place,
         )?;
         lower.set(task.place, route);
     }

@@ -16,6 +16,7 @@ use crate::tasks::tasks_of;
 use abstract_net::Quotient;
 use base_kit::{NoMemory, Protocol};
 use refine_partition::Partition;
+use solution_check::lone_numbers;
 use srp_core::laws::filling::lift_steps;
 use srp_core::laws::keys::across_quotients;
 use srp_core::laws::{lifts, ospf_lifts};
@@ -40,12 +41,13 @@ fn lift_routes(
     let groups = groups_of(alloc, p, count)?;
     let own = places(alloc, small.count())?;
     let sources = sources_of(alloc, small.numbers(), &own)?;
+    let lone = lone_numbers(alloc, srp)?;
     let tasks = tasks_of(alloc, labels.as_slice(), &groups)?;
     let mut upper = no_labels(alloc, count)?;
     for task in &tasks {
         let asked = labels.as_slice();
         let route = next(
-            alloc, srp, asked, &groups, &groups, &sources, &upper, task.place,
+            alloc, srp, asked, &groups, &groups, &sources, &lone, &upper, task.place,
         )?;
         upper.set(task.place, route);
     }

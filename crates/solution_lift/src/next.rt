@@ -1,18 +1,17 @@
-ghost use Rattle.std.specs.Prelude.{◌≡◌, ◌≢◌, ℕ, ◌<◌, ◌≤◌, ◌&&◌, Some, None, true, false, IfOk, All, length, nat_eq, slice_get, slice_index, option_and_then};
-ghost use Rattle.std.specs.HashMap as map;
-ghost use Rattle.srp_core.specs.Candidates.{candidates};
+ghost use Rattle.std.specs.Prelude.{◌≡◌, ℕ, ◌<◌, ◌&&◌, Some, IfOk, bytes_eq, length, nat_eq, slice_index};
+ghost use Rattle.std.specs.HashSet.{contains};
+ghost use Rattle.solution_check.specs.Lone.{HasNumbers};
 ghost use Rattle.srp_core.specs.Problem.{count, key_of};
-ghost use Rattle.srp_core.specs.Routes.{IsRouteOf};
+ghost use Rattle.srp_core.specs.Routes.{path_of, chosen, IsRouteOf};
 ghost use Rattle.srp_core.specs.Stability.{label, AreLabels};
 ghost use Rattle.solution_lift.specs.Carrying.{IsTaken, IsNext, source_of};
-ghost use Rattle.solution_lift.specs.Sides.{is_from};
+ghost use Rattle.solution_lift.specs.Sides.{is_from, are_alike};
 
-use base_kit::{Edge, NoMemory};
-use srp_core::laws::keys::order;
+use base_kit::{Edge, NoMemory, NumSet};
+use solution_check::lone_on;
 use srp_core::{Candidate, Labels, Route, Srp};
 use std::alloc::Global;
-use std::cmp::Ordering;
-use std::collections::HashMap;
+use std::collections::{HashMap, HashSet};
 
 // Whether the candidate came over an edge from that side.
 fn is_from(edges: &[Edge], sides: &[u32], candidate: &Candidate, source: u32) -> bool
@@ -27,18 +26,51 @@ fn is_from(edges: &[Edge], sides: &[u32], candidate: &Candidate, source: u32) ->
     }
 }
 
-// Whether the candidate came from that side and has the key of the route asked for.
-fn fits(target: &Srp, sides: &[u32], candidate: &Candidate, source: u32, asked: &Route) -> bool
-    requires candidate { IsRouteOf target.now.protocol candidate.now.route }
-    requires asked { IsRouteOf target.now.protocol asked.now }
-    ensures yes { result ≡ true → (is_from target.now.edges sides.now source candidate.now ≡ true) × (key_of target.now candidate.now.route ≡ key_of target.now asked.now) }
-    ensures no { result ≡ false → is_from target.now.edges sides.now source candidate.now ≡ true → key_of target.now candidate.now.route ≢ key_of target.now asked.now }
+// Whether two routes have one preference, one size and the same communities.
+fn are_alike(route: &Route, other: &Route) -> bool
+    ensures { result ≡ are_alike route.now other.now }
 {
-    order();
-    if !is_from(target.edges(), sides, candidate, source) {
-        return false;
+    match (route, other) {
+        (
+            Route::Bgp { lp, path, comms },
+            Route::Bgp {
+                lp: other_lp,
+                path: other_path,
+                comms: other_comms,
+            },
+        ) => {
+            *lp == *other_lp
+                && path.as_slice().len() == other_path.as_slice().len()
+                && comms.as_slice() == other_comms.as_slice()
+        }
+        (Route::Ospf { cost }, Route::Ospf { cost: other }) => *cost == *other,
+        (Route::Bgp { .. }, Route::Ospf { .. }) => false,
+        (Route::Ospf { .. }, Route::Bgp { .. }) => false,
     }
-    target.key_cmp(&candidate.route, asked) == Ordering::Equal
+}
+
+// Whether the candidate came from that side and has the key of the route asked for, on whose path there
+// are these numbers of lone routers.
+fn fits(
+    alloc: Global,
+    edges: &[Edge],
+    sides: &[u32],
+    lone: &HashSet<u32>,
+    candidate: &Candidate,
+    source: u32,
+    asked: &Route,
+    wanted: &NumSet,
+) -> Result<bool, NoMemory>
+    ensures { IfOk result (λ fits. fits ≡ (is_from edges.now sides.now source candidate.now && (are_alike candidate.now.route asked.now && bytes_eq (chosen (contains nat_eq lone.now) (path_of candidate.now.route)) wanted.now))) }
+{
+    if !is_from(edges, sides, candidate, source) {
+        return Ok(false);
+    }
+    if !are_alike(&candidate.route, asked) {
+        return Ok(false);
+    }
+    let found = lone_on(alloc, lone, &candidate.route)?;
+    Ok(found.as_slice() == wanted.as_slice())
 }
 
 // The route of the key of the one asked for that the router takes from that side.
@@ -46,6 +78,7 @@ fn taken(
     alloc: Global,
     target: &Srp,
     sides: &[u32],
+    lone: &HashSet<u32>,
     labels: &Labels,
     router: u32,
     source: u32,
@@ -54,12 +87,16 @@ fn taken(
     requires router { router < count target.now }
     requires labels { AreLabels target.now labels.now }
     requires asked { IsRouteOf target.now.protocol asked.now }
+    requires lone { HasNumbers target.now lone.now }
     ensures { IfOk result (IsTaken target.now sides.now labels.now router source (key_of target.now asked.now)) }
 {
     let _routers = target.count();
+    let wanted = lone_on(alloc, lone, asked)?;
+    let edges = target.edges();
     let candidates = target.candidates(labels, router)?;
     for candidate in candidates.as_slice() {
-        if fits(target, sides, candidate, source, asked) {
+        let is_fit = fits(alloc, edges, sides, lone, candidate, source, asked, &wanted)?;
+        if is_fit {
             return Ok(Some(candidate.route.copy(alloc)?));
         }
     }
@@ -89,12 +126,14 @@ pub fn next(
     at: &[u32],
     sides: &[u32],
     sources: &HashMap<u32, u32>,
+    lone: &HashSet<u32>,
     labels: &Labels,
     router: u32,
 ) -> Result<Option<Route>, NoMemory>
     requires router { router < count target.now }
     requires place { router < length at.now }
     requires labels { AreLabels target.now labels.now }
+    requires lone { HasNumbers target.now lone.now }
     requires asked { (u : ℕ) (r : Route) → label asked.now u ≡ Some r → IsRouteOf target.now.protocol r }
     ensures { IfOk result (IsNext target.now asked.now at.now sides.now sources.now labels.now router) }
 {
@@ -104,7 +143,7 @@ pub fn next(
     }
     match asked.get(at[router as usize] as usize) {
         Some(Some(wanted)) => match source_of(sources, wanted) {
-            Some(source) => taken(alloc, target, sides, labels, router, source, wanted),
+            Some(source) => taken(alloc, target, sides, lone, labels, router, source, wanted),
             None => Ok(None),
         },
         Some(None) => Ok(None),
