@@ -1,5 +1,5 @@
 -- What `bgp_problem` makes is the problem of the class.
-use Rattle.std.proofs.Common.{◌≡◌, ℕ, ◌≤◌, ◌<◌, ◌^◌, Bool, List, map, length, Option, Some, sym, ◌∙◌, ap, subst, arith}
+use Rattle.std.proofs.Common.{◌≡◌, ℕ, ◌<◌, ◌^◌, Bool, List, map, length, Option, Some, sym, ◌∙◌, subst}
 use Rattle.std.specs.Prelude.{All, Contains, slice_get}
 use Rattle.base_kit.specs.declared.act_graph.Edge.{Edge}
 use Rattle.base_kit.specs.declared.protocol.Protocol.TheVariants.{Bgp as OverBgp}
@@ -9,9 +9,7 @@ use Rattle.by_key.proofs.KeyedItems.{all_from}
 use Rattle.cfg_ast.specs.declared.classes.DestClass.{DestClass}
 use Rattle.cfg_ast.specs.declared.network.Network.{Network}
 use Rattle.cfg_ast.specs.declared.network.Router.{Router}
-use Rattle.cfg_ast.specs.declared.topology.Link.{Link}
 use Rattle.cfg_ast.specs.meaning.Classes.{classes_of}
-use Rattle.cfg_ast.specs.meaning.Topology.{links_of}
 use Rattle.dd_core.specs.Sets.{Shown}
 use Rattle.route_maps.specs.declared.plain.Plain.{Plain}
 use Rattle.srp_core.specs.declared.route.Act.{Act}
@@ -29,7 +27,6 @@ use Rattle.srp_build.specs.BgpEdges.{IsLeftOut, IsEdgeOfSession, AreBelow, AreEd
 use Rattle.srp_build.specs.Built.{IsBuiltFor}
 use Rattle.srp_build.specs.FirstActs.{HasFirstActs}
 use Rattle.srp_build.specs.HopEdges.{edge_with}
-use Rattle.srp_build.specs.Hops.{hops_of, sorted_by_ends}
 use Rattle.srp_build.specs.LineMaps.{AreLineMaps}
 use Rattle.srp_build.specs.Lines.{act_of_hop}
 use Rattle.srp_build.specs.Lone.{AreLone}
@@ -42,7 +39,6 @@ use Rattle.srp_build.proofs.LinkPlaces.{sorted_of}
 use Rattle.srp_build.proofs.MapsOfClass.{maps_of_class}
 use Rattle.srp_build.proofs.SessionMaps.{line_numbered}
 use Rattle.srp_build.proofs.SortedEdges.{from, importer_in}
-use Rattle.srp_build.proofs.SortedHops.{length-hops_of}
 use Rattle.srp_build.proofs.StartsOfClass.{starts_of_class}
 
 -- numbers of maps are places of maps
@@ -53,13 +49,12 @@ pub first_in : (class : DestClass) (p : Prefix) → slice_get class.prefixes 0 �
 first_in class p at = contains_in class.prefixes p (get_in class.prefixes 0 p at)
 
 -- the edges as the code makes them
-pub sorted_edges : (n : Network) (routers : List Router) (links : List Link) (init read_init : List (Option Route)) (maps : LineMaps) (shown : Shown) (hops read_hops : List Hop) (found : BgpEdges) → routers ≡ n.routers → links ≡ links_of n → read_init ≡ init
-    → hops ≡ sorted_by_ends (length routers) (hops_of links) → read_hops ≡ hops → AreEdgesOfSessions shown routers read_init maps read_hops found → AreEdgesOfSessions shown n.routers init maps (sorted_of n) found
-sorted_edges n routers links init read_init maps shown hops read_hops found routers_are links_are init_is sorted read edges =
-    let is_sorted : read_hops ≡ sorted_of n = read ∙ sorted ∙ (λ j. sorted_by_ends (length (routers_are j)) (hops_of (links_are j))) in
-    subst (λ (h : List Hop). AreEdgesOfSessions shown n.routers init maps h found) is_sorted
-    (subst (λ (i : List (Option Route)). AreEdgesOfSessions shown n.routers i maps read_hops found) init_is
-    (subst (λ (r : List Router). AreEdgesOfSessions shown r read_init maps read_hops found) routers_are edges))
+pub sorted_edges : (n : Network) (routers : List Router) (init read_init : List (Option Route)) (maps : LineMaps) (shown : Shown) (hops : List Hop) (found : BgpEdges) → routers ≡ n.routers → read_init ≡ init
+    → hops ≡ sorted_of n → AreEdgesOfSessions shown routers read_init maps hops found → AreEdgesOfSessions shown n.routers init maps (sorted_of n) found
+sorted_edges n routers init read_init maps shown hops found routers_are init_is sorted edges =
+    subst (λ (h : List Hop). AreEdgesOfSessions shown n.routers init maps h found) sorted
+    (subst (λ (i : List (Option Route)). AreEdgesOfSessions shown n.routers i maps hops found) init_is
+    (subst (λ (r : List Router). AreEdgesOfSessions shown r read_init maps hops found) routers_are edges))
 
 same_ends : (routers : List Router) (init : List (Option Route)) (maps : LineMaps) (acts : List BgpAct) (hop : Hop) (edge : Edge) → IsEdgeOfSession routers init maps acts hop edge → edge ≡ edge_with edge.act hop
 same_ends routers init maps acts hop edge has = has.same
@@ -87,7 +82,6 @@ pub record IsCall (n : Network) (class : DestClass) (first : Prefix) (names : Li
   pub lines : AreLineMaps first n.routers maps
   pub edges : AreEdgesOfSessions shown n.routers init maps (sorted_of n) found
   pub marks : AreLone shown found.acts.acts.items (length n.routers) found.edges lone
-  pub few_links : length (links_of n) ≤ 1048576
   pub names_are : names ≡ map (λ (router : Router). router.name) n.routers
   pub numbers_are : numbers ≡ map as_number_of n.routers
   pub acts_are : acts ≡ map (λ (act : BgpAct). act_of_hop first n.routers act.first) found.acts.acts.items
@@ -122,12 +116,3 @@ module _ (n : Network) (class : DestClass) (first : Prefix) (names : List (List 
     order = subst AreActsByFirstUse (sym (made_is first call.first_in few)) (acts_in_order n first first init lone maps shown found (parts_for first call.first_in few));
     acts = λ p at. subst (HasFirstActs n p) (sym (made_is p at few)) (first_acts n first p init lone maps shown found (parts_for p at few));
   })
-
--- few directions
-pub few_sorted_hops : (n : Network) (routers : List Router) (links : List Link) (hops : List Hop) → routers ≡ n.routers → links ≡ links_of n → hops ≡ sorted_by_ends (length routers) (hops_of links) → length hops ≡ length (hops_of links) → length (links_of n) ≤ 1048576 → length (sorted_of n) < 2 ^ 32
-few_sorted_hops n routers links hops routers_are links_are sorted len few =
-    let is_sorted : hops ≡ sorted_of n = sorted ∙ (λ j. sorted_by_ends (length (routers_are j)) (hops_of (links_are j))) in
-    let same = ap (λ (h : List Hop). length h) is_sorted in
-    let twice = length-hops_of links in
-    let all = ap (λ (l : List Link). length l) links_are in
-    omega arith

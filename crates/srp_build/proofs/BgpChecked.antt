@@ -1,6 +1,7 @@
 -- A checked BGP network has what its problem rests on.
 use Rattle.std.proofs.Common.{◌≡◌, ◌≤◌, Bool, true, false, cond, List, [], ◌∷◌, length, inl, inr, Option, Some, None, refl, arith}
 use Rattle.std.specs.Prelude.{is_some, nat_lt}
+use Rattle.base_kit.specs.declared.protocol.Protocol.{Protocol}
 use Rattle.base_kit.specs.declared.protocol.Protocol.TheVariants as protocol
 use Rattle.base_kit.proofs.Elements.{In, in_contains, in_flat_map}
 use Rattle.cfg_ast.specs.declared.bgp.BgpProcess.{BgpProcess}
@@ -11,6 +12,7 @@ use Rattle.cfg_ast.specs.meaning.RouterFaults.{ProtocolLine, of_bgp, of_ospf, li
 use Rattle.cfg_ast.specs.printing.WellFormed.{IsWellFormed}
 use Rattle.cfg_check.specs.Faultless.{IsFaultless}
 use Rattle.srp_build.specs.Bgp.{IsBgp}
+use Rattle.srp_build.specs.Problem.{is_bgp as is_over_bgp}
 use Rattle.srp_build.proofs.OspfChecked.{all_like_first, none_is}
 
 ospf_line : (b : Option BgpProcess) (o : OspfProcess) → In (lines_in_order b (Some o)) (of_ospf o)
@@ -39,3 +41,9 @@ is_bgp n form faultless few bgp = record {
   own_numbers = faultless.shared_as;
   nothing_added = faultless.prepend_in;
 }
+
+-- the protocol where the directions are those of sessions
+pub bgp_is : (o : Option Protocol) → is_over_bgp o ≡ true → o ≡ Some protocol.Bgp
+bgp_is (Some protocol.Bgp) e = cc
+bgp_is (Some protocol.Ospf) e = cc
+bgp_is None e = cc

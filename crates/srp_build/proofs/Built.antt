@@ -11,7 +11,6 @@ use Rattle.by_key.proofs.KeyedItems.{all_from}
 use Rattle.cfg_ast.specs.declared.classes.Origin.{Origin}
 use Rattle.cfg_ast.specs.declared.network.Network.{Network}
 use Rattle.cfg_ast.specs.declared.network.Router.{Router}
-use Rattle.cfg_ast.specs.declared.topology.Link.{Link}
 use Rattle.cfg_ast.specs.meaning.Topology.{links_of}
 use Rattle.srp_core.specs.declared.route.Route.{Route}
 use Rattle.srp_core.specs.declared.route.Act.{Act}
@@ -24,7 +23,6 @@ use Rattle.srp_build.specs.declared.hops.Hop.{Hop}
 use Rattle.srp_build.specs.ActOrder.{AreByFirstUse}
 use Rattle.srp_build.specs.Costs.{cost_at, cost_of_hop, IsEdgeOfHop, never_left, NumbersHops, AreDistinct}
 use Rattle.srp_build.specs.HopEdges.{edge_with}
-use Rattle.srp_build.specs.Hops.{hops_of, sorted_by_ends}
 use Rattle.srp_build.specs.Ospf.{IsOspf, IsPriced}
 use Rattle.srp_build.specs.Problem.{problem_with}
 use Rattle.srp_build.specs.Starts.{starts_from}
@@ -34,7 +32,7 @@ use Rattle.srp_build.proofs.LinkEnds.{link_ends}
 use Rattle.srp_build.proofs.LinkPlaces.{direction_of, hop_for, is_direction, sorted_of, sorted_hop, sorted_direction}
 use Rattle.srp_build.proofs.OspfRoutes.{IsCostRoute, start_is_cost, start_at, none_marked, priced_cost}
 use Rattle.srp_build.proofs.SortedEdges.{from, importer_in, exporter_in, ends_differ, ordered, one_of_link}
-use Rattle.srp_build.proofs.SortedHops.{IsHopOf, length-hops_of}
+use Rattle.srp_build.proofs.SortedHops.{IsHopOf}
 
 act_at : (costs : List ℕ) (k : ℕ) → slice_index_or (map Cost costs) k (Cost 0) ≡ Cost (slice_index_or costs k 0)
 act_at costs k = get_or-map Cost costs k 0
@@ -198,25 +196,16 @@ module _ (n : Network) (p : Prefix) (init : List (Option Route)) (costs : List �
   }
 
 -- the parts, as the code makes them
-pub parts_of : (n : Network) (p : Prefix) (routers : List Router) (links : List Link) (origins class_origins : List Origin) (init : List (Option Route)) (costs : List ℕ) (hops read : List Hop) (edges : List Edge)
-    → IsOspf n → routers ≡ n.routers → links ≡ links_of n → origins ≡ class_origins → starts_from 0 class_origins n.routers ≡ map (start_route p) n.routers
-    → init ≡ starts_from 0 origins routers → hops ≡ sorted_by_ends (length routers) (hops_of links) → length hops < 4294967296
-    → read ≡ hops → NumbersHops routers costs read edges → AreDistinct costs → AreParts n p init costs edges
-parts_of n p routers links origins class_origins init costs hops read edges ospf routers_are links_are origins_are starts init_is sorted few read_is numbers distinct =
-    let is_sorted : hops ≡ sorted_of n = sorted ∙ ap (λ (r : List Router). sorted_by_ends (length r) (hops_of links)) routers_are ∙ ap (λ (l : List Link). sorted_by_ends (length n.routers) (hops_of l)) links_are in
-    record {
-      ospf = ospf;
-      starts = init_is ∙ ap (λ (o : List Origin). starts_from 0 o routers) origins_are ∙ ap (λ (r : List Router). starts_from 0 class_origins r) routers_are ∙ starts;
-      numbers = subst (λ (r : List Router). NumbersHops r costs (sorted_of n) edges) routers_are (subst (λ (h : List Hop). NumbersHops routers costs h edges) (read_is ∙ is_sorted) numbers);
-      distinct = distinct;
-      few = subst (λ (h : List Hop). length h < 4294967296) is_sorted few;
-    }
-
-pub few_hops : (n : Network) (links : List Link) (hops : List Hop) → length (links_of n) < 2147483648 → links ≡ links_of n → length hops ≡ length (hops_of links) → length hops < 4294967296
-few_hops n links hops few links_are len =
-    let a = length-hops_of links in
-    let b = ap (λ (l : List Link). length l) links_are in
-    omega arith
+pub parts_of : (n : Network) (p : Prefix) (routers : List Router) (origins class_origins : List Origin) (init : List (Option Route)) (costs : List ℕ) (edges : List Edge)
+    → IsOspf n → routers ≡ n.routers → origins ≡ class_origins → starts_from 0 class_origins n.routers ≡ map (start_route p) n.routers → init ≡ starts_from 0 origins routers
+    → NumbersHops n.routers costs (sorted_of n) edges → AreDistinct costs → length (sorted_of n) < 2 ^ 32 → AreParts n p init costs edges
+parts_of n p routers origins class_origins init costs edges ospf routers_are origins_are starts init_is numbers distinct few = record {
+  ospf = ospf;
+  starts = init_is ∙ ap (λ (o : List Origin). starts_from 0 o routers) origins_are ∙ ap (λ (r : List Router). starts_from 0 class_origins r) routers_are ∙ starts;
+  numbers = numbers;
+  distinct = distinct;
+  few = few;
+}
 
 pub acts_by_first_use : (costs : List ℕ) (edges : List Edge) → AreByFirstUse edges (length costs) → AreByFirstUse edges (length (map Cost costs))
 acts_by_first_use costs edges order = subst (λ (k : ℕ). AreByFirstUse edges k) (sym (length-map costs Cost)) order

@@ -9,6 +9,7 @@ mod BgpParts
 mod BgpStarts
 mod Built
 mod CostPlaces
+mod DirectionsOf
 mod EdgeSteps
 mod FirstUse
 mod HopEdges

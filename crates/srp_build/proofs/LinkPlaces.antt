@@ -11,7 +11,8 @@ use Rattle.cfg_ast.specs.declared.topology.Link.{Link}
 use Rattle.cfg_ast.specs.meaning.Topology.{Place, place_on, places_on, places, interfaces_of, neighbors_of, links_from, links_joining, link_between, is_session, are_peers, are_adjacent, share_area_subnet, sessions_of, adjacencies_of, links_of}
 use Rattle.srp_core.specs.ProblemOf.{Direction, low_imports, high_imports, IsDirection}
 use Rattle.srp_build.specs.declared.hops.Hop.{Hop}
-use Rattle.srp_build.specs.Hops.{into_low, into_high, hops_of, AreInside, sorted_by_ends}
+use Rattle.srp_build.specs.Directions.{directions_of}
+use Rattle.srp_build.specs.Hops.{into_low, into_high, hops_of, AreInside}
 use Rattle.srp_build.proofs.FirstUse.{within_get}
 use Rattle.srp_build.proofs.SortedHops.{IsHopOf, hop_of, low_hop, high_hop, sorted_in, in_sorted}
 
@@ -128,7 +129,7 @@ all_inside n = record {
 
 -- the directions of a network, sorted by their ends
 abbrev pub sorted_of : Network → List Hop
-sorted_of n = sorted_by_ends (length n.routers) (hops_of (links_of n))
+sorted_of = directions_of
 
 pub sorted_hop : (n : Network) (hop : Hop) → In (sorted_of n) hop → IsHopOf (links_of n) hop
 sorted_hop n hop at = hop_of (links_of n) hop (sorted_in (length n.routers) (hops_of (links_of n)) hop at)

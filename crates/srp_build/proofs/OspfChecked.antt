@@ -20,6 +20,7 @@ use Rattle.cfg_ast.specs.meaning.Topology.{is_in_area_interface, process_has_add
 use Rattle.cfg_check.specs.Faultless.{IsFaultless}
 use Rattle.cfg_given.proofs.WellFormed.{given_costs_are_positive}
 use Rattle.srp_build.specs.Ospf.{HasCost, IsOspf}
+use Rattle.srp_build.specs.Problem.{is_bgp}
 use Rattle.net_topology.proofs.LinkCounts.{few_adjacencies}
 use Rattle.srp_build.proofs.LinkEnds.{IsUnmixed, links_are_adjacencies}
 
@@ -125,3 +126,9 @@ is_ospf n given faultless few ospf =
           let few = few_adjacencies n faultless.too_many_links in
           omega arith;
     }
+
+-- the protocol where the directions are those of adjacencies and there is one
+pub ospf_is : (o : Option Protocol) → (o ≡ None → ⊥) → is_bgp o ≡ false → o ≡ Some protocol.Ospf
+ospf_is (Some protocol.Bgp) some e = cc
+ospf_is (Some protocol.Ospf) some e = cc
+ospf_is None some e = absurd (some refl)

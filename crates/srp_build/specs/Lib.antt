@@ -4,6 +4,7 @@ pub mod BgpActs
 pub mod BgpEdges
 pub mod Built
 pub mod Costs
+pub mod Directions
 pub mod FirstActs
 pub mod HopEdges
 pub mod Hops

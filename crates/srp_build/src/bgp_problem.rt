@@ -1,24 +1,21 @@
-ghost use Rattle.std.specs.Prelude.{◌≡◌, Some, IfOk, Contains, slice_get};
-ghost use Rattle.base_kit.specs.declared.protocol.Protocol.TheVariants as protocol;
+ghost use Rattle.std.specs.Prelude.{◌≡◌, IfOk, Contains, slice_get};
 ghost use Rattle.cfg_ast.specs.meaning.Classes.{classes_of};
 ghost use Rattle.cfg_ast.specs.meaning.PolicyFaults.{communities_of};
-ghost use Rattle.cfg_ast.specs.meaning.RouterFaults.{protocol_of};
-ghost use Rattle.cfg_ast.specs.meaning.Topology.{links_of};
 ghost use Rattle.dd_core.specs.Sets.{Grows};
 ghost use Rattle.route_maps.specs.Within.{AreWithin};
 ghost use Rattle.srp_build.specs.Built.{IsBuiltFor};
+ghost use Rattle.srp_build.specs.Directions.{AreOfSessions};
 
 use crate::bgp_edges::{bgp_edges, written_acts};
-use crate::hops::sorted_hops;
+use crate::hops::Hop;
 use crate::lone::lone_of;
 use crate::plains::line_maps;
 use crate::routers::{names_of, numbers_of, starts_of};
-use base_kit::{List, NoMemory, Prefix, Protocol};
-use cfg_ast::{DestClass, Link};
+use base_kit::{NoMemory, Prefix, Protocol};
+use cfg_ast::DestClass;
 use cfg_check::Checked;
 use cfg_given::given_is_well_formed;
 use dd_core::Store;
-use net_topology::laws::few_links;
 use specialize::laws::{in_maps_add_nothing, maps_stay_within, session_imports};
 use srp_core::Srp;
 use std::alloc::Global;
@@ -34,19 +31,17 @@ fn first_prefix(class: &DestClass) -> Option<Prefix>
 pub fn bgp_problem(
     alloc: Global,
     net: &Checked,
-    links: &List<Link>,
+    hops: &[Hop],
     class: &DestClass,
     store: &mut Store,
 ) -> Result<Srp, NoMemory>
-    requires bgp { protocol_of net.now.network ≡ Some protocol.Bgp }
-    requires links { links.now ≡ links_of net.now.network }
+    requires directions { AreOfSessions net.now.network hops.now }
     requires class { Contains (classes_of net.now.network) class.now }
     requires known { AreWithin store.old.universe (communities_of net.now.network) }
     ensures grows { Grows store.old store.new }
     ensures built { IfOk result (IsBuiltFor net.now.network class.now) }
 {
     given_is_well_formed();
-    few_links();
     session_imports();
     in_maps_add_nothing();
     maps_stay_within();
@@ -57,9 +52,8 @@ pub fn bgp_problem(
     let names = names_of(alloc, routers)?;
     let numbers = numbers_of(alloc, routers)?;
     let init = starts_of(alloc, routers, class.origins.as_slice())?;
-    let hops = sorted_hops(alloc, routers.len(), links.as_slice())?;
     let maps = line_maps(alloc, p, routers)?;
-    let found = bgp_edges(alloc, store, routers, init.as_slice(), &maps, &hops)?;
+    let found = bgp_edges(alloc, store, routers, init.as_slice(), &maps, hops)?;
     let edges = found.edges.as_slice();
     let lone = lone_of(alloc, store, &found.acts.acts, routers.len(), edges)?;
     let acts = written_acts(alloc, p, routers, &found.acts.acts)?;

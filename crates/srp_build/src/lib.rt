@@ -5,13 +5,15 @@
 //! cost the same share an act. In BGP edges that import every set of communities alike do, and a router
 //! is lone where it accepts routes with different preferences. Acts stand in the order of the first edges
 //! that have them. The problem serves every prefix of its class, since the prefixes of a class are
-//! originated alike and every prefix list answers them alike.
+//! originated alike and every prefix list answers them alike. `directions_of` gives what does not hang
+//! on a class, and `build_over` takes it from there, where problems of several classes are wanted.
 #![tactic(auto)]
 
 mod acts;
 mod bgp_edges;
 mod bgp_problem;
 mod costs;
+mod directions;
 mod hops;
 mod index;
 pub mod laws;
@@ -23,4 +25,5 @@ mod routers;
 mod sessions;
 mod sums;
 
-pub use problem::build;
+pub use directions::{Directions, directions_of};
+pub use problem::{build, build_over};

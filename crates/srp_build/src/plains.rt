@@ -99,12 +99,12 @@ fn number_if_same(
     lines: &[Neighbor],
     numbers: &[u32],
     line: &Neighbor,
-    place: u32,
+    place: usize,
 ) -> Option<u32>
     ensures { IfSome result (IsAsEarlier inbound lines.now numbers.now line.now) }
 {
-    let number = numbers.get(place as usize)?;
-    let other = lines.get(place as usize)?;
+    let number = numbers.get(place)?;
+    let other = lines.get(place)?;
     if !is_same_name(map_named(inbound, other), map_named(inbound, line)) {
         return None;
     }
@@ -125,29 +125,105 @@ fn number_of_earlier(
     ensures { IfSome result (IsAsEarlier inbound lines.now numbers.now line.now) }
 {
     for place in places {
-        if let Some(number) = number_if_same(inbound, lines, numbers, line, *place) {
+        if let Some(number) = number_if_same(inbound, lines, numbers, line, *place as usize) {
             return Some(number);
         }
     }
     None
 }
 
-// The number of the map of a line, where the lines of these numbers were seen at the places.
+// The number of the line before, if that names the same map and the same list.
+fn number_of_last(
+    inbound: bool,
+    lines: &[Neighbor],
+    numbers: &[u32],
+    line: &Neighbor,
+) -> Option<u32>
+    ensures { IfSome result (IsAsEarlier inbound lines.now numbers.now line.now) }
+{
+    let last = numbers.len().checked_sub(1)?;
+    number_if_same(inbound, lines, numbers, line, last)
+}
+
+// The lines of a router that were seen, one of those that name the same map and the same list. The last
+// line may not be noted yet, so that a router whose lines all name the same needs no index.
+#[derive(Drop)]
+struct Seen {
+    by_sum: Index,
+    is_last_noted: bool,
+}
+
+impl Seen {
+    fn new(alloc: Global) -> Self {
+        Seen {
+            by_sum: HashMap::new(alloc),
+            is_last_noted: false,
+        }
+    }
+
+    // Notes the last of so many lines, unless that was done.
+    fn note_last(
+        &mut self,
+        alloc: Global,
+        inbound: bool,
+        lines: &[Neighbor],
+        count: usize,
+    ) -> Result<(), NoMemory> {
+        if self.is_last_noted {
+            return Ok(());
+        }
+        let Some(last) = count.checked_sub(1) else {
+            return Ok(());
+        };
+        let Some(line) = lines.get(last) else {
+            return Ok(());
+        };
+        let pair = (sum_of_line(inbound, line), 0);
+        push_at(alloc, &mut self.by_sum, pair, place(last)?)
+    }
+
+    // The number of an earlier line that names the same map and the same list. Most often that is the
+    // line before.
+    fn known_number(
+        &mut self,
+        alloc: Global,
+        inbound: bool,
+        lines: &[Neighbor],
+        numbers: &[u32],
+        line: &Neighbor,
+    ) -> Result<Option<u32>, NoMemory>
+        ensures { IfOk result (λ known. IfSome known (IsAsEarlier inbound lines.now numbers.now line.now)) }
+    {
+        if let Some(number) = number_of_last(inbound, lines, numbers, line) {
+            return Ok(Some(number));
+        }
+        self.note_last(alloc, inbound, lines, numbers.len())?;
+        let pair = (sum_of_line(inbound, line), 0);
+        let places = numbers_at(&self.by_sum, pair);
+        let known = number_of_earlier(inbound, lines, numbers, line, places);
+        self.is_last_noted = known.is_some();
+        Ok(known)
+    }
+}
+
+// The number of the map of a line behind lines with these numbers.
 fn number_of_line(
     alloc: Global,
     plains: &mut Plains,
+    seen: &mut Seen,
     p: Prefix,
     router: &Router,
     inbound: bool,
     numbers: &[u32],
-    places: &[u32],
     line: &Neighbor,
 ) -> Result<u32, NoMemory>
     requires { AreNumbersOf p router.now inbound plains.old.maps.items (neighbors_of router.now) numbers.now }
     ensures number { IfOk result (λ number. IsNumberOf plains.new.maps.items number (map_of_line p router.now inbound line.now)) }
     ensures grown { OnOk result (IsGrownBy plains.old.maps.items plains.new.maps.items (map_of_line p router.now inbound line.now)) }
 {
-    if let Some(number) = number_of_earlier(inbound, neighbors(router), numbers, line, places) {
+    let lines = neighbors(router);
+    let known = seen.known_number(alloc, inbound, lines, numbers, line)?;
+    if let Some(number) = known {
         return Ok(number);
     }
     let map = map_of_line(alloc, p, router, inbound, line)?;
@@ -166,23 +242,20 @@ fn numbers_of_router(
     ensures grows { OnOk result (PlainsGrow p (router.now ∷ []) plains.old.maps.items plains.new.maps.items) }
 {
     let lines = neighbors(router);
-    let mut seen: Index = HashMap::new(alloc);
+    let mut seen = Seen::new(alloc);
     let mut numbers = List::new(alloc);
     for i in 0..lines.len() {
         let line = &lines[i];
-        let pair = (sum_of_line(inbound, line), 0);
         let number = number_of_line(
             alloc,
             plains,
+            &mut seen,
             p,
             router,
             inbound,
             numbers.as_slice(),
-            numbers_at(&seen, pair),
             line,
         )?;
-        let place = place(i)?;
-        push_at(alloc, &mut seen, pair, place)?;
         numbers.push(number)?;
     }
     Ok(numbers)

@@ -3,19 +3,18 @@ ghost use Rattle.base_kit.specs.Prefixes.{Prefix};
 ghost use Rattle.base_kit.specs.declared.protocol.Protocol.TheVariants as protocol;
 ghost use Rattle.cfg_ast.specs.meaning.Classes.{classes_of};
 ghost use Rattle.cfg_ast.specs.meaning.PolicyFaults.{communities_of};
-ghost use Rattle.cfg_ast.specs.meaning.RouterFaults.{protocol_of};
 ghost use Rattle.cfg_ast.specs.meaning.Topology.{links_of};
 ghost use Rattle.dd_core.specs.Sets.{Grows};
 ghost use Rattle.route_maps.specs.Within.{AreWithin};
 ghost use Rattle.srp_core.specs.ProblemOf.{IsProblemOf};
 ghost use Rattle.srp_build.specs.ActOrder.{AreActsByFirstUse};
+ghost use Rattle.srp_build.specs.Directions.{AreOfAdjacencies, AreDirectionsOf};
 ghost use Rattle.srp_build.specs.FirstActs.{HasFirstActs};
 ghost use Rattle.srp_build.specs.Ospf.{IsOspf};
-ghost use Rattle.srp_build.specs.Problem.{is_bgp};
 
 use crate::bgp_problem::bgp_problem;
-use crate::costs::number_hops;
-use crate::hops::sorted_hops;
+use crate::costs::Numbered;
+use crate::directions::{Directions, directions_of};
 use crate::routers::{names_of, none_lone, numbers_of, starts_of};
 use base_kit::{List, NoMemory, Protocol};
 use cfg_ast::{DestClass, Link, Network};
@@ -29,11 +28,11 @@ use std::alloc::Global;
 fn ospf_problem(
     alloc: Global,
     network: &Network,
-    links: &List<Link>,
+    numbered: &Numbered,
     class: &DestClass,
 ) -> Result<Srp, NoMemory>
     requires ospf { IsOspf network.now }
-    requires links { links.now ≡ links_of network.now }
+    requires directions { AreOfAdjacencies network.now numbered.now }
     requires class { Contains (classes_of network.now) class.now }
     ensures problem { IfOk result (λ problem. (p : Prefix) → Contains class.now.prefixes p → IsProblemOf network.now p problem) }
     ensures acts { IfOk result AreActsByFirstUse }
@@ -44,9 +43,8 @@ fn ospf_problem(
     let numbers = numbers_of(alloc, routers)?;
     let init = starts_of(alloc, routers, class.origins.as_slice())?;
     let lone = none_lone(alloc, routers)?;
-    let hops = sorted_hops(alloc, routers.len(), links.as_slice())?;
-    let numbered = number_hops(alloc, routers, &hops)?;
     let acts = numbered.costs.acts(alloc)?;
+    let edges = Vec::from_slice(alloc, numbered.edges.as_slice())?;
     let problem = Srp::new(
         alloc,
         Protocol::Ospf,
@@ -55,26 +53,40 @@ fn ospf_problem(
         init,
         lone,
         acts,
-        numbered.edges,
+        List::from_vec(edges),
     );
     Ok(problem)
-}
-
-fn runs_bgp(net: &Checked) -> bool
-    ensures { result ≡ is_bgp (protocol_of net.now.network) }
-{
-    match net.protocol() {
-        Some(Protocol::Bgp) => true,
-        Some(Protocol::Ospf) => false,
-        None => false,
-    }
 }
 
 /// The problem of a checked network for every prefix of one of its classes. In OSPF it has an edge for
 /// each direction of each link, and its acts are their different costs. In BGP it has an edge for each
 /// direction over which some set of communities is imported, and edges that import every set alike have
 /// one act: the maps of the first such edge. Acts stand in the order of the first edges that have them.
-/// The store's universe has all communities that the network names, and the store may grow.
+/// The directions are those of the network. The store's universe has all communities that the network
+/// names, and the store may grow.
+pub fn build_over(
+    alloc: Global,
+    net: &Checked,
+    directions: &Directions,
+    class: &DestClass,
+    store: &mut Store,
+) -> Result<Srp, NoMemory>
+    requires directions { AreDirectionsOf net.now.network directions.now }
+    requires class { Contains (classes_of net.now.network) class.now }
+    requires known { AreWithin store.old.universe (communities_of net.now.network) }
+    ensures grows { Grows store.old store.new }
+    ensures problem { IfOk result (λ problem. (p : Prefix) → Contains class.now.prefixes p → IsProblemOf net.now.network p problem) }
+    ensures acts { IfOk result AreActsByFirstUse }
+    ensures first { IfOk result (λ problem. (p : Prefix) → Contains class.now.prefixes p → HasFirstActs net.now.network p problem) }
+{
+    match directions {
+        Directions::OfSessions(hops) => bgp_problem(alloc, net, hops, class, store),
+        Directions::OfAdjacencies(numbered) => ospf_problem(alloc, net.network(), numbered, class),
+    }
+}
+
+/// The problem as `build_over` gives it, from the links of the network. For several classes make the
+/// directions once, and call that.
 pub fn build(
     alloc: Global,
     net: &Checked,
@@ -90,10 +102,6 @@ pub fn build(
     ensures acts { IfOk result AreActsByFirstUse }
     ensures first { IfOk result (λ problem. (p : Prefix) → Contains class.now.prefixes p → HasFirstActs net.now.network p problem) }
 {
-    let bgp = runs_bgp(net);
-    if bgp {
-        bgp_problem(alloc, net, links, class, store)
-    } else {
-        ospf_problem(alloc, net.network(), links, class)
-    }
+    let directions = directions_of(alloc, net, links)?;
+    build_over(alloc, net, &directions, class, store)
 }

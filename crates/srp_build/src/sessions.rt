@@ -49,6 +49,23 @@ fn met_among(met: &[Met], places: &[u32], session: &Session) -> Option<Met>
     None
 }
 
+// So many of the first sessions are looked at before the index is asked.
+const FEW: usize = 4;
+
+// The session as it was met, among the first few.
+fn met_early(met: &[Met], session: &Session) -> Option<Met>
+    ensures within { IfSome result (Contains met.now) }
+    ensures session { IfSome result (λ m. m.session ≡ session.now) }
+{
+    for place in 0..met.len().min(FEW) {
+        let m = met[place];
+        if is_same_session(&m.session, session) {
+            return Some(m);
+        }
+    }
+    None
+}
+
 impl Sessions {
     /// No sessions yet.
     pub fn new(alloc: Global) -> Self
@@ -64,6 +81,9 @@ impl Sessions {
         ensures within { IfSome result (Contains self.now.met.items) }
         ensures session { IfSome result (λ m. m.session ≡ session.now) }
     {
+        if let Some(met) = met_early(&self.met, session) {
+            return Some(met);
+        }
         let pair = (session.out as usize, session.into as usize);
         met_among(&self.met, numbers_at(&self.by_maps, pair), session)
     }

@@ -3,27 +3,17 @@ use Rattle.std.specs.Prelude.{All}
 use Rattle.base_kit.specs.declared.act_graph.Edge.{Edge}
 use Rattle.cfg_ast.specs.declared.network.Network.{Network}
 use Rattle.cfg_ast.specs.declared.network.Router.{Router}
-use Rattle.cfg_ast.specs.declared.topology.Link.{Link}
+use Rattle.cfg_ast.specs.meaning.RouterFaults.{protocol_of}
 use Rattle.srp_core.specs.ProblemOf.{as_number_of}
 use Rattle.srp_build.specs.declared.acts.BgpAct.{BgpAct}
-use Rattle.srp_build.specs.Hops.{hops_of, AreInside}
 use Rattle.srp_build.specs.LineMaps.{AreLineMaps}
 use Rattle.srp_build.specs.Lines.{act_of_hop}
 use Rattle.srp_build.specs.Lone.{AreLone}
 use Rattle.srp_build.specs.Starts.{starts_from}
-use Rattle.srp_build.proofs.BgpCall.{IsCall, numbers_below, first_in, sorted_edges, importers_inside, acts_inside, rules_kept, is_built, few_sorted_hops}
-use Rattle.srp_build.proofs.BgpChecked.{is_bgp}
-use Rattle.srp_build.proofs.LinkPlaces.{all_inside}
+use Rattle.srp_build.proofs.BgpCall.{IsCall, numbers_below, first_in, sorted_edges, importers_inside, acts_inside, rules_kept, is_built}
+use Rattle.srp_build.proofs.BgpChecked.{is_bgp, bgp_is}
 use Rattle.srp_build.proofs.WithinMore.{maps_within}
 use Rattle.srp_build.proofs.bgp_problem.bgp_problem.Goals as goal
-
-pub sorted_hops-requires-clause-inside : goal.sorted_hops-requires-clause-inside
-sorted_hops-requires-clause-inside c =
-    let n = c.args.net.now.network in
-    let same = c.network.ensures.same in
-    let routers_are = c.as_slice-routers.ensures ∙ ap (λ (m : Network). m.routers) same in
-    subst (λ (r : List Router). AreInside (length r) (hops_of c.as_slice-2.result.now)) (sym routers_are)
-    (subst (λ (l : List Link). AreInside (length n.routers) (hops_of l)) (sym (c.as_slice-2.ensures ∙ c.requires.links)) (all_inside n))
 
 pub bgp_edges-requires-clause-outs : goal.bgp_edges-requires-clause-outs
 bgp_edges-requires-clause-outs c = numbers_below c.in-Some.p false c.in_ok-maps.maps.maps.items c.as_slice-routers.result.now c.in_ok-maps.maps.outs c.in_ok-maps.ensures.outs
@@ -44,7 +34,7 @@ lone_of-requires-clause-importers c =
     let n = c.args.net.now.network in
     let same = c.network.ensures.same in
     let routers_are = c.as_slice-routers.ensures ∙ ap (λ (m : Network). m.routers) same in
-    let edges = sorted_edges n c.as_slice-routers.result.now c.as_slice-2.result.now c.in_ok-init.init c.as_slice-3.result.now c.in_ok-maps.maps c.bgp_edges.new.store c.in_ok-hops.hops.items c.deref.result.now c.in_ok-found.found routers_are (c.as_slice-2.ensures ∙ c.requires.links) c.as_slice-3.ensures c.in_ok-hops.ensures.sorted c.deref.ensures.value c.in_ok-found.ensures.edges in
+    let edges = sorted_edges n c.as_slice-routers.result.now c.in_ok-init.init c.as_slice-2.result.now c.in_ok-maps.maps c.bgp_edges.new.store c.args.hops.now c.in_ok-found.found routers_are c.as_slice-2.ensures c.requires.directions.same c.in_ok-found.ensures.edges in
     subst (λ (r : List Router). All (λ (e : Edge). e.importer < length r) c.as_slice-edges.result.now) (sym routers_are)
     (subst (λ (l : List Edge). All (λ (e : Edge). e.importer < length n.routers) l) (sym c.as_slice-edges.ensures) (importers_inside n c.bgp_edges.new.store c.in_ok-init.init c.in_ok-maps.maps c.in_ok-found.found edges))
 
@@ -53,8 +43,8 @@ lone_of-requires-clause-acts c =
     let n = c.args.net.now.network in
     let same = c.network.ensures.same in
     let routers_are = c.as_slice-routers.ensures ∙ ap (λ (m : Network). m.routers) same in
-    let edges = sorted_edges n c.as_slice-routers.result.now c.as_slice-2.result.now c.in_ok-init.init c.as_slice-3.result.now c.in_ok-maps.maps c.bgp_edges.new.store c.in_ok-hops.hops.items c.deref.result.now c.in_ok-found.found routers_are (c.as_slice-2.ensures ∙ c.requires.links) c.as_slice-3.ensures c.in_ok-hops.ensures.sorted c.deref.ensures.value c.in_ok-found.ensures.edges in
-    subst (λ (a : List BgpAct). All (λ (e : Edge). e.act < length a) c.as_slice-edges.result.now) (sym c.deref-2.ensures.value)
+    let edges = sorted_edges n c.as_slice-routers.result.now c.in_ok-init.init c.as_slice-2.result.now c.in_ok-maps.maps c.bgp_edges.new.store c.args.hops.now c.in_ok-found.found routers_are c.as_slice-2.ensures c.requires.directions.same c.in_ok-found.ensures.edges in
+    subst (λ (a : List BgpAct). All (λ (e : Edge). e.act < length a) c.as_slice-edges.result.now) (sym c.deref.ensures.value)
     (subst (λ (l : List Edge). All (λ (e : Edge). e.act < length c.in_ok-found.found.acts.acts.items) l) (sym c.as_slice-edges.ensures) (acts_inside n c.bgp_edges.new.store c.in_ok-init.init c.in_ok-maps.maps c.in_ok-found.found edges))
 
 pub new-problem-requires : goal.new-problem-requires
@@ -64,25 +54,22 @@ new-problem-requires c =
     let routers_are = c.as_slice-routers.ensures ∙ ap (λ (m : Network). m.routers) same in
     let form = c.given_is_well_formed.ensures n c.args.net.now.given in
     let few = subst (λ (m : Network). length m.routers ≤ 4096) same c.network.ensures.few_routers in
-    let few_links = c.few_links.ensures n form c.args.net.now.faultless in
-    let links_are = c.as_slice-2.ensures ∙ c.requires.links in
-    let few_hops = few_sorted_hops n c.as_slice-routers.result.now c.as_slice-2.result.now c.in_ok-hops.hops.items routers_are links_are c.in_ok-hops.ensures.sorted c.in_ok-hops.ensures.len few_links in
-    let marks = subst (λ (a : List BgpAct). AreLone c.bgp_edges.new.store a (length c.as_slice-routers.result.now) c.as_slice-edges.result.now c.in_ok-lone.lone) c.deref-2.ensures.value c.in_ok-lone.ensures in
+    let few_hops = c.requires.directions.few in
+    let marks = subst (λ (a : List BgpAct). AreLone c.bgp_edges.new.store a (length c.as_slice-routers.result.now) c.as_slice-edges.result.now c.in_ok-lone.lone) c.deref.ensures.value c.in_ok-lone.ensures in
     let marks_of_edges = subst (λ (l : List Edge). AreLone c.bgp_edges.new.store c.in_ok-found.found.acts.acts.items (length c.as_slice-routers.result.now) l c.in_ok-lone.lone) c.as_slice-edges.ensures marks in
     let call : IsCall n c.args.class.now c.in-Some.p c.in_ok-names.names c.in_ok-numbers.numbers c.in_ok-init.init c.in_ok-lone.lone c.in_ok-acts.acts c.in_ok-maps.maps c.bgp_edges.new.store c.in_ok-found.found = record {
-      bgp = is_bgp n form c.args.net.now.faultless few c.requires.bgp;
+      bgp = is_bgp n form c.args.net.now.faultless few (bgp_is (protocol_of n) c.requires.directions.bgp);
       sessions_import = c.session_imports.ensures;
       add_nothing = c.in_maps_add_nothing.ensures;
       class_in = c.requires.class;
       first_in = first_in c.args.class.now c.in-Some.p (sym c.first_prefix.ensures ∙ c.in-Some.is);
       init_is = c.in_ok-init.ensures ∙ (λ j. starts_from 0 (c.as_slice.ensures j) (routers_are j));
       lines = subst (λ (r : List Router). AreLineMaps c.in-Some.p r c.in_ok-maps.maps) routers_are c.in_ok-maps.ensures;
-      edges = sorted_edges n c.as_slice-routers.result.now c.as_slice-2.result.now c.in_ok-init.init c.as_slice-3.result.now c.in_ok-maps.maps c.bgp_edges.new.store c.in_ok-hops.hops.items c.deref.result.now c.in_ok-found.found routers_are links_are c.as_slice-3.ensures c.in_ok-hops.ensures.sorted c.deref.ensures.value c.in_ok-found.ensures.edges;
+      edges = sorted_edges n c.as_slice-routers.result.now c.in_ok-init.init c.as_slice-2.result.now c.in_ok-maps.maps c.bgp_edges.new.store c.args.hops.now c.in_ok-found.found routers_are c.as_slice-2.ensures c.requires.directions.same c.in_ok-found.ensures.edges;
       marks = subst (λ (r : List Router). AreLone c.bgp_edges.new.store c.in_ok-found.found.acts.acts.items (length r) c.in_ok-found.found.edges c.in_ok-lone.lone) routers_are marks_of_edges;
-      few_links = few_links;
       names_are = c.in_ok-names.ensures ∙ ap (λ (r : List Router). map (λ (router : Router). router.name) r) routers_are;
       numbers_are = c.in_ok-numbers.ensures ∙ ap (λ (r : List Router). map as_number_of r) routers_are;
-      acts_are = c.in_ok-acts.ensures ∙ (λ j. map (λ (act : BgpAct). act_of_hop c.in-Some.p (routers_are j) act.first) (c.deref-3.ensures.value j));
+      acts_are = c.in_ok-acts.ensures ∙ (λ j. map (λ (act : BgpAct). act_of_hop c.in-Some.p (routers_are j) act.first) (c.deref-2.ensures.value j));
     } in
     λ keeps. rules_kept n c.args.class.now c.in-Some.p c.in_ok-names.names c.in_ok-numbers.numbers c.in_ok-init.init c.in_ok-lone.lone c.in_ok-acts.acts c.in_ok-maps.maps c.bgp_edges.new.store c.in_ok-found.found call few_hops keeps
 
@@ -93,24 +80,21 @@ returns-clause-built c =
     let routers_are = c.as_slice-routers.ensures ∙ ap (λ (m : Network). m.routers) same in
     let form = c.given_is_well_formed.ensures n c.args.net.now.given in
     let few = subst (λ (m : Network). length m.routers ≤ 4096) same c.network.ensures.few_routers in
-    let few_links = c.few_links.ensures n form c.args.net.now.faultless in
-    let links_are = c.as_slice-2.ensures ∙ c.requires.links in
-    let few_hops = few_sorted_hops n c.as_slice-routers.result.now c.as_slice-2.result.now c.in_ok-hops.hops.items routers_are links_are c.in_ok-hops.ensures.sorted c.in_ok-hops.ensures.len few_links in
-    let marks = subst (λ (a : List BgpAct). AreLone c.bgp_edges.new.store a (length c.as_slice-routers.result.now) c.as_slice-edges.result.now c.in_ok-lone.lone) c.deref-2.ensures.value c.in_ok-lone.ensures in
+    let few_hops = c.requires.directions.few in
+    let marks = subst (λ (a : List BgpAct). AreLone c.bgp_edges.new.store a (length c.as_slice-routers.result.now) c.as_slice-edges.result.now c.in_ok-lone.lone) c.deref.ensures.value c.in_ok-lone.ensures in
     let marks_of_edges = subst (λ (l : List Edge). AreLone c.bgp_edges.new.store c.in_ok-found.found.acts.acts.items (length c.as_slice-routers.result.now) l c.in_ok-lone.lone) c.as_slice-edges.ensures marks in
     let call : IsCall n c.args.class.now c.in-Some.p c.in_ok-names.names c.in_ok-numbers.numbers c.in_ok-init.init c.in_ok-lone.lone c.in_ok-acts.acts c.in_ok-maps.maps c.bgp_edges.new.store c.in_ok-found.found = record {
-      bgp = is_bgp n form c.args.net.now.faultless few c.requires.bgp;
+      bgp = is_bgp n form c.args.net.now.faultless few (bgp_is (protocol_of n) c.requires.directions.bgp);
       sessions_import = c.session_imports.ensures;
       add_nothing = c.in_maps_add_nothing.ensures;
       class_in = c.requires.class;
       first_in = first_in c.args.class.now c.in-Some.p (sym c.first_prefix.ensures ∙ c.in-Some.is);
       init_is = c.in_ok-init.ensures ∙ (λ j. starts_from 0 (c.as_slice.ensures j) (routers_are j));
       lines = subst (λ (r : List Router). AreLineMaps c.in-Some.p r c.in_ok-maps.maps) routers_are c.in_ok-maps.ensures;
-      edges = sorted_edges n c.as_slice-routers.result.now c.as_slice-2.result.now c.in_ok-init.init c.as_slice-3.result.now c.in_ok-maps.maps c.bgp_edges.new.store c.in_ok-hops.hops.items c.deref.result.now c.in_ok-found.found routers_are links_are c.as_slice-3.ensures c.in_ok-hops.ensures.sorted c.deref.ensures.value c.in_ok-found.ensures.edges;
+      edges = sorted_edges n c.as_slice-routers.result.now c.in_ok-init.init c.as_slice-2.result.now c.in_ok-maps.maps c.bgp_edges.new.store c.args.hops.now c.in_ok-found.found routers_are c.as_slice-2.ensures c.requires.directions.same c.in_ok-found.ensures.edges;
       marks = subst (λ (r : List Router). AreLone c.bgp_edges.new.store c.in_ok-found.found.acts.acts.items (length r) c.in_ok-found.found.edges c.in_ok-lone.lone) routers_are marks_of_edges;
-      few_links = few_links;
       names_are = c.in_ok-names.ensures ∙ ap (λ (r : List Router). map (λ (router : Router). router.name) r) routers_are;
       numbers_are = c.in_ok-numbers.ensures ∙ ap (λ (r : List Router). map as_number_of r) routers_are;
-      acts_are = c.in_ok-acts.ensures ∙ (λ j. map (λ (act : BgpAct). act_of_hop c.in-Some.p (routers_are j) act.first) (c.deref-3.ensures.value j));
+      acts_are = c.in_ok-acts.ensures ∙ (λ j. map (λ (act : BgpAct). act_of_hop c.in-Some.p (routers_are j) act.first) (c.deref-2.ensures.value j));
     } in
     is_built n c.args.class.now c.in-Some.p c.in_ok-names.names c.in_ok-numbers.numbers c.in_ok-init.init c.in_ok-lone.lone c.in_ok-acts.acts c.in_ok-maps.maps c.bgp_edges.new.store c.in_ok-found.found call few_hops c.new-problem.result c.new-problem.ensures c.count-kept.ensures.rules

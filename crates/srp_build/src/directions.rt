@@ -1,0 +1,57 @@
+ghost use Rattle.std.specs.Prelude.{◌≡◌, IfOk};
+ghost use Rattle.cfg_ast.specs.meaning.RouterFaults.{protocol_of};
+ghost use Rattle.cfg_ast.specs.meaning.Topology.{links_of};
+ghost use Rattle.srp_build.specs.Directions.{AreDirectionsOf};
+ghost use Rattle.srp_build.specs.Problem.{is_bgp};
+
+use crate::costs::{Numbered, number_hops};
+use crate::hops::{Hop, sorted_hops};
+use base_kit::{List, NoMemory, Protocol};
+use cfg_ast::Link;
+use cfg_check::Checked;
+use cfg_given::given_is_well_formed;
+use net_topology::laws::few_links;
+use std::alloc::Global;
+
+/// The directions of the links of a network, by importer, then exporter, then link. They do not hang
+/// on a class.
+#[derive(Drop)]
+pub enum Directions {
+    /// Over BGP sessions.
+    OfSessions(Vec<Hop>),
+    /// Over OSPF adjacencies, each as an edge that is numbered by its cost.
+    OfAdjacencies(Numbered),
+}
+
+fn runs_bgp(net: &Checked) -> bool
+    ensures { result ≡ is_bgp (protocol_of net.now.network) }
+{
+    match net.protocol() {
+        Some(Protocol::Bgp) => true,
+        Some(Protocol::Ospf) => false,
+        None => false,
+    }
+}
+
+/// The directions of a checked network, whose links these are.
+///
+/// # Errors
+/// Out of memory.
+pub fn directions_of(
+    alloc: Global,
+    net: &Checked,
+    links: &List<Link>,
+) -> Result<Directions, NoMemory>
+    requires { links.now ≡ links_of net.now.network }
+    ensures { IfOk result (AreDirectionsOf net.now.network) }
+{
+    given_is_well_formed();
+    few_links();
+    let routers = net.network().routers.as_slice();
+    let hops = sorted_hops(alloc, routers.len(), links.as_slice())?;
+    if runs_bgp(net) {
+        return Ok(Directions::OfSessions(hops));
+    }
+    let numbered = number_hops(alloc, routers, &hops)?;
+    Ok(Directions::OfAdjacencies(numbered))
+}
