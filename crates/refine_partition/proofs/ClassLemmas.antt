@@ -3,7 +3,7 @@ use Rattle.std.proofs.Common.{◌≡◌, ◌≢◌, ℕ, zero, suc, ◌+◌, ◌
 use Rattle.std.specs.Prelude.{slice_index, ◌⊎◌}
 use Rattle.std.proofs.lemmas.Bool.{cases_eq, cases_lt}
 use Rattle.std.proofs.lemmas.List.{get_or-set_same, get_or-set_other, length_push, get_or_push, get_or_append_left, length-append, get_or-take, get_or-drop, get_or_default, drop-take, take-append-drop, length-take}
-use Rattle.std.proofs.lemmas.List.Elements.{All-set, All-weaker, All-push, All-contains, Contains-append_left, Contains-append_right, Contains-append_cases}
+use Rattle.std.proofs.lemmas.List.Elements.{All-set, All-weaker, All-push, All-append, All-take, All-contains, Contains-append_left, Contains-append_right, Contains-append_cases}
 use Rattle.std.proofs.Math.ListN.{length-set}
 use Rattle.refine_partition.specs.declared.imports.Import.{Import}
 use Rattle.refine_partition.specs.Arrivals.{act_of_import}
@@ -190,8 +190,16 @@ alike_after before run act u v one moves there x found = elim (Contains-append_c
       Contains-append_right before run _ (subst (λ y. Contains run (record { importer = v; act = y })) (sym e) other)
 ]
 
-pub classes_more : (numbers : List ℕ) (before run : List Import) (count : ℕ) (classes classes' : List ℕ) (next next' act : ℕ) → AreClasses numbers before count classes next → IsSeparated classes classes' run next next' → All (λ a. a.act < act) before → All (λ a. a.act ≡ act) run → AreClasses numbers (before ++ run) count classes' next'
-classes_more numbers before run count classes classes' next next' act are separated earlier one =
+any_before : (before run : List Import) (u : ℕ) → Any (λ m. m.importer ≡ u) before → Any (λ m. m.importer ≡ u) (before ++ run)
+any_before before run u (k, m, inside, at, is) =
+    let (j, within, at') = Contains-append_left before run m (k, inside, at) in (j, m, within, at', is)
+
+any_run : (before run : List Import) (u : ℕ) → Any (λ m. m.importer ≡ u) run → Any (λ m. m.importer ≡ u) (before ++ run)
+any_run before run u (k, m, inside, at, is) =
+    let (j, within, at') = Contains-append_right before run m (k, inside, at) in (j, m, within, at', is)
+
+pub classes_more : (numbers : List ℕ) (before run : List Import) (count : ℕ) (classes classes' : List ℕ) (next next' act : ℕ) → All (λ a. a.importer < length numbers) before → AreClasses numbers before count classes next → IsSeparated classes classes' run next next' → All (λ a. a.act < act) before → All (λ a. a.act ≡ act) run → AreClasses numbers (before ++ run) count classes' next'
+classes_more numbers before run count classes classes' next next' act in_range are separated earlier one =
     let total = are.total in
     let pre : (u v : ℕ) → u < length numbers → v < length numbers → slice_index classes' u ≡ slice_index classes' v → slice_index classes u ≡ slice_index classes v = λ u v hu hv same.
     elim (cases_lt (slice_index classes' u) next) [
@@ -208,6 +216,23 @@ classes_more numbers before run count classes classes' next next' act are separa
       low = let low = are.low in let low' = separated.low in omega arith;
       few = let few = are.few in let few' = separated.few in let size = length-append before run in omega arith;
       below = separated.below;
+      stay = λ u hu none.
+          let low : slice_index classes' u < next = elim (cases_lt (slice_index classes' u) next) [
+            | inl lt ↦ lt
+            | inr high ↦ absurd (none (any_run before run u (separated.only u (omega arith) high)))
+          ] in
+          separated.stay u (omega arith) low ∙ are.stay u hu (λ found. none (any_before before run u found));
+      moved = All-append (λ a. count ≤ slice_index classes' a.importer) before run
+          (λ k d inside.
+          let u : ℕ = (slice_index_or before k d).importer in
+          let hu : u < length numbers = in_range k d inside in
+          let was : count ≤ slice_index classes u = are.moved k d inside in
+          let low = are.low in
+          elim (cases_lt (slice_index classes' u) next) [
+            | inl lt ↦ let e = separated.stay u (omega arith) lt in omega arith
+            | inr high ↦ omega arith
+          ])
+          (All-weaker (λ a. next ≤ slice_index classes' a.importer) (λ a. count ≤ slice_index classes' a.importer) (λ a high. let low = are.low in omega arith) run separated.moved);
       together = λ u v hu hv same alike.
           let was : slice_index classes u ≡ slice_index classes v = are.together u v hu hv same (record {
             there = alike_before before run act u v earlier one alike.there;
@@ -229,16 +254,18 @@ classes_more numbers before run count classes classes' next next' act are separa
           };
     }
 
-pub classes_start : (numbers classes : List ℕ) (arrivals : List Import) (count : ℕ) → classes ≡ numbers → All (λ n. n < count) numbers → AreClasses numbers (take 0 arrivals) count classes count
-classes_start numbers classes arrivals count e below = rw e (record {
+pub classes_start : (numbers : List ℕ) (arrivals : List Import) (count : ℕ) → All (λ n. n < count) numbers → AreClasses numbers (take 0 arrivals) count numbers count
+classes_start numbers arrivals count below = record {
   total = refl;
   low = omega arith;
   few = omega arith;
   below = below;
+  stay = λ u hu none. refl;
+  moved = λ k d inside. absurd (omega arith);
   together = λ u v hu hv same alike. same;
   same = λ u v hu hv same. same;
   alike = λ u v hu hv same. record { there = λ act (k, inside, at). absurd (omega arith); back = λ act (k, inside, at). absurd (omega arith) };
-})
+}
 
 take_shorter : (s n : ℕ) (xs : List Import) → s ≤ n → take s (take n xs) ≡ take s xs
 take_shorter zero n xs le = refl
@@ -251,8 +278,8 @@ take_run s m n xs e =
     ap (λ i. take i xs) e ∙ sym (take-append-drop s (take (s + m) xs)) ∙ ap (λ (ys : List Import). ys ++ drop s (take (s + m) xs)) (take_shorter s (s + m) xs (omega arith)) ∙ ap (λ (ys : List Import). take s xs ++ ys) (drop-take s m xs)
 
 -- the run from `start` to `end`
-pub classes_to : (numbers : List ℕ) (arrivals : List Import) (count start end : ℕ) (classes classes' : List ℕ) (next next' : ℕ) → start < end → end ≤ length arrivals → ((i j : ℕ) (d : Import) → i < start → start ≤ j → j < length arrivals → act_of_import (slice_index_or arrivals i d) < act_of_import (slice_index_or arrivals j d)) → ((i : ℕ) (d : Import) → start ≤ i → i < end → act_of_import (slice_index_or arrivals i d) ≡ act_of_import (slice_index_or arrivals start d)) → AreClasses numbers (take start arrivals) count classes next → IsSeparated classes classes' (take (end - start) (drop start arrivals)) next next' → AreClasses numbers (take end arrivals) count classes' next'
-classes_to numbers arrivals count start end classes classes' next next' more within apart same are separated =
+pub classes_to : (numbers : List ℕ) (arrivals : List Import) (count start end : ℕ) (classes classes' : List ℕ) (next next' : ℕ) → start < end → end ≤ length arrivals → All (λ a. a.importer < length numbers) arrivals → ((i j : ℕ) (d : Import) → i < start → start ≤ j → j < length arrivals → act_of_import (slice_index_or arrivals i d) < act_of_import (slice_index_or arrivals j d)) → ((i : ℕ) (d : Import) → start ≤ i → i < end → act_of_import (slice_index_or arrivals i d) ≡ act_of_import (slice_index_or arrivals start d)) → AreClasses numbers (take start arrivals) count classes next → IsSeparated classes classes' (take (end - start) (drop start arrivals)) next next' → AreClasses numbers (take end arrivals) count classes' next'
+classes_to numbers arrivals count start end classes classes' next next' more within in_range apart same are separated =
     let none : Import = record { importer = 0; act = 0 } in
     let act : ℕ = act_of_import (slice_index_or arrivals start none) in
     let run : List Import = take (end - start) (drop start arrivals) in
@@ -269,4 +296,4 @@ classes_to numbers arrivals count start end classes classes' next next' more wit
     let is = same (start + k) d (omega arith) (omega arith) in
     at ∙ at' ∙ is ∙ first d in
     rw (take_run start (end - start) end arrivals (omega arith))
-    (classes_more numbers (take start arrivals) run count classes classes' next next' act are separated earlier one)
+    (classes_more numbers (take start arrivals) run count classes classes' next next' act (All-take (λ a. a.importer < length numbers) start arrivals in_range) are separated earlier one)

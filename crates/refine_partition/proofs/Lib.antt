@@ -6,4 +6,7 @@ pub mod QueueLemmas
 pub mod RenumberLemmas
 pub mod PlanLemmas
 pub mod DivisionLemmas
+pub mod StayingLemmas
+pub mod MoveLemmas
+pub mod TurnLemmas
 pub mod RefineLemmas

@@ -10,7 +10,7 @@ use Rattle.base_kit.specs.declared.act_graph.ActGraph.{ActGraph}
 use Rattle.base_kit.specs.Partition.{HasTwinIfOutgoing, IsMirroredAt, IsAdmissibleOn, Refines, IsCoarsestOn}
 use Rattle.base_kit.proofs.Mirrors.{mirrored_coarser}
 use Rattle.refine_partition.specs.Splits.{HasAct, ActAlike, IsStart}
-use Rattle.refine_partition.specs.Planned.{IsDivided}
+use Rattle.refine_partition.specs.Loose.{AreParted}
 use Rattle.refine_partition.specs.Pending.{AreAllWaiting, AreMarked, IsWaiting, IsEven, IsRefining, ArePiecesWaiting}
 use Rattle.refine_partition.specs.Numbering.{IsNumbering}
 use Rattle.refine_partition.proofs.MemberLemmas.{Contains-cons}
@@ -42,20 +42,20 @@ acts_kept graph numbers others taken u v admissible refines hu hv same outside a
     record { edge = (j, twin, within, at', (importer', acts' ∙ acts, refines twin.exporter e.exporter exporter' exporter into' ∙ into)) }
 
 -- an undivided block has the members that it had
-undivided : (graph : ActGraph) (taken : ℕ) (numbers next origins : List ℕ) (before after : ℕ) (block u : ℕ) → IsDivided graph taken numbers before next after origins → block < before → ¬ ((k : ℕ) × (k < length origins) × (slice_index origins k ≡ block)) → u < graph.count → slice_index numbers u ≡ block → slice_index next u ≡ block
+undivided : (graph : ActGraph) (taken : ℕ) (numbers next origins : List ℕ) (before after : ℕ) (block u : ℕ) → AreParted graph taken numbers next before after origins → block < before → ¬ ((k : ℕ) × (k < length origins) × (slice_index origins k ≡ block)) → u < graph.count → slice_index numbers u ≡ block → slice_index next u ≡ block
 undivided graph taken numbers next origins before after block u divided old whole hu is = elim (cases_lt (slice_index next u) before) [
-  | inl low ↦ divided.split.kept u hu low ∙ is
+  | inl low ↦ divided.kept u hu low ∙ is
   | inr high ↦
-      let lt = divided.split.below u hu in
+      let lt = divided.below u hu in
       let size = divided.size in
       let from = divided.origin u (slice_index next u - before) hu (omega arith) in
       absurd (whole (slice_index next u - before, omega arith, from ∙ is))
 ]
 
-even_after : (graph : ActGraph) (taken : ℕ) (numbers next origins : List ℕ) (before after : ℕ) (block : ℕ) → IsDivided graph taken numbers before next after origins → block < before → ¬ ((k : ℕ) × (k < length origins) × (slice_index origins k ≡ block)) → ((u v : ℕ) → u < graph.count → v < graph.count → slice_index next u ≡ slice_index next v → slice_index numbers u ≢ block → ActAlike graph.edges numbers block u v) → IsEven graph next block
+even_after : (graph : ActGraph) (taken : ℕ) (numbers next origins : List ℕ) (before after : ℕ) (block : ℕ) → AreParted graph taken numbers next before after origins → block < before → ¬ ((k : ℕ) × (k < length origins) × (slice_index origins k ≡ block)) → ((u v : ℕ) → u < graph.count → v < graph.count → slice_index next u ≡ slice_index next v → slice_index numbers u ≢ block → ActAlike graph.edges numbers block u v) → IsEven graph next block
 even_after graph taken numbers next origins before after block divided old whole alike =
     let there : (u : ℕ) → u < graph.count → slice_index numbers u ≡ block → slice_index next u ≡ block = λ u hu is. undivided graph taken numbers next origins before after block u divided old whole hu is in
-    let back : (u : ℕ) → u < graph.count → slice_index next u ≡ block → slice_index numbers u ≡ block = λ u hu is. sym (divided.split.kept u hu (omega arith)) ∙ is in
+    let back : (u : ℕ) → u < graph.count → slice_index next u ≡ block → slice_index numbers u ≡ block = λ u hu is. sym (divided.kept u hu (omega arith)) ∙ is in
     let after_has : (u act : ℕ) → HasAct graph.edges numbers block u act → HasAct graph.edges next block u act = λ u act has.
     let (k, e, inside, at, (importer, acts, into)) = has.edge in
     let exporter : e.exporter < graph.count = subst (λ (x : Edge). x.exporter < graph.count) at (graph.exporters_in_range k e inside) in
@@ -74,19 +74,18 @@ even_after graph taken numbers next origins before after block divided old whole
     }
 
 -- a turn takes one block out of the queue
-pub refining_turn : (graph : ActGraph) (taken : ℕ) (numbers next origins queue left queue' : List ℕ) (before after : ℕ) → IsRefining graph numbers before queue → ((block : ℕ) → Contains queue block → (block ≡ taken) ⊎ Contains left block) → All (λ block. block < before) left → IsDivided graph taken numbers before next after origins → ArePiecesWaiting left queue' before origins → IsRefining graph next after queue'
+pub refining_turn : (graph : ActGraph) (taken : ℕ) (numbers next origins queue left queue' : List ℕ) (before after : ℕ) → IsRefining graph numbers before queue → ((block : ℕ) → Contains queue block → (block ≡ taken) ⊎ Contains left block) → All (λ block. block < before) left → AreParted graph taken numbers next before after origins → ArePiecesWaiting left queue' before origins → IsRefining graph next after queue'
 refining_turn graph taken numbers next origins queue left queue' before after refining taken_out known divided waiting =
-    let split = divided.split in
     let size = divided.size in
     record {
-      total = split.total;
-      below = split.below;
+      total = divided.total;
+      below = divided.below;
       small = divided.few;
-      colors = λ u v hu hv same. refining.colors u v hu hv (split.apart u v hu hv same).same;
+      colors = λ u v hu hv same. refining.colors u v hu hv (divided.apart u v hu hv same).same;
       refined = λ others admissible u v hu hv same.
           let refines = refining.refined others admissible in
           let together = refines u v hu hv same in
-          split.together u v hu hv (record {
+          divided.together u v hu hv (record {
             same = together;
             alike = λ outside. record {
               there = acts_kept graph numbers others taken u v admissible refines hu hv same outside;
@@ -100,7 +99,7 @@ refining_turn graph taken numbers next origins queue left queue' before after re
           ] in
           let whole : ¬ ((k : ℕ) × (k < length origins) × (slice_index origins k ≡ block)) = λ found. let (k, within, is) = found in none (subst (Contains queue') is (waiting.divided k within)) in
           even_after graph taken numbers next origins before after block divided old whole (λ u v hu hv same outside.
-          let stay = split.apart u v hu hv same in
+          let stay = divided.apart u v hu hv same in
           elim (cases_eq block taken) [
             | inl e ↦ subst (λ b. ActAlike graph.edges numbers b u v) (sym e) (stay.alike (λ is. outside (is ∙ sym e)))
             | inr ne ↦

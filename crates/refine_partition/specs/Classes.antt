@@ -32,12 +32,15 @@ pub record SameArrivals (arrivals : List Import) (u v : ℕ) : Type 0 where
   pub there : (act : ℕ) → Contains arrivals (record { importer = u; act = act }) → Contains arrivals (record { importer = v; act = act })
   pub back : (act : ℕ) → Contains arrivals (record { importer = v; act = act }) → Contains arrivals (record { importer = u; act = act })
 
--- two routers are in one class where their numbers are equal and the same acts are listed for both
+-- Two routers are in one class where their numbers are equal and the same acts are listed for both. The
+-- class of a router for which no act is listed is its number, and all other classes are new.
 pub record AreClasses (numbers : List ℕ) (arrivals : List Import) (count : ℕ) (classes : List ℕ) (next : ℕ) : Type 0 where
   pub total : length classes ≡ length numbers
   pub low : count ≤ next
   pub few : next ≤ count + length arrivals
   pub below : All (λ class. class < next) classes
+  pub stay : (u : ℕ) → u < length numbers → ¬ Any (λ a. a.importer ≡ u) arrivals → slice_index classes u ≡ slice_index numbers u
+  pub moved : All (λ a. count ≤ slice_index classes a.importer) arrivals
   pub together : (u v : ℕ) → u < length numbers → v < length numbers → slice_index numbers u ≡ slice_index numbers v → SameArrivals arrivals u v → slice_index classes u ≡ slice_index classes v
   pub same : (u v : ℕ) → u < length numbers → v < length numbers → slice_index classes u ≡ slice_index classes v → slice_index numbers u ≡ slice_index numbers v
   pub alike : (u v : ℕ) → u < length numbers → v < length numbers → slice_index classes u ≡ slice_index classes v → SameArrivals arrivals u v

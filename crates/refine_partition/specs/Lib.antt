@@ -12,3 +12,4 @@ pub mod Kept
 pub mod Splitting
 pub mod SplittingInside
 pub mod Pending
+pub mod Loose

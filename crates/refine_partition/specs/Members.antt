@@ -1,5 +1,5 @@
 -- The members of all blocks.
-use Rattle.std.specs.Prelude.{◌≡◌, ℕ, ◌<◌, List, length, slice_index, slice_index_or, filter, ◌==◌, Vec}
+use Rattle.std.specs.Prelude.{◌≡◌, ℕ, ◌<◌, List, length, slice_index, slice_index_or, filter, ◌==◌, All, Contains, Vec}
 use Rattle.std.specs.List.{range_with_len}
 use Rattle.std.specs.declared.alloc.Global.{Global}
 use Rattle.base_kit.specs.Partition.{members_of}
@@ -15,3 +15,9 @@ pub record AreBlocksAmong (count : ℕ) (numbers : List ℕ) (blocks : List (Vec
 -- each block has its members
 pub record AreBlocks (numbers : List ℕ) (blocks : List (Vec ℕ Global)) : Type 0 where
   pub each : (block : ℕ) (d : Vec ℕ Global) → block < length blocks → (slice_index_or blocks block d).items ≡ members_of numbers block
+
+-- all members of a block, in any order, and only them
+pub record AreMembers (numbers : List ℕ) (block : ℕ) (routers : List ℕ) : Type 0 where
+  pub below : All (λ u. u < length numbers) routers
+  pub only : All (λ u. slice_index numbers u ≡ block) routers
+  pub all : (u : ℕ) → u < length numbers → slice_index numbers u ≡ block → Contains routers u

@@ -1,5 +1,5 @@
 -- The blocks of a splitting, and what a split by one of them changes.
-use Rattle.std.specs.Prelude.{◌≡◌, ℕ, ◌+◌, ◌<◌, ◌≤◌, List, length, slice_index, All, Contains, Vec}
+use Rattle.std.specs.Prelude.{◌≡◌, ℕ, ◌+◌, ◌<◌, List, length, slice_index, All, Contains, Vec}
 use Rattle.std.specs.declared.alloc.Global.{Global}
 use Rattle.std.specs.List.Sorted.{IsStrictlyIncreasing}
 use Rattle.base_kit.specs.declared.act_graph.ActGraph.{ActGraph}
@@ -20,11 +20,3 @@ pub record IsPlanned (graph : ActGraph) (taken : ℕ) (numbers : List ℕ) (befo
   pub known : All (λ block. block < before) touched
   pub in_order : IsStrictlyIncreasing touched
   pub rest : (u : ℕ) → u < graph.count → ¬ Contains touched (slice_index numbers u) → slice_index next u ≡ slice_index numbers u
-
--- after a split, with the block that each further piece comes from
-pub record IsDivided (graph : ActGraph) (taken : ℕ) (numbers : List ℕ) (before : ℕ) (next : List ℕ) (after : ℕ) (origins : List ℕ) : Type 0 where
-  pub split : IsSplit graph taken numbers next before after
-  pub size : after ≡ before + length origins
-  pub few : after ≤ graph.count
-  pub origin : (u k : ℕ) → u < graph.count → slice_index next u ≡ before + k → slice_index origins k ≡ slice_index numbers u
-  pub known : All (λ origin. origin < before) origins

@@ -66,7 +66,7 @@ fn run_end(arrivals: &[Import], start: usize) -> usize
 }
 
 /// The numbers, wide enough for the names of classes.
-fn widened(alloc: Global, numbers: &[u32]) -> Result<Vec<usize>, NoMemory>
+pub fn widened(alloc: Global, numbers: &[u32]) -> Result<Vec<usize>, NoMemory>
     ensures { IfOk result (λ classes. classes.items ≡ numbers.now) }
 {
     let mut classes = vec![in alloc; 0; numbers.len()]?;
@@ -76,26 +76,25 @@ fn widened(alloc: Global, numbers: &[u32]) -> Result<Vec<usize>, NoMemory>
     Ok(classes)
 }
 
-/// The class of each router, and the first number above all classes: two routers are in one class
-/// where their numbers are equal and their edges have the same acts.
-pub fn classes_of(
+/// Divides the classes by the acts of their routers' edges, and gives the first number above all
+/// classes: two routers are then in one class where they were and their edges have the same acts.
+pub fn divide_classes(
     alloc: Global,
-    numbers: &[u32],
+    classes: &mut Vec<usize>,
     arrivals: &[Import],
     count: u32,
-) -> Result<(Vec<usize>, usize), NoMemory>
-    requires below { All (λ number. number < count) numbers.now }
-    requires in_range { All (λ a. a.importer < length numbers.now) arrivals.now }
+) -> Result<usize, NoMemory>
+    requires below { All (λ class. class < count) classes.old.items }
+    requires in_range { All (λ a. a.importer < length classes.old.items) arrivals.now }
     requires in_order { IsNonDecreasingBy act_of_import arrivals.now }
-    ensures { IfOk result (λ r. AreClasses numbers.now arrivals.now count r.0.items r.1) }
+    ensures { IfOk result (λ next. AreClasses classes.old.items arrivals.now count classes.new.items next) }
 {
-    let mut classes = widened(alloc, numbers)?;
     let mut next = count as usize;
     let mut start = 0;
     while start < arrivals.len() {
         let end = run_end(arrivals, start);
-        next = separate(alloc, &mut classes, &arrivals[start..end], next)?;
+        next = separate(alloc, classes, &arrivals[start..end], next)?;
         start = end;
     }
-    Ok((classes, next))
+    Ok(next)
 }

@@ -1,10 +1,11 @@
 //! Dividing blocks by the edges into one of them.
 
-ghost use Rattle.std.specs.Prelude.{◌≡◌, ◌<◌, ◌+◌, ◌^◌, All, IfOk, OnErr, filter, length};
+ghost use Rattle.std.specs.Prelude.{◌≡◌, ◌<◌, ◌+◌, ◌^◌, All, IfOk, OnOk, OnErr, filter, length};
 ghost use Rattle.std.specs.List.Sorted.{IsStrictlyIncreasing};
 ghost use Rattle.refine_partition.specs.Index.{IsImportIndex};
 ghost use Rattle.refine_partition.specs.Kept.{is_numbered, AreFurther, AreKept};
-ghost use Rattle.refine_partition.specs.Planned.{AreNumbered, IsDivided};
+ghost use Rattle.refine_partition.specs.Planned.{AreNumbered};
+ghost use Rattle.refine_partition.specs.Splits.{IsSplit};
 
 use crate::imports::Import;
 use crate::plan::planned;
@@ -12,7 +13,7 @@ use base_kit::{ActGraph, NoMemory};
 use std::alloc::Global;
 
 /// Whether the router's block has this number.
-fn has_number(numbers: &[u32], router: u32, number: u32) -> bool
+pub fn has_number(numbers: &[u32], router: u32, number: u32) -> bool
     ensures { result ≡ is_numbered numbers.now number router }
 {
     (router as usize) < numbers.len() && numbers[router as usize] == number
@@ -65,8 +66,7 @@ fn keep_members(blocks: &mut Vec<Vec<u32>>, numbers: &[u32], touched: &[u32])
     }
 }
 
-/// Divides all other blocks by the edges into the taken one, and gives for each further piece the block
-/// that it comes from. After an error nothing has changed.
+/// Divides all other blocks by the edges into the taken one. After an error nothing has changed.
 pub fn divide(
     alloc: Global,
     graph: &ActGraph,
@@ -74,7 +74,7 @@ pub fn divide(
     blocks: &mut Vec<Vec<u32>>,
     imports: &[Vec<Import>],
     taken: u32,
-) -> Result<Vec<u32>, NoMemory>
+) -> Result<(), NoMemory>
     requires one_number_each { length numbers.old.items ≡ graph.now.count }
     requires numbered { AreNumbered numbers.old.items blocks.old.items }
     requires few { length blocks.old.items < 2 ^ 32 }
@@ -83,7 +83,7 @@ pub fn divide(
     requires known { taken < length blocks.old.items }
     ensures numbered { AreNumbered numbers.new.items blocks.new.items }
     ensures few { length blocks.new.items < 2 ^ 32 }
-    ensures ok { IfOk result (λ origins. IsDivided graph.now taken numbers.old.items (length blocks.old.items) numbers.new.items (length blocks.new.items) origins.items) }
+    ensures ok { OnOk result (IsSplit graph.now taken numbers.old.items numbers.new.items (length blocks.old.items) (length blocks.new.items)) }
     ensures numbers_err { OnErr result (numbers.new.items ≡ numbers.old.items) }
     ensures blocks_err { OnErr result (blocks.new.items ≡ blocks.old.items) }
 {
@@ -95,5 +95,5 @@ pub fn divide(
     blocks.append(&mut further)?;
     keep_members(blocks, &next, &plan.touched);
     *numbers = next;
-    Ok(origins)
+    Ok(())
 }

@@ -1,9 +1,13 @@
 //! The coarsest admissible partition of the routers of a graph of acting edges.
 //!
 //! `coarsest` gives the partition that every admissible one refines, in groups that are numbered by
-//! their least members, and counts its turns: at most two for each router. A turn is one call of
-//! `split_by` of a `Splitting`, which divides every other block by the acts of its members' edges into
-//! one block, and whose contract pins the blocks after it.
+//! their least members, and counts its turns: at most two for each router. A turn divides every other
+//! block by the acts of its members' edges into one block. It costs a constant, and a logarithm for each
+//! edge from that block, so `coarsest` is as fast as the blocks that take their turns are small: the
+//! larger pieces take theirs last.
+//!
+//! `split_by` of a `Splitting` is the same step for callers that split by hand, and its contract pins the
+//! numbers and the order of the blocks after it. It costs as much as there are routers.
 #![tactic(auto)]
 
 mod arrivals;
@@ -11,13 +15,16 @@ mod blocks;
 mod classes;
 mod division;
 mod imports;
+mod moves;
 mod numbering;
 mod partition;
 mod pending;
 mod plan;
 mod renumbering;
 mod splitting;
+mod staying;
 mod touched;
+mod turn;
 
 pub use partition::{Partition, coarsest};
 pub use splitting::Splitting;

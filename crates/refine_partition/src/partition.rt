@@ -81,8 +81,8 @@ pub fn coarsest<L: Ledger>(
     ensures turns { turns.new ≤ turns.old + 2 * graph.now.count }
 {
     let _count = graph.count;
-    let splitting = refined(alloc, graph, turns)?;
-    let (numbers, count) = numbers_of(alloc, splitting.numbers())?;
+    let blocks = refined(alloc, graph, turns)?;
+    let (numbers, count) = numbers_of(alloc, &blocks)?;
     let partition = from_numbers(alloc, numbers, count)?;
     Ok(partition)
 }

@@ -1,10 +1,11 @@
 //! Refinement by a list of pending blocks.
 
-ghost use Rattle.std.specs.Prelude.{◌≡◌, ℕ, ◌<◌, ◌≤◌, ◌+◌, ◌*◌, All, Contains, IfOk, OnOk, length, slice_index};
+ghost use Rattle.std.specs.Prelude.{◌≡◌, ℕ, ◌<◌, ◌≤◌, ◌+◌, ◌*◌, ◌^◌, All, Contains, IfOk, OnOk, length, slice_index};
 ghost use Rattle.base_kit.specs.Partition.{IsCoarsestOn};
 ghost use Rattle.refine_partition.specs.Pending.{AreAllWaiting, AreMarked, IsWaiting, ArePiecesWaiting};
 
-use crate::splitting::Splitting;
+use crate::imports::imports_of;
+use crate::turn::{start, turn};
 use base_kit::{ActGraph, NoMemory, Steps};
 use std::alloc::Global;
 use std::collections::VecDeque;
@@ -60,42 +61,44 @@ fn all_waiting(alloc: Global, count: u32) -> Result<(VecDeque<u32>, Vec<bool>), 
 fn add_pieces(
     queue: &mut VecDeque<u32>,
     waits: &mut Vec<bool>,
-    splitting: &Splitting,
+    lists: &[Vec<u32>],
     origins: &[u32],
 ) -> Result<(), NoMemory>
     requires known { All (λ origin. origin < length waits.old.items) origins.now }
-    requires size { length waits.old.items + length origins.now ≡ splitting.now.count }
+    requires size { length waits.old.items + length origins.now ≡ length lists.now }
+    requires few { length lists.now < 2 ^ 32 }
     requires marked { AreMarked queue.old.items waits.old.items }
-    ensures size { OnOk result (length waits.new.items ≡ splitting.now.count) }
+    ensures size { OnOk result (length waits.new.items ≡ length lists.now) }
     ensures marked { OnOk result (AreMarked queue.new.items waits.new.items) }
     ensures waiting { OnOk result (ArePiecesWaiting queue.old.items queue.new.items (length waits.old.items) origins.now) }
 {
-    let _count = splitting.blocks();
     for origin in origins {
         let piece = waits.len() as u32;
         waits.push(false)?;
-        let is_larger = splitting.block(*origin).len() > splitting.block(piece).len();
+        let is_larger = lists[*origin as usize].len() > lists[piece as usize].len();
         wait(queue, waits, *origin, is_larger)?;
         wait(queue, waits, piece, !is_larger)?;
     }
     Ok(())
 }
 
-/// The splitting after all turns.
+/// The number of each router's block after all turns.
 pub fn refined<L: Ledger>(
     alloc: Global,
     graph: &ActGraph,
     turns: &mut Steps<L>,
-) -> Result<Splitting, NoMemory>
-    ensures coarsest { IfOk result (λ s. IsCoarsestOn graph.now s.numbers) }
+) -> Result<Vec<u32>, NoMemory>
+    ensures coarsest { IfOk result (λ numbers. IsCoarsestOn graph.now numbers.items) }
     ensures turns { turns.new ≤ turns.old + 2 * graph.now.count }
 {
-    let mut splitting = Splitting::start(alloc, graph)?;
-    let (mut queue, mut waits) = all_waiting(alloc, splitting.blocks())?;
+    let _count = graph.count;
+    let imports = imports_of(alloc, graph)?;
+    let mut blocks = start(alloc, graph)?;
+    let (mut queue, mut waits) = all_waiting(alloc, blocks.lists.len() as u32)?;
     while let Some(block) = queue.pop_back() {
         waits[block as usize] = false;
-        let origins = splitting.split_from(alloc, graph, block, turns)?;
-        add_pieces(&mut queue, &mut waits, &splitting, &origins)?;
+        let origins = turn(alloc, graph, &imports, &mut blocks, block, turns)?;
+        add_pieces(&mut queue, &mut waits, &blocks.lists, &origins)?;
     }
-    Ok(splitting)
+    Ok(blocks.numbers)
 }

@@ -5,7 +5,7 @@ ghost use Rattle.refine_partition.specs.Index.{IsImportIndex};
 ghost use Rattle.refine_partition.specs.Planned.{AreNumbered, IsPlanned};
 
 use crate::arrivals::arrivals_at;
-use crate::classes::classes_of;
+use crate::classes::{divide_classes, widened};
 use crate::imports::Import;
 use crate::renumbering::{Renumbering, renumbered};
 use crate::touched::{queue_of, touched_blocks};
@@ -40,7 +40,8 @@ pub fn planned(
     let members = &blocks[taken as usize];
     let arrivals = arrivals_at(alloc, graph, imports, numbers, members, taken)?;
     let count = blocks.len() as u32;
-    let (classes, class_count) = classes_of(alloc, numbers, &arrivals, count)?;
+    let mut classes = widened(alloc, numbers)?;
+    let class_count = divide_classes(alloc, &mut classes, &arrivals, count)?;
     let touched = touched_blocks(alloc, numbers, &arrivals)?;
     let queue = queue_of(alloc, numbers, blocks, &touched)?;
     let renumbering = renumbered(alloc, numbers, blocks, &classes, class_count, &queue)?;

@@ -2,7 +2,6 @@
 
 ghost use Rattle.std.specs.Prelude.{◌≡◌, ◌<◌, ◌+◌, IfOk, OnOk, OnErr, length};
 ghost use Rattle.base_kit.specs.Partition.{members_of, IsNumbered};
-ghost use Rattle.refine_partition.specs.Planned.{IsDivided};
 ghost use Rattle.refine_partition.specs.Splits.{IsSplit, IsStart};
 ghost use Rattle.refine_partition.specs.Splitting.{IsSplittingOf};
 
@@ -68,40 +67,6 @@ impl Splitting {
         &self.blocks[number as usize]
     }
 
-    /// The number of each router's block.
-    pub(crate) fn numbers(&self) -> &[u32]
-        ensures { result.now ≡ self.now.numbers }
-    {
-        &self.numbers
-    }
-
-    /// Splits as `split_by` does, and gives for each further piece the block that it comes from.
-    pub(crate) fn split_from<L: Ledger>(
-        &mut self,
-        alloc: Global,
-        graph: &ActGraph,
-        block: u32,
-        turns: &mut Steps<L>,
-    ) -> Result<Vec<u32>, NoMemory>
-        requires of_graph { IsSplittingOf graph.now self.old }
-        requires known { block < self.old.count }
-        ensures of_graph { IsSplittingOf graph.now self.new }
-        ensures tick { turns.new ≡ turns.old + 1 }
-        ensures ok { IfOk result (λ origins. IsDivided graph.now block self.old.numbers self.old.count self.new.numbers self.new.count origins.items) }
-        ensures err { OnErr result (self.new ≡ self.old) }
-    {
-        turns.tick();
-        let origins = divide(
-            alloc,
-            graph,
-            &mut self.numbers,
-            &mut self.blocks,
-            &self.imports,
-            block,
-        )?;
-        Ok(origins)
-    }
-
     /// Divides every other block by the sets of acts of its members' edges into this one, which counts
     /// as one step. The piece of the least member keeps the block's number, and the further pieces get
     /// the next numbers, in the order of the numbers of the divided blocks and within one block of
@@ -120,7 +85,15 @@ impl Splitting {
         ensures ok { OnOk result (IsSplit graph.now block self.old.numbers self.new.numbers self.old.count self.new.count) }
         ensures err { OnErr result (self.new ≡ self.old) }
     {
-        self.split_from(alloc, graph, block, turns)?;
+        turns.tick();
+        divide(
+            alloc,
+            graph,
+            &mut self.numbers,
+            &mut self.blocks,
+            &self.imports,
+            block,
+        )?;
         Ok(())
     }
 }

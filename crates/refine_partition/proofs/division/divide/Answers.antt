@@ -26,13 +26,7 @@ returns c =
     record {
       numbered = divided_blocks c.args.graph.now _ _ _ _ _ _ _ _ _ c.requires.one_number_each c.requires.numbered planned total further c.in_ok-append.ensures.items kept;
       few = omega arith;
-      ok = record {
-        split = rw size planned.split;
-        size = size;
-        few = omega arith;
-        origin = planned.origin;
-        known = origin_known c.args.graph.now _ _ _ _ _ _ c.requires.one_number_each c.requires.numbered planned;
-      };
+      ok = rw size planned.split;
       numbers_err = tt;
       blocks_err = tt;
     }

@@ -3,7 +3,6 @@ use Rattle.refine_partition.proofs.partition.coarsest.Goals as goal
 
 pub returns-clause-coarsest : goal.returns-clause-coarsest
 returns-clause-coarsest g c =
-    let numbers = c.numbers.ensures in
-    let total = rw numbers at c.in_ok-numbers.ensures.total in
-    let numbering = rw numbers at c.in_ok-numbers.ensures.numbering in
-    rw c.in_ok-partition.ensures (coarsest_by_number _ _ _ _ c.in_ok-splitting.ensures.coarsest total numbering)
+    let total = rw c.deref.ensures.value at c.in_ok-numbers.ensures.total in
+    let numbering = rw c.deref.ensures.value at c.in_ok-numbers.ensures.numbering in
+    rw c.in_ok-partition.ensures (coarsest_by_number _ _ _ _ c.in_ok-blocks.ensures.coarsest total numbering)

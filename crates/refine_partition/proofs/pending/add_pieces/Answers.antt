@@ -6,6 +6,7 @@ use Rattle.refine_partition.proofs.pending.add_pieces.Goals as goal
 pub overflow_cast-piece : goal.overflow_cast-piece
 overflow_cast-piece c =
     let size = c.requires.size in
+    let few = c.requires.few in
     let now = c.loop-origin.invariant.size in
     let here = c.loop-origin-test.true in
     omega arith

@@ -7,12 +7,13 @@ use Rattle.refine_partition.proofs.pending.refined.Goals as goal
 
 pub loop-block-init : goal.loop-block-init
 loop-block-init g c =
-    let start = c.in_ok-splitting.ensures.start in
-    let all = rw c.blocks-2.ensures at c.in_ok-queue.ensures in
+    let start = c.in_ok-blocks.ensures.start in
+    let counted : c.len.result ≡ length c.in_ok-blocks.blocks.lists.items = search rules in
+    let all = rw counted at c.in_ok-queue.ensures in
     let few = start.few in
     let size = all.few in
     record {
-      of_graph = c.in_ok-splitting.ensures.of_graph;
+      settled = c.in_ok-blocks.ensures.settled;
       refining = refining_start _ _ _ _ start all.all all.known;
       size = all.size;
       marked = marked_all _ _ _ all;
@@ -32,11 +33,11 @@ loop-block-preserved g c =
     let popped : c.loop-block.queue.items ≡ c.pop_back.new.self.items ++ c.in-Some.block ∷ [] = c.in-Some.ensures.items in
     let before = c.loop-block.invariant in
     let known = left_known _ _ _ _ popped before.refining.known in
-    let size : length c.loop-block.waits.items ≡ c.loop-block.splitting.count = before.size in
-    let divided = c.in_ok-origins.ensures.ok in
+    let size : length c.loop-block.waits.items ≡ length c.loop-block.blocks.lists.items = before.size in
+    let divided = c.in_ok-origins.ensures.parted in
     let added = c.in_ok-add_pieces.ensures in
-    let marks : length (slice_set c.loop-block.waits.items c.in-Some.block false) ≡ c.loop-block.splitting.count = length-set _ _ _ ∙ size in
-    let waiting = rw (marks, c.deref.ensures.value) at added.waiting in
+    let marks : length (slice_set c.loop-block.waits.items c.in-Some.block false) ≡ length c.loop-block.blocks.lists.items = length-set _ _ _ ∙ size in
+    let waiting = rw (marks, c.deref-in-Some-2.ensures.value) at added.waiting in
     let refining = refining_turn _ _ _ _ _ _ _ _ _ _ before.refining (taken_or_left _ _ _ popped) known.0 divided waiting in
     let longer = ap length popped ∙ length_push _ _ in
     let few = waiting.few in
@@ -46,9 +47,9 @@ loop-block-preserved g c =
     let most = divided.few in
     let small = before.refining.small in
     record {
-      of_graph = c.in_ok-origins.ensures.of_graph;
+      settled = c.in_ok-origins.ensures.settled;
       refining = refining;
-      size = added.size;
+      size = added.size ∙ ap length c.deref-in-Some.ensures.value;
       marked = added.marked;
       bound = omega arith;
     }
@@ -56,4 +57,4 @@ loop-block-preserved g c =
 pub returns-clause-coarsest : goal.returns-clause-coarsest
 returns-clause-coarsest g c =
     let none : c.loop-block.queue.items ≡ [] = search rules in
-    refining_end _ _ _ (subst (IsRefining c.args.graph.now c.loop-block.splitting.numbers c.loop-block.splitting.count) none c.loop-block.invariant.refining)
+    refining_end _ _ _ (subst (IsRefining c.args.graph.now c.loop-block.blocks.numbers.items (length c.loop-block.blocks.lists.items)) none c.loop-block.invariant.refining)

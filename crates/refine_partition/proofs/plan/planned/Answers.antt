@@ -1,12 +1,22 @@
+use Rattle.std.proofs.Common.{◌≡◌, ℕ, Vec, ap, ◌∙◌}
+use Rattle.std.specs.declared.alloc.Global.{Global}
+use Rattle.base_kit.specs.Partition.{members_of}
+use Rattle.refine_partition.proofs.MemberLemmas.{members_are}
 use Rattle.refine_partition.proofs.PlanLemmas.{planned as planned_by, queue_is}
 use Rattle.refine_partition.proofs.plan.planned.Goals as goal
+
+pub arrivals_at-requires-clause-members : goal.arrivals_at-requires-clause-members
+arrivals_at-requires-clause-members c =
+    let read : c.deref.result.now ≡ members_of c.args.numbers.now c.args.taken =
+    c.deref.ensures.value ∙ ap (λ (v : Vec ℕ Global). v.items) c.index-blocks-taken.is ∙ c.requires.numbered.members.each c.args.taken _ c.requires.known in
+    rw read (members_are c.args.numbers.now c.args.taken)
 
 pub renumbered-requires-clause-queue : goal.renumbered-requires-clause-queue
 renumbered-requires-clause-queue c = rw c.deref-6.ensures.value (queue_is _ _ _ c.in_ok-queue.ensures)
 
 pub returns : goal.returns
 returns c = planned_by _ _ _ _ _ _ _ _ _ _ _ c.requires.one_number_each c.requires.numbered c.in_ok-arrivals.ensures.arrivals
-    (rw c.deref-2.ensures.value at c.in_ok-classes.ensures)
+    (rw (c.in_ok-classes.ensures, c.deref-2.ensures.value) at c.in_ok-class_count.ensures)
     c.in_ok-touched.ensures.in_order
     (rw c.deref-3.ensures.value at c.in_ok-touched.ensures.touched)
     (rw c.deref-4.ensures.value at c.in_ok-queue.ensures)

@@ -2,13 +2,13 @@ use Rattle.std.proofs.Common.{length, ◌-◌, ℕ, ◌<◌, ◌≤◌, take, sl
 use Rattle.refine_partition.specs.Arrivals.{act_of_import}
 use Rattle.refine_partition.specs.Classes.{AreClasses}
 use Rattle.refine_partition.specs.declared.imports.Import.{Import}
-use Rattle.refine_partition.proofs.classes.classes_of.Given as goal
+use Rattle.refine_partition.proofs.classes.divide_classes.Given as goal
 
 abbrev pub invariant-loop-start : goal.invariant-loop-start
 invariant-loop-start l = record {
   within : l.start ≤ length l.arrivals;
   apart : (i j : ℕ) (d : Import) → i < l.start → l.start ≤ j → j < length l.arrivals → act_of_import (slice_index_or l.arrivals i d) < act_of_import (slice_index_or l.arrivals j d);
-  classes : AreClasses l.numbers (take l.start l.arrivals) l.count l.classes.items l.next;
+  classes : AreClasses l.initial.classes.items (take l.start l.arrivals) l.count l.classes.items l.next;
 }
 
 abbrev pub decreases-loop-start : goal.decreases-loop-start

@@ -1,0 +1,383 @@
+-- The importers move into the pieces of their classes.
+use Rattle.std.proofs.Common.{◌≡◌, ◌≢◌, ℕ, zero, suc, ◌+◌, ◌-◌, ◌<◌, ◌≤◌, nat_eq, List, [], ◌∷◌, ◌++◌, length, slice_index_or, slice_set, take, All, Any, Contains, Option, Some, None, Vec, refl, sym, ◌∙◌, ap, subst, arith, inl, inr}
+use Rattle.std.specs.Prelude.{slice_index, ◌⊎◌}
+use Rattle.std.specs.HashMap.{get}
+use Rattle.std.specs.declared.alloc.Global.{Global}
+use Rattle.std.proofs.lemmas.Bool.{cases_eq, cases_lt}
+use Rattle.std.proofs.lemmas.List.{get_or-set_same, get_or-set_other, length_push, get_or_push, get_or_append_left, get_or_default}
+use Rattle.std.proofs.lemmas.List.Elements.{All-contains, All-weaker, All-push, All-get_or, Contains-append_left, Contains-push, Contains-push_cases}
+use Rattle.std.proofs.lemmas.Map.Steps.{le-length_from_below}
+use Rattle.std.proofs.Math.ListN.{length-set}
+use Rattle.refine_partition.specs.declared.imports.Import.{Import}
+use Rattle.refine_partition.specs.Classes.{ClassNames, AreClasses}
+use Rattle.refine_partition.specs.Loose.{AreListed, AreUsed, AreStaying, IsPieceOf, IsMoved, AreMoved}
+use Rattle.refine_partition.proofs.RenumberLemmas.{any_at}
+
+-- an edge of the list arrives at the router
+abbrev pub Arrives : List Import → ℕ → Type 0
+Arrives arrivals u = Any (λ a. a.importer ≡ u) arrivals
+
+pub arrives_or_not : (arrivals : List Import) (u : ℕ) → Arrives arrivals u ⊎ (¬ Arrives arrivals u)
+arrives_or_not [] u = inr (λ (k, a, inside, at, is). absurd (omega arith))
+arrives_or_not (x ∷ xs) u = elim (cases_eq x.importer u) [
+  | inl e ↦ inl (0, x, omega arith, refl, e)
+  | inr ne ↦ elim (arrives_or_not xs u) [
+    | inl found ↦ let (k, a, inside, at, is) = found in inl (suc k, a, omega arith, at, is)
+    | inr none ↦ inr (λ found. by x xs u ne none found)
+  ]
+]
+  where
+    by : (x : Import) (xs : List Import) (u : ℕ) → x.importer ≢ u → ¬ Arrives xs u → Arrives (x ∷ xs) u → ⊥
+    by x xs u ne none (zero, a, inside, at, is) = ne (ap (λ (b : Import). b.importer) at ∙ is)
+    by x xs u ne none (suc k, a, inside, at, is) = none (k, a, omega arith, at, is)
+
+arrives_before : (done : List Import) (arrival : Import) (u : ℕ) → Arrives done u → Arrives (done ++ arrival ∷ []) u
+arrives_before done arrival u (k, a, inside, at, is) =
+    let (j, within, at') = Contains-append_left done (arrival ∷ []) a (k, inside, at) in (j, a, within, at', is)
+
+arrives_last : (done : List Import) (arrival : Import) (u : ℕ) → arrival.importer ≡ u → Arrives (done ++ arrival ∷ []) u
+arrives_last done arrival u is = let (j, within, at) = Contains-push done arrival in (j, arrival, within, at, is)
+
+arrives_cases : (done : List Import) (arrival : Import) (u : ℕ) → Arrives (done ++ arrival ∷ []) u → Arrives done u ⊎ (arrival.importer ≡ u)
+arrives_cases done arrival u (k, a, inside, at, is) = elim (Contains-push_cases done arrival a (k, inside, at)) [
+  | inl (j, within, at') ↦ inl (j, a, within, at', is)
+  | inr e ↦ inr (ap (λ (b : Import). b.importer) e ∙ is)
+]
+
+all_arrive : (P : ℕ → Type 0) (arrivals : List Import) (u : ℕ) → All (λ a. P a.importer) arrivals → Arrives arrivals u → P u
+all_arrive P arrivals u all (k, a, inside, at, is) = subst P is (All-contains (λ a. P a.importer) arrivals a all (k, inside, at))
+
+-- a router of the class: it had the number, or the new block comes from its block
+pub record IsNamer (numbers classes : List ℕ) (before : ℕ) (origins : List ℕ) (class number : ℕ) : Type 0 where
+  pub router : ℕ
+  pub below : router < length numbers
+  pub class_is : slice_index classes router ≡ class
+  pub old : number < before → slice_index numbers router ≡ number
+  pub new : (k : ℕ) → number ≡ before + k → k < length origins → slice_index origins k ≡ slice_index numbers router
+
+-- what holds while the first importers have moved, with the numbers of their classes
+pub record Moving (numbers classes touched : List ℕ) (done : List Import) (before : ℕ) (next origins : List ℕ) (names : ℕ → Option ℕ) : Type 0 where
+  pub total : length next ≡ length numbers
+  pub rest : (u : ℕ) → u < length numbers → ¬ Arrives done u → slice_index next u ≡ slice_index numbers u
+  pub named : (u : ℕ) → u < length numbers → Arrives done u → names (slice_index classes u) ≡ Some (slice_index next u)
+  pub one : (a b number : ℕ) → names a ≡ Some number → names b ≡ Some number → a ≡ b
+  pub below : (class number : ℕ) → names class ≡ Some number → number < before + length origins
+  pub back : (class number : ℕ) → names class ≡ Some number → IsNamer numbers classes before origins class number
+  pub all_left : (class number : ℕ) → names class ≡ Some number → number < before → class ≢ number → (u : ℕ) → u < length numbers → slice_index numbers u ≡ number → slice_index classes u ≢ number
+  pub used : (k : ℕ) → k < length origins → (u : ℕ) × (u < length numbers) × Arrives done u × (slice_index next u ≡ before + k)
+  pub each : All (λ block. (class : ℕ) × (names class ≡ Some block)) touched
+
+pub moving_none : (numbers classes touched : List ℕ) (arrivals : List Import) (before : ℕ) (names : ClassNames) → AreStaying numbers classes touched names → All (λ n. n < before) numbers → Moving numbers classes touched (take 0 arrivals) before numbers [] (λ class. get nat_eq names class)
+moving_none numbers classes touched arrivals before names staying low =
+    let lower : (class number : ℕ) → get nat_eq names class ≡ Some number → number < before = λ class number found.
+    let (u, hu, is, has) = (staying.only class number found).1.member in
+    let lt : slice_index numbers u < before = All-get_or (λ n. n < before) numbers u 0 hu low in
+    omega arith in
+    record {
+      total = refl;
+      rest = λ u hu none. refl;
+      named = λ u hu (k, a, inside, at, is). absurd (omega arith);
+      one = staying.one;
+      below = λ class number found. let lt = lower class number found in omega arith;
+      back = λ class number found.
+          let (u, hu, is, has) = (staying.only class number found).1.member in
+          record { router = u; below = hu; class_is = has; old = λ lt. is; new = λ k at inside. absurd (omega arith) };
+      all_left = λ class number found lt ne u hu is. (staying.only class number found).1.all_left ne u hu is;
+      used = λ k inside. absurd (omega arith);
+      each = staying.each;
+    }
+
+-- the importer moves to the block of its class
+pub moving_known : (numbers classes touched : List ℕ) (done : List Import) (arrival : Import) (before : ℕ) (next next' origins : List ℕ) (names : ℕ → Option ℕ) (number : ℕ) → Moving numbers classes touched done before next origins names → arrival.importer < length numbers → names (slice_index classes arrival.importer) ≡ Some number → IsMoved next next' arrival.importer number → Moving numbers classes touched (done ++ arrival ∷ []) before next' origins names
+moving_known numbers classes touched done arrival before next next' origins names number so_far inside known moved =
+    let router : ℕ = arrival.importer in
+    let at : (u : ℕ) → router ≡ u → slice_index next' u ≡ number = λ u e. ap (slice_index next') (sym e) ∙ moved.here in
+    record {
+      total = moved.total ∙ so_far.total;
+      rest = λ u hu none. moved.others u (λ e. none (arrives_last done arrival u (sym e))) ∙ so_far.rest u hu (λ found. none (arrives_before done arrival u found));
+      named = λ u hu found. elim (cases_eq u router) [
+        | inl e ↦ ap names (ap (slice_index classes) e) ∙ known ∙ ap (λ n. Some n) (sym (at u (sym e)))
+        | inr ne ↦ elim (arrives_cases done arrival u found) [
+          | inl earlier ↦ so_far.named u hu earlier ∙ ap (λ n. Some n) (sym (moved.others u ne))
+          | inr e ↦ absurd (ne (sym e))
+        ]
+      ];
+      one = so_far.one;
+      below = so_far.below;
+      back = so_far.back;
+      all_left = so_far.all_left;
+      used = λ k within.
+          let (u, hu, found, is) = so_far.used k within in (
+            u,
+            hu,
+            arrives_before done arrival u found,
+            elim (cases_eq u router) [
+              | inl e ↦
+                  let named : names (slice_index classes router) ≡ Some (slice_index next u) = ap names (ap (slice_index classes) (sym e)) ∙ so_far.named u hu found in
+                  let same : number ≡ slice_index next u = cc in
+                  at u (sym e) ∙ same ∙ is
+              | inr ne ↦ moved.others u ne ∙ is
+            ],
+          );
+      each = so_far.each;
+    }
+
+-- the importer moves to a new block
+pub moving_new : (numbers classes touched : List ℕ) (done : List Import) (arrival : Import) (before : ℕ) (next next' origins origins' : List ℕ) (names names' : ℕ → Option ℕ) (number origin : ℕ) → Moving numbers classes touched done before next origins names → arrival.importer < length numbers → names (slice_index classes arrival.importer) ≡ None → number ≡ before + length origins → names' (slice_index classes arrival.importer) ≡ Some number → ((other : ℕ) → other ≢ slice_index classes arrival.importer → names' other ≡ names other) → origin ≡ slice_index next arrival.importer → origins' ≡ origins ++ origin ∷ [] → IsMoved next next' arrival.importer number → Moving numbers classes touched (done ++ arrival ∷ []) before next' origins' names'
+moving_new numbers classes touched done arrival before next next' origins origins' names names' number origin so_far inside none is_next named others origin_is pushed moved =
+    let router : ℕ = arrival.importer in
+    let class : ℕ = slice_index classes router in
+    let size : length origins' ≡ length origins + 1 = ap length pushed ∙ length_push origins origin in
+    let at : (u : ℕ) → router ≡ u → slice_index next' u ≡ number = λ u e. ap (slice_index next') (sym e) ∙ moved.here in
+    let not_yet : ¬ Arrives done router = λ found. let named_before = so_far.named router inside found in absurd cc in
+    let apart : (u : ℕ) → Arrives done u → u ≢ router = λ u found e. not_yet (subst (Arrives done) e found) in
+    let not_class : (u : ℕ) → u < length numbers → Arrives done u → slice_index classes u ≢ class = λ u hu found e.
+    let named_before : names class ≡ Some (slice_index next u) = ap names (sym e) ∙ so_far.named u hu found in absurd cc in
+    let by_class : (a n : ℕ) → names' a ≡ Some n → ((a ≡ class) × (n ≡ number)) ⊎ ((a ≢ class) × (names a ≡ Some n)) = λ a n found. elim (cases_eq a class) [
+      | inl e ↦ inl (e, let found' = ap names' (sym e) ∙ found in cc)
+      | inr ne ↦ inr (ne, sym (others a ne) ∙ found)
+    ] in
+    let prefix : (k : ℕ) → k < length origins → slice_index origins' k ≡ slice_index origins k = λ k within. ap (λ (xs : List ℕ). slice_index xs k) pushed ∙ get_or_append_left origins (origin ∷ []) 0 k within in
+    let last : (k : ℕ) → k ≡ length origins → slice_index origins' k ≡ origin = λ k e. ap (λ (xs : List ℕ). slice_index xs k) pushed ∙ get_or_push origins origin 0 k (sym e) in
+    record {
+      total = moved.total ∙ so_far.total;
+      rest = λ u hu away. moved.others u (λ e. away (arrives_last done arrival u (sym e))) ∙ so_far.rest u hu (λ found. away (arrives_before done arrival u found));
+      named = λ u hu found. elim (arrives_cases done arrival u found) [
+        | inl earlier ↦ others (slice_index classes u) (not_class u hu earlier) ∙ so_far.named u hu earlier ∙ ap (λ n. Some n) (sym (moved.others u (apart u earlier)))
+        | inr e ↦ ap names' (ap (slice_index classes) (sym e)) ∙ named ∙ ap (λ n. Some n) (sym (at u e))
+      ];
+      one = λ a b n first second. elim (by_class a n first) [
+        | inl e ↦ elim (by_class b n second) [
+          | inl e' ↦ e.0 ∙ sym e'.0
+          | inr o' ↦ let lt = so_far.below b n o'.1 in let e1 = e.1 in absurd (omega arith)
+        ]
+        | inr o ↦ elim (by_class b n second) [
+          | inl e' ↦ let lt = so_far.below a n o.1 in let e1 = e'.1 in absurd (omega arith)
+          | inr o' ↦ so_far.one a b n o.1 o'.1
+        ]
+      ];
+      below = λ a n found. elim (by_class a n found) [
+        | inl e ↦ let e1 = e.1 in omega arith
+        | inr o ↦ let lt = so_far.below a n o.1 in omega arith
+      ];
+      back = λ a n found. elim (by_class a n found) [
+        | inl e ↦ let e1 = e.1 in record {
+          router = router;
+          below = inside;
+          class_is = sym e.0;
+          old = λ lt. absurd (omega arith);
+          new = λ k is within. last k (omega arith) ∙ origin_is ∙ so_far.rest router inside not_yet;
+        }
+        | inr o ↦ let lt = so_far.below a n o.1 in let namer = so_far.back a n o.1 in record {
+          router = namer.router;
+          below = namer.below;
+          class_is = namer.class_is;
+          old = namer.old;
+          new = λ k is within. prefix k (omega arith) ∙ namer.new k is (omega arith);
+        }
+      ];
+      all_left = λ a n found lt ne. elim (by_class a n found) [
+        | inl e ↦ let e1 = e.1 in absurd (omega arith)
+        | inr o ↦ so_far.all_left a n o.1 lt ne
+      ];
+      used = λ k within. elim (cases_lt k (length origins)) [
+        | inl lt ↦ let (u, hu, found, is) = so_far.used k lt in (u, hu, arrives_before done arrival u found, moved.others u (apart u found) ∙ is)
+        | inr le ↦ (router, inside, arrives_last done arrival router refl, moved.here ∙ omega arith)
+      ];
+      each = All-weaker (λ b. (c : ℕ) × (names c ≡ Some b)) (λ b. (c : ℕ) × (names' c ≡ Some b)) (λ b (c, found). elim (cases_eq c class) [
+        | inl e ↦ let found' : names class ≡ Some b = ap names (sym e) ∙ found in absurd cc
+        | inr ne ↦ (c, others c ne ∙ found)
+      ]) touched so_far.each;
+    }
+
+-- no block is empty while importers move
+pub moving_used : (numbers classes touched : List ℕ) (done : List Import) (before : ℕ) (next origins : List ℕ) (names : ℕ → Option ℕ) → Moving numbers classes touched done before next origins names → AreUsed before numbers → All (λ a. Contains touched (slice_index numbers a.importer)) done → AreUsed (before + length origins) next
+moving_used numbers classes touched done before next origins names so_far used reached = λ number inside.
+    let total = so_far.total in
+    elim (cases_lt number before) [
+      | inl old ↦
+          let (u, hu, is) = used number old in
+          elim (arrives_or_not done u) [
+            | inl found ↦
+                let there : Contains touched number = subst (Contains touched) is (all_arrive (λ w. Contains touched (slice_index numbers w)) done u reached found) in
+                let (class, named) = All-contains (λ b. (c : ℕ) × (names c ≡ Some b)) touched number so_far.each there in
+                let namer = so_far.back class number named in
+                let w : ℕ = namer.router in
+                let hw = namer.below in (
+                  w,
+                  omega arith,
+                  elim (arrives_or_not done w) [
+                    | inl moved ↦
+                        let named' : names class ≡ Some (slice_index next w) = ap names (sym namer.class_is) ∙ so_far.named w hw moved in
+                        cc
+                    | inr none ↦ so_far.rest w hw none ∙ namer.old old
+                  ],
+                )
+            | inr none ↦ (u, omega arith, so_far.rest u hu none ∙ is)
+          ]
+      | inr new ↦
+          let (u, hu, found, is) = so_far.used (number - before) (omega arith) in
+          (u, omega arith, is ∙ omega arith)
+    ]
+
+-- no more blocks than routers, where none is empty
+pub used_few : (count : ℕ) (numbers : List ℕ) → AreUsed count numbers → count ≤ length numbers
+used_few count numbers used = le-length_from_below numbers count (λ q inside. let (u, hu, is) = used q inside in any_at numbers q u hu is)
+
+-- all importers have moved
+pub moved_all : (numbers classes touched : List ℕ) (arrivals : List Import) (before class_count : ℕ) (next origins : List ℕ) (names : ℕ → Option ℕ) → Moving numbers classes touched arrivals before next origins names → AreClasses numbers arrivals before classes class_count → All (λ n. n < before) numbers → AreUsed before numbers → All (λ a. Contains touched (slice_index numbers a.importer)) arrivals → AreMoved numbers classes arrivals before next origins
+moved_all numbers classes touched arrivals before class_count next origins names so_far are low used reached =
+    let below : (u : ℕ) → u < length numbers → slice_index numbers u < before = λ u hu. All-get_or (λ n. n < before) numbers u 0 hu low in
+    let high : (u : ℕ) → Arrives arrivals u → before ≤ slice_index classes u = λ u found. all_arrive (λ w. before ≤ slice_index classes w) arrivals u are.moved found in
+    let mixed : (u v : ℕ) → u < length numbers → v < length numbers → Arrives arrivals u → ¬ Arrives arrivals v → slice_index next u ≡ slice_index next v → ⊥ = λ u v hu hv found none same.
+    let lt = below v hv in
+    let stays = so_far.rest v hv none in
+    let named = so_far.named u hu found in
+    let at = high u found in
+    so_far.all_left (slice_index classes u) (slice_index next u) named (omega arith) (λ e. omega arith) v hv (sym stays ∙ sym same) (are.stay v hv none ∙ sym stays ∙ sym same) in
+    record {
+      total = so_far.total;
+      rest = so_far.rest;
+      together = λ u v hu hv same. elim (arrives_or_not arrivals u) [
+        | inl first ↦ elim (arrives_or_not arrivals v) [
+          | inl second ↦
+              let a = so_far.named u hu first in
+              let b = so_far.named v hv second in
+              let e = ap names same in cc
+          | inr none ↦ let at = high u first in let e = are.stay v hv none in let lt = below v hv in absurd (omega arith)
+        ]
+        | inr none ↦ elim (arrives_or_not arrivals v) [
+          | inl second ↦ let at = high v second in let e = are.stay u hu none in let lt = below u hu in absurd (omega arith)
+          | inr none' ↦ so_far.rest u hu none ∙ sym (are.stay u hu none) ∙ same ∙ are.stay v hv none' ∙ sym (so_far.rest v hv none')
+        ]
+      ];
+      apart = λ u v hu hv same. elim (arrives_or_not arrivals u) [
+        | inl first ↦ elim (arrives_or_not arrivals v) [
+          | inl second ↦ so_far.one (slice_index classes u) (slice_index classes v) (slice_index next u) (so_far.named u hu first) (so_far.named v hv second ∙ ap (λ n. Some n) (sym same))
+          | inr none ↦ absurd (mixed u v hu hv first none same)
+        ]
+        | inr none ↦ elim (arrives_or_not arrivals v) [
+          | inl second ↦ absurd (mixed v u hv hu second none (sym same))
+          | inr none' ↦ are.stay u hu none ∙ sym (so_far.rest u hu none) ∙ same ∙ so_far.rest v hv none' ∙ sym (are.stay v hv none')
+        ]
+      ];
+      kept = λ u hu small. elim (arrives_or_not arrivals u) [
+        | inl found ↦
+            let namer = so_far.back (slice_index classes u) (slice_index next u) (so_far.named u hu found) in
+            sym (namer.old small) ∙ are.same namer.router u namer.below hu namer.class_is
+        | inr none ↦ so_far.rest u hu none
+      ];
+      below = λ u hu. elim (arrives_or_not arrivals u) [
+        | inl found ↦ so_far.below (slice_index classes u) (slice_index next u) (so_far.named u hu found)
+        | inr none ↦ let lt = below u hu in let e = so_far.rest u hu none in omega arith
+      ];
+      origin = λ u k hu is. elim (arrives_or_not arrivals u) [
+        | inl found ↦
+            let named = so_far.named u hu found in
+            let lt = so_far.below (slice_index classes u) (slice_index next u) named in
+            let namer = so_far.back (slice_index classes u) (slice_index next u) named in
+            namer.new k is (omega arith) ∙ are.same namer.router u namer.below hu namer.class_is
+        | inr none ↦ let lt = below u hu in let e = so_far.rest u hu none in absurd (omega arith)
+      ];
+      used = moving_used numbers classes touched arrivals before next origins names so_far used reached;
+    }
+
+-- a router is listed in the block that it moves to
+pub listed_moved : (numbers numbers' : List ℕ) (lists : List (Vec ℕ Global)) (router number : ℕ) (list list' : Vec ℕ Global) → AreListed numbers lists → number < length lists → router < length numbers → IsMoved numbers numbers' router number → list ≡ slice_index_or lists number list → list'.items ≡ list.items ++ router ∷ [] → AreListed numbers' (slice_set lists number list')
+listed_moved numbers numbers' lists router number list list' listed known inside moved read pushed =
+    let size = length-set lists number list' in
+    let total = moved.total in
+    let here : (b : ℕ) (d : Vec ℕ Global) → b ≡ number → slice_index_or (slice_set lists number list') b d ≡ list' = λ b d e. ap (λ i. slice_index_or (slice_set lists number list') i d) e ∙ get_or-set_same lists number list' d known in
+    record {
+      below = λ u d hu. elim (cases_eq u router) [
+        | inl e ↦ let at = get_or_default numbers' u d 0 hu in let is = ap (slice_index numbers') e ∙ moved.here in omega arith
+        | inr ne ↦
+            let at = get_or_default numbers' u d 0 hu in
+            let is = moved.others u ne in
+            let lt : slice_index numbers u < length lists = listed.below u 0 (omega arith) in
+            omega arith
+      ];
+      routers = λ b d within. elim (cases_eq b number) [
+        | inl e ↦
+            let was : All (λ u. u < length numbers) list.items = subst (λ (v : Vec ℕ Global). All (λ u. u < length numbers) v.items) (sym read) (listed.routers number list known) in
+            rw (here b d e, pushed, total) (All-push (λ u. u < length numbers) list.items router was inside)
+        | inr ne ↦ rw (get_or-set_other lists number b list' d ne, total) (listed.routers b d (omega arith))
+      ];
+      members = λ u d hu. elim (cases_eq u router) [
+        | inl e ↦ rw (here (slice_index numbers' u) d (ap (slice_index numbers') e ∙ moved.here), pushed) (subst (Contains (list.items ++ router ∷ [])) (sym e) (Contains-push list.items router))
+        | inr ne ↦
+            let same = moved.others u ne in
+            let was : Contains (slice_index_or lists (slice_index numbers' u) d).items u = rw same (listed.members u d (omega arith)) in
+            elim (cases_eq (slice_index numbers' u) number) [
+              | inl e ↦
+                  let was' : Contains list.items u = subst (λ (v : Vec ℕ Global). Contains v.items u) (ap (λ i. slice_index_or lists i list) (sym same ∙ e) ∙ sym read) (listed.members u list (omega arith)) in
+                  rw (here (slice_index numbers' u) d e, pushed) (Contains-append_left list.items (router ∷ []) u was')
+              | inr other ↦ rw (get_or-set_other lists number (slice_index numbers' u) list' d other) was
+            ]
+      ];
+    }
+
+pub moved_here : (numbers : List ℕ) (router number : ℕ) → router < length numbers → IsMoved numbers (slice_set numbers router number) router number
+moved_here numbers router number inside = record {
+  total = length-set numbers router number;
+  here = get_or-set_same numbers router number 0 inside;
+  others = λ u ne. get_or-set_other numbers router u number 0 ne;
+}
+
+-- a new, empty block
+pub listed_new : (numbers : List ℕ) (lists : List (Vec ℕ Global)) (empty : Vec ℕ Global) → AreListed numbers lists → empty.items ≡ [] → AreListed numbers (lists ++ empty ∷ [])
+listed_new numbers lists empty listed none =
+    let size = length_push lists empty in
+    record {
+      below = All-weaker (λ n. n < length lists) (λ n. n < length (lists ++ empty ∷ [])) (λ n lt. omega arith) numbers listed.below;
+      routers = λ b d inside. elim (cases_lt b (length lists)) [
+        | inl lt ↦ rw (get_or_append_left lists (empty ∷ []) d b lt) (listed.routers b d lt)
+        | inr le ↦ rw (get_or_push lists empty d b (omega arith), none) (λ k e within. absurd (omega arith))
+      ];
+      members = λ u d hu.
+          let lt : slice_index numbers u < length lists = listed.below u 0 hu in
+          rw (get_or_append_left lists (empty ∷ []) d (slice_index numbers u) lt) (listed.members u d hu);
+    }
+
+-- the next importer moves
+pub moving_next : (numbers classes touched : List ℕ) (done : List Import) (arrival : Import) (before : ℕ) (next next' origins origins' : List ℕ) (names names' : ClassNames) (lists lists' : List (Vec ℕ Global)) (class number origin : ℕ) → Moving numbers classes touched done before next origins (λ c. get nat_eq names c) → length lists ≡ before + length origins → arrival.importer < length numbers → slice_index classes arrival.importer ≡ class → slice_index next arrival.importer ≡ origin → IsPieceOf names names' lists lists' origins origins' class origin number → IsMoved next next' arrival.importer number → Moving numbers classes touched (done ++ arrival ∷ []) before next' origins' (λ c. get nat_eq names' c)
+moving_next numbers classes touched done arrival before next next' origins origins' names names' lists lists' class number origin so_far size inside class_is origin_is piece moved = elim piece [
+  | inl (found, same_names, same_lists, same_origins) ↦
+      rw (same_names, same_origins) (moving_known numbers classes touched done arrival before next next' origins (λ c. get nat_eq names c) number so_far inside (ap (λ c. get nat_eq names c) class_is ∙ found) moved)
+  | inr new ↦
+      moving_new numbers classes touched done arrival before next next' origins origins' (λ c. get nat_eq names c) (λ c. get nat_eq names' c) number origin so_far inside
+      (ap (λ c. get nat_eq names c) class_is ∙ new.none)
+      (new.number_is ∙ size)
+      (ap (λ c. get nat_eq names' c) class_is ∙ new.named.named)
+      (λ other ne. new.named.others other (λ e. ne (e ∙ sym class_is)))
+      (sym origin_is)
+      new.origins_are
+      moved
+]
+
+-- the lists with the piece of a class
+pub piece_listed : (numbers : List ℕ) (names names' : ClassNames) (lists lists' : List (Vec ℕ Global)) (origins origins' : List ℕ) (class origin number : ℕ) → AreListed numbers lists → IsPieceOf names names' lists lists' origins origins' class origin number → AreListed numbers lists'
+piece_listed numbers names names' lists lists' origins origins' class origin number listed piece = elim piece [
+  | inl (found, same_names, same_lists, same_origins) ↦ rw same_lists listed
+  | inr new ↦ let (empty, none, pushed) = new.list in rw pushed (listed_new numbers lists empty listed none)
+]
+
+pub piece_size : (names names' : ClassNames) (lists lists' : List (Vec ℕ Global)) (origins origins' : List ℕ) (class origin number before : ℕ) → length lists ≡ before + length origins → IsPieceOf names names' lists lists' origins origins' class origin number → length lists' ≡ before + length origins'
+piece_size names names' lists lists' origins origins' class origin number before size piece = elim piece [
+  | inl (found, same_names, same_lists, same_origins) ↦ ap length same_lists ∙ size ∙ ap (λ (xs : List ℕ). before + length xs) (sym same_origins)
+  | inr new ↦
+      let (empty, none, pushed) = new.list in
+      let more = ap length pushed ∙ length_push lists empty in
+      let more' = ap length new.origins_are ∙ length_push origins origin in
+      omega arith
+]
+
+pub piece_known : (numbers classes touched : List ℕ) (done : List Import) (before : ℕ) (next : List ℕ) (names names' : ClassNames) (lists lists' : List (Vec ℕ Global)) (origins origins' : List ℕ) (class origin number : ℕ) → Moving numbers classes touched done before next origins (λ c. get nat_eq names c) → length lists ≡ before + length origins → IsPieceOf names names' lists lists' origins origins' class origin number → number < length lists'
+piece_known numbers classes touched done before next names names' lists lists' origins origins' class origin number so_far size piece = elim piece [
+  | inl (found, same_names, same_lists, same_origins) ↦ let lt = so_far.below class number found in let e = ap length same_lists in omega arith
+  | inr new ↦
+      let (empty, none, pushed) = new.list in
+      let more = ap length pushed ∙ length_push lists empty in
+      let is = new.number_is in
+      omega arith
+]

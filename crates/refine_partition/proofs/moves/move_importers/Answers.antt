@@ -1,0 +1,73 @@
+use Rattle.std.proofs.Common.{◌≡◌, ◌<◌, length, get_or, Contains, ◌∙◌, refl, sym, ap, arith}
+use Rattle.std.specs.Prelude.{slice_index}
+use Rattle.std.proofs.lemmas.List.{take_more, take_all, get_or_default}
+use Rattle.std.proofs.lemmas.List.Elements.{All-take}
+use Rattle.refine_partition.specs.declared.imports.Import.{Import}
+use Rattle.refine_partition.proofs.MoveLemmas.{moving_none, moving_used, used_few, moving_next, moved_all, piece_listed, piece_size, piece_known}
+use Rattle.refine_partition.proofs.moves.move_importers.Goals as goal
+
+pub staying_classes-requires-clause-used : goal.staying_classes-requires-clause-used
+staying_classes-requires-clause-used c = rw c.deref.ensures.value c.requires.used
+
+pub loop-arrival-init : goal.loop-arrival-init
+loop-arrival-init c =
+    let kept = c.in_ok-names.ensures in
+    let total = kept.total in
+    let none = ap length c.new-origins.ensures.items in
+    record {
+      total = omega arith;
+      listed = rw c.deref.ensures.value at kept.listed;
+      moving = rw c.new-origins.ensures.items (moving_none _ _ _ c.args.arrivals.now _ _ (rw c.deref.ensures.value at kept.staying) (rw total c.requires.listed.below));
+    }
+
+pub piece_of-requires : goal.piece_of-requires
+piece_of-requires c =
+    let before = c.loop-arrival.invariant in
+    let kept = c.in_ok-names.ensures.total in
+    let fits = c.requires.fits in
+    let used = moving_used _ _ _ _ _ _ _ _ before.moving (rw kept c.requires.used) (All-take (λ a. Contains c.args.touched.now (slice_index c.args.numbers.now.items a.importer)) c.loop-arrival.arrival-index _ c.requires.touched.all) in
+    let few = used_few _ _ used in
+    let total = before.total in
+    let size = before.moving.total in
+    record { few = omega arith }
+
+pub move_router-requires-clause-listed : goal.move_router-requires-clause-listed
+move_router-requires-clause-listed c = piece_listed _ _ _ _ _ _ _ _ _ _ c.loop-arrival.invariant.listed c.in_ok-number.ensures
+
+pub move_router-requires-clause-number : goal.move_router-requires-clause-number
+move_router-requires-clause-number c = piece_known _ _ _ _ _ _ _ _ _ _ _ _ _ _ _ c.loop-arrival.invariant.moving c.loop-arrival.invariant.total c.in_ok-number.ensures
+
+pub loop-arrival-preserved : goal.loop-arrival-preserved
+loop-arrival-preserved c =
+    let none : Import = record { importer = 0; act = 0 } in
+    let k = c.loop-arrival.arrival-index in
+    let here = c.loop-arrival-test.true in
+    let before = c.loop-arrival.invariant in
+    let piece = c.in_ok-number.ensures in
+    let moved = c.in_ok-move_router.ensures in
+    let arrival : Import = get_or c.args.arrivals.now k none in
+    let inside : arrival.importer < length c.args.numbers.now.items = c.requires.in_range k none here in
+    let size = before.moving.total in
+    let inside' : arrival.importer < length c.loop-arrival.numbers.items = omega arith in
+    let origin : slice_index c.loop-arrival.numbers.items arrival.importer ≡ c.index-origin.result.now = sym (c.index-origin.ensures ∙ get_or_default c.loop-arrival.numbers.items arrival.importer _ 0 inside') in
+    record {
+      total = moved.total ∙ piece_size _ _ _ _ _ _ _ _ _ _ before.total piece;
+      listed = moved.listed;
+      moving = rw (take_more c.args.arrivals.now k none here) (moving_next _ _ _ _ arrival _ _ _ _ _ _ _ _ _ _ _ _ before.moving before.total inside refl origin piece moved.moved);
+    }
+
+pub returns-clause-listed : goal.returns-clause-listed
+returns-clause-listed c = c.loop-arrival.invariant.listed
+
+pub returns-clause-total : goal.returns-clause-total
+returns-clause-total c =
+    let total = c.loop-arrival.invariant.total in
+    let kept = c.in_ok-names.ensures.total in
+    omega arith
+
+pub returns-clause-moved : goal.returns-clause-moved
+returns-clause-moved c =
+    let (next, are) = c.requires.classes in
+    let whole = take_all c.loop-arrival.arrival-index c.args.arrivals.now c.loop-arrival-test.false in
+    let moving = rw (whole, c.in_ok-names.ensures.total) at c.loop-arrival.invariant.moving in
+    moved_all _ _ _ _ _ _ _ _ _ moving are c.requires.listed.below c.requires.used c.requires.touched.all

@@ -1,0 +1,101 @@
+//! Moving the routers that edges reach into the pieces of their classes.
+
+ghost use Rattle.std.specs.Prelude.{◌≡◌, ℕ, ◌<◌, ◌+◌, ◌^◌, All, Any, IfOk, OnOk, length, slice_index};
+ghost use Rattle.std.specs.List.Sorted.{IsStrictlyIncreasing};
+ghost use Rattle.refine_partition.specs.Classes.{AreClasses};
+ghost use Rattle.refine_partition.specs.Loose.{AreListed, AreMoved, AreUsed, IsMoved, IsPieceOf};
+ghost use Rattle.refine_partition.specs.Touched.{AreTouched};
+
+use crate::imports::Import;
+use crate::staying::{name_class, staying_classes};
+use base_kit::NoMemory;
+use std::alloc::Global;
+use std::collections::HashMap;
+
+/// The number of a class: that of a new, empty block where it has none yet.
+fn piece_of(
+    alloc: Global,
+    names: &mut HashMap<usize, u32>,
+    lists: &mut Vec<Vec<u32>>,
+    origins: &mut Vec<u32>,
+    class: usize,
+    origin: u32,
+) -> Result<u32, NoMemory>
+    requires few { length lists.old.items < 2 ^ 32 }
+    ensures { IfOk result (λ number. IsPieceOf names.old names.new lists.old.items lists.new.items origins.old.items origins.new.items class origin number) }
+{
+    if let Some(number) = names.get(&class).copied() {
+        return Ok(number);
+    }
+    let number = lists.len() as u32;
+    lists.push(Vec::new(alloc))?;
+    origins.push(origin)?;
+    name_class(names, class, number)?;
+    Ok(number)
+}
+
+/// Moves a router to this block.
+fn move_router(
+    numbers: &mut Vec<u32>,
+    lists: &mut Vec<Vec<u32>>,
+    router: u32,
+    number: u32,
+) -> Result<(), NoMemory>
+    requires listed { AreListed numbers.old.items lists.old.items }
+    requires router { router < length numbers.old.items }
+    requires number { number < length lists.old.items }
+    ensures total { OnOk result (length lists.new.items ≡ length lists.old.items) }
+    ensures listed { OnOk result (AreListed numbers.new.items lists.new.items) }
+    ensures moved { OnOk result (IsMoved numbers.old.items numbers.new.items router number) }
+{
+    if numbers[router as usize] != number {
+        lists[number as usize].push(router)?;
+        numbers[router as usize] = number;
+    }
+    Ok(())
+}
+
+/// Moves the importers into the pieces of their classes, and gives for each new piece the block that it
+/// comes from.
+pub fn move_importers(
+    alloc: Global,
+    numbers: &mut Vec<u32>,
+    lists: &mut Vec<Vec<u32>>,
+    classes: &[usize],
+    touched: &[u32],
+    arrivals: &[Import],
+) -> Result<Vec<u32>, NoMemory>
+    requires fits { length numbers.old.items < 2 ^ 32 }
+    requires listed { AreListed numbers.old.items lists.old.items }
+    requires used { AreUsed (length lists.old.items) numbers.old.items }
+    requires in_range { All (λ a. a.importer < length numbers.old.items) arrivals.now }
+    requires classes { (next : ℕ) × AreClasses numbers.old.items arrivals.now (length lists.old.items) classes.now next }
+    requires touched { AreTouched numbers.old.items arrivals.now touched.now }
+    requires in_order { IsStrictlyIncreasing touched.now }
+    ensures listed { IfOk result (λ origins. AreListed numbers.new.items lists.new.items) }
+    ensures total { IfOk result (λ origins. length lists.new.items ≡ length lists.old.items + length origins.items) }
+    ensures moved { IfOk result (λ origins. AreMoved numbers.old.items classes.now arrivals.now (length lists.old.items) numbers.new.items origins.items) }
+{
+    let mut names = staying_classes(alloc, lists, numbers, classes, touched)?;
+    let mut origins = Vec::new(alloc);
+    for arrival in arrivals {
+        let router = arrival.importer;
+        let class = classes[router as usize];
+        let origin = numbers[router as usize];
+        let number = piece_of(alloc, &mut names, lists, &mut origins, class, origin)?;
+        move_router(numbers, lists, router, number)?;
+    }
+    Ok(origins)
+}
+
+/// Lets the class of each importer be its block again.
+pub fn settle(classes: &mut Vec<usize>, numbers: &[u32], arrivals: &[Import])
+    requires one_class_each { length classes.old.items ≡ length numbers.now }
+    requires in_range { All (λ a. a.importer < length numbers.now) arrivals.now }
+    requires rest { (u : ℕ) → u < length numbers.now → ¬ Any (λ a. a.importer ≡ u) arrivals.now → slice_index classes.old.items u ≡ slice_index numbers.now u }
+    ensures { classes.new.items ≡ numbers.now }
+{
+    for arrival in arrivals {
+        classes[arrival.importer as usize] = numbers[arrival.importer as usize] as usize;
+    }
+}

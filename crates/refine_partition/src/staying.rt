@@ -1,0 +1,70 @@
+//! The pieces that keep the numbers of their blocks.
+
+ghost use Rattle.std.specs.Prelude.{◌≡◌, ◌<◌, All, IfOk, OnOk, length};
+ghost use Rattle.std.specs.List.Sorted.{IsStrictlyIncreasing};
+ghost use Rattle.refine_partition.specs.Loose.{AreFiner, AreListed, AreStaying, AreUsed, HasMember, IsNamedAs, IsStayingClass, IsStillListed};
+
+use base_kit::NoMemory;
+use std::alloc::Global;
+use std::collections::HashMap;
+
+/// The class of a block's members that keeps its number: that of the members that no edge reaches, where
+/// there are any. Routers that have left the block are dropped from its list where they are met.
+fn staying_class(list: &mut Vec<u32>, numbers: &[u32], classes: &[usize], block: u32) -> usize
+    requires routers { All (λ u. u < length numbers.now) list.old.items }
+    requires one_class_each { length classes.now ≡ length numbers.now }
+    requires some { HasMember numbers.now block list.old.items }
+    ensures listed { IsStillListed numbers.now block list.old.items list.new.items }
+    ensures staying { IsStayingClass numbers.now classes.now block list.old.items result }
+{
+    let mut place = 0;
+    while place < list.len() {
+        let router = list[place];
+        if numbers[router as usize] != block {
+            list.swap_remove(place);
+        } else if classes[router as usize] == block as usize {
+            return block as usize;
+        } else {
+            place += 1;
+        }
+    }
+    classes[list[0] as usize]
+}
+
+/// Gives the class this number.
+pub fn name_class(
+    names: &mut HashMap<usize, u32>,
+    class: usize,
+    number: u32,
+) -> Result<(), NoMemory>
+    ensures { OnOk result (IsNamedAs names.old names.new class number) }
+{
+    names.insert(class, number)?;
+    Ok(())
+}
+
+/// The classes that keep the numbers of these blocks.
+pub fn staying_classes(
+    alloc: Global,
+    lists: &mut Vec<Vec<u32>>,
+    numbers: &[u32],
+    classes: &[usize],
+    blocks: &[u32],
+) -> Result<HashMap<usize, u32>, NoMemory>
+    requires listed { AreListed numbers.now lists.old.items }
+    requires used { AreUsed (length lists.old.items) numbers.now }
+    requires one_class_each { length classes.now ≡ length numbers.now }
+    requires finer { AreFiner numbers.now classes.now }
+    requires known { All (λ block. block < length lists.old.items) blocks.now }
+    requires in_order { IsStrictlyIncreasing blocks.now }
+    ensures total { IfOk result (λ names. length lists.new.items ≡ length lists.old.items) }
+    ensures listed { IfOk result (λ names. AreListed numbers.now lists.new.items) }
+    ensures staying { IfOk result (AreStaying numbers.now classes.now blocks.now) }
+{
+    let mut names = HashMap::new(alloc);
+    for block in blocks {
+        let class = staying_class(&mut lists[*block as usize], numbers, classes, *block);
+        name_class(&mut names, class, *block)?;
+    }
+    Ok(names)
+}

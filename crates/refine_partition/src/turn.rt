@@ -1,0 +1,97 @@
+//! A turn of the refinement, which costs what the edges into one block reach.
+
+ghost use Rattle.std.specs.Prelude.{◌≡◌, ℕ, ◌<◌, ◌+◌, ◌≤◌, IfOk, Vec, length, slice_index_or};
+ghost use Rattle.std.specs.declared.alloc.Global.{Global as TheGlobal};
+ghost use Rattle.refine_partition.specs.Index.{IsImportIndex};
+ghost use Rattle.refine_partition.specs.Loose.{AreListed, AreParted, AreSettled};
+ghost use Rattle.refine_partition.specs.Members.{AreMembers};
+ghost use Rattle.refine_partition.specs.Splits.{IsStart};
+
+use crate::arrivals::arrivals_at;
+use crate::blocks::blocks_of;
+use crate::classes::{divide_classes, widened};
+use crate::division::has_number;
+use crate::imports::Import;
+use crate::moves::{move_importers, settle};
+use crate::numbering::numbers_of;
+use crate::touched::touched_blocks;
+use base_kit::{ActGraph, NoMemory, Steps};
+use std::alloc::Global;
+use std::sync::ledger::Ledger;
+
+/// Routers in numbered blocks. The list of a block has all its members, in any order, and maybe routers
+/// that have left it: each is dropped where it is met. The class of a router is its block between turns.
+#[derive(Drop)]
+pub struct LooseBlocks {
+    pub numbers: Vec<u32>,
+    pub lists: Vec<Vec<u32>>,
+    pub classes: Vec<usize>,
+}
+
+/// One block per color.
+pub fn start(alloc: Global, graph: &ActGraph) -> Result<LooseBlocks, NoMemory>
+    ensures start { IfOk result (λ b. IsStart graph.now b.numbers.items (length b.lists.items)) }
+    ensures settled { IfOk result (λ b. AreSettled b.numbers.items b.classes.items b.lists.items) }
+{
+    let _count = graph.count;
+    let (numbers, count) = numbers_of(alloc, graph.colors.as_slice())?;
+    let lists = blocks_of(alloc, &numbers, count)?;
+    let classes = widened(alloc, &numbers)?;
+    Ok(LooseBlocks {
+        numbers,
+        lists,
+        classes,
+    })
+}
+
+/// Drops from the list of a block the routers that have left it.
+fn keep_members(lists: &mut Vec<Vec<u32>>, numbers: &[u32], block: u32)
+    requires listed { AreListed numbers.now lists.old.items }
+    requires known { block < length lists.old.items }
+    ensures total { length lists.new.items ≡ length lists.old.items }
+    ensures listed { AreListed numbers.now lists.new.items }
+    ensures members { (d : Vec ℕ TheGlobal) → AreMembers numbers.now block (slice_index_or lists.new.items block d).items }
+{
+    lists[block as usize].retain(|router| has_number(numbers, *router, block));
+}
+
+/// Divides all other blocks by the acts of their members' edges into the taken one, which counts as one
+/// step, and gives for each new piece the block that it comes from. One piece of each divided block keeps
+/// its number.
+pub fn turn<L: Ledger>(
+    alloc: Global,
+    graph: &ActGraph,
+    imports: &[Vec<Import>],
+    blocks: &mut LooseBlocks,
+    taken: u32,
+    turns: &mut Steps<L>,
+) -> Result<Vec<u32>, NoMemory>
+    requires one_number_each { length blocks.old.numbers.items ≡ graph.now.count }
+    requires settled { AreSettled blocks.old.numbers.items blocks.old.classes.items blocks.old.lists.items }
+    requires few { length blocks.old.lists.items ≤ graph.now.count }
+    requires one_list_each { length imports.now ≡ graph.now.count }
+    requires index { IsImportIndex graph.now.edges imports.now }
+    requires known { taken < length blocks.old.lists.items }
+    ensures tick { turns.new ≡ turns.old + 1 }
+    ensures settled { IfOk result (λ origins. AreSettled blocks.new.numbers.items blocks.new.classes.items blocks.new.lists.items) }
+    ensures parted { IfOk result (λ origins. AreParted graph.now taken blocks.old.numbers.items blocks.new.numbers.items (length blocks.old.lists.items) (length blocks.new.lists.items) origins.items) }
+{
+    turns.tick();
+    let _count = graph.count;
+    let count = blocks.lists.len() as u32;
+    keep_members(&mut blocks.lists, &blocks.numbers, taken);
+    let members = &blocks.lists[taken as usize];
+    let arrivals = arrivals_at(alloc, graph, imports, &blocks.numbers, members, taken)?;
+    let _next = divide_classes(alloc, &mut blocks.classes, &arrivals, count)?;
+    let touched = touched_blocks(alloc, &blocks.numbers, &arrivals)?;
+    let origins = move_importers(
+        alloc,
+        &mut blocks.numbers,
+        &mut blocks.lists,
+        &blocks.classes,
+        &touched,
+        &arrivals,
+    )?;
+    settle(&mut blocks.classes, &blocks.numbers, &arrivals);
+    Ok(origins)
+}
