@@ -12,6 +12,9 @@ use std::alloc::Global;
 // As many lines as a word has bits.
 const CHUNK: usize = 64;
 
+// So many lines are looked at one by one: to fill a table takes longer.
+const FEW: usize = 16;
+
 // A row for each hexadecimal digit at each of the eight places of an address.
 const ROWS: u32 = 128;
 
@@ -19,14 +22,14 @@ const ROWS: u32 = 128;
 ///
 /// For each digit at each place there is a row of words, whose bits tell which lines agree with an
 /// address that has the digit there. A look-up takes some steps for each 64 lines, whatever their
-/// wildcards are.
+/// wildcards are. A few lines have no rows.
 #[derive(Drop)]
 pub(crate) struct AreaTable<'a> {
     pub(crate) lines: &'a [AreaLine],
     chunks: usize,
     words: Vec<u64>,
     pub ghost rows: { HasRows words.items lines.now chunks 128 },
-    pub ghost covers: { length lines.now ≤ chunks * 64 },
+    pub ghost covers: { 0 < chunks → length lines.now ≤ chunks * 64 },
 }
 
 fn digit_at(number: u32, place: u32) -> u32
@@ -84,12 +87,24 @@ fn push_row(
     Ok(())
 }
 
+// How many words a row has for so many lines: none for a few.
+fn chunks_for(count: usize) -> usize
+    ensures rows { result * 64 ≤ count + 63 }
+    ensures covers { 0 < result → count ≤ result * 64 }
+{
+    if count <= FEW {
+        0
+    } else {
+        count.div_ceil(CHUNK)
+    }
+}
+
 impl<'a> AreaTable<'a> {
     /// The table of the lines.
     pub(crate) fn of(alloc: Global, lines: &'a [AreaLine]) -> Result<AreaTable<'a>, NoMemory>
         ensures { IfOk result (λ table. table.lines.now ≡ lines.now) }
     {
-        let chunks = lines.len().div_ceil(CHUNK);
+        let chunks = chunks_for(lines.len());
         let mut words = Vec::new(alloc);
         for row in 0..ROWS {
             push_row(&mut words, lines, chunks, row)?;
@@ -126,8 +141,9 @@ impl<'a> AreaTable<'a> {
             & self.bits_at(chunk, addr, 7)
     }
 
-    /// Whether some line has the address.
-    pub(crate) fn has_address(&self, addr: u32) -> bool
+    // The same by the rows.
+    fn has_in_rows(&self, addr: u32) -> bool
+        requires { 0 < self.now.chunks }
         ensures { result ≡ list_any (λ (line : AreaLine). line_has_address line addr) self.now.lines.now }
     {
         for chunk in 0..self.chunks {
@@ -136,5 +152,16 @@ impl<'a> AreaTable<'a> {
             }
         }
         false
+    }
+
+    /// Whether some line has the address.
+    pub(crate) fn has_address(&self, addr: u32) -> bool
+        ensures { result ≡ list_any (λ (line : AreaLine). line_has_address line addr) self.now.lines.now }
+    {
+        if self.chunks == 0 {
+            self.lines.iter().any(|line| line.has_address(addr))
+        } else {
+            self.has_in_rows(addr)
+        }
     }
 }

@@ -1,4 +1,5 @@
 ghost use Rattle.std.specs.Prelude.{◌≡◌, ◌≤◌, IfOk, OnOk, map, flat_map};
+ghost use Rattle.std.specs.List.{list_any};
 ghost use Rattle.cfg_ast.specs.meaning.RouterFaults.{address_line, repeats, overlap, overlapping_in};
 ghost use Rattle.cfg_check.specs.LeastLine.{least_line};
 ghost use Rattle.cfg_check.specs.Blocks.{block_of, lies_in_one, meets, AddsAround, AddsSubnet};
@@ -9,6 +10,9 @@ use base_kit::NoMemory;
 use cfg_ast::{Address, Router};
 use std::alloc::Global;
 use std::collections::HashSet;
+
+// So many subnets are compared in pairs: to put them into sets takes longer.
+const FEW: usize = 64;
 
 /// The blocks of the subnets that were seen so far, each by its length and its number among the blocks
 /// of that length.
@@ -66,7 +70,32 @@ fn keep_subnet(subnets: &mut HashSet<(u8, u32)>, address: Address) -> Result<(),
     Ok(())
 }
 
-// The least line of an address whose subnet overlaps an earlier one.
+fn overlap(address: Address, other: Address) -> bool
+    ensures { result ≡ overlap address other }
+{
+    let len = address.len().min(other.len());
+    block(address, len) == block(other, len)
+}
+
+fn overlaps_one(others: &[Address], address: Address) -> bool
+    ensures { result ≡ list_any (overlap address) others.now }
+{
+    others.iter().any(|other| overlap(address, *other))
+}
+
+// The least line of an address whose subnet overlaps an earlier one, each pair compared.
+fn overlapping_pairs(addresses: &[Address]) -> Option<u32>
+    ensures { result ≡ least_line (map address_line (repeats overlap addresses.now)) }
+{
+    let mut least = None;
+    for (place, address) in addresses.iter().enumerate() {
+        let overlaps = overlaps_one(&addresses[..place], *address);
+        least = with_line_if(least, overlaps, address.line());
+    }
+    least
+}
+
+// The same by the blocks in which the subnets lie.
 fn overlapping(alloc: Global, addresses: &[Address]) -> Result<Option<u32>, NoMemory>
     ensures { IfOk result (λ line. line ≡ least_line (map address_line (repeats overlap addresses.now))) }
 {
@@ -88,6 +117,9 @@ fn overlapping_of(alloc: Global, router: &Router) -> Result<Option<u32>, NoMemor
 {
     let mut addresses = Vec::new(alloc);
     push_up_addresses(&mut addresses, router.interfaces.as_slice())?;
+    if addresses.len() <= FEW {
+        return Ok(overlapping_pairs(addresses.as_slice()));
+    }
     overlapping(alloc, addresses.as_slice())
 }
 

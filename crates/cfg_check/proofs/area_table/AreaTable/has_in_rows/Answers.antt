@@ -4,7 +4,7 @@ use Rattle.cfg_ast.specs.meaning.Topology.{line_has_address}
 use Rattle.cfg_check.specs.AreaTables.{agrees_below}
 use Rattle.cfg_check.proofs.AreaBits.{agrees_in_all, none_in_chunk, one_in_chunk, none_in_all}
 use Rattle.cfg_check.proofs.BlockLemmas.{any_same}
-use Rattle.cfg_check.proofs.area_table.AreaTable.has_address.Goals as goal
+use Rattle.cfg_check.proofs.area_table.AreaTable.has_in_rows.Goals as goal
 
 pub loop-chunk-preserved : goal.loop-chunk-preserved
 loop-chunk-preserved c = none_in_chunk (agrees_below 8 c.args.addr) c.args.self.now.lines.now c.loop-chunk.chunk c.bits_having.result c.bits_having.ensures c.if-bits_having-ne0.false c.loop-chunk.invariant
