@@ -1,4 +1,4 @@
-ghost use Rattle.std.specs.Prelude.{◌≡◌, ◌++◌, length, map, if◌then◌else◌, Some};
+ghost use Rattle.std.specs.Prelude.{◌≡◌, ◌++◌, length, map, if◌then◌else◌, Some, bytes_eq};
 ghost use Rattle.std.specs.List.{AllByRecursion};
 ghost use Rattle.std.specs.Option.{option_map};
 ghost use Rattle.cfg_ast.specs.text.Heads.{is_word_for, begins, longest, longer, class_in, heads_of, policy_heads_of};
@@ -14,15 +14,26 @@ use cfg_ast::{HeadClass, PolicyScope, Scope, Span};
 #[derive(Clone, Copy)]
 pub(crate) struct Head(pub &'static [&'static str], pub HeadClass);
 
+// The lengths tell most words apart, and cost no call.
+fn are_same(head_word: &[u8], word: &[u8]) -> bool
+    ensures { result ≡ bytes_eq head_word.now word.now }
+{
+    head_word.len() == word.len() && head_word == word
+}
+
+#[tactic(auto, unfolding(cfg_ast::specs::text::Heads::is_word_for))]
 fn is_word_for(head_word: &str, word: &[u8]) -> bool
     ensures { result ≡ is_word_for head_word.now word.now }
 {
-    if head_word == "A" {
-        true
-    } else if head_word == "100-500" {
-        read_between(word, 100, 500).is_some()
-    } else {
-        head_word.as_bytes() == word
+    match head_word.as_bytes() {
+        b"A" => true,
+        letters => {
+            if are_same(letters, b"100-500") {
+                read_between(word, 100, 500).is_some()
+            } else {
+                are_same(letters, word)
+            }
+        }
     }
 }
 
