@@ -3,8 +3,11 @@ pub mod BridgeLemmas
 pub mod BuiltLemmas
 pub mod CaseLemmas
 pub mod CrossLemmas
+pub mod DecideLemmas
 pub mod DeletionLemmas
 pub mod EdgeLemmas
+pub mod EitherLemmas
+pub mod ExactLemmas
 pub mod ImportLemmas
 pub mod JoinLemmas
 pub mod KeptLemmas

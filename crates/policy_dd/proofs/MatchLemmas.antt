@@ -16,7 +16,7 @@ use Rattle.dd_core.specs.Sets.{Shown, value_of, Grows, Means, IsIteOfSets}
 use Rattle.dd_core.proofs.ShownLemmas.{value_of_kept, grows_inside, means_kept}
 use Rattle.policy_dd.specs.declared.matches.Carried.{Carried}
 use Rattle.policy_dd.specs.Tables.{node_at}
-use Rattle.policy_dd.specs.Matches.{has_in, AreNodesInside, exact_part, exact_by, line_by, list_by}
+use Rattle.policy_dd.specs.Matches.{has_in, AreNodesInside, line_by, list_by}
 use Rattle.policy_dd.proofs.TableLemmas.{case_at, case_not_at, case_inside, case_kept, cases_inside_kept}
 
 -- the item before a place, and those from it on
@@ -98,52 +98,18 @@ all_step old mid mid' new carried c rest later here node inside g g' of_later of
   value = λ set. is.value set ∙ rw (of_here.value set, has_in_kept old mid carried set c g inside, (means_kept mid mid' later (λ set. list_all (has_in old carried set) rest) g' of_later).value set) refl;
 }
 
-abbrev pub wanted_by : (ℕ → Bool) → List ℕ → ℕ → Bool
-wanted_by there wants c = if has wants c then there c else not (there c)
-
-wanted_kept : (old mid : Shown) (carried : Carried) (wants : List ℕ) (set : List ℕ) (c : ℕ) → Grows old mid → AreNodesInside old carried → wanted_by (has_in mid carried set) wants c ≡ wanted_by (has_in old carried set) wants c
-wanted_kept old mid carried wants set c g inside = rw (has_in_kept old mid carried set c g inside) refl
-
-and_assoc : (a b c : Bool) → a && (b && c) ≡ (a && b) && c
+pub and_assoc : (a b c : Bool) → a && (b && c) ≡ (a && b) && c
 and_assoc true b c = refl
 and_assoc false b c = refl
-
-pub exact_step : (old mid mid' new : Shown) (carried : Carried) (wants : List ℕ) (c : ℕ) (rest : List ℕ) (want : Bool) (start later here node : ℕ) → AreNodesInside old carried → want ≡ has wants c → Grows old mid → Grows mid mid' → Means mid later (λ set. exact_part (has_in old carried set) wants rest && value_of old set start) → Means mid' here (λ set. if want then has_in mid carried set c else not (has_in mid carried set c)) → Means new node (λ set. value_of mid' set here && value_of mid' set later) → Means new node (λ set. exact_part (has_in old carried set) wants (c ∷ rest) && value_of old set start)
-exact_step old mid mid' new carried wants c rest want start later here node inside e g g' of_later of_here is = record {
-  inside = is.inside;
-  value = λ set.
-      let v = of_here.value set ∙ ap (λ b. if b then has_in mid carried set c else not (has_in mid carried set c)) e ∙ wanted_kept old mid carried wants set c g inside in
-      let w = (means_kept mid mid' later (λ set. exact_part (has_in old carried set) wants rest && value_of old set start) g' of_later).value set in
-      is.value set ∙ ap (λ b. b && value_of mid' set later) v ∙ ap (λ b. wanted_by (has_in old carried set) wants c && b) w
-      ∙ and_assoc (wanted_by (has_in old carried set) wants c) (exact_part (has_in old carried set) wants rest) (value_of old set start);
-}
 
 pub there_kept : (old mid : Shown) (carried : Carried) (set : List ℕ) → Grows old mid → AreNodesInside old carried → has_in mid carried set ≡ has_in old carried set
 there_kept old mid carried set g inside = fun_ext (λ c. has_in_kept old mid carried set c g inside)
 
-and_swap : (a b : Bool) → a && b ≡ b && a
+pub and_swap : (a b : Bool) → a && b ≡ b && a
 and_swap true true = refl
 and_swap true false = refl
 and_swap false true = refl
 and_swap false false = refl
-
-pub exactly_is : (old mid new : Shown) (carried : Carried) (wants universe : List ℕ) (none node : ℕ) → AreNodesInside old carried → Grows old mid → universe ≡ old.universe → Means mid none (λ set. not (value_of old set carried.others)) → Means new node (λ set. exact_part (has_in mid carried set) wants universe && value_of mid set none) → Means new node (λ set. exact_by old.universe (has_in old carried set) (value_of old set carried.others) wants)
-exactly_is old mid new carried wants universe none node inside g e of_none is = record {
-  inside = is.inside;
-  value = λ set.
-      is.value set
-      ∙ ap (λ b. exact_part (has_in mid carried set) wants universe && b) (of_none.value set)
-      ∙ ap (λ (t : ℕ → Bool). exact_part t wants universe && not (value_of old set carried.others)) (there_kept old mid carried set g inside)
-      ∙ ap (λ (u : List ℕ). exact_part (has_in old carried set) wants u && not (value_of old set carried.others)) e
-      ∙ and_swap (exact_part (has_in old carried set) wants old.universe) (not (value_of old set carried.others));
-}
-
--- where others are always carried, no set is exactly the wanted one
-pub exactly_never : (shown : Shown) (carried : Carried) (wants : List ℕ) (always never : ℕ) → Means shown always (λ _. true) → ((set : List ℕ) → value_of shown set carried.others ≡ value_of shown set always) → Means shown never (λ _. false) → Means shown never (λ set. exact_by shown.universe (has_in shown carried set) (value_of shown set carried.others) wants)
-exactly_never shown carried wants always never of_always same is = record {
-  inside = is.inside;
-  value = λ set. is.value set ∙ sym (ap (λ b. not b && exact_part (has_in shown carried set) wants shown.universe) (same set ∙ of_always.value set));
-}
 
 -- a test of lines, and of lists, in a store that has grown
 pub line_kept : (old mid : Shown) (carried : Carried) (set : List ℕ) (exact : Bool) → Grows old mid → AreNodesInside old carried → line_by mid.universe (has_in mid carried set) (value_of mid set carried.others) exact ≡ line_by old.universe (has_in old carried set) (value_of old set carried.others) exact
@@ -151,19 +117,6 @@ line_kept old mid carried set exact g inside =
     ap (λ (u : List ℕ). line_by u (has_in mid carried set) (value_of mid set carried.others) exact) g.universe
     ∙ ap (λ (t : ℕ → Bool). line_by old.universe t (value_of mid set carried.others) exact) (there_kept old mid carried set g inside)
     ∙ ap (λ (b : Bool). line_by old.universe (has_in old carried set) b exact) (value_of_kept old mid set carried.others g inside.others)
-
-pub answer_step : (old mid mid' new : Shown) (carried : Carried) (exact : Bool) (lines rest : List CommunityLine) (line : CommunityLine) (later here permit place : ℕ) → AreNodesInside old carried → lines ≡ line ∷ rest → Grows old mid → Grows mid mid' →
-    Means mid later (λ set. first_line_decides (line_by old.universe (has_in old carried set) (value_of old set carried.others) exact) rest) →
-    Means mid' here (λ set. line_by mid.universe (has_in mid carried set) (value_of mid set carried.others) exact line) →
-    Means mid' permit (λ _. line.permit) → IsIteOfSets mid' new here permit later place →
-    Means new place (λ set. first_line_decides (line_by old.universe (has_in old carried set) (value_of old set carried.others) exact) lines)
-answer_step old mid mid' new carried exact lines rest line later here permit place inside e g g' of_later of_here of_permit ite = record {
-  inside = ite.inside;
-  value = λ set.
-      let v = of_here.value set ∙ ap (λ (t : CommunityLine → Bool). t line) (line_kept old mid carried set exact g inside) in
-      let w = (means_kept mid mid' later (λ set. first_line_decides (line_by old.universe (has_in old carried set) (value_of old set carried.others) exact) rest) g' of_later).value set in
-      ite.value set ∙ rw (v, w, of_permit.value set, e) refl;
-}
 
 pub lists_step : (old mid mid' new : Shown) (carried : Carried) (exact : Bool) (lists rest : List CommunityList) (list : CommunityList) (items : List CommunityLine) (later here place : ℕ) → items ≡ list.lines → AreNodesInside old carried → lists ≡ list ∷ rest → Grows old mid → Grows mid mid' →
     Means mid later (λ set. list_any (list_by old.universe (has_in old carried set) (value_of old set carried.others) exact) rest) →
@@ -184,12 +137,6 @@ none_left {X} xs n e = drop_of_length-le xs (omega arith)
 
 pub all_none : (shown : Shown) (carried : Carried) (comms : List ℕ) (n node : ℕ) → n ≡ length comms → Means shown node (λ _. true) → Means shown node (λ set. list_all (has_in shown carried set) (drop n comms))
 all_none shown carried comms n node e is = means_at shown node (λ _. true) (λ set. list_all (has_in shown carried set) (drop n comms)) is (λ set. sym (ap (λ (l : List ℕ). list_all (has_in shown carried set) l) (none_left comms n e)))
-
-pub exact_none : (shown : Shown) (carried : Carried) (wants comms : List ℕ) (n start : ℕ) → n ≡ length comms → start < length shown.nodes → Means shown start (λ set. exact_part (has_in shown carried set) wants (drop n comms) && value_of shown set start)
-exact_none shown carried wants comms n start e inside = record { inside = inside; value = λ set. sym (ap (λ (l : List ℕ). exact_part (has_in shown carried set) wants l && value_of shown set start) (none_left comms n e)) }
-
-pub answer_none : (shown : Shown) (carried : Carried) (exact : Bool) (lines : List CommunityLine) (n node : ℕ) → n ≡ length lines → Means shown node (λ _. false) → Means shown node (λ set. first_line_decides (line_by shown.universe (has_in shown carried set) (value_of shown set carried.others) exact) (drop n lines))
-answer_none shown carried exact lines n node e is = means_at shown node (λ _. false) (λ set. first_line_decides (line_by shown.universe (has_in shown carried set) (value_of shown set carried.others) exact) (drop n lines)) is (λ set. sym (ap (λ (l : List CommunityLine). first_line_decides (line_by shown.universe (has_in shown carried set) (value_of shown set carried.others) exact) l) (none_left lines n e)))
 
 pub lists_none : (shown : Shown) (carried : Carried) (exact : Bool) (lists : List CommunityList) (n node : ℕ) → n ≡ length lists → Means shown node (λ _. false) → Means shown node (λ set. list_any (list_by shown.universe (has_in shown carried set) (value_of shown set carried.others) exact) (drop n lists))
 lists_none shown carried exact lists n node e is = means_at shown node (λ _. false) (λ set. list_any (list_by shown.universe (has_in shown carried set) (value_of shown set carried.others) exact) (drop n lists)) is (λ set. sym (ap (λ (l : List CommunityList). list_any (list_by shown.universe (has_in shown carried set) (value_of shown set carried.others) exact) l) (none_left lists n e)))

@@ -260,7 +260,7 @@ module _ (s0 s1 s2 s3 : Shown) (carried : Carried) (m : MapFn) (entry : PlainEnt
     odd = more_from s0 s3 s4 m.odd r.odd (λ key set. not (beq (leaves entry key) (leaves_unnamed entry)) && value_of s3 set decides) (λ key set. decides_by s0 carried m set entry && is_odd key entry) to3 im.odd taken.odd (λ k set. and_decides k set (not (beq (leaves entry k) (leaves_unnamed entry))) on);
   }
 
-entry_kept : (old mid : Shown) (carried : Carried) (set : List ℕ) → Grows old mid → AreNodesInside old carried → entry_by mid.universe (has_in mid carried set) (value_of mid set carried.others) ≡ entry_by old.universe (has_in old carried set) (value_of old set carried.others)
+pub entry_kept : (old mid : Shown) (carried : Carried) (set : List ℕ) → Grows old mid → AreNodesInside old carried → entry_by mid.universe (has_in mid carried set) (value_of mid set carried.others) ≡ entry_by old.universe (has_in old carried set) (value_of old set carried.others)
 entry_kept old mid carried set g inside =
     ap (λ (u : List ℕ). entry_by u (has_in mid carried set) (value_of mid set carried.others)) g.universe
     ∙ ap (λ (t : ℕ → Bool). entry_by old.universe t (value_of mid set carried.others)) (there_kept old mid carried set g inside)

@@ -3,6 +3,7 @@ pub mod Built
 pub mod Compare
 pub mod Deletion
 pub mod Edge
+pub mod Exact
 pub mod Import
 pub mod Imports
 pub mod MapRun

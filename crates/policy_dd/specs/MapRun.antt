@@ -1,14 +1,14 @@
 -- What the entry of a route map that decides does, as nodes.
-use Rattle.std.specs.Prelude.{◌≡◌, ℕ, ◌<◌, ◌≤◌, Bool, true, false, not, ◌&&◌, ◌||◌, nat_eq, List, length, Option}
+use Rattle.std.specs.Prelude.{◌≡◌, ℕ, ◌<◌, ◌≤◌, Bool, true, false, not, ◌&&◌, ◌||◌, nat_eq, List, length, Option, if◌then◌else◌}
 use Rattle.std.specs.Bool.{beq}
 use Rattle.std.specs.Option.{unwrap_or, is_some}
 use Rattle.base_kit.specs.Sets.{has, IsAscending}
 use Rattle.route_maps.specs.declared.plain.PlainEntry.{PlainEntry}
-use Rattle.dd_core.specs.Sets.{Shown, value_of}
+use Rattle.dd_core.specs.Sets.{Shown, Means, value_of}
 use Rattle.policy_dd.specs.declared.map_run.MapFn.{MapFn}
 use Rattle.policy_dd.specs.declared.matches.Carried.{Carried}
 use Rattle.policy_dd.specs.Edge.{case_or, keys_of}
-use Rattle.policy_dd.specs.Tables.{AllInside, IsTable}
+use Rattle.policy_dd.specs.Tables.{AllInside, IsTable, IsTableGrown}
 use Rattle.policy_dd.specs.Deletion.{put_by_change, leaves, leaves_unnamed}
 use Rattle.policy_dd.specs.Matches.{has_in, entry_by, first_of, decided}
 
@@ -96,3 +96,24 @@ pub record IsMapFn (old new : Shown) (carried : Carried) (entries : List PlainEn
   pub adds : IsTable new m.adds (λ key set. decided (adds_it key) (deciding old carried set entries))
   pub present : IsTable new m.present (λ key set. decided (puts key) (deciding old carried set entries))
   pub odd : IsTable new m.odd (λ key set. decided (is_odd key) (deciding old carried set entries))
+
+pub record AreTablesAscending (m : MapFn) : Type 0 where
+  pub lps : IsAscending (keys_of m.lps)
+  pub adds : IsAscending (keys_of m.adds)
+  pub present : IsAscending (keys_of m.present)
+  pub odd : IsAscending (keys_of m.odd)
+
+-- the table, joined to the other one where no entry of the first part holds
+abbrev pub IsTableOfEither : Shown → Shown → ℕ → List (ℕ × ℕ) → List (ℕ × ℕ) → List (ℕ × ℕ) → Type 0
+IsTableOfEither old new sooner first last cases =
+    IsTableGrown old new first cases (keys_of last) (λ k set. not (value_of old set sooner) && case_or old set last k false)
+
+-- the first part where one of its entries holds, and elsewhere the last
+pub record IsEither (old new : Shown) (first last m : MapFn) : Type 0 where
+  pub before : Means new m.before (λ set. value_of old set first.before || value_of old set last.before)
+  pub permit : Means new m.permit (λ set. if value_of old set first.before then value_of old set first.permit else value_of old set last.permit)
+  pub rest : Means new m.rest (λ set. if value_of old set first.before then value_of old set first.rest else value_of old set last.rest)
+  pub lps : IsTableOfEither old new first.before first.lps last.lps m.lps
+  pub adds : IsTableOfEither old new first.before first.adds last.adds m.adds
+  pub present : IsTableOfEither old new first.before first.present last.present m.present
+  pub odd : IsTableOfEither old new first.before first.odd last.odd m.odd

@@ -9,14 +9,14 @@
 mod after;
 mod deletion;
 mod edge;
+mod either;
+mod exact;
 mod join;
 pub mod laws;
 mod map_run;
 mod matches;
 mod session;
 mod tables;
-#[cfg(test)]
-mod tests;
 
 pub use edge::{EdgeFn, accepts_some, same, several};
 pub use session::edge_fn;

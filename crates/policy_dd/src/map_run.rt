@@ -1,14 +1,16 @@
-ghost use Rattle.std.specs.Prelude.{◌≡◌, ◌<◌, ◌≤◌, length, IfOk, ◌&&◌, ◌||◌};
+ghost use Rattle.std.specs.Prelude.{◌≡◌, ◌<◌, ◌≤◌, [], length, IfOk, ◌&&◌, ◌||◌};
 ghost use Rattle.std.specs.List.{AllByRecursion};
 ghost use Rattle.base_kit.specs.Sets.{has};
 ghost use Rattle.route_maps.specs.Within.{IsEntryWithin};
 ghost use Rattle.dd_core.specs.Sets.{value_of, Grows, Means};
+ghost use Rattle.policy_dd.specs.declared.matches.Carried.{Carried};
 ghost use Rattle.policy_dd.specs.Deletion.{put_by_change};
 ghost use Rattle.policy_dd.specs.MapRun.{AreMapInside, IsEntryTaken, IsPushed, IsMapFn};
 ghost use Rattle.policy_dd.specs.Matches.{AreNodesInside};
 ghost use Rattle.policy_dd.specs.Tables.{AllInside, IsTableGrown, IsMoreBy};
 
 use crate::deletion::left_by;
+use crate::either::either;
 use crate::matches::{Carried, entry_node, without};
 use crate::tables::{or_all, or_into};
 use base_kit::{List, NoMemory};
@@ -150,7 +152,7 @@ fn push_entry(
     ensures grows { Grows store.old store.new }
     ensures pushed { IfOk result (λ r. IsPushed store.old store.new carried.now m r entry.now) }
 {
-    let here = entry_node(store, carried, entry)?;
+    let here = entry_node(alloc, store, carried, entry)?;
     let decides = without(store, here, m.before)?;
     let before = store.or(m.before, here)?;
     if !entry.permit {
@@ -163,8 +165,24 @@ fn push_entry(
     Ok(pushed)
 }
 
-/// What the entries of a map do to what is carried into it: the first that holds decides. A few
-/// operations on diagrams for each entry, and one for each community that it names.
+/// What no entries do.
+fn no_entries(alloc: Global, store: &Store) -> MapFn
+    ensures { (carried : Carried) → IsMapFn store.now store.now carried [] result }
+{
+    let never = store.constant(false);
+    MapFn {
+        before: never,
+        permit: never,
+        rest: never,
+        lps: List::new(alloc),
+        adds: List::new(alloc),
+        present: List::new(alloc),
+        odd: List::new(alloc),
+    }
+}
+
+/// What the entries of a map do to what is carried into it: the first that holds decides. Both halves
+/// are run first, so that a large diagram is not made again for each entry.
 pub fn run_map(
     alloc: Global,
     store: &mut Store,
@@ -176,18 +194,19 @@ pub fn run_map(
     ensures grows { Grows store.old store.new }
     ensures run { IfOk result (IsMapFn store.old store.new carried.now entries.now) }
 {
-    let never = store.constant(false);
-    let mut m = MapFn {
-        before: never,
-        permit: never,
-        rest: never,
-        lps: List::new(alloc),
-        adds: List::new(alloc),
-        present: List::new(alloc),
-        odd: List::new(alloc),
-    };
-    for entry in entries {
-        m = push_entry(alloc, store, carried, m, entry)?;
+    match entries {
+        [] => Ok(no_entries(alloc, store)),
+        [entry] => {
+            let none = no_entries(alloc, store);
+            let m = push_entry(alloc, store, carried, none, entry)?;
+            Ok(m)
+        }
+        _ => {
+            let (front, back) = entries.split_at(entries.len() / 2);
+            let first = run_map(alloc, store, carried, front)?;
+            let last = run_map(alloc, store, carried, back)?;
+            let m = either(store, first, &last)?;
+            Ok(m)
+        }
     }
-    Ok(m)
 }

@@ -1,16 +1,18 @@
-ghost use Rattle.std.specs.Prelude.{◌≡◌, ◌<◌, length, IfOk, IfSome, ◌&&◌, not, if◌then◌else◌, true};
+ghost use Rattle.std.specs.Prelude.{◌≡◌, ◌<◌, ◌∷◌, [], length, IfOk, IfSome, ◌&&◌, not, true};
 ghost use Rattle.std.specs.List.{list_all, list_any, AllByRecursion};
 ghost use Rattle.base_kit.specs.Sets.{has};
 ghost use Rattle.cfg_ast.specs.meaning.Lists.{first_line_decides};
 ghost use Rattle.route_maps.specs.Within.{AreWithin, IsLineWithin, AreListsWithin};
 ghost use Rattle.dd_core.specs.Sets.{value_of, Grows, Means};
-ghost use Rattle.policy_dd.specs.Matches.{has_in, AreNodesInside, exact_part, exact_by, line_by, list_by, entry_by};
+ghost use Rattle.policy_dd.specs.Matches.{has_in, AreNodesInside, IsDecision, IsInside, IsFirstDecision, line_by, list_by, entry_by};
 
+use crate::exact::exact_answer;
 use crate::tables::node_of;
-use base_kit::{Community, List, NoMemory, NumSet};
+use base_kit::{Community, List, NoMemory};
 use cfg_ast::{CommunityLine, CommunityList};
-use dd_core::{NodeId, Store, is_same};
+use dd_core::{NodeId, Store};
 use route_maps::PlainEntry;
+use std::alloc::Global;
 
 /// What a route carries, by the set that it began with: communities with nodes of their own, the other
 /// communities of the set where `rest` is true, and some community outside the universe where `others`
@@ -69,88 +71,80 @@ fn all_node(store: &mut Store, carried: &Carried, communities: &[u32]) -> Result
     Ok(all)
 }
 
-/// The sets on which the community is carried just where it is wanted.
-fn wanted(
-    store: &mut Store,
-    carried: &Carried,
-    community: u32,
-    want: bool,
-) -> Result<NodeId, NoMemory>
-    requires inside { AreNodesInside store.old carried.now }
-    requires known { has store.old.universe community ≡ true }
-    ensures grows { Grows store.old store.new }
-    ensures wanted { IfOk result (λ node. Means store.new node (λ set. if want then has_in store.old carried.now set community else not (has_in store.old carried.now set community))) }
-{
-    let there = condition(store, carried, community)?;
-    if want {
-        return Ok(there);
-    }
-    let node = store.not(there)?;
-    Ok(node)
+/// What the lines of a list say: where one of them holds, and where the first that holds permits.
+#[derive(Clone, Copy, Debug)]
+pub struct Decision {
+    pub holds: NodeId,
+    pub permits: NodeId,
 }
 
-/// The sets on which exactly the wanted ones of the communities are carried, and `start` is true. The last
-/// community comes first.
-fn exact_node(
+fn decision_of_line(
     store: &mut Store,
     carried: &Carried,
-    wants: &NumSet,
-    communities: &[u32],
-    start: NodeId,
-) -> Result<NodeId, NoMemory>
-    requires inside { AreNodesInside store.old carried.now }
-    requires known { AreWithin store.old.universe communities.now }
-    requires start { start < length store.old.nodes }
-    ensures grows { Grows store.old store.new }
-    ensures exact { IfOk result (λ node. Means store.new node (λ set. exact_part (has_in store.old carried.now set) wants.now communities.now && value_of store.old set start)) }
-{
-    let mut exact = start;
-    let mut place = communities.len();
-    while place > 0 {
-        place -= 1;
-        let community = communities[place];
-        let here = wanted(store, carried, community, wants.has(community))?;
-        exact = store.and(here, exact)?;
-    }
-    Ok(exact)
-}
-
-/// The sets on which exactly the wanted communities are carried: none where others are always carried.
-fn exactly(store: &mut Store, carried: &Carried, wants: &NumSet) -> Result<NodeId, NoMemory>
-    requires inside { AreNodesInside store.old carried.now }
-    ensures grows { Grows store.old store.new }
-    ensures exact { IfOk result (λ node. Means store.new node (λ set. exact_by store.old.universe (has_in store.old carried.now set) (value_of store.old set carried.now.others) wants.now)) }
-{
-    if is_same(store, carried.others, store.constant(true)) {
-        return Ok(store.constant(false));
-    }
-    let universe = store.universe().copy()?;
-    let none = store.not(carried.others)?;
-    let node = exact_node(store, carried, wants, universe.as_slice(), none)?;
-    Ok(node)
-}
-
-/// The sets on which the line holds.
-fn line_node(
-    store: &mut Store,
-    carried: &Carried,
-    exact: bool,
     line: &CommunityLine,
-) -> Result<NodeId, NoMemory>
+) -> Result<Decision, NoMemory>
     requires inside { AreNodesInside store.old carried.now }
-    requires known { IsLineWithin store.old.universe line.now }
+    requires known { AreWithin store.old.universe line.now.comms }
     ensures grows { Grows store.old store.new }
-    ensures line { IfOk result (λ node. Means store.new node (λ set. line_by store.old.universe (has_in store.old carried.now set) (value_of store.old set carried.now.others) exact line.now)) }
+    ensures decision { IfOk result (IsDecision store.old store.new carried.now (line.now ∷ [])) }
 {
-    if exact {
-        exactly(store, carried, &line.comms)
-    } else {
-        all_node(store, carried, line.comms.as_slice())
+    let holds = all_node(store, carried, line.comms.as_slice())?;
+    if line.permit {
+        return Ok(Decision {
+            holds,
+            permits: holds,
+        });
+    }
+    let permits = store.constant(false);
+    Ok(Decision { holds, permits })
+}
+
+/// What lines say of which `first` tells those in front, and `last` the others.
+fn first_decides(store: &mut Store, first: &Decision, last: &Decision) -> Result<Decision, NoMemory>
+    requires first_inside { IsInside store.old first.now }
+    requires last_inside { IsInside store.old last.now }
+    ensures grows { Grows store.old store.new }
+    ensures joined { IfOk result (IsFirstDecision store.old store.new first.now last.now) }
+{
+    let holds = store.or(first.holds, last.holds)?;
+    let permits = store.ite(first.holds, first.permits, last.permits)?;
+    Ok(Decision { holds, permits })
+}
+
+/// What the lines say. Both halves are made first: so the work goes with the size of the diagrams, and
+/// a large one is not made again for each line.
+fn decision_of(
+    store: &mut Store,
+    carried: &Carried,
+    lines: &[CommunityLine],
+) -> Result<Decision, NoMemory>
+    requires inside { AreNodesInside store.old carried.now }
+    requires known { AllByRecursion (IsLineWithin store.old.universe) lines.now }
+    ensures grows { Grows store.old store.new }
+    ensures decision { IfOk result (IsDecision store.old store.new carried.now lines.now) }
+{
+    match lines {
+        [] => {
+            let never = store.constant(false);
+            Ok(Decision {
+                holds: never,
+                permits: never,
+            })
+        }
+        [line] => decision_of_line(store, carried, line),
+        _ => {
+            let (front, back) = lines.split_at(lines.len() / 2);
+            let first = decision_of(store, carried, front)?;
+            let last = decision_of(store, carried, back)?;
+            let decision = first_decides(store, &first, &last)?;
+            Ok(decision)
+        }
     }
 }
 
-/// The sets on which the first line that holds permits, the last line first.
+/// The sets on which the first line that holds permits.
 fn answer_node(
+    alloc: Global,
     store: &mut Store,
     carried: &Carried,
     exact: bool,
@@ -161,20 +155,16 @@ fn answer_node(
     ensures grows { Grows store.old store.new }
     ensures answer { IfOk result (λ node. Means store.new node (λ set. first_line_decides (line_by store.old.universe (has_in store.old carried.now set) (value_of store.old set carried.now.others) exact) lines.now)) }
 {
-    let mut answer = store.constant(false);
-    let mut place = lines.len();
-    while place > 0 {
-        place -= 1;
-        let line = &lines[place];
-        let here = line_node(store, carried, exact, line)?;
-        let permit = store.constant(line.permit);
-        answer = store.ite(here, permit, answer)?;
+    if exact {
+        return exact_answer(alloc, store, carried, lines);
     }
-    Ok(answer)
+    let decision = decision_of(store, carried, lines)?;
+    Ok(decision.permits)
 }
 
 /// The sets on which one of the lists permits.
 fn lists_node(
+    alloc: Global,
     store: &mut Store,
     carried: &Carried,
     exact: bool,
@@ -190,7 +180,7 @@ fn lists_node(
     while place > 0 {
         place -= 1;
         let list = &lists[place];
-        let here = answer_node(store, carried, exact, list.lines.as_slice())?;
+        let here = answer_node(alloc, store, carried, exact, list.lines.as_slice())?;
         any = store.or(here, any)?;
     }
     Ok(any)
@@ -198,6 +188,7 @@ fn lists_node(
 
 /// The sets on which the entry holds.
 pub fn entry_node(
+    alloc: Global,
     store: &mut Store,
     carried: &Carried,
     entry: &PlainEntry,
@@ -208,7 +199,7 @@ pub fn entry_node(
     ensures entry { IfOk result (λ node. Means store.new node (λ set. entry_by store.old.universe (has_in store.old carried.now set) (value_of store.old set carried.now.others) entry.now)) }
 {
     match &entry.lists {
-        Some(lists) => lists_node(store, carried, entry.exact, lists.as_slice()),
+        Some(lists) => lists_node(alloc, store, carried, entry.exact, lists.as_slice()),
         None => Ok(store.constant(true)),
     }
 }
