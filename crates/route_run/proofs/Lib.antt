@@ -8,7 +8,9 @@ pub mod ShortPaths
 pub mod Walks
 pub mod RoundsEnough
 pub mod OneOrder
+mod HasOrder
 pub mod AlikeRuns
+mod NoneLone
 mod NameTexts
 mod ScheduleRouters
 mod WordsLeft

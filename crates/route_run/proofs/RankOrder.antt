@@ -43,7 +43,7 @@ first_pair R x [] j d h less = absurd (omega arith)
 first_pair R x (y ∷ ys) zero d h less = h y (inl refl)
 first_pair R x (y ∷ ys) (suc j) d h less = first_pair R x ys j d (λ z i. h z (inr i)) (omega arith)
 
-ordered_pairs : {X : Type 0} (R : X → X → Type 0) (xs : List X) → IsOrdered R xs → AllPairs R xs
+pub ordered_pairs : {X : Type 0} (R : X → X → Type 0) (xs : List X) → IsOrdered R xs → AllPairs R xs
 ordered_pairs R [] o i j d less inside = absurd (omega arith)
 ordered_pairs R (x ∷ xs) o zero zero d less inside = absurd (omega arith)
 ordered_pairs R (x ∷ xs) o zero (suc j) d less inside = first_pair R x xs j d o.0 (omega arith)

@@ -1,14 +1,15 @@
 -- So many rounds bring a network without lone routers to rest.
-use Rattle.std.proofs.Common.{◌≡◌, ◌⊎◌, ℕ, suc, ◌+◌, ◌*◌, ◌-◌, ◌<◌, ◌≤◌, List, Option, Some, refl, sym, subst, arith, inl, inr, mul-one}
+use Rattle.std.proofs.Common.{◌≡◌, ◌⊎◌, ℕ, suc, ◌+◌, ◌*◌, ◌-◌, ◌<◌, ◌≤◌, List, Option, Some, refl, sym, ◌∙◌, subst, arith, inl, inr, mul-one}
 use Rattle.std.specs.Prelude.{All}
+use Rattle.std.proofs.lemmas.Bool.{cases_Bool}
 use Rattle.std.proofs.lemmas.Nat.{mul-le}
 use Rattle.base_kit.proofs.Elements.{In}
 use Rattle.base_kit.specs.declared.protocol.Protocol.{Protocol}
 use Rattle.base_kit.specs.declared.protocol.Protocol.TheVariants.{Bgp as OverBgp, Ospf as OverOspf}
 use Rattle.srp_core.specs.declared.route.Route.{Route}
-use Rattle.srp_core.specs.Problem.{Problem, count, IsProblem}
+use Rattle.srp_core.specs.Problem.{Problem, count, is_lone, IsProblem}
 use Rattle.srp_core.specs.Stability.{label, IsStable}
-use Rattle.srp_core.proofs.Offers.{label_in, candidate_offer, offer_route}
+use Rattle.srp_core.proofs.Offers.{label_in, candidate_offer, offer_route, lone_bgp}
 use Rattle.srp_core.proofs.Filling.{nothing}
 use Rattle.route_run.specs.Activations.{labels_after, no_labels}
 use Rattle.route_run.specs.Rounds.{HasRounds, HasNoLone, PrependsAtMost, enough_rounds}
@@ -44,6 +45,19 @@ module _ (P : Problem) (good : IsProblem P) (none_lone : HasNoLone P) (p : ℕ) 
   pub rounds_enough : IsStable P (labels_after P (no_labels P) run)
   rounds_enough = elim (cases_protocol P.protocol) [ inl bgp ↦ bgp_enough bgp | inr ospf ↦ ospf_enough ospf ]
 
+-- no router is lone in OSPF
+ospf_none_lone : (P : Problem) → IsProblem P → P.protocol ≡ OverOspf → HasNoLone P
+ospf_none_lone P good ospf u h = elim (cases_Bool (is_lone P u)) [
+  | inl lone ↦ (let clash : OverBgp ≡ OverOspf = sym (lone_bgp P good u h lone) ∙ ospf in absurd cc)
+  | inr not ↦ not
+]
+
 -- the same of labels that are those after the run
 pub rounds_enough_by : (P : Problem) → IsProblem P → (run : List ℕ) → All (λ u. u < count P) run → (labels : List (Option Route)) → labels ≡ labels_after P (no_labels P) run → (most : ℕ) → HasNoLone P → PrependsAtMost P most → HasRounds P (enough_rounds P most) run → IsStable P labels
 rounds_enough_by P good run inside labels is most none_lone few has = subst (IsStable P) (sym is) (rounds_enough P good none_lone most few run (λ u i. all_in (λ v. v < count P) run u inside i) has)
+
+-- in OSPF so many rounds are enough as there are routers
+pub ospf_enough_by : (P : Problem) → IsProblem P → (run : List ℕ) → All (λ u. u < count P) run → (labels : List (Option Route)) → labels ≡ labels_after P (no_labels P) run → P.protocol ≡ OverOspf → HasRounds P (count P) run → IsStable P labels
+ospf_enough_by P good run inside labels is ospf has =
+    subst (IsStable P) (sym is)
+    (ospf_rounds P good (ospf_none_lone P good ospf) ospf (count P) run (no_labels P) (no_labels_fit P) (λ u r e. nothing P u r e) (λ u i. all_in (λ v. v < count P) run u inside i) (omega arith) has)

@@ -1,63 +1,108 @@
 ghost use Rattle.std.specs.Prelude.{◌≡◌, ◌≢◌, ◌<◌, IfOk, OnErr, MatchBool, true};
-ghost use Rattle.srp_core.specs.Problem.{count};
+ghost use Rattle.srp_core.specs.Problem.{count, IsProblem};
 ghost use Rattle.srp_core.specs.Stability.{label, AreLabels};
-ghost use Rattle.route_run.specs.Activations.{activated, chosen_label};
+ghost use Rattle.route_run.specs.Activations.{activated, chosen_label, no_labels};
 ghost use Rattle.route_run.specs.Choices.{IsChoice};
-ghost use Rattle.route_run.specs.Lone.{HasLoneNumbers};
 
 use crate::choosing::{Choice, choose};
-use crate::lone::lone_numbers;
 use base_kit::NoMemory;
+use solution_check::lone_numbers;
 use srp_core::{Labels, Srp};
 use std::alloc::Global;
 use std::collections::HashSet;
+use std::marker::Model;
 
-/// What a router chooses, by the labels as they stand.
-pub(crate) fn choice(
+/// Activates the routers of a problem, any number of times. It has looked through the problem once, so
+/// that an activation goes over the edges of its router alone.
+#[derive(Drop)]
+pub struct Runner<'a> {
     alloc: Global,
-    srp: &Srp,
-    lone: &HashSet<u32>,
-    labels: &Labels,
-    router: u32,
-) -> Result<Choice, NoMemory>
-    requires router { router < count srp.now }
-    requires labels { AreLabels srp.now labels.now }
-    requires lone { HasLoneNumbers srp.now lone.now }
-    ensures { IfOk result (IsChoice (chosen_label srp.now labels.now router) (label labels.now router)) }
-{
-    let candidates = srp.candidates(labels, router)?;
-    choose(alloc, lone, candidates, &labels.as_slice()[router as usize])
+    srp: &'a Srp,
+    lone: HashSet<u32>,
 }
 
-/// Activates a router, by the numbers of lone routers.
-pub(crate) fn activate_by(
-    alloc: Global,
-    srp: &Srp,
-    lone: &HashSet<u32>,
-    labels: &mut Labels,
-    router: u32,
-) -> Result<bool, NoMemory>
-    requires router { router < count srp.now }
-    requires labels { AreLabels srp.now labels.old }
-    requires lone { HasLoneNumbers srp.now lone.now }
-    ensures ok { IfOk result (λ _. labels.new ≡ activated srp.now labels.old router) }
-    ensures changed { IfOk result (λ changed. MatchBool changed (labels.new ≢ labels.old) (labels.new ≡ labels.old)) }
-    ensures err { OnErr result (labels.new ≡ labels.old) }
-    ensures labels { AreLabels srp.now labels.new }
-{
-    let _routers = srp.count();
-    match choice(alloc, srp, lone, labels, router)? {
-        Choice::Keep => Ok(false),
-        Choice::Take(label) => {
-            labels.set(router, label);
-            Ok(true)
+impl<'a> Model for Runner<'a> {
+    ghost use Rattle.srp_core.specs.Problem.{Problem};
+    ghost use Rattle.solution_check.specs.Lone.{HasNumbers};
+
+    ghost Value = { Problem };
+
+    ghost view = { λ r. r.srp.now };
+
+    ghost invariant = { λ r. HasNumbers r.srp.now r.lone };
+}
+
+impl<'a> Runner<'a> {
+    /// A runner of the problem's routers.
+    pub fn new(alloc: Global, srp: &'a Srp) -> Result<Runner<'a>, NoMemory>
+        ensures { IfOk result (λ runner. runner ≡ srp.now) }
+    {
+        let lone = lone_numbers(alloc, srp)?;
+        Ok(Runner { alloc, srp, lone })
+    }
+
+    /// How many routers there are.
+    pub(crate) fn count(&self) -> u32
+        ensures count { result ≡ count self.now }
+        ensures rules { IsProblem self.now }
+    {
+        self.srp.count()
+    }
+
+    /// The labels before any activation: no router has one.
+    pub(crate) fn no_labels(&self) -> Result<Labels, NoMemory>
+        ensures { IfOk result (λ labels. labels ≡ no_labels self.now) }
+    {
+        let mut labels = Labels::new(self.alloc);
+        for _router in 0..self.count() {
+            labels.push(None)?;
+        }
+        Ok(labels)
+    }
+
+    /// What a router chooses, by the labels as they stand.
+    pub(crate) fn choice(&self, labels: &Labels, router: u32) -> Result<Choice, NoMemory>
+        requires router { router < count self.now }
+        requires labels { AreLabels self.now labels.now }
+        ensures { IfOk result (IsChoice (chosen_label self.now labels.now router) (label labels.now router)) }
+    {
+        let candidates = self.srp.candidates(labels, router)?;
+        choose(
+            self.alloc,
+            &self.lone,
+            candidates,
+            &labels.as_slice()[router as usize],
+        )
+    }
+
+    /// Activates a router: it keeps its label if that is a candidate of best key, else it takes the first
+    /// candidate of best key, and no label where it has no candidate. The answer says whether the label
+    /// changed. There is one label for each router, each of the problem's protocol.
+    ///
+    /// # Errors
+    ///
+    /// Where memory ran out, and then the labels are as before.
+    pub fn activate(&self, labels: &mut Labels, router: u32) -> Result<bool, NoMemory>
+        requires router { router < count self.now }
+        requires labels { AreLabels self.now labels.old }
+        ensures ok { IfOk result (λ _. labels.new ≡ activated self.now labels.old router) }
+        ensures changed { IfOk result (λ changed. MatchBool changed (labels.new ≢ labels.old) (labels.new ≡ labels.old)) }
+        ensures err { OnErr result (labels.new ≡ labels.old) }
+        ensures labels { AreLabels self.now labels.new }
+    {
+        let _routers = self.count();
+        match self.choice(labels, router)? {
+            Choice::Keep => Ok(false),
+            Choice::Take(label) => {
+                labels.set(router, label);
+                Ok(true)
+            }
         }
     }
 }
 
-/// Activates a router: it keeps its label if that is a candidate of best key, else it takes the first
-/// candidate of best key, and no label where it has no candidate. The answer says whether the label
-/// changed. There is one label for each router, each of the problem's protocol.
+/// Activates one router, as `Runner::activate` does. It looks through the whole problem first: a `Runner`
+/// does so once for many activations.
 ///
 /// # Errors
 ///
@@ -75,6 +120,6 @@ pub fn activate(
     ensures err { OnErr result (labels.new ≡ labels.old) }
     ensures labels { AreLabels srp.now labels.new }
 {
-    let lone = lone_numbers(alloc, srp)?;
-    activate_by(alloc, srp, &lone, labels, router)
+    let runner = Runner::new(alloc, srp)?;
+    runner.activate(labels, router)
 }

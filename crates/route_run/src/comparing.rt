@@ -5,26 +5,12 @@ ghost use Rattle.std.specs.Cmp.Lexicographic.{slice_cmp};
 ghost use Rattle.srp_core.specs.Routes.{preference_of, size_of, path_of, comms_of, chosen};
 ghost use Rattle.route_run.specs.Activations.{beats, same_route};
 
-use crate::lone::chosen;
 use base_kit::NoMemory;
+use solution_check::lone_on;
 use srp_core::Route;
 use std::alloc::Global;
 use std::cmp::Ordering;
 use std::collections::HashSet;
-
-// How the numbers of lone routers on two paths compare.
-fn compare_lone(
-    alloc: Global,
-    lone: &HashSet<u32>,
-    path: &[u32],
-    other: &[u32],
-) -> Result<Ordering, NoMemory>
-    ensures { IfOk result (λ order. order ≡ slice_cmp nat_cmp (chosen (contains nat_eq lone.now) path.now) (chosen (contains nat_eq lone.now) other.now)) }
-{
-    let first = chosen(alloc, lone, path)?;
-    let second = chosen(alloc, lone, other)?;
-    Ok(first.cmp(&second))
-}
 
 fn preference_of(route: &Route) -> u32
     ensures { result ≡ preference_of route.now }
@@ -62,6 +48,24 @@ fn comms_of(route: &Route) -> &[u32]
     }
 }
 
+// How the numbers of lone routers on two paths compare. They are not sought where there are none, nor on
+// equal paths.
+fn compare_lone(
+    alloc: Global,
+    lone: &HashSet<u32>,
+    route: &Route,
+    other: &Route,
+) -> Result<Ordering, NoMemory>
+    ensures { IfOk result (λ order. order ≡ slice_cmp nat_cmp (chosen (contains nat_eq lone.now) (path_of route.now)) (chosen (contains nat_eq lone.now) (path_of other.now))) }
+{
+    if lone.is_empty() || path_of(route) == path_of(other) {
+        return Ok(Ordering::Equal);
+    }
+    let first = lone_on(alloc, lone, route)?;
+    let second = lone_on(alloc, lone, other)?;
+    Ok(first.cmp(&second))
+}
+
 /// Whether the first route has the better key, by the numbers of lone routers. These are looked at where
 /// all else is equal.
 #[tactic(auto, unfolding(srp_core::specs::Routes::compare_keys))]
@@ -87,7 +91,7 @@ pub(crate) fn beats(
         Ordering::Less => Ok(true),
         Ordering::Greater => Ok(false),
         Ordering::Equal => {
-            let order = compare_lone(alloc, lone, path_of(route), path_of(other))?;
+            let order = compare_lone(alloc, lone, route, other)?;
             Ok(order == Ordering::Less)
         }
     }

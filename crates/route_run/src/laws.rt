@@ -1,6 +1,7 @@
 //! Laws of runs. The functions do nothing: their contracts are the laws.
 
 ghost use Rattle.std.specs.Prelude.{◌≡◌, ◌<◌, ℕ, All, List, Option};
+ghost use Rattle.base_kit.specs.declared.protocol.Protocol.TheVariants.{Ospf as OverOspf};
 ghost use Rattle.srp_core.specs.declared.route.Route.{Route};
 ghost use Rattle.srp_core.specs.Alike.{ProblemsAlike};
 ghost use Rattle.srp_core.specs.Problem.{Problem, count, IsProblem};
@@ -21,15 +22,17 @@ pub fn orders_reach()
     ensures { (problem : Problem) (labels : List (Option Route)) (run : List ℕ) → IsProblem problem → IsStable problem labels → IsOrderOf problem labels run → IsSolutionLike problem labels (labels_after problem (no_labels problem) run) }
 {}
 
-/// Labels have one order.
+/// Labels have an order, and no other.
 pub fn one_order()
-    ensures { (problem : Problem) (labels : List (Option Route)) (first second : List ℕ) → IsOrderOf problem labels first → IsOrderOf problem labels second → first ≡ second }
+    ensures exists { (problem : Problem) (labels : List (Option Route)) → (run : List ℕ) × IsOrderOf problem labels run }
+    ensures unique { (problem : Problem) (labels : List (Option Route)) (first second : List ℕ) → IsOrderOf problem labels first → IsOrderOf problem labels second → first ≡ second }
 {}
 
 /// Where no router is lone, (n - 1) * (p + 1) + 1 rounds from no labels lead to stable labels, for n routers
-/// and imports that prepend at most p numbers. In OSPF p is 0, and n rounds are enough.
+/// and imports that prepend at most p numbers. In OSPF n rounds do.
 pub fn rounds()
-    ensures { (problem : Problem) (most : ℕ) (run : List ℕ) → IsProblem problem → HasNoLone problem → PrependsAtMost problem most → All (λ u. u < count problem) run → HasRounds problem (enough_rounds problem most) run → IsStable problem (labels_after problem (no_labels problem) run) }
+    ensures ospf { (problem : Problem) (run : List ℕ) → IsProblem problem → problem.protocol ≡ OverOspf → All (λ u. u < count problem) run → HasRounds problem (count problem) run → IsStable problem (labels_after problem (no_labels problem) run) }
+    ensures none_lone { (problem : Problem) (most : ℕ) (run : List ℕ) → IsProblem problem → HasNoLone problem → PrependsAtMost problem most → All (λ u. u < count problem) run → HasRounds problem (enough_rounds problem most) run → IsStable problem (labels_after problem (no_labels problem) run) }
 {}
 
 /// Problems that are alike run alike, and the same router moves first.

@@ -1,16 +1,16 @@
 //! Activations of routers, one after the other, in any order.
 //!
 //! An activation is one router that chooses its label anew from the labels as they stand. `read_schedule`
-//! reads a list of them from a text, `run_schedule` runs it from no labels at all, `activate` runs one,
-//! and `moving` says whether labels are at rest. `reach` gives the activations that lead to a given
-//! solution. An activation takes time by the edges of its router and the paths over them.
+//! reads a list of them from a text, `run_schedule` runs it from no labels at all, `Runner` runs one after
+//! the other, `activate` a single one, and `moving` says whether labels are at rest. `reach` gives the
+//! activations that lead to a given solution. An activation of a `Runner` takes time by the edges of its
+//! router and the paths over them.
 #![tactic(auto)]
 
 mod activation;
 mod choosing;
 mod comparing;
 pub mod laws;
-mod lone;
 mod names;
 mod order;
 mod reading;
@@ -18,9 +18,8 @@ mod running;
 mod schedule;
 #[cfg(test)]
 mod tests;
-mod words;
 
-pub use activation::activate;
+pub use activation::{Runner, activate};
 pub use order::reach;
 pub use reading::read_schedule;
 pub use running::{moving, run_schedule};

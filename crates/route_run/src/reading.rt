@@ -6,8 +6,8 @@ ghost use Rattle.route_run.specs.Schedules.{LineWord, activation_of, run_of, sch
 
 use crate::names::{place_of, places_of};
 use crate::schedule::{Activation, ScheduleRefusal};
-use crate::words::{newline_from, next_word, without_return};
 use base_kit::{List, Text};
+use solution_text::words::{newline_from, next_word, without_return};
 use std::alloc::Global;
 use std::collections::HashMap;
 

@@ -1,76 +1,50 @@
 ghost use Rattle.std.specs.Prelude.{◌≡◌, ◌≢◌, ◌<◌, ℕ, All, IfOk, MatchBool, MatchOption};
 ghost use Rattle.std.specs.List.{range_with_len};
+ghost use Rattle.base_kit.specs.declared.protocol.Protocol.TheVariants.{Ospf as OverOspf};
 ghost use Rattle.srp_core.specs.Problem.{count};
 ghost use Rattle.srp_core.specs.Stability.{label, AreLabels, IsStable};
 ghost use Rattle.route_run.specs.Activations.{chosen_label, labels_after, no_labels, IsFirstMoving};
-ghost use Rattle.route_run.specs.Lone.{HasLoneNumbers};
 ghost use Rattle.route_run.specs.Rounds.{HasNoLone, PrependsAtMost, HasRounds, enough_rounds};
 ghost use Rattle.route_run.specs.Schedules.{run_of, routers_of};
 
-use crate::activation::{activate_by, choice};
+use crate::activation::Runner;
 use crate::choosing::Choice;
-use crate::lone::lone_numbers;
 use crate::schedule::Activation;
 use base_kit::{List, NoMemory};
 use srp_core::{Labels, Srp};
 use std::alloc::Global;
-use std::collections::HashSet;
-
-fn no_labels(alloc: Global, srp: &Srp) -> Result<Labels, NoMemory>
-    ensures { IfOk result (λ labels. labels ≡ no_labels srp.now) }
-{
-    let mut labels = Labels::new(alloc);
-    for _router in 0..srp.count() {
-        labels.push(None)?;
-    }
-    Ok(labels)
-}
 
 // Activates all routers in order.
-fn run_round(
-    alloc: Global,
-    srp: &Srp,
-    lone: &HashSet<u32>,
-    labels: &mut Labels,
-) -> Result<(), NoMemory>
-    requires labels { AreLabels srp.now labels.old }
-    requires lone { HasLoneNumbers srp.now lone.now }
-    ensures ok { IfOk result (λ _. labels.new ≡ labels_after srp.now labels.old (range_with_len 0 (count srp.now))) }
-    ensures labels { AreLabels srp.now labels.new }
+fn run_round(runner: &Runner, labels: &mut Labels) -> Result<(), NoMemory>
+    requires { AreLabels runner.now labels.old }
+    ensures ok { IfOk result (λ _. labels.new ≡ labels_after runner.now labels.old (range_with_len 0 (count runner.now))) }
+    ensures labels { AreLabels runner.now labels.new }
 {
-    let routers = srp.count();
-    for router in 0..routers {
-        activate_by(alloc, srp, lone, labels, router)?;
+    for router in 0..runner.count() {
+        runner.activate(labels, router)?;
     }
     Ok(())
 }
 
 // Activates what the schedule says next.
-fn run_next(
-    alloc: Global,
-    srp: &Srp,
-    lone: &HashSet<u32>,
-    labels: &mut Labels,
-    activation: Activation,
-) -> Result<(), NoMemory>
-    requires labels { AreLabels srp.now labels.old }
-    requires lone { HasLoneNumbers srp.now lone.now }
-    requires inside { All (λ u. u < count srp.now) (routers_of (count srp.now) activation) }
-    ensures ok { IfOk result (λ _. labels.new ≡ labels_after srp.now labels.old (routers_of (count srp.now) activation)) }
-    ensures labels { AreLabels srp.now labels.new }
+fn run_next(runner: &Runner, labels: &mut Labels, activation: Activation) -> Result<(), NoMemory>
+    requires labels { AreLabels runner.now labels.old }
+    requires inside { All (λ u. u < count runner.now) (routers_of (count runner.now) activation) }
+    ensures ok { IfOk result (λ _. labels.new ≡ labels_after runner.now labels.old (routers_of (count runner.now) activation)) }
+    ensures labels { AreLabels runner.now labels.new }
 {
     match activation {
         Activation::One(only) => {
-            activate_by(alloc, srp, lone, labels, only)?;
+            runner.activate(labels, only)?;
             Ok(())
         }
-        Activation::Round => run_round(alloc, srp, lone, labels),
+        Activation::Round => run_round(runner, labels),
     }
 }
 
-/// The labels after the activations of a schedule, one after the other, from no labels at all. Where no
-/// router is lone, (n - 1) * (p + 1) + 1 rounds give stable labels, for n routers and imports that prepend
-/// at most p numbers; in OSPF p is 0.
+/// The labels after the activations of a schedule, one after the other, from no labels at all. In OSPF as
+/// many rounds as there are routers give stable labels. In BGP, where no router is lone, (n - 1) * (p + 1) +
+/// 1 rounds do, for n routers and imports that prepend at most p numbers.
 pub fn run_schedule(
     alloc: Global,
     srp: &Srp,
@@ -80,29 +54,23 @@ pub fn run_schedule(
     ensures labels { IfOk result (AreLabels srp.now) }
     ensures run { IfOk result (λ labels. labels ≡ labels_after srp.now (no_labels srp.now) (run_of (count srp.now) schedule.now)) }
     ensures rounds { IfOk result (λ labels. (most : ℕ) → HasNoLone srp.now → PrependsAtMost srp.now most → HasRounds srp.now (enough_rounds srp.now most) (run_of (count srp.now) schedule.now) → IsStable srp.now labels) }
+    ensures ospf_rounds { IfOk result (λ labels. srp.now.protocol ≡ OverOspf → HasRounds srp.now (count srp.now) (run_of (count srp.now) schedule.now) → IsStable srp.now labels) }
 {
     let _routers = srp.count();
-    let lone = lone_numbers(alloc, srp)?;
-    let mut labels = no_labels(alloc, srp)?;
+    let runner = Runner::new(alloc, srp)?;
+    let mut labels = runner.no_labels()?;
     for activation in schedule.as_slice() {
-        run_next(alloc, srp, &lone, &mut labels, *activation)?;
+        run_next(&runner, &mut labels, *activation)?;
     }
     Ok(labels)
 }
 
-fn moves(
-    alloc: Global,
-    srp: &Srp,
-    lone: &HashSet<u32>,
-    labels: &Labels,
-    router: u32,
-) -> Result<bool, NoMemory>
-    requires router { router < count srp.now }
-    requires labels { AreLabels srp.now labels.now }
-    requires lone { HasLoneNumbers srp.now lone.now }
-    ensures { IfOk result (λ moves. MatchBool moves (chosen_label srp.now labels.now router ≢ label labels.now router) (chosen_label srp.now labels.now router ≡ label labels.now router)) }
+fn moves(runner: &Runner, labels: &Labels, router: u32) -> Result<bool, NoMemory>
+    requires router { router < count runner.now }
+    requires labels { AreLabels runner.now labels.now }
+    ensures { IfOk result (λ moves. MatchBool moves (chosen_label runner.now labels.now router ≢ label labels.now router) (chosen_label runner.now labels.now router ≡ label labels.now router)) }
 {
-    match choice(alloc, srp, lone, labels, router)? {
+    match runner.choice(labels, router)? {
         Choice::Keep => Ok(false),
         Choice::Take(_) => Ok(true),
     }
@@ -114,9 +82,9 @@ pub fn moving(alloc: Global, srp: &Srp, labels: &Labels) -> Result<Option<u32>, 
     requires { AreLabels srp.now labels.now }
     ensures { IfOk result (λ router. MatchOption router (IsStable srp.now labels.now) (IsFirstMoving srp.now labels.now)) }
 {
-    let lone = lone_numbers(alloc, srp)?;
+    let runner = Runner::new(alloc, srp)?;
     for router in 0..srp.count() {
-        if moves(alloc, srp, &lone, labels, router)? {
+        if moves(&runner, labels, router)? {
             return Ok(Some(router));
         }
     }
