@@ -1,4 +1,7 @@
+mod ActEdges
 mod Compressing
+mod FirstActs
+mod LinkCounts
 mod Names
 mod Plans
 mod Texts

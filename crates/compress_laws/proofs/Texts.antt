@@ -6,7 +6,11 @@ use Rattle.cfg_ast.specs.declared.classes.DestClass.{DestClass}
 use Rattle.cfg_ast.specs.declared.network.Network.{Network}
 use Rattle.cfg_print.specs.Prints.{is_too_long, count_newlines}
 use Rattle.compress_laws.specs.Compressed.{Compresses}
-use Rattle.compress_laws.specs.Laws.{compressed_text, TextCompresses, PlanFits, PlanCompresses}
+use Rattle.cfg_check.specs.Laws.{FaultlessIsAccepted}
+use Rattle.cfg_round_trip.specs.Laws.{PrintedIsReadBack}
+use Rattle.config_emit.specs.Laws.{EmittedCanBePrinted, EmittedStandsForGroups}
+use Rattle.compress_laws.specs.Laws.{compressed_text, TextCompresses, PlanFits, PlanCompresses, TextHasProblemOfGroups}
+use Rattle.compress_laws.proofs.Compressing.{has_problem}
 
 second : (a b : Bool) → (a || b) ≡ false → b ≡ false
 second true b e = absurd cc
@@ -21,3 +25,7 @@ plan_compresses fits compresses n class e given ok has is apart short =
     subst (λ (c : DestClass). Compresses n c (compressed_text e)) is.class_is
     (subst (λ (m : Network). Compresses m e.class (compressed_text e)) is.network_is
     (compresses e (fits n class e given ok has is apart) is.coarsest (few (compressed_text e) short)))
+
+pub text_has_problem : PlanFits → EmittedCanBePrinted → EmittedStandsForGroups → PrintedIsReadBack → FaultlessIsAccepted → TextHasProblemOfGroups
+text_has_problem fits printed stands back accepted n class e given ok has is apart short =
+    has_problem printed stands back accepted e (fits n class e given ok has is apart) (few (compressed_text e) short)

@@ -1,6 +1,6 @@
 -- What it means that configurations describe the compressed network of another one, for a class of
 -- destination prefixes (Beckett, Gupta, Mahajan and Walker, Control Plane Compression, SIGCOMM 2018).
-use Rattle.std.specs.Prelude.{◌≡◌, ◌≤◌, ℕ, [], List, length, map, Option, Ok, Contains, slice_index_or}
+use Rattle.std.specs.Prelude.{◌≡◌, ◌≤◌, ◌<◌, ℕ, [], List, length, map, Option, Ok, Contains, slice_index_or}
 use Rattle.std.specs.List.{range_with_len}
 use Rattle.base_kit.specs.Partition.{IsNumbered, members_of}
 use Rattle.base_kit.specs.Prefixes.{Prefix}
@@ -17,6 +17,7 @@ use Rattle.srp_quotient.specs.Groups.{first_member}
 use Rattle.srp_core.specs.Stability.{IsStable}
 use Rattle.srp_core.specs.Quotient.{IsCoarsest, IsQuotient}
 use Rattle.srp_core.specs.Laws.{Below, Above}
+use Rattle.compress_laws.specs.GroupLinks.{HasLinksForActs}
 
 -- Every stable solution of either problem has a stable solution of the other in which each router and its
 -- group hold routes of one key, or none, and forward to the same groups.
@@ -25,7 +26,8 @@ pub record Correspond (problem small : Problem) (groups : List ℕ) : Type 0 whe
   pub up : (lower : List (Option Route)) → IsStable small lower → Above problem small groups lower
 
 -- For a prefix both networks have a routing problem. The groups are the coarsest admissible partition of
--- the one, the other is its quotient, and their stable solutions correspond.
+-- the one, the other is its quotient, their stable solutions correspond, and between two groups stand as
+-- many links as the acts between them need.
 pub record IsCompressedFor (network read : Network) (groups : List ℕ) (p : Prefix) : Type 0 where
   pub problem : Problem
   pub small : Problem
@@ -34,6 +36,7 @@ pub record IsCompressedFor (network read : Network) (groups : List ℕ) (p : Pre
   pub coarsest : (other : Problem) → IsProblemOf network p other → IsCoarsest other groups
   pub quotient : (other lower : Problem) → IsProblemOf network p other → IsProblemOf read p lower → IsQuotient other groups lower
   pub correspond : (other lower : Problem) → IsProblemOf network p other → IsProblemOf read p lower → Correspond other lower groups
+  pub links : (other : Problem) → IsProblemOf network p other → (low high : ℕ) → low < high → high < length read.routers → HasLinksForActs other groups read low high
 
 abbrev pub name_of_router : Router → List ℕ
 name_of_router router = router.name

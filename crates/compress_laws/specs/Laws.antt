@@ -1,17 +1,19 @@
 -- What is written of a plan is the compressed network.
-use Rattle.std.specs.Prelude.{◌≡◌, ℕ, false, List, None, Contains}
+use Rattle.std.specs.Prelude.{◌≡◌, ℕ, false, List, None, Ok, Contains}
+use Rattle.base_kit.specs.Prefixes.{Prefix}
 use Rattle.cfg_print.specs.Prints.{is_too_long}
 use Rattle.cfg_ast.specs.declared.classes.DestClass.{DestClass}
 use Rattle.cfg_ast.specs.declared.network.Network.{Network}
 use Rattle.cfg_ast.specs.meaning.Classes.{classes_of}
-use Rattle.cfg_ast.specs.text.Reading.{IsGiven}
+use Rattle.cfg_ast.specs.text.Reading.{IsGiven, reading_of}
 use Rattle.cfg_check.specs.Faultless.{IsFaultless}
 use Rattle.config_emit.specs.Pool.{pool_line}
 use Rattle.compress_laws.specs.Built.{IsPlanOf}
 use Rattle.cfg_ast.specs.printing.Printed.{printed}
 use Rattle.cfg_round_trip.specs.Laws.{HasFewLines}
+use Rattle.srp_core.specs.ProblemOf.{IsProblemOf}
 use Rattle.srp_core.specs.Quotient.{IsCoarsest}
-use Rattle.config_emit.specs.Plan.{Plan}
+use Rattle.config_emit.specs.Plan.{Plan, small}
 use Rattle.config_emit.specs.Emitted.{emitted, notes_of}
 use Rattle.config_emit.specs.Laws.{IsPlan}
 use Rattle.compress_laws.specs.Compressed.{Compresses}
@@ -32,3 +34,13 @@ PlanFits = (n : Network) (class : DestClass) (e : Plan) → ∥ IsGiven n ∥₁
 -- A text of the plan of a class of a network that may be used compresses that network.
 abbrev pub PlanCompresses : Type 0
 PlanCompresses = (n : Network) (class : DestClass) (e : Plan) → ∥ IsGiven n ∥₁ → IsFaultless n → Contains (classes_of n) class → IsPlanOf n class e → pool_line n class ≡ None → is_too_long (compressed_text e) ≡ false → Compresses n class (compressed_text e)
+
+-- The text of a plan is read as a network that has, for each prefix of the class, the problem of the groups.
+pub record HasProblemOfGroups (e : Plan) : Type 0 where
+  pub read : Network
+  pub reads : reading_of (compressed_text e) ≡ Ok read
+  pub problem : (p : Prefix) → Contains e.class.prefixes p → IsProblemOf read p (small e)
+
+-- So is the text of a plan of a class of a network that may be used.
+abbrev pub TextHasProblemOfGroups : Type 0
+TextHasProblemOfGroups = (n : Network) (class : DestClass) (e : Plan) → ∥ IsGiven n ∥₁ → IsFaultless n → Contains (classes_of n) class → IsPlanOf n class e → pool_line n class ≡ None → is_too_long (compressed_text e) ≡ false → HasProblemOfGroups e

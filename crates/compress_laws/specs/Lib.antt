@@ -1,3 +1,4 @@
 pub mod Built
 pub mod Compressed
+pub mod GroupLinks
 pub mod Laws

@@ -1,11 +1,12 @@
 //! The law of what is written.
-ghost use Rattle.compress_laws.specs.Laws.{TextCompresses, PlanFits, PlanCompresses};
+ghost use Rattle.compress_laws.specs.Laws.{TextCompresses, PlanFits, PlanCompresses, TextHasProblemOfGroups};
 
 /// The text that is written of a plan, whose groups are the coarsest ones, compresses the network.
 pub fn text_compresses()
     ensures { TextCompresses }
 {
     emit_forms::laws::emitted_can_be_printed();
+    emit_laws::laws::emitted_has_planned_links();
     emit_laws::laws::emitted_is_no_larger();
     emit_laws::laws::emitted_stands_for_groups();
     cfg_round_trip::printed_is_read_back();
@@ -34,4 +35,15 @@ pub fn plan_compresses()
 {
     plan_fits();
     text_compresses();
+}
+
+/// The text of the plan of a class, which is not too long, is read as a network that has the problem of the groups.
+pub fn text_has_problem_of_groups()
+    ensures { TextHasProblemOfGroups }
+{
+    plan_fits();
+    emit_forms::laws::emitted_can_be_printed();
+    emit_laws::laws::emitted_stands_for_groups();
+    cfg_round_trip::printed_is_read_back();
+    cfg_check::laws::faultless_is_accepted();
 }

@@ -6,13 +6,12 @@ use Rattle.std.proofs.lemmas.List.FromFn.{length-map-range_with_len}
 use Rattle.cfg_ast.specs.declared.network.Network.{Network}
 use Rattle.cfg_ast.specs.declared.topology.Link.{Link}
 use Rattle.cfg_ast.specs.printing.Bare.{bare_router, bare}
-use Rattle.lines_aside.specs.Laws.{LinksAside}
 use Rattle.config_emit.specs.Emitted.{emitted_router, emitted}
 use Rattle.config_emit.specs.Laws.{EmittedIsNoLarger}
 use Rattle.config_emit.specs.Plan.{Plan}
-use Rattle.emit_faults.specs.Laws.{EmittedIsFaultless}
 use Rattle.emit_forms.specs.Laws.{GroupsAreNoMore, GroupsHaveNoMoreLinks}
-use Rattle.emit_links.specs.Laws.{link_at, EmittedLinks}
+use Rattle.emit_laws.specs.Laws.{EmittedHasPlannedLinks}
+use Rattle.emit_links.specs.Laws.{link_at}
 
 router_count : (e : Plan) → length (emitted e).routers ≡ e.count
 unfolding emitted
@@ -25,10 +24,10 @@ numbered_length : {X : Type 0} (n : ℕ) (xs : List X) → length (enumerate_fro
 numbered_length n [] = refl
 numbered_length n (x ∷ xs) = ap (λ k. suc k) (numbered_length (n + 1) xs)
 
-pub no_larger : EmittedIsFaultless → GroupsAreNoMore → GroupsHaveNoMoreLinks → EmittedLinks → LinksAside → EmittedIsNoLarger
-no_larger faultless groups few links aside e plan n same =
+pub no_larger : GroupsAreNoMore → GroupsHaveNoMoreLinks → EmittedHasPlannedLinks → EmittedIsNoLarger
+no_larger groups few links e plan n same =
     let many = same_count n (emitted e) same ∙ router_count e in
     let most = groups e plan in
-    let same_links = ap (λ (ls : List Link). length ls) (aside n (emitted e) same ∙ links e plan (faultless e plan)) ∙ length-map (enumerate_from 0 e.links) (link_at e) ∙ numbered_length 0 e.links in
+    let same_links = ap (λ (ls : List Link). length ls) (links e plan n same) ∙ length-map (enumerate_from 0 e.links) (link_at e) ∙ numbered_length 0 e.links in
     let less = few e plan in
     record { routers = omega arith; links = omega arith }

@@ -5,6 +5,7 @@ pub returns : goal.returns
 returns c = λ e plan coarse few. compresses (record {
   can_be_printed = c.emitted_can_be_printed.ensures;
   stands = c.emitted_stands_for_groups.ensures;
+  planned_links = c.emitted_has_planned_links.ensures;
   no_larger = c.emitted_is_no_larger.ensures;
   read_back = c.printed_is_read_back.ensures;
   members_back = c.members_are_read_back.ensures;

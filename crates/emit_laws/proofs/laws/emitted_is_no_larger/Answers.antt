@@ -2,4 +2,4 @@ use Rattle.emit_laws.proofs.NoLarger as no_larger
 use Rattle.emit_laws.proofs.laws.emitted_is_no_larger.Goals as goal
 
 pub returns : goal.returns
-returns c = no_larger.no_larger c.emitted_is_faultless.ensures c.no_more_groups.ensures c.no_more_links.ensures c.emitted_links.ensures c.links_aside.ensures
+returns c = no_larger.no_larger c.no_more_groups.ensures c.no_more_links.ensures c.emitted_has_planned_links.ensures
