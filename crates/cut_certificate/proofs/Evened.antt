@@ -139,3 +139,6 @@ admissible_even graph numbers admissible =
     let lu : u < graph.count = omega (arith, mu.0, admissible.total) in
     let lv : v < graph.count = omega (arith, mv.0, admissible.total) in
     mirrored_if graph.edges numbers u v (admissible.edges u v lu lv (mu.1 ∙ sym mv.1)))))
+
+pub mirrors_itself : (edges : List Edge) (numbers : List ℕ) (u : ℕ) → mirror_each_other edges numbers u u ≡ true
+mirrors_itself edges numbers u = let own = mirrored_if edges numbers u u (mirrored_refl edges numbers u) in both _ _ own own

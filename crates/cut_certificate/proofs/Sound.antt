@@ -5,6 +5,7 @@ use Rattle.std.proofs.lemmas.Bool.Decides.{nat_tests}
 use Rattle.base_kit.specs.declared.act_graph.Edge.{Edge}
 use Rattle.base_kit.specs.Sets.{has}
 use Rattle.cut_certificate.specs.declared.certificate.Split.{Split}
+use Rattle.cut_certificate.specs.declared.certifying.Parting.{Parting}
 use Rattle.cut_certificate.specs.declared.outgoing.Placed.{Placed}
 use Rattle.cut_certificate.specs.declared.refusal.CutKind.{CutKind}
 use Rattle.cut_certificate.specs.declared.refusal.Stop.{Stop}
@@ -12,7 +13,7 @@ use Rattle.cut_certificate.specs.declared.refusal.Stop.TheVariants as stop
 use Rattle.cut_certificate.specs.Answers.{Steps}
 use Rattle.cut_certificate.specs.Blocks.{Blocks, edge_act, is_block, are_parts, reaches, numbers_after, blocks_after, split_by}
 use Rattle.cut_certificate.specs.InUse.{AreInUse}
-use Rattle.cut_certificate.specs.Uneven.{IsUnmatched, IsParting}
+use Rattle.cut_certificate.specs.Uneven.{IsUnmatched, IsParting, IsSplitBy}
 use Rattle.cut_certificate.proofs.Reached.{both}
 use Rattle.cut_certificate.proofs.Seen.{other_test, has_at}
 use Rattle.cut_certificate.proofs.Used.{after_at, after_long, goes, stays_here}
@@ -50,10 +51,9 @@ unmatched_splits edges blocks p one other split are h1 h2 together un block by e
     (other_test split.block split.by (λ e. un.leaves (sym by ∙ sym e ∙ block)))
     (both _ _ left right)
 
-pub parting_splits : (edges : List Edge) (blocks : Blocks) (p : Placed) (router : ℕ) (split : Split) → AreInUse blocks.numbers blocks.count → IsParting edges blocks.numbers p router
-    → split.block ≡ slice_index blocks.numbers router → split.by ≡ slice_index blocks.numbers p.edge.exporter → split.edge ≡ p.place → split_by edges blocks split ≡ Ok (blocks_after edges blocks split)
-parting_splits edges blocks p router split are parting block by edge =
-    unmatched_splits edges blocks p parting.one parting.other split are parting.one_member parting.other_member (parting.other_together ∙ sym parting.one_together) parting.unmatched (block ∙ sym parting.one_together) by edge
+pub parting_splits : (edges : List Edge) (blocks : Blocks) (p : Parting) (split : Split) → AreInUse blocks.numbers blocks.count → IsParting edges blocks.numbers p → IsSplitBy blocks.numbers p split → split_by edges blocks split ≡ Ok (blocks_after edges blocks split)
+parting_splits edges blocks p split are parting is =
+    unmatched_splits edges blocks p.by p.goes p.stays split are parting.goes parting.stays parting.together parting.unmatched is.block is.by is.edge
 
 pub no_fault : (why : Stop) (kind : CutKind) (defined : Result Blocks CutKind) (next : Blocks) → Steps {X = Blocks} (Err why) defined → why ≡ stop.Fault kind → defined ≡ Ok next → ⊥
 no_fault (stop.Fault other) kind defined next e same made = let f = sym made ∙ e in cc

@@ -1,8 +1,9 @@
 -- Each block has a member.
-use Rattle.std.proofs.Common.{◌≡◌, ◌≢◌, ℕ, zero, suc, ◌+◌, ◌-◌, ◌<◌, ◌≤◌, Bool, true, false, cond, ◌||◌, ◌&&◌, nat_eq, List, [], ◌∷◌, ◌++◌, length, map, get_or, All, refl, sym, ap, ◌∙◌, arith, inl, inr, add-one}
+use Rattle.std.proofs.Common.{◌≡◌, ◌≢◌, ℕ, zero, suc, ◌+◌, ◌-◌, ◌<◌, ◌≤◌, Bool, true, false, cond, ◌||◌, ◌&&◌, nat_eq, List, [], ◌∷◌, length, map, get_or, All, refl, sym, ap, ◌∙◌, arith, inl, inr}
 use Rattle.std.specs.List.{list_any, range_with_len}
 use Rattle.std.proofs.lemmas.Bool.{cases_eq}
-use Rattle.std.proofs.lemmas.List.{map-append}
+use Rattle.std.specs.Prelude.{slice_set}
+use Rattle.std.proofs.lemmas.List.{ext_get_or, get_or-set_same, get_or-set_other, length-set}
 use Rattle.std.proofs.lemmas.List.Elements.{All-from_get_or}
 use Rattle.std.proofs.lemmas.List.FromFn.{length-range_with_len, get_or-range_with_len}
 use Rattle.std.proofs.lemmas.Map.Steps.{le-length_from_below}
@@ -24,19 +25,6 @@ map_long f (x ∷ xs) = omega (arith, map_long f xs)
 
 pub has_map : (f : ℕ → ℕ) (xs : List ℕ) (k : ℕ) → k < length xs → has (map f xs) (f (get_or xs k 0)) ≡ true
 has_map f xs k h = ap (has (map f xs)) (sym (map_at f xs k h)) ∙ has_at (map f xs) k (omega (arith, map_long f xs))
-
-range_more : (a n : ℕ) → range_with_len a (suc n) ≡ range_with_len a n ++ (a + n) ∷ []
-range_more a zero = ap (λ (i : ℕ). i ∷ []) (omega arith)
-range_more a (suc n) = ap (λ (xs : List ℕ). a ∷ xs) (range_more (a + 1) n) ∙ ap (λ (i : ℕ). (a ∷ range_with_len (a + 1) n) ++ i ∷ []) (let e : a + 1 + n ≡ a + suc n = omega arith in e)
-
-range_push : (a n : ℕ) → range_with_len a (n + 1) ≡ range_with_len a n ++ (a + n) ∷ []
-range_push a n = ap (range_with_len a) (add-one n) ∙ range_more a n
-
--- one more value of a function on the first numbers
-pub map_pushed : (f : ℕ → ℕ) (n value : ℕ) (old new : List ℕ) → old ≡ map f (range_with_len 0 n) → value ≡ f n → new ≡ old ++ value ∷ [] → new ≡ map f (range_with_len 0 (n + 1))
-map_pushed f n value old new before is pushed =
-    pushed ∙ ap (λ (xs : List ℕ). xs ++ value ∷ []) before ∙ ap (λ (v : ℕ). map f (range_with_len 0 n) ++ v ∷ []) (is ∙ ap f (let e : n ≡ 0 + n = omega arith in e))
-    ∙ sym (ap (map f) (range_push 0 n) ∙ map-append f (range_with_len 0 n) ((0 + n) ∷ []))
 
 -- a value of a function on the first numbers
 pub over_range : (f : ℕ → ℕ) (n u : ℕ) → u < n → get_or (map f (range_with_len 0 n)) u 0 ≡ f u
@@ -83,10 +71,6 @@ first_used colors = record { known = numbers_known colors; used = used; few = fe
         ap (has (map (number_among colors) colors)) (sym (ap (number_among colors) (at_place colors c given) ∙ number))
         ∙ has_map (number_among colors) colors (place_among colors c) (place_below colors c given)
 
-pub after_is : (edges : List Edge) (numbers : List ℕ) (block by act next n : ℕ) (found : List ℕ) → found ≡ map (number_after edges numbers block by act next) (range_with_len 0 n) → n ≡ length numbers → found ≡ numbers_after edges numbers block by act next
-unfolding numbers_after
-after_is edges numbers block by act next n found is all = is ∙ ap (λ k. map (number_after edges numbers block by act next) (range_with_len 0 k)) all
-
 -- a member of another block stays
 pub stays_put : (edges : List Edge) (numbers : List ℕ) (block by act next u : ℕ) → get_or numbers u 0 ≢ block → number_after edges numbers block by act next u ≡ get_or numbers u 0
 stays_put edges numbers block by act next u ne = rw (other_test (get_or numbers u 0) block ne) refl
@@ -98,6 +82,29 @@ after_at edges numbers block by act next u h = over_range (number_after edges nu
 pub after_long : (edges : List Edge) (numbers : List ℕ) (block by act next : ℕ) → length (numbers_after edges numbers block by act next) ≡ length numbers
 unfolding numbers_after
 after_long edges numbers block by act next = map_long (number_after edges numbers block by act next) (range_with_len 0 (length numbers)) ∙ length-range_with_len 0 (length numbers)
+
+-- the first routers have their numbers after a split
+pub record AreDivided (edges : List Edge) (numbers : List ℕ) (block by act next count : ℕ) (found : List ℕ) : Type 0 where
+  pub total : length found ≡ length numbers
+  pub so_far : (u : ℕ) → u < count → get_or found u 0 ≡ number_after edges numbers block by act next u
+
+pub divided_none : (edges : List Edge) (numbers : List ℕ) (block by act next : ℕ) (found : List ℕ) → length found ≡ length numbers → AreDivided edges numbers block by act next 0 found
+divided_none edges numbers block by act next found total = record { total = total; so_far = λ u h. absurd (omega arith) }
+
+pub divided_more : (edges : List Edge) (numbers : List ℕ) (block by act next count : ℕ) (found : List ℕ) (number : ℕ) → AreDivided edges numbers block by act next count found → count < length numbers
+    → number ≡ number_after edges numbers block by act next count → AreDivided edges numbers block by act next (count + 1) (slice_set found count number)
+divided_more edges numbers block by act next count found number are h is = record {
+  total = length-set found count number ∙ are.total;
+  so_far = λ u lt. (elim (cases_eq u count) [
+    | inl same ↦ ap (λ k. get_or (slice_set found count number) k 0) same ∙ get_or-set_same found count number 0 (omega (arith, are.total)) ∙ is ∙ ap (number_after edges numbers block by act next) (sym same)
+    | inr other ↦ get_or-set_other found count u number 0 other ∙ are.so_far u (omega arith)
+  ]);
+}
+
+pub divided_all : (edges : List Edge) (numbers : List ℕ) (block by act next count : ℕ) (found : List ℕ) → AreDivided edges numbers block by act next count found → length numbers ≤ count → found ≡ numbers_after edges numbers block by act next
+divided_all edges numbers block by act next count found are le =
+    ext_get_or 0 found (numbers_after edges numbers block by act next) (are.total ∙ sym (after_long edges numbers block by act next))
+    (λ u h. are.so_far u (omega (arith, are.total)) ∙ sym (after_at edges numbers block by act next u (omega (arith, are.total))))
 
 pub split_used : (edges : List Edge) (numbers : List ℕ) (count block by act : ℕ) → AreInUse numbers count → has (numbers_after edges numbers block by act (count + 1)) block ≡ true
     → has (numbers_after edges numbers block by act (count + 1)) (count + 1) ≡ true → AreInUse (numbers_after edges numbers block by act (count + 1)) (count + 1)

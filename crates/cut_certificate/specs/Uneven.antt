@@ -2,6 +2,8 @@
 use Rattle.std.specs.Prelude.{◌≡◌, ◌≢◌, ℕ, ◌-◌, ◌<◌, ◌≤◌, true, false, List, length, slice_index}
 use Rattle.base_kit.specs.declared.act_graph.Edge.{Edge}
 use Rattle.base_kit.specs.Partition.{IsMirroredAt}
+use Rattle.cut_certificate.specs.declared.certificate.Split.{Split}
+use Rattle.cut_certificate.specs.declared.certifying.Parting.{Parting}
 use Rattle.cut_certificate.specs.declared.outgoing.Placed.{Placed}
 use Rattle.cut_certificate.specs.Blocks.{edge_act, reaches}
 use Rattle.cut_certificate.specs.Evenness.{mirror_each_other}
@@ -15,16 +17,18 @@ pub record IsUnmatched (edges : List Edge) (numbers : List ℕ) (p : Placed) (ro
   pub reached : reaches edges numbers (slice_index numbers p.edge.exporter) p.edge.act router ≡ true
   pub unreached : reaches edges numbers (slice_index numbers p.edge.exporter) p.edge.act other ≡ false
 
--- the edge parts the block of the router: it leads from one member into another block, and another member has no twin
-pub record IsParting (edges : List Edge) (numbers : List ℕ) (p : Placed) (router : ℕ) : Type 0 where
-  pub one : ℕ
-  pub other : ℕ
-  pub member : router < length numbers
-  pub one_member : one < length numbers
-  pub other_member : other < length numbers
-  pub one_together : slice_index numbers one ≡ slice_index numbers router
-  pub other_together : slice_index numbers other ≡ slice_index numbers router
-  pub unmatched : IsUnmatched edges numbers p one other
+-- an edge parts a block: it leads from one member into another block, and another member has no twin
+pub record IsParting (edges : List Edge) (numbers : List ℕ) (p : Parting) : Type 0 where
+  pub goes : p.goes < length numbers
+  pub stays : p.stays < length numbers
+  pub together : slice_index numbers p.stays ≡ slice_index numbers p.goes
+  pub unmatched : IsUnmatched edges numbers p.by p.goes p.stays
+
+-- the split of the block that the edge parts, by the block into which it leads
+pub record IsSplitBy (numbers : List ℕ) (p : Parting) (split : Split) : Type 0 where
+  pub block : split.block ≡ slice_index numbers p.goes
+  pub by : split.by ≡ slice_index numbers p.by.edge.exporter
+  pub edge : split.edge ≡ p.by.place
 
 -- a member of each block, by the numbers of the blocks less one
 pub record AreLeaders (numbers leaders : List ℕ) : Type 0 where

@@ -75,10 +75,9 @@ fn numbers_after(
     requires total { length numbers.now ≡ graph.now.count }
     ensures { IfOk result (λ v. v.items ≡ numbers_after graph.now.edges numbers.now split.block split.by act next) }
 {
-    let mut after = Vec::new(alloc);
+    let mut after = Vec::from_slice(alloc, numbers)?;
     for router in 0..numbers.len() {
-        let number = number_after(graph, outgoing, numbers, split, act, next, router);
-        after.push(number)?;
+        after[router] = number_after(graph, outgoing, numbers, split, act, next, router);
     }
     Ok(after)
 }

@@ -1,12 +1,12 @@
 //! Splits as long as a block is not even.
 
-ghost use Rattle.std.specs.Prelude.{◌≡◌, ◌<◌, ◌≤◌, ◌^◌, ◌⊎◌, All, IfOk, MatchOption, Ok, length, true};
+ghost use Rattle.std.specs.Prelude.{◌≡◌, ◌<◌, ◌≤◌, ◌-◌, ◌^◌, ◌++◌, ◌∷◌, [], All, IfOk, MatchOption, Ok, OnOk, length, slice_index, slice_set, true};
 ghost use Rattle.cut_certificate.specs.Blocks.{split_by};
 ghost use Rattle.cut_certificate.specs.Certificates.{AreAfter, IsAccepted};
 ghost use Rattle.cut_certificate.specs.Evenness.{mirror_each_other};
 ghost use Rattle.cut_certificate.specs.InUse.{AreInUse};
 ghost use Rattle.cut_certificate.specs.Outgoing.{AreIndexed};
-ghost use Rattle.cut_certificate.specs.Uneven.{AreEvenFrom, AreLeaders, AreMirrored, IsParting, IsUnmatched};
+ghost use Rattle.cut_certificate.specs.Uneven.{AreEvenFrom, AreLeaders, AreMirrored, IsParting, IsSplitBy};
 
 use crate::blocks::Blocks;
 use crate::certificate::{Certificate, Split};
@@ -16,6 +16,14 @@ use crate::outgoing::{Placed, by_importer};
 use crate::refusal::Stop;
 use base_kit::{ActGraph, List, NoMemory};
 use std::alloc::Global;
+
+/// An edge that parts a block: one member has it, and goes, and another one has no twin, and stays.
+#[derive(Clone, Copy)]
+pub(crate) struct Parting {
+    pub(crate) goes: u32,
+    pub(crate) stays: u32,
+    pub(crate) by: Placed,
+}
 
 // A member of each block.
 fn leaders(alloc: Global, numbers: &[usize], count: usize) -> Result<Vec<u32>, NoMemory>
@@ -31,73 +39,85 @@ fn leaders(alloc: Global, numbers: &[usize], count: usize) -> Result<Vec<u32>, N
     Ok(leaders)
 }
 
-// An edge of one of two routers of which the other one has no twin.
-fn uneven(
+// An edge of one of two members of a block of which the other one has no twin.
+fn what_parts(
     graph: &ActGraph,
     outgoing: &[Vec<Placed>],
     numbers: &[usize],
     router: u32,
     other: u32,
-) -> Option<Placed>
+) -> Option<Parting>
     requires index { AreIndexed graph.now outgoing.now }
     requires total { length numbers.now ≡ graph.now.count }
     requires router { router < graph.now.count }
     requires other { other < graph.now.count }
-    ensures { MatchOption result (mirror_each_other graph.now.edges numbers.now router other ≡ true) (λ p. IsUnmatched graph.now.edges numbers.now p router other ⊎ IsUnmatched graph.now.edges numbers.now p other router) }
+    requires together { slice_index numbers.now router ≡ slice_index numbers.now other }
+    ensures { MatchOption result (mirror_each_other graph.now.edges numbers.now router other ≡ true) (IsParting graph.now.edges numbers.now) }
 {
-    match unmatched(graph, outgoing, numbers, router, other) {
-        Some(p) => Some(p),
-        None => unmatched(graph, outgoing, numbers, other, router),
+    if router == other {
+        return None;
     }
+    if let Some(by) = unmatched(graph, outgoing, numbers, router, other) {
+        return Some(Parting {
+            goes: router,
+            stays: other,
+            by,
+        });
+    }
+    let by = unmatched(graph, outgoing, numbers, other, router)?;
+    Some(Parting {
+        goes: other,
+        stays: router,
+        by,
+    })
 }
 
-// The first router from a place on that differs from the leader of its block, and an edge that parts
-// the two.
-fn next_uneven(
+// The first router from a place on that differs from the leader of its block, and what parts the two.
+fn next_parting(
     graph: &ActGraph,
     outgoing: &[Vec<Placed>],
     numbers: &[usize],
     leaders: &[u32],
     from: u32,
-) -> Option<(u32, Placed)>
+) -> Option<(u32, Parting)>
     requires index { AreIndexed graph.now outgoing.now }
     requires total { length numbers.now ≡ graph.now.count }
     requires known { All (λ number. (0 < number) × (number ≤ length leaders.now)) numbers.now }
     requires leaders { AreLeaders numbers.now leaders.now }
-    ensures { MatchOption result (AreEvenFrom graph.now.edges numbers.now leaders.now from) (λ f. IsParting graph.now.edges numbers.now f.1 f.0) }
+    ensures { MatchOption result (AreEvenFrom graph.now.edges numbers.now leaders.now from) (λ f. IsParting graph.now.edges numbers.now f.1) }
 {
     for router in from..graph.count {
         let leader = leaders[numbers[router as usize] - 1];
-        if let Some(p) = uneven(graph, outgoing, numbers, leader, router) {
+        if let Some(p) = what_parts(graph, outgoing, numbers, leader, router) {
             return Some((router, p));
         }
     }
     None
 }
 
-// The blocks after the split by an edge that parts the block of the router.
+// The blocks after the split by an edge that parts a block.
 fn divided(
     alloc: Global,
     graph: &ActGraph,
     outgoing: &[Vec<Placed>],
     blocks: &Blocks,
-    router: u32,
-    p: Placed,
+    p: Parting,
 ) -> Result<(Blocks, Split), NoMemory>
     requires index { AreIndexed graph.now outgoing.now }
     requires total { length blocks.now.numbers ≡ graph.now.count }
     requires few { graph.now.count < 2 ^ 32 }
-    requires parting { IsParting graph.now.edges blocks.now.numbers p router }
+    requires parting { IsParting graph.now.edges blocks.now.numbers p }
     ensures made { IfOk result (λ r. split_by graph.now.edges blocks.now r.1 ≡ Ok r.0) }
+    ensures by { IfOk result (λ r. IsSplitBy blocks.now.numbers p r.1) }
     ensures place { IfOk result (λ r. r.1.edge < length graph.now.edges) }
     ensures in_use { IfOk result (λ r. AreInUse r.0.numbers r.0.count) }
 {
     let _count = blocks.count();
-    let block = blocks.number_of(router);
-    let by = blocks.number_of(p.edge.exporter);
-    let edge = p.place;
+    let block = blocks.number_of(p.goes);
+    let by = blocks.number_of(p.by.edge.exporter);
+    let edge = p.by.place;
     let split = Split { block, by, edge };
-    match blocks.split_by(alloc, graph, outgoing, split, p.edge.act) {
+    match blocks.split_by(alloc, graph, outgoing, split, p.by.edge.act) {
         Ok(next) => {
             let _count = next.count();
             Ok((next, split))
@@ -105,6 +125,17 @@ fn divided(
         Err(Stop::Memory) => Err(NoMemory),
         Err(Stop::Fault(_)) => unreachable!(),
     }
+}
+
+// The member that stays leads the divided block, and the one that goes the next block.
+fn lead(leaders: &mut Vec<u32>, block: u32, p: Parting) -> Result<(), NoMemory>
+    requires some { 0 < block }
+    requires known { block ≤ length leaders.old.items }
+    ensures { OnOk result (leaders.new.items ≡ slice_set leaders.old.items (block - 1) p.stays ++ p.goes ∷ []) }
+{
+    leaders[block as usize - 1] = p.stays;
+    leaders.push(p.goes)?;
+    Ok(())
 }
 
 // Splits until all blocks are even.
@@ -123,13 +154,14 @@ fn refined(
 {
     let mut count = first.count();
     let mut blocks = first;
+    let mut leaders = leaders(alloc, blocks.numbers(), count)?;
     let mut splits = List::new(alloc);
     let mut from = 0;
     'splitting: loop {
-        let leaders = leaders(alloc, blocks.numbers(), count)?;
-        match next_uneven(graph, outgoing, blocks.numbers(), &leaders, from) {
+        match next_parting(graph, outgoing, blocks.numbers(), &leaders, from) {
             Some((router, p)) => {
-                let (next, split) = divided(alloc, graph, outgoing, &blocks, router, p)?;
+                let (next, split) = divided(alloc, graph, outgoing, &blocks, p)?;
+                lead(&mut leaders, split.block, p)?;
                 splits.push(split)?;
                 count = next.count();
                 blocks = next;

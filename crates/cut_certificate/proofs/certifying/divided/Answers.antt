@@ -8,6 +8,6 @@ pub unreachable-requires : goal.unreachable-requires
 unreachable-requires c =
     let edges = c.args.graph.now.edges in
     let blocks = c.args.blocks.now in
-    let split : Split = record { block = c.number_of-block.result; by = c.number_of-by.result; edge = c.args.p.place } in
+    let split : Split = record { block = c.number_of-block.result; by = c.number_of-by.result; edge = c.args.p.by.place } in
     no_fault c.in-Err-Fault.field-0 c.in-Err-Fault.field-0-0 (split_by edges blocks split) (blocks_after edges blocks split) c.in-Err-Fault.ensures c.in-Err-Fault.field-0-is
-    (parting_splits edges blocks c.args.p c.args.router split c.count-count.ensures.in_use c.requires.parting c.number_of-block.ensures c.number_of-by.ensures refl)
+    (parting_splits edges blocks c.args.p split c.count-count.ensures.in_use c.requires.parting (record { block = c.number_of-block.ensures; by = c.number_of-by.ensures; edge = refl }))

@@ -1,6 +1,7 @@
 use Rattle.std.proofs.Common.{◌≡◌, ◌+◌, ◌-◌, ◌*◌, cond, nat_eq, length}
 use Rattle.cut_certificate.specs.Certificates.{AreAfter}
 use Rattle.cut_certificate.specs.InUse.{AreInUse}
+use Rattle.cut_certificate.specs.Uneven.{AreLeaders}
 use Rattle.cut_certificate.proofs.certifying.refined.Given as goal
 
 -- the splits so far lead to the blocks
@@ -11,6 +12,8 @@ invariant-splitting l = record {
   counted : l.count ≡ l.blocks.count;
   in_use : AreInUse l.blocks.numbers l.blocks.count;
   few : length l.splits + l.fn.first.count ≡ l.count;
+  led : AreLeaders l.blocks.numbers l.leaders.items;
+  many : length l.leaders.items ≡ l.count;
 }
 
 -- each split makes one block more, and the routers are gone over again once behind it

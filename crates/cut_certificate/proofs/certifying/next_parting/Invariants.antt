@@ -1,7 +1,7 @@
 use Rattle.std.proofs.Common.{◌≡◌, ℕ, ◌-◌, ◌<◌, ◌≤◌, true}
 use Rattle.std.specs.Prelude.{slice_index}
 use Rattle.cut_certificate.specs.Evenness.{mirror_each_other}
-use Rattle.cut_certificate.proofs.certifying.next_uneven.Given as goal
+use Rattle.cut_certificate.proofs.certifying.next_parting.Given as goal
 
 -- each router so far and its leader mirror each other
 abbrev pub invariant-loop-router : goal.invariant-loop-router
