@@ -101,7 +101,7 @@ routers_back : (names : List (List ℕ)) (group : List ℕ) → AreApart names �
 routers_back names [] apart known = refl
 routers_back names (u ∷ group) apart known = rw (router_back names u apart known.0, routers_back names group apart known.1) refl
 
-name_is : (names : List (List ℕ)) (u : ℕ) → AllByRecursion (λ (name : List ℕ). is_router_name name ≡ true) names → u < length names → is_router_name (printed_name names u) ≡ true
+pub name_is : (names : List (List ℕ)) (u : ℕ) → AllByRecursion (λ (name : List ℕ). is_router_name name ≡ true) names → u < length names → is_router_name (printed_name names u) ≡ true
 name_is [] u each h = absurd (omega arith)
 name_is (name ∷ names) zero each h = each.0
 name_is (name ∷ names) (suc u) each h = name_is names u each.1 (omega arith)
@@ -137,7 +137,7 @@ same_edge o k e = same_place o k e
 edge_back : (edges : List Edge) (k : ℕ) → AreOfLinks edges → k < length edges → edge_named edges (edge_importer edges k) (edge_link edges k) ≡ Some k
 edge_back edges k links h = same_edge (edge_named edges (edge_importer edges k) (edge_link edges k)) k (edge_place edges 0 k links h)
 
-link_known : (edges : List Edge) (k : ℕ) → AllByRecursion (λ (e : Edge). e.link ≤ 4294967295) edges → k < length edges → edge_link edges k ≤ 4294967295
+pub link_known : (edges : List Edge) (k : ℕ) → AllByRecursion (λ (e : Edge). e.link ≤ 4294967295) edges → k < length edges → edge_link edges k ≤ 4294967295
 link_known [] k known h = absurd (omega arith)
 link_known (e ∷ edges) zero known h = known.0
 link_known (e ∷ edges) (suc k) known h = link_known edges k known.1 (omega arith)
@@ -172,7 +172,7 @@ at_most blocks n known = by (and_second (nat_le 1 n) (nat_le n blocks.count) kno
     by : nat_le n blocks.count ≡ true → n ≤ blocks.count
     by e = grind (arith, nat_tests)
 
-first_blocks_used : (graph : ActGraph) → AreInUse (first_blocks graph).numbers (first_blocks graph).count
+pub first_blocks_used : (graph : ActGraph) → AreInUse (first_blocks graph).numbers (first_blocks graph).count
 unfolding first_blocks
 first_blocks_used graph = first_used graph.colors
 
@@ -198,7 +198,7 @@ module _ (graph : ActGraph) (names : List (List ℕ)) (can : CanBeNamed graph na
       ∙ ap (with_edge edges s split.block split.by) (edge_back edges split.edge can.one_of_link inside)
       ∙ ap (with_blocks s split) made
 
-  small_block : (blocks : Blocks) (split : Split) (next : Blocks) → AreInUse blocks.numbers blocks.count → length blocks.numbers ≡ graph.count → split_by edges blocks split ≡ Ok next → (split.block ≤ 4294967295) × (split.by ≤ 4294967295)
+  pub small_block : (blocks : Blocks) (split : Split) (next : Blocks) → AreInUse blocks.numbers blocks.count → length blocks.numbers ≡ graph.count → split_by edges blocks split ≡ Ok next → (split.block ≤ 4294967295) × (split.by ≤ 4294967295)
   small_block blocks split next used total is =
       let m = made edges blocks split next is in
       let known = m.known in
@@ -208,7 +208,7 @@ module _ (graph : ActGraph) (names : List (List ℕ)) (can : CanBeNamed graph na
       let t = at_most blocks split.by (and_second _ _ known) in
       (omega arith, omega arith)
 
-  used_next : (blocks : Blocks) (split : Split) (next : Blocks) → AreInUse blocks.numbers blocks.count → split_by edges blocks split ≡ Ok next → AreInUse next.numbers next.count
+  pub used_next : (blocks : Blocks) (split : Split) (next : Blocks) → AreInUse blocks.numbers blocks.count → split_by edges blocks split ≡ Ok next → AreInUse next.numbers next.count
   used_next blocks split next used is =
       let m = made edges blocks split next is in
       subst (λ (b : Blocks). AreInUse b.numbers b.count) (sym m.is) (split_used edges blocks.numbers blocks.count split.block split.by (edge_act edges split.edge) used (and_first _ _ m.parts) (and_second _ _ m.parts))
@@ -368,7 +368,7 @@ groups_fine : (numbers : List ℕ) (count : ℕ) (ns : List ℕ) → length numb
 groups_fine numbers count [] total each = tt
 groups_fine numbers count (n ∷ ns) total each = (group_fine numbers count n total (each n (inl refl)), groups_fine numbers count ns total (λ m h. each m (inr h)))
 
-all_groups : (numbers : List ℕ) (count : ℕ) → length numbers ≡ count → AllByRecursion (λ (group : List ℕ). (0 < length group) × AllByRecursion (λ u. u < count) group) (groups_of numbers)
+pub all_groups : (numbers : List ℕ) (count : ℕ) → length numbers ≡ count → AllByRecursion (λ (group : List ℕ). (0 < length group) × AllByRecursion (λ u. u < count) group) (groups_of numbers)
 unfolding groups_of
 all_groups numbers count total = groups_fine numbers count (distinct numbers) total (λ n h. distinct_only numbers n (in_has (distinct numbers) n h))
 

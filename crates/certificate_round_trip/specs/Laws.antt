@@ -28,3 +28,8 @@ pub record CanBeNamed (graph : ActGraph) (names : List (List ℕ)) : Type 0 wher
 abbrev pub PrintedIsReadBack : Type 0
 PrintedIsReadBack = (graph : ActGraph) (names : List (List ℕ)) (c : Certificate) → CanBeNamed graph names → IsAccepted graph c
     → certificate_of_text graph names (certificate_text graph.edges names c) ≡ Ok c
+
+-- Its text for at most 4,096 routers, with at most as many splits as routers, has at most 16,777,216 bytes.
+abbrev pub PrintedIsShort : Type 0
+PrintedIsShort = (graph : ActGraph) (names : List (List ℕ)) (c : Certificate) → CanBeNamed graph names → IsAccepted graph c → length c.splits ≤ graph.count → graph.count ≤ 4096
+    → length (certificate_text graph.edges names c) ≤ 16777216
