@@ -1,2 +1,4 @@
+mod Agreement
 mod Carried
+mod Named
 mod OneVerify

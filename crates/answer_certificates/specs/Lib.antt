@@ -1,3 +1,4 @@
+pub mod Agreement
 pub mod Certified
 pub mod OneAnswer
 pub mod Verified
