@@ -4,6 +4,7 @@ ghost use Rattle.cfg_ast.specs.meaning.Classes.{classes_of};
 ghost use Rattle.cfg_ast.specs.meaning.PolicyFaults.{communities_of};
 ghost use Rattle.cfg_ast.specs.meaning.Topology.{links_of};
 ghost use Rattle.route_maps.specs.Within.{AreWithin};
+ghost use Rattle.srp_build.specs.Directions.{AreDirectionsOf};
 ghost use Rattle.answer_reports.specs.Groupings.{IsGroupingOf};
 
 use abstract_net::{Quotient, quotient};
@@ -13,7 +14,7 @@ use cfg_ast::{DestClass, Link};
 use cfg_check::Checked;
 use dd_core::Store;
 use refine_partition::{Partition, coarsest};
-use srp_build::build;
+use srp_build::{Directions, build_over, directions_of};
 use srp_core::Srp;
 use std::alloc::Global;
 use std::marker::Brand;
@@ -45,22 +46,22 @@ fn coarsest_of(alloc: Global, graph: &ActGraph) -> Result<Partition, NoMemory>
     counted::<Brand>(alloc, graph, Blank::new(1))
 }
 
-/// The grouping of a class, from the links of the network and a store of diagrams over all communities
-/// that the network names. The store may grow.
+/// The grouping of a class, from the directions of the network and a store of diagrams over all
+/// communities that the network names. The store may grow.
 pub(crate) fn grouping_of(
     alloc: Global,
     checked: &Checked,
-    links: &List<Link>,
+    directions: &Directions,
     class: &DestClass,
     store: &mut Store,
 ) -> Result<Grouping, NoMemory>
-    requires links { links.now ≡ links_of checked.now.network }
+    requires directions { AreDirectionsOf checked.now.network directions.now }
     requires class { Contains (classes_of checked.now.network) class.now }
     requires known { AreWithin store.old.universe (communities_of checked.now.network) }
     ensures universe { store.new.universe ≡ store.old.universe }
     ensures grouping { IfOk result (IsGroupingOf checked.now.network class.now) }
 {
-    let problem = build(alloc, checked, links, class, store)?;
+    let problem = build_over(alloc, checked, directions, class, store)?;
     let graph = problem.graph()?;
     let groups = coarsest_of(alloc, &graph)?;
     let quotient = quotient(alloc, &graph, &groups)?;
@@ -82,6 +83,7 @@ pub(crate) fn grouping_alone(
     requires class { Contains (classes_of checked.now.network) class.now }
     ensures { IfOk result (IsGroupingOf checked.now.network class.now) }
 {
+    let directions = directions_of(alloc, checked, links)?;
     let mut store = store_of(alloc, checked)?;
-    grouping_of(alloc, checked, links, class, &mut store)
+    grouping_of(alloc, checked, &directions, class, &mut store)
 }
