@@ -5,14 +5,14 @@ ghost use Rattle.srp_core.specs.Problem.{count};
 ghost use Rattle.srp_core.specs.Stability.{AreLabels, IsStable};
 ghost use Rattle.base_kit.specs.Names.{AreApart};
 ghost use Rattle.route_run.specs.Schedules.{routers_of, run_of, IsSingle};
-ghost use Rattle.answer_kit.specs.Outcome.{done, not_stable};
-ghost use Rattle.answer_kit.specs.Replies.{Answers, Only};
+ghost use Rattle.answer_kit.specs.Outcome.{done};
+ghost use Rattle.answer_kit.specs.Replies.{Answers};
 ghost use Rattle.answer_kit.specs.SecondFiles.{IsOfSolution};
-ghost use Rattle.answer_solutions.specs.Checks.{name_of_break, break_reason};
 ghost use Rattle.answer_runs.specs.Reaches.{name_lines, IsOrderTold, IsReach, IsReachOf, IsReachAnswer};
 
 use crate::name::name_of;
 use answer_kit::{Reply, class_at, no_class, problem_of_class, solution_of};
+use answer_solutions::breaks::broken;
 use base_kit::NoMemory;
 use cfg_ast::DestClass;
 use cfg_check::Checked;
@@ -67,38 +67,6 @@ fn ordered(alloc: Global, problem: &Srp, labels: &Labels) -> Reply
     match order_text(alloc, problem, labels) {
         Ok(bytes) => Reply::Output(bytes),
         Err(NoMemory) => Reply::NoMemory,
-    }
-}
-
-fn name_of_break(why: u8) -> &'static str
-    ensures { result.now ≡ name_of_break why }
-{
-    if why == 1 {
-        "wrong-origin"
-    } else if why == 2 {
-        "not-a-candidate"
-    } else if why == 3 {
-        "better-candidate"
-    } else {
-        "none-with-candidate"
-    }
-}
-
-fn break_reason(alloc: Global, problem: &Srp, router: u32, why: u8) -> Result<Vec<u8>, AllocError>
-    ensures { IfOk result (λ bytes. bytes.items ≡ break_reason problem.now router why) }
-{
-    let name = name_of(problem, router);
-    let reason = name_of_break(why);
-    let text = format!(in alloc; "{name} {reason}")?;
-    Ok(text.into_bytes())
-}
-
-fn broken(alloc: Global, problem: &Srp, router: u32, why: u8) -> Reply
-    ensures { Answers result (Only (not_stable (break_reason problem.now router why))) ⊥ ⊥ }
-{
-    match break_reason(alloc, problem, router, why) {
-        Ok(reason) => Reply::NotStable(reason),
-        Err(_) => Reply::NoMemory,
     }
 }
 

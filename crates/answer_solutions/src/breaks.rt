@@ -1,3 +1,5 @@
+//! What is told of labels that are not stable.
+
 ghost use Rattle.std.specs.Prelude.{◌≡◌, IfOk};
 ghost use Rattle.answer_kit.specs.Outcome.{not_stable};
 ghost use Rattle.answer_kit.specs.Replies.{Answers, Only};

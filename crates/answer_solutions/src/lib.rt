@@ -6,7 +6,7 @@
 //! and that what `fold` and `lift` write is read as labels that are stable there and correspond.
 #![tactic(auto)]
 
-mod breaks;
+pub mod breaks;
 pub mod check;
 pub mod fold;
 pub mod laws;
