@@ -1,0 +1,244 @@
+//! Files and outputs that fail at a call, that take few bytes at once, or that never fail.
+use crate::ring::ring;
+use base_kit::List;
+use bonsai_top::{Status, run};
+use io_kit::{MemSink, MemSource, Sink, Source, SureSink, SureSource};
+use std::alloc::Global;
+use std::test::Fail;
+
+// What the program answers to these words. It promises nothing, so that each test is proved without the
+// contract of `run`.
+fn answer<S: Source, O: Sink, E: Sink>(
+    alloc: Global,
+    list: &[&str],
+    files: &mut S,
+    out: &mut O,
+    err: &mut E,
+) -> Result<Status, Fail> {
+    let mut words = Vec::new(alloc);
+    for word in list {
+        words.push(String::from_str(alloc, word)?)?;
+    }
+    Ok(run(alloc, &words, files, out, err))
+}
+
+fn no_call(alloc: Global) -> List<u64> {
+    List::new(alloc)
+}
+
+fn one_call(alloc: Global, call: u64) -> Result<List<u64>, Fail> {
+    let mut calls = List::new(alloc);
+    calls.push(call)?;
+    Ok(calls)
+}
+
+fn no_files(alloc: Global) -> MemSource {
+    MemSource::new(List::new(alloc), List::new(alloc))
+}
+
+// The files of the ring, of which one call fails.
+fn ring_failing_at(alloc: Global, call: u64) -> Result<MemSource, Fail> {
+    Ok(MemSource::new(ring(alloc)?, one_call(alloc, call)?))
+}
+
+fn sink(alloc: Global, failing: List<u64>) -> Result<MemSink, Fail> {
+    let sink = MemSink::new(alloc, 4096, 4096, failing)?;
+    Ok(sink)
+}
+
+// What `check` answers of the ring's stable solution, where a call of the files fails, and what it wrote.
+fn check_ring(alloc: Global, call: u64) -> Result<(Status, MemSink, MemSink), Fail> {
+    let mut files = ring_failing_at(alloc, call)?;
+    let mut out = sink(alloc, no_call(alloc))?;
+    let mut err = sink(alloc, no_call(alloc))?;
+    let status = answer(
+        alloc,
+        &["check", "F", "1", "S"],
+        &mut files,
+        &mut out,
+        &mut err,
+    )?;
+    Ok((status, out, err))
+}
+
+// The same, where the output takes three bytes at once and fails at a call.
+fn check_ring_in_threes(alloc: Global, call: u64) -> Result<(Status, MemSink, MemSink), Fail> {
+    let mut files = MemSource::new(ring(alloc)?, no_call(alloc));
+    let mut out = MemSink::new(alloc, 3, 4096, one_call(alloc, call)?)?;
+    let mut err = sink(alloc, no_call(alloc))?;
+    let status = answer(
+        alloc,
+        &["check", "F", "1", "S"],
+        &mut files,
+        &mut out,
+        &mut err,
+    )?;
+    Ok((status, out, err))
+}
+
+#[test]
+fn words_of_no_form_are_misuse(rt: HostRuntime) -> Result<(), Fail> {
+    let alloc = rt.alloc();
+    let mut out = sink(alloc, no_call(alloc))?;
+    let mut err = sink(alloc, no_call(alloc))?;
+    let status = answer(
+        alloc,
+        &["groups", "F"],
+        &mut no_files(alloc),
+        &mut out,
+        &mut err,
+    )?;
+    assert_eq!(rt; status, Status::Usage);
+    assert!(rt; out.taken().is_empty());
+    Ok(())
+}
+
+#[test]
+fn a_file_that_is_not_there_is_named(rt: HostRuntime) -> Result<(), Fail> {
+    let alloc = rt.alloc();
+    let mut out = sink(alloc, no_call(alloc))?;
+    let mut err = sink(alloc, no_call(alloc))?;
+    let status = answer(
+        alloc,
+        &["classes", "F"],
+        &mut no_files(alloc),
+        &mut out,
+        &mut err,
+    )?;
+    assert_eq!(rt; status, Status::ReadFault);
+    assert_eq!(rt; err.taken(), b"read fault: F\n".as_slice());
+    Ok(())
+}
+
+#[test]
+fn an_output_that_fails_is_told_on_err(rt: HostRuntime) -> Result<(), Fail> {
+    let alloc = rt.alloc();
+    let mut out = MemSink::new(alloc, 3, 4096, one_call(alloc, 2)?)?;
+    let mut err = sink(alloc, no_call(alloc))?;
+    let status = answer(
+        alloc,
+        &["trial", "4"],
+        &mut no_files(alloc),
+        &mut out,
+        &mut err,
+    )?;
+    assert_eq!(rt; status, Status::WriteFault);
+    assert_eq!(rt; out.taken(), b"cla".as_slice());
+    assert_eq!(rt; err.taken(), b"write fault\n".as_slice());
+    Ok(())
+}
+
+#[test]
+fn a_file_that_fails_at_once_is_named(rt: HostRuntime) -> Result<(), Fail> {
+    let alloc = rt.alloc();
+    let mut files = ring_failing_at(alloc, 1)?;
+    let mut out = sink(alloc, no_call(alloc))?;
+    let mut err = sink(alloc, no_call(alloc))?;
+    let status = answer(alloc, &["groups", "F", "1"], &mut files, &mut out, &mut err)?;
+    assert_eq!(rt; status, Status::ReadFault);
+    assert!(rt; out.taken().is_empty());
+    assert_eq!(rt; err.taken(), b"read fault: F\n".as_slice());
+    Ok(())
+}
+
+#[test]
+fn an_output_that_fails_keeps_the_first_bytes(rt: HostRuntime) -> Result<(), Fail> {
+    let alloc = rt.alloc();
+    let mut files = MemSource::new(ring(alloc)?, no_call(alloc));
+    let mut out = MemSink::new(alloc, 10, 4096, one_call(alloc, 2)?)?;
+    let mut err = sink(alloc, no_call(alloc))?;
+    let status = answer(
+        alloc,
+        &["compress", "F", "1"],
+        &mut files,
+        &mut out,
+        &mut err,
+    )?;
+    assert_eq!(rt; status, Status::WriteFault);
+    assert_eq!(rt; out.taken(), b"hostname a".as_slice());
+    assert_eq!(rt; err.taken(), b"write fault\n".as_slice());
+    Ok(())
+}
+
+// The configurations are begun, read, and read to their end; then the solution is.
+#[test]
+fn the_file_whose_call_fails_is_named(rt: HostRuntime) -> Result<(), Fail> {
+    let alloc = rt.alloc();
+    for call in 1..7u64 {
+        let (status, out, err) = check_ring(alloc, call)?;
+        assert_eq!(rt; status, Status::ReadFault, "at call {call}");
+        assert!(rt; out.taken().is_empty(), "at call {call}");
+        let line: &[u8] = if call < 4 {
+            b"read fault: F\n"
+        } else {
+            b"read fault: S\n"
+        };
+        assert_eq!(rt; err.taken(), line, "at call {call}");
+    }
+    Ok(())
+}
+
+#[test]
+fn a_later_call_is_not_made(rt: HostRuntime) -> Result<(), Fail> {
+    let alloc = rt.alloc();
+    let (status, out, err) = check_ring(alloc, 7)?;
+    assert_eq!(rt; status, Status::Done);
+    assert_eq!(rt; out.taken(), b"stable\n".as_slice());
+    assert!(rt; err.taken().is_empty());
+    Ok(())
+}
+
+#[test]
+fn an_output_keeps_what_it_took_in_threes(rt: HostRuntime) -> Result<(), Fail> {
+    let alloc = rt.alloc();
+    let cases: [(u64, &[u8]); 3] = [(1, b""), (2, b"sta"), (3, b"stable")];
+    for (call, taken) in cases {
+        let (status, out, err) = check_ring_in_threes(alloc, call)?;
+        assert_eq!(rt; status, Status::WriteFault, "at call {call}");
+        assert_eq!(rt; out.taken(), taken, "at call {call}");
+        assert_eq!(rt; err.taken(), b"write fault\n".as_slice(), "at call {call}");
+    }
+    Ok(())
+}
+
+// That the first call fails shows that none was made before.
+#[test]
+fn misuse_reads_no_file(rt: HostRuntime) -> Result<(), Fail> {
+    let alloc = rt.alloc();
+    let mut files = ring_failing_at(alloc, 1)?;
+    let mut out = sink(alloc, no_call(alloc))?;
+    let mut err = sink(alloc, one_call(alloc, 1)?)?;
+    let status = answer(alloc, &[], &mut files, &mut out, &mut err)?;
+    assert_eq!(rt; status, Status::WriteFault);
+    assert!(rt; files.begin("F").is_err());
+    assert!(rt; files.begin("F").is_ok());
+    Ok(())
+}
+
+#[test]
+fn a_sure_source_without_the_file_has_an_empty_one(rt: HostRuntime) -> Result<(), Fail> {
+    let alloc = rt.alloc();
+    let mut files = SureSource::new(List::new(alloc));
+    let mut out = sink(alloc, no_call(alloc))?;
+    let mut err = sink(alloc, no_call(alloc))?;
+    let status = answer(alloc, &["classes", "F"], &mut files, &mut out, &mut err)?;
+    assert_eq!(rt; status, Status::Done);
+    assert!(rt; out.taken().is_empty());
+    assert!(rt; err.taken().is_empty());
+    Ok(())
+}
+
+#[test]
+fn devices_that_never_fail_are_done(rt: HostRuntime) -> Result<(), Fail> {
+    let alloc = rt.alloc();
+    let mut files = SureSource::new(ring(alloc)?);
+    let status = answer(
+        alloc,
+        &["check", "F", "1", "S"],
+        &mut files,
+        &mut SureSink::new(),
+        &mut SureSink::new(),
+    )?;
+    assert_eq!(rt; status, Status::Done);
+    Ok(())
+}
