@@ -4,4 +4,6 @@
 #[cfg(test)]
 mod devices;
 #[cfg(test)]
+mod names;
+#[cfg(test)]
 mod ring;
