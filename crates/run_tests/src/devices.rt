@@ -1,26 +1,11 @@
 //! Files and outputs that fail at a call, that take few bytes at once, or that never fail.
+use crate::answer::answer;
 use crate::ring::ring;
 use base_kit::List;
-use bonsai_top::{Status, run};
+use bonsai_top::Status;
 use io_kit::{MemSink, MemSource, Sink, Source, SureSink, SureSource};
 use std::alloc::Global;
 use std::test::Fail;
-
-// What the program answers to these words. It promises nothing, so that each test is proved without the
-// contract of `run`.
-fn answer<S: Source, O: Sink, E: Sink>(
-    alloc: Global,
-    list: &[&str],
-    files: &mut S,
-    out: &mut O,
-    err: &mut E,
-) -> Result<Status, Fail> {
-    let mut words = Vec::new(alloc);
-    for word in list {
-        words.push(String::from_str(alloc, word)?)?;
-    }
-    Ok(run(alloc, &words, files, out, err))
-}
 
 fn no_call(alloc: Global) -> List<u64> {
     List::new(alloc)

@@ -2,11 +2,11 @@
 ghost use Rattle.std.specs.Prelude.{Some};
 ghost use Rattle.io_kit.specs.Files.{all_begun, contents_or_empty};
 
+use crate::answer::answer;
 use crate::ring::ring;
 use base_kit::List;
-use bonsai_top::{Status, run};
+use bonsai_top::Status;
 use io_kit::{Failed, MemSink, Source, SureSource};
-use std::alloc::Global;
 use std::test::Fail;
 
 /// Files in memory that note each name that is begun.
@@ -33,22 +33,6 @@ impl Source for NotingSource {
     fn read(&mut self, buf: &mut [u8]) -> Result<usize, Failed> {
         self.files.read(buf)
     }
-}
-
-// What the program answers to these words. It promises nothing, so that the test is proved without the
-// contract of `run`.
-fn answer(
-    alloc: Global,
-    list: &[&str],
-    files: &mut NotingSource,
-    out: &mut MemSink,
-    err: &mut MemSink,
-) -> Result<Status, Fail> {
-    let mut words = Vec::new(alloc);
-    for word in list {
-        words.push(String::from_str(alloc, word)?)?;
-    }
-    Ok(run(alloc, &words, files, out, err))
 }
 
 #[test]
