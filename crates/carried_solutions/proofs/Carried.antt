@@ -2,6 +2,7 @@
 use Rattle.std.proofs.Common.{◌≡◌, ℕ, ◌-◌, Bool, true, false, List, Option, Some, None, Ok, refl, sym, ap, ◌∙◌, subst}
 use Rattle.std.specs.Prelude.{Contains, codes, nat_eq}
 use Rattle.base_kit.specs.Partition.{IsNumbered}
+use Rattle.base_kit.specs.Prefixes.{Prefix}
 use Rattle.cfg_ast.specs.declared.network.Network.{Network}
 use Rattle.cfg_ast.specs.declared.classes.DestClass.{DestClass}
 use Rattle.cfg_ast.specs.meaning.Classes.{classes_of}
@@ -81,12 +82,13 @@ module _ (has_problem : TextHasProblemOfGroups) (built : BuiltProblemIsOne) (n :
       let t = plan_text n number class configurations at written in
       let r = has_problem n class t.plan given faultless has t.is t.apart t.short in
       let one = one_small n class has built t.plan t.is s are in
+      let own : (p : Prefix) → Contains class.prefixes p → IsProblemOf r.read p s.small = λ p i. subst (IsProblemOf r.read p) (sym one) (r.problem p (subst (λ (c : DestClass). Contains c.prefixes p) (sym t.is.class_is) i)) in
       record {
         read = r.read;
         reads = subst (λ (bytes : List ℕ). reading_of bytes ≡ Ok r.read) (sym t.text) r.reads;
+        problem = λ p i. (s.small, own p i);
         stable = λ p i problem of. (
-            let own : IsProblemOf r.read p s.small = subst (IsProblemOf r.read p) (sym one) (r.problem p (subst (λ (c : DestClass). Contains c.prefixes p) (sym t.is.class_is) i)) in
-            let alike = problems_alike r.read p s.small problem own of in
+            let alike = problems_alike r.read p s.small problem (own p i) of in
             record { labels = labels; reads = sym (same_reading s.small problem alike.protocol alike.names solution) ∙ reads; stable = same_stable s.small problem alike labels stable });
       }
 

@@ -22,10 +22,12 @@ pub record IsStableText (problem : Problem) (solution : List ℕ) : Type 0 where
   pub reads : labels_of_text problem.protocol problem.names solution ≡ Ok labels
   pub stable : IsStable problem labels
 
--- The configurations are read as a network, and the solution gives stable labels of it for each prefix of the class.
+-- The configurations are read as a network that has a problem for each prefix of the class, and the solution gives
+-- stable labels of each such problem.
 pub record Solves (solution configurations : List ℕ) (class : DestClass) : Type 0 where
   pub read : Network
   pub reads : reading_of configurations ≡ Ok read
+  pub problem : (p : Prefix) → Contains class.prefixes p → (problem : Problem) × IsProblemOf read p problem
   pub stable : (p : Prefix) → Contains class.prefixes p → (problem : Problem) → IsProblemOf read p problem → IsStableText problem solution
 
 -- the same for the class of a number
