@@ -1,11 +1,12 @@
 -- The longest head, found among the heads that can begin the line.
-use Rattle.std.proofs.Common.{◌≡◌, ℕ, ◌||◌, ◌&&◌, Bool, true, false, List, [], ◌∷◌, get_or, nat_eq, codes, bytes_eq, Option, Some, None, refl, arith}
+use Rattle.std.proofs.Common.{◌≡◌, ℕ, ◌||◌, ◌&&◌, Bool, true, false, List, [], ◌∷◌, zero, suc, get_or, drop, filter, ◌==◌, nat_eq, codes, bytes_eq, Option, Some, None, refl, ◌∙◌, arith}
 use Rattle.std.specs.Prelude.{if◌then◌else◌}
 use Rattle.std.proofs.lemmas.Bool.Decides.{nat_tests}
 use Rattle.std.specs.Option.{is_some}
+use Rattle.cfg_ast.specs.declared.heads.HeadClass.{HeadClass}
 use Rattle.cfg_ast.specs.text.Words.{number_between}
 use Rattle.cfg_ast.specs.text.Heads.{Row, longer, longest, begins, is_word_for, class_in}
-use Rattle.cfg_words.specs.Rows.{first_byte, can_stand_for, can_begin, begun_by}
+use Rattle.cfg_words.specs.Rows.{first_byte, can_stand_for, can_begin, begun_by, going_on, narrowed}
 
 longer_none : (best : Option Row) → longer best None ≡ best
 longer_none None = refl
@@ -43,14 +44,43 @@ begins_none [] words none = absurd cc
 begins_none (head_word ∷ head) [] none = refl
 begins_none (head_word ∷ head) (word ∷ words) none = rw (unfit head_word word none) refl
 
-longest_by : (row : Row) (rows : List Row) (words : List (List ℕ)) (b : Bool) → can_begin (first_byte words) row.words ≡ b → longest (begun_by (first_byte words) rows) words ≡ longest rows words
-    → longest (begun_by (first_byte words) (row ∷ rows)) words ≡ longest (row ∷ rows) words
-longest_by row rows words true can same = rw can (rw same refl)
-longest_by row rows words false can same = rw (can, begins_none row.words words can) same
+longest_by : (row : Row) (rows : List Row) (words : List (List ℕ)) (keeps : Row → Bool) (b : Bool) → keeps row ≡ b → (keeps row ≡ false → begins row.words words ≡ false)
+    → longest (filter keeps rows) words ≡ longest rows words → longest (filter keeps (row ∷ rows)) words ≡ longest (row ∷ rows) words
+longest_by row rows words keeps true can none same = rw can (rw same refl)
+longest_by row rows words keeps false can none same = rw (can, none can) same
+
+-- rows that do not begin the line may be left out
+longest_kept : (rows : List Row) (words : List (List ℕ)) (keeps : Row → Bool) → ((r : Row) → keeps r ≡ false → begins r.words words ≡ false) → longest (filter keeps rows) words ≡ longest rows words
+longest_kept [] words keeps none = refl
+longest_kept (row ∷ rows) words keeps none = longest_by row rows words keeps (keeps row) refl (none row) (longest_kept rows words keeps none)
 
 longest_begun : (rows : List Row) (words : List (List ℕ)) → longest (begun_by (first_byte words) rows) words ≡ longest rows words
-longest_begun [] words = refl
-longest_begun (row ∷ rows) words = longest_by row rows words (can_begin (first_byte words) row.words) refl (longest_begun rows words)
+longest_begun rows words = longest_kept rows words (λ (r : Row). can_begin (first_byte words) r.words) (λ r none. begins_none r.words words none)
 
 pub class_begun : (rows : List Row) (words : List (List ℕ)) → class_in (begun_by (first_byte words) rows) words ≡ class_in rows words
 class_begun rows words = rw (longest_begun rows words) refl
+
+-- ---- heads of which a later word cannot stand in the line
+
+both_none : (a b : Bool) → b ≡ false → (a && b) ≡ false
+both_none true b none = none
+both_none false b none = refl
+
+goes_on_none : (place : ℕ) (head words : List (List ℕ)) → can_begin (first_byte (drop place words)) (drop place head) ≡ false → begins head words ≡ false
+goes_on_none zero head words none = begins_none head words none
+goes_on_none (suc place) [] words none = absurd cc
+goes_on_none (suc place) (head_word ∷ head) [] none = refl
+goes_on_none (suc place) (head_word ∷ head) (word ∷ words) none = both_none (is_word_for head_word word) (begins head words) (goes_on_none place head words none)
+
+longest_going_on : (place : ℕ) (rows : List Row) (words : List (List ℕ)) → longest (going_on place (first_byte (drop place words)) rows) words ≡ longest rows words
+longest_going_on place rows words = longest_kept rows words (λ (r : Row). can_begin (first_byte (drop place words)) (drop place r.words)) (λ r none. goes_on_none place r.words words none)
+
+longest_narrowed : (place : ℕ) (b : Bool) (rows : List Row) (words : List (List ℕ))
+    → longest (if b then going_on place (first_byte (drop place words)) (begun_by (first_byte words) rows) else begun_by (first_byte words) rows) words ≡ longest rows words
+longest_narrowed place true rows words = longest_going_on place (begun_by (first_byte words) rows) words ∙ longest_begun rows words
+longest_narrowed place false rows words = longest_begun rows words
+
+-- a class that was found among the rows of a table for the bytes of the line
+pub class_narrowed : (letter place first later : ℕ) (all rows : List Row) (words : List (List ℕ)) (class : Option HeadClass) → class ≡ class_in rows words → rows ≡ narrowed letter place first later all
+    → first ≡ first_byte words → later ≡ first_byte (drop place words) → class ≡ class_in all words
+class_narrowed letter place first later all rows words class found narrow one other = rw (found, narrow, one, other, longest_narrowed place (first_byte words == letter) all words) refl

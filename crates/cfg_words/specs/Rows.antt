@@ -1,5 +1,5 @@
 -- The rows of the code's tables, as the tables of the heads have them.
-use Rattle.std.specs.Prelude.{ℕ, Bool, true, ◌||◌, List, [], ◌∷◌, map, filter, get_or, nat_eq, codes, bytes_eq}
+use Rattle.std.specs.Prelude.{ℕ, Bool, true, ◌||◌, List, [], ◌∷◌, map, filter, get_or, drop, nat_eq, ◌==◌, if◌then◌else◌, codes, bytes_eq}
 use Rattle.cfg_ast.specs.text.Heads.{Row}
 use Rattle.cfg_words.specs.declared.heads.Head.{Head}
 
@@ -27,3 +27,13 @@ can_begin first (word ∷ words) = can_stand_for word first
 -- the rows whose heads can begin a line that begins with the byte
 abbrev pub begun_by : ℕ → List Row → List Row
 begun_by first rows = filter (λ (r : Row). can_begin first r.words) rows
+
+-- ---- by the first byte of a later word too
+
+-- the rows whose words from the place on can stand in a line whose word at the place begins with the byte
+abbrev pub going_on : ℕ → ℕ → List Row → List Row
+going_on place later rows = filter (λ (r : Row). can_begin later (drop place r.words)) rows
+
+-- the rows that can begin a line by its first byte, and for one letter by the byte of a later word too
+abbrev pub narrowed : ℕ → ℕ → ℕ → ℕ → List Row → List Row
+narrowed letter place first later rows = if first == letter then going_on place later (begun_by first rows) else begun_by first rows

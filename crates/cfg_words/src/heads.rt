@@ -1,7 +1,7 @@
-ghost use Rattle.std.specs.Prelude.{◌≡◌, ◌++◌, length, map, if◌then◌else◌, Some, bytes_eq};
+ghost use Rattle.std.specs.Prelude.{◌≡◌, ◌++◌, length, map, drop, if◌then◌else◌, Some, bytes_eq};
 ghost use Rattle.std.specs.List.{AllByRecursion};
 ghost use Rattle.std.specs.Option.{option_map};
-ghost use Rattle.cfg_ast.specs.text.Heads.{is_word_for, begins, longest, longer, class_in, heads_of, policy_heads_of};
+ghost use Rattle.cfg_ast.specs.text.Heads.{is_word_for, begins, longest, longer, class_in, heads_of, policy_heads_of, top_heads, interface_heads, bgp_heads};
 ghost use Rattle.cfg_ast.specs.text.Lines.{IsWordIn, texts};
 ghost use Rattle.cfg_words.specs.Rows.{row_of, rows_of, first_byte};
 
@@ -93,6 +93,26 @@ fn first_byte(bytes: &[u8], words: &[Span]) -> u8
     }
 }
 
+fn second_byte(bytes: &[u8], words: &[Span]) -> u8
+    requires { AllByRecursion (IsWordIn bytes.now) words.now }
+    ensures { result ≡ first_byte (drop 1 (texts bytes.now words.now)) }
+{
+    match words {
+        [] => 0,
+        [_, others @ ..] => first_byte(bytes, others),
+    }
+}
+
+fn third_byte(bytes: &[u8], words: &[Span]) -> u8
+    requires { AllByRecursion (IsWordIn bytes.now) words.now }
+    ensures { result ≡ first_byte (drop 2 (texts bytes.now words.now)) }
+{
+    match words {
+        [] => 0,
+        [_, others @ ..] => second_byte(bytes, others),
+    }
+}
+
 fn class_among(rows: &[Head], bytes: &[u8], words: &[Span]) -> Option<HeadClass>
     requires { AllByRecursion (IsWordIn bytes.now) words.now }
     ensures { result ≡ class_in (rows_of rows.now) (texts bytes.now words.now) }
@@ -103,6 +123,30 @@ fn class_among(rows: &[Head], bytes: &[u8], words: &[Span]) -> Option<HeadClass>
     }
 }
 
+fn top_class(bytes: &[u8], words: &[Span]) -> Option<HeadClass>
+    requires { AllByRecursion (IsWordIn bytes.now) words.now }
+    ensures { result ≡ class_in top_heads (texts bytes.now words.now) }
+{
+    let rows = top::begun_by(first_byte(bytes, words), second_byte(bytes, words));
+    class_among(rows, bytes, words)
+}
+
+fn interface_class(bytes: &[u8], words: &[Span]) -> Option<HeadClass>
+    requires { AllByRecursion (IsWordIn bytes.now) words.now }
+    ensures { result ≡ class_in interface_heads (texts bytes.now words.now) }
+{
+    let rows = interface::begun_by(first_byte(bytes, words), second_byte(bytes, words));
+    class_among(rows, bytes, words)
+}
+
+fn bgp_class(bytes: &[u8], words: &[Span]) -> Option<HeadClass>
+    requires { AllByRecursion (IsWordIn bytes.now) words.now }
+    ensures { result ≡ class_in bgp_heads (texts bytes.now words.now) }
+{
+    let rows = bgp::begun_by(first_byte(bytes, words), third_byte(bytes, words));
+    class_among(rows, bytes, words)
+}
+
 /// What the longest head that begins the line says of it, in a scope of router lines. `None` where no
 /// head of the scope's tables begins it.
 #[tactic(auto, using(crate::proofs::Longest::class_begun), unfolding(cfg_ast::specs::text::Heads::heads_of))]
@@ -110,12 +154,11 @@ pub fn router_class(bytes: &[u8], words: &[Span], scope: Scope) -> Option<HeadCl
     requires { AllByRecursion (IsWordIn bytes.now) words.now }
     ensures { result ≡ class_in (heads_of scope) (texts bytes.now words.now) }
 {
-    let first = first_byte(bytes, words);
     match scope {
-        Scope::Top => class_among(top::begun_by(first), bytes, words),
-        Scope::Interface => class_among(interface::begun_by(first), bytes, words),
-        Scope::Bgp => class_among(bgp::begun_by(first), bytes, words),
-        Scope::Ospf => class_among(ospf::begun_by(first), bytes, words),
+        Scope::Top => top_class(bytes, words),
+        Scope::Interface => interface_class(bytes, words),
+        Scope::Bgp => bgp_class(bytes, words),
+        Scope::Ospf => class_among(ospf::begun_by(first_byte(bytes, words)), bytes, words),
     }
 }
 
@@ -125,9 +168,8 @@ pub fn policy_class(bytes: &[u8], words: &[Span], scope: PolicyScope) -> Option<
     requires { AllByRecursion (IsWordIn bytes.now) words.now }
     ensures { result ≡ class_in (policy_heads_of scope) (texts bytes.now words.now) }
 {
-    let first = first_byte(bytes, words);
     match scope {
-        PolicyScope::Top => class_among(top::begun_by(first), bytes, words),
-        PolicyScope::Entry => class_among(entry::begun_by(first), bytes, words),
+        PolicyScope::Top => top_class(bytes, words),
+        PolicyScope::Entry => class_among(entry::begun_by(first_byte(bytes, words)), bytes, words),
     }
 }

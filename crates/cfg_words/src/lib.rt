@@ -3,7 +3,8 @@
 //! A head is the words that a line begins with. `router_class` and `policy_class` find the longest head
 //! in the tables of a scope that begins the line, and answer what the definitions say of it: its form,
 //! or that it is refused or ignored. A line is compared only with the heads that begin with its first
-//! byte: the tables are constants, each equal to what the table of the definitions has for that byte.
+//! byte, and in the longest tables only with those that also fit the first byte of its second or third
+//! word: the tables are constants, each equal to what the table of the definitions has for those bytes.
 //! The other calls read single words, exactly by their definitions.
 #![tactic(auto)]
 

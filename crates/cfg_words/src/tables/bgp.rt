@@ -2,16 +2,128 @@
 
 ghost use Rattle.std.specs.Prelude.{◌≡◌};
 ghost use Rattle.cfg_ast.specs.text.Heads.{bgp_heads};
-ghost use Rattle.cfg_words.specs.Rows.{rows_of, begun_by};
+ghost use Rattle.cfg_words.specs.Rows.{rows_of, begun_by, going_on, narrowed};
 
 use crate::heads::Head;
 use cfg_ast::HeadClass::{Ignored, Refused, Router};
 use cfg_ast::RouterForm;
 
+/// The heads that begin with `n` and whose third word, if they have one, begins with this byte.
+#[tactic(auto, unfolding(cfg_ast::specs::text::Heads::known_in_bgp, cfg_ast::specs::text::Heads::refused_in_bgp, cfg_ast::specs::text::Heads::ignored_in_bgp))]
+fn peer_heads(third: u8) -> &'static [Head]
+    ensures { rows_of result.now ≡ going_on 2 third (begun_by 110 bgp_heads) }
+{
+    match third {
+        b'a' => &[
+            Head(&["network"], Router(RouterForm::Network)),
+            Head(&["no", "bgp"], Refused),
+            Head(&["neighbor"], Refused),
+            Head(&["no", "synchronization"], Ignored),
+            Head(&["no", "auto-summary"], Ignored),
+            Head(&["neighbor", "A", "activate"], Ignored),
+            Head(&["neighbor", "A", "advertisement-interval"], Ignored),
+        ],
+        b'd' => &[
+            Head(&["network"], Router(RouterForm::Network)),
+            Head(&["no", "bgp"], Refused),
+            Head(&["neighbor"], Refused),
+            Head(&["no", "synchronization"], Ignored),
+            Head(&["no", "auto-summary"], Ignored),
+            Head(&["neighbor", "A", "description"], Ignored),
+        ],
+        b'f' => &[
+            Head(&["network"], Router(RouterForm::Network)),
+            Head(&["no", "bgp"], Refused),
+            Head(&["neighbor"], Refused),
+            Head(&["no", "synchronization"], Ignored),
+            Head(&["no", "auto-summary"], Ignored),
+            Head(&["neighbor", "A", "fall-over"], Ignored),
+        ],
+        b'l' => &[
+            Head(&["network"], Router(RouterForm::Network)),
+            Head(&["no", "bgp"], Refused),
+            Head(&["neighbor"], Refused),
+            Head(&["no", "bgp", "log-neighbor-changes"], Ignored),
+            Head(&["no", "synchronization"], Ignored),
+            Head(&["no", "auto-summary"], Ignored),
+        ],
+        b'n' => &[
+            Head(&["network"], Router(RouterForm::Network)),
+            Head(&["no", "bgp"], Refused),
+            Head(&["neighbor"], Refused),
+            Head(&["no", "synchronization"], Ignored),
+            Head(&["no", "auto-summary"], Ignored),
+            Head(&["neighbor", "A", "next-hop-self"], Ignored),
+        ],
+        b'p' => &[
+            Head(&["network"], Router(RouterForm::Network)),
+            Head(
+                &["neighbor", "A", "prefix-list"],
+                Router(RouterForm::PeerList),
+            ),
+            Head(&["no", "bgp"], Refused),
+            Head(&["neighbor"], Refused),
+            Head(&["no", "synchronization"], Ignored),
+            Head(&["no", "auto-summary"], Ignored),
+            Head(&["neighbor", "A", "password"], Ignored),
+        ],
+        b'r' => &[
+            Head(&["network"], Router(RouterForm::Network)),
+            Head(
+                &["neighbor", "A", "remote-as"],
+                Router(RouterForm::RemoteAs),
+            ),
+            Head(&["neighbor", "A", "route-map"], Router(RouterForm::PeerMap)),
+            Head(&["no", "bgp"], Refused),
+            Head(&["neighbor"], Refused),
+            Head(&["no", "synchronization"], Ignored),
+            Head(&["no", "auto-summary"], Ignored),
+        ],
+        b's' => &[
+            Head(&["network"], Router(RouterForm::Network)),
+            Head(&["neighbor", "A", "shutdown"], Router(RouterForm::PeerShut)),
+            Head(
+                &["neighbor", "A", "send-community"],
+                Router(RouterForm::PeerSends),
+            ),
+            Head(&["no", "bgp"], Refused),
+            Head(&["neighbor"], Refused),
+            Head(&["no", "synchronization"], Ignored),
+            Head(&["no", "auto-summary"], Ignored),
+            Head(&["neighbor", "A", "soft-reconfiguration"], Ignored),
+            Head(&["neighbor", "A", "send-community", "extended"], Ignored),
+        ],
+        b't' => &[
+            Head(&["network"], Router(RouterForm::Network)),
+            Head(&["no", "bgp"], Refused),
+            Head(&["neighbor"], Refused),
+            Head(&["no", "synchronization"], Ignored),
+            Head(&["no", "auto-summary"], Ignored),
+            Head(&["neighbor", "A", "timers"], Ignored),
+            Head(&["neighbor", "A", "transport"], Ignored),
+        ],
+        b'v' => &[
+            Head(&["network"], Router(RouterForm::Network)),
+            Head(&["no", "bgp"], Refused),
+            Head(&["neighbor"], Refused),
+            Head(&["no", "synchronization"], Ignored),
+            Head(&["no", "auto-summary"], Ignored),
+            Head(&["neighbor", "A", "version"], Ignored),
+        ],
+        _ => &[
+            Head(&["network"], Router(RouterForm::Network)),
+            Head(&["no", "bgp"], Refused),
+            Head(&["neighbor"], Refused),
+            Head(&["no", "synchronization"], Ignored),
+            Head(&["no", "auto-summary"], Ignored),
+        ],
+    }
+}
+
 /// The heads whose first word begins with this byte, in the order of the definition.
 #[tactic(auto, unfolding(cfg_ast::specs::text::Heads::known_in_bgp, cfg_ast::specs::text::Heads::refused_in_bgp, cfg_ast::specs::text::Heads::ignored_in_bgp))]
-pub(crate) fn begun_by(first: u8) -> &'static [Head]
-    ensures { rows_of result.now ≡ begun_by first bgp_heads }
+pub(crate) fn begun_by(first: u8, third: u8) -> &'static [Head]
+    ensures { rows_of result.now ≡ narrowed 110 2 first third bgp_heads }
 {
     match first {
         b'a' => &[
@@ -36,39 +148,7 @@ pub(crate) fn begun_by(first: u8) -> &'static [Head]
             Head(&["distribute-list"], Refused),
         ],
         b'm' => &[Head(&["maximum-paths"], Refused)],
-        b'n' => &[
-            Head(&["network"], Router(RouterForm::Network)),
-            Head(
-                &["neighbor", "A", "remote-as"],
-                Router(RouterForm::RemoteAs),
-            ),
-            Head(&["neighbor", "A", "shutdown"], Router(RouterForm::PeerShut)),
-            Head(
-                &["neighbor", "A", "send-community"],
-                Router(RouterForm::PeerSends),
-            ),
-            Head(
-                &["neighbor", "A", "prefix-list"],
-                Router(RouterForm::PeerList),
-            ),
-            Head(&["neighbor", "A", "route-map"], Router(RouterForm::PeerMap)),
-            Head(&["no", "bgp"], Refused),
-            Head(&["neighbor"], Refused),
-            Head(&["no", "bgp", "log-neighbor-changes"], Ignored),
-            Head(&["no", "synchronization"], Ignored),
-            Head(&["no", "auto-summary"], Ignored),
-            Head(&["neighbor", "A", "description"], Ignored),
-            Head(&["neighbor", "A", "timers"], Ignored),
-            Head(&["neighbor", "A", "password"], Ignored),
-            Head(&["neighbor", "A", "version"], Ignored),
-            Head(&["neighbor", "A", "soft-reconfiguration"], Ignored),
-            Head(&["neighbor", "A", "fall-over"], Ignored),
-            Head(&["neighbor", "A", "activate"], Ignored),
-            Head(&["neighbor", "A", "next-hop-self"], Ignored),
-            Head(&["neighbor", "A", "advertisement-interval"], Ignored),
-            Head(&["neighbor", "A", "transport"], Ignored),
-            Head(&["neighbor", "A", "send-community", "extended"], Ignored),
-        ],
+        b'n' => peer_heads(third),
         b'r' => &[Head(&["redistribute"], Refused)],
         b's' => &[Head(&["synchronization"], Refused)],
         b't' => &[Head(&["table-map"], Refused), Head(&["timers"], Ignored)],

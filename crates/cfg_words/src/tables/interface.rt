@@ -2,16 +2,64 @@
 
 ghost use Rattle.std.specs.Prelude.{◌≡◌};
 ghost use Rattle.cfg_ast.specs.text.Heads.{interface_heads};
-ghost use Rattle.cfg_words.specs.Rows.{rows_of, begun_by};
+ghost use Rattle.cfg_words.specs.Rows.{rows_of, begun_by, going_on, narrowed};
 
 use crate::heads::Head;
 use cfg_ast::HeadClass::{Ignored, Refused, Router};
 use cfg_ast::RouterForm;
 
+/// The heads that begin with `i` and whose second word, if they have one, begins with this byte.
+#[tactic(auto, unfolding(cfg_ast::specs::text::Heads::known_in_interface, cfg_ast::specs::text::Heads::refused_in_interface, cfg_ast::specs::text::Heads::ignored_in_interface))]
+fn ip_heads(second: u8) -> &'static [Head]
+    ensures { rows_of result.now ≡ going_on 1 second (begun_by 105 interface_heads) }
+{
+    match second {
+        b'a' => &[
+            Head(&["ip", "address"], Router(RouterForm::IpAddress)),
+            Head(&["ipv6"], Refused),
+            Head(&["ip", "access-group"], Ignored),
+        ],
+        b'f' => &[Head(&["ipv6"], Refused), Head(&["ip", "flow"], Ignored)],
+        b'h' => &[
+            Head(&["ipv6"], Refused),
+            Head(&["ip", "helper-address"], Ignored),
+        ],
+        b'm' => &[Head(&["ipv6"], Refused), Head(&["ip", "mtu"], Ignored)],
+        b'n' => &[Head(&["ipv6"], Refused), Head(&["ip", "nat"], Ignored)],
+        b'o' => &[
+            Head(&["ip", "ospf", "cost"], Router(RouterForm::Cost)),
+            Head(&["ip", "ospf"], Refused),
+            Head(&["ipv6"], Refused),
+            Head(&["ip", "ospf", "priority"], Ignored),
+            Head(&["ip", "ospf", "hello-interval"], Ignored),
+            Head(&["ip", "ospf", "dead-interval"], Ignored),
+            Head(&["ip", "ospf", "authentication"], Ignored),
+            Head(&["ip", "ospf", "authentication-key"], Ignored),
+            Head(&["ip", "ospf", "message-digest-key"], Ignored),
+        ],
+        b'p' => &[Head(&["ip", "policy"], Refused), Head(&["ipv6"], Refused)],
+        b'r' => &[
+            Head(&["ipv6"], Refused),
+            Head(&["ip", "route-cache"], Ignored),
+        ],
+        b't' => &[Head(&["ipv6"], Refused), Head(&["ip", "tcp"], Ignored)],
+        b'u' => &[
+            Head(&["ip", "unnumbered"], Refused),
+            Head(&["ipv6"], Refused),
+        ],
+        b'v' => &[
+            Head(&["ip", "vrf"], Refused),
+            Head(&["ipv6"], Refused),
+            Head(&["ip", "virtual-reassembly"], Ignored),
+        ],
+        _ => &[Head(&["ipv6"], Refused)],
+    }
+}
+
 /// The heads whose first word begins with this byte, in the order of the definition.
 #[tactic(auto, unfolding(cfg_ast::specs::text::Heads::known_in_interface, cfg_ast::specs::text::Heads::refused_in_interface, cfg_ast::specs::text::Heads::ignored_in_interface))]
-pub(crate) fn begun_by(first: u8) -> &'static [Head]
-    ensures { rows_of result.now ≡ begun_by first interface_heads }
+pub(crate) fn begun_by(first: u8, second: u8) -> &'static [Head]
+    ensures { rows_of result.now ≡ narrowed 105 1 first second interface_heads }
 {
     match first {
         b'a' => &[Head(&["arp"], Ignored)],
@@ -28,29 +76,7 @@ pub(crate) fn begun_by(first: u8) -> &'static [Head]
         ],
         b'e' => &[Head(&["encapsulation"], Ignored)],
         b'h' => &[Head(&["hold-queue"], Ignored)],
-        b'i' => &[
-            Head(&["ip", "address"], Router(RouterForm::IpAddress)),
-            Head(&["ip", "ospf", "cost"], Router(RouterForm::Cost)),
-            Head(&["ip", "ospf"], Refused),
-            Head(&["ip", "unnumbered"], Refused),
-            Head(&["ip", "vrf"], Refused),
-            Head(&["ip", "policy"], Refused),
-            Head(&["ipv6"], Refused),
-            Head(&["ip", "mtu"], Ignored),
-            Head(&["ip", "access-group"], Ignored),
-            Head(&["ip", "nat"], Ignored),
-            Head(&["ip", "helper-address"], Ignored),
-            Head(&["ip", "flow"], Ignored),
-            Head(&["ip", "tcp"], Ignored),
-            Head(&["ip", "virtual-reassembly"], Ignored),
-            Head(&["ip", "route-cache"], Ignored),
-            Head(&["ip", "ospf", "priority"], Ignored),
-            Head(&["ip", "ospf", "hello-interval"], Ignored),
-            Head(&["ip", "ospf", "dead-interval"], Ignored),
-            Head(&["ip", "ospf", "authentication"], Ignored),
-            Head(&["ip", "ospf", "authentication-key"], Ignored),
-            Head(&["ip", "ospf", "message-digest-key"], Ignored),
-        ],
+        b'i' => ip_heads(second),
         b'k' => &[Head(&["keepalive"], Ignored)],
         b'l' => &[
             Head(&["load-interval"], Ignored),

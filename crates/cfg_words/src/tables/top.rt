@@ -2,16 +2,110 @@
 
 ghost use Rattle.std.specs.Prelude.{◌≡◌};
 ghost use Rattle.cfg_ast.specs.text.Heads.{top_heads};
-ghost use Rattle.cfg_words.specs.Rows.{rows_of, begun_by};
+ghost use Rattle.cfg_words.specs.Rows.{rows_of, begun_by, going_on, narrowed};
 
 use crate::heads::Head;
 use cfg_ast::HeadClass::{Ignored, Policy, Refused, Router};
 use cfg_ast::{PolicyForm, RouterForm};
 
+/// The heads that begin with `i` and whose second word, if they have one, begins with this byte.
+#[tactic(auto, unfolding(cfg_ast::specs::text::Heads::known_at_top, cfg_ast::specs::text::Heads::refused_at_top, cfg_ast::specs::text::Heads::ignored_services, cfg_ast::specs::text::Heads::ignored_device))]
+fn ip_heads(second: u8) -> &'static [Head]
+    ensures { rows_of result.now ≡ going_on 1 second (begun_by 105 top_heads) }
+{
+    match second {
+        b'a' => &[
+            Head(&["interface"], Router(RouterForm::Interface)),
+            Head(&["ip", "as-path"], Refused),
+            Head(&["ipv6"], Refused),
+            Head(&["ip", "access-list"], Ignored),
+        ],
+        b'b' => &[
+            Head(&["interface"], Router(RouterForm::Interface)),
+            Head(&["ipv6"], Refused),
+            Head(&["ip", "bgp-community", "new-format"], Ignored),
+        ],
+        b'c' => &[
+            Head(&["interface"], Router(RouterForm::Interface)),
+            Head(&["ip", "community-list"], Policy(PolicyForm::CommunityLine)),
+            Head(&["ip", "community-list", "expanded"], Refused),
+            Head(&["ip", "community-list", "100-500"], Refused),
+            Head(&["ipv6"], Refused),
+            Head(&["ip", "cef"], Ignored),
+            Head(&["ip", "classless"], Ignored),
+        ],
+        b'd' => &[
+            Head(&["interface"], Router(RouterForm::Interface)),
+            Head(&["ip", "default-network"], Refused),
+            Head(&["ipv6"], Refused),
+            Head(&["ip", "domain"], Ignored),
+            Head(&["ip", "domain-name"], Ignored),
+            Head(&["ip", "domain-lookup"], Ignored),
+            Head(&["ip", "dhcp"], Ignored),
+        ],
+        b'e' => &[
+            Head(&["interface"], Router(RouterForm::Interface)),
+            Head(&["ip", "extcommunity-list"], Refused),
+            Head(&["ipv6"], Refused),
+        ],
+        b'f' => &[
+            Head(&["interface"], Router(RouterForm::Interface)),
+            Head(&["ipv6"], Refused),
+            Head(&["ip", "forward-protocol"], Ignored),
+            Head(&["ip", "ftp"], Ignored),
+        ],
+        b'h' => &[
+            Head(&["interface"], Router(RouterForm::Interface)),
+            Head(&["ipv6"], Refused),
+            Head(&["ip", "http"], Ignored),
+        ],
+        b'n' => &[
+            Head(&["interface"], Router(RouterForm::Interface)),
+            Head(&["ipv6"], Refused),
+            Head(&["ip", "name-server"], Ignored),
+        ],
+        b'p' => &[
+            Head(&["interface"], Router(RouterForm::Interface)),
+            Head(&["ip", "prefix-list"], Policy(PolicyForm::PrefixEntry)),
+            Head(&["ip", "policy-list"], Refused),
+            Head(&["ipv6"], Refused),
+            Head(&["ip", "prefix-list", "A", "description"], Ignored),
+        ],
+        b'r' => &[
+            Head(&["interface"], Router(RouterForm::Interface)),
+            Head(&["ip", "route"], Refused),
+            Head(&["ipv6"], Refused),
+            Head(&["ip", "routing"], Ignored),
+        ],
+        b's' => &[
+            Head(&["interface"], Router(RouterForm::Interface)),
+            Head(&["ipv6"], Refused),
+            Head(&["ip", "ssh"], Ignored),
+            Head(&["ip", "subnet-zero"], Ignored),
+            Head(&["ip", "source-route"], Ignored),
+        ],
+        b't' => &[
+            Head(&["interface"], Router(RouterForm::Interface)),
+            Head(&["ipv6"], Refused),
+            Head(&["ip", "tcp"], Ignored),
+            Head(&["ip", "tftp"], Ignored),
+        ],
+        b'v' => &[
+            Head(&["interface"], Router(RouterForm::Interface)),
+            Head(&["ip", "vrf"], Refused),
+            Head(&["ipv6"], Refused),
+        ],
+        _ => &[
+            Head(&["interface"], Router(RouterForm::Interface)),
+            Head(&["ipv6"], Refused),
+        ],
+    }
+}
+
 /// The heads whose first word begins with this byte, in the order of the definition.
 #[tactic(auto, unfolding(cfg_ast::specs::text::Heads::known_at_top, cfg_ast::specs::text::Heads::refused_at_top, cfg_ast::specs::text::Heads::ignored_services, cfg_ast::specs::text::Heads::ignored_device))]
-pub(crate) fn begun_by(first: u8) -> &'static [Head]
-    ensures { rows_of result.now ≡ begun_by first top_heads }
+pub(crate) fn begun_by(first: u8, second: u8) -> &'static [Head]
+    ensures { rows_of result.now ≡ narrowed 105 1 first second top_heads }
 {
     match first {
         b'B' => &[Head(&["Building"], Ignored)],
@@ -47,39 +141,7 @@ pub(crate) fn begun_by(first: u8) -> &'static [Head]
             Head(&["hostname"], Router(RouterForm::Hostname)),
             Head(&["hw-module"], Ignored),
         ],
-        b'i' => &[
-            Head(&["interface"], Router(RouterForm::Interface)),
-            Head(&["ip", "prefix-list"], Policy(PolicyForm::PrefixEntry)),
-            Head(&["ip", "community-list"], Policy(PolicyForm::CommunityLine)),
-            Head(&["ip", "route"], Refused),
-            Head(&["ip", "vrf"], Refused),
-            Head(&["ip", "as-path"], Refused),
-            Head(&["ip", "community-list", "expanded"], Refused),
-            Head(&["ip", "community-list", "100-500"], Refused),
-            Head(&["ip", "extcommunity-list"], Refused),
-            Head(&["ip", "policy-list"], Refused),
-            Head(&["ip", "default-network"], Refused),
-            Head(&["ipv6"], Refused),
-            Head(&["ip", "cef"], Ignored),
-            Head(&["ip", "domain"], Ignored),
-            Head(&["ip", "domain-name"], Ignored),
-            Head(&["ip", "domain-lookup"], Ignored),
-            Head(&["ip", "name-server"], Ignored),
-            Head(&["ip", "forward-protocol"], Ignored),
-            Head(&["ip", "http"], Ignored),
-            Head(&["ip", "ssh"], Ignored),
-            Head(&["ip", "tcp"], Ignored),
-            Head(&["ip", "ftp"], Ignored),
-            Head(&["ip", "tftp"], Ignored),
-            Head(&["ip", "dhcp"], Ignored),
-            Head(&["ip", "subnet-zero"], Ignored),
-            Head(&["ip", "classless"], Ignored),
-            Head(&["ip", "routing"], Ignored),
-            Head(&["ip", "source-route"], Ignored),
-            Head(&["ip", "bgp-community", "new-format"], Ignored),
-            Head(&["ip", "access-list"], Ignored),
-            Head(&["ip", "prefix-list", "A", "description"], Ignored),
-        ],
+        b'i' => ip_heads(second),
         b'l' => &[
             Head(&["line"], Ignored),
             Head(&["logging"], Ignored),

@@ -1,6 +1,6 @@
 use Rattle.std.proofs.Common.{◌∷◌, [], refl, sym, rules}
 use Rattle.cfg_ast.specs.text.Heads.{top_heads, known_at_top, refused_at_top, ignored_services, ignored_device}
-use Rattle.cfg_words.proofs.Begun.{IsNone, none_begun}
+use Rattle.cfg_words.proofs.Begun.{IsNone, none_narrowed}
 use Rattle.cfg_words.proofs.tables.top.begun_by.Goals as goal
 
 pub returns-in-99 : goal.returns-in-99
@@ -15,4 +15,4 @@ pub returns-in_default : goal.returns-in_default
 unfolding known_at_top refused_at_top ignored_services ignored_device
 returns-in_default c =
     let none : IsNone c.args.first (66 ∷ 67 ∷ 97 ∷ 98 ∷ 99 ∷ 100 ∷ 101 ∷ 102 ∷ 104 ∷ 105 ∷ 108 ∷ 109 ∷ 110 ∷ 112 ∷ 114 ∷ 115 ∷ 116 ∷ 117 ∷ 118 ∷ []) = search rules in
-    sym (none_begun c.args.first (66 ∷ 67 ∷ 97 ∷ 98 ∷ 99 ∷ 100 ∷ 101 ∷ 102 ∷ 104 ∷ 105 ∷ 108 ∷ 109 ∷ 110 ∷ 112 ∷ 114 ∷ 115 ∷ 116 ∷ 117 ∷ 118 ∷ []) top_heads refl none)
+    sym (none_narrowed 105 1 c.args.first c.args.second (66 ∷ 67 ∷ 97 ∷ 98 ∷ 99 ∷ 100 ∷ 101 ∷ 102 ∷ 104 ∷ 105 ∷ 108 ∷ 109 ∷ 110 ∷ 112 ∷ 114 ∷ 115 ∷ 116 ∷ 117 ∷ 118 ∷ []) top_heads refl none)
