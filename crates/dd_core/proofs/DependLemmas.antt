@@ -9,7 +9,7 @@ use Rattle.dd_core.specs.Store.{IsStore, IsAbove, IsNotBefore, IsWithin}
 use Rattle.dd_core.specs.Reach.{IsReached}
 use Rattle.dd_core.specs.Reach.IsReached.{itself, by_high, by_low}
 use Rattle.dd_core.specs.Marks.{IsVariableReached}
-use Rattle.dd_core.proofs.TableLemmas.{read_get}
+use Rattle.distinct_values.proofs.Interned.{read_get}
 use Rattle.dd_core.proofs.ValueLemmas.{value-Constant, value-Choice}
 use Rattle.dd_core.proofs.NodeLemmas.{IsNodeAt, is_constant, is_choice, node_at, updated, updated_same, above_earlier, value_high, value_low}
 use Rattle.dd_core.proofs.DifferLemmas.{DifferSomewhere, differ_below}

@@ -10,5 +10,4 @@ pub mod SetLemmas
 pub mod ShownLemmas
 pub mod StoreLemmas
 pub mod SupportLemmas
-pub mod TableLemmas
 pub mod ValueLemmas

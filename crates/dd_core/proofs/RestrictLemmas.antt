@@ -14,7 +14,7 @@ use Rattle.dd_core.specs.Reach.IsReached.{by_high, by_low}
 use Rattle.dd_core.specs.Marks.{is_marked, AreMarks}
 use Rattle.dd_core.specs.Sets.{Shown, IsShown, Means, value_of, test_of, has_others}
 use Rattle.dd_core.specs.Restrict.{IsPartOf, restricted, fixed, fixed_test, IsRestricted, AreSonsRestricted, AreRestricted}
-use Rattle.dd_core.proofs.TableLemmas.{read_get}
+use Rattle.distinct_values.proofs.Interned.{read_get}
 use Rattle.dd_core.proofs.ValueLemmas.{value-Constant, value-Choice, value_kept}
 use Rattle.dd_core.proofs.NodeLemmas.{above_earlier}
 use Rattle.dd_core.proofs.StoreLemmas.{length_kept, get_kept, above_kept}

@@ -6,10 +6,11 @@ use Rattle.std.proofs.lemmas.List.{length_push, get_or_push, append-nil, length-
 use Rattle.std.proofs.lemmas.Option.{slice_get-get_or}
 use Rattle.dd_core.specs.declared.table.Node.{Node}
 use Rattle.dd_core.specs.declared.table.Node.TheVariants.{Constant, Choice}
-use Rattle.dd_core.specs.Value.{value, AreDistinct}
+use Rattle.dd_core.specs.Value.{value}
+use Rattle.distinct_values.specs.Distinct.{AreDistinct}
 use Rattle.dd_core.specs.Store.{IsStore, IsAbove, IsReduced, Extends, IsChoiceBetween}
 use Rattle.dd_core.proofs.ValueLemmas.{value-Constant, value-Choice, value_kept}
-use Rattle.dd_core.proofs.TableLemmas.{read_get}
+use Rattle.distinct_values.proofs.Interned.{read_get}
 use Rattle.dd_core.proofs.NodeLemmas.{choice_above}
 
 pub extends_refl : (nodes : List Node) → Extends nodes nodes

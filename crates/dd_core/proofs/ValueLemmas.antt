@@ -8,7 +8,7 @@ use Rattle.dd_core.specs.declared.table.Node.{Node}
 use Rattle.dd_core.specs.declared.table.Node.TheVariants.{Constant, Choice}
 use Rattle.dd_core.specs.Value.{value_from, values_after, value}
 use Rattle.dd_core.specs.Store.{Extends}
-use Rattle.dd_core.proofs.TableLemmas.{read_get}
+use Rattle.distinct_values.proofs.Interned.{read_get}
 
 pub length-values_after : (has : ℕ → Bool) (values : List Bool) (nodes : List Node) → length (values_after has values nodes) ≡ length values + length nodes
 length-values_after has values [] = omega arith

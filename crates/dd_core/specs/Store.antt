@@ -2,7 +2,8 @@
 use Rattle.std.specs.Prelude.{◌≡◌, ◌≢◌, ℕ, ◌<◌, ◌≤◌, Bool, true, false, List, ◌++◌, Some, length, slice_get, if◌then◌else◌, ◌⊎◌}
 use Rattle.dd_core.specs.declared.table.Node.{Node}
 use Rattle.dd_core.specs.declared.table.Node.TheVariants.{Constant, Choice}
-use Rattle.dd_core.specs.Value.{value, AreDistinct}
+use Rattle.dd_core.specs.Value.{value}
+use Rattle.distinct_values.specs.Distinct.{AreDistinct}
 
 -- the variable of the node, if it has one, comes after this one
 pub record IsAbove (nodes : List Node) (variable place : ℕ) : Type 0 where

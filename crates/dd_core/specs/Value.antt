@@ -18,7 +18,3 @@ values_after has values (node ∷ nodes) = values_after has (values ++ value_fro
 -- the value of the node at a place
 abbrev pub value : List Node → (ℕ → Bool) → ℕ → Bool
 value nodes has place = slice_index_or (values_after has [] nodes) place false
-
--- no two places have equal nodes
-pub record AreDistinct (nodes : List Node) : Type 0 where
-  pub one_place : (i j : ℕ) (node : Node) → slice_get nodes i ≡ Some node → slice_get nodes j ≡ Some node → i ≡ j

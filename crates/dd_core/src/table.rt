@@ -30,13 +30,13 @@ impl Model for Table {
 
     ghost view = { λ t. keys t.nodes };
 
-    ghost use Rattle.dd_core.specs.Value.{AreDistinct};
+    ghost use Rattle.distinct_values.specs.Distinct.{AreDistinct};
 
     ghost invariant = { λ t. AreDistinct (keys t.nodes) };
 }
 
 impl Table {
-    ghost use Rattle.dd_core.specs.Value.{AreDistinct};
+    ghost use Rattle.distinct_values.specs.Distinct.{AreDistinct};
 
     pub fn new(alloc: Global) -> Self
         ensures { result ≡ [] }

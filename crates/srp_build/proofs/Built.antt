@@ -21,7 +21,8 @@ use Rattle.srp_core.specs.Problem.{Problem, count, initial, is_lone, act_of, IsE
 use Rattle.srp_core.specs.ProblemOf.{as_number_of, start_route, Direction, IsDirection, Means, StandsFor, IsProblemOf}
 use Rattle.srp_build.specs.declared.hops.Hop.{Hop}
 use Rattle.srp_build.specs.ActOrder.{AreByFirstUse}
-use Rattle.srp_build.specs.Costs.{cost_at, cost_of_hop, IsEdgeOfHop, never_left, NumbersHops, AreDistinct}
+use Rattle.srp_build.specs.Costs.{cost_at, cost_of_hop, IsEdgeOfHop, never_left, NumbersHops}
+use Rattle.distinct_values.specs.Distinct.{AreDistinct}
 use Rattle.srp_build.specs.HopEdges.{edge_with}
 use Rattle.srp_build.specs.Ospf.{IsOspf, IsPriced}
 use Rattle.srp_build.specs.Problem.{problem_with}

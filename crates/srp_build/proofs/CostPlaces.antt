@@ -2,40 +2,24 @@
 use Rattle.std.proofs.Common.{◌≡◌, ℕ, ◌+◌, ◌<◌, ◌≤◌, true, List, [], ◌∷◌, ◌++◌, ◌⊎◌, length, take, get_or, slice_get, nat_eq, Some, refl, sym, ◌∙◌, ap, subst, arith, inl, inr}
 use Rattle.std.specs.Prelude.{Contains}
 use Rattle.std.specs.List.{IsDistinct}
-use Rattle.std.proofs.lemmas.Option.{slice_get_cases, get_or_from_slice_get}
-use Rattle.std.proofs.lemmas.Map.Keys.{apart_from_distinct}
 use Rattle.std.proofs.lemmas.Bool.Decides.{nat_tests}
 use Rattle.base_kit.specs.declared.act_graph.Edge.{Edge}
 use Rattle.base_kit.proofs.Elements.{In, in_contains, contains_in, append_in, in_left, in_right}
 use Rattle.cfg_ast.specs.declared.network.Router.{Router}
+use Rattle.distinct_values.proofs.Interned.{distinct_places}
 use Rattle.srp_build.specs.declared.hops.Hop.{Hop}
 use Rattle.srp_build.specs.ActOrder.{AreByFirstUse}
-use Rattle.srp_build.specs.Costs.{cost_of_hop, HopAdded, IsEdgeOfHop, never_left, IsCostOf, NumbersHops, AreDistinct}
+use Rattle.srp_build.specs.Costs.{cost_of_hop, HopAdded, IsEdgeOfHop, never_left, IsCostOf, NumbersHops}
+use Rattle.distinct_values.specs.Distinct.{AreDistinct}
 use Rattle.srp_build.specs.HopEdges.{edge_with, AreEdgesOf}
 use Rattle.srp_build.proofs.FirstUse.{length_last, get_front, get_last, within_get, take_more, IsOldOrNext, first_use_next}
 use Rattle.srp_build.proofs.HopEdges.{edge_last, edges_as}
 
-read_get : (xs : List ℕ) (i x : ℕ) → slice_get xs i ≡ Some x → (i < length xs) × (get_or xs i x ≡ x)
-read_get xs i x at = elim (slice_get_cases xs i).1 [
-  | inl found ↦ (found.1, get_or_from_slice_get xs i x x at)
-  | inr past ↦ let none = past.1 in absurd cc
-]
-
 same_number : (x : ℕ) → nat_eq x x ≡ true
 same_number x = grind (arith, nat_tests)
 
-pub distinct_places : (xs : List ℕ) → IsDistinct nat_eq xs → AreDistinct xs
-distinct_places xs distinct = record {
-  one_place = λ i j x at at'.
-      let (inside, read) = read_get xs i x at in
-      let (inside', read') = read_get xs j x at' in
-      let never : (i j : ℕ) → get_or xs i x ≡ x → get_or xs j x ≡ x → j < length xs → i < j → ⊥ = λ i j read read' inside before.
-      let apart = apart_from_distinct nat_eq xs i j x distinct before inside in
-      let same = same_number x in cc in
-      let le : ¬ (i < j) = λ lt. never i j read read' inside' lt in
-      let ge : ¬ (j < i) = λ lt. never j i read' read inside lt in
-      omega arith;
-}
+pub distinct_costs : (xs : List ℕ) → IsDistinct nat_eq xs → AreDistinct xs
+distinct_costs = distinct_places nat_eq same_number
 
 -- what stands at a place stands there still when more is put last
 get_grown : (old new : List ℕ) (cost i x : ℕ) → (new ≡ old) ⊎ (new ≡ old ++ cost ∷ []) → slice_get old i ≡ Some x → slice_get new i ≡ Some x

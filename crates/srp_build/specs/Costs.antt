@@ -5,6 +5,7 @@ use Rattle.std.specs.Option.{unwrap_or}
 use Rattle.base_kit.specs.declared.act_graph.Edge.{Edge}
 use Rattle.cfg_ast.specs.declared.network.Router.{Router}
 use Rattle.cfg_ast.specs.meaning.Topology.{cost_of}
+use Rattle.distinct_values.specs.Distinct.{AreDistinct}
 use Rattle.srp_build.specs.declared.hops.Hop.{Hop}
 use Rattle.srp_build.specs.ActOrder.{AreByFirstUse}
 use Rattle.srp_build.specs.HopEdges.{edge_with, AreEdgesOf}
@@ -16,10 +17,6 @@ cost_at routers router item = unwrap_or (option_and_then (λ (r : Router). cost_
 -- a direction costs what the importer's interface does
 abbrev pub cost_of_hop : List Router → Hop → ℕ
 cost_of_hop routers hop = cost_at routers hop.importer hop.importer_item
-
--- no two places have equal numbers
-pub record AreDistinct (numbers : List ℕ) : Type 0 where
-  pub one_place : (i j number : ℕ) → slice_get numbers i ≡ Some number → slice_get numbers j ≡ Some number → i ≡ j
 
 -- an edge was put last, and its cost too if it was new
 pub record HopAdded (routers : List Router) (old new : List ℕ) (edges more : List Edge) (hop : Hop) : Type 0 where

@@ -1,6 +1,7 @@
 ghost use Rattle.std.specs.Prelude.{◌≡◌, ◌⊎◌, ◌<◌, ◌^◌, ◌++◌, ◌∷◌, [], Some, IfOk, OnOk, length, map, slice_get};
 ghost use Rattle.srp_core.specs.declared.route.Act.TheVariants as act;
-ghost use Rattle.srp_build.specs.Costs.{cost_at, HopAdded, NumbersHops, AreDistinct};
+ghost use Rattle.srp_build.specs.Costs.{cost_at, HopAdded, NumbersHops};
+ghost use Rattle.distinct_values.specs.Distinct.{AreDistinct};
 
 use crate::hops::Hop;
 use base_kit::{Edge, List, NoMemory};
@@ -18,7 +19,7 @@ pub struct Costs {
 
 impl Model for Costs {
     ghost use Rattle.std.specs.Prelude.{List, ℕ};
-    ghost use Rattle.srp_build.specs.Costs.{AreDistinct};
+    ghost use Rattle.distinct_values.specs.Distinct.{AreDistinct};
 
     ghost Value = { List ℕ };
 

@@ -19,7 +19,6 @@ pub mod Settled
 pub mod Repeats
 pub mod LoneNumbers
 pub mod LoneOrder
-pub mod StartPlaces
 pub mod GraphPartitions
 pub mod Colors
 pub mod OwnEdges

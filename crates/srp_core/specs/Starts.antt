@@ -2,6 +2,7 @@
 use Rattle.std.specs.Prelude.{◌≡◌, ℕ, ◌<◌, Bool, true, false, List, length, Option, Some, None, slice_index, slice_get}
 use Rattle.base_kit.specs.declared.act_graph.ActGraph.{ActGraph}
 use Rattle.base_kit.specs.Partition.{color}
+use Rattle.distinct_values.specs.Distinct.{AreDistinct}
 use Rattle.srp_core.specs.declared.route.Route.{Route}
 use Rattle.srp_core.specs.declared.route.Route.TheVariants.{Bgp, Ospf}
 use Rattle.srp_core.specs.declared.starts.Start.{Start}
@@ -18,15 +19,11 @@ start_of false router (Some (Ospf cost)) = Cost cost
 abbrev pub start : Problem → ℕ → Start
 start problem router = start_of (is_lone problem router) router (initial problem router)
 
--- no two places have equal items
-pub record AreAllDifferent (starts : List Start) : Type 0 where
-  pub one_place : (i j : ℕ) (start : Start) → slice_get starts i ≡ Some start → slice_get starts j ≡ Some start → i ≡ j
-
 -- the colors of the routers are the places of their starts in a list of different ones
 pub record AreColors (problem : Problem) (colors : List ℕ) : Type 0 where
   pub total : length colors ≡ count problem
   pub starts : List Start
-  pub distinct : AreAllDifferent starts
+  pub distinct : AreDistinct starts
   pub placed : (u : ℕ) → u < count problem → slice_get starts (slice_index colors u) ≡ Some (start problem u)
 
 -- the graph has the problem's routers and edges; lone routers have colors of their own, and the others

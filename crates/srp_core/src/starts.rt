@@ -43,17 +43,17 @@ impl Model for Starts {
     ghost use Rattle.std.specs.Prelude.{List};
     ghost use Rattle.indexmap.specs.IndexMap.{keys};
     ghost use Rattle.srp_core.specs.declared.starts.Start.{Start};
-    ghost use Rattle.srp_core.specs.Starts.{AreAllDifferent};
+    ghost use Rattle.distinct_values.specs.Distinct.{AreDistinct};
 
     ghost Value = { List Start };
 
     ghost view = { λ s. keys s.items };
 
-    ghost invariant = { λ s. AreAllDifferent (keys s.items) };
+    ghost invariant = { λ s. AreDistinct (keys s.items) };
 }
 
 impl Starts {
-    ghost use Rattle.srp_core.specs.Starts.{AreAllDifferent};
+    ghost use Rattle.distinct_values.specs.Distinct.{AreDistinct};
 
     /// No starts yet.
     pub fn new(alloc: Global) -> Self
@@ -68,7 +68,7 @@ impl Starts {
     pub fn number(&mut self, start: Start) -> Result<usize, NoMemory>
         ensures found { IfOk result (λ place. slice_get self.new place ≡ Some start) }
         ensures grown { (self.new ≡ self.old) ⊎ (self.new ≡ self.old ++ start ∷ []) }
-        ensures distinct { AreAllDifferent self.new }
+        ensures distinct { AreDistinct self.new }
     {
         let (place, _) = self.items.insert_full(start, ())?;
         Ok(place)

@@ -2,7 +2,7 @@ use Rattle.std.proofs.Common.{rules, ◌≡◌, true}
 use Rattle.dd_core.specs.declared.table.Node.{Node}
 use Rattle.dd_core.specs.declared.table.Node.TheVariants.{Constant, Choice}
 use Rattle.dd_core.specs.contracts.table.NodePartialEq.TheImpl.{eq-value}
-use Rattle.dd_core.proofs.TableLemmas.{distinct_places, interned_at, interned_last}
+use Rattle.distinct_values.proofs.Interned.{distinct_places, interned_at, interned_last}
 use Rattle.dd_core.proofs.table.Table.intern.Goals as goal
 
 same_node : (node : Node) → eq-value.it node node ≡ true

@@ -2,7 +2,7 @@ use Rattle.std.proofs.Common.{rules, ◌≡◌, true}
 use Rattle.srp_core.specs.declared.starts.Start.{Start}
 use Rattle.srp_core.specs.declared.starts.Start.TheVariants.{Alone, Silent, Preference, Cost}
 use Rattle.srp_core.specs.contracts.starts.StartPartialEq.TheImpl.{eq-value}
-use Rattle.srp_core.proofs.StartPlaces.{distinct_places, numbered_at, numbered_last}
+use Rattle.distinct_values.proofs.Interned.{distinct_places, interned_at, interned_last}
 use Rattle.srp_core.proofs.starts.Starts.number.Goals as goal
 
 same_start : (start : Start) → eq-value.it start start ≡ true
@@ -36,7 +36,7 @@ pub returns-clause-distinct : goal.returns-clause-distinct
 returns-clause-distinct c = distinct_places _ same_start _ c.in_ok-place.ensures.unique
 
 pub returns-clause-found : goal.returns-clause-found
-returns-clause-found c = rw (c.in_ok-place.ensures.entries, c.in_ok-place.ensures.index) (numbered_at eq-value.it one_start c.args.start tt c.self.inside.items.entries)
+returns-clause-found c = rw (c.in_ok-place.ensures.entries, c.in_ok-place.ensures.index) (interned_at eq-value.it one_start c.args.start tt c.self.inside.items.entries)
 
 pub returns-clause-grown : goal.returns-clause-grown
-returns-clause-grown c = rw (c.in_ok-place.ensures.entries, ← c.self.view_is) (numbered_last eq-value.it one_start c.args.start tt c.self.inside.items.entries)
+returns-clause-grown c = rw (c.in_ok-place.ensures.entries, ← c.self.view_is) (interned_last eq-value.it one_start c.args.start tt c.self.inside.items.entries)
