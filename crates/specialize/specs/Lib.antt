@@ -1,3 +1,4 @@
 pub mod OnePrefix
+pub mod Places
 pub mod Printable
 pub mod Sessions

@@ -1,68 +1,45 @@
 ghost use Rattle.std.specs.Prelude.{◌≡◌, ℕ, [], ◌∷◌, IfOk, option_copied, min, filter_map, if◌then◌else◌};
 ghost use Rattle.std.specs.List.{list_any};
 ghost use Rattle.std.specs.Option.{option_or};
-ghost use Rattle.cfg_ast.specs.meaning.Policy.{prefix_list_named, community_list_named, route_map_named, prefixes_permitted_by, prefixes_match, deletion_list, prepend_count, passes_list, default_preference};
+ghost use Rattle.cfg_ast.specs.meaning.Policy.{community_list_named, prefixes_permitted_by, prefixes_match, deletion_list, prepend_count, passes_list, default_preference};
 ghost use Rattle.cfg_ast.specs.printing.WellFormed.{IsWellFormedRouter};
 ghost use Rattle.route_maps.specs.Printable.{IsPrintable};
 ghost use Rattle.specialize.specs.OnePrefix.{own_preference, lists_named, plain_entry, whole_entry, plain_entries, entries_for, plain_of, KeepsVerdict};
+ghost use Rattle.specialize.specs.Places.{ArePlacesOf};
 ghost use Rattle.specialize.specs.Printable.{HasPrintableMaps};
 
+use crate::places::{Places, find_community_list, find_map, find_prefix_list, places_of};
 use base_kit::{List, NoMemory, Prefix, Text};
-use cfg_ast::{CommunityList, MapEntry, NameLine, Named, PrefixList, Prepend, RouteMap, Router};
+use cfg_ast::{CommunityList, MapEntry, NameLine, Named, Prepend, Router};
 use prefix_lists::permits;
 use route_maps::{Plain, PlainEntry, change_copy, list_copy};
 use std::alloc::Global;
 
-fn find_prefix_list<'a>(router: &'a Router, name: &Text) -> Option<&'a PrefixList>
-    ensures { option_copied result ≡ prefix_list_named router.now name.now }
-{
-    router
-        .prefix_lists
-        .as_slice()
-        .iter()
-        .find(|list| list.name.as_str() == name.as_str())
-}
-
-fn find_community_list<'a>(router: &'a Router, name: &Text) -> Option<&'a CommunityList>
-    ensures { option_copied result ≡ community_list_named router.now name.now }
-{
-    router
-        .community_lists
-        .as_slice()
-        .iter()
-        .find(|list| list.name.as_str() == name.as_str())
-}
-
-fn find_map<'a>(router: &'a Router, name: &Text) -> Option<&'a RouteMap>
-    ensures { option_copied result ≡ route_map_named router.now name.now }
-{
-    router
-        .route_maps
-        .as_slice()
-        .iter()
-        .find(|map| map.name.as_str() == name.as_str())
-}
-
-fn list_permits(router: &Router, p: Prefix, name: &Text) -> bool
+fn list_permits(router: &Router, places: &Places, p: Prefix, name: &Text) -> bool
+    requires { ArePlacesOf router.now places.now }
     ensures { result ≡ prefixes_permitted_by router.now p name.now }
 {
-    match find_prefix_list(router, name) {
+    match find_prefix_list(router, places, name) {
         Some(list) => permits(list, p),
         None => false,
     }
 }
 
-fn any_list_permits(router: &Router, p: Prefix, names: &[Text]) -> bool
+fn any_list_permits(router: &Router, places: &Places, p: Prefix, names: &[Text]) -> bool
+    requires { ArePlacesOf router.now places.now }
     ensures { result ≡ list_any (prefixes_permitted_by router.now p) names.now }
 {
-    names.iter().any(|name| list_permits(router, p, name))
+    names
+        .iter()
+        .any(|name| list_permits(router, places, p, name))
 }
 
-fn prefixes_match(router: &Router, p: Prefix, prefixes: &Option<NameLine>) -> bool
+fn prefixes_match(router: &Router, places: &Places, p: Prefix, prefixes: &Option<NameLine>) -> bool
+    requires { ArePlacesOf router.now places.now }
     ensures { result ≡ prefixes_match router.now p prefixes.now }
 {
     match prefixes {
-        Some(line) => any_list_permits(router, p, line.names.as_slice()),
+        Some(line) => any_list_permits(router, places, p, line.names.as_slice()),
         None => true,
     }
 }
@@ -93,13 +70,15 @@ fn own_preference(router: &Router, inbound: bool) -> Option<u32>
 fn copies_named(
     alloc: Global,
     router: &Router,
+    places: &Places,
     names: &[Text],
 ) -> Result<List<CommunityList>, NoMemory>
+    requires { ArePlacesOf router.now places.now }
     ensures { IfOk result (λ lists. lists ≡ filter_map (community_list_named router.now) names.now) }
 {
     let mut lists = List::new(alloc);
     for name in names {
-        if let Some(list) = find_community_list(router, name) {
+        if let Some(list) = find_community_list(router, places, name) {
             lists.push(list_copy(alloc, list)?)?;
         }
     }
@@ -109,12 +88,14 @@ fn copies_named(
 fn lists_named(
     alloc: Global,
     router: &Router,
+    places: &Places,
     comms: &Option<NameLine>,
 ) -> Result<Option<List<CommunityList>>, NoMemory>
+    requires { ArePlacesOf router.now places.now }
     ensures { IfOk result (λ lists. lists ≡ lists_named router.now comms.now) }
 {
     match comms {
-        Some(line) => Ok(Some(copies_named(alloc, router, line.names.as_slice())?)),
+        Some(line) => Ok(Some(copies_named(alloc, router, places, line.names.as_slice())?)),
         None => Ok(None),
     }
 }
@@ -122,12 +103,14 @@ fn lists_named(
 fn deletion_list(
     alloc: Global,
     router: &Router,
+    places: &Places,
     delete: &Option<Named>,
 ) -> Result<Option<CommunityList>, NoMemory>
+    requires { ArePlacesOf router.now places.now }
     ensures { IfOk result (λ list. list ≡ deletion_list router.now delete.now) }
 {
     match delete {
-        Some(named) => match find_community_list(router, &named.name) {
+        Some(named) => match find_community_list(router, places, &named.name) {
             Some(list) => Ok(Some(list_copy(alloc, list)?)),
             None => Ok(None),
         },
@@ -157,18 +140,20 @@ fn preference(entry: &MapEntry, own: Option<u32>) -> Option<u32>
 fn plain_entry(
     alloc: Global,
     router: &Router,
+    places: &Places,
     own: Option<u32>,
     entry: &MapEntry,
 ) -> Result<PlainEntry, NoMemory>
+    requires { ArePlacesOf router.now places.now }
     ensures { IfOk result (λ plain. plain ≡ plain_entry router.now own entry.now) }
 {
     Ok(PlainEntry {
         seq: entry.seq,
         permit: entry.permit,
-        lists: lists_named(alloc, router, &entry.comms)?,
+        lists: lists_named(alloc, router, places, &entry.comms)?,
         lp: preference(entry, own),
         change: change_copy(&entry.change)?,
-        delete: deletion_list(alloc, router, &entry.delete)?,
+        delete: deletion_list(alloc, router, places, &entry.delete)?,
         adds: count_of(&entry.prepend),
         exact: entry.exact,
     })
@@ -177,16 +162,18 @@ fn plain_entry(
 fn plain_entries(
     alloc: Global,
     router: &Router,
+    places: &Places,
     own: Option<u32>,
     p: Prefix,
     entries: &[MapEntry],
 ) -> Result<List<PlainEntry>, NoMemory>
+    requires { ArePlacesOf router.now places.now }
     ensures { IfOk result (λ plain. plain ≡ plain_entries router.now own p entries.now) }
 {
     let mut plain = List::new(alloc);
     for entry in entries {
-        if prefixes_match(router, p, &entry.prefixes) {
-            plain.push(plain_entry(alloc, router, own, entry)?)?;
+        if prefixes_match(router, places, p, &entry.prefixes) {
+            plain.push(plain_entry(alloc, router, places, own, entry)?)?;
         }
     }
     Ok(plain)
@@ -212,26 +199,29 @@ fn whole(alloc: Global, own: Option<u32>) -> Result<List<PlainEntry>, NoMemory>
 fn entries_for(
     alloc: Global,
     router: &Router,
+    places: &Places,
     own: Option<u32>,
     p: Prefix,
     map: Option<&Text>,
 ) -> Result<List<PlainEntry>, NoMemory>
+    requires { ArePlacesOf router.now places.now }
     ensures { IfOk result (λ plain. plain ≡ entries_for router.now own p (option_copied map.entry)) }
 {
     match map {
-        Some(name) => match find_map(router, name) {
-            Some(map) => plain_entries(alloc, router, own, p, map.entries.as_slice()),
+        Some(name) => match find_map(router, places, name) {
+            Some(map) => plain_entries(alloc, router, places, own, p, map.entries.as_slice()),
             None => Ok(List::new(alloc)),
         },
         None => whole(alloc, own),
     }
 }
 
-fn passes_list(router: &Router, p: Prefix, list: Option<&Text>) -> bool
+fn passes_list(router: &Router, places: &Places, p: Prefix, list: Option<&Text>) -> bool
+    requires { ArePlacesOf router.now places.now }
     ensures { result ≡ passes_list router.now p (option_copied list.entry) }
 {
     match list {
-        Some(name) => list_permits(router, p, name),
+        Some(name) => list_permits(router, places, p, name),
         None => true,
     }
 }
@@ -239,20 +229,22 @@ fn passes_list(router: &Router, p: Prefix, list: Option<&Text>) -> bool
 fn map_for(
     alloc: Global,
     router: &Router,
+    places: &Places,
     map: Option<&Text>,
     list: Option<&Text>,
     p: Prefix,
     inbound: bool,
 ) -> Result<Plain, NoMemory>
+    requires { ArePlacesOf router.now places.now }
     ensures { IfOk result (λ plain. plain ≡ plain_of router.now (option_copied map.entry) (option_copied list.entry) p inbound) }
 {
-    if !passes_list(router, p, list) {
+    if !passes_list(router, places, p, list) {
         return Ok(Plain {
             entries: List::new(alloc),
         });
     }
     let own = own_preference(router, inbound);
-    let entries = entries_for(alloc, router, own, p, map)?;
+    let entries = entries_for(alloc, router, places, own, p, map)?;
     Ok(Plain { entries })
 }
 
@@ -272,6 +264,25 @@ pub fn policy(
     ensures printable { HasPrintableMaps router.now → IfOk result IsPrintable }
     ensures verdict { IsWellFormedRouter router.now → IfOk result (KeepsVerdict router.now (option_copied map.entry) (option_copied list.entry) p inbound) }
 {
-    let plain = map_for(alloc, router, map, list, p, inbound)?;
+    let places = places_of(alloc, router)?;
+    policy_at(alloc, router, &places, map, list, p, inbound)
+}
+
+/// `policy` with the places of the router's lists and maps, which serve for any number of calls.
+pub fn policy_at(
+    alloc: Global,
+    router: &Router,
+    places: &Places,
+    map: Option<&Text>,
+    list: Option<&Text>,
+    p: Prefix,
+    inbound: bool,
+) -> Result<Plain, NoMemory>
+    requires { ArePlacesOf router.now places.now }
+    ensures plain { IfOk result (λ plain. plain ≡ plain_of router.now (option_copied map.entry) (option_copied list.entry) p inbound) }
+    ensures printable { HasPrintableMaps router.now → IfOk result IsPrintable }
+    ensures verdict { IsWellFormedRouter router.now → IfOk result (KeepsVerdict router.now (option_copied map.entry) (option_copied list.entry) p inbound) }
+{
+    let plain = map_for(alloc, router, places, map, list, p, inbound)?;
     Ok(plain)
 }

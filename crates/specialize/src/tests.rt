@@ -1,4 +1,4 @@
-use crate::policy;
+use crate::{places_of, policy, policy_at};
 use base_kit::{List, NoMemory, NumSet, Prefix, Text};
 use cfg_ast::{BgpProcess, CommunityLine, CommunityList, MapEntry, NameLine, RouteMap, Router};
 use std::alloc::Global;
@@ -54,11 +54,25 @@ fn map_x(alloc: Global) -> Result<RouteMap, NoMemory> {
     })
 }
 
+// `route-map NAME permit SEQ`
+fn map_of_one(alloc: Global, name: &str, seq: u32) -> Result<RouteMap, NoMemory> {
+    let mut entries = List::new(alloc);
+    entries.push(entry_of(seq, true, None))?;
+    Ok(RouteMap {
+        name: text_of(alloc, name)?,
+        entries,
+    })
+}
+
 fn router_b(alloc: Global) -> Result<Router, NoMemory> {
-    let mut community_lists = List::new(alloc);
-    community_lists.push(list_l(alloc)?)?;
     let mut route_maps = List::new(alloc);
     route_maps.push(map_x(alloc)?)?;
+    router_with(alloc, route_maps)
+}
+
+fn router_with(alloc: Global, route_maps: List<RouteMap>) -> Result<Router, NoMemory> {
+    let mut community_lists = List::new(alloc);
+    community_lists.push(list_l(alloc)?)?;
     Ok(Router {
         name: text_of(alloc, "b")?,
         line: 1,
@@ -105,5 +119,28 @@ fn a_map_is_written_out_for_a_prefix(rt: HostRuntime) -> Result<(), NoMemory> {
         None => assert!(rt; false, "no list"),
     }
     assert!(rt; entries[1].lists.is_none());
+    Ok(())
+}
+
+#[test]
+fn the_first_map_of_a_name_is_found(rt: HostRuntime) -> Result<(), NoMemory> {
+    let alloc = rt.alloc();
+    let mut route_maps = List::new(alloc);
+    for (name, seq) in [("Y", 30), ("X", 40), ("Y", 50)] {
+        route_maps.push(map_of_one(alloc, name, seq)?)?;
+    }
+    let router = router_with(alloc, route_maps)?;
+    let places = places_of(alloc, &router)?;
+    let prefix = Prefix::new(0x0A00_0000, 24);
+    for (name, seq) in [("X", 40), ("Y", 30)] {
+        let name = text_of(alloc, name)?;
+        let plain = policy_at(alloc, &router, &places, Some(&name), None, prefix, false)?;
+        let entries = plain.entries.as_slice();
+        assert_eq!(rt; entries.len(), 1);
+        assert_eq!(rt; entries[0].seq, seq);
+    }
+    let name = text_of(alloc, "Z")?;
+    let plain = policy_at(alloc, &router, &places, Some(&name), None, prefix, false)?;
+    assert!(rt; plain.entries.as_slice().is_empty());
     Ok(())
 }

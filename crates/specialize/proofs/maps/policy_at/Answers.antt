@@ -4,7 +4,7 @@ use Rattle.route_maps.specs.Printable.{IsPrintable}
 use Rattle.specialize.specs.OnePrefix.{KeepsVerdict}
 use Rattle.specialize.proofs.Printable.{printable_plain}
 use Rattle.specialize.proofs.Verdicts.{verdict_kept}
-use Rattle.specialize.proofs.maps.policy.Goals as goal
+use Rattle.specialize.proofs.maps.policy_at.Goals as goal
 
 pub returns-clause-printable : goal.returns-clause-printable
 returns-clause-printable c has =
