@@ -2,13 +2,16 @@
 use Rattle.std.proofs.Common.{◌≡◌, ℕ, ◌+◌, ◌<◌, ◌≤◌, Bool, true, false, List, [], ◌∷◌, length, refl, sym, ap, ◌∙◌, arith, Option, Some, None, Result, Ok, Err, subst, true≢false}
 use Rattle.std.specs.Result.{is_ok}
 use Rattle.cfg_ast.specs.declared.line.Line.{Line}
+use Rattle.cfg_ast.specs.declared.line.Span.{Span}
 use Rattle.cfg_ast.specs.declared.refusal.Kind.{Kind}
 use Rattle.cfg_ast.specs.declared.refusal.ReadRefusal.{ReadRefusal}
 use Rattle.cfg_ast.specs.declared.refusal.ReadRefusal.TheVariants.{At}
-use Rattle.cfg_ast.specs.text.Lines.{begins_line, newline_from, without_return, Piece, piece_at, pieces_from, line_of, is_kept, kind_at, lines_in, IsLineIn}
+use Rattle.cfg_ast.specs.text.Lines.{begins_line, newline_from, without_return, Piece, piece_at, pieces_from, line_of, is_kept, are_kept, words_between, indent_between, kind_at, lines_in, IsLineIn}
 use Rattle.cfg_ast.proofs.Pieces.{pieces_next, pieces_end, begins_next, lines_kept, lines_skipped, lines_fault, lines_none, with_front}
 use Rattle.cfg_ast.proofs.Within.{line_lies}
 use Rattle.cfg_lex.specs.declared.following.Place.{Place}
+use Rattle.cfg_lex.specs.Odd.{odd_end, behind_return}
+use Rattle.cfg_lex.proofs.Odd.{Ends, sound_closed, closed_newline, closed_return}
 use Rattle.cfg_lex.specs.Places.{without_value, put_first, lines_from, IsPlace, kept_line, IsFirst}
 
 -- A line that was cut off the front: where it begins and ends.
@@ -120,3 +123,28 @@ next_place bs n from end few inside past below is = record {
   inside = omega arith;
   begins = λ h. ap (λ (e : ℕ). begins_line bs (e + 1)) is ∙ begins_next bs from inside (omega (arith, h, is));
 }
+
+-- ---- a line of a text without a fault ends where its plain bytes end
+
+pub sound_cut : (bs : List ℕ) (n from upto end : ℕ) → from < length bs → begins_line bs from ≡ true → upto ≡ odd_end bs from → end ≡ behind_return bs upto → is_ok (lines_in bs (pieces_from bs n from)) ≡ true → Cut bs n from end upto
+sound_cut bs n from upto end inside begins odd behind ok =
+    let ends : Ends bs from upto end = record { inside = omega arith; odd = odd; behind = behind } in
+    let whole : Cut bs n from (newline_from bs from) (without_return bs from (newline_from bs from)) = record { inside = inside; begins = begins; to_newline = refl; less_return = refl } in
+    let closed = sound_closed bs n from upto end ends (sound_here bs n from (newline_from bs from) (without_return bs from (newline_from bs from)) whole ok) in
+    record {
+      inside = inside;
+      begins = begins;
+      to_newline = sym (closed_newline bs from upto end ends closed);
+      less_return = sym (closed_return bs from upto end ends);
+    }
+
+pub kept_some : (bs : List ℕ) (number from upto indent : ℕ) (words : List Span) → words ≡ words_between bs from upto → indent ≡ indent_between bs from upto → are_kept bs words ≡ true
+    → kept_line bs number from upto ≡ Some (record { number = number; indent = indent; words = words })
+kept_some bs number from upto indent words e f keep =
+    let kept : are_kept bs (words_between bs from upto) ≡ true = ap (are_kept bs) (sym e) ∙ keep in
+    rw (e, f, kept) refl
+
+pub kept_none : (bs : List ℕ) (number from upto : ℕ) (words : List Span) → words ≡ words_between bs from upto → are_kept bs words ≡ false → kept_line bs number from upto ≡ None
+kept_none bs number from upto words e skip =
+    let skipped : are_kept bs (words_between bs from upto) ≡ false = ap (are_kept bs) (sym e) ∙ skip in
+    rw skipped refl

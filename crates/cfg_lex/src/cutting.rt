@@ -1,28 +1,13 @@
 ghost use Rattle.std.specs.Prelude.{◌≡◌, ◌≤◌, ◌++◌, ◌∷◌, [], OnOk, IfOk, All, length, if◌then◌else◌};
 ghost use Rattle.cfg_ast.specs.text.Answers.{Gives};
-ghost use Rattle.cfg_ast.specs.text.Lines.{are_kept, kind_at, lines_of, IsLineIn};
+ghost use Rattle.cfg_ast.specs.text.Lines.{are_kept, lines_of, IsLineIn};
 
-use crate::places::{indent_between, newline_from, odd_from, without_return};
+use crate::faults::kind_from;
+use crate::places::{behind_return, indent_between, odd_from};
 use crate::words::{are_kept, words_between};
 use base_kit::{List, NoMemory};
-use cfg_ast::{Kind, Line, ReadRefusal};
+use cfg_ast::{Line, ReadRefusal};
 use std::alloc::Global;
-
-pub(crate) fn kind_at(bytes: &[u8], number: u32, from: usize, upto: usize) -> Option<Kind>
-    requires front { from ≤ upto }
-    requires end { upto ≤ length bytes.now }
-    ensures { result ≡ kind_at bytes.now (record { number = number; from = from; upto = upto }) }
-{
-    if odd_from(bytes, from, upto) < upto {
-        Some(Kind::NotAscii)
-    } else if upto - from > 1024 {
-        Some(Kind::LineTooLong)
-    } else if number > 1_000_000 {
-        Some(Kind::TooManyLines)
-    } else {
-        None
-    }
-}
 
 // Puts the line last, unless it is skipped.
 fn keep(found: &mut List<Line>, bytes: &[u8], line: Line) -> Result<(), NoMemory>
@@ -52,9 +37,9 @@ pub fn lines(alloc: Global, bytes: &[u8]) -> Result<List<Line>, ReadRefusal>
     let mut from = 0;
     while from < bytes.len() {
         number += 1;
-        let end = newline_from(bytes, from);
-        let upto = without_return(bytes, from, end);
-        if let Some(kind) = kind_at(bytes, number, from, upto) {
+        let upto = odd_from(bytes, from, bytes.len());
+        let end = behind_return(bytes, upto);
+        if let Some(kind) = kind_from(bytes, number, from, upto, end) {
             return Err(ReadRefusal::At { line: number, kind });
         }
         let line = Line {

@@ -1,11 +1,11 @@
-ghost use Rattle.std.specs.Prelude.{◌≡◌, ◌≤◌, ◌<◌, IfOk, length, true, is_ok, if◌then◌else◌, None, Some};
-ghost use Rattle.cfg_ast.specs.text.Lines.{are_kept, words_between, indent_between};
-ghost use Rattle.cfg_lex.specs.Places.{IsPlace, IsNext, lines_from, kept_line};
+ghost use Rattle.std.specs.Prelude.{◌≡◌, ◌≤◌, IfOk, length, true, is_ok};
+ghost use Rattle.cfg_lex.specs.Odd.{AreWordsFrom};
+ghost use Rattle.cfg_lex.specs.Places.{IsPlace, IsNext, lines_from};
 
-use crate::places::{indent_between, newline_from, without_return};
-use crate::words::{are_kept, words_between};
-use base_kit::NoMemory;
-use cfg_ast::Line;
+use crate::places::{behind_return, indent_between, is_blank, is_plain, letters_end};
+use crate::words::are_kept;
+use base_kit::{List, NoMemory};
+use cfg_ast::{Line, Span};
 use std::alloc::Global;
 
 /// A place of a text where a line begins: how many lines stand before it, and its first byte.
@@ -15,28 +15,34 @@ pub struct Place {
     pub from: usize,
 }
 
-// The line between two places, unless it is skipped.
-fn line_between(
-    alloc: Global,
-    bytes: &[u8],
-    number: u32,
-    from: usize,
+// The words of a line that has only plain bytes, and where it ends.
+#[derive(Drop)]
+struct Words {
+    spans: List<Span>,
     upto: usize,
-) -> Result<Option<Line>, NoMemory>
-    requires front { from ≤ upto }
-    requires end { upto ≤ length bytes.now }
+}
+
+// The words from a place on, up to the first byte that a line may not have.
+fn words_from(alloc: Global, bytes: &[u8], from: usize) -> Result<Words, NoMemory>
+    requires front { from ≤ length bytes.now }
     requires short { length bytes.now ≤ 16777216 }
-    ensures { IfOk result (λ line. line ≡ kept_line bytes.now number from upto) }
+    ensures { IfOk result (AreWordsFrom bytes.now from) }
 {
-    let words = words_between(alloc, bytes, from, upto)?;
-    if !are_kept(bytes, words.as_slice()) {
-        return Ok(None);
+    let mut spans = List::new(alloc);
+    let mut i = from;
+    while i < bytes.len() && is_plain(bytes[i]) {
+        if is_blank(bytes[i]) {
+            i += 1;
+        } else {
+            let end = letters_end(bytes, i);
+            spans.push(Span {
+                from: i as u32,
+                upto: end as u32,
+            })?;
+            i = end;
+        }
     }
-    Ok(Some(Line {
-        number,
-        indent: indent_between(bytes, from, upto) as u32,
-        words,
-    }))
+    Ok(Words { spans, upto: i })
 }
 
 /// The first line from a place on that is not skipped, and the place behind it.
@@ -52,16 +58,20 @@ pub fn line_from(
 {
     let mut at = place;
     while at.from < bytes.len() {
-        let end = newline_from(bytes, at.from);
-        let upto = without_return(bytes, at.from, end);
+        let Words { spans, upto } = words_from(alloc, bytes, at.from)?;
         let next = Place {
             number: at.number + 1,
-            from: end + 1,
+            from: behind_return(bytes, upto) + 1,
         };
-        match line_between(alloc, bytes, next.number, at.from, upto)? {
-            Some(line) => return Ok(Some((line, next))),
-            None => at = next,
+        if are_kept(bytes, spans.as_slice()) {
+            let line = Line {
+                number: next.number,
+                indent: indent_between(bytes, at.from, upto) as u32,
+                words: spans,
+            };
+            return Ok(Some((line, next)));
         }
+        at = next;
     }
     Ok(None)
 }

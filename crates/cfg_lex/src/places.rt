@@ -1,5 +1,6 @@
 ghost use Rattle.std.specs.Prelude.{◌≡◌, ◌-◌, ◌≤◌, length};
 ghost use Rattle.cfg_ast.specs.text.Lines.{is_blank, is_plain, newline_from, without_return, word_end, indent_between, odd_from};
+ghost use Rattle.cfg_lex.specs.Odd.{is_letter, letters_end, behind_return};
 
 pub(crate) fn is_blank(b: u8) -> bool
     ensures { result ≡ is_blank b }
@@ -7,7 +8,7 @@ pub(crate) fn is_blank(b: u8) -> bool
     b == b' ' || b == b'\t'
 }
 
-fn is_plain(b: u8) -> bool
+pub(crate) fn is_plain(b: u8) -> bool
     ensures { result ≡ is_plain b }
 {
     b == b'\t' || b >= b' ' && b <= b'~'
@@ -71,16 +72,51 @@ pub(crate) fn indent_between(bytes: &[u8], from: usize, upto: usize) -> usize
     i - from
 }
 
-// The place of the first byte that a text may not have, or the end of the line.
+// The place of the first byte that a line may not have, or the end.
 #[tactic(auto, using(cfg_ast::proofs::Places::first_next, cfg_ast::proofs::Places::first_here, cfg_ast::proofs::Places::first_end))]
 pub(crate) fn odd_from(bytes: &[u8], from: usize, upto: usize) -> usize
     requires front { from ≤ upto }
     requires end { upto ≤ length bytes.now }
-    ensures { result ≡ odd_from bytes.now from upto }
+    ensures place { result ≡ odd_from bytes.now from upto }
+    ensures bounds { (from ≤ result) × (result ≤ upto) }
 {
     let mut i = from;
     while i < upto && is_plain(bytes[i]) {
         i += 1;
     }
     i
+}
+
+// A byte of a word: one that prints, and no blank.
+fn is_letter(b: u8) -> bool
+    ensures { result ≡ is_letter b }
+{
+    b >= b'!' && b <= b'~'
+}
+
+// The place of the first byte from `from` on that is none of a word, or the end of the text.
+#[tactic(auto, using(cfg_ast::proofs::Places::first_next, cfg_ast::proofs::Places::first_here, cfg_ast::proofs::Places::first_end))]
+pub(crate) fn letters_end(bytes: &[u8], from: usize) -> usize
+    requires { from ≤ length bytes.now }
+    ensures place { result ≡ letters_end bytes.now from }
+    ensures bounds { (from ≤ result) × (result ≤ length bytes.now) }
+{
+    let mut i = from;
+    while i < bytes.len() && is_letter(bytes[i]) {
+        i += 1;
+    }
+    i
+}
+
+// The place behind a carriage return, if one stands here.
+pub(crate) fn behind_return(bytes: &[u8], at: usize) -> usize
+    requires { at ≤ length bytes.now }
+    ensures place { result ≡ behind_return bytes.now at }
+    ensures bounds { (at ≤ result) × (result ≤ length bytes.now) }
+{
+    if at < bytes.len() && bytes[at] == b'\r' {
+        at + 1
+    } else {
+        at
+    }
 }

@@ -1,6 +1,5 @@
-use Rattle.std.proofs.Common.{◌≡◌, ◌+◌, ap, ◌∙◌, arith, subst, sym, All}
+use Rattle.std.proofs.Common.{◌+◌, ap, ◌∙◌, arith}
 use Rattle.cfg_ast.specs.text.Lines.{begins_line}
-use Rattle.cfg_ast.specs.text.Members.{all_lines_of, AreSpansIn}
 use Rattle.cfg_ast.proofs.Pieces.{begins_next}
 use Rattle.cfg_ast.proofs.AllLines.{all_lines_lie, every_line_read, every_line_done}
 use Rattle.cfg_lex.proofs.all_lines.every_line.Goals as goal
