@@ -1,8 +1,12 @@
 ghost use Rattle.std.specs.Prelude.{◌≡◌, ◌<◌, length, map};
 ghost use Rattle.std.specs.List.{list_any, position_or_len};
+ghost use Rattle.std.specs.Option.{option_map_or};
 ghost use Rattle.base_kit.specs.Numbers.{is_digit};
+ghost use Rattle.cfg_ast.specs.declared.bgp.Base.{Base};
+ghost use Rattle.cfg_ast.specs.meaning.Policy.{default_preference};
 ghost use Rattle.cfg_ast.specs.meaning.Topology.{subnet_of_address, is_up_interface, up_address, subnet_of_interface, line_has_address, is_in_area_interface, names, is_passive_name, is_active_interface, type_of, default_costs, default_cost_of, cost_of_interface, is_up, subnet_of, is_in_area, is_active, cost_of};
 
+use crate::bgp::BgpProcess;
 use crate::interface::{Address, Interface};
 use crate::network::Router;
 use crate::ospf::{AreaLine, OspfProcess};
@@ -143,12 +147,33 @@ fn has_name(all: &[Text], name: &Text) -> bool
     all.iter().any(|other| other.as_str() == name.as_str())
 }
 
+impl BgpProcess {
+    fn default_preference(&self) -> u32
+        ensures { result ≡ option_map_or (λ (base : Base). base.value) self.now.base 100 }
+    {
+        match self.base {
+            Some(base) => base.value,
+            None => 100,
+        }
+    }
+}
+
 impl Router {
+    /// The default preference of the router: that of its `bgp default local-preference` line, else 100.
+    pub fn default_preference(&self) -> u32
+        ensures { result ≡ default_preference self.now }
+    {
+        match self.bgp.as_option() {
+            Some(process) => process.default_preference(),
+            None => 100,
+        }
+    }
+
     /// Whether the interface, one of this router, is up and in the OSPF area.
     pub fn has_in_area(&self, interface: &Interface) -> bool
         ensures { result ≡ is_in_area_interface self.now interface.now }
     {
-        match (interface.up_address(), &self.ospf) {
+        match (interface.up_address(), self.ospf.as_option()) {
             (Some(address), Some(process)) => process.has_address(address.addr()),
             _ => false,
         }
@@ -158,7 +183,7 @@ impl Router {
     pub fn has_active(&self, interface: &Interface) -> bool
         ensures { result ≡ is_active_interface self.now interface.now }
     {
-        match &self.ospf {
+        match self.ospf.as_option() {
             Some(process) => self.has_in_area(interface) && !process.holds_passive(&interface.name),
             None => false,
         }

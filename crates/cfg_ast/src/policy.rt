@@ -1,5 +1,5 @@
 use crate::network::Named;
-use base_kit::{List, NumSet, Prefix, Text};
+use base_kit::{Aside, List, NumSet, Prefix, Text};
 
 /// A prefix list, its entries by sequence number.
 #[derive(Drop)]
@@ -47,14 +47,14 @@ pub struct MapEntry {
     pub seq: u32,
     pub permit: bool,
     pub line: u32,
-    pub prefixes: Option<NameLine>,
-    pub comms: Option<NameLine>,
+    pub prefixes: Aside<NameLine>,
+    pub comms: Aside<NameLine>,
     pub exact: bool,
     pub lp: Option<u32>,
-    pub change: Option<Change>,
+    pub change: Aside<Change>,
     pub change_line: u32,
-    pub delete: Option<Named>,
-    pub prepend: Option<Prepend>,
+    pub delete: Aside<Named>,
+    pub prepend: Aside<Prepend>,
 }
 
 /// The names that a match line gives.

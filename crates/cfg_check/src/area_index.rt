@@ -26,7 +26,7 @@ pub struct AreaIndex<'a> {
 fn listed(router: &Router) -> &[Text]
     ensures { result.now ≡ listed_of router.now.ospf }
 {
-    match &router.ospf {
+    match router.ospf.as_option() {
         Some(process) => {
             if process.passive_default {
                 process.not_passive.as_slice()
@@ -65,7 +65,7 @@ impl<'a> AreaIndex<'a> {
     fn is_passive(&self, name: &Text) -> bool
         ensures { result ≡ is_passive_in self.now.router.now.ospf name.now }
     {
-        let Some(process) = &self.router.ospf else {
+        let Some(process) = self.router.ospf.as_option() else {
             return false;
         };
         let is_listed = self.names.contains(name.as_str());

@@ -24,7 +24,7 @@ pub(crate) fn too_many_routers(routers: &[Router]) -> Option<u32>
 pub(crate) fn neighbors(router: &Router) -> &[Neighbor]
     ensures { result.now ≡ neighbors_of router.now }
 {
-    match &router.bgp {
+    match router.bgp.as_option() {
         Some(process) => process.neighbors.as_slice(),
         None => &[],
     }

@@ -55,7 +55,7 @@ pub(crate) fn community_list_names(
 fn keep_deletion<'a>(names: &mut HashSet<&'a str>, entry: &'a MapEntry) -> Result<(), NoMemory>
     ensures { OnOk result (AddsNames names.old names.new (λ q. is_name q entry.now.delete)) }
 {
-    let Some(named) = &entry.delete else {
+    let Some(named) = entry.delete.as_option() else {
         return Ok(());
     };
     names.insert(named.name.as_str())?;

@@ -16,7 +16,7 @@ use std::collections::HashSet;
 fn has_number(router: &Router, number: u32) -> bool
     ensures { result ≡ has_number router.now number }
 {
-    match &router.bgp {
+    match router.bgp.as_option() {
         Some(process) => process.number == number,
         None => false,
     }
@@ -31,7 +31,7 @@ fn has_all_numbers(router: &Router, numbers: &[u32]) -> bool
 fn foreign_prepend_in(router: &Router, entry: &MapEntry) -> Option<u32>
     ensures { result ≡ least_line (foreign_prepend_in router.now entry.now) }
 {
-    let Some(prepend) = &entry.prepend else {
+    let Some(prepend) = entry.prepend.as_option() else {
         return None;
     };
     if has_all_numbers(router, prepend.numbers.as_slice()) {

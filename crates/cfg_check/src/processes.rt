@@ -21,7 +21,7 @@ pub(crate) struct Numbered {
 fn number_of(router: &Router) -> Option<Numbered>
     ensures { result ≡ numbered_of router.now }
 {
-    let process = router.bgp.as_ref()?;
+    let process = router.bgp.as_option()?;
     Some(Numbered {
         number: process.number,
         line: process.line,
@@ -72,7 +72,7 @@ fn internal_peer_in(process: &BgpProcess) -> Option<u32>
 fn internal_peer_of(router: &Router) -> Option<u32>
     ensures { result ≡ least_line (map neighbor_line (internal_peers_of router.now)) }
 {
-    match &router.bgp {
+    match router.bgp.as_option() {
         Some(process) => internal_peer_in(process),
         None => None,
     }
@@ -92,7 +92,7 @@ pub(crate) fn internal_peer(routers: &[Router]) -> Option<u32>
 fn first_protocol_of(router: &Router) -> Option<Protocol>
     ensures { result ≡ protocol_in (protocol_lines_of router.now) }
 {
-    match (&router.bgp, &router.ospf) {
+    match (router.bgp.as_option(), router.ospf.as_option()) {
         (None, None) => None,
         (Some(_), None) => Some(Protocol::Bgp),
         (None, Some(_)) => Some(Protocol::Ospf),
@@ -121,11 +121,11 @@ fn other_protocol_of(router: &Router, protocol: Protocol) -> Option<u32>
     ensures { result ≡ least_line (map line_of_protocol (filter (has_other_protocol protocol) (protocol_lines_of router.now))) }
 {
     match protocol {
-        Protocol::Bgp => match &router.ospf {
+        Protocol::Bgp => match router.ospf.as_option() {
             Some(process) => Some(process.line),
             None => None,
         },
-        Protocol::Ospf => match &router.bgp {
+        Protocol::Ospf => match router.bgp.as_option() {
             Some(process) => Some(process.line),
             None => None,
         },
@@ -154,7 +154,7 @@ pub(crate) fn mixed_protocols(routers: &[Router]) -> Option<u32>
 pub(crate) fn areas(router: &Router) -> &[AreaLine]
     ensures { result.now ≡ areas_of router.now }
 {
-    match &router.ospf {
+    match router.ospf.as_option() {
         Some(process) => process.areas.as_slice(),
         None => &[],
     }

@@ -5,6 +5,7 @@ ghost use Rattle.cfg_ast.specs.text.Lines.{IsWordIn, texts};
 ghost use Rattle.cfg_ast.specs.text.PolicyForms.{empty_entry, map_head_form};
 
 use crate::act::is_permit;
+use base_kit::Aside;
 use cfg_ast::FormFault::BadForm;
 use cfg_ast::{FormFault, MapEntry, PolicyItem, Span};
 use cfg_words::{list_name, read_between, text};
@@ -17,14 +18,14 @@ fn empty_entry(seq: u32, permit: bool, line: u32) -> MapEntry
         seq,
         permit,
         line,
-        prefixes: None,
-        comms: None,
+        prefixes: Aside::none(),
+        comms: Aside::none(),
         exact: false,
         lp: None,
-        change: None,
+        change: Aside::none(),
         change_line: 0,
-        delete: None,
-        prepend: None,
+        delete: Aside::none(),
+        prepend: Aside::none(),
     }
 }
 

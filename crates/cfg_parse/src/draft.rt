@@ -7,7 +7,7 @@ use crate::interfaces::Interfaces;
 use crate::ospf::OspfDraft;
 use crate::prefix_lists::PrefixLists;
 use crate::route_maps::RouteMaps;
-use base_kit::{List, NoMemory, Text};
+use base_kit::{Aside, List, NoMemory, Text};
 use cfg_ast::{BgpProcess, Interface, MapEntry, Named, OspfProcess, Router};
 use std::alloc::Global;
 use std::marker::Model;
@@ -28,8 +28,8 @@ pub(crate) enum Open {
 pub(crate) struct Draft {
     pub(crate) name: Option<Named>,
     pub(crate) interfaces: Interfaces,
-    pub(crate) bgp: Option<BgpProcess>,
-    pub(crate) ospf: Option<OspfProcess>,
+    pub(crate) bgp: Aside<BgpProcess>,
+    pub(crate) ospf: Aside<OspfProcess>,
     pub(crate) prefix_lists: PrefixLists,
     pub(crate) community_lists: CommunityLists,
     pub(crate) route_maps: RouteMaps,
@@ -66,8 +66,8 @@ pub(crate) fn no_draft(alloc: Global) -> Draft
     Draft {
         name: None,
         interfaces: Interfaces::new(alloc),
-        bgp: None,
-        ospf: None,
+        bgp: Aside::none(),
+        ospf: Aside::none(),
         prefix_lists: PrefixLists::new(alloc),
         community_lists: CommunityLists::new(alloc),
         route_maps: RouteMaps::new(alloc),
@@ -103,8 +103,8 @@ pub(crate) fn with_closed(alloc: Global, draft: Draft) -> Result<Draft, NoMemory
         Open::Closed => {}
         Open::Ignored => {}
         Open::Interface(interface) => interfaces = interfaces.with(alloc, interface)?,
-        Open::Bgp(process) => bgp = Some(process.into_process()),
-        Open::Ospf(process) => ospf = Some(process.into_process()),
+        Open::Bgp(process) => bgp = Aside::some(alloc, process.into_process())?,
+        Open::Ospf(process) => ospf = Aside::some(alloc, process.into_process())?,
         Open::Entry(name, entry) => route_maps = route_maps.with_entry(alloc, name, entry)?,
     }
     Ok(Draft {

@@ -142,7 +142,7 @@ pub(crate) fn take_inner(
         }
         Open::Entry(name, entry) => {
             let item = policy_said_in(alloc, bytes, line, PolicyScope::Entry)?;
-            Ok(Open::Entry(name, set_entry(line.number, item, entry)?))
+            Ok(Open::Entry(name, set_entry(alloc, line.number, item, entry)?))
         }
     }
 }

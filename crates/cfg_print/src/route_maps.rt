@@ -8,7 +8,7 @@ use crate::words::{
     put, put_act, put_closing, put_communities, put_name, put_names, put_number, put_numbers,
     put_word,
 };
-use base_kit::{List, NumSet};
+use base_kit::{Aside, List, NumSet};
 use cfg_ast::{Change, MapEntry, NameLine, Named, Prepend, RouteMap};
 use std::alloc::AllocError;
 
@@ -30,10 +30,10 @@ fn put_match_prefixes(text: &mut String, line: &NameLine) -> Result<(), AllocErr
     put(text, "\n")
 }
 
-fn put_some_prefixes(text: &mut String, line: &Option<NameLine>) -> Result<(), AllocError>
+fn put_some_prefixes(text: &mut String, line: &Aside<NameLine>) -> Result<(), AllocError>
     ensures { OnOk result (string_bytes text.new ≡ string_bytes text.old ++ lines_text (line_of_given match_prefixes_line line.now)) }
 {
-    match line {
+    match line.as_option() {
         Some(line) => put_match_prefixes(text, line),
         None => Ok(()),
     }
@@ -57,10 +57,10 @@ fn put_match_comms(text: &mut String, line: &NameLine, exact: bool) -> Result<()
     put(text, "\n")
 }
 
-fn put_some_comms(text: &mut String, line: &Option<NameLine>, exact: bool) -> Result<(), AllocError>
+fn put_some_comms(text: &mut String, line: &Aside<NameLine>, exact: bool) -> Result<(), AllocError>
     ensures { OnOk result (string_bytes text.new ≡ string_bytes text.old ++ lines_text (line_of_given (match_comms_line exact) line.now)) }
 {
-    match line {
+    match line.as_option() {
         Some(line) => put_match_comms(text, line, exact),
         None => Ok(()),
     }
@@ -115,10 +115,10 @@ fn put_change(text: &mut String, change: &Change) -> Result<(), AllocError>
     }
 }
 
-fn put_some_change(text: &mut String, change: &Option<Change>) -> Result<(), AllocError>
+fn put_some_change(text: &mut String, change: &Aside<Change>) -> Result<(), AllocError>
     ensures { OnOk result (string_bytes text.new ≡ string_bytes text.old ++ lines_text (line_of_given change_line change.now)) }
 {
-    match change {
+    match change.as_option() {
         Some(change) => put_change(text, change),
         None => Ok(()),
     }
@@ -132,10 +132,10 @@ fn put_delete(text: &mut String, list: &Named) -> Result<(), AllocError>
     put(text, " delete\n")
 }
 
-fn put_some_delete(text: &mut String, list: &Option<Named>) -> Result<(), AllocError>
+fn put_some_delete(text: &mut String, list: &Aside<Named>) -> Result<(), AllocError>
     ensures { OnOk result (string_bytes text.new ≡ string_bytes text.old ++ lines_text (line_of_given delete_line list.now)) }
 {
-    match list {
+    match list.as_option() {
         Some(list) => put_delete(text, list),
         None => Ok(()),
     }
@@ -149,10 +149,10 @@ fn put_prepend(text: &mut String, prepend: &Prepend) -> Result<(), AllocError>
     put(text, "\n")
 }
 
-fn put_some_prepend(text: &mut String, prepend: &Option<Prepend>) -> Result<(), AllocError>
+fn put_some_prepend(text: &mut String, prepend: &Aside<Prepend>) -> Result<(), AllocError>
     ensures { OnOk result (string_bytes text.new ≡ string_bytes text.old ++ lines_text (line_of_given prepend_line prepend.now)) }
 {
-    match prepend {
+    match prepend.as_option() {
         Some(prepend) => put_prepend(text, prepend),
         None => Ok(()),
     }

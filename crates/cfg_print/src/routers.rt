@@ -8,7 +8,7 @@ use crate::lists::{put_community_lists, put_prefix_lists};
 use crate::ospf::put_ospf;
 use crate::route_maps::put_route_maps;
 use crate::words::{put_closing, put_name};
-use base_kit::{List, Text};
+use base_kit::{Aside, List, Text};
 use cfg_ast::{BgpProcess, OspfProcess, Router};
 use std::alloc::AllocError;
 use std::fmt::Write;
@@ -24,19 +24,19 @@ fn put_members(text: &mut String, members: &[Text]) -> Result<(), AllocError>
     Ok(())
 }
 
-fn put_some_bgp(text: &mut String, process: &Option<BgpProcess>) -> Result<(), AllocError>
+fn put_some_bgp(text: &mut String, process: &Aside<BgpProcess>) -> Result<(), AllocError>
     ensures { OnOk result (string_bytes text.new ≡ string_bytes text.old ++ lines_text (lines_of_some bgp_lines process.now)) }
 {
-    match process {
+    match process.as_option() {
         Some(process) => put_bgp(text, process),
         None => Ok(()),
     }
 }
 
-fn put_some_ospf(text: &mut String, process: &Option<OspfProcess>) -> Result<(), AllocError>
+fn put_some_ospf(text: &mut String, process: &Aside<OspfProcess>) -> Result<(), AllocError>
     ensures { OnOk result (string_bytes text.new ≡ string_bytes text.old ++ lines_text (lines_of_some ospf_lines process.now)) }
 {
-    match process {
+    match process.as_option() {
         Some(process) => put_ospf(text, process),
         None => Ok(()),
     }

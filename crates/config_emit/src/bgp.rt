@@ -1,7 +1,4 @@
 ghost use Rattle.std.specs.Prelude.{◌≡◌, map, IfOk};
-ghost use Rattle.cfg_ast.specs.declared.bgp.Base.{Base};
-ghost use Rattle.std.specs.Option.{option_map_or};
-ghost use Rattle.cfg_ast.specs.meaning.Policy.{default_preference};
 ghost use Rattle.config_emit.specs.BgpSteps.{announced, neighbor_of};
 ghost use Rattle.config_emit.specs.Emitted.{base_of};
 ghost use Rattle.config_emit.specs.MapNumbers.{maps_now, ArePolicies};
@@ -14,7 +11,7 @@ use crate::link_interfaces::side_on;
 use crate::number::link_addr;
 use crate::router_maps::{RouterMaps, far_end, use_name};
 use base_kit::{List, NoMemory, Prefix};
-use cfg_ast::{Base, BgpProcess, Neighbor, NetLine, Router};
+use cfg_ast::{Base, Neighbor, NetLine, Router};
 use std::alloc::Global;
 
 /// A `network` line for each prefix.
@@ -31,29 +28,11 @@ pub(crate) fn net_lines(alloc: Global, prefixes: &[Prefix]) -> Result<List<NetLi
     Ok(lines)
 }
 
-fn base_value(process: &BgpProcess) -> u32
-    ensures { result ≡ option_map_or (λ (base : Base). base.value) process.now.base 100 }
-{
-    match &process.base {
-        Some(base) => base.value,
-        None => 100,
-    }
-}
-
-fn default_preference(router: &Router) -> u32
-    ensures { result ≡ default_preference router.now }
-{
-    match &router.bgp {
-        Some(process) => base_value(process),
-        None => 100,
-    }
-}
-
 /// The default preference of a router that originates the class, where it is not 100.
 pub(crate) fn base_of(nets: &[NetLine], router: &Router) -> Option<Base>
     ensures { result ≡ base_of nets.now router.now }
 {
-    let value = default_preference(router);
+    let value = router.default_preference();
     match nets {
         [] => None,
         _ => {

@@ -20,7 +20,7 @@ use crate::router_maps::{RouterMaps, router_maps};
 use crate::routers::class_interfaces_of;
 use crate::source::{Source, originates, router_at};
 use crate::written::{push_lists_of_map, written_map};
-use base_kit::{List, NoMemory};
+use base_kit::{Aside, List, NoMemory};
 use cfg_ast::{Base, BgpProcess, CommunityList, NetLine, RouteMap, Router};
 use std::alloc::Global;
 
@@ -63,7 +63,7 @@ fn process(
     numbers: &[u32],
     group: u32,
     links: &[ActLink],
-) -> Result<Option<BgpProcess>, NoMemory>
+) -> Result<Aside<BgpProcess>, NoMemory>
     requires source { IsSource source.now }
     requires bgp { source.now.srp.now.protocol ≡ over.Bgp }
     requires policies { ArePlanned (plan_of source.now) policies.now }
@@ -75,18 +75,21 @@ fn process(
 {
     let number = number_at(numbers, group);
     if number == 0 {
-        return Ok(None);
+        return Ok(Aside::none());
     }
     let networks = net_lines_of(alloc, source, group)?;
     let base = base_line(source, group, networks.as_slice());
     let neighbors = neighbors_of(alloc, policies, maps, numbers, group, links)?;
-    Ok(Some(BgpProcess {
-        number,
-        line: 0,
-        base,
-        networks,
-        neighbors,
-    }))
+    Aside::some(
+        alloc,
+        BgpProcess {
+            number,
+            line: 0,
+            base,
+            networks,
+            neighbors,
+        },
+    )
 }
 
 fn lists_of(alloc: Global, maps: &RouterMaps) -> Result<List<CommunityList>, NoMemory>
@@ -156,7 +159,7 @@ fn bgp_router(
         line: 0,
         interfaces,
         bgp,
-        ospf: None,
+        ospf: Aside::none(),
         prefix_lists: List::new(alloc),
         community_lists,
         route_maps,

@@ -3,8 +3,8 @@ ghost use Rattle.std.specs.List.{enumerate_from};
 ghost use Rattle.cfg_ast.specs.printing.Bare.{bare_community_line};
 ghost use Rattle.config_emit.specs.Maps.{passes_all, is_whole, map_name, match_name, deletion_name, written_list, match_list, match_lists, deletion_lists, lists_of_entry, lists_of_map, name_of_list, written_prepend, written_entry, denying_entry, written_entries, written_map};
 
-use base_kit::{List, NoMemory, Text};
-use cfg_ast::{CommunityLine, CommunityList, MapEntry, NameLine, Named, Prepend, RouteMap};
+use base_kit::{Aside, List, NoMemory, Text};
+use cfg_ast::{Change, CommunityLine, CommunityList, MapEntry, NameLine, Named, Prepend, RouteMap};
 use route_maps::{Plain, PlainEntry, change_copy};
 use std::alloc::Global;
 
@@ -184,27 +184,33 @@ fn list_names(
     Ok(names)
 }
 
-fn names_line(alloc: Global, k: usize, entry: &PlainEntry) -> Result<Option<NameLine>, NoMemory>
+fn names_line(alloc: Global, k: usize, entry: &PlainEntry) -> Result<Aside<NameLine>, NoMemory>
     ensures { IfOk result (λ line. line ≡ (written_entry 0 k entry.now).comms) }
 {
     match &entry.lists {
-        Some(lists) => Ok(Some(NameLine {
-            names: list_names(alloc, k, entry.seq, lists.as_slice())?,
-            line: 0,
-        })),
-        None => Ok(None),
+        Some(lists) => Aside::some(
+            alloc,
+            NameLine {
+                names: list_names(alloc, k, entry.seq, lists.as_slice())?,
+                line: 0,
+            },
+        ),
+        None => Ok(Aside::none()),
     }
 }
 
-fn named_deletion(alloc: Global, k: usize, entry: &PlainEntry) -> Result<Option<Named>, NoMemory>
+fn named_deletion(alloc: Global, k: usize, entry: &PlainEntry) -> Result<Aside<Named>, NoMemory>
     ensures { IfOk result (λ name. name ≡ (written_entry 0 k entry.now).delete) }
 {
     match &entry.delete {
-        Some(_) => Ok(Some(Named {
-            name: deletion_name(alloc, k, entry.seq)?,
-            line: 0,
-        })),
-        None => Ok(None),
+        Some(_) => Aside::some(
+            alloc,
+            Named {
+                name: deletion_name(alloc, k, entry.seq)?,
+                line: 0,
+            },
+        ),
+        None => Ok(Aside::none()),
     }
 }
 
@@ -219,16 +225,28 @@ fn repeated(alloc: Global, number: u32, count: u8) -> Result<List<u32>, NoMemory
 }
 
 // The AS number of the router, as many times as the entry adds numbers.
-fn written_prepend(alloc: Global, number: u32, adds: u8) -> Result<Option<Prepend>, NoMemory>
+fn written_prepend(alloc: Global, number: u32, adds: u8) -> Result<Aside<Prepend>, NoMemory>
     ensures { IfOk result (λ prepend. prepend ≡ written_prepend number adds) }
 {
     if adds == 0 {
-        return Ok(None);
+        return Ok(Aside::none());
     }
-    Ok(Some(Prepend {
-        numbers: repeated(alloc, number, adds)?,
-        line: 0,
-    }))
+    Aside::some(
+        alloc,
+        Prepend {
+            numbers: repeated(alloc, number, adds)?,
+            line: 0,
+        },
+    )
+}
+
+fn written_change(alloc: Global, entry: &PlainEntry) -> Result<Aside<Change>, NoMemory>
+    ensures { IfOk result (λ change. change ≡ entry.now.change) }
+{
+    match &entry.change {
+        Some(change) => Aside::some(alloc, change_copy(change)?),
+        None => Ok(Aside::none()),
+    }
 }
 
 fn written_entry(
@@ -243,11 +261,11 @@ fn written_entry(
         seq: entry.seq,
         permit: entry.permit,
         line: 0,
-        prefixes: None,
+        prefixes: Aside::none(),
         comms: names_line(alloc, k, entry)?,
         exact: entry.lists.is_some() && entry.exact,
         lp: entry.lp,
-        change: change_copy(&entry.change)?,
+        change: written_change(alloc, entry)?,
         change_line: 0,
         delete: named_deletion(alloc, k, entry)?,
         prepend: written_prepend(alloc, number, entry.adds)?,
@@ -262,14 +280,14 @@ fn denying_entry() -> MapEntry
         seq: 10,
         permit: false,
         line: 0,
-        prefixes: None,
-        comms: None,
+        prefixes: Aside::none(),
+        comms: Aside::none(),
         exact: false,
         lp: None,
-        change: None,
+        change: Aside::none(),
         change_line: 0,
-        delete: None,
-        prepend: None,
+        delete: Aside::none(),
+        prepend: Aside::none(),
     }
 }
 

@@ -55,7 +55,7 @@ fn note(
 fn named_in_bgp(alloc: Global, router: &Router) -> Result<Option<BTreeSet<Prefix>>, NoMemory>
     ensures { IfOk result (AreNamed router.now.bgp) }
 {
-    match &router.bgp {
+    match router.bgp.as_option() {
         Some(process) => Ok(Some(named(alloc, process)?)),
         None => Ok(None),
     }

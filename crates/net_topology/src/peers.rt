@@ -34,7 +34,7 @@ pub(crate) struct Peers {
 pub(crate) fn peer_on(router: u32, item: u32, owner: &Router, neighbor: &Neighbor) -> Option<Peer>
     ensures { result ≡ peer_on router item owner.now neighbor.now }
 {
-    let process = owner.bgp.as_ref()?;
+    let process = owner.bgp.as_option()?;
     if neighbor.shut {
         return None;
     }
@@ -57,7 +57,7 @@ pub(crate) fn name_each_other(p: &Peer, q: &Peer) -> bool
 pub(crate) fn neighbors(owner: &Router) -> &[Neighbor]
     ensures { result.now ≡ neighbors_of owner.now }
 {
-    match &owner.bgp {
+    match owner.bgp.as_option() {
         Some(process) => process.neighbors.as_slice(),
         None => &[],
     }

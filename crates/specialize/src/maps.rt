@@ -1,7 +1,7 @@
 ghost use Rattle.std.specs.Prelude.{◌≡◌, ℕ, [], ◌∷◌, IfOk, option_copied, min, filter_map, if◌then◌else◌};
 ghost use Rattle.std.specs.List.{list_any};
 ghost use Rattle.std.specs.Option.{option_or};
-ghost use Rattle.cfg_ast.specs.meaning.Policy.{community_list_named, prefixes_permitted_by, prefixes_match, deletion_list, prepend_count, passes_list, default_preference};
+ghost use Rattle.cfg_ast.specs.meaning.Policy.{community_list_named, prefixes_permitted_by, prefixes_match, deletion_list, prepend_count, passes_list};
 ghost use Rattle.cfg_ast.specs.printing.WellFormed.{IsWellFormedRouter};
 ghost use Rattle.route_maps.specs.Printable.{IsPrintable};
 ghost use Rattle.specialize.specs.OnePrefix.{own_preference, lists_named, plain_entry, whole_entry, plain_entries, entries_for, plain_of, KeepsVerdict};
@@ -9,8 +9,8 @@ ghost use Rattle.specialize.specs.Places.{ArePlacesOf};
 ghost use Rattle.specialize.specs.Printable.{HasPrintableMaps};
 
 use crate::places::{Places, find_community_list, find_map, find_prefix_list, places_of};
-use base_kit::{List, NoMemory, Prefix, Text};
-use cfg_ast::{CommunityList, MapEntry, NameLine, Named, Prepend, Router};
+use base_kit::{Aside, List, NoMemory, Prefix, Text};
+use cfg_ast::{Change, CommunityList, MapEntry, NameLine, Named, Prepend, Router};
 use prefix_lists::permits;
 use route_maps::{Plain, PlainEntry, change_copy, list_copy};
 use std::alloc::Global;
@@ -34,32 +34,20 @@ fn any_list_permits(router: &Router, places: &Places, p: Prefix, names: &[Text])
         .any(|name| list_permits(router, places, p, name))
 }
 
-fn prefixes_match(router: &Router, places: &Places, p: Prefix, prefixes: &Option<NameLine>) -> bool
+fn prefixes_match(router: &Router, places: &Places, p: Prefix, prefixes: &Aside<NameLine>) -> bool
     requires { ArePlacesOf router.now places.now }
     ensures { result ≡ prefixes_match router.now p prefixes.now }
 {
-    match prefixes {
+    match prefixes.as_option() {
         Some(line) => any_list_permits(router, places, p, line.names.as_slice()),
         None => true,
-    }
-}
-
-fn default_preference(router: &Router) -> u32
-    ensures { result ≡ default_preference router.now }
-{
-    match &router.bgp {
-        Some(process) => match process.base {
-            Some(base) => base.value,
-            None => 100,
-        },
-        None => 100,
     }
 }
 
 fn own_preference(router: &Router, inbound: bool) -> Option<u32>
     ensures { result ≡ own_preference router.now inbound }
 {
-    let preference = default_preference(router);
+    let preference = router.default_preference();
     if inbound && preference != 100 {
         Some(preference)
     } else {
@@ -89,12 +77,12 @@ fn lists_named(
     alloc: Global,
     router: &Router,
     places: &Places,
-    comms: &Option<NameLine>,
+    comms: &Aside<NameLine>,
 ) -> Result<Option<List<CommunityList>>, NoMemory>
     requires { ArePlacesOf router.now places.now }
     ensures { IfOk result (λ lists. lists ≡ lists_named router.now comms.now) }
 {
-    match comms {
+    match comms.as_option() {
         Some(line) => Ok(Some(copies_named(alloc, router, places, line.names.as_slice())?)),
         None => Ok(None),
     }
@@ -104,12 +92,12 @@ fn deletion_list(
     alloc: Global,
     router: &Router,
     places: &Places,
-    delete: &Option<Named>,
+    delete: &Aside<Named>,
 ) -> Result<Option<CommunityList>, NoMemory>
     requires { ArePlacesOf router.now places.now }
     ensures { IfOk result (λ list. list ≡ deletion_list router.now delete.now) }
 {
-    match delete {
+    match delete.as_option() {
         Some(named) => match find_community_list(router, places, &named.name) {
             Some(list) => Ok(Some(list_copy(alloc, list)?)),
             None => Ok(None),
@@ -118,10 +106,19 @@ fn deletion_list(
     }
 }
 
-fn count_of(prepend: &Option<Prepend>) -> u8
+fn some_change_copy(change: &Aside<Change>) -> Result<Option<Change>, NoMemory>
+    ensures { IfOk result (λ copy. copy ≡ change.now) }
+{
+    match change.as_option() {
+        Some(change) => Ok(Some(change_copy(change)?)),
+        None => Ok(None),
+    }
+}
+
+fn count_of(prepend: &Aside<Prepend>) -> u8
     ensures { result ≡ min (prepend_count prepend.now) 255 }
 {
-    match prepend {
+    match prepend.as_option() {
         Some(line) => line.numbers.len().min(255) as u8,
         None => 0,
     }
@@ -152,7 +149,7 @@ fn plain_entry(
         permit: entry.permit,
         lists: lists_named(alloc, router, places, &entry.comms)?,
         lp: preference(entry, own),
-        change: change_copy(&entry.change)?,
+        change: some_change_copy(&entry.change)?,
         delete: deletion_list(alloc, router, places, &entry.delete)?,
         adds: count_of(&entry.prepend),
         exact: entry.exact,

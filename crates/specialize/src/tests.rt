@@ -1,5 +1,5 @@
 use crate::{places_of, policy, policy_at};
-use base_kit::{List, NoMemory, NumSet, Prefix, Text};
+use base_kit::{Aside, List, NoMemory, NumSet, Prefix, Text};
 use cfg_ast::{BgpProcess, CommunityLine, CommunityList, MapEntry, NameLine, RouteMap, Router};
 use std::alloc::Global;
 
@@ -25,19 +25,19 @@ fn list_l(alloc: Global) -> Result<CommunityList, NoMemory> {
     })
 }
 
-fn entry_of(seq: u32, permit: bool, comms: Option<NameLine>) -> MapEntry {
+fn entry_of(seq: u32, permit: bool, comms: Aside<NameLine>) -> MapEntry {
     MapEntry {
         seq,
         permit,
         line: 12,
-        prefixes: None,
+        prefixes: Aside::none(),
         comms,
         exact: false,
         lp: None,
-        change: None,
+        change: Aside::none(),
         change_line: 0,
-        delete: None,
-        prepend: None,
+        delete: Aside::none(),
+        prepend: Aside::none(),
     }
 }
 
@@ -46,8 +46,9 @@ fn map_x(alloc: Global) -> Result<RouteMap, NoMemory> {
     let mut names = List::new(alloc);
     names.push(text_of(alloc, "L")?)?;
     let mut entries = List::new(alloc);
-    entries.push(entry_of(10, false, Some(NameLine { names, line: 13 })))?;
-    entries.push(entry_of(20, true, None))?;
+    let comms = Aside::some(alloc, NameLine { names, line: 13 })?;
+    entries.push(entry_of(10, false, comms))?;
+    entries.push(entry_of(20, true, Aside::none()))?;
     Ok(RouteMap {
         name: text_of(alloc, "X")?,
         entries,
@@ -57,7 +58,7 @@ fn map_x(alloc: Global) -> Result<RouteMap, NoMemory> {
 // `route-map NAME permit SEQ`
 fn map_of_one(alloc: Global, name: &str, seq: u32) -> Result<RouteMap, NoMemory> {
     let mut entries = List::new(alloc);
-    entries.push(entry_of(seq, true, None))?;
+    entries.push(entry_of(seq, true, Aside::none()))?;
     Ok(RouteMap {
         name: text_of(alloc, name)?,
         entries,
@@ -77,14 +78,17 @@ fn router_with(alloc: Global, route_maps: List<RouteMap>) -> Result<Router, NoMe
         name: text_of(alloc, "b")?,
         line: 1,
         interfaces: List::new(alloc),
-        bgp: Some(BgpProcess {
-            number: 65002,
-            line: 6,
-            base: None,
-            networks: List::new(alloc),
-            neighbors: List::new(alloc),
-        }),
-        ospf: None,
+        bgp: Aside::some(
+            alloc,
+            BgpProcess {
+                number: 65002,
+                line: 6,
+                base: None,
+                networks: List::new(alloc),
+                neighbors: List::new(alloc),
+            },
+        )?,
+        ospf: Aside::none(),
         prefix_lists: List::new(alloc),
         community_lists,
         route_maps,

@@ -15,7 +15,7 @@ use std::alloc::Global;
 pub fn neighbors(router: &Router) -> &[Neighbor]
     ensures { result.now ≡ neighbors_of router.now }
 {
-    match &router.bgp {
+    match router.bgp.as_option() {
         Some(process) => process.neighbors.as_slice(),
         None => &[],
     }

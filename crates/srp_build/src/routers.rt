@@ -1,13 +1,11 @@
 ghost use Rattle.std.specs.Prelude.{◌≡◌, ◌<◌, ◌^◌, IfOk, length, map};
-ghost use Rattle.std.specs.Option.{option_map, option_map_or};
-ghost use Rattle.cfg_ast.specs.declared.bgp.Base.{Base};
+ghost use Rattle.std.specs.Option.{option_map};
 ghost use Rattle.cfg_ast.specs.declared.network.Router.{Router};
-ghost use Rattle.cfg_ast.specs.meaning.Policy.{default_preference};
 ghost use Rattle.srp_core.specs.ProblemOf.{as_number_of, route_from};
 ghost use Rattle.srp_build.specs.Starts.{first_at, behind, starts_from, none_lone};
 
 use base_kit::{List, NoMemory, NumSet, Text};
-use cfg_ast::{BgpProcess, Origin, Router};
+use cfg_ast::{Origin, Router};
 use srp_core::Route;
 use std::alloc::Global;
 
@@ -25,7 +23,7 @@ pub fn names_of(alloc: Global, routers: &[Router]) -> Result<List<Text>, NoMemor
 fn as_number_of(router: &Router) -> u32
     ensures { result ≡ as_number_of router.now }
 {
-    match &router.bgp {
+    match router.bgp.as_option() {
         Some(process) => process.number,
         None => 0,
     }
@@ -53,24 +51,6 @@ pub fn none_lone(alloc: Global, routers: &[Router]) -> Result<List<bool>, NoMemo
     Ok(lone)
 }
 
-fn default_of(process: &BgpProcess) -> u32
-    ensures { result ≡ option_map_or (λ (base : Base). base.value) process.now.base 100 }
-{
-    match &process.base {
-        Some(base) => base.value,
-        None => 100,
-    }
-}
-
-fn default_preference(router: &Router) -> u32
-    ensures { result ≡ default_preference router.now }
-{
-    match &router.bgp {
-        Some(process) => default_of(process),
-        None => 100,
-    }
-}
-
 fn route_from(alloc: Global, router: &Router, cost: Option<u16>) -> Route
     ensures { result ≡ route_from router.now cost }
 {
@@ -79,7 +59,7 @@ fn route_from(alloc: Global, router: &Router, cost: Option<u16>) -> Route
             cost: u32::from(cost),
         },
         None => Route::Bgp {
-            lp: default_preference(router),
+            lp: router.default_preference(),
             path: List::new(alloc),
             comms: NumSet::new(alloc),
         },

@@ -12,18 +12,18 @@ pub returns-then-process : goal.returns-then-process
 returns-then-process c =
     let index = c.args.self.now in
     let name = c.args.name.now in
-    let process = c.in-Some.process in
+    let process = c.in-Some.process.now in
     let is_listed = c.contains-is_listed.result in
     let listed : is_listed ≡ list_any (bytes_eq name) (listed_of (Some process)) =
-    c.contains-is_listed.ensures ∙ ap (has_name index.names) c.as_str.ensures ∙ index.listed.each name ∙ ap (λ (o : Option OspfProcess). list_any (bytes_eq name) (listed_of o)) c.in-Some.is in
-    sym (ap (λ (o : Option OspfProcess). is_passive_in o name) c.in-Some.is ∙ passive_by process name true is_listed c.if-process.true listed)
+    c.contains-is_listed.ensures ∙ ap (has_name index.names) c.as_str.ensures ∙ index.listed.each name ∙ ap (λ (o : Option OspfProcess). list_any (bytes_eq name) (listed_of o)) (sym c.in-Some.ensures) in
+    sym (ap (λ (o : Option OspfProcess). is_passive_in o name) (sym c.in-Some.ensures) ∙ passive_by process name true is_listed c.if-process.true listed)
 
 pub returns-else-process : goal.returns-else-process
 returns-else-process c =
     let index = c.args.self.now in
     let name = c.args.name.now in
-    let process = c.in-Some.process in
+    let process = c.in-Some.process.now in
     let is_listed = c.contains-is_listed.result in
     let listed : is_listed ≡ list_any (bytes_eq name) (listed_of (Some process)) =
-    c.contains-is_listed.ensures ∙ ap (has_name index.names) c.as_str.ensures ∙ index.listed.each name ∙ ap (λ (o : Option OspfProcess). list_any (bytes_eq name) (listed_of o)) c.in-Some.is in
-    sym (ap (λ (o : Option OspfProcess). is_passive_in o name) c.in-Some.is ∙ passive_by process name false is_listed c.if-process.false listed)
+    c.contains-is_listed.ensures ∙ ap (has_name index.names) c.as_str.ensures ∙ index.listed.each name ∙ ap (λ (o : Option OspfProcess). list_any (bytes_eq name) (listed_of o)) (sym c.in-Some.ensures) in
+    sym (ap (λ (o : Option OspfProcess). is_passive_in o name) (sym c.in-Some.ensures) ∙ passive_by process name false is_listed c.if-process.false listed)
