@@ -25,7 +25,7 @@ pub use heads::{HeadClass, PolicyForm, RouterForm};
 pub use interface::{Address, Interface};
 pub use items::{PolicyItem, PolicyScope, RouterItem, Scope};
 pub use line::{Line, Span};
-pub use lookups::{active, in_area, ospf_cost, subnet, up};
+pub use lookups::{active, in_area, mask_of, ospf_cost, subnet, up};
 pub use network::{Named, Network, Notes, Router};
 pub use ospf::{AreaLine, OspfProcess};
 pub use policy::{

@@ -1,7 +1,8 @@
-ghost use Rattle.std.specs.Prelude.{◌≡◌, ◌<◌, length, map};
+ghost use Rattle.std.specs.Prelude.{◌≡◌, ◌<◌, ◌≤◌, length, map};
 ghost use Rattle.std.specs.List.{list_any, position_or_len};
 ghost use Rattle.std.specs.Option.{option_map_or};
 ghost use Rattle.base_kit.specs.Numbers.{is_digit};
+ghost use Rattle.cfg_ast.specs.text.Words.{mask_of};
 ghost use Rattle.cfg_ast.specs.declared.bgp.Base.{Base};
 ghost use Rattle.cfg_ast.specs.meaning.Policy.{default_preference};
 ghost use Rattle.cfg_ast.specs.meaning.Topology.{subnet_of_address, is_up_interface, up_address, subnet_of_interface, line_has_address, is_in_area_interface, names, is_passive_name, is_active_interface, type_of, default_costs, default_cost_of, cost_of_interface, is_up, subnet_of, is_in_area, is_active, cost_of};
@@ -11,6 +12,14 @@ use crate::interface::{Address, Interface};
 use crate::network::Router;
 use crate::ospf::{AreaLine, OspfProcess};
 use base_kit::{Prefix, Text};
+
+/// The mask of a length (RFC 950).
+pub fn mask_of(len: u8) -> u32
+    requires { len ≤ 32 }
+    ensures { result ≡ mask_of len }
+{
+    ((1u64 << 32) - (1u64 << (32 - len))) as u32
+}
 
 impl Address {
     /// The address cut to its mask (RFC 4632 section 3.1).

@@ -1,14 +1,8 @@
 ghost use Rattle.std.specs.Prelude.{◌≡◌, ◌≤◌, IfSome};
-ghost use Rattle.cfg_ast.specs.text.Words.{mask_of, len_of_mask, mask_len_of, classful_len_of};
+ghost use Rattle.cfg_ast.specs.text.Words.{len_of_mask, mask_len_of, classful_len_of};
 
+use cfg_ast::mask_of;
 use cfg_words::read_address;
-
-fn mask_of(len: u8) -> u32
-    requires { len ≤ 32 }
-    ensures { result ≡ mask_of len }
-{
-    ((1u64 << 32) - (1u64 << (32 - len))) as u32
-}
 
 #[tactic(auto, using(crate::proofs::Ranges::find_here, crate::proofs::Ranges::find_next), unfolding(cfg_ast::specs::text::Words::len_of_mask))]
 fn len_of_mask(mask: u32) -> Option<u8>

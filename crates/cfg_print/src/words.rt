@@ -1,5 +1,4 @@
-ghost use Rattle.std.specs.Prelude.{◌≡◌, ◌≤◌, ◌++◌, ◌∷◌, [], OnOk, string_bytes, map};
-ghost use Rattle.cfg_ast.specs.text.Words.{mask_of};
+ghost use Rattle.std.specs.Prelude.{◌≡◌, ◌++◌, ◌∷◌, [], OnOk, string_bytes, map};
 ghost use Rattle.std.specs.Fmt.{decimal};
 ghost use Rattle.cfg_ast.specs.printing.Printed.{lines_text, closing, address_text, prefix_text, community_text, act_text};
 ghost use Rattle.cfg_print.specs.Spaced.{spaced, spaced_words};
@@ -114,14 +113,6 @@ pub(crate) fn put_closing(text: &mut String) -> Result<(), AllocError>
     ensures { OnOk result (string_bytes text.new ≡ string_bytes text.old ++ lines_text (closing ∷ [])) }
 {
     text.push_str("!\n")
-}
-
-// The mask of a length (RFC 950).
-pub(crate) fn mask_of(len: u8) -> u32
-    requires { len ≤ 32 }
-    ensures { result ≡ mask_of len }
-{
-    ((1u64 << 32) - (1u64 << (32 - len))) as u32
 }
 
 fn act_word(permit: bool) -> &'static str
