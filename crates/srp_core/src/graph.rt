@@ -1,5 +1,6 @@
 ghost use Rattle.std.specs.Prelude.{◌≡◌, ◌<◌, ◌↔◌, ◌^◌, ℕ, List, All, length, IfOk};
 ghost use Rattle.base_kit.specs.Partition as partition;
+ghost use Rattle.base_kit.specs.declared.act_graph.ActGraph.{ActGraph};
 ghost use Rattle.srp_core.specs.Problem.{count, IsProblem};
 ghost use Rattle.srp_core.specs.Quotient.{IsAdmissible, IsCoarsest};
 ghost use Rattle.srp_core.specs.Starts.{AreColors, IsGraphOf};
@@ -27,6 +28,18 @@ fn colors(srp: &Srp) -> Result<Vec<u32>, NoMemory>
 }
 
 impl Srp {
+    /// The colors of the graph of the problem, one for each router, for whoever has no need of its
+    /// edges twice: a graph with these colors and the problem's routers and edges is one of the problem.
+    pub fn colors(&self) -> Result<Vec<u32>, NoMemory>
+        ensures total { IfOk result (λ colors. length colors.items ≡ count self.now) }
+        ensures graph { IfOk result (λ colors. (graph : ActGraph) → graph.count ≡ count self.now → graph.colors ≡ colors.items → graph.edges ≡ self.now.edges → IsGraphOf self.now graph) }
+        ensures coarsest { IfOk result (λ colors. (graph : ActGraph) → graph.count ≡ count self.now → graph.colors ≡ colors.items → graph.edges ≡ self.now.edges → (groups : List ℕ) → IsCoarsest self.now groups ↔ partition.IsCoarsestOn graph groups) }
+    {
+        let _rules = self.count();
+        let colors = colors(self)?;
+        Ok(colors)
+    }
+
     /// The graph of the problem: lone routers have colors of their own, and the others equal colors
     /// exactly where their initial routes are equal or both are none. Its edges are those of the
     /// problem, in the same order. Its admissible partitions are those of the problem.
