@@ -7,9 +7,10 @@ ghost use Rattle.refine_partition.specs.Kept.{is_numbered, AreFurther, AreKept};
 ghost use Rattle.refine_partition.specs.Planned.{AreNumbered};
 ghost use Rattle.refine_partition.specs.Splits.{IsSplit};
 
+use crate::graph_view::GraphView;
 use crate::imports::Import;
 use crate::plan::planned;
-use base_kit::{ActGraph, NoMemory};
+use base_kit::NoMemory;
 use std::alloc::Global;
 
 /// Whether the router's block has this number.
@@ -69,7 +70,7 @@ fn keep_members(blocks: &mut Vec<Vec<u32>>, numbers: &[u32], touched: &[u32])
 /// Divides all other blocks by the edges into the taken one. After an error nothing has changed.
 pub fn divide(
     alloc: Global,
-    graph: &ActGraph,
+    graph: &GraphView,
     numbers: &mut Vec<u32>,
     blocks: &mut Vec<Vec<u32>>,
     imports: &[Vec<Import>],
@@ -87,7 +88,7 @@ pub fn divide(
     ensures numbers_err { OnErr result (numbers.new.items ≡ numbers.old.items) }
     ensures blocks_err { OnErr result (blocks.new.items ≡ blocks.old.items) }
 {
-    let _count = graph.count;
+    let _count = graph.count();
     let plan = planned(alloc, graph, numbers, blocks, imports, taken)?;
     let next = plan.renumbering.numbers;
     let origins = plan.renumbering.origins;

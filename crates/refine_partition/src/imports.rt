@@ -3,7 +3,8 @@
 ghost use Rattle.std.specs.Prelude.{◌≡◌, [], All, IfOk, length};
 ghost use Rattle.refine_partition.specs.Index.{IsImportIndex};
 
-use base_kit::{ActGraph, NoMemory};
+use crate::graph_view::GraphView;
+use base_kit::NoMemory;
 use std::alloc::Global;
 
 /// What an exporter's edge is to its importer.
@@ -13,27 +14,38 @@ pub struct Import {
     pub act: u32,
 }
 
-/// As many empty lists.
-pub fn empty_lists<T>(alloc: Global, count: u32) -> Result<Vec<Vec<T>>, NoMemory>
-where
-    T: Drop,
-    ensures total { IfOk result (λ v. length v.items ≡ count) }
+/// For each router how many edges it exports to.
+fn counts_of(alloc: Global, graph: &GraphView) -> Result<Vec<usize>, NoMemory>
+    ensures total { IfOk result (λ v. length v.items ≡ graph.now.count) }
+{
+    let mut counts = vec![in alloc; 0usize; graph.count() as usize]?;
+    for edge in graph.edges() {
+        let count = counts[edge.exporter as usize];
+        counts[edge.exporter as usize] = count.saturating_add(1);
+    }
+    Ok(counts)
+}
+
+/// Empty lists, each with room for so many items.
+fn lists_with_room(alloc: Global, counts: &[usize]) -> Result<Vec<Vec<Import>>, NoMemory>
+    ensures total { IfOk result (λ v. length v.items ≡ length counts.now) }
     ensures empty { IfOk result (λ v. All (λ l. l.items ≡ []) v.items) }
 {
-    let mut lists = Vec::new(alloc);
-    for _list in 0..count {
-        lists.push(Vec::new(alloc))?;
+    let mut lists = Vec::with_capacity(alloc, counts.len())?;
+    for count in counts {
+        lists.push(Vec::with_capacity(alloc, *count)?)?;
     }
     Ok(lists)
 }
 
 /// For each router the imports over the edges that it exports to.
-pub fn imports_of(alloc: Global, graph: &ActGraph) -> Result<Vec<Vec<Import>>, NoMemory>
+pub fn imports_of(alloc: Global, graph: &GraphView) -> Result<Vec<Vec<Import>>, NoMemory>
     ensures total { IfOk result (λ v. length v.items ≡ graph.now.count) }
     ensures index { IfOk result (λ v. IsImportIndex graph.now.edges v.items) }
 {
-    let mut imports = empty_lists(alloc, graph.count)?;
-    for edge in graph.edges.as_slice() {
+    let counts = counts_of(alloc, graph)?;
+    let mut imports = lists_with_room(alloc, &counts)?;
+    for edge in graph.edges() {
         imports[edge.exporter as usize].push(Import {
             importer: edge.importer,
             act: edge.act,

@@ -14,6 +14,7 @@ mod arrivals;
 mod blocks;
 mod classes;
 mod division;
+mod graph_view;
 mod imports;
 mod moves;
 mod numbering;
@@ -26,7 +27,8 @@ mod staying;
 mod touched;
 mod turn;
 
-pub use partition::{Partition, coarsest};
+pub use graph_view::GraphView;
+pub use partition::{Partition, coarsest, coarsest_over};
 pub use splitting::Splitting;
 
 #[cfg(test)]

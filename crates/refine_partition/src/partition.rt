@@ -4,6 +4,7 @@ ghost use Rattle.std.specs.Prelude.{◌≡◌, ◌<◌, ◌≤◌, ◌+◌, ◌*
 ghost use Rattle.base_kit.specs.Partition.{IsNumbered, IsCoarsestOn, members_of};
 
 use crate::blocks::blocks_of;
+use crate::graph_view::GraphView;
 use crate::numbering::numbers_of;
 use crate::pending::refined;
 use base_kit::{ActGraph, NoMemory, Steps};
@@ -70,6 +71,23 @@ fn from_numbers(alloc: Global, numbers: Vec<u32>, count: u32) -> Result<Partitio
     })
 }
 
+/// The coarsest admissible partition of a graph that another has: every admissible one refines it. It
+/// counts its turns, at most two for each router.
+pub fn coarsest_over<L: Ledger>(
+    alloc: Global,
+    graph: &GraphView,
+    turns: &mut Steps<L>,
+) -> Result<Partition, NoMemory>
+    ensures coarsest { IfOk result (λ p. IsCoarsestOn graph.now p) }
+    ensures turns { turns.new ≤ turns.old + 2 * graph.now.count }
+{
+    let _count = graph.count();
+    let blocks = refined(alloc, graph, turns)?;
+    let (numbers, count) = numbers_of(alloc, &blocks)?;
+    let partition = from_numbers(alloc, numbers, count)?;
+    Ok(partition)
+}
+
 /// The coarsest admissible partition of a graph: every admissible one refines it. It counts its turns,
 /// at most two for each router.
 pub fn coarsest<L: Ledger>(
@@ -80,9 +98,5 @@ pub fn coarsest<L: Ledger>(
     ensures coarsest { IfOk result (λ p. IsCoarsestOn graph.now p) }
     ensures turns { turns.new ≤ turns.old + 2 * graph.now.count }
 {
-    let _count = graph.count;
-    let blocks = refined(alloc, graph, turns)?;
-    let (numbers, count) = numbers_of(alloc, &blocks)?;
-    let partition = from_numbers(alloc, numbers, count)?;
-    Ok(partition)
+    coarsest_over(alloc, &GraphView::of(graph), turns)
 }

@@ -4,9 +4,10 @@ ghost use Rattle.std.specs.Prelude.{◌≡◌, ℕ, ◌<◌, ◌≤◌, ◌+◌,
 ghost use Rattle.base_kit.specs.Partition.{IsCoarsestOn};
 ghost use Rattle.refine_partition.specs.Pending.{AreAllWaiting, AreMarked, IsWaiting, ArePiecesWaiting};
 
+use crate::graph_view::GraphView;
 use crate::imports::imports_of;
 use crate::turn::{start, turn};
-use base_kit::{ActGraph, NoMemory, Steps};
+use base_kit::{NoMemory, Steps};
 use std::alloc::Global;
 use std::collections::VecDeque;
 use std::sync::ledger::Ledger;
@@ -85,13 +86,13 @@ fn add_pieces(
 /// The number of each router's block after all turns.
 pub fn refined<L: Ledger>(
     alloc: Global,
-    graph: &ActGraph,
+    graph: &GraphView,
     turns: &mut Steps<L>,
 ) -> Result<Vec<u32>, NoMemory>
     ensures coarsest { IfOk result (λ numbers. IsCoarsestOn graph.now numbers.items) }
     ensures turns { turns.new ≤ turns.old + 2 * graph.now.count }
 {
-    let _count = graph.count;
+    let _count = graph.count();
     let imports = imports_of(alloc, graph)?;
     let mut blocks = start(alloc, graph)?;
     let (mut queue, mut waits) = all_waiting(alloc, blocks.lists.len() as u32)?;

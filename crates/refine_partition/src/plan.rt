@@ -6,10 +6,11 @@ ghost use Rattle.refine_partition.specs.Planned.{AreNumbered, IsPlanned};
 
 use crate::arrivals::arrivals_at;
 use crate::classes::{divide_classes, widened};
+use crate::graph_view::GraphView;
 use crate::imports::Import;
 use crate::renumbering::{Renumbering, renumbered};
 use crate::touched::{queue_of, touched_blocks};
-use base_kit::{ActGraph, NoMemory};
+use base_kit::NoMemory;
 use std::alloc::Global;
 
 /// The numbers after a split, and the blocks whose members it looked at.
@@ -22,7 +23,7 @@ pub struct Plan {
 /// What a split by the block changes.
 pub fn planned(
     alloc: Global,
-    graph: &ActGraph,
+    graph: &GraphView,
     numbers: &[u32],
     blocks: &[Vec<u32>],
     imports: &[Vec<Import>],
@@ -36,7 +37,7 @@ pub fn planned(
     requires known { taken < length blocks.now }
     ensures { IfOk result (λ p. IsPlanned graph.now taken numbers.now (length blocks.now) p.renumbering.numbers.items p.renumbering.origins.items p.touched.items) }
 {
-    let _count = graph.count;
+    let _count = graph.count();
     let members = &blocks[taken as usize];
     let arrivals = arrivals_at(alloc, graph, imports, numbers, members, taken)?;
     let count = blocks.len() as u32;

@@ -7,6 +7,7 @@ ghost use Rattle.refine_partition.specs.Splitting.{IsSplittingOf};
 
 use crate::blocks::blocks_of;
 use crate::division::divide;
+use crate::graph_view::GraphView;
 use crate::imports::{Import, imports_of};
 use crate::numbering::numbers_of;
 use base_kit::{ActGraph, NoMemory, Steps};
@@ -44,7 +45,7 @@ impl Splitting {
         let colors = graph.colors.as_slice();
         let (numbers, count) = numbers_of(alloc, colors)?;
         let blocks = blocks_of(alloc, &numbers, count)?;
-        let imports = imports_of(alloc, graph)?;
+        let imports = imports_of(alloc, &GraphView::of(graph))?;
         Ok(Splitting {
             numbers,
             blocks,
@@ -88,7 +89,7 @@ impl Splitting {
         turns.tick();
         divide(
             alloc,
-            graph,
+            &GraphView::of(graph),
             &mut self.numbers,
             &mut self.blocks,
             &self.imports,

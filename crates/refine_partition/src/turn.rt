@@ -11,11 +11,12 @@ use crate::arrivals::arrivals_at;
 use crate::blocks::blocks_of;
 use crate::classes::{divide_classes, widened};
 use crate::division::has_number;
+use crate::graph_view::GraphView;
 use crate::imports::Import;
 use crate::moves::{move_importers, settle};
 use crate::numbering::numbers_of;
 use crate::touched::touched_blocks;
-use base_kit::{ActGraph, NoMemory, Steps};
+use base_kit::{NoMemory, Steps};
 use std::alloc::Global;
 use std::sync::ledger::Ledger;
 
@@ -29,12 +30,12 @@ pub struct LooseBlocks {
 }
 
 /// One block per color.
-pub fn start(alloc: Global, graph: &ActGraph) -> Result<LooseBlocks, NoMemory>
+pub fn start(alloc: Global, graph: &GraphView) -> Result<LooseBlocks, NoMemory>
     ensures start { IfOk result (λ b. IsStart graph.now b.numbers.items (length b.lists.items)) }
     ensures settled { IfOk result (λ b. AreSettled b.numbers.items b.classes.items b.lists.items) }
 {
-    let _count = graph.count;
-    let (numbers, count) = numbers_of(alloc, graph.colors.as_slice())?;
+    let _count = graph.count();
+    let (numbers, count) = numbers_of(alloc, graph.colors())?;
     let lists = blocks_of(alloc, &numbers, count)?;
     let classes = widened(alloc, &numbers)?;
     Ok(LooseBlocks {
@@ -60,7 +61,7 @@ fn keep_members(lists: &mut Vec<Vec<u32>>, numbers: &[u32], block: u32)
 /// its number.
 pub fn turn<L: Ledger>(
     alloc: Global,
-    graph: &ActGraph,
+    graph: &GraphView,
     imports: &[Vec<Import>],
     blocks: &mut LooseBlocks,
     taken: u32,
@@ -77,7 +78,7 @@ pub fn turn<L: Ledger>(
     ensures parted { IfOk result (λ origins. AreParted graph.now taken blocks.old.numbers.items blocks.new.numbers.items (length blocks.old.lists.items) (length blocks.new.lists.items) origins.items) }
 {
     turns.tick();
-    let _count = graph.count;
+    let _count = graph.count();
     let count = blocks.lists.len() as u32;
     keep_members(&mut blocks.lists, &blocks.numbers, taken);
     let members = &blocks.lists[taken as usize];

@@ -1,5 +1,5 @@
 use Rattle.refine_partition.proofs.RefineLemmas.{coarsest_by_number}
-use Rattle.refine_partition.proofs.partition.coarsest.Goals as goal
+use Rattle.refine_partition.proofs.partition.coarsest_over.Goals as goal
 
 pub returns-clause-coarsest : goal.returns-clause-coarsest
 returns-clause-coarsest g c =
