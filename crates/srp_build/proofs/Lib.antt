@@ -13,6 +13,7 @@ mod DirectionsOf
 mod EdgeSteps
 mod FirstUse
 mod HopEdges
+mod HopNumbers
 mod LineNumbers
 mod LinkEnds
 mod LinkPlaces

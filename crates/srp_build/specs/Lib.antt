@@ -7,6 +7,7 @@ pub mod Costs
 pub mod Directions
 pub mod FirstActs
 pub mod HopEdges
+pub mod HopNumbers
 pub mod Hops
 pub mod Index
 pub mod Laws

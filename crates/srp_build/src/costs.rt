@@ -1,11 +1,13 @@
 ghost use Rattle.std.specs.Prelude.{◌≡◌, ◌⊎◌, ◌<◌, ◌^◌, ◌++◌, ◌∷◌, [], Some, IfOk, OnOk, length, map, slice_get};
 ghost use Rattle.srp_core.specs.declared.route.Act.TheVariants as act;
 ghost use Rattle.srp_build.specs.Costs.{cost_at, HopAdded, NumbersHops};
+ghost use Rattle.srp_build.specs.HopNumbers.{hop_at};
 ghost use Rattle.distinct_values.specs.Distinct.{AreDistinct};
 
+use crate::hop_numbers::hop_at;
 use crate::hops::Hop;
 use base_kit::{Edge, List, NoMemory};
-use cfg_ast::Router;
+use cfg_ast::{Link, Router};
 use indexmap::IndexSet;
 use srp_core::Act;
 use std::alloc::Global;
@@ -101,15 +103,22 @@ pub struct Numbered {
     pub edges: List<Edge>,
 }
 
-/// An edge for each direction, in order; its act is the place of its cost among the different costs.
-pub fn number_hops(alloc: Global, routers: &[Router], hops: &[Hop]) -> Result<Numbered, NoMemory>
-    requires { length hops.now < 2 ^ 32 }
-    ensures { IfOk result (λ n. NumbersHops routers.now n.costs hops.now n.edges) }
+/// An edge for each direction with one of these numbers, in order; its act is the place of its cost
+/// among the different costs.
+pub fn number_hops(
+    alloc: Global,
+    routers: &[Router],
+    links: &[Link],
+    numbers: &[u32],
+) -> Result<Numbered, NoMemory>
+    requires { length numbers.now < 2 ^ 32 }
+    ensures { IfOk result (λ n. NumbersHops routers.now n.costs (map (hop_at links.now) numbers.now) n.edges) }
 {
     let mut costs = Costs::new(alloc);
     let mut edges = List::new(alloc);
-    for hop in hops {
-        push_edge(routers, &mut costs, &mut edges, hop)?;
+    for number in numbers {
+        let hop = hop_at(links, *number);
+        push_edge(routers, &mut costs, &mut edges, &hop)?;
     }
     Ok(Numbered { costs, edges })
 }

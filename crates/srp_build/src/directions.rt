@@ -5,6 +5,7 @@ ghost use Rattle.srp_build.specs.Directions.{AreDirectionsOf};
 ghost use Rattle.srp_build.specs.Problem.{is_bgp};
 
 use crate::costs::{Numbered, number_hops};
+use crate::hop_numbers::sorted_numbers;
 use crate::hops::{Hop, sorted_hops};
 use base_kit::{List, NoMemory, Protocol};
 use cfg_ast::Link;
@@ -48,10 +49,12 @@ pub fn directions_of(
     given_is_well_formed();
     few_links();
     let routers = net.network().routers.as_slice();
-    let hops = sorted_hops(alloc, routers.len(), links.as_slice())?;
+    let links = links.as_slice();
     if runs_bgp(net) {
+        let hops = sorted_hops(alloc, routers.len(), links)?;
         return Ok(Directions::OfSessions(hops));
     }
-    let numbered = number_hops(alloc, routers, &hops)?;
+    let numbers = sorted_numbers(alloc, routers.len(), links)?;
+    let numbered = number_hops(alloc, routers, links, &numbers)?;
     Ok(Directions::OfAdjacencies(numbered))
 }

@@ -18,7 +18,8 @@ pub struct Hop {
     pub exporter_item: u32,
 }
 
-fn into_low(place: u32, link: &Link) -> Hop
+/// The direction into the low end.
+pub fn into_low(place: u32, link: &Link) -> Hop
     ensures { result ≡ into_low (place, link.now) }
 {
     Hop {
@@ -30,7 +31,8 @@ fn into_low(place: u32, link: &Link) -> Hop
     }
 }
 
-fn into_high(place: u32, link: &Link) -> Hop
+/// The direction into the high end.
+pub fn into_high(place: u32, link: &Link) -> Hop
     ensures { result ≡ into_high (place, link.now) }
 {
     Hop {

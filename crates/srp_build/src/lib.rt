@@ -14,6 +14,7 @@ mod bgp_edges;
 mod bgp_problem;
 mod costs;
 mod directions;
+mod hop_numbers;
 mod hops;
 mod index;
 pub mod laws;

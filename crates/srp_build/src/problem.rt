@@ -13,10 +13,10 @@ ghost use Rattle.srp_build.specs.FirstActs.{HasFirstActs};
 ghost use Rattle.srp_build.specs.Ospf.{IsOspf};
 
 use crate::bgp_problem::bgp_problem;
-use crate::costs::Numbered;
+use crate::costs::{Costs, Numbered};
 use crate::directions::{Directions, directions_of};
 use crate::routers::{names_of, none_lone, numbers_of, starts_of};
-use base_kit::{List, NoMemory, Protocol};
+use base_kit::{Edge, List, NoMemory, Protocol};
 use cfg_ast::{DestClass, Link, Network};
 use cfg_check::Checked;
 use dd_core::Store;
@@ -28,11 +28,12 @@ use std::alloc::Global;
 fn ospf_problem(
     alloc: Global,
     network: &Network,
-    numbered: &Numbered,
+    costs: &Costs,
+    edges: List<Edge>,
     class: &DestClass,
 ) -> Result<Srp, NoMemory>
     requires ospf { IsOspf network.now }
-    requires directions { AreOfAdjacencies network.now numbered.now }
+    requires directions { AreOfAdjacencies network.now (record { costs = costs.now; edges = edges }) }
     requires class { Contains (classes_of network.now) class.now }
     ensures problem { IfOk result (λ problem. (p : Prefix) → Contains class.now.prefixes p → IsProblemOf network.now p problem) }
     ensures acts { IfOk result AreActsByFirstUse }
@@ -43,8 +44,7 @@ fn ospf_problem(
     let numbers = numbers_of(alloc, routers)?;
     let init = starts_of(alloc, routers, class.origins.as_slice())?;
     let lone = none_lone(alloc, routers)?;
-    let acts = numbered.costs.acts(alloc)?;
-    let edges = Vec::from_slice(alloc, numbered.edges.as_slice())?;
+    let acts = costs.acts(alloc)?;
     let problem = Srp::new(
         alloc,
         Protocol::Ospf,
@@ -53,9 +53,26 @@ fn ospf_problem(
         init,
         lone,
         acts,
-        List::from_vec(edges),
+        edges,
     );
     Ok(problem)
+}
+
+// The problem of a checked OSPF network, whose directions have these edges and costs.
+fn problem_of_adjacencies(
+    alloc: Global,
+    net: &Checked,
+    costs: &Costs,
+    edges: List<Edge>,
+    class: &DestClass,
+) -> Result<Srp, NoMemory>
+    requires directions { AreOfAdjacencies net.now.network (record { costs = costs.now; edges = edges }) }
+    requires class { Contains (classes_of net.now.network) class.now }
+    ensures problem { IfOk result (λ problem. (p : Prefix) → Contains class.now.prefixes p → IsProblemOf net.now.network p problem) }
+    ensures acts { IfOk result AreActsByFirstUse }
+    ensures first { IfOk result (λ problem. (p : Prefix) → Contains class.now.prefixes p → HasFirstActs net.now.network p problem) }
+{
+    ospf_problem(alloc, net.network(), costs, edges, class)
 }
 
 /// The problem of a checked network for every prefix of one of its classes. In OSPF it has an edge for
@@ -81,7 +98,11 @@ pub fn build_over(
 {
     match directions {
         Directions::OfSessions(hops) => bgp_problem(alloc, net, hops, class, store),
-        Directions::OfAdjacencies(numbered) => ospf_problem(alloc, net.network(), numbered, class),
+        Directions::OfAdjacencies(numbered) => {
+            let edges = Vec::from_slice(alloc, numbered.edges.as_slice())?;
+            let edges = List::from_vec(edges);
+            problem_of_adjacencies(alloc, net, &numbered.costs, edges, class)
+        }
     }
 }
 
@@ -102,6 +123,11 @@ pub fn build(
     ensures acts { IfOk result AreActsByFirstUse }
     ensures first { IfOk result (λ problem. (p : Prefix) → Contains class.now.prefixes p → HasFirstActs net.now.network p problem) }
 {
-    let directions = directions_of(alloc, net, links)?;
-    build_over(alloc, net, &directions, class, store)
+    match directions_of(alloc, net, links)? {
+        Directions::OfSessions(hops) => bgp_problem(alloc, net, &hops, class, store),
+        Directions::OfAdjacencies(numbered) => {
+            let Numbered { costs, edges } = numbered;
+            problem_of_adjacencies(alloc, net, &costs, edges, class)
+        }
+    }
 }

@@ -1,4 +1,5 @@
-use Rattle.std.proofs.Common.{◌<◌, ◌^◌, ◌∙◌, List, length, sym, ap, subst}
+use Rattle.std.proofs.Common.{◌∙◌, List, length, map, sym, ap, subst, arith}
+use Rattle.std.proofs.lemmas.List.{length-map}
 use Rattle.cfg_ast.specs.declared.network.Network.{Network}
 use Rattle.cfg_ast.specs.declared.network.Router.{Router}
 use Rattle.cfg_ast.specs.declared.topology.Link.{Link}
@@ -6,50 +7,68 @@ use Rattle.srp_build.specs.declared.hops.Hop.{Hop}
 use Rattle.srp_build.specs.Costs.{NumbersHops}
 use Rattle.srp_build.specs.Directions.{directions_of}
 use Rattle.srp_build.specs.Hops.{hops_of, AreInside}
+use Rattle.srp_build.specs.HopNumbers.{hop_at}
 use Rattle.srp_build.proofs.DirectionsOf.{sorted_are, few_directions}
 use Rattle.srp_build.proofs.LinkPlaces.{all_inside}
+use Rattle.srp_build.proofs.SortedHops.{length-hops_of}
 use Rattle.srp_build.proofs.directions.directions_of.Goals as goal
 
 pub sorted_hops-requires-clause-inside : goal.sorted_hops-requires-clause-inside
 sorted_hops-requires-clause-inside c =
     let n = c.args.net.now.network in
     let routers_are = c.as_slice-routers.ensures ∙ ap (λ (m : Network). m.routers) c.network.ensures.same in
-    subst (λ (r : List Router). AreInside (length r) (hops_of c.as_slice.result.now)) (sym routers_are)
-    (subst (λ (l : List Link). AreInside (length n.routers) (hops_of l)) (sym (c.as_slice.ensures ∙ c.requires)) (all_inside n))
+    subst (λ (r : List Router). AreInside (length r) (hops_of c.as_slice-links.result.now)) (sym routers_are)
+    (subst (λ (l : List Link). AreInside (length n.routers) (hops_of l)) (sym (c.as_slice-links.ensures ∙ c.requires)) (all_inside n))
 
 pub returns-then-runs_bgp : goal.returns-then-runs_bgp
 returns-then-runs_bgp c =
     let n = c.args.net.now.network in
     let routers_are = c.as_slice-routers.ensures ∙ ap (λ (m : Network). m.routers) c.network.ensures.same in
-    let links_are = c.as_slice.ensures ∙ c.requires in
+    let links_are = c.as_slice-links.ensures ∙ c.requires in
     let few_links = c.few_links.ensures n (c.given_is_well_formed.ensures n c.args.net.now.given) c.args.net.now.faultless in
-    let same = sorted_are n c.as_slice-routers.result.now c.as_slice.result.now c.in_ok-hops.hops.items routers_are links_are c.in_ok-hops.ensures.sorted in
+    let same = sorted_are n c.as_slice-routers.result.now c.as_slice-links.result.now c.in_ok-hops.hops.items routers_are links_are c.in_ok-hops.ensures.sorted in
     record {
       bgp = sym c.runs_bgp.ensures ∙ c.if-runs_bgp.true;
       same = same;
-      few = few_directions n c.as_slice.result.now c.in_ok-hops.hops.items links_are same c.in_ok-hops.ensures.len few_links;
+      few = few_directions n c.as_slice-links.result.now c.in_ok-hops.hops.items links_are same c.in_ok-hops.ensures.len few_links;
     }
+
+pub sorted_numbers-requires-clause-few : goal.sorted_numbers-requires-clause-few
+sorted_numbers-requires-clause-few c =
+    let n = c.args.net.now.network in
+    let links_are = ap length (c.as_slice-links.ensures ∙ c.requires) in
+    let few_links = c.few_links.ensures n (c.given_is_well_formed.ensures n c.args.net.now.given) c.args.net.now.faultless in
+    omega arith
+
+pub sorted_numbers-requires-clause-inside : goal.sorted_numbers-requires-clause-inside
+sorted_numbers-requires-clause-inside c =
+    let n = c.args.net.now.network in
+    let routers_are = c.as_slice-routers.ensures ∙ ap (λ (m : Network). m.routers) c.network.ensures.same in
+    subst (λ (r : List Router). AreInside (length r) (hops_of c.as_slice-links.result.now)) (sym routers_are)
+    (subst (λ (l : List Link). AreInside (length n.routers) (hops_of l)) (sym (c.as_slice-links.ensures ∙ c.requires)) (all_inside n))
 
 pub number_hops-requires : goal.number_hops-requires
 number_hops-requires c =
     let n = c.args.net.now.network in
-    let routers_are = c.as_slice-routers.ensures ∙ ap (λ (m : Network). m.routers) c.network.ensures.same in
-    let links_are = c.as_slice.ensures ∙ c.requires in
+    let links_are = ap length (c.as_slice-links.ensures ∙ c.requires) in
     let few_links = c.few_links.ensures n (c.given_is_well_formed.ensures n c.args.net.now.given) c.args.net.now.faultless in
-    let same = sorted_are n c.as_slice-routers.result.now c.as_slice.result.now c.in_ok-hops.hops.items routers_are links_are c.in_ok-hops.ensures.sorted in
-    subst (λ (h : List Hop). length h < 2 ^ 32) (sym (c.deref.ensures.value ∙ same)) (few_directions n c.as_slice.result.now c.in_ok-hops.hops.items links_are same c.in_ok-hops.ensures.len few_links)
+    let read = ap length c.deref.ensures.value in
+    let twice = c.in_ok-numbers.ensures.len ∙ length-hops_of c.as_slice-links.result.now in
+    omega arith
 
 pub returns : goal.returns
 returns c =
     let n = c.args.net.now.network in
     let routers_are = c.as_slice-routers.ensures ∙ ap (λ (m : Network). m.routers) c.network.ensures.same in
-    let links_are = c.as_slice.ensures ∙ c.requires in
+    let links_are = c.as_slice-links.ensures ∙ c.requires in
     let few_links = c.few_links.ensures n (c.given_is_well_formed.ensures n c.args.net.now.given) c.args.net.now.faultless in
-    let same = sorted_are n c.as_slice-routers.result.now c.as_slice.result.now c.in_ok-hops.hops.items routers_are links_are c.in_ok-hops.ensures.sorted in
+    let f = hop_at c.as_slice-links.result.now in
+    let hops = map f c.in_ok-numbers.numbers.items in
+    let same = sorted_are n c.as_slice-routers.result.now c.as_slice-links.result.now hops routers_are links_are c.in_ok-numbers.ensures.sorted in
     let numbered = c.in_ok-numbered.numbered in
     record {
       ospf = sym c.runs_bgp.ensures ∙ c.if-runs_bgp.false;
       numbers = subst (λ (r : List Router). NumbersHops r numbered.costs (directions_of n) numbered.edges) routers_are
-          (subst (λ (h : List Hop). NumbersHops c.as_slice-routers.result.now numbered.costs h numbered.edges) (c.deref.ensures.value ∙ same) c.in_ok-numbered.ensures);
-      few = few_directions n c.as_slice.result.now c.in_ok-hops.hops.items links_are same c.in_ok-hops.ensures.len few_links;
+          (subst (λ (h : List Hop). NumbersHops c.as_slice-routers.result.now numbered.costs h numbered.edges) (ap (map f) c.deref.ensures.value ∙ same) c.in_ok-numbered.ensures);
+      few = few_directions n c.as_slice-links.result.now hops links_are same (length-map c.in_ok-numbers.numbers.items f ∙ c.in_ok-numbers.ensures.len) few_links;
     }

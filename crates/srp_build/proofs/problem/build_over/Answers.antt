@@ -1,31 +1,12 @@
-use Rattle.std.proofs.Common.{◌≡◌, ◌≤◌, Contains, IfOk, length, sym, subst}
-use Rattle.base_kit.specs.Prefixes.{Prefix}
-use Rattle.cfg_ast.specs.declared.network.Network.{Network}
-use Rattle.cfg_ast.specs.meaning.RouterFaults.{protocol_of}
-use Rattle.srp_core.specs.ProblemOf.{IsProblemOf}
+use Rattle.std.proofs.Common.{List, ◌∙◌, sym, subst}
+use Rattle.base_kit.specs.declared.act_graph.Edge.{Edge}
 use Rattle.srp_build.specs.Directions.{AreDirectionsOf, AreOfAdjacencies}
-use Rattle.srp_build.specs.FirstActs.{HasFirstActs}
-use Rattle.srp_build.specs.Ospf.{IsOspf}
-use Rattle.srp_build.proofs.NoClasses.{no_class}
-use Rattle.srp_build.proofs.OspfActs.{ospf_first}
-use Rattle.srp_build.proofs.OspfChecked.{is_ospf, ospf_is}
 use Rattle.srp_build.proofs.problem.build_over.Goals as goal
 
--- without a `router` line there is no class
-pub ospf_problem-requires-clause-ospf : goal.ospf_problem-requires-clause-ospf
-ospf_problem-requires-clause-ospf c =
+pub problem_of_adjacencies-requires-clause-directions : goal.problem_of_adjacencies-requires-clause-directions
+problem_of_adjacencies-requires-clause-directions c =
     let n = c.args.net.now.network in
-    let same = c.network.ensures.same in
-    let few = subst (λ (n : Network). length n.routers ≤ 4096) same c.network.ensures.few_routers in
-    let of : AreOfAdjacencies n c.in-OfAdjacencies.numbered = subst (AreDirectionsOf n) c.in-OfAdjacencies.is c.requires.directions in
-    let ospf = ospf_is (protocol_of n) (λ none. no_class n c.args.class.now none c.requires.class) of.ospf in
-    subst IsOspf (sym same) (is_ospf n c.args.net.now.given c.args.net.now.faultless few ospf)
-
-pub returns-in-OfAdjacencies-clause-problem : goal.returns-in-OfAdjacencies-clause-problem
-returns-in-OfAdjacencies-clause-problem c =
-    subst (λ (n : Network). IfOk c.ospf_problem.result (λ problem. (p : Prefix) → Contains c.args.class.now.prefixes p → IsProblemOf n p problem)) c.network.ensures.same c.ospf_problem.ensures.problem
-
-pub returns-in-OfAdjacencies-clause-first : goal.returns-in-OfAdjacencies-clause-first
-returns-in-OfAdjacencies-clause-first c =
-    subst (λ (n : Network). IfOk c.ospf_problem.result (λ problem. (p : Prefix) → Contains c.args.class.now.prefixes p → HasFirstActs n p problem)) c.network.ensures.same
-    (ospf_first c.network.result.now c.args.class.now c.ospf_problem.result c.ospf_problem.ensures.problem c.ospf_problem.ensures.protocol)
+    let numbered = c.in-OfAdjacencies.numbered in
+    let of : AreOfAdjacencies n numbered = subst (AreDirectionsOf n) c.in-OfAdjacencies.is c.requires.directions in
+    let edges_are = c.from_vec-edges.ensures ∙ (c.in_ok-edges-in-OfAdjacencies.ensures.items ∙ c.as_slice.ensures) in
+    subst (λ (edges : List Edge). AreOfAdjacencies n (record { costs = numbered.costs; edges = edges })) (sym edges_are) of
