@@ -1,9 +1,11 @@
 -- Subnets as blocks of addresses: how two of them overlap.
-use Rattle.std.specs.Prelude.{◌≡◌, ℕ, ◌+◌, ◌-◌, ◌/◌, ◌^◌, Bool, ◌&&◌, ◌||◌, List, nat_eq, nat_le}
-use Rattle.std.specs.List.{list_any, range_with_len}
+use Rattle.std.specs.Prelude.{◌≡◌, ℕ, ◌-◌, ◌/◌, ◌^◌, Bool, ◌&&◌, ◌||◌, List, nat_eq, nat_le}
+use Rattle.std.specs.List.{list_any}
 use Rattle.std.specs.HashSet.{HashSet, contains}
 use Rattle.std.specs.declared.hash.FoldHasher.{FoldHasher}
 use Rattle.std.specs.declared.hash.BuildHasherDefault.{BuildHasherDefault}
+use Rattle.base_kit.specs.Sets.{has}
+use Rattle.buckets.specs.Buckets.{same_pair}
 use Rattle.cfg_ast.specs.meaning.Addresses.{Address}
 use Rattle.cfg_check.specs.declared.overlaps.Blocks.{Blocks}
 
@@ -23,29 +25,38 @@ is_around len number a = nat_le len a.len && nat_eq number (block_of len a)
 abbrev pub is_under : Address → Address → Bool
 is_under a b = nat_le b.len a.len && nat_eq (block_of b.len a) (block_of b.len b)
 
-abbrev pub same_pair : ℕ × ℕ → ℕ × ℕ → Bool
-same_pair p q = nat_eq p.0 q.0 && nat_eq p.1 q.1
-
 abbrev pub Pairs : Type 0
 Pairs = HashSet (ℕ × ℕ) (BuildHasherDefault FoldHasher)
 
--- the subnet lies in one of the subnets
-abbrev pub lies_in_one : Blocks → Address → Bool
-lies_in_one blocks a = list_any (λ len. contains same_pair blocks.subnets (len, block_of len a)) (range_with_len 0 (a.len + 1))
+-- these are the lengths that the subnets have
+pub record HasLens (lens : List ℕ) (addresses : List Address) : Type 0 where
+  pub each : (len : ℕ) → has lens len ≡ list_any (λ (a : Address). nat_eq a.len len) addresses
+
+-- one of the subnets is the block of that length in which the subnet lies
+abbrev pub is_kept_at : Pairs → Address → ℕ → Bool
+is_kept_at subnets a len = nat_le len a.len && contains same_pair subnets (len, block_of len a)
+
+-- the subnet lies in one of the subnets, which have these lengths
+abbrev pub lies_in_one : Blocks → List ℕ → Address → Bool
+lies_in_one blocks lens a = list_any (is_kept_at blocks.subnets a) lens
 
 -- the subnet overlaps one of the subnets
-abbrev pub meets : Blocks → Address → Bool
-meets blocks a = lies_in_one blocks a || contains same_pair blocks.around (a.len, block_of a.len a)
+abbrev pub meets : Blocks → List ℕ → Address → Bool
+meets blocks lens a = lies_in_one blocks lens a || contains same_pair blocks.around (a.len, block_of a.len a)
 
--- the blocks around the subnet were put in
-pub record AddsAround (old new : Pairs) (a : Address) : Type 0 where
-  pub each : (len number : ℕ) → contains same_pair new (len, number) ≡ (is_around len number a || contains same_pair old (len, number))
+-- the block of that length around the subnet was put in
+pub record AddsBlock (old new : Pairs) (at : ℕ) (a : Address) : Type 0 where
+  pub each : (len number : ℕ) → contains same_pair new (len, number) ≡ ((nat_eq at len && is_around len number a) || contains same_pair old (len, number))
+
+-- the blocks of these lengths around the subnet were put in
+pub record AddsAround (old new : Pairs) (lens : List ℕ) (a : Address) : Type 0 where
+  pub each : (len number : ℕ) → contains same_pair new (len, number) ≡ ((has lens len && is_around len number a) || contains same_pair old (len, number))
 
 -- the subnet was put in
 pub record AddsSubnet (old new : Pairs) (a : Address) : Type 0 where
   pub each : (len number : ℕ) → contains same_pair new (len, number) ≡ (is_block len number a || contains same_pair old (len, number))
 
--- the blocks are those of these subnets
-pub record IsKept (blocks : Blocks) (past : List Address) : Type 0 where
+-- the blocks are those of these subnets, all around them of these lengths
+pub record IsKept (blocks : Blocks) (lens : List ℕ) (past : List Address) : Type 0 where
   pub subnets : (len number : ℕ) → contains same_pair blocks.subnets (len, number) ≡ list_any (is_block len number) past
-  pub around : (len number : ℕ) → contains same_pair blocks.around (len, number) ≡ list_any (is_around len number) past
+  pub around : (len number : ℕ) → contains same_pair blocks.around (len, number) ≡ (list_any (is_around len number) past && has lens len)

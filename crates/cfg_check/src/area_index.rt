@@ -1,16 +1,19 @@
 ghost use Rattle.std.specs.Prelude.{◌≡◌, IfOk, bytes_eq};
 ghost use Rattle.std.specs.List.{list_any};
 ghost use Rattle.cfg_ast.specs.meaning.Topology.{is_in_area_interface, is_active_interface, is_passive_in};
-ghost use Rattle.cfg_ast.specs.meaning.RouterFaults.{areas_of};
+ghost use Rattle.cfg_ast.specs.meaning.RouterFaults.{areas_of, active_address_on};
 ghost use Rattle.cfg_check.specs.NameSets.{HasNames};
 ghost use Rattle.cfg_check.specs.AreaLines.{listed_of};
 
 use crate::area_table::AreaTable;
 use crate::processes::areas;
 use base_kit::{NoMemory, Text};
-use cfg_ast::{Interface, Router};
+use cfg_ast::{Address, Interface, Router};
 use std::alloc::Global;
 use std::collections::HashSet;
+
+// So many names are compared one by one: to look one up in a set takes longer.
+const FEW: usize = 4;
 
 /// The OSPF lines of a router, by which its interfaces are looked up.
 #[derive(Drop)]
@@ -62,13 +65,24 @@ impl<'a> AreaIndex<'a> {
         })
     }
 
+    // Whether the name is one of those that the set has.
+    fn is_listed(&self, name: &Text) -> bool
+        ensures { result ≡ list_any (bytes_eq name.now) (listed_of self.now.router.now.ospf) }
+    {
+        let listed = listed(self.router);
+        if listed.len() <= FEW {
+            return listed.iter().any(|other| name.as_str() == other.as_str());
+        }
+        self.names.contains(name.as_str())
+    }
+
     fn is_passive(&self, name: &Text) -> bool
         ensures { result ≡ is_passive_in self.now.router.now.ospf name.now }
     {
         let Some(process) = self.router.ospf.as_option() else {
             return false;
         };
-        let is_listed = self.names.contains(name.as_str());
+        let is_listed = self.is_listed(name);
         if process.passive_default {
             !is_listed
         } else {
@@ -91,5 +105,16 @@ impl<'a> AreaIndex<'a> {
         ensures { result ≡ is_active_interface self.now.router.now interface.now }
     {
         self.has_in_area(interface) && !self.is_passive(&interface.name)
+    }
+
+    /// The address of an interface of the router that is active.
+    pub fn active_address(&self, interface: &Interface) -> Option<Address>
+        ensures { result ≡ active_address_on self.now.router.now interface.now }
+    {
+        if self.has_active(interface) {
+            interface.up_address()
+        } else {
+            None
+        }
     }
 }

@@ -2,11 +2,11 @@ ghost use Rattle.std.specs.Prelude.{◌≡◌, ◌≤◌, IfOk, OnOk, map, flat_
 ghost use Rattle.std.specs.List.{list_any};
 ghost use Rattle.cfg_ast.specs.meaning.RouterFaults.{address_line, repeats, overlap, overlapping_in};
 ghost use Rattle.cfg_check.specs.LeastLine.{least_line};
-ghost use Rattle.cfg_check.specs.Blocks.{block_of, lies_in_one, meets, AddsAround, AddsSubnet};
+ghost use Rattle.cfg_check.specs.Blocks.{block_of, is_kept_at, lies_in_one, meets, HasLens, AddsBlock, AddsAround, AddsSubnet};
 
 use crate::addresses::push_up_addresses;
 use crate::least::{lesser_line, with_line_if};
-use base_kit::NoMemory;
+use base_kit::{NoMemory, NumSet};
 use cfg_ast::{Address, Router};
 use std::alloc::Global;
 use std::collections::HashSet;
@@ -19,53 +19,82 @@ const FEW: usize = 64;
 #[derive(Drop)]
 pub(crate) struct Blocks {
     /// The subnets themselves.
-    pub(crate) subnets: HashSet<(u8, u32)>,
-    /// All blocks in which one of them lies.
-    pub(crate) around: HashSet<(u8, u32)>,
+    pub(crate) subnets: HashSet<(u32, u32)>,
+    /// All blocks in which one of them lies, of the lengths that subnets have.
+    pub(crate) around: HashSet<(u32, u32)>,
+}
+
+// The lengths that the subnets have.
+fn lens_of(alloc: Global, addresses: &[Address]) -> Result<NumSet, NoMemory>
+    ensures { IfOk result (λ lens. HasLens lens addresses.now) }
+{
+    let mut lens = NumSet::new(alloc);
+    for address in addresses {
+        lens.add(u32::from(address.len()))?;
+    }
+    Ok(lens)
 }
 
 // The number of the block of that length in which the address lies.
-fn block(address: Address, len: u8) -> u32
+fn block(address: Address, len: u32) -> u32
     requires { len ≤ 32 }
     ensures { result ≡ block_of len address }
 {
     (u64::from(address.addr()) >> (32 - len)) as u32
 }
 
-// Whether the subnet lies in one of them.
-fn lies_in_one(blocks: &Blocks, address: Address) -> bool
-    ensures { result ≡ lies_in_one blocks.now address }
+// Whether one of the subnets is the block of that length in which the subnet lies.
+fn is_kept_at(subnets: &HashSet<(u32, u32)>, address: Address, len: u32) -> bool
+    ensures { result ≡ is_kept_at subnets.now address len }
 {
-    for len in 0..address.len() + 1 {
-        if blocks.subnets.contains(&(len, block(address, len))) {
-            return true;
-        }
-    }
-    false
+    len <= u32::from(address.len()) && subnets.contains(&(len, block(address, len)))
+}
+
+// Whether the subnet lies in one of them.
+fn lies_in_one(blocks: &Blocks, lens: &[u32], address: Address) -> bool
+    ensures { result ≡ lies_in_one blocks.now lens.now address }
+{
+    lens.iter()
+        .any(|len| is_kept_at(&blocks.subnets, address, *len))
 }
 
 // Whether the subnet overlaps one of them.
-fn meets(blocks: &Blocks, address: Address) -> bool
-    ensures { result ≡ meets blocks.now address }
+fn meets(blocks: &Blocks, lens: &[u32], address: Address) -> bool
+    ensures { result ≡ meets blocks.now lens.now address }
 {
-    let len = address.len();
-    lies_in_one(blocks, address) || blocks.around.contains(&(len, block(address, len)))
+    let len = u32::from(address.len());
+    lies_in_one(blocks, lens, address) || blocks.around.contains(&(len, block(address, len)))
 }
 
-// Puts in the blocks in which the subnet lies.
-fn keep_around(around: &mut HashSet<(u8, u32)>, address: Address) -> Result<(), NoMemory>
-    ensures { OnOk result (AddsAround around.old around.new address) }
+// Puts in the block of that length in which the subnet lies, if there is one.
+fn keep_block(around: &mut HashSet<(u32, u32)>, address: Address, len: u32) -> Result<(), NoMemory>
+    ensures { OnOk result (AddsBlock around.old around.new len address) }
 {
-    for len in 0..address.len() + 1 {
-        around.insert((len, block(address, len)))?;
+    if len > u32::from(address.len()) {
+        return Ok(());
+    }
+    around.insert((len, block(address, len)))?;
+    Ok(())
+}
+
+// Puts in the blocks of these lengths in which the subnet lies.
+fn keep_around(
+    around: &mut HashSet<(u32, u32)>,
+    lens: &[u32],
+    address: Address,
+) -> Result<(), NoMemory>
+    ensures { OnOk result (AddsAround around.old around.new lens.now address) }
+{
+    for len in lens {
+        keep_block(around, address, *len)?;
     }
     Ok(())
 }
 
-fn keep_subnet(subnets: &mut HashSet<(u8, u32)>, address: Address) -> Result<(), NoMemory>
+fn keep_subnet(subnets: &mut HashSet<(u32, u32)>, address: Address) -> Result<(), NoMemory>
     ensures { OnOk result (AddsSubnet subnets.old subnets.new address) }
 {
-    let len = address.len();
+    let len = u32::from(address.len());
     subnets.insert((len, block(address, len)))?;
     Ok(())
 }
@@ -73,7 +102,7 @@ fn keep_subnet(subnets: &mut HashSet<(u8, u32)>, address: Address) -> Result<(),
 fn overlap(address: Address, other: Address) -> bool
     ensures { result ≡ overlap address other }
 {
-    let len = address.len().min(other.len());
+    let len = u32::from(address.len().min(other.len()));
     block(address, len) == block(other, len)
 }
 
@@ -95,8 +124,9 @@ fn overlapping_pairs(addresses: &[Address]) -> Option<u32>
     least
 }
 
-// The same by the blocks in which the subnets lie.
-fn overlapping(alloc: Global, addresses: &[Address]) -> Result<Option<u32>, NoMemory>
+// The same by the blocks in which the subnets lie, which have these lengths.
+fn overlapping(alloc: Global, addresses: &[Address], lens: &[u32]) -> Result<Option<u32>, NoMemory>
+    requires { HasLens lens.now addresses.now }
     ensures { IfOk result (λ line. line ≡ least_line (map address_line (repeats overlap addresses.now))) }
 {
     let mut seen = Blocks {
@@ -105,9 +135,10 @@ fn overlapping(alloc: Global, addresses: &[Address]) -> Result<Option<u32>, NoMe
     };
     let mut least = None;
     for address in addresses {
-        least = with_line_if(least, meets(&seen, *address), address.line());
+        let overlaps = meets(&seen, lens, *address);
+        least = with_line_if(least, overlaps, address.line());
         keep_subnet(&mut seen.subnets, *address)?;
-        keep_around(&mut seen.around, *address)?;
+        keep_around(&mut seen.around, lens, *address)?;
     }
     Ok(least)
 }
@@ -120,7 +151,8 @@ fn overlapping_of(alloc: Global, router: &Router) -> Result<Option<u32>, NoMemor
     if addresses.len() <= FEW {
         return Ok(overlapping_pairs(addresses.as_slice()));
     }
-    overlapping(alloc, addresses.as_slice())
+    let lens = lens_of(alloc, addresses.as_slice())?;
+    overlapping(alloc, addresses.as_slice(), lens.as_slice())
 }
 
 /// The least `ip address` line of an up interface whose subnet overlaps that of an earlier up

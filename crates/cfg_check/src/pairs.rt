@@ -1,32 +1,24 @@
 ghost use Rattle.std.specs.Prelude.{◌≡◌, ◌≤◌, IfOk, OnOk, map, filter_map, length, []};
 ghost use Rattle.cfg_ast.specs.meaning.RouterFaults.{active_address_on, active_addresses_of, added_after, exceeding};
 ghost use Rattle.cfg_check.specs.LeastLine.{least_line};
-ghost use Rattle.cfg_check.specs.Pairs.{subnet_pair, bucket, counted, sum_or_line, PushesAt, AddsAll};
+ghost use Rattle.buckets.specs.Buckets.{bucket};
+ghost use Rattle.cfg_check.specs.Pairs.{subnet_pair, counted, sum_or_line, AddsAll};
 
 use crate::area_index::AreaIndex;
 use crate::gather::push_some;
 use base_kit::NoMemory;
+use buckets::{Index, items_at, push_at};
 use cfg_ast::{Address, Interface, Router};
 use std::alloc::Global;
 use std::collections::HashMap;
 
 const MOST_PAIRS: u64 = 1048576;
 
-fn subnet_pair(address: Address) -> (u8, u32)
+fn subnet_pair(address: Address) -> (u32, u32)
     ensures { result ≡ subnet_pair address }
 {
     let subnet = address.subnet();
-    (subnet.len(), subnet.addr())
-}
-
-fn active_address(index: &AreaIndex, interface: &Interface) -> Option<Address>
-    ensures { result ≡ active_address_on index.now.router.now interface.now }
-{
-    if index.has_active(interface) {
-        interface.up_address()
-    } else {
-        None
-    }
+    (u32::from(subnet.len()), subnet.addr())
 }
 
 fn active_addresses_in(
@@ -38,7 +30,7 @@ fn active_addresses_in(
 {
     let mut found = Vec::new(alloc);
     for interface in interfaces {
-        push_some(&mut found, active_address(index, interface))?;
+        push_some(&mut found, index.active_address(interface))?;
     }
     Ok(found)
 }
@@ -51,26 +43,8 @@ fn active_addresses(alloc: Global, router: &Router) -> Result<Vec<Address>, NoMe
     Ok(found)
 }
 
-fn push_at(
-    alloc: Global,
-    seen: &mut HashMap<(u8, u32), Vec<Address>>,
-    pair: (u8, u32),
-    address: Address,
-) -> Result<(), NoMemory>
-    ensures { OnOk result (PushesAt seen.old seen.new pair address) }
-{
-    let mut same = seen.remove(&pair).unwrap_or(Vec::new(alloc));
-    same.push(address)?;
-    seen.insert(pair, same)?;
-    Ok(())
-}
-
 // Puts the addresses in, each behind those of its subnet.
-fn keep(
-    alloc: Global,
-    seen: &mut HashMap<(u8, u32), Vec<Address>>,
-    addresses: &[Address],
-) -> Result<(), NoMemory>
+fn keep(alloc: Global, seen: &mut Index<Address>, addresses: &[Address]) -> Result<(), NoMemory>
     ensures { OnOk result (AddsAll seen.old seen.new addresses.now) }
 {
     for address in addresses {
@@ -80,21 +54,14 @@ fn keep(
 }
 
 // How many addresses of its subnet were seen.
-fn count(seen: &HashMap<(u8, u32), Vec<Address>>, address: Address) -> usize
+fn count(seen: &Index<Address>, address: Address) -> usize
     ensures { result ≡ length (bucket seen.now (subnet_pair address)) }
 {
-    match seen.get(&subnet_pair(address)) {
-        Some(same) => same.len(),
-        None => 0,
-    }
+    items_at(seen, subnet_pair(address)).len()
 }
 
 // The sum with the pairs of these addresses, or the line at which it exceeds the limit.
-fn sum_of_pairs(
-    seen: &HashMap<(u8, u32), Vec<Address>>,
-    addresses: &[Address],
-    sum: u64,
-) -> Result<u64, u32>
+fn sum_of_pairs(seen: &Index<Address>, addresses: &[Address], sum: u64) -> Result<u64, u32>
     requires { sum ≤ 1048576 }
     ensures sum { result ≡ sum_or_line 1048576 sum (map (counted seen.now) addresses.now) }
     ensures bound { IfOk result (λ more. more ≤ 1048576) }
@@ -114,7 +81,7 @@ fn sum_of_pairs(
 pub(crate) fn too_many_links(alloc: Global, routers: &[Router]) -> Result<Option<u32>, NoMemory>
     ensures { IfOk result (λ line. line ≡ least_line (exceeding 1048576 0 (added_after [] routers.now))) }
 {
-    let mut seen: HashMap<(u8, u32), Vec<Address>> = HashMap::new(alloc);
+    let mut seen: Index<Address> = HashMap::new(alloc);
     let mut sum = 0;
     for router in routers {
         let addresses = active_addresses(alloc, router)?;

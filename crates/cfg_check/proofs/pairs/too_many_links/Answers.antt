@@ -2,7 +2,8 @@ use Rattle.std.proofs.Common.{ℕ, List, flat_map, map, take, sym, ap, subst, �
 use Rattle.cfg_ast.specs.meaning.Addresses.{Address}
 use Rattle.cfg_ast.specs.meaning.RouterFaults.{active_addresses_of}
 use Rattle.cfg_check.specs.LeastLine.{least_line}
-use Rattle.cfg_check.specs.Pairs.{counted, sum_or_line, AddsAll, IsCounted}
+use Rattle.buckets.specs.Buckets.{IsIndex}
+use Rattle.cfg_check.specs.Pairs.{subnet_pair, counted, sum_or_line, AddsAll}
 use Rattle.cfg_check.proofs.SumLemmas.{counted_more, earlier_more, sum_stops, sum_goes_on}
 use Rattle.cfg_check.proofs.pairs.too_many_links.Goals as goal
 
@@ -24,6 +25,6 @@ loop-router-preserved c =
     let adds = subst (λ (l : List Address). AddsAll c.loop-router.seen c.keep.new.seen l) (c.as_slice-in-loop-router.ensures.value ∙ c.in_ok-addresses.ensures) c.in_ok-keep.ensures in
     record {
       bound = c.in-Ok.ensures.bound;
-      seen = subst (λ (l : List Address). IsCounted c.keep.new.seen l) (earlier_more routers i x below here) (counted_more c.loop-router.seen c.keep.new.seen (flat_map active_addresses_of (take i routers)) (active_addresses_of x) c.loop-router.invariant.seen adds);
+      seen = subst (λ (l : List Address). IsIndex subnet_pair c.keep.new.seen l) (earlier_more routers i x below here) (counted_more c.loop-router.seen c.keep.new.seen (flat_map active_addresses_of (take i routers)) (active_addresses_of x) c.loop-router.invariant.seen adds);
       rest = sum_goes_on c.loop-router.seen routers i c.loop-router.sum x _ c.in-Ok.more below here c.loop-router.invariant.seen c.loop-router.invariant.rest sum;
     }

@@ -4,26 +4,19 @@ use Rattle.std.specs.List.{list_any}
 use Rattle.cfg_ast.specs.declared.ospf.OspfProcess.{OspfProcess}
 use Rattle.cfg_ast.specs.meaning.Topology.{is_passive_in}
 use Rattle.cfg_check.specs.AreaLines.{listed_of}
-use Rattle.cfg_check.specs.NameSets.{has_name}
 use Rattle.cfg_check.proofs.AreaLookups.{passive_by}
 use Rattle.cfg_check.proofs.area_index.AreaIndex.is_passive.Goals as goal
 
 pub returns-then-process : goal.returns-then-process
 returns-then-process c =
-    let index = c.args.self.now in
     let name = c.args.name.now in
     let process = c.in-Some.process.now in
-    let is_listed = c.contains-is_listed.result in
-    let listed : is_listed ≡ list_any (bytes_eq name) (listed_of (Some process)) =
-    c.contains-is_listed.ensures ∙ ap (has_name index.names) c.as_str.ensures ∙ index.listed.each name ∙ ap (λ (o : Option OspfProcess). list_any (bytes_eq name) (listed_of o)) (sym c.in-Some.ensures) in
-    sym (ap (λ (o : Option OspfProcess). is_passive_in o name) (sym c.in-Some.ensures) ∙ passive_by process name true is_listed c.if-process.true listed)
+    let listed : c.is_listed-is_listed.result ≡ list_any (bytes_eq name) (listed_of (Some process)) = c.is_listed-is_listed.ensures ∙ ap (λ (o : Option OspfProcess). list_any (bytes_eq name) (listed_of o)) (sym c.in-Some.ensures) in
+    sym (ap (λ (o : Option OspfProcess). is_passive_in o name) (sym c.in-Some.ensures) ∙ passive_by process name true c.is_listed-is_listed.result c.if-process.true listed)
 
 pub returns-else-process : goal.returns-else-process
 returns-else-process c =
-    let index = c.args.self.now in
     let name = c.args.name.now in
     let process = c.in-Some.process.now in
-    let is_listed = c.contains-is_listed.result in
-    let listed : is_listed ≡ list_any (bytes_eq name) (listed_of (Some process)) =
-    c.contains-is_listed.ensures ∙ ap (has_name index.names) c.as_str.ensures ∙ index.listed.each name ∙ ap (λ (o : Option OspfProcess). list_any (bytes_eq name) (listed_of o)) (sym c.in-Some.ensures) in
-    sym (ap (λ (o : Option OspfProcess). is_passive_in o name) (sym c.in-Some.ensures) ∙ passive_by process name false is_listed c.if-process.false listed)
+    let listed : c.is_listed-is_listed.result ≡ list_any (bytes_eq name) (listed_of (Some process)) = c.is_listed-is_listed.ensures ∙ ap (λ (o : Option OspfProcess). list_any (bytes_eq name) (listed_of o)) (sym c.in-Some.ensures) in
+    sym (ap (λ (o : Option OspfProcess). is_passive_in o name) (sym c.in-Some.ensures) ∙ passive_by process name false c.is_listed-is_listed.result c.if-process.false listed)

@@ -1,0 +1,29 @@
+-- Lists of items by pairs of numbers.
+use Rattle.std.specs.Prelude.{◌≡◌, ℕ, Bool, ◌&&◌, List, [], ◌∷◌, ◌++◌, Vec, filter, nat_eq, if◌then◌else◌}
+use Rattle.std.specs.Option.{option_map_or}
+use Rattle.std.specs.HashMap.{HashMap, get}
+use Rattle.std.specs.declared.alloc.Global.{Global}
+use Rattle.std.specs.declared.hash.FoldHasher.{FoldHasher}
+use Rattle.std.specs.declared.hash.BuildHasherDefault.{BuildHasherDefault}
+
+abbrev pub same_pair : ℕ × ℕ → ℕ × ℕ → Bool
+same_pair p q = nat_eq p.0 q.0 && nat_eq p.1 q.1
+
+abbrev pub Index : Type 0 → Type 0
+Index T = HashMap (ℕ × ℕ) (Vec T Global) (BuildHasherDefault FoldHasher)
+
+-- the items at a pair
+abbrev pub bucket : {T : Type 0} → Index T → ℕ × ℕ → List T
+bucket {T} index pair = option_map_or (λ (v : Vec T Global). v.items) (get same_pair index pair) []
+
+-- an item was put last at a pair
+pub record PushesAt {T : Type 0} (old new : Index T) (pair : ℕ × ℕ) (item : T) : Type 0 where
+  pub each : (q : ℕ × ℕ) → bucket new q ≡ (if same_pair pair q then bucket old q ++ item ∷ [] else bucket old q)
+
+-- the item stands at that pair
+abbrev pub is_at : {T : Type 0} → (T → ℕ × ℕ) → ℕ × ℕ → T → Bool
+is_at pair_of pair x = same_pair pair (pair_of x)
+
+-- the index has the items of each pair, in order
+pub record IsIndex {T : Type 0} (pair_of : T → ℕ × ℕ) (index : Index T) (items : List T) : Type 0 where
+  pub each : (q : ℕ × ℕ) → bucket index q ≡ filter (is_at pair_of q) items
