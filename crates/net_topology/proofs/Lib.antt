@@ -1,3 +1,4 @@
+pub mod ActiveAddresses
 pub mod Adjacent
 pub mod AloneLemmas
 pub mod Apart
@@ -12,6 +13,5 @@ pub mod OnePeer
 pub mod OneProtocol
 pub mod PairCounts
 pub mod PlaceSteps
-pub mod PushedItems
 pub mod SessionLemmas
 pub mod UpFacts

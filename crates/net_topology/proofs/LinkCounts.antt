@@ -12,7 +12,8 @@ use Rattle.cfg_ast.specs.declared.interface.Interface.{Interface}
 use Rattle.cfg_ast.specs.declared.network.Network.{Network}
 use Rattle.cfg_ast.specs.declared.network.Router.{Router}
 use Rattle.cfg_ast.specs.meaning.RouterFaults.{Added, active_address_on, active_addresses_of, added_by, added_after, exceeding, too_many_links_lines}
-use Rattle.cfg_ast.specs.meaning.Topology.{Place, place_on, places_on, places, interfaces_of, links_from, link_between, are_adjacent, active_address, both_in_one_subnet, same_subnet, first_address, adjacencies_of, is_passive_in, process_has_address}
+use Rattle.cfg_ast.specs.meaning.Topology.{Place, place_on, places_on, places, interfaces_of, links_from, link_between, are_adjacent, active_address, both_in_one_subnet, same_subnet, first_address, adjacencies_of}
+use Rattle.net_topology.proofs.ActiveAddresses.{active_here}
 use Rattle.net_topology.proofs.PairCounts.{one_if, passing, pairs, length_filter, pairs_append_left, pairs_append_right, pairs_same, no_pairs, pairs_turned}
 
 -- ---- links by pairs
@@ -55,19 +56,10 @@ either_way m n = grind (arith, nat_tests)
 pub subnet_either_way : (a b : Address) → same_subnet a b ≡ same_subnet b a
 subnet_either_way a b = ap (λ c. c && nat_eq (first_address a) (first_address b)) (either_way a.len b.len) ∙ ap (λ c. nat_eq b.len a.len && c) (either_way (first_address a) (first_address b))
 
-address_of_active : (shut : Bool) (o : Option Address) (f : Address → Bool) (b : Bool)
-    → cond (option_map_or f (cond shut None o) false && b) o None ≡ cond (option_map_or f (cond shut None o) false && b) (cond shut None o) None
-address_of_active true o f b = refl
-address_of_active false o f b = refl
-
--- an active interface is up
-active_here : (k i : ℕ) (router : Router) (x : Interface) → active_address (place_on k router (i, x)) ≡ active_address_on router x
-active_here k i router x = address_of_active x.shut x.address (process_has_address router.ospf) (not (is_passive_in router.ospf x.name))
-
 addresses_here : (k i : ℕ) (router : Router) (xs : List Interface) → filter_map active_address (map (place_on k router) (enumerate_from i xs)) ≡ filter_map (active_address_on router) xs
 addresses_here k i router [] = refl
 addresses_here k i router (x ∷ xs) =
-    ap (λ (o : Option Address). cons_option o (filter_map active_address (map (place_on k router) (enumerate_from (i + 1) xs)))) (active_here k i router x)
+    ap (λ (o : Option Address). cons_option o (filter_map active_address (map (place_on k router) (enumerate_from (i + 1) xs)))) (active_here (place_on k router (i, x)))
     ∙ ap (λ (l : List Address). cons_option (active_address_on router x) l) (addresses_here k (i + 1) router xs)
 
 -- ---- pairs router by router

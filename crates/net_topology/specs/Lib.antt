@@ -1,5 +1,4 @@
 pub mod Alone
-pub mod Buckets
 pub mod FewPlaces
 pub mod Laws
 pub mod Peers

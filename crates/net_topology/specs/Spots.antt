@@ -1,17 +1,15 @@
 -- Active interfaces by their subnets.
-use Rattle.std.specs.Prelude.{ℕ, Bool, List, Option, None, map, filter, filter_map, nat_lt, if◌then◌else◌}
+use Rattle.std.specs.Prelude.{ℕ, Bool, List, Option, map, filter, filter_map, nat_lt}
 use Rattle.std.specs.Option.{option_map}
 use Rattle.cfg_ast.specs.meaning.Addresses.{Address}
 use Rattle.cfg_ast.specs.declared.interface.Interface.{Interface}
 use Rattle.cfg_ast.specs.declared.network.Network.{Network}
 use Rattle.cfg_ast.specs.declared.network.Router.{Router}
 use Rattle.cfg_ast.specs.declared.topology.Link.{Link}
-use Rattle.cfg_ast.specs.meaning.Topology.{Place, places, interfaces_of, first_address, is_active_interface}
-use Rattle.net_topology.specs.Buckets.{same_pair}
+use Rattle.cfg_ast.specs.meaning.Topology.{Place, places, interfaces_of, first_address}
+use Rattle.cfg_ast.specs.meaning.RouterFaults.{active_address_on}
+use Rattle.buckets.specs.Buckets.{is_at}
 use Rattle.net_topology.specs.declared.adjacencies.Spot.{Spot}
-
-abbrev pub active_address_on : Router → Interface → Option Address
-active_address_on owner x = if is_active_interface owner x then x.address else None
 
 abbrev pub spot_at : ℕ → ℕ → Address → Spot
 spot_at r i a = record { router = r; item = i; len = a.len; first = first_address a }
@@ -29,9 +27,6 @@ spots n = filter_map spot_of (places interfaces_of n)
 abbrev pub pair_of : Spot → ℕ × ℕ
 pair_of s = (s.len, s.first)
 
-abbrev pub is_at : ℕ × ℕ → Spot → Bool
-is_at pair t = same_pair pair (pair_of t)
-
 abbrev pub is_later : Spot → Spot → Bool
 is_later s t = nat_lt s.router t.router
 
@@ -40,4 +35,4 @@ spot_link s t = record { low = s.router; high = t.router; low_item = s.item; hig
 
 -- the links of a spot with the later ones of its subnet
 abbrev pub links_in : List Spot → Spot → List Link
-links_in ss s = map (spot_link s) (filter (is_later s) (filter (is_at (pair_of s)) ss))
+links_in ss s = map (spot_link s) (filter (is_later s) (filter (is_at pair_of (pair_of s)) ss))

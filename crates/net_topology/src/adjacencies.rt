@@ -1,14 +1,14 @@
 ghost use Rattle.std.specs.Prelude.{◌≡◌, ◌<◌, ◌^◌, ◌++◌, map, filter, filter_map, flat_map, length, IfOk, OnOk};
 ghost use Rattle.std.specs.List.{enumerate_from};
 ghost use Rattle.cfg_ast.specs.meaning.Topology.{place_on, adjacencies_of};
-ghost use Rattle.net_topology.specs.Spots.{active_address_on, spot_on, spot_of, spots, spot_link, is_later, pair_of, links_in};
-ghost use Rattle.net_topology.specs.Buckets.{IsIndex};
+ghost use Rattle.net_topology.specs.Spots.{spot_on, spot_of, spots, spot_link, is_later, pair_of, links_in};
+ghost use Rattle.buckets.specs.Buckets.{IsIndex};
 ghost use Rattle.net_topology.specs.FewPlaces.{HasFewItems, HasFewPlaces};
 
-use crate::buckets::{items_at, push_at};
 use crate::places::place;
 use base_kit::{List, NoMemory};
-use cfg_ast::{Address, Interface, Link, Network, Router};
+use buckets::{Index, items_at, push_at};
+use cfg_ast::{Interface, Link, Network, Router};
 use cfg_check::AreaIndex;
 use std::alloc::Global;
 use std::collections::HashMap;
@@ -22,20 +22,10 @@ pub(crate) struct Spot {
     pub(crate) first: u32,
 }
 
-fn active_address(index: &AreaIndex, interface: &Interface) -> Option<Address>
-    ensures { result ≡ active_address_on index.now.router.now interface.now }
-{
-    if index.has_active(interface) {
-        interface.address
-    } else {
-        None
-    }
-}
-
 fn spot_at(router: u32, item: u32, index: &AreaIndex, interface: &Interface) -> Option<Spot>
     ensures { result ≡ spot_on router item index.now.router.now interface.now }
 {
-    let address = active_address(index, interface)?;
+    let address = index.active_address(interface)?;
     let subnet = address.subnet();
     Some(Spot {
         router,
@@ -90,10 +80,10 @@ fn spots(alloc: Global, network: &Network) -> Result<Vec<Spot>, NoMemory>
 }
 
 // The spots of each subnet, in order.
-fn index(alloc: Global, spots: &[Spot]) -> Result<HashMap<(u32, u32), Vec<Spot>>, NoMemory>
+fn by_subnet(alloc: Global, spots: &[Spot]) -> Result<Index<Spot>, NoMemory>
     ensures { IfOk result (λ index. IsIndex pair_of index spots.now) }
 {
-    let mut index: HashMap<(u32, u32), Vec<Spot>> = HashMap::new(alloc);
+    let mut index: Index<Spot> = HashMap::new(alloc);
     for spot in spots {
         push_at(alloc, &mut index, (spot.len, spot.first), *spot)?;
     }
@@ -120,7 +110,7 @@ fn push_links_of(
     found: &mut List<Link>,
     p: &Spot,
     spots: &[Spot],
-    index: &HashMap<(u32, u32), Vec<Spot>>,
+    index: &Index<Spot>,
 ) -> Result<(), NoMemory>
     requires { IsIndex pair_of index.now spots.now }
     ensures { OnOk result (found.new ≡ found.old ++ links_in spots.now p.now) }
@@ -131,7 +121,7 @@ fn push_links_of(
 fn links_of(alloc: Global, spots: &[Spot]) -> Result<List<Link>, NoMemory>
     ensures { IfOk result (λ links. links ≡ flat_map (links_in spots.now) spots.now) }
 {
-    let index = index(alloc, spots)?;
+    let index = by_subnet(alloc, spots)?;
     let mut found = List::new(alloc);
     for p in spots {
         push_links_of(&mut found, p, spots, &index)?;

@@ -11,7 +11,6 @@
 #![tactic(auto)]
 
 mod adjacencies;
-mod buckets;
 pub mod laws;
 mod network_links;
 mod peers;

@@ -1,13 +1,13 @@
 ghost use Rattle.std.specs.Prelude.{◌≡◌, ◌++◌, map, filter, filter_map, IfOk, OnOk};
 ghost use Rattle.std.specs.List.{enumerate_from};
 ghost use Rattle.cfg_ast.specs.meaning.Topology.{place_on, neighbors_of};
-ghost use Rattle.net_topology.specs.Buckets.{IsIndex};
+ghost use Rattle.buckets.specs.Buckets.{IsIndex};
 ghost use Rattle.net_topology.specs.FewPlaces.{HasFewItems, HasFewPlaces};
 ghost use Rattle.net_topology.specs.Peers.{peer_on, peer_of, peers, own_end, name_each_other, reaches};
 
-use crate::buckets::{items_at, push_at};
 use crate::places::place;
 use base_kit::NoMemory;
+use buckets::{Index, items_at, push_at};
 use cfg_ast::{Neighbor, Network, Router};
 use std::alloc::Global;
 use std::collections::HashMap;
@@ -27,7 +27,7 @@ pub(crate) struct Peer {
 #[derive(Drop)]
 pub(crate) struct Peers {
     pub(crate) all: Vec<Peer>,
-    pub(crate) by_end: HashMap<(u32, u32), Vec<Peer>>,
+    pub(crate) by_end: Index<Peer>,
     pub ghost indexed: { IsIndex own_end by_end all.items },
 }
 
@@ -91,10 +91,10 @@ fn all_peers(alloc: Global, network: &Network) -> Result<Vec<Peer>, NoMemory>
 }
 
 // The peers by their routers and the addresses that they name, in order.
-fn by_end(alloc: Global, peers: &[Peer]) -> Result<HashMap<(u32, u32), Vec<Peer>>, NoMemory>
+fn by_end(alloc: Global, peers: &[Peer]) -> Result<Index<Peer>, NoMemory>
     ensures { IfOk result (λ index. IsIndex own_end index peers.now) }
 {
-    let mut index: HashMap<(u32, u32), Vec<Peer>> = HashMap::new(alloc);
+    let mut index: Index<Peer> = HashMap::new(alloc);
     for peer in peers {
         push_at(alloc, &mut index, (peer.router, peer.addr), *peer)?;
     }

@@ -2,7 +2,7 @@ use Rattle.std.proofs.Common.{get_or}
 use Rattle.std.proofs.lemmas.List.{get_or_default}
 use Rattle.net_topology.specs.declared.peers.Peer.{Peer}
 use Rattle.net_topology.specs.Peers.{own_end}
-use Rattle.net_topology.proofs.PushedItems.{index_turn}
+use Rattle.buckets.proofs.PushedItems.{index_turn}
 use Rattle.net_topology.proofs.peers.by_end.Goals as goal
 
 pub loop-peer-preserved : goal.loop-peer-preserved

@@ -1,6 +1,6 @@
 use Rattle.std.proofs.Common.{take}
 use Rattle.net_topology.specs.Peers.{own_end}
-use Rattle.net_topology.specs.Buckets.{IsIndex}
+use Rattle.buckets.specs.Buckets.{IsIndex}
 use Rattle.net_topology.proofs.peers.by_end.Given as goal
 
 abbrev pub invariant-loop-peer : goal.invariant-loop-peer

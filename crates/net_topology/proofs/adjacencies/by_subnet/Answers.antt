@@ -2,8 +2,8 @@ use Rattle.std.proofs.Common.{get_or}
 use Rattle.std.proofs.lemmas.List.{get_or_default}
 use Rattle.net_topology.specs.declared.adjacencies.Spot.{Spot}
 use Rattle.net_topology.specs.Spots.{pair_of}
-use Rattle.net_topology.proofs.PushedItems.{index_turn}
-use Rattle.net_topology.proofs.adjacencies.index.Goals as goal
+use Rattle.buckets.proofs.PushedItems.{index_turn}
+use Rattle.net_topology.proofs.adjacencies.by_subnet.Goals as goal
 
 pub loop-spot-preserved : goal.loop-spot-preserved
 loop-spot-preserved c =
