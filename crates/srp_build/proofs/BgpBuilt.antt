@@ -24,7 +24,7 @@ use Rattle.srp_core.specs.ProblemOf.{as_number_of, start_route, IsProblemOf}
 use Rattle.srp_build.specs.declared.acts.BgpAct.{BgpAct}
 use Rattle.srp_build.specs.declared.bgp_edges.BgpEdges.{BgpEdges}
 use Rattle.srp_build.specs.declared.hops.Hop.{Hop}
-use Rattle.srp_build.specs.declared.plains.LineMaps.{LineMaps}
+use Rattle.srp_build.specs.LineMaps.{LineMaps}
 use Rattle.srp_build.specs.ActOrder.{AreByFirstUse}
 use Rattle.srp_build.specs.FirstActs.{IsActOfLines, HasFirstActs}
 use Rattle.srp_build.specs.HopEdges.{edge_with}
@@ -83,7 +83,7 @@ module _ (n : Network) (first p : Prefix) (init : List (Option Route)) (lone : L
   act_adds_nothing act at =
       let place = in_get the_acts act at in
       let session = session_is_at n.routers maps act.first act.session (parts.edges.over place.0 act place.1) in
-      let line = line_numbered first true maps.maps.items n.routers maps.ins parts.lines.ins act.first.importer act.first.importer_item act.session.into session.into in
+      let line = line_numbered first true maps.maps n.routers maps.ins parts.lines.ins act.first.importer act.first.importer_item act.session.into session.into in
       let nothing = parts.add_nothing n line.router line.line parts.bgp.nothing_added (router_in n first p init lone maps shown found parts act.first.importer line.router line.at) (contains_in (neighbors_of line.router) line.line (get_in (neighbors_of line.router) act.first.importer_item line.line line.line_at)) first in
       subst AddsNothing (sym (map_at_line first n.routers true act.first.importer act.first.importer_item line.router line.line line.at line.line_at)) nothing
 

@@ -11,7 +11,6 @@ use Rattle.cfg_ast.specs.declared.network.Network.{Network}
 use Rattle.cfg_ast.specs.declared.network.Router.{Router}
 use Rattle.cfg_ast.specs.meaning.Classes.{classes_of}
 use Rattle.dd_core.specs.Sets.{Shown}
-use Rattle.route_maps.specs.declared.plain.Plain.{Plain}
 use Rattle.srp_core.specs.declared.route.Act.{Act}
 use Rattle.srp_core.specs.declared.route.Route.{Route}
 use Rattle.srp_core.specs.Acts.{KeepsSets}
@@ -20,30 +19,23 @@ use Rattle.srp_core.specs.ProblemOf.{as_number_of, IsProblemOf}
 use Rattle.srp_build.specs.declared.acts.BgpAct.{BgpAct}
 use Rattle.srp_build.specs.declared.bgp_edges.BgpEdges.{BgpEdges}
 use Rattle.srp_build.specs.declared.hops.Hop.{Hop}
-use Rattle.srp_build.specs.declared.plains.LineMaps.{LineMaps}
 use Rattle.srp_build.specs.ActOrder.{AreActsByFirstUse}
 use Rattle.srp_build.specs.Bgp.{IsBgp}
-use Rattle.srp_build.specs.BgpEdges.{IsLeftOut, IsEdgeOfSession, AreBelow, AreEdgesOfSessions}
+use Rattle.srp_build.specs.BgpEdges.{IsLeftOut, IsEdgeOfSession, AreEdgesOfSessions}
 use Rattle.srp_build.specs.Built.{IsBuiltFor}
 use Rattle.srp_build.specs.FirstActs.{HasFirstActs}
 use Rattle.srp_build.specs.HopEdges.{edge_with}
-use Rattle.srp_build.specs.LineMaps.{AreLineMaps}
+use Rattle.srp_build.specs.LineMaps.{LineMaps, AreLineMaps}
 use Rattle.srp_build.specs.Lines.{act_of_hop}
 use Rattle.srp_build.specs.Lone.{AreLone}
-use Rattle.srp_build.specs.Plains.{HaveNumbers}
 use Rattle.srp_build.specs.Starts.{starts_from}
 use Rattle.srp_build.proofs.BgpBuilt.{rules, problem_is, acts_in_order, first_acts}
 use Rattle.srp_build.proofs.BgpParts.{SessionsImport, InMapsAddNothing, AreBgpParts, made}
 use Rattle.srp_build.proofs.FirstUse.{within_get}
 use Rattle.srp_build.proofs.LinkPlaces.{sorted_of}
 use Rattle.srp_build.proofs.MapsOfClass.{maps_of_class}
-use Rattle.srp_build.proofs.SessionMaps.{line_numbered}
 use Rattle.srp_build.proofs.SortedEdges.{from, importer_in}
 use Rattle.srp_build.proofs.StartsOfClass.{starts_of_class}
-
--- numbers of maps are places of maps
-pub numbers_below : (p : Prefix) (inbound : Bool) (maps : List Plain) (routers : List Router) (table : List (List ℕ)) → HaveNumbers p inbound maps routers table → AreBelow (length maps) table
-numbers_below p inbound maps routers table have place item number at = let line = line_numbered p inbound maps routers table have place item number at in within_get maps number line.is.other line.is.at
 
 pub first_in : (class : DestClass) (p : Prefix) → slice_get class.prefixes 0 ≡ Some p → Contains class.prefixes p
 first_in class p at = contains_in class.prefixes p (get_in class.prefixes 0 p at)

@@ -14,7 +14,7 @@ use Rattle.srp_core.specs.Problem.{act_of, is_lone, Accepts, IsLone}
 use Rattle.srp_build.specs.declared.acts.BgpAct.{BgpAct}
 use Rattle.srp_build.specs.declared.bgp_edges.BgpEdges.{BgpEdges}
 use Rattle.srp_build.specs.declared.lone.Mark.{Mark}
-use Rattle.srp_build.specs.declared.plains.LineMaps.{LineMaps}
+use Rattle.srp_build.specs.LineMaps.{LineMaps}
 use Rattle.srp_build.specs.Lone.{HasEdgeWith, HasTwo, IsMark}
 use Rattle.srp_build.specs.Plains.{import_over}
 use Rattle.srp_build.proofs.BgpLinks.{read_map}
@@ -46,7 +46,7 @@ module _ (n : Network) (first p : Prefix) (init : List (Option Route)) (lone : L
   the_acts = found.acts.acts.items
 
   abbrev Imports : BgpAct → List ℕ → Option Imported
-  Imports act = import_over maps.maps.items act.session
+  Imports act = import_over maps.maps act.session
 
   -- the act of an edge
   record IsActAt (number : ℕ) : Type 0 where

@@ -25,12 +25,11 @@ use Rattle.srp_core.specs.ProblemOf.{as_number_of, start_route, Direction, Sessi
 use Rattle.srp_build.specs.declared.acts.BgpAct.{BgpAct}
 use Rattle.srp_build.specs.declared.bgp_edges.BgpEdges.{BgpEdges}
 use Rattle.srp_build.specs.declared.hops.Hop.{Hop}
-use Rattle.srp_build.specs.declared.plains.LineMaps.{LineMaps}
-use Rattle.srp_build.specs.declared.plains.Session.{Session}
+use Rattle.srp_build.specs.declared.session.Session.{Session}
 use Rattle.srp_build.specs.Bgp.{IsBgp}
 use Rattle.srp_build.specs.BgpEdges.{originates, session_at, IsLeftOut, started, unjoined, denied, IsEdgeOfSession, AreEdgesOfSessions}
 use Rattle.srp_build.specs.HopEdges.{edge_with}
-use Rattle.srp_build.specs.LineMaps.{AreLineMaps}
+use Rattle.srp_build.specs.LineMaps.{LineMaps, AreLineMaps}
 use Rattle.srp_build.specs.Lines.{act_of_hop}
 use Rattle.srp_build.specs.Lone.{AreLone}
 use Rattle.srp_build.specs.Plains.{import_over}
@@ -102,14 +101,14 @@ module _ (n : Network) (first p : Prefix) (init : List (Option Route)) (lone : L
   -- ---- imports
 
   -- an act imports what its session does
-  pub written_import : (number : ℕ) (act : BgpAct) → slice_get acts number ≡ Some act → (comms : List ℕ) → import_by (written act) comms ≡ import_over maps.maps.items act.session comms
+  pub written_import : (number : ℕ) (act : BgpAct) → slice_get acts number ≡ Some act → (comms : List ℕ) → import_by (written act) comms ≡ import_over maps.maps act.session comms
   unfolding import_by
   written_import number act at comms = sym (import_at_hop n first maps parts.lines act.first act.session (parts.edges.over number act at) comms)
 
   pub read_act : (number : ℕ) (act : BgpAct) → slice_get acts number ≡ Some act → slice_index_or (map written acts) number (Cost 0) ≡ written act
   read_act number act at = read_map written acts number act (Cost 0) at
 
-  pub edge_import : (edge : Edge) (act : BgpAct) → slice_get acts edge.act ≡ Some act → (comms : List ℕ) → import_by (act_of made edge) comms ≡ import_over maps.maps.items act.session comms
+  pub edge_import : (edge : Edge) (act : BgpAct) → slice_get acts edge.act ≡ Some act → (comms : List ℕ) → import_by (act_of made edge) comms ≡ import_over maps.maps act.session comms
   edge_import edge act at comms = ap (λ (a : Act). import_by a comms) (read_act edge.act act at) ∙ written_import edge.act act at comms
 
   pub router_in : (place : ℕ) (router : Router) → slice_get n.routers place ≡ Some router → Contains n.routers router
@@ -124,7 +123,7 @@ module _ (n : Network) (first p : Prefix) (init : List (Option Route)) (lone : L
 
   -- a session imports what the lines at its ends do
   pub import_at_ends : (hop : Hop) (session : Session) → session_at n.routers maps hop ≡ Some session → (ends : SessionEnds n (direction_of hop)) → (comms : List ℕ)
-      → import_over maps.maps.items session comms ≡ session_import p ends.exporter ends.exporter_line ends.importer ends.importer_line comms
+      → import_over maps.maps session comms ≡ session_import p ends.exporter ends.exporter_line ends.importer ends.importer_line comms
   import_at_ends hop session e ends comms =
       import_at_hop n first maps parts.lines hop session e comms
       ∙ (λ j. import_of ((out_at_ends n first hop ends ∙ out_for hop ends) j) (sends_at_ends n hop ends j) ((in_at_ends n first hop ends ∙ in_for hop ends) j) comms)

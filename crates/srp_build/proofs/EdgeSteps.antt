@@ -10,8 +10,8 @@ use Rattle.srp_core.specs.declared.route.Route.{Route}
 use Rattle.srp_build.specs.declared.acts.BgpAct.{BgpAct}
 use Rattle.srp_build.specs.declared.bgp_edges.BgpEdges.{BgpEdges}
 use Rattle.srp_build.specs.declared.hops.Hop.{Hop}
-use Rattle.srp_build.specs.declared.plains.LineMaps.{LineMaps}
-use Rattle.srp_build.specs.declared.plains.Session.{Session}
+use Rattle.srp_build.specs.LineMaps.{LineMaps}
+use Rattle.srp_build.specs.declared.session.Session.{Session}
 use Rattle.srp_build.specs.ActOrder.{AreByFirstUse}
 use Rattle.srp_build.specs.BgpActs.{IsNewAct}
 use Rattle.srp_build.specs.BgpEdges.{session_at, IsLeftOut, IsEdgeOfSession, Skips, Takes, TakesHop, IsFirstOf, AreEdgesOfSessions}
@@ -51,7 +51,7 @@ next_number maps old new hop session number (inr is) over = inr (ap (λ (l : Lis
 within_more : (hops : List Hop) (hop other : Hop) → Contains hops other → Contains (hops ++ hop ∷ []) other
 within_more hops hop other has = contains_in _ other (in_left hops (hop ∷ []) other (in_contains hops other has))
 
-module _ (shown shown' : Shown) (routers : List Router) (init : List (Option Route)) (maps : LineMaps) (hops : List Hop) (hop : Hop) (old new : BgpEdges) (so_far : AreEdgesOfSessions shown routers init maps hops old) (right : AreRight shown' maps.maps.items new.acts new.sessions) where
+module _ (shown shown' : Shown) (routers : List Router) (init : List (Option Route)) (maps : LineMaps) (hops : List Hop) (hop : Hop) (old new : BgpEdges) (so_far : AreEdgesOfSessions shown routers init maps hops old) (right : AreRight shown' maps.maps new.acts new.sessions) where
   abbrev before : List BgpAct
   before = old.acts.acts.items
 
@@ -76,7 +76,7 @@ module _ (shown shown' : Shown) (routers : List Router) (init : List (Option Rou
   first_kept last edge place at is_first = record { first = λ earlier other less there. is_first.first earlier other less (get_front old.edges (last ∷ []) earlier other there) }
 
   -- the last edge is first with its act only if that is new
-  last_first : (number : ℕ) (session : Session) → CameTo before after hop session number → IsActOver maps.maps.items after session number → IsFirstWith (old.edges ++ edge_with number hop ∷ []) (length old.edges) number → IsFirstOf after (edge_with number hop)
+  last_first : (number : ℕ) (session : Session) → CameTo before after hop session number → IsActOver maps.maps after session number → IsFirstWith (old.edges ++ edge_with number hop ∷ []) (length old.edges) number → IsFirstOf after (edge_with number hop)
   last_first number session (inl same) over is_first =
       let inside = within_get after number over.act over.at in
       let e = ap (λ (l : List BgpAct). length l) same in
@@ -96,7 +96,7 @@ module _ (shown shown' : Shown) (routers : List Router) (init : List (Option Rou
       let last : Edge = edge_with takes.number hop in
       let has : IsEdgeOfSession routers init maps after hop last = record { same = refl; open_to = takes.open_to; session = takes.session; session_is = takes.session_is; act = takes.act } in
       let kept = edges_as (IsEdgeOfSession routers init maps before) (IsEdgeOfSession routers init maps after) (IsLeftOut routers init maps)
-      (λ h e of. record { same = of.same; open_to = of.open_to; session = of.session; session_is = of.session_is; act = over_kept maps.maps.items before after hop takes.session takes.number takes.came of.session e.act of.act }) hops old.edges so_far.each in
+      (λ h e of. record { same = of.same; open_to = of.open_to; session = of.session; session_is = of.session_is; act = over_kept maps.maps before after hop takes.session takes.number takes.came of.session e.act of.act }) hops old.edges so_far.each in
       record {
         right = right;
         over = λ k act at. elim (old_or_new before after hop takes.session takes.number takes.came k act at) [
@@ -110,7 +110,7 @@ module _ (shown shown' : Shown) (routers : List Router) (init : List (Option Rou
         each = subst (λ (e : List Edge). AreEdgesOf (IsEdgeOfSession routers init maps after) (IsLeftOut routers init maps) (hops ++ hop ∷ []) e) (sym takes.edges)
             (edge_last (IsEdgeOfSession routers init maps after) (IsLeftOut routers init maps) hop last has hops old.edges kept);
         in_order = subst (λ (e : List Edge). AreByFirstUse e (length after)) (sym takes.edges)
-            (first_use_next (length before) (length after) old.edges last so_far.in_order (next_number maps.maps.items before after hop takes.session takes.number takes.came takes.act));
+            (first_use_next (length before) (length after) old.edges last so_far.in_order (next_number maps.maps before after hop takes.session takes.number takes.came takes.act));
         first = subst (λ (e : List Edge). (place : ℕ) (edge : Edge) → slice_get e place ≡ Some edge → IsFirstWith e place edge.act → IsFirstOf after edge) (sym takes.edges)
             (λ place edge at is_first. elim (front_or_last old.edges last place edge at) [
               | inl there ↦ is_kept takes.number takes.session takes.came edge (so_far.first place edge there (first_kept last edge place there is_first))
@@ -126,7 +126,7 @@ module _ (shown shown' : Shown) (routers : List Router) (init : List (Option Rou
 -- no direction yet
 pub edges_at_first : (shown : Shown) (routers : List Router) (init : List (Option Route)) (maps : LineMaps) (hops : List Hop) (found : BgpEdges) → hops ≡ [] → found.acts.acts.items ≡ [] → found.sessions.met.items ≡ [] → found.edges ≡ [] → AreEdgesOfSessions shown routers init maps hops found
 edges_at_first shown routers init maps hops found no_hops no_acts no_sessions no_edges = record {
-  right = right_at_first shown maps.maps.items found.acts found.sessions no_acts no_sessions;
+  right = right_at_first shown maps.maps found.acts found.sessions no_acts no_sessions;
   over = λ k act at. absurd (nothing k act at);
   within = λ k act at. absurd (nothing k act at);
   each = subst (λ (h : List Hop). AreEdgesOf (IsEdgeOfSession routers init maps found.acts.acts.items) (IsLeftOut routers init maps) h found.edges) (sym no_hops)
@@ -140,6 +140,6 @@ edges_at_first shown routers init maps hops found no_hops no_acts no_sessions no
 
 -- one more direction of a list
 pub edges_next : (shown shown' : Shown) (routers : List Router) (init : List (Option Route)) (maps : LineMaps) (hops : List Hop) (i : ℕ) (hop d : Hop) (old new : BgpEdges) → i < length hops → get_or hops i d ≡ hop
-    → AreEdgesOfSessions shown routers init maps (take i hops) old → AreRight shown' maps.maps.items new.acts new.sessions → TakesHop routers init maps old new hop → AreEdgesOfSessions shown' routers init maps (take (i + 1) hops) new
+    → AreEdgesOfSessions shown routers init maps (take i hops) old → AreRight shown' maps.maps new.acts new.sessions → TakesHop routers init maps old new hop → AreEdgesOfSessions shown' routers init maps (take (i + 1) hops) new
 edges_next shown shown' routers init maps hops i hop d old new inside at so_far right takes =
     subst (λ (l : List Hop). AreEdgesOfSessions shown' routers init maps l new) (sym (take_more hops i hop d inside at)) (next_hop shown shown' routers init maps (take i hops) hop old new so_far right takes)

@@ -12,9 +12,11 @@ mod CostPlaces
 mod DirectionsOf
 mod EdgeSteps
 mod FirstUse
+mod FixedMaps
 mod HopEdges
 mod HopNumbers
-mod LineNumbers
+mod KindMaps
+mod LineKinds
 mod LinkEnds
 mod LinkPlaces
 mod LoneMarks

@@ -14,10 +14,9 @@ use Rattle.route_maps.specs.Maps.{verdict, received, accepted, import_of}
 use Rattle.specialize.specs.Sessions.{out_map, in_map}
 use Rattle.srp_core.specs.ProblemOf.{SessionEnds}
 use Rattle.srp_build.specs.declared.hops.Hop.{Hop}
-use Rattle.srp_build.specs.declared.plains.LineMaps.{LineMaps}
-use Rattle.srp_build.specs.declared.plains.Session.{Session}
+use Rattle.srp_build.specs.declared.session.Session.{Session}
 use Rattle.srp_build.specs.BgpEdges.{session_at}
-use Rattle.srp_build.specs.LineMaps.{AreLineMaps}
+use Rattle.srp_build.specs.LineMaps.{LineMaps, AreLineMaps}
 use Rattle.srp_build.specs.Lines.{map_of_line, closed, map_at, sends_at}
 use Rattle.srp_build.specs.Plains.{SayTheSame, IsNumberOf, HasNumbers, HaveNumbers, number_at, map_numbered, import_over}
 use Rattle.srp_build.proofs.FirstUse.{within_get}
@@ -125,17 +124,17 @@ module _ (n : Network) (p : Prefix) (maps : LineMaps) (are : AreLineMaps p n.rou
   pub has_session : (hop : Hop) → SessionEnds n (direction_of hop) → session_at n.routers maps hop ≡ None → ⊥
   has_session hop ends none =
       none_missing (sends_at n.routers hop.exporter hop.exporter_item) (number_at maps.outs hop.exporter hop.exporter_item) (number_at maps.ins hop.importer hop.importer_item) none
-      (line_has_number p false maps.maps.items n.routers maps.outs are.outs hop.exporter hop.exporter_item ends.exporter ends.exporter_line ends.exporter_at ends.exporter_line_at)
-      (line_has_number p true maps.maps.items n.routers maps.ins are.ins hop.importer hop.importer_item ends.importer ends.importer_line ends.importer_at ends.importer_line_at)
+      (line_has_number p false maps.maps n.routers maps.outs are.outs hop.exporter hop.exporter_item ends.exporter ends.exporter_line ends.exporter_at ends.exporter_line_at)
+      (line_has_number p true maps.maps n.routers maps.ins are.ins hop.importer hop.importer_item ends.importer ends.importer_line ends.importer_at ends.importer_line_at)
 
   -- a session imports what the maps at its ends do
   pub import_at_hop : (hop : Hop) (session : Session) → session_at n.routers maps hop ≡ Some session → (comms : List ℕ)
-      → import_over maps.maps.items session comms ≡ import_of (map_at p n.routers false hop.exporter hop.exporter_item) (sends_at n.routers hop.exporter hop.exporter_item) (map_at p n.routers true hop.importer hop.importer_item) comms
+      → import_over maps.maps session comms ≡ import_of (map_at p n.routers false hop.exporter hop.exporter_item) (sends_at n.routers hop.exporter hop.exporter_item) (map_at p n.routers true hop.importer hop.importer_item) comms
   import_at_hop hop session e comms =
       let at = session_is_at n.routers maps hop session e in
-      let first = says_at p false maps.maps.items n.routers maps.outs are.outs hop.exporter hop.exporter_item session.out at.out in
-      let second = says_at p true maps.maps.items n.routers maps.ins are.ins hop.importer hop.importer_item session.into at.into in
-      same_import (map_numbered maps.maps.items session.out) (map_at p n.routers false hop.exporter hop.exporter_item) (map_numbered maps.maps.items session.into) (map_at p n.routers true hop.importer hop.importer_item) session.sends first second comms
+      let first = says_at p false maps.maps n.routers maps.outs are.outs hop.exporter hop.exporter_item session.out at.out in
+      let second = says_at p true maps.maps n.routers maps.ins are.ins hop.importer hop.importer_item session.into at.into in
+      same_import (map_numbered maps.maps session.out) (map_at p n.routers false hop.exporter hop.exporter_item) (map_numbered maps.maps session.into) (map_at p n.routers true hop.importer hop.importer_item) session.sends first second comms
       ∙ ap (λ (b : Bool). import_of (map_at p n.routers false hop.exporter hop.exporter_item) b (map_at p n.routers true hop.importer hop.importer_item) comms) at.sends
 
 -- the parts of an act are those of the lines at the ends

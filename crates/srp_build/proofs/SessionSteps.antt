@@ -11,7 +11,7 @@ use Rattle.route_maps.specs.declared.plain.Plain.{Plain}
 use Rattle.srp_build.specs.declared.acts.Acts.{Acts}
 use Rattle.srp_build.specs.declared.acts.BgpAct.{BgpAct}
 use Rattle.srp_build.specs.declared.hops.Hop.{Hop}
-use Rattle.srp_build.specs.declared.plains.Session.{Session}
+use Rattle.srp_build.specs.declared.session.Session.{Session}
 use Rattle.srp_build.specs.declared.sessions.Met.{Met}
 use Rattle.srp_build.specs.declared.sessions.Sessions.{Sessions}
 use Rattle.srp_build.specs.BgpActs.{AreListed, IsLike, IsNewLike, AcceptsAny, DeniesAll, IsActOfFunction}

@@ -1,10 +1,12 @@
 -- Maps that name only communities of a set name only those of any set with all of these.
 use Rattle.std.proofs.Common.{◌≡◌, ℕ, Bool, true, false, ◌||◌, nat_eq, List, [], ◌∷◌, Option, Some, None, refl, sym, subst, arith}
-use Rattle.std.specs.Prelude.{Contains, IfSome}
+use Rattle.std.specs.Prelude.{Contains, IfSome, slice_get}
+use Rattle.std.specs.Option.{option_map_or}
 use Rattle.std.specs.List.{AllByRecursion}
 use Rattle.std.proofs.lemmas.Bool.Decides.{nat_tests}
 use Rattle.base_kit.specs.Prefixes.{Prefix}
 use Rattle.base_kit.specs.Sets.{has}
+use Rattle.base_kit.proofs.Elements.{contains_in, get_in}
 use Rattle.cfg_ast.specs.declared.network.Network.{Network}
 use Rattle.cfg_ast.specs.declared.network.Router.{Router}
 use Rattle.cfg_ast.specs.declared.bgp.Neighbor.{Neighbor}
@@ -12,13 +14,13 @@ use Rattle.cfg_ast.specs.declared.policy.Change.{Change}
 use Rattle.cfg_ast.specs.declared.policy.Change.TheVariants.{Clear, Replace, Append}
 use Rattle.cfg_ast.specs.declared.policy.CommunityList.{CommunityList}
 use Rattle.cfg_ast.specs.meaning.PolicyFaults.{communities_of}
+use Rattle.cfg_ast.specs.meaning.Topology.{neighbors_of}
 use Rattle.route_maps.specs.declared.plain.Plain.{Plain}
 use Rattle.route_maps.specs.declared.plain.PlainEntry.{PlainEntry}
 use Rattle.route_maps.specs.Within.{AreWithin, IsLineWithin, IsListWithin, AreListsWithin, IsChangeWithin, IsEntryWithin, IsMapWithin}
 use Rattle.specialize.specs.OnePrefix.{plain_of}
-use Rattle.srp_build.specs.declared.plains.LineMaps.{LineMaps}
-use Rattle.srp_build.specs.LineMaps.{AreLineMaps}
-use Rattle.srp_build.specs.Lines.{map_of_line}
+use Rattle.srp_build.specs.LineMaps.{LineMaps, AreLineMaps}
+use Rattle.srp_build.specs.Lines.{map_of_line, closed, map_at}
 use Rattle.srp_build.specs.Sessions.{AreMapsWithin}
 
 each_as : {X : Type 0} (P Q : X → Type 0) → ((x : X) → P x → Q x) → (xs : List X) → AllByRecursion P xs → AllByRecursion Q xs
@@ -70,7 +72,21 @@ line_within : MapsStayWithin → (n : Network) (p : Prefix) (router : Router) �
 line_within stay n p router has true line = stay n router has _ _ p true
 line_within stay n p router has false line = stay n router has _ _ p false
 
-pub maps_within : MapsStayWithin → (n : Network) (p : Prefix) (universe : List ℕ) (maps : LineMaps) → AreWithin universe (communities_of n) → AreLineMaps p n.routers maps → AreMapsWithin universe maps.maps.items
+closed_within : (set : List ℕ) → IsMapWithin set closed
+closed_within set = tt
+
+place_within : MapsStayWithin → (n : Network) (p : Prefix) (inbound : Bool) (router item : ℕ) → IsMapWithin (communities_of n) (map_at p n.routers inbound router item)
+place_within stay n p inbound router item = by_router (slice_get n.routers router) refl
+  where
+    by_line : (r : Router) → Contains n.routers r → (o : Option Neighbor) → IsMapWithin (communities_of n) (option_map_or (map_of_line p r inbound) o closed)
+    by_line r has None = closed_within (communities_of n)
+    by_line r has (Some line) = line_within stay n p r has inbound line
+
+    by_router : (o : Option Router) → slice_get n.routers router ≡ o → IsMapWithin (communities_of n) (option_map_or (λ (r : Router). option_map_or (map_of_line p r inbound) (slice_get (neighbors_of r) item) closed) o closed)
+    by_router None none = closed_within (communities_of n)
+    by_router (Some r) some = by_line r (contains_in n.routers r (get_in n.routers router r some)) (slice_get (neighbors_of r) item)
+
+pub maps_within : MapsStayWithin → (n : Network) (p : Prefix) (universe : List ℕ) (maps : LineMaps) → AreWithin universe (communities_of n) → AreLineMaps p n.routers maps → AreMapsWithin universe maps.maps
 maps_within stay n p universe maps known are number map at =
     let made = are.made number map at in
-    map_within (communities_of n) universe known map (subst (IsMapWithin (communities_of n)) (sym made.is) (line_within stay n p made.router made.router_in made.inbound made.line))
+    map_within (communities_of n) universe known map (subst (IsMapWithin (communities_of n)) (sym made.is) (place_within stay n p made.inbound made.router made.item))

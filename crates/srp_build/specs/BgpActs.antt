@@ -7,7 +7,7 @@ use Rattle.policy_dd.specs.Imports.{AreOneImport, AcceptsSome, AcceptsNone}
 use Rattle.route_maps.specs.declared.plain.Imported.{Imported}
 use Rattle.srp_build.specs.declared.acts.BgpAct.{BgpAct}
 use Rattle.srp_build.specs.declared.hops.Hop.{Hop}
-use Rattle.srp_build.specs.declared.plains.Session.{Session}
+use Rattle.srp_build.specs.declared.session.Session.{Session}
 use Rattle.srp_build.specs.Index.{Index, bucket}
 
 -- both nodes by which functions are found

@@ -9,32 +9,42 @@ use Rattle.srp_core.specs.declared.route.Route.{Route}
 use Rattle.srp_build.specs.declared.acts.BgpAct.{BgpAct}
 use Rattle.srp_build.specs.declared.bgp_edges.BgpEdges.{BgpEdges}
 use Rattle.srp_build.specs.declared.hops.Hop.{Hop}
-use Rattle.srp_build.specs.declared.plains.LineMaps.{LineMaps}
-use Rattle.srp_build.specs.declared.plains.Session.{Session}
+use Rattle.srp_build.specs.declared.kind_maps.KindMaps.{KindMaps}
+use Rattle.srp_build.specs.LineMaps.{LineMaps, number_of, numbered}
+use Rattle.srp_build.specs.declared.session.Session.{Session}
 use Rattle.srp_build.specs.ActOrder.{AreByFirstUse}
 use Rattle.srp_build.specs.BgpActs.{IsNewAct}
 use Rattle.srp_build.specs.FirstActs.{IsFirstWith}
 use Rattle.srp_build.specs.HopEdges.{edge_with, AreEdgesOf}
-use Rattle.srp_build.specs.Plains.{number_at, session_of, import_over}
+use Rattle.srp_build.specs.Plains.{session_of, import_over}
 use Rattle.srp_build.specs.Sessions.{IsActOver, AreRight}
 
 -- the router has an initial route
 abbrev pub originates : List (Option Route) → ℕ → Bool
 originates init router = is_some (slice_index_or init router None)
 
--- all numbers of a table are below a bound
-abbrev pub AreBelow : ℕ → List (List ℕ) → Type 0
-AreBelow bound table = (router item number : ℕ) → number_at table router item ≡ Some number → number < bound
+-- the numbers of the maps of a session are places of maps
+pub record IsInside (maps : KindMaps) (session : Session) : Type 0 where
+  pub out : number_of maps.numbers.items session.out < length maps.maps.items
+  pub into : number_of maps.numbers.items session.into < length maps.maps.items
+
+abbrev pub AreInside : KindMaps → List Session → Type 0
+AreInside maps sessions = (place : ℕ) (session : Session) → slice_get sessions place ≡ Some session → IsInside maps session
 
 -- the session of a direction
 abbrev pub session_at : List Router → LineMaps → Hop → Option Session
 session_at routers maps hop = session_of routers maps.outs maps.ins hop
 
+-- the session is that of the direction, by the numbers of kinds
+pub record IsSessionOf (routers : List Router) (lines : LineMaps) (maps : KindMaps) (hop : Hop) (session : Session) : Type 0 where
+  pub maps_are : maps.maps.items ≡ lines.maps
+  pub is : session_at routers lines hop ≡ Some (numbered maps.numbers.items session)
+
 -- the importer originates, or there is no session, or it accepts nothing
 pub data IsLeftOut (routers : List Router) (init : List (Option Route)) (maps : LineMaps) (hop : Hop) : Type 0 where
   started : originates init hop.importer ≡ true → IsLeftOut routers init maps hop
   unjoined : session_at routers maps hop ≡ None → IsLeftOut routers init maps hop
-  denied : (session : Session) → session_at routers maps hop ≡ Some session → AcceptsNone (import_over maps.maps.items session) → IsLeftOut routers init maps hop
+  denied : (session : Session) → session_at routers maps hop ≡ Some session → AcceptsNone (import_over maps.maps session) → IsLeftOut routers init maps hop
 
 -- the edge is that of the direction, and its act imports as the session there
 pub record IsEdgeOfSession (routers : List Router) (init : List (Option Route)) (maps : LineMaps) (acts : List BgpAct) (hop : Hop) (edge : Edge) : Type 0 where
@@ -42,7 +52,7 @@ pub record IsEdgeOfSession (routers : List Router) (init : List (Option Route)) 
   pub open_to : originates init hop.importer ≡ false
   pub session : Session
   pub session_is : session_at routers maps hop ≡ Some session
-  pub act : IsActOver maps.maps.items acts session edge.act
+  pub act : IsActOver maps.maps acts session edge.act
 
 -- the direction was left out
 pub record Skips (routers : List Router) (init : List (Option Route)) (maps : LineMaps) (old new : BgpEdges) (hop : Hop) : Type 0 where
@@ -56,7 +66,7 @@ pub record Takes (routers : List Router) (init : List (Option Route)) (maps : Li
   pub open_to : originates init hop.importer ≡ false
   pub session : Session
   pub session_is : session_at routers maps hop ≡ Some session
-  pub act : IsActOver maps.maps.items new.acts.acts.items session number
+  pub act : IsActOver maps.maps new.acts.acts.items session number
   pub came : (new.acts.acts.items ≡ old.acts.acts.items) ⊎ IsNewAct old.acts.acts.items new.acts.acts.items hop session number
   pub edges : new.edges ≡ old.edges ++ edge_with number hop ∷ []
 
@@ -72,7 +82,7 @@ pub record IsFirstOf (acts : List BgpAct) (edge : Edge) : Type 0 where
 -- The edges of directions, in order, and their acts: each is that of the session in the direction of the
 -- first edge that has it.
 pub record AreEdgesOfSessions (shown : Shown) (routers : List Router) (init : List (Option Route)) (maps : LineMaps) (hops : List Hop) (found : BgpEdges) : Type 0 where
-  pub right : AreRight shown maps.maps.items found.acts found.sessions
+  pub right : AreRight shown maps.maps found.acts found.sessions
   pub over : (number : ℕ) (act : BgpAct) → slice_get found.acts.acts.items number ≡ Some act → session_at routers maps act.first ≡ Some act.session
   pub within : (number : ℕ) (act : BgpAct) → slice_get found.acts.acts.items number ≡ Some act → Contains hops act.first
   pub each : AreEdgesOf (IsEdgeOfSession routers init maps found.acts.acts.items) (IsLeftOut routers init maps) hops found.edges

@@ -10,6 +10,7 @@ pub mod HopEdges
 pub mod HopNumbers
 pub mod Hops
 pub mod Index
+pub mod Kinds
 pub mod Laws
 pub mod LineMaps
 pub mod Lines

@@ -1,13 +1,45 @@
 -- The maps of all neighbour lines of a network, by numbers.
-use Rattle.std.specs.Prelude.{◌≡◌, ℕ, true, false, List, Some, slice_get}
+use Rattle.std.specs.Prelude.{◌≡◌, ℕ, true, false, List, length, map, Some, slice_get, slice_index_or}
 use Rattle.base_kit.specs.Prefixes.{Prefix}
 use Rattle.cfg_ast.specs.declared.network.Router.{Router}
 use Rattle.route_maps.specs.declared.plain.Plain.{Plain}
-use Rattle.srp_build.specs.declared.plains.LineMaps.{LineMaps}
-use Rattle.srp_build.specs.Plains.{IsMapOfLine, HaveNumbers}
+use Rattle.srp_build.specs.declared.kind_maps.KindMaps.{KindMaps}
+use Rattle.srp_build.specs.declared.kinds.Kind.{Kind}
+use Rattle.srp_build.specs.declared.kinds.Kinds.{Kinds}
+use Rattle.srp_build.specs.declared.session.Session.{Session}
+use Rattle.srp_build.specs.Kinds.{map_of_kind}
+use Rattle.srp_build.specs.Plains.{IsNumberOf, IsMapOfPlace, HaveNumbers}
 
--- the numbers are those of the maps of the lines, and all maps are maps of lines
+-- each map once, and the numbers of those of each line, outbound and inbound, router by router
+pub record LineMaps : Type 0 where
+  pub maps : List Plain
+  pub outs : List (List ℕ)
+  pub ins : List (List ℕ)
+
+-- the numbers are those of the maps of the lines, and all maps are those of places
 pub record AreLineMaps (p : Prefix) (routers : List Router) (maps : LineMaps) : Type 0 where
-  pub outs : HaveNumbers p false maps.maps.items routers maps.outs
-  pub ins : HaveNumbers p true maps.maps.items routers maps.ins
-  pub made : (number : ℕ) (map : Plain) → slice_get maps.maps.items number ≡ Some map → IsMapOfLine p routers map
+  pub outs : HaveNumbers p false maps.maps routers maps.outs
+  pub ins : HaveNumbers p true maps.maps routers maps.ins
+  pub made : (number : ℕ) (map : Plain) → slice_get maps.maps number ≡ Some map → IsMapOfPlace p routers map
+
+-- the numbers are those of the maps of kinds
+pub record AreMapsOfKinds (p : Prefix) (routers : List Router) (kinds : List Kind) (maps : List Plain) (numbers : List ℕ) : Type 0 where
+  pub total : length numbers ≡ length kinds
+  pub each : (place number : ℕ) (kind : Kind) → slice_get kinds place ≡ Some kind → slice_get numbers place ≡ Some number → IsNumberOf maps number (map_of_kind p routers kind)
+  pub made : (number : ℕ) (map : Plain) → slice_get maps number ≡ Some map → IsMapOfPlace p routers map
+
+-- the number of the map of a kind
+abbrev pub number_of : List ℕ → ℕ → ℕ
+number_of numbers kind = slice_index_or numbers kind 0
+
+-- the session by the numbers of its maps, from that by the numbers of its kinds
+abbrev pub numbered : List ℕ → Session → Session
+numbered numbers session = record { out = number_of numbers session.out; sends = session.sends; into = number_of numbers session.into }
+
+-- the maps of all lines, from those of their kinds
+abbrev pub line_maps : Kinds → KindMaps → LineMaps
+line_maps kinds maps = record {
+  maps = maps.maps.items;
+  outs = map (map (number_of maps.numbers.items)) kinds.outs;
+  ins = map (map (number_of maps.numbers.items)) kinds.ins;
+}

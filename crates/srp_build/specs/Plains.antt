@@ -1,5 +1,5 @@
 -- Plain maps by numbers: maps that say the same may have one number.
-use Rattle.std.specs.Prelude.{◌≡◌, ◌⊎◌, ℕ, Bool, List, [], ◌∷◌, ◌++◌, length, Option, Some, Contains, slice_get, slice_index_or}
+use Rattle.std.specs.Prelude.{◌≡◌, ◌⊎◌, ℕ, Bool, List, [], ◌∷◌, ◌++◌, length, Option, Some, slice_get, slice_index_or}
 use Rattle.std.specs.Option.{option_map, option_and_then}
 use Rattle.base_kit.specs.Prefixes.{Prefix}
 use Rattle.cfg_ast.specs.declared.bgp.Neighbor.{Neighbor}
@@ -10,8 +10,8 @@ use Rattle.route_maps.specs.declared.plain.Plain.{Plain}
 use Rattle.route_maps.specs.declared.plain.Imported.{Imported}
 use Rattle.route_maps.specs.Maps.{verdict, import_of}
 use Rattle.srp_build.specs.declared.hops.Hop.{Hop}
-use Rattle.srp_build.specs.declared.plains.Session.{Session}
-use Rattle.srp_build.specs.Lines.{map_named, list_named, map_of_line, closed, sends_at}
+use Rattle.srp_build.specs.declared.session.Session.{Session}
+use Rattle.srp_build.specs.Lines.{map_named, list_named, map_of_line, closed, map_at, sends_at}
 
 -- the maps have one verdict on every set of communities
 pub record SayTheSame (a b : Plain) : Type 0 where
@@ -27,18 +27,12 @@ pub record IsNumberOf (maps : List Plain) (number : ℕ) (map : Plain) : Type 0 
 abbrev pub IsGrownBy : {X : Type 0} → List X → List X → X → Type 0
 IsGrownBy old new x = (new ≡ old) ⊎ (new ≡ old ++ x ∷ [])
 
--- the map of a line of one of the routers
-pub record IsMapOfLine (p : Prefix) (routers : List Router) (map : Plain) : Type 0 where
-  pub router : Router
-  pub router_in : Contains routers router
+-- the map at a place of one of the routers
+pub record IsMapOfPlace (p : Prefix) (routers : List Router) (map : Plain) : Type 0 where
   pub inbound : Bool
-  pub line : Neighbor
-  pub is : map ≡ map_of_line p router inbound line
-
--- maps keep their numbers, and only maps of lines come
-pub record PlainsGrow (p : Prefix) (routers : List Router) (old new : List Plain) : Type 0 where
-  pub kept : (number : ℕ) (map : Plain) → slice_get old number ≡ Some map → slice_get new number ≡ Some map
-  pub made : (number : ℕ) (map : Plain) → slice_get new number ≡ Some map → (slice_get old number ≡ Some map) ⊎ IsMapOfLine p routers map
+  pub router : ℕ
+  pub item : ℕ
+  pub is : map ≡ map_at p routers inbound router item
 
 -- an earlier line names the same map and the same list, and the number is its number
 pub record IsAsEarlier (inbound : Bool) (lines : List Neighbor) (numbers : List ℕ) (line : Neighbor) (number : ℕ) : Type 0 where

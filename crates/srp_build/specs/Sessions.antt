@@ -8,7 +8,7 @@ use Rattle.route_maps.specs.Within.{IsMapWithin}
 use Rattle.srp_build.specs.declared.acts.Acts.{Acts}
 use Rattle.srp_build.specs.declared.acts.BgpAct.{BgpAct}
 use Rattle.srp_build.specs.declared.hops.Hop.{Hop}
-use Rattle.srp_build.specs.declared.plains.Session.{Session}
+use Rattle.srp_build.specs.declared.session.Session.{Session}
 use Rattle.srp_build.specs.declared.sessions.Met.{Met}
 use Rattle.srp_build.specs.declared.sessions.Sessions.{Sessions}
 use Rattle.srp_build.specs.BgpActs.{AreListed, IsNewAct}

@@ -3,7 +3,8 @@ ghost use Rattle.srp_build.specs.BgpActs.{AreApart, IsLike, AreUnlike, AreListed
 
 use crate::hops::Hop;
 use crate::index::{Index, numbers_at, push_at};
-use crate::plains::{Session, place};
+use crate::plains::place;
+use crate::session::Session;
 use base_kit::NoMemory;
 use dd_core::Store;
 use policy_dd::laws::one_form;

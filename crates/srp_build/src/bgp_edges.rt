@@ -1,13 +1,18 @@
-ghost use Rattle.std.specs.Prelude.{◌≡◌, [], IfOk, OnOk, length, map};
+ghost use Rattle.std.specs.Prelude.{◌≡◌, [], IfOk, OnOk, List, length, map};
+ghost use Rattle.cfg_ast.specs.declared.network.Router.{Router};
 ghost use Rattle.dd_core.specs.Sets.{Grows};
-ghost use Rattle.srp_build.specs.BgpEdges.{originates, TakesHop, AreBelow, AreEdgesOfSessions};
+ghost use Rattle.srp_build.specs.BgpEdges.{originates, IsInside, AreInside, IsSessionOf, TakesHop, AreEdgesOfSessions};
+ghost use Rattle.srp_build.specs.Kinds.{AreSessionsOf};
+ghost use Rattle.srp_build.specs.LineMaps.{LineMaps, line_maps};
 ghost use Rattle.srp_build.specs.Lines.{act_of_hop};
 ghost use Rattle.srp_build.specs.Sessions.{AreRight, AreMapsWithin};
 
 use crate::acts::{Acts, BgpAct};
 use crate::hops::Hop;
+use crate::kind_maps::{KindMaps, numbered};
 use crate::lines::act_of_hop;
-use crate::plains::{LineMaps, session_of};
+use crate::session::Session;
+use crate::session_hops::SessionHops;
 use crate::sessions::{Sessions, act_of_session};
 use base_kit::{Edge, List, NoMemory, Prefix};
 use cfg_ast::Router;
@@ -51,27 +56,22 @@ impl BgpEdges {
         &mut self,
         alloc: Global,
         store: &mut Store,
-        routers: &[Router],
         init: &[Option<Route>],
-        maps: &LineMaps,
+        maps: &KindMaps,
         hop: &Hop,
+        session: &Session,
     ) -> Result<(), NoMemory>
-        requires outs { AreBelow (length maps.now.maps.items) maps.now.outs }
-        requires ins { AreBelow (length maps.now.maps.items) maps.now.ins }
+        requires inside { IsInside maps.now session.now }
         requires within { AreMapsWithin store.old.universe maps.now.maps.items }
         requires right { AreRight store.old maps.now.maps.items self.old.acts self.old.sessions }
         ensures grows { Grows store.old store.new }
         ensures right { OnOk result (AreRight store.new maps.now.maps.items self.new.acts self.new.sessions) }
-        ensures takes { OnOk result (TakesHop routers.now init.now maps.now self.old self.new hop.now) }
+        ensures takes { OnOk result ((routers : List Router) (lines : LineMaps) → IsSessionOf routers lines maps.now hop.now session.now → TakesHop routers init.now lines self.old self.new hop.now) }
     {
         if originates(init, hop.importer) {
             return Ok(());
         }
-        let outs = maps.outs.as_slice();
-        let ins = maps.ins.as_slice();
-        let Some(session) = session_of(routers, outs, ins, hop) else {
-            return Ok(());
-        };
+        let session = numbered(&maps.numbers, session);
         let act = act_of_session(
             alloc,
             store,
@@ -99,21 +99,22 @@ impl BgpEdges {
 pub fn bgp_edges(
     alloc: Global,
     store: &mut Store,
-    routers: &[Router],
     init: &[Option<Route>],
-    maps: &LineMaps,
-    hops: &[Hop],
+    directions: &SessionHops,
+    maps: &KindMaps,
 ) -> Result<BgpEdges, NoMemory>
-    requires outs { AreBelow (length maps.now.maps.items) maps.now.outs }
-    requires ins { AreBelow (length maps.now.maps.items) maps.now.ins }
+    requires total { length directions.now.sessions.items ≡ length directions.now.hops.items }
+    requires inside { AreInside maps.now directions.now.sessions.items }
     requires within { AreMapsWithin store.old.universe maps.now.maps.items }
     ensures grows { Grows store.old store.new }
-    ensures edges { IfOk result (λ found. AreEdgesOfSessions store.new routers.now init.now maps.now hops.now found) }
+    ensures edges { IfOk result (λ found. (routers : List Router) → AreSessionsOf routers directions.now.kinds directions.now.hops.items directions.now.sessions.items → AreEdgesOfSessions store.new routers init.now (line_maps directions.now.kinds maps.now) directions.now.hops.items found) }
 {
     growth_adds_up();
     let mut found = BgpEdges::new(alloc);
-    for hop in hops {
-        found.take(alloc, store, routers, init, maps, hop)?;
+    let hops = directions.hops.as_slice();
+    let sessions = directions.sessions.as_slice();
+    for i in 0..hops.len() {
+        found.take(alloc, store, init, maps, &hops[i], &sessions[i])?;
     }
     Ok(found)
 }

@@ -7,10 +7,10 @@ ghost use Rattle.srp_build.specs.Built.{IsBuiltFor};
 ghost use Rattle.srp_build.specs.Directions.{AreOfSessions};
 
 use crate::bgp_edges::{bgp_edges, written_acts};
-use crate::hops::Hop;
+use crate::kind_maps::kind_maps;
 use crate::lone::lone_of;
-use crate::plains::line_maps;
 use crate::routers::{names_of, numbers_of, starts_of};
+use crate::session_hops::SessionHops;
 use base_kit::{NoMemory, Prefix, Protocol};
 use cfg_ast::DestClass;
 use cfg_check::Checked;
@@ -31,11 +31,11 @@ fn first_prefix(class: &DestClass) -> Option<Prefix>
 pub fn bgp_problem(
     alloc: Global,
     net: &Checked,
-    hops: &[Hop],
+    directions: &SessionHops,
     class: &DestClass,
     store: &mut Store,
 ) -> Result<Srp, NoMemory>
-    requires directions { AreOfSessions net.now.network hops.now }
+    requires directions { AreOfSessions net.now.network directions.now }
     requires class { Contains (classes_of net.now.network) class.now }
     requires known { AreWithin store.old.universe (communities_of net.now.network) }
     ensures grows { Grows store.old store.new }
@@ -52,8 +52,8 @@ pub fn bgp_problem(
     let names = names_of(alloc, routers)?;
     let numbers = numbers_of(alloc, routers)?;
     let init = starts_of(alloc, routers, class.origins.as_slice())?;
-    let maps = line_maps(alloc, p, routers)?;
-    let found = bgp_edges(alloc, store, routers, init.as_slice(), &maps, hops)?;
+    let maps = kind_maps(alloc, p, routers, &directions.kinds.kinds)?;
+    let found = bgp_edges(alloc, store, init.as_slice(), directions, &maps)?;
     let edges = found.edges.as_slice();
     let lone = lone_of(alloc, store, &found.acts.acts, routers.len(), edges)?;
     let acts = written_acts(alloc, p, routers, &found.acts.acts)?;

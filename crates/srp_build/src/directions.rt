@@ -6,7 +6,8 @@ ghost use Rattle.srp_build.specs.Problem.{is_bgp};
 
 use crate::costs::{Numbered, number_hops};
 use crate::hop_numbers::sorted_numbers;
-use crate::hops::{Hop, sorted_hops};
+use crate::hops::sorted_hops;
+use crate::session_hops::{SessionHops, session_hops};
 use base_kit::{List, NoMemory, Protocol};
 use cfg_ast::Link;
 use cfg_check::Checked;
@@ -18,8 +19,8 @@ use std::alloc::Global;
 /// on a class.
 #[derive(Drop)]
 pub enum Directions {
-    /// Over BGP sessions.
-    OfSessions(Vec<Hop>),
+    /// Over BGP sessions, with the kinds of the neighbour lines.
+    OfSessions(SessionHops),
     /// Over OSPF adjacencies, each as an edge that is numbered by its cost.
     OfAdjacencies(Numbered),
 }
@@ -52,7 +53,8 @@ pub fn directions_of(
     let links = links.as_slice();
     if runs_bgp(net) {
         let hops = sorted_hops(alloc, routers.len(), links)?;
-        return Ok(Directions::OfSessions(hops));
+        let found = session_hops(alloc, routers, hops)?;
+        return Ok(Directions::OfSessions(found));
     }
     let numbers = sorted_numbers(alloc, routers.len(), links)?;
     let numbered = number_hops(alloc, routers, links, &numbers)?;

@@ -72,7 +72,9 @@ fn closed(alloc: Global) -> Plain
     }
 }
 
-fn map_at(
+/// The plain map of the line at a place of a router for a prefix, inbound or outbound. Where there is no
+/// line, it denies all.
+pub fn map_at(
     alloc: Global,
     p: Prefix,
     routers: &[Router],

@@ -97,7 +97,7 @@ pub fn build_over(
     ensures first { IfOk result (λ problem. (p : Prefix) → Contains class.now.prefixes p → HasFirstActs net.now.network p problem) }
 {
     match directions {
-        Directions::OfSessions(hops) => bgp_problem(alloc, net, hops, class, store),
+        Directions::OfSessions(found) => bgp_problem(alloc, net, found, class, store),
         Directions::OfAdjacencies(numbered) => {
             let edges = Vec::from_slice(alloc, numbered.edges.as_slice())?;
             let edges = List::from_vec(edges);
@@ -124,7 +124,7 @@ pub fn build(
     ensures first { IfOk result (λ problem. (p : Prefix) → Contains class.now.prefixes p → HasFirstActs net.now.network p problem) }
 {
     match directions_of(alloc, net, links)? {
-        Directions::OfSessions(hops) => bgp_problem(alloc, net, &hops, class, store),
+        Directions::OfSessions(found) => bgp_problem(alloc, net, &found, class, store),
         Directions::OfAdjacencies(numbered) => {
             let Numbered { costs, edges } = numbered;
             problem_of_adjacencies(alloc, net, &costs, edges, class)

@@ -5,7 +5,8 @@ ghost use Rattle.srp_build.specs.Sessions.{AreRight, IsActFor, IsMaybeNew, AreMa
 use crate::acts::Acts;
 use crate::hops::Hop;
 use crate::index::{Index, numbers_at, push_at};
-use crate::plains::{Session, place};
+use crate::plains::place;
+use crate::session::Session;
 use base_kit::NoMemory;
 use dd_core::Store;
 use policy_dd::edge_fn;

@@ -1,9 +1,58 @@
-use Rattle.std.proofs.Common.{refl}
+use Rattle.std.proofs.Common.{◌≡◌, ℕ, zero, suc, ◌<◌, ◌≤◌, false, List, [], ◌∷◌, length, take, get_or, Some, refl, sym, ◌∙◌, ap, subst, arith}
+use Rattle.std.specs.Prelude.{slice_get, slice_index_or}
+use Rattle.std.proofs.lemmas.Option.{get_or_from_slice_get}
+use Rattle.srp_build.specs.declared.hops.Hop.{Hop}
+use Rattle.srp_build.specs.declared.session.Session.{Session}
+use Rattle.srp_build.specs.BgpEdges.{AreEdgesOfSessions}
+use Rattle.srp_build.specs.LineMaps.{line_maps}
 use Rattle.srp_build.proofs.EdgeSteps.{edges_next}
+use Rattle.srp_build.proofs.KindMaps.{some_at, session_numbered}
 use Rattle.srp_build.proofs.bgp_edges.bgp_edges.Goals as goal
 
-pub loop-hop-preserved : goal.loop-hop-preserved
-loop-hop-preserved c = record {
-  grows = c.growth_adds_up.ensures c.args.store.now c.loop-hop.store c.take.new.store c.loop-hop.invariant.grows c.take.ensures.grows;
-  so_far = edges_next c.loop-hop.store c.take.new.store c.args.routers.now c.args.init.now c.args.maps.now c.args.hops.now c.loop-hop.hop-index _ _ c.loop-hop.found c.take.new.self c.loop-hop-test.true refl c.loop-hop.invariant.so_far c.in_ok-take.ensures.right c.in_ok-take.ensures.takes;
-}
+-- the item of a list that a slice has
+read_slice : {X : Type 0} (slice items : List X) (i : ℕ) (none : X) → slice ≡ items → i < length slice → slice_get items i ≡ Some (slice_index_or slice i none)
+read_slice {X} slice items i none same inside = ap (λ (l : List X). slice_get l i) (sym same) ∙ some_at slice i none inside
+
+take_whole : {X : Type 0} (xs : List X) (k : ℕ) → length xs ≤ k → take k xs ≡ xs
+take_whole [] zero h = refl
+take_whole [] (suc k) h = refl
+take_whole (x ∷ xs) zero h = absurd (omega arith)
+take_whole {X} (x ∷ xs) (suc k) h = ap (λ (l : List X). x ∷ l) (take_whole xs k (omega arith))
+
+pub take-requires-clause-inside : goal.take-requires-clause-inside
+take-requires-clause-inside c =
+    let hops = ap (λ (l : List Hop). length l) c.as_slice-hops.ensures.value in
+    let sessions = ap (λ (l : List Session). length l) c.as_slice-sessions.ensures.value in
+    let total = c.requires.total in
+    c.requires.inside c.loop-i.i _ (read_slice c.as_slice-sessions.result.now c.args.directions.now.sessions.items c.loop-i.i (record { out = 0; sends = false; into = 0 }) c.as_slice-sessions.ensures.value (omega arith))
+
+pub loop-i-preserved : goal.loop-i-preserved
+loop-i-preserved c =
+    let directions = c.args.directions.now in
+    let maps = c.args.maps.now in
+    let i = c.loop-i.i in
+    let lines = line_maps directions.kinds maps in
+    let none_hop : Hop = record { importer = 0; exporter = 0; link = 0; importer_item = 0; exporter_item = 0 } in
+    let none_session : Session = record { out = 0; sends = false; into = 0 } in
+    let hop = slice_index_or c.as_slice-hops.result.now i none_hop in
+    let session = slice_index_or c.as_slice-sessions.result.now i none_session in
+    let hops_are = ap (λ (l : List Hop). length l) c.as_slice-hops.ensures.value in
+    let sessions_are = ap (λ (l : List Session). length l) c.as_slice-sessions.ensures.value in
+    let total = c.requires.total in
+    let inside : i < length directions.hops.items = omega arith in
+    let read_hop : slice_get directions.hops.items i ≡ Some hop = read_slice c.as_slice-hops.result.now directions.hops.items i none_hop c.as_slice-hops.ensures.value (omega arith) in
+    let read_session : slice_get directions.sessions.items i ≡ Some session = read_slice c.as_slice-sessions.result.now directions.sessions.items i none_session c.as_slice-sessions.ensures.value (omega arith) in
+    record {
+      grows = c.growth_adds_up.ensures c.args.store.now c.loop-i.store c.take.new.store c.loop-i.invariant.grows c.take.ensures.grows;
+      right = c.in_ok-take.ensures.right;
+      so_far = λ routers are.
+          edges_next c.loop-i.store c.take.new.store routers c.args.init.now lines directions.hops.items i hop none_hop c.loop-i.found c.take.new.self inside (get_or_from_slice_get directions.hops.items i hop none_hop read_hop)
+          (c.loop-i.invariant.so_far routers are) c.in_ok-take.ensures.right
+          (c.in_ok-take.ensures.takes routers lines (record { maps_are = refl; is = session_numbered routers directions.kinds maps hop session (are.each i hop session read_hop read_session) }));
+    }
+
+pub returns-clause-edges : goal.returns-clause-edges
+returns-clause-edges c = λ routers are.
+    let directions = c.args.directions.now in
+    let hops_are = ap (λ (l : List Hop). length l) c.as_slice-hops.ensures.value in
+    subst (λ (l : List Hop). AreEdgesOfSessions c.loop-i.store routers c.args.init.now (line_maps directions.kinds c.args.maps.now) l c.loop-i.found) (take_whole directions.hops.items c.loop-i.i (omega arith)) (c.loop-i.invariant.so_far routers are)

@@ -1,10 +1,15 @@
-use Rattle.std.proofs.Common.{take}
+use Rattle.std.proofs.Common.{List, take}
+use Rattle.cfg_ast.specs.declared.network.Router.{Router}
 use Rattle.dd_core.specs.Sets.{Grows}
 use Rattle.srp_build.specs.BgpEdges.{AreEdgesOfSessions}
+use Rattle.srp_build.specs.Kinds.{AreSessionsOf}
+use Rattle.srp_build.specs.LineMaps.{line_maps}
+use Rattle.srp_build.specs.Sessions.{AreRight}
 use Rattle.srp_build.proofs.bgp_edges.bgp_edges.Given as goal
 
-abbrev pub invariant-loop-hop : goal.invariant-loop-hop
-invariant-loop-hop l = record {
+abbrev pub invariant-loop-i : goal.invariant-loop-i
+invariant-loop-i l = record {
   grows : Grows l.initial.store l.store;
-  so_far : AreEdgesOfSessions l.store l.routers l.init l.maps (take l.hop-index l.hops) l.found;
+  right : AreRight l.store l.maps.maps.items l.found.acts l.found.sessions;
+  so_far : (routers : List Router) → AreSessionsOf routers l.directions.kinds l.directions.hops.items l.directions.sessions.items → AreEdgesOfSessions l.store routers l.init (line_maps l.directions.kinds l.maps) (take l.i l.directions.hops.items) l.found;
 }

@@ -5,7 +5,7 @@ use Rattle.cfg_ast.specs.declared.network.Router.{Router}
 use Rattle.cfg_ast.specs.declared.topology.Link.{Link}
 use Rattle.srp_build.specs.declared.hops.Hop.{Hop}
 use Rattle.srp_build.specs.Costs.{NumbersHops}
-use Rattle.srp_build.specs.Directions.{directions_of}
+use Rattle.srp_build.specs.Directions.{AreSessionHops, directions_of}
 use Rattle.srp_build.specs.Hops.{hops_of, AreInside}
 use Rattle.srp_build.specs.HopNumbers.{hop_at}
 use Rattle.srp_build.proofs.DirectionsOf.{sorted_are, few_directions}
@@ -29,7 +29,8 @@ returns-then-runs_bgp c =
     let same = sorted_are n c.as_slice-routers.result.now c.as_slice-links.result.now c.in_ok-hops.hops.items routers_are links_are c.in_ok-hops.ensures.sorted in
     record {
       bgp = sym c.runs_bgp.ensures ∙ c.if-runs_bgp.true;
-      same = same;
+      hops = subst (λ (r : List Router). AreSessionHops r (directions_of n) c.in_ok-found.found) routers_are
+          (subst (λ (h : List Hop). AreSessionHops c.as_slice-routers.result.now h c.in_ok-found.found) same c.in_ok-found.ensures);
       few = few_directions n c.as_slice-links.result.now c.in_ok-hops.hops.items links_are same c.in_ok-hops.ensures.len few_links;
     }
 

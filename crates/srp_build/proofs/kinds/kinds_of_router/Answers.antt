@@ -1,0 +1,46 @@
+use Rattle.std.proofs.Common.{◌≡◌, ℕ, List, [], ◌∷◌, ◌++◌, length, slice_get, Some, refl, sym, ◌∙◌, ap, subst, arith}
+use Rattle.std.proofs.lemmas.Option.{slice_get_read}
+use Rattle.cfg_ast.specs.declared.bgp.Neighbor.{Neighbor}
+use Rattle.cfg_ast.specs.declared.network.Router.{Router}
+use Rattle.cfg_ast.specs.meaning.Topology.{neighbors_of}
+use Rattle.srp_build.specs.declared.kinds.LinePlace.{LinePlace}
+use Rattle.srp_build.specs.Kinds.{AreKindsOf, HasKinds, IsLineAt, KindsKept, IsSeenOrNumbered}
+use Rattle.srp_build.proofs.FirstUse.{length_last}
+use Rattle.srp_build.proofs.LineKinds.{LineSteps, line_step}
+use Rattle.srp_build.proofs.kinds.kinds_of_router.Goals as goal
+
+pub loop-i-preserved : goal.loop-i-preserved
+loop-i-preserved c =
+    let routers = c.args.routers.now in
+    let router = c.index-routers-at.result in
+    let line = c.index-lines-i.result in
+    let numbers = c.loop-i.numbers in
+    let number = c.in_ok-number.number in
+    let old = c.loop-i.table.kinds.items in
+    let new = c.kind_of_line.new.table.kinds.items in
+    let total = c.loop-i.invariant.total in
+    let pushed = c.in_ok-push.ensures.ok in
+    let first : LinePlace = record { router = c.in_ok-router_place.router_place; item = c.in_ok-place.field-0; inbound = c.args.inbound } in
+    let read_router : slice_get routers c.args.at ≡ Some router = slice_get_read routers (length routers) c.args.at router refl c.requires.inside c.index-routers-at.is in
+    let read : slice_get (neighbors_of router) c.loop-i.i ≡ Some line = ap (λ (l : List Neighbor). slice_get l c.loop-i.i) (sym c.neighbors-lines.ensures) ∙ slice_get_read c.neighbors-lines.result.now (length c.neighbors-lines.result.now) c.loop-i.i line refl c.loop-i-test.true c.index-lines-i.is in
+    let there : IsLineAt routers first router line = record {
+      at = ap (slice_get routers) c.in_ok-router_place.ensures ∙ read_router;
+      line_at = ap (slice_get (neighbors_of router)) c.in_ok-place.ensures ∙ read;
+    } in
+    let seen : IsSeenOrNumbered old new first router numbers line number = subst (λ (l : List ℕ). IsSeenOrNumbered old new first router l line number) c.as_slice-before.ensures c.in_ok-number.ensures in
+    let step : LineSteps routers old new router c.args.inbound numbers number = line_step routers old new first router numbers line number there (ap (slice_get (neighbors_of router)) total ∙ read) c.loop-i.invariant.fixed c.loop-i.invariant.each seen in
+    record {
+      total = (let a = ap (λ (l : List ℕ). length l) pushed in let b = length_last numbers number in omega arith);
+      each = subst (λ (l : List ℕ). AreKindsOf routers router c.args.inbound new (neighbors_of router) l) (sym pushed) step.each;
+      fixed = step.fixed;
+      kept = λ k kind at. step.kept k kind (c.loop-i.invariant.kept k kind at);
+    }
+
+pub returns-clause-kinds : goal.returns-clause-kinds
+returns-clause-kinds c = λ router at.
+    let routers = c.args.routers.now in
+    let read_router : slice_get routers c.args.at ≡ Some c.index-routers-at.result = slice_get_read routers (length routers) c.args.at c.index-routers-at.result refl c.requires.inside c.index-routers-at.is in
+    let same : c.index-routers-at.result ≡ router = (let both = sym read_router ∙ at in cc) in
+    let total = c.loop-i.invariant.total in
+    let lines = ap (λ (l : List Neighbor). length l) c.neighbors-lines.ensures in
+    subst (λ (r : Router). HasKinds routers r c.args.inbound c.loop-i.table.kinds.items c.loop-i.numbers) same (record { total = omega arith; each = c.loop-i.invariant.each })

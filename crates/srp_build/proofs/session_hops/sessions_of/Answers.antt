@@ -1,0 +1,14 @@
+use Rattle.std.proofs.Common.{◌+◌, List, take, refl, sym, ◌∙◌, subst}
+use Rattle.srp_build.specs.declared.session.Session.{Session}
+use Rattle.srp_build.specs.Kinds.{AreSessionsOf}
+use Rattle.srp_build.proofs.KindMaps.{sessions_next}
+use Rattle.srp_build.proofs.session_hops.sessions_of.Goals as goal
+
+pub loop-hop-preserved : goal.loop-hop-preserved
+loop-hop-preserved c =
+    let routers = c.args.routers.now in
+    let kinds = c.args.kinds.now in
+    let hops = c.args.hops.now in
+    let i = c.loop-hop.hop-index in
+    subst (λ (l : List Session). AreSessionsOf routers kinds (take (i + 1) hops) l) (sym c.in_ok-push.ensures.items)
+    (sessions_next routers kinds c.as_slice-outs.result.now c.as_slice-ins.result.now hops i _ _ c.loop-hop.sessions.items c.in-Some.session c.as_slice-outs.ensures c.as_slice-ins.ensures c.loop-hop-test.true refl c.loop-hop.invariant (sym c.session_of.ensures ∙ c.in-Some.is))

@@ -1,0 +1,60 @@
+ghost use Rattle.std.specs.Prelude.{◌≡◌, IfOk};
+ghost use Rattle.srp_build.specs.LineMaps.{AreMapsOfKinds, number_of, numbered};
+
+use crate::kinds::Kind;
+use crate::lines::map_at;
+use crate::plains::Plains;
+use crate::session::Session;
+use base_kit::{NoMemory, Prefix};
+use cfg_ast::Router;
+use route_maps::Plain;
+use std::alloc::Global;
+
+/// The plain maps of all kinds of lines for a prefix: each map once, and the number of that of each kind.
+#[derive(Drop)]
+pub struct KindMaps {
+    pub maps: Vec<Plain>,
+    pub numbers: Vec<u32>,
+}
+
+/// The maps of the kinds for a prefix.
+pub fn kind_maps(
+    alloc: Global,
+    p: Prefix,
+    routers: &[Router],
+    kinds: &[Kind],
+) -> Result<KindMaps, NoMemory>
+    ensures { IfOk result (λ found. AreMapsOfKinds p routers.now kinds.now found.maps.items found.numbers.items) }
+{
+    let mut plains = Plains::new(alloc);
+    let mut numbers = Vec::new(alloc);
+    for kind in kinds {
+        let first = kind.first;
+        let map = map_at(alloc, p, routers, first.inbound, first.router, first.item)?;
+        numbers.push(plains.number(alloc, map)?)?;
+    }
+    Ok(KindMaps {
+        maps: plains.maps,
+        numbers,
+    })
+}
+
+fn number_of(numbers: &[u32], kind: u32) -> u32
+    ensures { result ≡ number_of numbers.now kind }
+{
+    match numbers.get(kind as usize) {
+        Some(number) => *number,
+        None => 0,
+    }
+}
+
+/// The session by the numbers of its maps, from that by the numbers of the kinds of its lines.
+pub fn numbered(numbers: &[u32], session: &Session) -> Session
+    ensures { result ≡ numbered numbers.now session.now }
+{
+    Session {
+        out: number_of(numbers, session.out),
+        sends: session.sends,
+        into: number_of(numbers, session.into),
+    }
+}

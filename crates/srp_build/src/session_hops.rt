@@ -1,0 +1,56 @@
+ghost use Rattle.std.specs.Prelude.{IfOk};
+ghost use Rattle.srp_build.specs.Kinds.{AreSessionsOf};
+ghost use Rattle.srp_build.specs.Directions.{AreSessionHops};
+
+use crate::hops::Hop;
+use crate::kinds::{Kinds, kinds_of};
+use crate::session::{Session, session_of};
+use base_kit::NoMemory;
+use cfg_ast::Router;
+use std::alloc::Global;
+
+/// The directions of sessions, and what of their maps does not hang on a class.
+#[derive(Drop)]
+pub struct SessionHops {
+    pub hops: Vec<Hop>,
+    pub kinds: Kinds,
+    /// The session of each direction, by the numbers of the kinds of its lines.
+    pub sessions: Vec<Session>,
+}
+
+fn sessions_of(
+    alloc: Global,
+    routers: &[Router],
+    kinds: &Kinds,
+    hops: &[Hop],
+) -> Result<Vec<Session>, NoMemory>
+    ensures { IfOk result (λ sessions. AreSessionsOf routers.now kinds.now hops.now sessions.items) }
+{
+    let outs = kinds.outs.as_slice();
+    let ins = kinds.ins.as_slice();
+    let mut sessions = Vec::new(alloc);
+    for hop in hops {
+        let Some(session) = session_of(routers, outs, ins, hop) else {
+            return Err(NoMemory);
+        };
+        sessions.push(session)?;
+    }
+    Ok(sessions)
+}
+
+/// These directions, with the kinds of the lines at their ends.
+pub fn session_hops(
+    alloc: Global,
+    routers: &[Router],
+    hops: Vec<Hop>,
+) -> Result<SessionHops, NoMemory>
+    ensures { IfOk result (AreSessionHops routers.now hops.items) }
+{
+    let kinds = kinds_of(alloc, routers)?;
+    let sessions = sessions_of(alloc, routers, &kinds, &hops)?;
+    Ok(SessionHops {
+        hops,
+        kinds,
+        sessions,
+    })
+}
