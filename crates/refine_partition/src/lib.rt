@@ -2,9 +2,10 @@
 //!
 //! `coarsest` gives the partition that every admissible one refines, in groups that are numbered by
 //! their least members, and counts its turns: at most two for each router. A turn divides every other
-//! block by the acts of its members' edges into one block. It costs a constant, and a logarithm for each
-//! edge from that block, so `coarsest` is as fast as the blocks that take their turns are small: the
-//! larger pieces take theirs last.
+//! block by the acts of its members' edges into one block. It costs a step for each router listed in that
+//! block, and a logarithm for each edge from it, so `coarsest` is as fast as the blocks that take their
+//! turns are small: the larger pieces take theirs last. `coarsest_over` is the same over a graph whose
+//! edges belong to another.
 //!
 //! `split_by` of a `Splitting` is the same step for callers that split by hand, and its contract pins the
 //! numbers and the order of the blocks after it. It costs as much as there are routers.

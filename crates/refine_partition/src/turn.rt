@@ -1,4 +1,4 @@
-//! A turn of the refinement, which costs what the edges into one block reach.
+//! A turn of the refinement, which goes over the routers listed in one block and their outgoing edges.
 
 ghost use Rattle.std.specs.Prelude.{◌≡◌, ℕ, ◌<◌, ◌+◌, ◌≤◌, IfOk, Vec, length, slice_index_or};
 ghost use Rattle.std.specs.declared.alloc.Global.{Global as TheGlobal};
