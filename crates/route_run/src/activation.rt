@@ -13,7 +13,8 @@ use std::collections::HashSet;
 use std::marker::Model;
 
 /// Activates the routers of a problem, any number of times. It has looked through the problem once, so
-/// that an activation goes over the edges of its router alone.
+/// that an activation goes over the edges of its router alone, and over the paths of the labels behind
+/// them.
 #[derive(Drop)]
 pub struct Runner<'a> {
     alloc: Global,
