@@ -31,11 +31,11 @@ pub record HasOneOfEachAct (problem : Problem) (groups : List ℕ) (g h : ℕ) (
 abbrev pub joins : ℕ → ℕ → Link → Bool
 joins low high link = nat_eq link.low low && nat_eq link.high high
 
--- Between the routers of two groups the network has as many links as there are different acts in that direction,
--- from the one group into the other, that has more of them.
-pub record HasLinksForActs (problem : Problem) (groups : List ℕ) (network : Network) (low high : ℕ) : Type 0 where
+-- Between the routers that stand for two groups the network that is read back has as many links as there are
+-- different acts of the problem in that direction, from the one group into the other, that has more of them.
+pub record HasLinksForActs (problem : Problem) (groups : List ℕ) (read : Network) (low high : ℕ) : Type 0 where
   pub into_low : List Edge
   pub into_high : List Edge
   pub acts_into_low : HasOneOfEachAct problem groups low high into_low
   pub acts_into_high : HasOneOfEachAct problem groups high low into_high
-  pub links : length (filter (joins low high) (links_of network)) ≡ max (length into_low) (length into_high)
+  pub links : length (filter (joins low high) (links_of read)) ≡ max (length into_low) (length into_high)
