@@ -12,7 +12,7 @@ use cfg_ast::{DestClass, Link};
 use cfg_check::Checked;
 use dd_core::Store;
 use net_topology::links;
-use refine_partition::{Partition, coarsest};
+use refine_partition::{GraphView, Partition, coarsest_over};
 use srp_build::build;
 use srp_core::Srp;
 use std::alloc::Global;
@@ -58,16 +58,18 @@ pub fn problem_of_class(
     problem_of(alloc, checked, &links, class, &mut store)
 }
 
-// The coarsest admissible partition, by turns that this ledger counts.
+// The coarsest admissible partition, by turns that this ledger counts. The edges stay in the problem.
 fn counted<L: Ledger>(alloc: Global, problem: &Srp, blank: Blank) -> Result<Partition, NoMemory>
     requires name { blank.name ≡ L.name }
     requires parts { blank.parts ≡ L.parts }
     requires some { 0 < L.parts }
     ensures { IfOk result (λ groups. IsCoarsest problem.now groups) }
 {
-    let graph = problem.graph()?;
+    let colors = problem.colors()?;
+    let _rules = problem.count();
+    let graph = GraphView::over(&colors, problem.edges());
     let mut turns = Steps::<L>::new(blank);
-    let partition = coarsest(alloc, &graph, &mut turns)?;
+    let partition = coarsest_over(alloc, &graph, &mut turns)?;
     Ok(partition)
 }
 
