@@ -6,8 +6,9 @@
 //! preference is written into each permit without one, if it is not 100. For every set of communities
 //! the verdict is that of the router's prefix list followed by its map, and the maps of a checked
 //! network's routers can be printed. `policy_at` gives the same from the places of the router's lists
-//! and maps, which `places_of` makes once for all of its sessions. The module `laws` says what the maps
-//! of both ends of a session import together, and which communities they name.
+//! and maps, which `places_of` makes once for all of its sessions, and `route_map_at` a map itself. The
+//! module `laws` says what the maps of both ends of a session import together, and which communities
+//! they name.
 #![tactic(auto)]
 
 pub mod laws;
@@ -17,4 +18,4 @@ mod places;
 mod tests;
 
 pub use maps::{policy, policy_at};
-pub use places::{Places, places_of};
+pub use places::{Places, places_of, route_map_at};

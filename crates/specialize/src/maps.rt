@@ -8,7 +8,7 @@ ghost use Rattle.specialize.specs.OnePrefix.{own_preference, lists_named, plain_
 ghost use Rattle.specialize.specs.Places.{ArePlacesOf};
 ghost use Rattle.specialize.specs.Printable.{HasPrintableMaps};
 
-use crate::places::{Places, find_community_list, find_map, find_prefix_list, places_of};
+use crate::places::{Places, find_community_list, find_prefix_list, places_of, route_map_at};
 use base_kit::{Aside, List, NoMemory, Prefix, Text};
 use cfg_ast::{Change, CommunityList, MapEntry, NameLine, Named, Prepend, Router};
 use prefix_lists::permits;
@@ -205,7 +205,7 @@ fn entries_for(
     ensures { IfOk result (λ plain. plain ≡ entries_for router.now own p (option_copied map.entry)) }
 {
     match map {
-        Some(name) => match find_map(router, places, name) {
+        Some(name) => match route_map_at(router, places, name) {
             Some(map) => plain_entries(alloc, router, places, own, p, map.entries.as_slice()),
             None => Ok(List::new(alloc)),
         },

@@ -105,7 +105,8 @@ pub(crate) fn find_community_list<'a>(
     )
 }
 
-pub(crate) fn find_map<'a>(router: &'a Router, places: &Places, name: &Text) -> Option<&'a RouteMap>
+/// The route map that the router has under a name, by the places of its lists and maps.
+pub fn route_map_at<'a>(router: &'a Router, places: &Places, name: &Text) -> Option<&'a RouteMap>
     requires { ArePlacesOf router.now places.now }
     ensures { option_copied result ≡ route_map_named router.now name.now }
 {

@@ -1,4 +1,4 @@
-use crate::{places_of, policy, policy_at};
+use crate::{places_of, policy, policy_at, route_map_at};
 use base_kit::{Aside, List, NoMemory, NumSet, Prefix, Text};
 use cfg_ast::{BgpProcess, CommunityLine, CommunityList, MapEntry, NameLine, RouteMap, Router};
 use std::alloc::Global;
@@ -142,8 +142,13 @@ fn the_first_map_of_a_name_is_found(rt: HostRuntime) -> Result<(), NoMemory> {
         let entries = plain.entries.as_slice();
         assert_eq!(rt; entries.len(), 1);
         assert_eq!(rt; entries[0].seq, seq);
+        match route_map_at(&router, &places, &name) {
+            Some(map) => assert_eq!(rt; map.entries.as_slice()[0].seq, seq),
+            None => assert!(rt; false, "no map"),
+        }
     }
     let name = text_of(alloc, "Z")?;
+    assert!(rt; route_map_at(&router, &places, &name).is_none());
     let plain = policy_at(alloc, &router, &places, Some(&name), None, prefix, false)?;
     assert!(rt; plain.entries.as_slice().is_empty());
     Ok(())
