@@ -43,7 +43,7 @@ unfolding changed_or_new
 none_of is_it change new [] none = refl
 none_of is_it change new (x ∷ xs) none = rw (none zero x (omega arith)) (ap (λ ys. x ∷ ys) (none_of is_it change new xs (λ k d lt. none (suc k) d (omega arith))))
 
-all_of : {X : Type 0} (test : X → Bool) (xs : List X) → position test xs ≡ None → length xs ≤ position_or_len test xs
+pub all_of : {X : Type 0} (test : X → Bool) (xs : List X) → position test xs ≡ None → length xs ≤ position_or_len test xs
 all_of test xs none = grind (arith, common_steps, nat_tests)
 
 pub new_last : {X : Type 0} (is_it : X → Bool) (change : X → X) (new : X) (xs : List X) → position is_it xs ≡ None → changed_or_new is_it change new xs ≡ xs ++ new ∷ []

@@ -19,11 +19,9 @@ use Rattle.std.proofs.lemmas.Map.Text.{btree_map_updates_text, btree_set_updates
 use Rattle.base_kit.specs.Prefixes.{Prefix, same_prefix}
 use Rattle.cfg_ast.specs.declared.bgp.NetLine.{NetLine}
 use Rattle.cfg_ast.specs.declared.bgp.Neighbor.{Neighbor}
-use Rattle.cfg_ast.specs.declared.interface.Interface.{Interface}
 use Rattle.cfg_ast.specs.declared.ospf.AreaLine.{AreaLine}
-use Rattle.cfg_ast.specs.text.Reading.{has_interface}
 use Rattle.cfg_ast.specs.text.Stanzas.{same_area_line, has_network, has_neighbor}
-use Rattle.cfg_parse.specs.Indexes.{name_of_interface, HasNames, HasKeys, HasPlaces, HasSeqs, HasAddresses, pair_order, prefix_order, area_order, area_key, prefix_of}
+use Rattle.cfg_parse.specs.Indexes.{HasNames, HasKeys, HasPlaces, HasSeqs, HasAddresses, pair_order, prefix_order, area_order, area_key, prefix_of}
 use Rattle.base_kit.specs.Names.{AreApart}
 
 -- ---- sets
@@ -61,7 +59,7 @@ first_by test y ys x rest true e =
     rw e (sym (ap (λ b. cond b 0 (suc (length ys) + cond (test x) 0 1)) there))
 first_by test y ys x rest false e = rw e (grind (arith, nat_tests, rest))
 
-first_last : {X : Type 0} (test : X → Bool) (xs : List X) (x : X) → position_or_len test (xs ++ x ∷ []) ≡ cond (nat_lt (position_or_len test xs) (length xs)) (position_or_len test xs) (length xs + cond (test x) 0 1)
+pub first_last : {X : Type 0} (test : X → Bool) (xs : List X) (x : X) → position_or_len test (xs ++ x ∷ []) ≡ cond (nat_lt (position_or_len test xs) (length xs)) (position_or_len test xs) (length xs + cond (test x) 0 1)
 first_last test [] x = first_none test x (test x) refl
 first_last test (y ∷ ys) x = first_by test y ys x (first_last test ys x) (test y) refl
 
@@ -77,11 +75,11 @@ position_old test xs x other =
     let longer = length_push xs x in
     grind (arith, nat_tests, first, longer)
 
-place_by : {X : Type 0} (test : X → Bool) (xs : List X) (x : X) (b : Bool) → test x ≡ b → (b ≡ true → position test xs ≡ None) → cond b (Some (length xs)) (position test xs) ≡ position test (xs ++ x ∷ [])
+pub place_by : {X : Type 0} (test : X → Bool) (xs : List X) (x : X) (b : Bool) → test x ≡ b → (b ≡ true → position test xs ≡ None) → cond b (Some (length xs)) (position test xs) ≡ position test (xs ++ x ∷ [])
 place_by test xs x true e new = sym (position_new test xs x (new refl) e)
 place_by test xs x false e new = sym (position_old test xs x e)
 
-bytes_same : (xs ys : List ℕ) → bytes_eq xs ys ≡ true → xs ≡ ys
+pub bytes_same : (xs ys : List ℕ) → bytes_eq xs ys ≡ true → xs ≡ ys
 bytes_same xs ys e = (bytes_eq-Decides xs ys).0 e
 
 pub places_noted : {X Y : Type 0} (name : X → List ℕ) (m n : tree.BTreeMap (String Y) ℕ) (items : List X) (x : X) (key : String Y) → string_bytes key ≡ name x → position (λ y. bytes_eq (name y) (name x)) items ≡ None
@@ -160,10 +158,6 @@ bytes_eq-sym (x ∷ xs) (y ∷ ys) = rw (number_sym x y, bytes_eq-sym xs ys) ref
 pub has_name : {Y : Type 0} (s : sorted.BTreeSet (String Y)) (names : List (List ℕ)) (name : List ℕ) → HasNames (λ n. n) s names → sorted.contains_text s name ≡ list_any (bytes_eq name) names
 has_name s names name has = has name ∙ any_same (λ n. bytes_eq n name) (bytes_eq name) (λ n. bytes_eq-sym n name) names
 
-pub has_named_interface : {Y : Type 0} (s : sorted.BTreeSet (String Y)) (items : List Interface) (name : List ℕ) → HasNames name_of_interface s items → sorted.contains_text s name ≡ has_interface items name
-unfolding has_interface
-has_named_interface s items name has = has name
-
 pub has_area : (s : sorted.BTreeSet (ℕ × ℕ × ℕ)) (areas : List AreaLine) (area : AreaLine) → HasKeys area_order area_key s areas → sorted.contains area_order s (area_key area) ≡ list_any (same_area_line area) areas
 has_area s areas area has = has (area_key area) ∙ any_same (λ x. is_eq (area_order (area_key x) (area_key area))) (same_area_line area) (λ x. same x) areas
   where
@@ -183,11 +177,11 @@ pub has_address : (m : tree.BTreeMap ℕ ℕ) (peers : List Neighbor) (addr : �
 unfolding has_neighbor
 has_address m peers addr has = ap is_some (has addr) ∙ sym (any_some (λ (p : Neighbor). nat_eq p.addr addr) peers)
 
-none_by : (o : Option ℕ) → is_some o ≡ false → o ≡ None
+pub none_by : (o : Option ℕ) → is_some o ≡ false → o ≡ None
 none_by None e = refl
 none_by (Some n) e = absurd (true≢false e)
 
-number_is : (j k : ℕ) → nat_eq j k ≡ true → j ≡ k
+pub number_is : (j k : ℕ) → nat_eq j k ≡ true → j ≡ k
 number_is j k e = grind (arith, nat_tests)
 
 pub addresses_noted : (m n : tree.BTreeMap ℕ ℕ) (peers : List Neighbor) (p : Neighbor) → has_neighbor peers p.addr ≡ false → tree.Updates nat_cmp m n p.addr (Some (length peers)) → HasAddresses m peers → HasAddresses n (peers ++ p ∷ [])

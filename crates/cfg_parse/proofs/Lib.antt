@@ -1,5 +1,6 @@
 pub mod AddedItems
 pub mod BgpLines
+pub mod ByName
 pub mod Changed
 pub mod ChangedNeighbors
 pub mod EmptyHeads

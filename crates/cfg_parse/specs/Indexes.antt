@@ -12,7 +12,6 @@ use Rattle.base_kit.specs.contracts.prefix.PrefixOrd.TheImpl as prefix_ord
 use Rattle.cfg_ast.specs.declared.bgp.NetLine.{NetLine}
 use Rattle.cfg_ast.specs.declared.bgp.Neighbor.{Neighbor}
 use Rattle.cfg_ast.specs.declared.ospf.AreaLine.{AreaLine}
-use Rattle.cfg_ast.specs.declared.interface.Interface.{Interface}
 use Rattle.cfg_ast.specs.declared.policy.PrefixEntry.{PrefixEntry}
 use Rattle.cfg_ast.specs.declared.policy.PrefixList.{PrefixList}
 use Rattle.cfg_ast.specs.declared.policy.CommunityList.{CommunityList}
@@ -20,9 +19,6 @@ use Rattle.cfg_ast.specs.declared.policy.MapEntry.{MapEntry}
 use Rattle.cfg_ast.specs.declared.policy.RouteMap.{RouteMap}
 
 -- ---- the keys of the items
-
-abbrev pub name_of_interface : Interface → List ℕ
-name_of_interface i = i.name
 
 abbrev pub name_of_prefix_list : PrefixList → List ℕ
 name_of_prefix_list l = l.name

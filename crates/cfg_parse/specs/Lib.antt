@@ -1,7 +1,9 @@
+pub mod ByName
 pub mod FormFaults
 pub mod InOrder
 pub mod Indexes
 pub mod MemberSteps
+pub mod NameHash
 pub mod Neighbors
 pub mod Open
 pub mod Rest

@@ -102,7 +102,7 @@ pub(crate) fn with_closed(alloc: Global, draft: Draft) -> Result<Draft, NoMemory
     match stanza {
         Open::Closed => {}
         Open::Ignored => {}
-        Open::Interface(interface) => interfaces = interfaces.with(alloc, interface)?,
+        Open::Interface(interface) => interfaces.add(alloc, interface)?,
         Open::Bgp(process) => bgp = Aside::some(alloc, process.into_process())?,
         Open::Ospf(process) => ospf = Aside::some(alloc, process.into_process())?,
         Open::Entry(name, entry) => route_maps = route_maps.with_entry(alloc, name, entry)?,

@@ -1,31 +1,33 @@
-ghost use Rattle.std.specs.Prelude.{◌≡◌, ◌∷◌, ◌++◌, [], IfOk};
+ghost use Rattle.std.specs.Prelude.{◌≡◌, ◌∷◌, ◌++◌, [], OnOk};
 ghost use Rattle.cfg_ast.specs.text.Reading.{has_interface};
 
-use crate::keys::key_of;
-use crate::room::pushed;
+use crate::by_name::{ByName, HasName};
 use base_kit::{List, NoMemory};
 use cfg_ast::Interface;
 use std::alloc::Global;
-use std::collections::BTreeSet;
 use std::marker::Model;
 
-/// The interfaces of a router, with the set of their names.
+impl HasName for Interface {
+    ghost name = { λ i. i.name };
+
+    fn name(&self) -> &str {
+        self.name.as_str()
+    }
+}
+
+/// The interfaces of a router, found by their names.
 #[derive(Drop)]
 pub(crate) struct Interfaces {
-    items: List<Interface>,
-    names: BTreeSet<String>,
+    items: ByName<Interface>,
 }
 
 impl Model for Interfaces {
     ghost use Rattle.std.specs.Prelude.{List};
     ghost use Rattle.cfg_ast.specs.declared.interface.Interface.{Interface};
-    ghost use Rattle.cfg_parse.specs.Indexes.{HasNames, name_of_interface};
 
     ghost Value = { List Interface };
 
     ghost view = { λ a. a.items };
-
-    ghost invariant = { λ a. HasNames name_of_interface a.names a.items };
 }
 
 impl Interfaces {
@@ -33,32 +35,28 @@ impl Interfaces {
         ensures { result ≡ [] }
     {
         Interfaces {
-            items: List::new(alloc),
-            names: BTreeSet::new(alloc),
+            items: ByName::new(alloc),
         }
     }
 
     /// Whether one of them has the name.
+    #[tactic(auto, unfolding(cfg_ast::specs::text::Reading::has_interface))]
     pub(crate) fn has(&self, name: &str) -> bool
         ensures { result ≡ has_interface self.now name.now }
     {
-        self.names.contains(name)
+        self.items.has(name)
     }
 
-    /// Those, and another one behind them.
-    pub(crate) fn with(self, alloc: Global, interface: Interface) -> Result<Interfaces, NoMemory>
-        ensures { IfOk result (λ all. all ≡ self ++ interface ∷ []) }
+    /// Puts another one behind them.
+    pub(crate) fn add(&mut self, alloc: Global, interface: Interface) -> Result<(), NoMemory>
+        ensures { OnOk result (self.new ≡ self.old ++ interface ∷ []) }
     {
-        let Interfaces { items, mut names } = self;
-        names.insert(key_of(alloc, interface.name.as_str())?)?;
-        let items = pushed(items, interface)?;
-        Ok(Interfaces { items, names })
+        self.items.push(alloc, interface)
     }
 
     pub(crate) fn into_list(self) -> List<Interface>
         ensures { result ≡ self }
     {
-        let Interfaces { items, .. } = self;
-        items
+        self.items.into_list()
     }
 }

@@ -10,6 +10,7 @@
 
 mod areas;
 mod bgp;
+mod by_name;
 mod community_lists;
 mod draft;
 mod end_line;
@@ -20,6 +21,7 @@ mod interfaces;
 mod keys;
 pub mod laws;
 mod members;
+mod name_hash;
 mod names;
 mod neighbors;
 mod networks;
