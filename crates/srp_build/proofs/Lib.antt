@@ -19,6 +19,7 @@ mod KindMaps
 mod LineKinds
 mod LinkEnds
 mod LinkPlaces
+mod ListPlaces
 mod LoneMarks
 mod MapsOfClass
 mod NoClasses

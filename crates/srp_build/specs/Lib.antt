@@ -14,6 +14,7 @@ pub mod Kinds
 pub mod Laws
 pub mod LineMaps
 pub mod Lines
+pub mod ListPlaces
 pub mod Lone
 pub mod Ospf
 pub mod Plains

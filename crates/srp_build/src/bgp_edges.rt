@@ -5,6 +5,7 @@ ghost use Rattle.srp_build.specs.BgpEdges.{originates, IsInside, AreInside, IsSe
 ghost use Rattle.srp_build.specs.Kinds.{AreSessionsOf};
 ghost use Rattle.srp_build.specs.LineMaps.{LineMaps, line_maps};
 ghost use Rattle.srp_build.specs.Lines.{act_of_hop};
+ghost use Rattle.srp_build.specs.ListPlaces.{HavePlaces};
 ghost use Rattle.srp_build.specs.Sessions.{AreRight, AreMapsWithin};
 
 use crate::acts::{Acts, BgpAct};
@@ -18,6 +19,7 @@ use base_kit::{Edge, List, NoMemory, Prefix};
 use cfg_ast::Router;
 use dd_core::Store;
 use dd_core::laws::growth_adds_up;
+use specialize::Places;
 use srp_core::{Act, Route};
 use std::alloc::Global;
 
@@ -124,13 +126,15 @@ pub fn written_acts(
     alloc: Global,
     p: Prefix,
     routers: &[Router],
+    places: &[Places],
     acts: &[BgpAct],
 ) -> Result<List<Act>, NoMemory>
+    requires { HavePlaces routers.now places.now }
     ensures { IfOk result (λ written. written ≡ map (λ (act : BgpAct). act_of_hop p routers.now act.first) acts.now) }
 {
     let mut written = List::new(alloc);
     for act in acts {
-        written.push(act_of_hop(alloc, p, routers, &act.first)?)?;
+        written.push(act_of_hop(alloc, p, routers, places, &act.first)?)?;
     }
     Ok(written)
 }

@@ -46,17 +46,18 @@ pub fn bgp_problem(
     in_maps_add_nothing();
     maps_stay_within();
     let routers = net.network().routers.as_slice();
+    let places = directions.places.as_slice();
     let Some(p) = first_prefix(class) else {
         return Err(NoMemory);
     };
     let names = names_of(alloc, routers)?;
     let numbers = numbers_of(alloc, routers)?;
     let init = starts_of(alloc, routers, class.origins.as_slice())?;
-    let maps = kind_maps(alloc, p, routers, &directions.kinds.kinds)?;
+    let maps = kind_maps(alloc, p, routers, places, &directions.kinds.kinds)?;
     let found = bgp_edges(alloc, store, init.as_slice(), directions, &maps)?;
     let edges = found.edges.as_slice();
     let lone = lone_of(alloc, store, &found.acts.acts, routers.len(), edges)?;
-    let acts = written_acts(alloc, p, routers, &found.acts.acts)?;
+    let acts = written_acts(alloc, p, routers, places, &found.acts.acts)?;
     let problem = Srp::new(
         alloc,
         Protocol::Bgp,

@@ -1,22 +1,13 @@
-ghost use Rattle.std.specs.Prelude.{◌≡◌, true, option_copied, is_none};
+ghost use Rattle.std.specs.Prelude.{◌≡◌, true, is_none};
 ghost use Rattle.std.specs.List.{list_all};
 ghost use Rattle.cfg_ast.specs.declared.policy.MapEntry.{MapEntry};
-ghost use Rattle.cfg_ast.specs.meaning.Policy.{route_map_named};
+ghost use Rattle.specialize.specs.Places.{ArePlacesOf};
 ghost use Rattle.srp_build.specs.Kinds.{IsFixed, names_no_list};
 
 use crate::lines::{list_named, map_named};
 use base_kit::Text;
-use cfg_ast::{MapEntry, Neighbor, RouteMap, Router};
-
-fn find_map<'a>(router: &'a Router, name: &Text) -> Option<&'a RouteMap>
-    ensures { option_copied result ≡ route_map_named router.now name.now }
-{
-    router
-        .route_maps
-        .as_slice()
-        .iter()
-        .find(|map| map.name.as_str() == name.as_str())
-}
+use cfg_ast::{MapEntry, Neighbor, Router};
+use specialize::{Places, route_map_at};
 
 fn names_no_list(entries: &[MapEntry]) -> bool
     ensures { result ≡ list_all (λ (entry : MapEntry). is_none entry.prefixes) entries.now }
@@ -24,10 +15,11 @@ fn names_no_list(entries: &[MapEntry]) -> bool
     entries.iter().all(|entry| !entry.prefixes.is_some())
 }
 
-fn is_free(router: &Router, name: &Text) -> bool
+fn is_free(router: &Router, places: &Places, name: &Text) -> bool
+    requires { ArePlacesOf router.now places.now }
     ensures { result ≡ names_no_list router.now name.now }
 {
-    match find_map(router, name) {
+    match route_map_at(router, places, name) {
         Some(map) => names_no_list(map.entries.as_slice()),
         None => true,
     }
@@ -35,14 +27,15 @@ fn is_free(router: &Router, name: &Text) -> bool
 
 /// Whether the map of a line is the same for every prefix, as it is where neither the line nor its map
 /// names a prefix list.
-pub fn is_fixed(router: &Router, inbound: bool, line: &Neighbor) -> bool
+pub fn is_fixed(router: &Router, places: &Places, inbound: bool, line: &Neighbor) -> bool
+    requires { ArePlacesOf router.now places.now }
     ensures { result ≡ true → IsFixed router.now inbound line.now }
 {
     if list_named(inbound, line).is_some() {
         return false;
     }
     match map_named(inbound, line) {
-        Some(named) => is_free(router, &named.name),
+        Some(named) => is_free(router, places, &named.name),
         None => true,
     }
 }

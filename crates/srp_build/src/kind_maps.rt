@@ -1,5 +1,6 @@
 ghost use Rattle.std.specs.Prelude.{◌≡◌, IfOk};
 ghost use Rattle.srp_build.specs.LineMaps.{AreMapsOfKinds, number_of, numbered};
+ghost use Rattle.srp_build.specs.ListPlaces.{HavePlaces};
 
 use crate::kinds::Kind;
 use crate::lines::map_at;
@@ -8,6 +9,7 @@ use crate::session::Session;
 use base_kit::{NoMemory, Prefix};
 use cfg_ast::Router;
 use route_maps::Plain;
+use specialize::Places;
 use std::alloc::Global;
 
 /// The plain maps of all kinds of lines for a prefix: each map once, and the number of that of each kind.
@@ -22,15 +24,25 @@ pub fn kind_maps(
     alloc: Global,
     p: Prefix,
     routers: &[Router],
+    places: &[Places],
     kinds: &[Kind],
 ) -> Result<KindMaps, NoMemory>
+    requires { HavePlaces routers.now places.now }
     ensures { IfOk result (λ found. AreMapsOfKinds p routers.now kinds.now found.maps.items found.numbers.items) }
 {
     let mut plains = Plains::new(alloc);
     let mut numbers = Vec::new(alloc);
     for kind in kinds {
         let first = kind.first;
-        let map = map_at(alloc, p, routers, first.inbound, first.router, first.item)?;
+        let map = map_at(
+            alloc,
+            p,
+            routers,
+            places,
+            first.inbound,
+            first.router,
+            first.item,
+        )?;
         numbers.push(plains.number(alloc, map)?)?;
     }
     Ok(KindMaps {

@@ -1,6 +1,8 @@
 ghost use Rattle.std.specs.Prelude.{◌≡◌, ◌<◌, [], true, Some, IfOk, OnOk, IfSome, length, slice_get};
 ghost use Rattle.cfg_ast.specs.declared.network.Router.{Router};
+ghost use Rattle.specialize.specs.Places.{ArePlacesOf};
 ghost use Rattle.srp_build.specs.Kinds.{AreFixed, AreKinds, HasFixed, HasKinds, HaveKinds, IsFixedNumber, IsNumbered, IsSeenOrNumbered, KindsKept};
+ghost use Rattle.srp_build.specs.ListPlaces.{HavePlaces};
 
 use crate::fixed::is_fixed;
 use crate::index::{Index, numbers_at, push_at};
@@ -12,6 +14,7 @@ use base_kit::{List, NoMemory, Prefix};
 use cfg_ast::{Neighbor, Router};
 use route_maps::laws::same_map_says_the_same;
 use route_maps::{Plain, same_map};
+use specialize::Places;
 use std::alloc::Global;
 use std::collections::HashMap;
 
@@ -108,13 +111,15 @@ impl KindTable {
         alloc: Global,
         first: LinePlace,
         router: &Router,
+        places: &Places,
         line: &Neighbor,
     ) -> Result<u32, NoMemory>
+        requires { ArePlacesOf router.now places.now }
         ensures { IfOk result (IsNumbered self.old.kinds.items self.new.kinds.items first router.now line.now) }
     {
-        if is_fixed(router, first.inbound, line) {
+        if is_fixed(router, places, first.inbound, line) {
             let any = Prefix::new(0, 0);
-            let map = map_of_line(alloc, any, router, first.inbound, line)?;
+            let map = map_of_line(alloc, any, router, places, first.inbound, line)?;
             return self.number_fixed(alloc, first, map);
         }
         let number = place(self.kinds.len())?;
@@ -130,9 +135,11 @@ fn kind_of_line(
     seen: &mut Seen,
     first: LinePlace,
     router: &Router,
+    places: &Places,
     numbers: &[u32],
     line: &Neighbor,
 ) -> Result<u32, NoMemory>
+    requires { ArePlacesOf router.now places.now }
     ensures { IfOk result (IsSeenOrNumbered table.old.kinds.items table.new.kinds.items first router.now numbers.now line.now) }
 {
     let lines = neighbors(router);
@@ -140,7 +147,7 @@ fn kind_of_line(
     if let Some(number) = known {
         return Ok(number);
     }
-    table.number(alloc, first, router, line)
+    table.number(alloc, first, router, places, line)
 }
 
 // The numbers of the kinds of the lines of the router at a place, inbound or outbound.
@@ -148,9 +155,11 @@ fn kinds_of_router(
     alloc: Global,
     table: &mut KindTable,
     routers: &[Router],
+    places: &[Places],
     at: usize,
     inbound: bool,
 ) -> Result<List<u32>, NoMemory>
+    requires places { HavePlaces routers.now places.now }
     requires inside { at < length routers.now }
     requires fixed { AreFixed routers.now table.old.kinds.items }
     ensures fixed { OnOk result (AreFixed routers.now table.new.kinds.items) }
@@ -158,6 +167,7 @@ fn kinds_of_router(
     ensures kinds { IfOk result (λ numbers. (router : Router) → slice_get routers.now at ≡ Some router → HasKinds routers.now router inbound table.new.kinds.items numbers) }
 {
     let router = &routers[at];
+    let own = &places[at];
     let lines = neighbors(router);
     let router_place = place(at)?;
     let mut seen = Seen::new(alloc);
@@ -170,7 +180,7 @@ fn kinds_of_router(
         };
         let line = &lines[i];
         let before = numbers.as_slice();
-        let number = kind_of_line(alloc, table, &mut seen, first, router, before, line)?;
+        let number = kind_of_line(alloc, table, &mut seen, first, router, own, before, line)?;
         numbers.push(number)?;
     }
     Ok(numbers)
@@ -181,28 +191,31 @@ fn kinds_by_router(
     alloc: Global,
     table: &mut KindTable,
     routers: &[Router],
+    places: &[Places],
     inbound: bool,
 ) -> Result<List<List<u32>>, NoMemory>
-    requires { AreFixed routers.now table.old.kinds.items }
+    requires places { HavePlaces routers.now places.now }
+    requires fixed { AreFixed routers.now table.old.kinds.items }
     ensures fixed { OnOk result (AreFixed routers.now table.new.kinds.items) }
     ensures kept { OnOk result (KindsKept table.old.kinds.items table.new.kinds.items) }
     ensures kinds { IfOk result (HaveKinds routers.now inbound table.new.kinds.items routers.now) }
 {
     let mut by_router = List::new(alloc);
     for at in 0..routers.len() {
-        let numbers = kinds_of_router(alloc, table, routers, at, inbound)?;
+        let numbers = kinds_of_router(alloc, table, routers, places, at, inbound)?;
         by_router.push(numbers)?;
     }
     Ok(by_router)
 }
 
-/// The kinds of all neighbour lines of the routers.
-pub fn kinds_of(alloc: Global, routers: &[Router]) -> Result<Kinds, NoMemory>
+/// The kinds of all neighbour lines of the routers, by the places of their lists and maps.
+pub fn kinds_of(alloc: Global, routers: &[Router], places: &[Places]) -> Result<Kinds, NoMemory>
+    requires { HavePlaces routers.now places.now }
     ensures { IfOk result (AreKinds routers.now) }
 {
     let mut table = KindTable::new(alloc);
-    let outs = kinds_by_router(alloc, &mut table, routers, false)?;
-    let ins = kinds_by_router(alloc, &mut table, routers, true)?;
+    let outs = kinds_by_router(alloc, &mut table, routers, places, false)?;
+    let ins = kinds_by_router(alloc, &mut table, routers, places, true)?;
     Ok(Kinds {
         kinds: table.kinds,
         outs,

@@ -1,13 +1,15 @@
 ghost use Rattle.std.specs.Prelude.{◌≡◌, IfOk, option_copied};
 ghost use Rattle.cfg_ast.specs.meaning.Policy.{name_of};
 ghost use Rattle.cfg_ast.specs.meaning.Topology.{neighbors_of};
+ghost use Rattle.specialize.specs.Places.{ArePlacesOf};
 ghost use Rattle.srp_build.specs.Lines.{map_named, list_named, map_of_line, closed, map_at, sends_at, act_of_hop};
+ghost use Rattle.srp_build.specs.ListPlaces.{HavePlaces};
 
 use crate::hops::Hop;
 use base_kit::{List, NoMemory, Prefix, Text};
 use cfg_ast::{Named, Neighbor, Router};
 use route_maps::Plain;
-use specialize::policy;
+use specialize::{Places, policy_at};
 use srp_core::Act;
 use std::alloc::Global;
 
@@ -48,19 +50,22 @@ fn name_of(named: &Option<Named>) -> Option<&Text>
     }
 }
 
-/// The plain map of a line for a prefix, inbound or outbound.
+/// The plain map of a line for a prefix, inbound or outbound, by the places of its router's lists and
+/// maps.
 pub fn map_of_line(
     alloc: Global,
     p: Prefix,
     router: &Router,
+    places: &Places,
     inbound: bool,
     line: &Neighbor,
 ) -> Result<Plain, NoMemory>
+    requires { ArePlacesOf router.now places.now }
     ensures { IfOk result (λ plain. plain ≡ map_of_line p router.now inbound line.now) }
 {
     let map = name_of(map_named(inbound, line));
     let list = name_of(list_named(inbound, line));
-    let plain = policy(alloc, router, map, list, p, inbound)?;
+    let plain = policy_at(alloc, router, places, map, list, p, inbound)?;
     Ok(plain)
 }
 
@@ -72,25 +77,30 @@ fn closed(alloc: Global) -> Plain
     }
 }
 
-/// The plain map of the line at a place of a router for a prefix, inbound or outbound. Where there is no
-/// line, it denies all.
+/// The plain map of the line at a place of a router for a prefix, inbound or outbound, by the places of
+/// all routers' lists and maps. Where there is no line, it denies all.
 pub fn map_at(
     alloc: Global,
     p: Prefix,
     routers: &[Router],
+    places: &[Places],
     inbound: bool,
-    router: u32,
+    at: u32,
     item: u32,
 ) -> Result<Plain, NoMemory>
-    ensures { IfOk result (λ plain. plain ≡ map_at p routers.now inbound router item) }
+    requires { HavePlaces routers.now places.now }
+    ensures { IfOk result (λ plain. plain ≡ map_at p routers.now inbound at item) }
 {
-    let Some(router) = routers.get(router as usize) else {
+    let Some(router) = routers.get(at as usize) else {
+        return Ok(closed(alloc));
+    };
+    let Some(own) = places.get(at as usize) else {
         return Ok(closed(alloc));
     };
     let Some(line) = neighbors(router).get(item as usize) else {
         return Ok(closed(alloc));
     };
-    map_of_line(alloc, p, router, inbound, line)
+    map_of_line(alloc, p, router, own, inbound, line)
 }
 
 /// Whether the line at a place of a router sends communities.
@@ -107,11 +117,34 @@ pub fn sends_at(routers: &[Router], router: u32, item: u32) -> bool
 }
 
 /// What the importer takes in a direction: the maps of the lines at both ends.
-pub fn act_of_hop(alloc: Global, p: Prefix, routers: &[Router], hop: &Hop) -> Result<Act, NoMemory>
+pub fn act_of_hop(
+    alloc: Global,
+    p: Prefix,
+    routers: &[Router],
+    places: &[Places],
+    hop: &Hop,
+) -> Result<Act, NoMemory>
+    requires { HavePlaces routers.now places.now }
     ensures { IfOk result (λ act. act ≡ act_of_hop p routers.now hop.now) }
 {
-    let out = map_at(alloc, p, routers, false, hop.exporter, hop.exporter_item)?;
+    let out = map_at(
+        alloc,
+        p,
+        routers,
+        places,
+        false,
+        hop.exporter,
+        hop.exporter_item,
+    )?;
     let sends = sends_at(routers, hop.exporter, hop.exporter_item);
-    let into = map_at(alloc, p, routers, true, hop.importer, hop.importer_item)?;
+    let into = map_at(
+        alloc,
+        p,
+        routers,
+        places,
+        true,
+        hop.importer,
+        hop.importer_item,
+    )?;
     Ok(Act::Import { out, sends, into })
 }

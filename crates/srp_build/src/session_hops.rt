@@ -1,21 +1,35 @@
 ghost use Rattle.std.specs.Prelude.{IfOk};
 ghost use Rattle.srp_build.specs.Kinds.{AreSessionsOf};
 ghost use Rattle.srp_build.specs.Directions.{AreSessionHops};
+ghost use Rattle.srp_build.specs.ListPlaces.{HavePlaces};
 
 use crate::hops::Hop;
 use crate::kinds::{Kinds, kinds_of};
 use crate::session::{Session, session_of};
 use base_kit::NoMemory;
 use cfg_ast::Router;
+use specialize::{Places, places_of};
 use std::alloc::Global;
 
 /// The directions of sessions, and what of their maps does not hang on a class.
 #[derive(Drop)]
 pub struct SessionHops {
     pub hops: Vec<Hop>,
+    /// The places of each router's lists and maps.
+    pub places: Vec<Places>,
     pub kinds: Kinds,
     /// The session of each direction, by the numbers of the kinds of its lines.
     pub sessions: Vec<Session>,
+}
+
+fn places_by_router(alloc: Global, routers: &[Router]) -> Result<Vec<Places>, NoMemory>
+    ensures { IfOk result (λ places. HavePlaces routers.now places.items) }
+{
+    let mut places = Vec::new(alloc);
+    for router in routers {
+        places.push(places_of(alloc, router)?)?;
+    }
+    Ok(places)
 }
 
 fn sessions_of(
@@ -46,10 +60,12 @@ pub fn session_hops(
 ) -> Result<SessionHops, NoMemory>
     ensures { IfOk result (AreSessionHops routers.now hops.items) }
 {
-    let kinds = kinds_of(alloc, routers)?;
+    let places = places_by_router(alloc, routers)?;
+    let kinds = kinds_of(alloc, routers, places.as_slice())?;
     let sessions = sessions_of(alloc, routers, &kinds, &hops)?;
     Ok(SessionHops {
         hops,
+        places,
         kinds,
         sessions,
     })

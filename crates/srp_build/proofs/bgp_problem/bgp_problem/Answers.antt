@@ -5,6 +5,7 @@ use Rattle.base_kit.specs.Prefixes.{Prefix}
 use Rattle.cfg_ast.specs.declared.network.Network.{Network}
 use Rattle.cfg_ast.specs.declared.network.Router.{Router}
 use Rattle.cfg_ast.specs.meaning.RouterFaults.{protocol_of}
+use Rattle.specialize.specs.declared.places.Places.{Places}
 use Rattle.srp_core.specs.ProblemOf.{as_number_of}
 use Rattle.srp_build.specs.declared.acts.BgpAct.{BgpAct}
 use Rattle.srp_build.specs.declared.hops.Hop.{Hop}
@@ -15,6 +16,7 @@ use Rattle.srp_build.specs.Directions.{AreSessionHops, directions_of}
 use Rattle.srp_build.specs.Kinds.{AreSessionsOf}
 use Rattle.srp_build.specs.LineMaps.{AreLineMaps, AreMapsOfKinds, line_maps}
 use Rattle.srp_build.specs.Lines.{act_of_hop}
+use Rattle.srp_build.specs.ListPlaces.{HavePlaces}
 use Rattle.srp_build.specs.Lone.{AreLone}
 use Rattle.srp_build.specs.Starts.{starts_from}
 use Rattle.srp_build.proofs.BgpCall.{IsCall, first_in, sorted_edges, importers_inside, acts_inside, rules_kept, is_built}
@@ -31,6 +33,24 @@ lines_are n p routers kinds found maps routers_are kinds_are are of_kinds =
     line_maps_are p n.routers found.kinds maps are.kinds
     (subst (λ (k : List Kind). AreMapsOfKinds p n.routers k maps.maps.items maps.numbers.items) kinds_are
     (subst (λ (r : List Router). AreMapsOfKinds p r kinds maps.maps.items maps.numbers.items) routers_are of_kinds))
+
+have_places : (n : Network) (routers : List Router) (places : List Places) (found : SessionHops) → routers ≡ n.routers → places ≡ found.places.items → AreSessionHops n.routers (directions_of n) found → HavePlaces routers places
+have_places n routers places found routers_are places_are are =
+    subst (λ (r : List Router). HavePlaces r places) (sym routers_are) (subst (λ (l : List Places). HavePlaces n.routers l) (sym places_are) are.places)
+
+pub kind_maps-requires : goal.kind_maps-requires
+kind_maps-requires c =
+    let n = c.args.net.now.network in
+    let same = c.network.ensures.same in
+    let routers_are = c.as_slice-routers.ensures ∙ ap (λ (m : Network). m.routers) same in
+    have_places n c.as_slice-routers.result.now c.as_slice-places.result.now c.args.directions.now routers_are c.as_slice-places.ensures.value c.requires.directions.hops
+
+pub written_acts-requires : goal.written_acts-requires
+written_acts-requires c =
+    let n = c.args.net.now.network in
+    let same = c.network.ensures.same in
+    let routers_are = c.as_slice-routers.ensures ∙ ap (λ (m : Network). m.routers) same in
+    have_places n c.as_slice-routers.result.now c.as_slice-places.result.now c.args.directions.now routers_are c.as_slice-places.ensures.value c.requires.directions.hops
 
 pub bgp_edges-requires-clause-total : goal.bgp_edges-requires-clause-total
 bgp_edges-requires-clause-total c = (sessions_are c.args.net.now.network c.args.directions.now c.requires.directions.hops).total

@@ -3,8 +3,8 @@ use Rattle.srp_build.specs.declared.kinds.Kind.{Kind}
 use Rattle.srp_build.proofs.LineKinds.{have_kept}
 use Rattle.srp_build.proofs.kinds.kinds_of.Goals as goal
 
-pub kinds_by_router-requires : goal.kinds_by_router-requires
-kinds_by_router-requires c = λ number kind plain at is p. (let none = ap (λ (l : List Kind). slice_get l number) c.new-table.ensures in absurd cc)
+pub kinds_by_router-requires-clause-fixed : goal.kinds_by_router-requires-clause-fixed
+kinds_by_router-requires-clause-fixed c = λ number kind plain at is p. (let none = ap (λ (l : List Kind). slice_get l number) c.new-table.ensures in absurd cc)
 
 pub returns : goal.returns
 returns c =
