@@ -5,7 +5,7 @@ use crate::NoMemory;
 use std::alloc::Global;
 use std::marker::Model;
 
-/// A value that most of its owners lack. It lies behind a pointer, so that an owner without it stays
+/// A value that many of its owners lack. It lies behind a pointer, so that an owner without it stays
 /// small.
 #[derive(Drop)]
 pub struct Aside<T> {

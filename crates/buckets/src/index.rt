@@ -8,7 +8,7 @@ use std::collections::HashMap;
 /// The items of each pair.
 pub type Index<T> = HashMap<(u32, u32), Vec<T>>;
 
-/// Puts the item last at that pair.
+/// Puts the item last at that pair. Where memory runs out, the items of the pair may be lost.
 pub fn push_at<T>(
     alloc: Global,
     index: &mut Index<T>,

@@ -28,13 +28,16 @@ fn colors(srp: &Srp) -> Result<Vec<u32>, NoMemory>
 }
 
 impl Srp {
-    /// The colors of the graph of the problem, one for each router, for whoever has no need of its
-    /// edges twice: a graph with these colors and the problem's routers and edges is one of the problem.
+    /// One color for each router: lone routers have colors of their own, and the others equal colors
+    /// exactly where their initial routes are equal or both are none. With the problem's routers and
+    /// edges they are the graph of the problem, which `graph` gives with a copy of the edges.
     pub fn colors(&self) -> Result<Vec<u32>, NoMemory>
+        ensures colors { IfOk result (λ colors. AreColors self.now colors.items) }
         ensures total { IfOk result (λ colors. length colors.items ≡ count self.now) }
         ensures graph { IfOk result (λ colors. (graph : ActGraph) → graph.count ≡ count self.now → graph.colors ≡ colors.items → graph.edges ≡ self.now.edges → IsGraphOf self.now graph) }
         ensures coarsest { IfOk result (λ colors. (graph : ActGraph) → graph.count ≡ count self.now → graph.colors ≡ colors.items → graph.edges ≡ self.now.edges → (groups : List ℕ) → IsCoarsest self.now groups ↔ partition.IsCoarsestOn graph groups) }
     {
+        // The count's contract says that this is a problem, which the last two clauses rest on.
         let _rules = self.count();
         let colors = colors(self)?;
         Ok(colors)
