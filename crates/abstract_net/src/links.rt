@@ -1,15 +1,15 @@
-ghost use Rattle.std.specs.Prelude.{◌≡◌, ℕ, length, IfOk};
+ghost use Rattle.std.specs.Prelude.{◌≡◌, ℕ, ◌<◌, ◌^◌, All, length, IfOk};
 ghost use Rattle.base_kit.specs.Partition.{IsNumbered};
 ghost use Rattle.abstract_net.specs.Links.{quotient_links};
 
 use crate::qlink::Quotient;
 use crate::runs::links_of;
 use crate::steps::sorted_steps;
-use base_kit::{ActGraph, NoMemory};
+use base_kit::{Edge, NoMemory};
 use refine_partition::Partition;
 use std::alloc::Global;
 
-/// The links between the groups of a partition of the routers of a graph.
+/// The links between the groups of a partition of routers, from the edges between these.
 ///
 /// They go by their lower and then their higher group. Between two groups the first link has the first
 /// act of each direction, the second the second, and so on: the different acts of a direction go by
@@ -17,11 +17,13 @@ use std::alloc::Global;
 ///
 /// # Errors
 /// Out of memory.
-pub fn quotient(alloc: Global, graph: &ActGraph, p: &Partition) -> Result<Quotient, NoMemory>
-    requires total { length p.now ≡ graph.now.count }
-    ensures links { IfOk result (λ q. (count : ℕ) → IsNumbered p.now count → q.links ≡ quotient_links graph.now.edges p.now count) }
+pub fn quotient(alloc: Global, edges: &[Edge], p: &Partition) -> Result<Quotient, NoMemory>
+    requires few { length edges.now < 2 ^ 32 }
+    requires importers { All (λ e. e.importer < length p.now) edges.now }
+    requires exporters { All (λ e. e.exporter < length p.now) edges.now }
+    ensures links { IfOk result (λ q. (count : ℕ) → IsNumbered p.now count → q.links ≡ quotient_links edges.now p.now count) }
 {
-    let steps = sorted_steps(alloc, graph, p)?;
+    let steps = sorted_steps(alloc, edges, p)?;
     let links = links_of(alloc, &steps)?;
     Ok(Quotient { links })
 }

@@ -5,7 +5,7 @@ ghost use Rattle.by_key.specs.ByKey.{by_key};
 ghost use Rattle.abstract_net.specs.Links.{link_bound};
 ghost use Rattle.abstract_net.specs.GroupSteps.{step_of, steps_of, low_of, high_of, link_of, sorted_steps};
 
-use base_kit::{ActGraph, Edge, NoMemory};
+use base_kit::{Edge, NoMemory};
 use refine_partition::Partition;
 use std::alloc::Global;
 
@@ -85,11 +85,13 @@ fn sort_by_low(steps: &mut Vec<Step>) -> Result<(), NoMemory>
 }
 
 /// The edges between groups, by their lower group, then their higher group, then their links.
-pub fn sorted_steps(alloc: Global, graph: &ActGraph, p: &Partition) -> Result<Vec<Step>, NoMemory>
-    requires { length p.now ≡ graph.now.count }
-    ensures { IfOk result (λ steps. (count : ℕ) → IsNumbered p.now count → steps.items ≡ sorted_steps graph.now.edges p.now count) }
+pub fn sorted_steps(alloc: Global, edges: &[Edge], p: &Partition) -> Result<Vec<Step>, NoMemory>
+    requires few { length edges.now < 2 ^ 32 }
+    requires importers { All (λ e. e.importer < length p.now) edges.now }
+    requires exporters { All (λ e. e.exporter < length p.now) edges.now }
+    ensures { IfOk result (λ steps. (count : ℕ) → IsNumbered p.now count → steps.items ≡ sorted_steps edges.now p.now count) }
 {
-    let mut steps = steps_of(alloc, graph.edges.as_slice(), p)?;
+    let mut steps = steps_of(alloc, edges, p)?;
     sort_by_link(&mut steps)?;
     sort_by_high(&mut steps)?;
     sort_by_low(&mut steps)?;

@@ -1,39 +1,19 @@
-ghost use Rattle.std.specs.Prelude.{◌≡◌, ℕ, IfOk, Contains, length};
-ghost use Rattle.base_kit.specs.Partition.{IsNumbered};
+ghost use Rattle.std.specs.Prelude.{◌≡◌, IfOk, Contains};
 ghost use Rattle.cfg_ast.specs.meaning.Classes.{classes_of};
-ghost use Rattle.abstract_net.specs.Links.{quotient_links};
-ghost use Rattle.srp_core.specs.Problem.{count};
 ghost use Rattle.answer_groups.specs.Compressing.{IsEmittedFor, IsTextOf};
 ghost use Rattle.answer_groups.specs.CompressText.{pool_overlap, IsCompressOf, IsCompressAnswer};
 ghost use Rattle.answer_kit.specs.Outcome.{refused};
 ghost use Rattle.answer_kit.specs.Replies.{Answers, Only};
 
-use abstract_net::{Quotient, quotient};
 use answer_kit::{Reply, class_at, coarsest_of, no_class, problem_of, refusal, store_of};
-use base_kit::NoMemory;
 use cfg_ast::DestClass;
 use cfg_check::Checked;
 use cfg_print::{PrintRefusal, text};
 use config_emit::{EmitRefusal, Emitted, emit};
 use dest_classes::classes;
 use net_topology::links;
-use refine_partition::Partition;
-use srp_core::Srp;
+use srp_quotient::links_of_groups;
 use std::alloc::{AllocError, Global};
-
-// The links between the groups.
-fn links_of_groups(
-    alloc: Global,
-    problem: &Srp,
-    partition: &Partition,
-) -> Result<Quotient, NoMemory>
-    requires { length partition.now ≡ count problem.now }
-    ensures { IfOk result (λ q. (count : ℕ) → IsNumbered partition.now count → q.links ≡ quotient_links problem.now.edges partition.now count) }
-{
-    let graph = problem.graph()?;
-    let links = quotient(alloc, &graph, partition)?;
-    Ok(links)
-}
 
 // The network of the groups of a class.
 fn emitted_for(alloc: Global, checked: &Checked, class: &DestClass) -> Result<Emitted, EmitRefusal>

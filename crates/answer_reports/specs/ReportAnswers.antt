@@ -10,6 +10,8 @@ use Rattle.group_report.specs.Reports.{Report, report_text}
 use Rattle.group_report.specs.JsonText.{json_text}
 use Rattle.answer_kit.specs.Outcome.{Outcome, done}
 use Rattle.answer_kit.specs.ClassNumbers.{class_at, IsOfClass}
+use Rattle.answer_reports.specs.declared.report.Form.{Form}
+use Rattle.answer_reports.specs.declared.report.Form.TheVariants as form
 
 -- the report of a network on the plan of the class of a number
 abbrev pub report_of : Network → ℕ → Plan → Report
@@ -22,6 +24,11 @@ report_of network number plan = record {
   links = plan.links;
   unmatched = unmatched_of network;
 }
+
+-- the text of a report in a form
+abbrev pub text_in : Form → Report → List ℕ
+text_in form.Lines = report_text
+text_in form.Json = json_text
 
 -- the report of a class, in such a text
 pub record IsReported (text : Report → List ℕ) (network : Network) (number : ℕ) (class : DestClass) (o : Outcome) : Type 0 where

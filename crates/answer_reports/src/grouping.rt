@@ -1,5 +1,4 @@
-ghost use Rattle.std.specs.Prelude.{◌≡◌, ◌<◌, IfOk, Contains};
-ghost use Rattle.base_kit.specs.Partition.{IsCoarsestOn};
+ghost use Rattle.std.specs.Prelude.{◌≡◌, IfOk, Contains};
 ghost use Rattle.cfg_ast.specs.meaning.Classes.{classes_of};
 ghost use Rattle.cfg_ast.specs.meaning.PolicyFaults.{communities_of};
 ghost use Rattle.cfg_ast.specs.meaning.Topology.{links_of};
@@ -7,18 +6,17 @@ ghost use Rattle.route_maps.specs.Within.{AreWithin};
 ghost use Rattle.srp_build.specs.Directions.{AreDirectionsOf};
 ghost use Rattle.answer_reports.specs.Groupings.{IsGroupingOf};
 
-use abstract_net::{Quotient, quotient};
-use answer_kit::store_of;
-use base_kit::{ActGraph, List, NoMemory, Steps};
+use abstract_net::Quotient;
+use answer_kit::{coarsest_of, store_of};
+use base_kit::{List, NoMemory};
 use cfg_ast::{DestClass, Link};
 use cfg_check::Checked;
 use dd_core::Store;
-use refine_partition::{Partition, coarsest};
+use refine_partition::Partition;
 use srp_build::{Directions, build_over, directions_of};
 use srp_core::Srp;
+use srp_quotient::links_of_groups;
 use std::alloc::Global;
-use std::marker::Brand;
-use std::sync::ledger::{Blank, Ledger};
 
 /// The problem of a class, its groups, and the links between them.
 #[derive(Drop)]
@@ -26,24 +24,6 @@ pub struct Grouping {
     pub problem: Srp,
     pub groups: Partition,
     pub quotient: Quotient,
-}
-
-// The coarsest admissible partition, by turns that this ledger counts.
-fn counted<L: Ledger>(alloc: Global, graph: &ActGraph, blank: Blank) -> Result<Partition, NoMemory>
-    requires name { blank.name ≡ L.name }
-    requires parts { blank.parts ≡ L.parts }
-    requires some { 0 < L.parts }
-    ensures { IfOk result (λ groups. IsCoarsestOn graph.now groups) }
-{
-    let mut turns = Steps::<L>::new(blank);
-    let groups = coarsest(alloc, graph, &mut turns)?;
-    Ok(groups)
-}
-
-fn coarsest_of(alloc: Global, graph: &ActGraph) -> Result<Partition, NoMemory>
-    ensures { IfOk result (λ groups. IsCoarsestOn graph.now groups) }
-{
-    counted::<Brand>(alloc, graph, Blank::new(1))
 }
 
 /// The grouping of a class, from the directions of the network and a store of diagrams over all
@@ -62,9 +42,8 @@ pub(crate) fn grouping_of(
     ensures grouping { IfOk result (IsGroupingOf checked.now.network class.now) }
 {
     let problem = build_over(alloc, checked, directions, class, store)?;
-    let graph = problem.graph()?;
-    let groups = coarsest_of(alloc, &graph)?;
-    let quotient = quotient(alloc, &graph, &groups)?;
+    let groups = coarsest_of(alloc, &problem)?;
+    let quotient = links_of_groups(alloc, &problem, &groups)?;
     Ok(Grouping {
         problem,
         groups,

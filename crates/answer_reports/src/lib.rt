@@ -6,7 +6,6 @@
 #![tactic(auto)]
 
 mod grouping;
-pub mod json_report;
 pub mod laws;
 mod links;
 pub mod report;

@@ -1,54 +1,95 @@
 ghost use Rattle.std.specs.Prelude.{◌≡◌, IfOk, Contains};
 ghost use Rattle.cfg_ast.specs.meaning.Classes.{classes_of};
-ghost use Rattle.group_report.specs.Reports.{report_text};
+ghost use Rattle.group_report.specs.Reports.{HasReport};
+ghost use Rattle.answer_kit.specs.ClassNumbers.{class_at, IsOfClass};
 ghost use Rattle.answer_kit.specs.Outcome.{done};
 ghost use Rattle.answer_kit.specs.Replies.{Answers};
-ghost use Rattle.answer_reports.specs.ReportAnswers.{IsReported, IsReportAnswer};
+ghost use Rattle.answer_reports.specs.ReportAnswers.{text_in, IsReported, IsReportAnswer, IsJsonAnswer};
 
-use crate::grouping::grouping_alone;
+use crate::grouping::{Grouping, grouping_alone};
 use crate::links::count_of;
 use answer_kit::{Reply, class_at, no_class};
-use base_kit::NoMemory;
-use cfg_ast::DestClass;
+use base_kit::{List, NoMemory};
+use cfg_ast::{DestClass, Unmatched};
 use cfg_check::Checked;
 use dest_classes::classes;
-use group_report::report;
+use group_report::{json, report};
 use net_topology::{links, unmatched};
 use std::alloc::Global;
+
+/// How a report is written: as lines of text, or as one line of JSON.
+#[derive(Clone, Copy, Debug, PartialEq, Eq)]
+pub enum Form {
+    Lines,
+    Json,
+}
+
+// The report on a grouping.
+fn written(
+    alloc: Global,
+    form: Form,
+    number: u32,
+    before: u32,
+    grouping: &Grouping,
+    unmatched: &List<Unmatched>,
+) -> Result<Vec<u8>, NoMemory>
+    ensures { IfOk result (λ bytes. HasReport (λ r. bytes.items ≡ text_in form r) number grouping.now.problem before grouping.now.groups grouping.now.quotient.links unmatched.now) }
+{
+    let Grouping {
+        problem,
+        groups,
+        quotient,
+    } = grouping;
+    match form {
+        Form::Lines => report(alloc, number, problem, before, groups, quotient, unmatched),
+        Form::Json => json(alloc, number, problem, before, groups, quotient, unmatched),
+    }
+}
 
 // The report on the groups of a class.
 fn text_of_class(
     alloc: Global,
+    form: Form,
     checked: &Checked,
     number: u32,
     class: &DestClass,
 ) -> Result<Vec<u8>, NoMemory>
     requires { Contains (classes_of checked.now.network) class.now }
-    ensures { IfOk result (λ bytes. IsReported report_text checked.now.network number class.now (done bytes.items)) }
+    ensures { IfOk result (λ bytes. IsReported (text_in form) checked.now.network number class.now (done bytes.items)) }
 {
     let links = links(alloc, checked)?;
     let unmatched = unmatched(alloc, checked)?;
     let grouping = grouping_alone(alloc, checked, &links, class)?;
     let before = count_of(checked, &links);
-    let bytes = report(
-        alloc,
-        number,
-        &grouping.problem,
-        before,
-        &grouping.groups,
-        &grouping.quotient,
-        &unmatched,
-    )?;
+    let bytes = written(alloc, form, number, before, &grouping, &unmatched)?;
     Ok(bytes)
 }
 
-fn answer_of_class(alloc: Global, checked: &Checked, number: u32, class: &DestClass) -> Reply
+fn answer_of_class(
+    alloc: Global,
+    form: Form,
+    checked: &Checked,
+    number: u32,
+    class: &DestClass,
+) -> Reply
     requires { Contains (classes_of checked.now.network) class.now }
-    ensures { Answers result (IsReported report_text checked.now.network number class.now) ⊥ ⊥ }
+    ensures { Answers result (IsReported (text_in form) checked.now.network number class.now) ⊥ ⊥ }
 {
-    match text_of_class(alloc, checked, number, class) {
+    match text_of_class(alloc, form, checked, number, class) {
         Ok(bytes) => Reply::Output(bytes),
         Err(NoMemory) => Reply::NoMemory,
+    }
+}
+
+fn answer_in(alloc: Global, form: Form, checked: &Checked, number: u32) -> Reply
+    ensures { Answers result (IsOfClass (class_at (classes_of checked.now.network) number) number (IsReported (text_in form) checked.now.network number)) ⊥ ⊥ }
+{
+    let Ok(classes) = classes(alloc, checked) else {
+        return Reply::NoMemory;
+    };
+    match class_at(classes.as_slice(), number) {
+        Some(class) => answer_of_class(alloc, form, checked, number, class),
+        None => no_class(alloc, number),
     }
 }
 
@@ -56,11 +97,12 @@ fn answer_of_class(alloc: Global, checked: &Checked, number: u32, class: &DestCl
 pub fn answer(alloc: Global, checked: &Checked, number: u32) -> Reply
     ensures { Answers result (IsReportAnswer checked.now.network number) ⊥ ⊥ }
 {
-    let Ok(classes) = classes(alloc, checked) else {
-        return Reply::NoMemory;
-    };
-    match class_at(classes.as_slice(), number) {
-        Some(class) => answer_of_class(alloc, checked, number, class),
-        None => no_class(alloc, number),
-    }
+    answer_in(alloc, Form::Lines, checked, number)
+}
+
+/// The report on the groups of the class of this number, as one line of JSON.
+pub fn json_answer(alloc: Global, checked: &Checked, number: u32) -> Reply
+    ensures { Answers result (IsJsonAnswer checked.now.network number) ⊥ ⊥ }
+{
+    answer_in(alloc, Form::Json, checked, number)
 }

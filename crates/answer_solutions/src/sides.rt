@@ -1,14 +1,12 @@
-ghost use Rattle.std.specs.Prelude.{◌≡◌, ℕ, IfOk, Contains, length};
+ghost use Rattle.std.specs.Prelude.{◌≡◌, ℕ, IfOk, Contains};
 ghost use Rattle.base_kit.specs.Partition.{IsNumbered};
 ghost use Rattle.cfg_ast.specs.meaning.Classes.{classes_of};
-ghost use Rattle.abstract_net.specs.Links.{quotient_links};
-ghost use Rattle.srp_core.specs.Problem.{count, IsProblem};
+ghost use Rattle.srp_core.specs.Problem.{IsProblem};
 ghost use Rattle.srp_core.specs.Quotient.{IsAdmissible, IsCoarsest};
 ghost use Rattle.srp_build.specs.Built.{IsBuiltFor};
 ghost use Rattle.srp_quotient.specs.Groups.{small_of};
 ghost use Rattle.answer_solutions.specs.Carries.{AreSides};
 
-use abstract_net::{Quotient, quotient};
 use answer_kit::{coarsest_of, problem_of, store_of};
 use base_kit::NoMemory;
 use cfg_ast::DestClass;
@@ -17,6 +15,7 @@ use net_topology::links;
 use refine_partition::Partition;
 use solution_lift::quotient_srp;
 use srp_core::Srp;
+use srp_quotient::links_of_groups;
 use std::alloc::Global;
 
 /// The problem of a class, its groups, and the problem of the groups.
@@ -35,16 +34,6 @@ fn built_problem(alloc: Global, checked: &Checked, class: &DestClass) -> Result<
     let links = links(alloc, checked)?;
     let mut store = store_of(alloc, checked)?;
     problem_of(alloc, checked, &links, class, &mut store)
-}
-
-// The links between the groups.
-fn links_of_groups(alloc: Global, problem: &Srp, groups: &Partition) -> Result<Quotient, NoMemory>
-    requires { length groups.now ≡ count problem.now }
-    ensures { IfOk result (λ q. (count : ℕ) → IsNumbered groups.now count → q.links ≡ quotient_links problem.now.edges groups.now count) }
-{
-    let graph = problem.graph()?;
-    let links = quotient(alloc, &graph, groups)?;
-    Ok(links)
 }
 
 // The problem of the groups.

@@ -10,7 +10,7 @@ use crate::command::Command;
 use answer_certificates::{certify, verify};
 use answer_groups::{classes, compress, groups};
 use answer_kit::{Reply, line_reason, refusal};
-use answer_reports::{json_report, report, summary, trial};
+use answer_reports::{report, summary, trial};
 use answer_runs::{reach, run};
 use answer_solutions::{check, fold, lift};
 use cfg_ast::ReadRefusal;
@@ -60,7 +60,7 @@ fn answer<S: Source>(
         Command::Run(class) => run::answer(alloc, checked, class, second, files),
         Command::Reach(class) => reach::answer(alloc, checked, class, second, files),
         Command::Report(class) => report::answer(alloc, checked, class),
-        Command::Json(class) => json_report::answer(alloc, checked, class),
+        Command::Json(class) => report::json_answer(alloc, checked, class),
         Command::Summary => summary::answer(alloc, checked),
         Command::Trial(size) => trial::answer(alloc, size),
     }

@@ -13,7 +13,6 @@ use crate::problem::quotient_srp;
 use crate::sides::{groups_of, no_labels, places, sources_of};
 use crate::tables::{first_member, first_members, route_copy};
 use crate::tasks::tasks_of;
-use abstract_net::quotient;
 use base_kit::{NoMemory, Protocol};
 use refine_partition::Partition;
 use solution_check::lone_numbers;
@@ -22,6 +21,7 @@ use srp_core::laws::keys::across_quotients;
 use srp_core::laws::{equal_keys, folds, ospf_folds};
 use srp_core::{Labels, Srp};
 use srp_quotient::laws::quotient_is_quotient;
+use srp_quotient::links_of_groups;
 use std::alloc::Global;
 
 // Each group gets its route once the groups of smaller labels have theirs.
@@ -122,8 +122,7 @@ pub fn fold(alloc: Global, srp: &Srp, p: &Partition, labels: &Labels) -> Result<
     quotient_is_quotient();
     let _routers = srp.count();
     let _groups = p.groups();
-    let graph = srp.graph()?;
-    let links = quotient(alloc, &graph, p)?;
+    let links = links_of_groups(alloc, srp, p)?;
     let small = quotient_srp(alloc, srp, p, &links)?;
     fold_into(alloc, srp, &small, p, labels)
 }
