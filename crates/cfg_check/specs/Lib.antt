@@ -1,3 +1,4 @@
+pub mod AreaIndexes
 pub mod AreaLines
 pub mod AreaTables
 pub mod Blocks

@@ -10,6 +10,7 @@
 mod addresses;
 mod area;
 mod area_index;
+mod area_indexes;
 mod area_table;
 mod check;
 mod checked;
