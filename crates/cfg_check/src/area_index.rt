@@ -1,4 +1,4 @@
-ghost use Rattle.std.specs.Prelude.{◌≡◌, IfOk, bytes_eq};
+ghost use Rattle.std.specs.Prelude.{◌≡◌, ◌<◌, IfOk, length, bytes_eq};
 ghost use Rattle.std.specs.List.{list_any};
 ghost use Rattle.cfg_ast.specs.meaning.Topology.{is_in_area_interface, is_active_interface, is_passive_in};
 ghost use Rattle.cfg_ast.specs.meaning.RouterFaults.{areas_of, active_address_on};
@@ -22,7 +22,7 @@ pub struct AreaIndex<'a> {
     table: AreaTable<'a>,
     names: HashSet<&'a str>,
     pub ghost lines: { table.lines.now ≡ areas_of router.now },
-    pub ghost listed: { HasNames names (λ q. list_any (bytes_eq q) (listed_of router.now.ospf)) },
+    pub ghost listed: { 4 < length (listed_of router.now.ospf) → HasNames names (λ q. list_any (bytes_eq q) (listed_of router.now.ospf)) },
 }
 
 // The names that make their interfaces passive, or not passive where all others are.
@@ -41,10 +41,14 @@ fn listed(router: &Router) -> &[Text]
     }
 }
 
+// The set of the names, which is asked only where they are many.
 fn name_set(alloc: Global, texts: &[Text]) -> Result<HashSet<&str>, NoMemory>
-    ensures { IfOk result (λ names. HasNames names (λ q. list_any (bytes_eq q) texts.now)) }
+    ensures { IfOk result (λ names. 4 < length texts.now → HasNames names (λ q. list_any (bytes_eq q) texts.now)) }
 {
     let mut names: HashSet<&str> = HashSet::new(alloc);
+    if texts.len() <= FEW {
+        return Ok(names);
+    }
     for text in texts {
         names.insert(text.as_str())?;
     }

@@ -99,16 +99,28 @@ fn chunks_for(count: usize) -> usize
     }
 }
 
+// The words of all rows, of so many each.
+fn rows(alloc: Global, lines: &[AreaLine], chunks: usize) -> Result<Vec<u64>, NoMemory>
+    requires { chunks * 64 ≤ length lines.now + 63 }
+    ensures { IfOk result (λ words. HasRows words.items lines.now chunks 128) }
+{
+    let mut words = Vec::new(alloc);
+    if chunks == 0 {
+        return Ok(words);
+    }
+    for row in 0..ROWS {
+        push_row(&mut words, lines, chunks, row)?;
+    }
+    Ok(words)
+}
+
 impl<'a> AreaTable<'a> {
     /// The table of the lines.
     pub(crate) fn of(alloc: Global, lines: &'a [AreaLine]) -> Result<AreaTable<'a>, NoMemory>
         ensures { IfOk result (λ table. table.lines.now ≡ lines.now) }
     {
         let chunks = chunks_for(lines.len());
-        let mut words = Vec::new(alloc);
-        for row in 0..ROWS {
-            push_row(&mut words, lines, chunks, row)?;
-        }
+        let words = rows(alloc, lines, chunks)?;
         Ok(AreaTable {
             lines,
             chunks,
