@@ -1,13 +1,14 @@
-ghost use Rattle.std.specs.Prelude.{◌≡◌, IfOk, IfErr, Ok};
+ghost use Rattle.std.specs.Prelude.{◌≡◌, IfOk, IfErr, Ok, flat_map};
 ghost use Rattle.cfg_ast.specs.text.Answers.{RefusesAs};
 ghost use Rattle.cfg_ast.specs.meaning.Meaning.{meaning_faults, least_fault, judged};
+ghost use Rattle.cfg_ast.specs.meaning.PolicyFaults.{mentions_of};
 ghost use Rattle.cfg_ast.specs.text.Reading.{IsGiven};
 
 use crate::addresses::shared_address;
 use crate::area::area_faults;
 use crate::area_indexes::area_indexes;
 use crate::checked::Checked;
-use crate::communities::{all_communities, too_many_communities};
+use crate::communities::{all_mentions, communities, too_many_communities};
 use crate::deletions::delete_list_form;
 use crate::least::with_fault;
 use crate::limits::{too_many_neighbors, too_many_routers};
@@ -18,11 +19,16 @@ use crate::prepends::{prepend_form, prepend_in};
 use crate::processes::{internal_peer, mixed_protocols, other_area, shared_as};
 use crate::undefined::{undefined_list, undefined_map};
 use base_kit::NoMemory;
-use cfg_ast::{Fault, Kind, Network, ReadRefusal};
+use cfg_ast::{Fault, Kind, Mention, Network, ReadRefusal};
 use std::alloc::Global;
 
-// The least fault of the meaning of the network.
-fn least_fault(alloc: Global, network: &Network) -> Result<Option<Fault>, NoMemory>
+// The least fault of the meaning of the network, whose lines have these mentions.
+fn least_fault(
+    alloc: Global,
+    network: &Network,
+    mentions: &[Mention],
+) -> Result<Option<Fault>, NoMemory>
+    requires { mentions.now ≡ flat_map mentions_of network.now.routers }
     ensures { IfOk result (λ fault. fault ≡ least_fault (meaning_faults network.now)) }
 {
     let routers = network.routers.as_slice();
@@ -46,7 +52,7 @@ fn least_fault(alloc: Global, network: &Network) -> Result<Option<Fault>, NoMemo
     let least = with_fault(least, Kind::LoopbackMask, in_area.wide_loopback);
     let least = with_fault(least, Kind::NoCost, in_area.no_cost);
     let least = with_fault(least, Kind::TooManyRouters, too_many_routers(routers));
-    let communities = too_many_communities(alloc, routers)?;
+    let communities = too_many_communities(alloc, mentions)?;
     let least = with_fault(least, Kind::TooManyCommunities, communities);
     let least = with_fault(least, Kind::TooManyNeighbors, too_many_neighbors(routers));
     let links = too_many_links(alloc, indexes.as_slice())?;
@@ -66,13 +72,14 @@ pub fn check_network(alloc: Global, network: Network) -> Result<Checked, ReadRef
     ensures accepted { IfOk result (λ checked. judged network ≡ Ok network) }
     ensures refused { IfErr result (λ refusal. RefusesAs refusal (judged network)) }
 {
-    match least_fault(alloc, &network)? {
+    let mentions = all_mentions(alloc, network.routers.as_slice())?;
+    match least_fault(alloc, &network, mentions.as_slice())? {
         Some(fault) => Err(ReadRefusal::At {
             line: fault.line,
             kind: fault.kind,
         }),
         None => {
-            let communities = all_communities(alloc, network.routers.as_slice())?;
+            let communities = communities(alloc, mentions.as_slice())?;
             Ok(Checked::new(network, communities))
         }
     }

@@ -80,8 +80,8 @@ fn push_of(found: &mut Vec<Mention>, router: &Router) -> Result<(), NoMemory>
     push_in_maps(found, router.route_maps.as_slice())
 }
 
-// Each community that a line names, with that line.
-fn all_mentions(alloc: Global, routers: &[Router]) -> Result<Vec<Mention>, NoMemory>
+/// Each community that a line of the routers names, with that line.
+pub(crate) fn all_mentions(alloc: Global, routers: &[Router]) -> Result<Vec<Mention>, NoMemory>
     ensures { IfOk result (λ found. found.items ≡ flat_map mentions_of routers.now) }
 {
     let mut found = Vec::new(alloc);
@@ -100,8 +100,8 @@ fn add_if(set: &mut NumSet, is_new: bool, number: u32) -> Result<(), NoMemory>
     Ok(())
 }
 
-// The communities that are mentioned.
-fn communities(alloc: Global, mentions: &[Mention]) -> Result<NumSet, NoMemory>
+/// The communities that are mentioned.
+pub(crate) fn communities(alloc: Global, mentions: &[Mention]) -> Result<NumSet, NoMemory>
     ensures { IfOk result (λ set. set ≡ communities_in mentions.now) }
 {
     let mut seen: HashSet<u32> = HashSet::new(alloc);
@@ -174,8 +174,11 @@ fn first_exceeding(alloc: Global, mentions: &[Mention], last: u32) -> Result<u32
     Ok(high)
 }
 
-// The line at which the first community past the limit stands.
-fn exceeding_line(alloc: Global, mentions: &[Mention]) -> Result<Option<u32>, NoMemory>
+/// The line at which the first community past the limit stands.
+pub(crate) fn too_many_communities(
+    alloc: Global,
+    mentions: &[Mention],
+) -> Result<Option<u32>, NoMemory>
     ensures { IfOk result (λ line. line ≡ least_line (exceeding_mentions 1024 mentions.now)) }
 {
     let last = last_line(mentions);
@@ -184,23 +187,4 @@ fn exceeding_line(alloc: Global, mentions: &[Mention]) -> Result<Option<u32>, No
     }
     let line = first_exceeding(alloc, mentions, last)?;
     Ok(Some(line))
-}
-
-/// The line at which the first community past the limit stands.
-pub(crate) fn too_many_communities(
-    alloc: Global,
-    routers: &[Router],
-) -> Result<Option<u32>, NoMemory>
-    ensures { IfOk result (λ line. line ≡ least_line (exceeding_mentions 1024 (flat_map mentions_of routers.now))) }
-{
-    let mentions = all_mentions(alloc, routers)?;
-    exceeding_line(alloc, mentions.as_slice())
-}
-
-/// All communities that the lines of the routers name.
-pub(crate) fn all_communities(alloc: Global, routers: &[Router]) -> Result<NumSet, NoMemory>
-    ensures { IfOk result (λ set. set ≡ communities_in (flat_map mentions_of routers.now)) }
-{
-    let mentions = all_mentions(alloc, routers)?;
-    communities(alloc, mentions.as_slice())
 }

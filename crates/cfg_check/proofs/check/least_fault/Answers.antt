@@ -1,10 +1,11 @@
 use Rattle.std.proofs.Common.{List, [], ◌++◌, None, map, filter_map, flat_map, refl, ap, ◌∙◌}
 use Rattle.cfg_ast.specs.declared.network.Router.{Router}
+use Rattle.cfg_ast.specs.declared.policy.Mention.{Mention}
 use Rattle.cfg_ast.specs.declared.refusal.Kind.TheVariants as kind
 use Rattle.cfg_ast.specs.declared.refusal.Fault.{Fault}
 use Rattle.cfg_ast.specs.meaning.Topology.{neighbors_of}
 use Rattle.cfg_ast.specs.meaning.Meaning.{meaning_faults, faults_at}
-use Rattle.cfg_ast.specs.meaning.PolicyFaults.{undefined_map_lines, undefined_list_lines, delete_list_lines, too_many_communities_lines, prepend_form_lines, prepend_in_lines, undefined_maps_of, undefined_lists_of, wide_deletions_of, mentions_of, exceeding_mentions, foreign_prepends_of, prepending_maps_in_of}
+use Rattle.cfg_ast.specs.meaning.PolicyFaults.{undefined_map_lines, undefined_list_lines, delete_list_lines, too_many_communities_lines, prepend_form_lines, prepend_in_lines, undefined_maps_of, undefined_lists_of, wide_deletions_of, exceeding_mentions, foreign_prepends_of, prepending_maps_in_of}
 use Rattle.cfg_ast.specs.meaning.RouterFaults.{shared_name_lines, shared_as_lines, internal_peer_lines, mixed_protocol_lines, other_area_lines, shared_address_lines, overlapping_lines, loopback_mask_lines, no_cost_lines, too_many_routers_lines, too_many_neighbors_lines, too_many_links_lines, router_line, process_line, neighbor_line, address_line, area_line, line_of_protocol, repeats, unlike_first, first_beyond, same_name, bgp_of, same_number, internal_peers_of, same_protocol, protocol_lines_of, same_area, areas_of, same_address, up_addresses_of, overlapping_in, area_addresses_with, is_wide_loopback, has_no_cost, exceeding, added_after}
 use Rattle.cfg_check.specs.AreaIndexes.{routers_of}
 use Rattle.cfg_check.specs.LeastLine.{least_line}
@@ -44,7 +45,7 @@ returns c =
     let f12 : List Fault = f11 ++ faults_at kind.NoCost (no_cost_lines n) in
     let s13 = kind_step f12 kind.TooManyRouters (too_many_routers_lines n) c.with_fault-least-12.result c.with_fault-least-13.result c.too_many_routers.result s12 (c.too_many_routers.ensures ∙ ap (λ (rs : List Router). least_line (map router_line (first_beyond 4096 rs))) same) c.with_fault-least-13.ensures in
     let f13 : List Fault = f12 ++ faults_at kind.TooManyRouters (too_many_routers_lines n) in
-    let s14 = kind_step f13 kind.TooManyCommunities (too_many_communities_lines n) c.with_fault-least-13.result c.with_fault-least-14.result c.in_ok-communities.communities s13 (c.in_ok-communities.ensures ∙ ap (λ (rs : List Router). least_line (exceeding_mentions 1024 (flat_map mentions_of rs))) same) c.with_fault-least-14.ensures in
+    let s14 = kind_step f13 kind.TooManyCommunities (too_many_communities_lines n) c.with_fault-least-13.result c.with_fault-least-14.result c.in_ok-communities.communities s13 (c.in_ok-communities.ensures ∙ ap (λ (ms : List Mention). least_line (exceeding_mentions 1024 ms)) c.requires) c.with_fault-least-14.ensures in
     let f14 : List Fault = f13 ++ faults_at kind.TooManyCommunities (too_many_communities_lines n) in
     let s15 = kind_step f14 kind.TooManyNeighbors (too_many_neighbors_lines n) c.with_fault-least-14.result c.with_fault-least-15.result c.too_many_neighbors.result s14 (c.too_many_neighbors.ensures ∙ ap (λ (rs : List Router). least_line (map neighbor_line (first_beyond 131072 (flat_map neighbors_of rs)))) same) c.with_fault-least-15.ensures in
     let f15 : List Fault = f14 ++ faults_at kind.TooManyNeighbors (too_many_neighbors_lines n) in
