@@ -1,7 +1,6 @@
 -- The pairs that the limit on links counts are the adjacencies. Public: crates above may cite it.
 use Rattle.std.proofs.Common.{◌≡◌, ℕ, ◌+◌, ◌<◌, ◌≤◌, Bool, true, false, cond, ◌&&◌, List, [], ◌∷◌, ◌++◌, map, length, inl, inr, Option, Some, None, refl, sym, ◌∙◌, ap, arith, append_assoc}
-use Rattle.std.specs.Prelude.{not, filter, filter_map, flat_map, nat_eq, nat_lt}
-use Rattle.std.specs.Option.{option_map_or}
+use Rattle.std.specs.Prelude.{filter, filter_map, flat_map, nat_eq, nat_lt}
 use Rattle.std.specs.List.{enumerate_from, cons_option}
 use Rattle.std.proofs.lemmas.Bool.Decides.{nat_tests}
 use Rattle.std.proofs.lemmas.List.{length-append, length-map}
