@@ -3,15 +3,15 @@ use Rattle.std.proofs.Common.{◌≡◌, ℕ, zero, suc, ◌<◌, Bool, true, fa
 use Rattle.std.specs.Prelude.{Contains}
 use Rattle.base_kit.proofs.Elements.{In, contains_in, in_contains, in_left, in_right}
 use Rattle.base_kit.proofs.SetFacts.{same_number}
+use Rattle.buckets.specs.Buckets.{same_pair, Index, bucket, PushesAt}
 use Rattle.dd_core.specs.Sets.{Shown, IsShown}
 use Rattle.policy_dd.specs.declared.edge.EdgeFn.{EdgeFn}
 use Rattle.policy_dd.specs.Compare.{OneForm}
 use Rattle.srp_build.specs.declared.acts.BgpAct.{BgpAct}
 use Rattle.srp_build.specs.BgpActs.{nodes_of, AreApart, AreUnlike, AreListed}
-use Rattle.srp_build.specs.Index.{same_pair, Index, bucket, PushesAt}
 use Rattle.srp_build.proofs.FirstUse.{front_or_last}
 
-pub none_listed : (index : Index) → AreListed index []
+pub none_listed : (index : Index ℕ) → AreListed index []
 none_listed index = record { each = λ number act at. absurd cc }
 
 same_pair_is : (p : ℕ × ℕ) → same_pair p p ≡ true
@@ -26,7 +26,7 @@ put_by true old x e = in_right old (x ∷ []) x (inl refl)
 put_by false old x e = absurd cc
 
 -- one more act, which is put at its nodes
-pub listed_next : (old new : Index) (acts : List BgpAct) (act : BgpAct) (number : ℕ) → AreListed old acts → number ≡ length acts → PushesAt old new (nodes_of act.function) number → AreListed new (acts ++ act ∷ [])
+pub listed_next : (old new : Index ℕ) (acts : List BgpAct) (act : BgpAct) (number : ℕ) → AreListed old acts → number ≡ length acts → PushesAt old new (nodes_of act.function) number → AreListed new (acts ++ act ∷ [])
 listed_next old new acts act number listed next pushes = record {
   each = λ place other at. elim (front_or_last acts act place other at) [
     | inl before ↦ (
@@ -41,7 +41,7 @@ listed_next old new acts act number listed next pushes = record {
 }
 
 -- a function unlike those that are found by its nodes is unlike all
-pub unlike_all : OneForm → (shown : Shown) → IsShown shown → (index : Index) (acts : List BgpAct) (function : EdgeFn) → AreListed index acts → AreUnlike shown acts (bucket index (nodes_of function)) function → (other : ℕ) (act : BgpAct) → slice_get acts other ≡ Some act → AreApart shown function act.function
+pub unlike_all : OneForm → (shown : Shown) → IsShown shown → (index : Index ℕ) (acts : List BgpAct) (function : EdgeFn) → AreListed index acts → AreUnlike shown acts (bucket index (nodes_of function)) function → (other : ℕ) (act : BgpAct) → slice_get acts other ≡ Some act → AreApart shown function act.function
 unlike_all one_form shown is index acts function listed unlike other act at = record {
   differ = λ F G of_function of_act one.
       let parts = one_form shown function act.function F G is of_function of_act one in

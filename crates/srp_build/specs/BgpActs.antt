@@ -1,5 +1,6 @@
 -- The different imports of sessions, each as an act with its function in diagrams.
 use Rattle.std.specs.Prelude.{◌≡◌, ◌⊎◌, ℕ, List, [], ◌∷◌, ◌++◌, length, Option, Some, None, Contains, slice_get}
+use Rattle.buckets.specs.Buckets.{Index, bucket}
 use Rattle.dd_core.specs.Sets.{Shown}
 use Rattle.policy_dd.specs.declared.edge.EdgeFn.{EdgeFn}
 use Rattle.policy_dd.specs.Edge.{IsEdgeFn}
@@ -8,7 +9,6 @@ use Rattle.route_maps.specs.declared.plain.Imported.{Imported}
 use Rattle.srp_build.specs.declared.acts.BgpAct.{BgpAct}
 use Rattle.srp_build.specs.declared.hops.Hop.{Hop}
 use Rattle.srp_build.specs.declared.session.Session.{Session}
-use Rattle.srp_build.specs.Index.{Index, bucket}
 
 -- both nodes by which functions are found
 abbrev pub nodes_of : EdgeFn → ℕ × ℕ
@@ -33,7 +33,7 @@ abbrev pub AreUnlike : Shown → List BgpAct → List ℕ → EdgeFn → Type 0
 AreUnlike shown acts numbers function = (number : ℕ) (act : BgpAct) → Contains numbers number → slice_get acts number ≡ Some act → AreApart shown function act.function
 
 -- each act is found by its nodes
-pub record AreListed (index : Index) (acts : List BgpAct) : Type 0 where
+pub record AreListed (index : Index ℕ) (acts : List BgpAct) : Type 0 where
   pub each : (number : ℕ) (act : BgpAct) → slice_get acts number ≡ Some act → Contains (bucket index (nodes_of act.function)) number
 
 -- an act came last, that of this session, which is first in this direction

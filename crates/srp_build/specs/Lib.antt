@@ -9,7 +9,6 @@ pub mod FirstActs
 pub mod HopEdges
 pub mod HopNumbers
 pub mod Hops
-pub mod Index
 pub mod Kinds
 pub mod Laws
 pub mod LineMaps

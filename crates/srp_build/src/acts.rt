@@ -1,11 +1,11 @@
 ghost use Rattle.std.specs.Prelude.{◌≡◌, [], ◌∷◌, ◌++◌, true, false, None, Some, IfOk, OnOk, IfSome, Contains, slice_get};
-ghost use Rattle.srp_build.specs.BgpActs.{AreApart, IsLike, AreUnlike, AreListed, IsActOfFunction, IsNumberFor};
+ghost use Rattle.srp_build.specs.BgpActs.{nodes_of, AreApart, IsLike, AreUnlike, AreListed, IsActOfFunction, IsNumberFor};
 
 use crate::hops::Hop;
-use crate::index::{Index, numbers_at, push_at};
 use crate::plains::place;
 use crate::session::Session;
 use base_kit::NoMemory;
+use buckets::{Index, items_at, push_at};
 use dd_core::Store;
 use policy_dd::laws::one_form;
 use policy_dd::{EdgeFn, accepts_some, same};
@@ -25,7 +25,7 @@ pub struct BgpAct {
 #[derive(Drop)]
 pub struct Acts {
     pub acts: Vec<BgpAct>,
-    pub by_nodes: Index,
+    pub by_nodes: Index<u32>,
 }
 
 // Whether the act with the number has a function like this one.
@@ -50,6 +50,14 @@ fn like_among(store: &Store, acts: &[BgpAct], numbers: &[u32], function: &EdgeFn
         }
     }
     None
+}
+
+fn nodes_of(function: &EdgeFn) -> Result<(u32, u32), NoMemory>
+    ensures { IfOk result (λ nodes. nodes ≡ nodes_of function.now) }
+{
+    let permit = place(function.permit.place())?;
+    let rest = place(function.rest.place())?;
+    Ok((permit, rest))
 }
 
 impl Acts {
@@ -77,15 +85,10 @@ impl Acts {
         ensures number { IfOk result (IsNumberFor store.now self.old.acts.items self.new.acts.items hop.now session.now function) }
     {
         one_form();
-        let _nodes = store.len();
-        let pair = (function.permit.place(), function.rest.place());
-        let found = like_among(
-            store,
-            &self.acts,
-            numbers_at(&self.by_nodes, pair),
-            &function,
-        );
-        if let Some(number) = found {
+        let _count = store.len();
+        let nodes = nodes_of(&function)?;
+        let numbers = items_at(&self.by_nodes, nodes);
+        if let Some(number) = like_among(store, &self.acts, numbers, &function) {
             return Ok(number);
         }
         let number = place(self.acts.len())?;
@@ -94,7 +97,7 @@ impl Acts {
             session: *session,
             function,
         })?;
-        push_at(alloc, &mut self.by_nodes, pair, number)?;
+        push_at(alloc, &mut self.by_nodes, nodes, number)?;
         Ok(number)
     }
 

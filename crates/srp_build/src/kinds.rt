@@ -5,12 +5,12 @@ ghost use Rattle.srp_build.specs.Kinds.{AreFixed, AreKinds, HasFixed, HasKinds, 
 ghost use Rattle.srp_build.specs.ListPlaces.{HavePlaces};
 
 use crate::fixed::is_fixed;
-use crate::index::{Index, numbers_at, push_at};
 use crate::lines::{map_of_line, neighbors};
 use crate::plains::place;
 use crate::seen::Seen;
 use crate::sums::sum_of_map;
 use base_kit::{List, NoMemory, Prefix};
+use buckets::{Index, items_at, push_at};
 use cfg_ast::{Neighbor, Router};
 use route_maps::laws::same_map_says_the_same;
 use route_maps::{Plain, same_map};
@@ -48,7 +48,7 @@ pub struct Kinds {
 #[derive(Drop)]
 struct KindTable {
     pub kinds: Vec<Kind>,
-    by_sum: Index,
+    by_sum: Index<u32>,
 }
 
 // Whether the map noted with the kind is the same as this one.
@@ -92,8 +92,8 @@ impl KindTable {
     fn number_fixed(&mut self, alloc: Global, first: LinePlace, map: Plain) -> Result<u32, NoMemory>
         ensures { IfOk result (IsFixedNumber self.old.kinds.items self.new.kinds.items first map) }
     {
-        let pair = (sum_of_map(&map), 0);
-        if let Some(number) = fixed_among(&self.kinds, numbers_at(&self.by_sum, pair), &map) {
+        let sum = sum_of_map(&map);
+        if let Some(number) = fixed_among(&self.kinds, items_at(&self.by_sum, sum), &map) {
             return Ok(number);
         }
         let number = place(self.kinds.len())?;
@@ -101,7 +101,7 @@ impl KindTable {
             first,
             fixed: Some(map),
         })?;
-        push_at(alloc, &mut self.by_sum, pair, number)?;
+        push_at(alloc, &mut self.by_sum, sum, number)?;
         Ok(number)
     }
 

@@ -17,7 +17,6 @@ mod directions;
 mod fixed;
 mod hop_numbers;
 mod hops;
-mod index;
 mod kind_maps;
 mod kinds;
 pub mod laws;

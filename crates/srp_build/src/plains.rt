@@ -1,9 +1,9 @@
 ghost use Rattle.std.specs.Prelude.{◌≡◌, [], true, IfOk, OnOk, IfSome};
 ghost use Rattle.srp_build.specs.Plains.{IsNumberOf, IsGrownBy};
 
-use crate::index::{Index, numbers_at, push_at};
 use crate::sums::sum_of_map;
 use base_kit::NoMemory;
+use buckets::{Index, items_at, push_at};
 use route_maps::laws::same_map_says_the_same;
 use route_maps::{Plain, same_map};
 use std::alloc::Global;
@@ -13,10 +13,11 @@ use std::collections::HashMap;
 #[derive(Drop)]
 pub struct Plains {
     pub maps: Vec<Plain>,
-    by_sum: Index,
+    by_sum: Index<u32>,
 }
 
-/// A number of 32 bits. No text within the limits has so many lines that one is larger.
+/// A number of 32 bits. No text within the limits has so many lines that one is larger, and nodes of
+/// diagrams fill the memory before.
 pub fn place(i: usize) -> Result<u32, NoMemory>
     ensures { IfOk result (λ n. n ≡ i) }
 {
@@ -65,13 +66,13 @@ impl Plains {
         ensures number { IfOk result (λ number. IsNumberOf self.new.maps.items number map) }
         ensures grown { OnOk result (IsGrownBy self.old.maps.items self.new.maps.items map) }
     {
-        let pair = (sum_of_map(&map), 0);
-        if let Some(number) = same_among(&self.maps, numbers_at(&self.by_sum, pair), &map) {
+        let sum = sum_of_map(&map);
+        if let Some(number) = same_among(&self.maps, items_at(&self.by_sum, sum), &map) {
             return Ok(number);
         }
         let number = place(self.maps.len())?;
         self.maps.push(map)?;
-        push_at(alloc, &mut self.by_sum, pair, number)?;
+        push_at(alloc, &mut self.by_sum, sum, number)?;
         Ok(number)
     }
 }

@@ -2,11 +2,11 @@ ghost use Rattle.std.specs.Prelude.{◌≡◌, true, IfOk, IfSome};
 ghost use Rattle.cfg_ast.specs.meaning.Policy.{name_of};
 ghost use Rattle.srp_build.specs.Plains.{IsAsEarlier};
 
-use crate::index::{Index, numbers_at, push_at};
 use crate::lines::{list_named, map_named};
 use crate::plains::place;
 use crate::sums::sum_of_line;
 use base_kit::NoMemory;
+use buckets::{Index, items_at, push_at};
 use cfg_ast::{Named, Neighbor};
 use std::alloc::Global;
 use std::collections::HashMap;
@@ -77,7 +77,7 @@ fn number_of_last(
 /// line may not be noted yet, so that a router whose lines all name the same needs no index.
 #[derive(Drop)]
 pub struct Seen {
-    by_sum: Index,
+    by_sum: Index<u32>,
     is_last_noted: bool,
 }
 
@@ -107,8 +107,8 @@ impl Seen {
         let Some(line) = lines.get(last) else {
             return Ok(());
         };
-        let pair = (sum_of_line(inbound, line), 0);
-        push_at(alloc, &mut self.by_sum, pair, place(last)?)
+        let sum = sum_of_line(inbound, line);
+        push_at(alloc, &mut self.by_sum, sum, place(last)?)
     }
 
     /// The number of an earlier line that names the same map and the same list. Most often that is the
@@ -127,8 +127,7 @@ impl Seen {
             return Ok(Some(number));
         }
         self.note_last(alloc, inbound, lines, numbers.len())?;
-        let pair = (sum_of_line(inbound, line), 0);
-        let places = numbers_at(&self.by_sum, pair);
+        let places = items_at(&self.by_sum, sum_of_line(inbound, line));
         let known = number_of_earlier(inbound, lines, numbers, line, places);
         self.is_last_noted = known.is_some();
         Ok(known)

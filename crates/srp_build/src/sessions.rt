@@ -4,10 +4,10 @@ ghost use Rattle.srp_build.specs.Sessions.{AreRight, IsActFor, IsMaybeNew, AreMa
 
 use crate::acts::Acts;
 use crate::hops::Hop;
-use crate::index::{Index, numbers_at, push_at};
 use crate::plains::place;
 use crate::session::Session;
 use base_kit::NoMemory;
+use buckets::{Index, items_at, push_at};
 use dd_core::Store;
 use policy_dd::edge_fn;
 use policy_dd::laws::edge_kept;
@@ -26,7 +26,7 @@ pub struct Met {
 #[derive(Drop)]
 pub struct Sessions {
     pub met: Vec<Met>,
-    pub by_maps: Index,
+    pub by_maps: Index<u32>,
 }
 
 fn is_same_session(a: &Session, b: &Session) -> bool
@@ -85,14 +85,14 @@ impl Sessions {
         if let Some(met) = met_early(&self.met, session) {
             return Some(met);
         }
-        let pair = (session.out as usize, session.into as usize);
-        met_among(&self.met, numbers_at(&self.by_maps, pair), session)
+        let places = items_at(&self.by_maps, (session.out, session.into));
+        met_among(&self.met, places, session)
     }
 
     fn push(&mut self, alloc: Global, met: Met) -> Result<(), NoMemory>
         ensures { OnOk result (self.new.met.items ≡ self.old.met.items ++ met ∷ []) }
     {
-        let pair = (met.session.out as usize, met.session.into as usize);
+        let pair = (met.session.out, met.session.into);
         let place = place(self.met.len())?;
         self.met.push(met)?;
         push_at(alloc, &mut self.by_maps, pair, place)

@@ -1,5 +1,5 @@
-//! Numbers computed from names and maps, equal where these are equal, by which they are looked up. What
-//! a number is means nothing.
+//! Pairs of numbers computed from names and maps, equal where these are equal, by which they are looked
+//! up. What a pair is means nothing.
 
 use crate::lines::{list_named, map_named};
 use base_kit::NumSet;
@@ -8,6 +8,10 @@ use route_maps::{Plain, PlainEntry};
 
 // The prime of the hash of Fowler, Noll and Vo for 64 bits.
 const PRIME: u64 = 1_099_511_628_211;
+
+fn halves(sum: u64) -> (u32, u32) {
+    ((sum & 0xffff_ffff) as u32, (sum >> 32) as u32)
+}
 
 fn mixed(sum: u64, number: u64) -> u64 {
     (sum ^ number).wrapping_mul(PRIME)
@@ -25,9 +29,9 @@ fn with_name(sum: u64, named: &Option<Named>) -> u64 {
 }
 
 /// The sum of the names of the map and the list of a line, inbound or outbound.
-pub fn sum_of_line(inbound: bool, line: &Neighbor) -> usize {
+pub fn sum_of_line(inbound: bool, line: &Neighbor) -> (u32, u32) {
     let sum = with_name(0, map_named(inbound, line));
-    with_name(sum, list_named(inbound, line)) as usize
+    halves(with_name(sum, list_named(inbound, line)))
 }
 
 fn with_set(sum: u64, set: &NumSet) -> u64 {
@@ -92,10 +96,10 @@ fn with_entry(sum: u64, entry: &PlainEntry) -> u64 {
 }
 
 /// The sum of a map, without the names of its lists.
-pub fn sum_of_map(map: &Plain) -> usize {
+pub fn sum_of_map(map: &Plain) -> (u32, u32) {
     let mut sum = 0;
     for entry in map.entries.as_slice() {
         sum = with_entry(sum, entry);
     }
-    sum as usize
+    halves(sum)
 }
