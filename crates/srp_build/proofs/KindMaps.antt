@@ -11,15 +11,16 @@ use Rattle.route_maps.specs.declared.plain.Plain.{Plain}
 use Rattle.route_maps.specs.Maps.{verdict}
 use Rattle.srp_build.specs.declared.hops.Hop.{Hop}
 use Rattle.srp_build.specs.declared.kind_maps.KindMaps.{KindMaps}
-use Rattle.srp_build.specs.declared.kinds.Kind.{Kind}
 use Rattle.srp_build.specs.declared.kinds.Kinds.{Kinds}
+use Rattle.srp_build.specs.declared.kinds.LinePlace.{LinePlace}
 use Rattle.srp_build.specs.declared.session.Session.{Session}
 use Rattle.srp_build.specs.BgpEdges.{session_at, IsInside, AreInside}
-use Rattle.srp_build.specs.Kinds.{map_of_kind, IsKindOf, AreKindsOf, HasKinds, HaveKinds, AreKinds, AreSessionsOf}
+use Rattle.srp_build.specs.Kinds.{map_of_place, IsKindOf, AreKindsOf, HasKinds, HaveKinds, AreKinds, AreSessionsOf}
 use Rattle.srp_build.specs.LineMaps.{AreLineMaps, AreMapsOfKinds, number_of, numbered, line_maps}
 use Rattle.srp_build.specs.Lines.{map_of_line, sends_at}
 use Rattle.srp_build.specs.Plains.{SayTheSame, IsNumberOf, IsGrownBy, IsMapOfPlace, IsNumberOfLine, AreNumbersOf, HasNumbers, HaveNumbers, number_at, session_of}
 use Rattle.srp_build.proofs.FirstUse.{get_front, front_or_last, take_more, length_last, within_get}
+use Rattle.srp_build.proofs.LineKinds.{says_too}
 use Rattle.srp_build.proofs.SessionMaps.{IsSessionAt, session_is_at, line_numbered}
 
 -- ---- reading numbers
@@ -84,9 +85,9 @@ sessions_next routers kinds outs ins hops i hop d sessions session outs_are ins_
 
 -- ---- the maps of kinds, one after another
 
-pub maps_next : (p : Prefix) (routers : List Router) (kinds : List Kind) (i : ℕ) (kind d : Kind) (maps more : List Plain) (numbers : List ℕ) (number : ℕ) → i < length kinds → get_or kinds i d ≡ kind → AreMapsOfKinds p routers (take i kinds) maps numbers → IsNumberOf more number (map_of_kind p routers kind) → IsGrownBy maps more (map_of_kind p routers kind) → AreMapsOfKinds p routers (take (i + 1) kinds) more (numbers ++ number ∷ [])
+pub maps_next : (p : Prefix) (routers : List Router) (kinds : List LinePlace) (i : ℕ) (kind d : LinePlace) (maps more : List Plain) (numbers : List ℕ) (number : ℕ) → i < length kinds → get_or kinds i d ≡ kind → AreMapsOfKinds p routers (take i kinds) maps numbers → IsNumberOf more number (map_of_place p routers kind) → IsGrownBy maps more (map_of_place p routers kind) number → AreMapsOfKinds p routers (take (i + 1) kinds) more (numbers ++ number ∷ [])
 maps_next p routers kinds i kind d maps more numbers number inside at so_far is grown =
-    subst (λ (k : List Kind). AreMapsOfKinds p routers k more (numbers ++ number ∷ [])) (sym (take_more kinds i kind d inside at)) (record {
+    subst (λ (k : List LinePlace). AreMapsOfKinds p routers k more (numbers ++ number ∷ [])) (sym (take_more kinds i kind d inside at)) (record {
       total = (let a = length_last (take i kinds) kind in let b = length_last numbers number in let c = so_far.total in omega arith);
       each = λ place other k k_at other_at. elim (front_or_last (take i kinds) kind place k k_at) [
         | inl before ↦ elim (front_or_last numbers number place other other_at) [
@@ -95,35 +96,32 @@ maps_next p routers kinds i kind d maps more numbers number inside at so_far is 
         ]
         | inr here ↦ elim (front_or_last numbers number place other other_at) [
           | inl there ↦ absurd (let a = within_get numbers place other there in let b = so_far.total in let c = here.0 in omega arith)
-          | inr last ↦ subst (λ (x : Kind). IsNumberOf more other (map_of_kind p routers x)) here.1 (subst (λ (m : ℕ). IsNumberOf more m (map_of_kind p routers kind)) last.1 is)
+          | inr last ↦ subst (λ (x : LinePlace). IsNumberOf more other (map_of_place p routers x)) here.1 (subst (λ (m : ℕ). IsNumberOf more m (map_of_place p routers kind)) last.1 is)
         ]
       ];
       made = came grown;
     })
   where
-    kept : IsGrownBy maps more (map_of_kind p routers kind) → (other : ℕ) (k : Kind) → IsNumberOf maps other (map_of_kind p routers k) → IsNumberOf more other (map_of_kind p routers k)
-    kept (inl same) other k of = subst (λ (l : List Plain). IsNumberOf l other (map_of_kind p routers k)) (sym same) of
-    kept (inr last) other k of = record { other = of.other; at = ap (λ (l : List Plain). slice_get l other) last ∙ get_front maps (map_of_kind p routers kind ∷ []) other of.other of.at; same = of.same }
+    kept : IsGrownBy maps more (map_of_place p routers kind) number → (other : ℕ) (k : LinePlace) → IsNumberOf maps other (map_of_place p routers k) → IsNumberOf more other (map_of_place p routers k)
+    kept (inl same) other k of = subst (λ (l : List Plain). IsNumberOf l other (map_of_place p routers k)) (sym same) of
+    kept (inr last) other k of = record { other = of.other; at = ap (λ (l : List Plain). slice_get l other) last.0 ∙ get_front maps (map_of_place p routers kind ∷ []) other of.other of.at; same = of.same }
 
-    came : IsGrownBy maps more (map_of_kind p routers kind) → (other : ℕ) (plain : Plain) → slice_get more other ≡ Some plain → IsMapOfPlace p routers plain
+    came : IsGrownBy maps more (map_of_place p routers kind) number → (other : ℕ) (plain : Plain) → slice_get more other ≡ Some plain → IsMapOfPlace p routers plain
     came (inl same) other plain at = so_far.made other plain (ap (λ (l : List Plain). slice_get l other) (sym same) ∙ at)
-    came (inr last) other plain at = elim (front_or_last maps (map_of_kind p routers kind) other plain (ap (λ (l : List Plain). slice_get l other) (sym last) ∙ at)) [
+    came (inr last) other plain at = elim (front_or_last maps (map_of_place p routers kind) other plain (ap (λ (l : List Plain). slice_get l other) (sym last.0) ∙ at)) [
       | inl before ↦ so_far.made other plain before
-      | inr here ↦ record { inbound = kind.first.inbound; router = kind.first.router; item = kind.first.item; is = sym here.1 }
+      | inr here ↦ record { inbound = kind.inbound; router = kind.router; item = kind.item; is = sym here.1 }
     ]
 
 -- ---- the maps of lines
 
-says_too : (a b c : Plain) → SayTheSame a b → SayTheSame b c → SayTheSame a c
-says_too a b c first second = record { verdicts = λ comms. first.verdicts comms ∙ second.verdicts comms }
-
-module _ (p : Prefix) (all : List Router) (kinds : List Kind) (maps : List Plain) (numbers : List ℕ) (of_kinds : AreMapsOfKinds p all kinds maps numbers) (inbound : Bool) where
+module _ (p : Prefix) (all : List Router) (kinds : List LinePlace) (maps : List Plain) (numbers : List ℕ) (of_kinds : AreMapsOfKinds p all kinds maps numbers) (inbound : Bool) where
   line_number : (router : Router) (line : Neighbor) (number : ℕ) → IsKindOf all kinds router inbound line number → IsNumberOf maps (number_of numbers number) (map_of_line p router inbound line)
   line_number router line number of =
-      let inside = within_get kinds number of.kind of.at in
+      let inside = within_get kinds number of.first of.at in
       let total = of_kinds.total in
-      let there = of_kinds.each number (number_of numbers number) of.kind of.at (some_at numbers number 0 (omega arith)) in
-      record { other = there.other; at = there.at; same = says_too there.other (map_of_kind p all of.kind) (map_of_line p router inbound line) there.same (of.same p) }
+      let there = of_kinds.each number (number_of numbers number) of.first of.at (some_at numbers number 0 (omega arith)) in
+      record { other = there.other; at = there.at; same = says_too there.other (map_of_place p all of.first) (map_of_line p router inbound line) there.same (of.same p) }
 
   router_numbers : (router : Router) (of : List ℕ) → AreKindsOf all router inbound kinds (neighbors_of router) of → AreNumbersOf p router inbound maps (neighbors_of router) (map (number_of numbers) of)
   router_numbers router of are place number at = by_kind (slice_get of place) refl (sym (get_map (number_of numbers) of place) ∙ at)
@@ -143,10 +141,10 @@ module _ (p : Prefix) (all : List Router) (kinds : List Kind) (maps : List Plain
     have_numbers routers table have.1,
   )
 
-pub line_maps_are : (p : Prefix) (routers : List Router) (kinds : Kinds) (maps : KindMaps) → AreKinds routers kinds → AreMapsOfKinds p routers kinds.kinds.items maps.maps.items maps.numbers.items → AreLineMaps p routers (line_maps kinds maps)
+pub line_maps_are : (p : Prefix) (routers : List Router) (kinds : Kinds) (maps : KindMaps) → AreKinds routers kinds → AreMapsOfKinds p routers kinds.firsts.items maps.maps.items maps.numbers.items → AreLineMaps p routers (line_maps kinds maps)
 line_maps_are p routers kinds maps are of_kinds = record {
-  outs = have_numbers p routers kinds.kinds.items maps.maps.items maps.numbers.items of_kinds false routers kinds.outs are.outs;
-  ins = have_numbers p routers kinds.kinds.items maps.maps.items maps.numbers.items of_kinds true routers kinds.ins are.ins;
+  outs = have_numbers p routers kinds.firsts.items maps.maps.items maps.numbers.items of_kinds false routers kinds.outs are.outs;
+  ins = have_numbers p routers kinds.firsts.items maps.maps.items maps.numbers.items of_kinds true routers kinds.ins are.ins;
   made = of_kinds.made;
 }
 

@@ -44,7 +44,7 @@ line_numbered p inbound maps (router ∷ routers) (numbers ∷ table) have (suc 
     let r = line_numbered p inbound maps routers table have.1 place item number at in
     record { router = r.router; at = r.at; line = r.line; line_at = r.line_at; is = r.is }
 
-some_within : (xs : List ℕ) (k : ℕ) → k < length xs → slice_get xs k ≡ None → ⊥
+pub some_within : (xs : List ℕ) (k : ℕ) → k < length xs → slice_get xs k ≡ None → ⊥
 some_within [] k h none = absurd (omega arith)
 some_within (x ∷ xs) zero h none = cc
 some_within (x ∷ xs) (suc k) h none = some_within xs k (omega arith) none

@@ -11,7 +11,7 @@ use Rattle.cfg_ast.specs.meaning.Policy.{route_map_named}
 use Rattle.cfg_ast.specs.meaning.Topology.{neighbors_of}
 use Rattle.route_maps.specs.declared.plain.Plain.{Plain}
 use Rattle.srp_build.specs.declared.hops.Hop.{Hop}
-use Rattle.srp_build.specs.declared.kinds.Kind.{Kind}
+use Rattle.srp_build.specs.declared.kinds.KindTable.{KindTable}
 use Rattle.srp_build.specs.declared.kinds.Kinds.{Kinds}
 use Rattle.srp_build.specs.declared.kinds.LinePlace.{LinePlace}
 use Rattle.srp_build.specs.declared.session.Session.{Session}
@@ -26,41 +26,43 @@ names_no_list router name = option_map_or (λ (map : RouteMap). list_all (λ (en
 abbrev pub IsFixed : Router → Bool → Neighbor → Type 0
 IsFixed router inbound line = (p q : Prefix) → map_of_line p router inbound line ≡ map_of_line q router inbound line
 
--- the map of the first line of a kind
-abbrev pub map_of_kind : Prefix → List Router → Kind → Plain
-map_of_kind p routers kind = map_at p routers kind.first.inbound kind.first.router kind.first.item
+-- the map of the line at a place
+abbrev pub map_of_place : Prefix → List Router → LinePlace → Plain
+map_of_place p routers place = map_at p routers place.inbound place.router place.item
 
--- the line is of the kind with the number
-pub record IsKindOf (routers : List Router) (kinds : List Kind) (router : Router) (inbound : Bool) (line : Neighbor) (number : ℕ) : Type 0 where
-  pub kind : Kind
-  pub at : slice_get kinds number ≡ Some kind
-  pub same : (p : Prefix) → SayTheSame (map_of_kind p routers kind) (map_of_line p router inbound line)
+-- The map of the line says the same, for every prefix, as that of the line at the number-th of some
+-- places, where the first line of each kind stands.
+pub record IsKindOf (routers : List Router) (firsts : List LinePlace) (router : Router) (inbound : Bool) (line : Neighbor) (number : ℕ) : Type 0 where
+  pub first : LinePlace
+  pub at : slice_get firsts number ≡ Some first
+  pub same : (p : Prefix) → SayTheSame (map_of_place p routers first) (map_of_line p router inbound line)
 
 -- the number at a place is that of the kind of the line at that place
-pub record IsKindOfLine (routers : List Router) (router : Router) (inbound : Bool) (kinds : List Kind) (lines : List Neighbor) (place number : ℕ) : Type 0 where
+pub record IsKindOfLine (routers : List Router) (router : Router) (inbound : Bool) (firsts : List LinePlace) (lines : List Neighbor) (place number : ℕ) : Type 0 where
   pub line : Neighbor
   pub at : slice_get lines place ≡ Some line
-  pub is : IsKindOf routers kinds router inbound line number
+  pub is : IsKindOf routers firsts router inbound line number
 
-abbrev pub AreKindsOf : List Router → Router → Bool → List Kind → List Neighbor → List ℕ → Type 0
-AreKindsOf routers router inbound kinds lines numbers = (place number : ℕ) → slice_get numbers place ≡ Some number → IsKindOfLine routers router inbound kinds lines place number
+abbrev pub AreKindsOf : List Router → Router → Bool → List LinePlace → List Neighbor → List ℕ → Type 0
+AreKindsOf routers router inbound firsts lines numbers = (place number : ℕ) → slice_get numbers place ≡ Some number → IsKindOfLine routers router inbound firsts lines place number
 
 -- the numbers of the kinds of all lines of a router
-pub record HasKinds (routers : List Router) (router : Router) (inbound : Bool) (kinds : List Kind) (numbers : List ℕ) : Type 0 where
+pub record HasKinds (routers : List Router) (router : Router) (inbound : Bool) (firsts : List LinePlace) (numbers : List ℕ) : Type 0 where
   pub total : length numbers ≡ length (neighbors_of router)
-  pub each : AreKindsOf routers router inbound kinds (neighbors_of router) numbers
+  pub each : AreKindsOf routers router inbound firsts (neighbors_of router) numbers
 
 -- the routers of a table, which are among all routers, have the numbers of their kinds, router by router
-abbrev pub HaveKinds : List Router → Bool → List Kind → List Router → List (List ℕ) → Type 0
-HaveKinds all inbound kinds [] [] = Unit {0}
-HaveKinds all inbound kinds [] (numbers ∷ table) = ⊥
-HaveKinds all inbound kinds (router ∷ routers) [] = ⊥
-HaveKinds all inbound kinds (router ∷ routers) (numbers ∷ table) = HasKinds all router inbound kinds numbers × HaveKinds all inbound kinds routers table
+abbrev pub HaveKinds : List Router → Bool → List LinePlace → List Router → List (List ℕ) → Type 0
+HaveKinds all inbound firsts [] [] = Unit {0}
+HaveKinds all inbound firsts [] (numbers ∷ table) = ⊥
+HaveKinds all inbound firsts (router ∷ routers) [] = ⊥
+HaveKinds all inbound firsts (router ∷ routers) (numbers ∷ table) = HasKinds all router inbound firsts numbers × HaveKinds all inbound firsts routers table
 
--- the kinds of all lines, outbound and inbound
+-- Each line, outbound and inbound, has the number of a kind, and its map says the same as that of the
+-- kind's first line. Kinds may be alike.
 pub record AreKinds (routers : List Router) (kinds : Kinds) : Type 0 where
-  pub outs : HaveKinds routers false kinds.kinds.items routers kinds.outs
-  pub ins : HaveKinds routers true kinds.kinds.items routers kinds.ins
+  pub outs : HaveKinds routers false kinds.firsts.items routers kinds.outs
+  pub ins : HaveKinds routers true kinds.firsts.items routers kinds.ins
 
 -- the sessions are those of the directions, by the numbers of the kinds of their lines
 pub record AreSessionsOf (routers : List Router) (kinds : Kinds) (hops : List Hop) (sessions : List Session) : Type 0 where
@@ -69,36 +71,49 @@ pub record AreSessionsOf (routers : List Router) (kinds : Kinds) (hops : List Ho
 
 -- ---- how kinds are numbered
 
--- where a map is noted with a kind, it is the kind's for every prefix
-abbrev pub AreFixed : List Router → List Kind → Type 0
-AreFixed routers kinds = (number : ℕ) (kind : Kind) (plain : Plain) → slice_get kinds number ≡ Some kind → kind.fixed ≡ Some plain → (p : Prefix) → map_of_kind p routers kind ≡ plain
+-- the map is that of the line at the place for every prefix
+abbrev pub IsAlwaysAt : List Router → LinePlace → Plain → Type 0
+IsAlwaysAt routers place plain = (p : Prefix) → map_of_place p routers place ≡ plain
 
--- the map noted with the kind that has the number says the same as this one
-pub record HasFixed (kinds : List Kind) (number : ℕ) (plain : Plain) : Type 0 where
-  pub kind : Kind
-  pub at : slice_get kinds number ≡ Some kind
-  pub other : Plain
-  pub fixed : kind.fixed ≡ Some other
-  pub same : SayTheSame other plain
+-- the map says the same as that of the kind's first line for every prefix
+pub record IsAlwaysOf (routers : List Router) (firsts : List LinePlace) (number : ℕ) (plain : Plain) : Type 0 where
+  pub first : LinePlace
+  pub at : slice_get firsts number ≡ Some first
+  pub same : (p : Prefix) → SayTheSame (map_of_place p routers first) plain
+
+-- each map stands beside its kind, which has it for every prefix
+pub record AreFixed (routers : List Router) (table : KindTable) : Type 0 where
+  pub total : length table.kinds.items ≡ length table.fixed.maps.items
+  pub each : (place number : ℕ) (plain : Plain) → slice_get table.kinds.items place ≡ Some number → slice_get table.fixed.maps.items place ≡ Some plain → IsAlwaysOf routers table.firsts.items number plain
 
 -- the line stands at the place
 pub record IsLineAt (routers : List Router) (place : LinePlace) (router : Router) (line : Neighbor) : Type 0 where
   pub at : slice_get routers place.router ≡ Some router
   pub line_at : slice_get (neighbors_of router) place.item ≡ Some line
 
-abbrev pub KindsKept : List Kind → List Kind → Type 0
-KindsKept old new = (number : ℕ) (kind : Kind) → slice_get old number ≡ Some kind → slice_get new number ≡ Some kind
+-- kinds keep their numbers and their first lines
+abbrev pub KindsKept : List LinePlace → List LinePlace → Type 0
+KindsKept old new = (number : ℕ) (first : LinePlace) → slice_get old number ≡ Some first → slice_get new number ≡ Some first
 
--- the number is that of the kind of the line, which came last unless it was there
-pub record IsNumbered (old new : List Kind) (place : LinePlace) (router : Router) (line : Neighbor) (number : ℕ) : Type 0 where
-  pub kept : KindsKept old new
+-- a kind came last, with its first line at the place
+pub record IsNewKind (old new : KindTable) (first : LinePlace) (number : ℕ) : Type 0 where
+  pub next : number ≡ length old.firsts.items
+  pub last : new.firsts.items ≡ old.firsts.items ++ first ∷ []
+  pub maps : new.fixed.maps.items ≡ old.fixed.maps.items
+  pub kinds : new.kinds.items ≡ old.kinds.items
+
+-- the number is that of a kind that has the map for every prefix, if the line at the place has it
+pub record IsFixedKind (old new : KindTable) (first : LinePlace) (plain : Plain) (number : ℕ) : Type 0 where
+  pub kept : KindsKept old.firsts.items new.firsts.items
+  pub fixed : (routers : List Router) → IsAlwaysAt routers first plain → AreFixed routers old → AreFixed routers new
+  pub is : (routers : List Router) → IsAlwaysAt routers first plain → AreFixed routers old → IsAlwaysOf routers new.firsts.items number plain
+
+-- the number is that of a kind of the line, which stands at the place
+pub record IsKindNumber (old new : KindTable) (place : LinePlace) (router : Router) (line : Neighbor) (number : ℕ) : Type 0 where
+  pub kept : KindsKept old.firsts.items new.firsts.items
   pub fixed : (routers : List Router) → IsLineAt routers place router line → AreFixed routers old → AreFixed routers new
-  pub is : (routers : List Router) → IsLineAt routers place router line → AreFixed routers old → IsKindOf routers new router place.inbound line number
+  pub is : (routers : List Router) → IsLineAt routers place router line → AreFixed routers old → IsKindOf routers new.firsts.items router place.inbound line number
 
 -- an earlier line has the number and names the same map and list, or the line was numbered
-abbrev pub IsSeenOrNumbered : List Kind → List Kind → LinePlace → Router → List ℕ → Neighbor → ℕ → Type 0
-IsSeenOrNumbered old new place router numbers line number = ((new ≡ old) × IsAsEarlier place.inbound (neighbors_of router) numbers line number) ⊎ IsNumbered old new place router line number
-
--- the kind with the map that is noted came last, with the line as its first, unless one with the same map was there
-abbrev pub IsFixedNumber : List Kind → List Kind → LinePlace → Plain → ℕ → Type 0
-IsFixedNumber old new first plain number = ((new ≡ old) × HasFixed old number plain) ⊎ ((number ≡ length old) × (new ≡ old ++ record { first = first; fixed = Some plain } ∷ []))
+abbrev pub IsSeenOrNumbered : KindTable → KindTable → LinePlace → Router → List ℕ → Neighbor → ℕ → Type 0
+IsSeenOrNumbered old new place router numbers line number = ((new ≡ old) × IsAsEarlier place.inbound (neighbors_of router) numbers line number) ⊎ IsKindNumber old new place router line number

@@ -4,10 +4,10 @@ use Rattle.base_kit.specs.Prefixes.{Prefix}
 use Rattle.cfg_ast.specs.declared.network.Router.{Router}
 use Rattle.route_maps.specs.declared.plain.Plain.{Plain}
 use Rattle.srp_build.specs.declared.kind_maps.KindMaps.{KindMaps}
-use Rattle.srp_build.specs.declared.kinds.Kind.{Kind}
 use Rattle.srp_build.specs.declared.kinds.Kinds.{Kinds}
+use Rattle.srp_build.specs.declared.kinds.LinePlace.{LinePlace}
 use Rattle.srp_build.specs.declared.session.Session.{Session}
-use Rattle.srp_build.specs.Kinds.{map_of_kind}
+use Rattle.srp_build.specs.Kinds.{map_of_place}
 use Rattle.srp_build.specs.Plains.{IsNumberOf, IsMapOfPlace, HaveNumbers}
 
 -- each map once, and the numbers of those of each line, outbound and inbound, router by router
@@ -22,10 +22,10 @@ pub record AreLineMaps (p : Prefix) (routers : List Router) (maps : LineMaps) : 
   pub ins : HaveNumbers p true maps.maps routers maps.ins
   pub made : (number : ℕ) (map : Plain) → slice_get maps.maps number ≡ Some map → IsMapOfPlace p routers map
 
--- the numbers are those of the maps of kinds
-pub record AreMapsOfKinds (p : Prefix) (routers : List Router) (kinds : List Kind) (maps : List Plain) (numbers : List ℕ) : Type 0 where
-  pub total : length numbers ≡ length kinds
-  pub each : (place number : ℕ) (kind : Kind) → slice_get kinds place ≡ Some kind → slice_get numbers place ≡ Some number → IsNumberOf maps number (map_of_kind p routers kind)
+-- the numbers are those of the maps of kinds, whose first lines stand at these places
+pub record AreMapsOfKinds (p : Prefix) (routers : List Router) (firsts : List LinePlace) (maps : List Plain) (numbers : List ℕ) : Type 0 where
+  pub total : length numbers ≡ length firsts
+  pub each : (place number : ℕ) (first : LinePlace) → slice_get firsts place ≡ Some first → slice_get numbers place ≡ Some number → IsNumberOf maps number (map_of_place p routers first)
   pub made : (number : ℕ) (map : Plain) → slice_get maps number ≡ Some map → IsMapOfPlace p routers map
 
 -- the number of the map of a kind

@@ -23,9 +23,9 @@ pub record IsNumberOf (maps : List Plain) (number : ℕ) (map : Plain) : Type 0 
   pub at : slice_get maps number ≡ Some other
   pub same : SayTheSame other map
 
--- nothing was put last, or the item was
-abbrev pub IsGrownBy : {X : Type 0} → List X → List X → X → Type 0
-IsGrownBy old new x = (new ≡ old) ⊎ (new ≡ old ++ x ∷ [])
+-- nothing was put last, or the item was, with the number of its place
+abbrev pub IsGrownBy : {X : Type 0} → List X → List X → X → ℕ → Type 0
+IsGrownBy old new x number = (new ≡ old) ⊎ ((new ≡ old ++ x ∷ []) × (number ≡ length old))
 
 -- the map at a place of one of the routers
 pub record IsMapOfPlace (p : Prefix) (routers : List Router) (map : Plain) : Type 0 where

@@ -53,7 +53,7 @@ pub fn bgp_problem(
     let names = names_of(alloc, routers)?;
     let numbers = numbers_of(alloc, routers)?;
     let init = starts_of(alloc, routers, class.origins.as_slice())?;
-    let maps = kind_maps(alloc, p, routers, places, &directions.kinds.kinds)?;
+    let maps = kind_maps(alloc, p, routers, places, &directions.kinds.firsts)?;
     let found = bgp_edges(alloc, store, init.as_slice(), directions, &maps)?;
     let edges = found.edges.as_slice();
     let lone = lone_of(alloc, store, &found.acts.acts, routers.len(), edges)?;

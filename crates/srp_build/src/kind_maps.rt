@@ -2,7 +2,7 @@ ghost use Rattle.std.specs.Prelude.{◌≡◌, IfOk};
 ghost use Rattle.srp_build.specs.LineMaps.{AreMapsOfKinds, number_of, numbered};
 ghost use Rattle.srp_build.specs.ListPlaces.{HavePlaces};
 
-use crate::kinds::Kind;
+use crate::kinds::LinePlace;
 use crate::lines::map_at;
 use crate::plains::Plains;
 use crate::session::Session;
@@ -19,21 +19,20 @@ pub struct KindMaps {
     pub numbers: Vec<u32>,
 }
 
-/// The maps of the kinds for a prefix.
+/// The maps of the kinds with these first lines for a prefix.
 pub fn kind_maps(
     alloc: Global,
     p: Prefix,
     routers: &[Router],
     places: &[Places],
-    kinds: &[Kind],
+    firsts: &[LinePlace],
 ) -> Result<KindMaps, NoMemory>
     requires { HavePlaces routers.now places.now }
-    ensures { IfOk result (λ found. AreMapsOfKinds p routers.now kinds.now found.maps.items found.numbers.items) }
+    ensures { IfOk result (λ found. AreMapsOfKinds p routers.now firsts.now found.maps.items found.numbers.items) }
 {
     let mut plains = Plains::new(alloc);
     let mut numbers = Vec::new(alloc);
-    for kind in kinds {
-        let first = kind.first;
+    for first in firsts {
         let map = map_at(
             alloc,
             p,

@@ -1,22 +1,18 @@
-ghost use Rattle.std.specs.Prelude.{◌≡◌, ◌<◌, [], true, Some, IfOk, OnOk, IfSome, length, slice_get};
+ghost use Rattle.std.specs.Prelude.{◌≡◌, ◌<◌, [], Some, IfOk, OnOk, length, slice_get};
 ghost use Rattle.cfg_ast.specs.declared.network.Router.{Router};
 ghost use Rattle.specialize.specs.Places.{ArePlacesOf};
-ghost use Rattle.srp_build.specs.Kinds.{AreFixed, AreKinds, HasFixed, HasKinds, HaveKinds, IsFixedNumber, IsNumbered, IsSeenOrNumbered, KindsKept};
+ghost use Rattle.srp_build.specs.Kinds.{AreFixed, AreKinds, HasKinds, HaveKinds, IsFixedKind, IsKindNumber, IsNewKind, IsSeenOrNumbered, KindsKept};
 ghost use Rattle.srp_build.specs.ListPlaces.{HavePlaces};
 
 use crate::fixed::is_fixed;
 use crate::lines::{map_of_line, neighbors};
-use crate::plains::place;
+use crate::plains::{Plains, place};
 use crate::seen::Seen;
-use crate::sums::sum_of_map;
 use base_kit::{List, NoMemory, Prefix};
-use buckets::{Index, items_at, push_at};
 use cfg_ast::{Neighbor, Router};
-use route_maps::laws::same_map_says_the_same;
-use route_maps::{Plain, same_map};
+use route_maps::Plain;
 use specialize::Places;
 use std::alloc::Global;
-use std::collections::HashMap;
 
 /// A line of a router, inbound or outbound.
 #[derive(Clone, Copy, Debug, PartialEq, Eq)]
@@ -26,83 +22,68 @@ pub struct LinePlace {
     pub inbound: bool,
 }
 
-/// A kind of lines: the first of them, and its map where that is noted to be the same for every prefix.
-#[derive(Drop)]
-pub struct Kind {
-    pub first: LinePlace,
-    pub fixed: Option<Plain>,
-}
-
 /// The kinds of all neighbour lines. Whatever the prefix, the maps of lines of one kind say the same:
 /// either they name one map and one list of one router, or they are the same map for every prefix.
 #[derive(Drop)]
 pub struct Kinds {
-    pub kinds: Vec<Kind>,
+    /// The first line of each kind.
+    pub firsts: Vec<LinePlace>,
     /// The number of the kind of each line outbound, router by router.
     pub outs: List<List<u32>>,
     /// The same inbound.
     pub ins: List<List<u32>>,
 }
 
-// Kinds by their numbers, and those with a noted map by its sum.
+// The first lines of kinds, and the different maps of those kinds whose map is the same for every
+// prefix. They are needed only while kinds are numbered.
 #[derive(Drop)]
 struct KindTable {
-    pub kinds: Vec<Kind>,
-    by_sum: Index<u32>,
-}
-
-// Whether the map noted with the kind is the same as this one.
-fn has_fixed(kinds: &[Kind], number: u32, map: &Plain) -> bool
-    ensures { result ≡ true → HasFixed kinds.now number map.now }
-{
-    same_map_says_the_same();
-    let Some(kind) = kinds.get(number as usize) else {
-        return false;
-    };
-    match &kind.fixed {
-        Some(other) => same_map(other, map),
-        None => false,
-    }
-}
-
-// The first of the numbers whose kind has the same map noted.
-fn fixed_among(kinds: &[Kind], numbers: &[u32], map: &Plain) -> Option<u32>
-    ensures { IfSome result (λ number. HasFixed kinds.now number map.now) }
-{
-    for number in numbers {
-        if has_fixed(kinds, *number, map) {
-            return Some(*number);
-        }
-    }
-    None
+    pub firsts: Vec<LinePlace>,
+    pub fixed: Plains,
+    // The kind of each of the maps.
+    pub kinds: Vec<u32>,
 }
 
 impl KindTable {
     fn new(alloc: Global) -> Self
-        ensures { result.kinds.items ≡ [] }
+        ensures firsts { result.firsts.items ≡ [] }
+        ensures maps { result.fixed.maps.items ≡ [] }
+        ensures kinds { result.kinds.items ≡ [] }
     {
         KindTable {
+            firsts: Vec::new(alloc),
+            fixed: Plains::new(alloc),
             kinds: Vec::new(alloc),
-            by_sum: HashMap::new(alloc),
         }
     }
 
-    // The number of the kind with that map, which is put last, with the line as its first, unless it is
-    // there.
-    fn number_fixed(&mut self, alloc: Global, first: LinePlace, map: Plain) -> Result<u32, NoMemory>
-        ensures { IfOk result (IsFixedNumber self.old.kinds.items self.new.kinds.items first map) }
+    // The number of a new kind, whose first line stands at the place.
+    fn push(&mut self, first: LinePlace) -> Result<u32, NoMemory>
+        ensures { IfOk result (IsNewKind self.old self.new first) }
     {
-        let sum = sum_of_map(&map);
-        if let Some(number) = fixed_among(&self.kinds, items_at(&self.by_sum, sum), &map) {
-            return Ok(number);
+        let kind = place(self.firsts.len())?;
+        self.firsts.push(first)?;
+        Ok(kind)
+    }
+
+    // The kind that has the map with the number.
+    fn kind_of_map(&self, number: u32) -> Option<u32>
+        ensures { result ≡ slice_get self.now.kinds.items number }
+    {
+        self.kinds.get(number as usize).copied()
+    }
+
+    // The number of the kind that has the map for every prefix, a new one where none has.
+    fn number_fixed(&mut self, alloc: Global, first: LinePlace, map: Plain) -> Result<u32, NoMemory>
+        ensures { IfOk result (IsFixedKind self.old self.new first map) }
+    {
+        let number = self.fixed.number(alloc, map)?;
+        if let Some(kind) = self.kind_of_map(number) {
+            return Ok(kind);
         }
-        let number = place(self.kinds.len())?;
-        self.kinds.push(Kind {
-            first,
-            fixed: Some(map),
-        })?;
-        push_at(alloc, &mut self.by_sum, sum, number)?;
-        Ok(number)
+        let kind = self.push(first)?;
+        self.kinds.push(kind)?;
+        Ok(kind)
     }
 
     // The number of the kind of a line, which stands at the place.
@@ -115,16 +96,14 @@ impl KindTable {
         line: &Neighbor,
     ) -> Result<u32, NoMemory>
         requires { ArePlacesOf router.now places.now }
-        ensures { IfOk result (IsNumbered self.old.kinds.items self.new.kinds.items first router.now line.now) }
+        ensures { IfOk result (IsKindNumber self.old self.new first router.now line.now) }
     {
         if is_fixed(router, places, first.inbound, line) {
             let any = Prefix::new(0, 0);
             let map = map_of_line(alloc, any, router, places, first.inbound, line)?;
             return self.number_fixed(alloc, first, map);
         }
-        let number = place(self.kinds.len())?;
-        self.kinds.push(Kind { first, fixed: None })?;
-        Ok(number)
+        self.push(first)
     }
 }
 
@@ -140,7 +119,7 @@ fn kind_of_line(
     line: &Neighbor,
 ) -> Result<u32, NoMemory>
     requires { ArePlacesOf router.now places.now }
-    ensures { IfOk result (IsSeenOrNumbered table.old.kinds.items table.new.kinds.items first router.now numbers.now line.now) }
+    ensures { IfOk result (IsSeenOrNumbered table.old table.new first router.now numbers.now line.now) }
 {
     let lines = neighbors(router);
     let known = seen.known_number(alloc, first.inbound, lines, numbers, line)?;
@@ -161,10 +140,10 @@ fn kinds_of_router(
 ) -> Result<List<u32>, NoMemory>
     requires places { HavePlaces routers.now places.now }
     requires inside { at < length routers.now }
-    requires fixed { AreFixed routers.now table.old.kinds.items }
-    ensures fixed { OnOk result (AreFixed routers.now table.new.kinds.items) }
-    ensures kept { OnOk result (KindsKept table.old.kinds.items table.new.kinds.items) }
-    ensures kinds { IfOk result (λ numbers. (router : Router) → slice_get routers.now at ≡ Some router → HasKinds routers.now router inbound table.new.kinds.items numbers) }
+    requires fixed { AreFixed routers.now table.old }
+    ensures fixed { OnOk result (AreFixed routers.now table.new) }
+    ensures kept { OnOk result (KindsKept table.old.firsts.items table.new.firsts.items) }
+    ensures kinds { IfOk result (λ numbers. (router : Router) → slice_get routers.now at ≡ Some router → HasKinds routers.now router inbound table.new.firsts.items numbers) }
 {
     let router = &routers[at];
     let own = &places[at];
@@ -195,10 +174,10 @@ fn kinds_by_router(
     inbound: bool,
 ) -> Result<List<List<u32>>, NoMemory>
     requires places { HavePlaces routers.now places.now }
-    requires fixed { AreFixed routers.now table.old.kinds.items }
-    ensures fixed { OnOk result (AreFixed routers.now table.new.kinds.items) }
-    ensures kept { OnOk result (KindsKept table.old.kinds.items table.new.kinds.items) }
-    ensures kinds { IfOk result (HaveKinds routers.now inbound table.new.kinds.items routers.now) }
+    requires fixed { AreFixed routers.now table.old }
+    ensures fixed { OnOk result (AreFixed routers.now table.new) }
+    ensures kept { OnOk result (KindsKept table.old.firsts.items table.new.firsts.items) }
+    ensures kinds { IfOk result (HaveKinds routers.now inbound table.new.firsts.items routers.now) }
 {
     let mut by_router = List::new(alloc);
     for at in 0..routers.len() {
@@ -217,7 +196,7 @@ pub fn kinds_of(alloc: Global, routers: &[Router], places: &[Places]) -> Result<
     let outs = kinds_by_router(alloc, &mut table, routers, places, false)?;
     let ins = kinds_by_router(alloc, &mut table, routers, places, true)?;
     Ok(Kinds {
-        kinds: table.kinds,
+        firsts: table.firsts,
         outs,
         ins,
     })

@@ -1,4 +1,4 @@
-ghost use Rattle.std.specs.Prelude.{◌≡◌, [], true, IfOk, OnOk, IfSome};
+ghost use Rattle.std.specs.Prelude.{◌≡◌, [], true, IfOk, IfSome};
 ghost use Rattle.srp_build.specs.Plains.{IsNumberOf, IsGrownBy};
 
 use crate::sums::sum_of_map;
@@ -64,7 +64,7 @@ impl Plains {
     /// The number of a map, which is put last unless one that is the same is there.
     pub fn number(&mut self, alloc: Global, map: Plain) -> Result<u32, NoMemory>
         ensures number { IfOk result (λ number. IsNumberOf self.new.maps.items number map) }
-        ensures grown { OnOk result (IsGrownBy self.old.maps.items self.new.maps.items map) }
+        ensures grown { IfOk result (IsGrownBy self.old.maps.items self.new.maps.items map) }
     {
         let sum = sum_of_map(&map);
         if let Some(number) = same_among(&self.maps, items_at(&self.by_sum, sum), &map) {

@@ -10,7 +10,7 @@ use Rattle.srp_core.specs.ProblemOf.{as_number_of}
 use Rattle.srp_build.specs.declared.acts.BgpAct.{BgpAct}
 use Rattle.srp_build.specs.declared.hops.Hop.{Hop}
 use Rattle.srp_build.specs.declared.kind_maps.KindMaps.{KindMaps}
-use Rattle.srp_build.specs.declared.kinds.Kind.{Kind}
+use Rattle.srp_build.specs.declared.kinds.LinePlace.{LinePlace}
 use Rattle.srp_build.specs.declared.session_hops.SessionHops.{SessionHops}
 use Rattle.srp_build.specs.Directions.{AreSessionHops, directions_of}
 use Rattle.srp_build.specs.Kinds.{AreSessionsOf}
@@ -28,11 +28,11 @@ use Rattle.srp_build.proofs.bgp_problem.bgp_problem.Goals as goal
 sessions_are : (n : Network) (found : SessionHops) → AreSessionHops n.routers (directions_of n) found → AreSessionsOf n.routers found.kinds found.hops.items found.sessions.items
 sessions_are n found are = subst (λ (h : List Hop). AreSessionsOf n.routers found.kinds h found.sessions.items) (sym are.hops_are) are.sessions
 
-lines_are : (n : Network) (p : Prefix) (routers : List Router) (kinds : List Kind) (found : SessionHops) (maps : KindMaps) → routers ≡ n.routers → kinds ≡ found.kinds.kinds.items → AreSessionHops n.routers (directions_of n) found → AreMapsOfKinds p routers kinds maps.maps.items maps.numbers.items → AreLineMaps p n.routers (line_maps found.kinds maps)
-lines_are n p routers kinds found maps routers_are kinds_are are of_kinds =
+lines_are : (n : Network) (p : Prefix) (routers : List Router) (firsts : List LinePlace) (found : SessionHops) (maps : KindMaps) → routers ≡ n.routers → firsts ≡ found.kinds.firsts.items → AreSessionHops n.routers (directions_of n) found → AreMapsOfKinds p routers firsts maps.maps.items maps.numbers.items → AreLineMaps p n.routers (line_maps found.kinds maps)
+lines_are n p routers firsts found maps routers_are firsts_are are of_kinds =
     line_maps_are p n.routers found.kinds maps are.kinds
-    (subst (λ (k : List Kind). AreMapsOfKinds p n.routers k maps.maps.items maps.numbers.items) kinds_are
-    (subst (λ (r : List Router). AreMapsOfKinds p r kinds maps.maps.items maps.numbers.items) routers_are of_kinds))
+    (subst (λ (k : List LinePlace). AreMapsOfKinds p n.routers k maps.maps.items maps.numbers.items) firsts_are
+    (subst (λ (r : List Router). AreMapsOfKinds p r firsts maps.maps.items maps.numbers.items) routers_are of_kinds))
 
 have_places : (n : Network) (routers : List Router) (places : List Places) (found : SessionHops) → routers ≡ n.routers → places ≡ found.places.items → AreSessionHops n.routers (directions_of n) found → HavePlaces routers places
 have_places n routers places found routers_are places_are are =

@@ -9,8 +9,8 @@ pub loop-at-preserved : goal.loop-at-preserved
 loop-at-preserved c =
     let routers = c.args.routers.now in
     let i = c.loop-at.at in
-    let old = c.loop-at.table.kinds.items in
-    let new = c.kinds_of_router.new.table.kinds.items in
+    let old = c.loop-at.table.firsts.items in
+    let new = c.kinds_of_router.new.table.firsts.items in
     let kept = c.in_ok-numbers.ensures.kept in
     let there = has_item routers i c.loop-at-test.true in
     let read : there.item ≡ get_or routers i there.item = sym (get_or_from_slice_get routers i there.item there.item there.at) in

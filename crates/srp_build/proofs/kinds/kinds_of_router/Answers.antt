@@ -16,8 +16,8 @@ loop-i-preserved c =
     let line = c.index-lines-i.result in
     let numbers = c.loop-i.numbers in
     let number = c.in_ok-number.number in
-    let old = c.loop-i.table.kinds.items in
-    let new = c.kind_of_line.new.table.kinds.items in
+    let old = c.loop-i.table in
+    let new = c.kind_of_line.new.table in
     let total = c.loop-i.invariant.total in
     let pushed = c.in_ok-push.ensures.ok in
     let first : LinePlace = record { router = c.in_ok-router_place.router_place; item = c.in_ok-place.field-0; inbound = c.args.inbound } in
@@ -31,7 +31,7 @@ loop-i-preserved c =
     let step : LineSteps routers old new router c.args.inbound numbers number = line_step routers old new first router numbers line number there (ap (slice_get (neighbors_of router)) total ∙ read) c.loop-i.invariant.fixed c.loop-i.invariant.each seen in
     record {
       total = (let a = ap (λ (l : List ℕ). length l) pushed in let b = length_last numbers number in omega arith);
-      each = subst (λ (l : List ℕ). AreKindsOf routers router c.args.inbound new (neighbors_of router) l) (sym pushed) step.each;
+      each = subst (λ (l : List ℕ). AreKindsOf routers router c.args.inbound new.firsts.items (neighbors_of router) l) (sym pushed) step.each;
       fixed = step.fixed;
       kept = λ k kind at. step.kept k kind (c.loop-i.invariant.kept k kind at);
     }
@@ -43,4 +43,4 @@ returns-clause-kinds c = λ router at.
     let same : c.index-routers-at.result ≡ router = (let both = sym read_router ∙ at in cc) in
     let total = c.loop-i.invariant.total in
     let lines = ap (λ (l : List Neighbor). length l) c.neighbors-lines.ensures in
-    subst (λ (r : Router). HasKinds routers r c.args.inbound c.loop-i.table.kinds.items c.loop-i.numbers) same (record { total = omega arith; each = c.loop-i.invariant.each })
+    subst (λ (r : Router). HasKinds routers r c.args.inbound c.loop-i.table.firsts.items c.loop-i.numbers) same (record { total = omega arith; each = c.loop-i.invariant.each })

@@ -6,7 +6,7 @@ use Rattle.srp_build.proofs.kinds.kinds_of_router.Given as goal
 abbrev pub invariant-loop-i : goal.invariant-loop-i
 invariant-loop-i l = record {
   total : length l.numbers ≡ l.i;
-  each : AreKindsOf l.routers l.router l.inbound l.table.kinds.items (neighbors_of l.router) l.numbers;
-  fixed : AreFixed l.routers l.table.kinds.items;
-  kept : KindsKept l.initial.table.kinds.items l.table.kinds.items;
+  each : AreKindsOf l.routers l.router l.inbound l.table.firsts.items (neighbors_of l.router) l.numbers;
+  fixed : AreFixed l.routers l.table;
+  kept : KindsKept l.initial.table.firsts.items l.table.firsts.items;
 }
