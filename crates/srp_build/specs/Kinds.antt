@@ -102,13 +102,14 @@ pub record IsNewKind (old new : KindTable) (first : LinePlace) (number : ℕ) : 
   pub maps : new.fixed.maps.items ≡ old.fixed.maps.items
   pub kinds : new.kinds.items ≡ old.kinds.items
 
--- the number is that of a kind that has the map for every prefix, if the line at the place has it
+-- kinds stay, and the number is that of a kind that has the map for every prefix, if the line at the place
+-- has it
 pub record IsFixedKind (old new : KindTable) (first : LinePlace) (plain : Plain) (number : ℕ) : Type 0 where
   pub kept : KindsKept old.firsts.items new.firsts.items
   pub fixed : (routers : List Router) → IsAlwaysAt routers first plain → AreFixed routers old → AreFixed routers new
   pub is : (routers : List Router) → IsAlwaysAt routers first plain → AreFixed routers old → IsAlwaysOf routers new.firsts.items number plain
 
--- the number is that of a kind of the line, which stands at the place
+-- kinds stay, and the number is that of a kind of the line, which stands at the place
 pub record IsKindNumber (old new : KindTable) (place : LinePlace) (router : Router) (line : Neighbor) (number : ℕ) : Type 0 where
   pub kept : KindsKept old.firsts.items new.firsts.items
   pub fixed : (routers : List Router) → IsLineAt routers place router line → AreFixed routers old → AreFixed routers new

@@ -27,7 +27,7 @@ pub record IsNumberOf (maps : List Plain) (number : ℕ) (map : Plain) : Type 0 
 abbrev pub IsGrownBy : {X : Type 0} → List X → List X → X → ℕ → Type 0
 IsGrownBy old new x number = (new ≡ old) ⊎ ((new ≡ old ++ x ∷ []) × (number ≡ length old))
 
--- the map at a place of one of the routers
+-- the map of the line at a place of a router, or the closed one where no line stands there
 pub record IsMapOfPlace (p : Prefix) (routers : List Router) (map : Plain) : Type 0 where
   pub inbound : Bool
   pub router : ℕ
