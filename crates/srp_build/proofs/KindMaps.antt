@@ -16,7 +16,7 @@ use Rattle.srp_build.specs.declared.kinds.LinePlace.{LinePlace}
 use Rattle.srp_build.specs.declared.session.Session.{Session}
 use Rattle.srp_build.specs.BgpEdges.{session_at, IsInside, AreInside}
 use Rattle.srp_build.specs.Kinds.{map_of_place, IsKindOf, AreKindsOf, HasKinds, HaveKinds, AreKinds, AreSessionsOf}
-use Rattle.srp_build.specs.LineMaps.{AreLineMaps, AreMapsOfKinds, number_of, numbered, line_maps}
+use Rattle.srp_build.specs.LineMaps.{AreLineMaps, AreMapsOfKinds, number_of, with_maps, line_maps}
 use Rattle.srp_build.specs.Lines.{map_of_line, sends_at}
 use Rattle.srp_build.specs.Plains.{SayTheSame, IsNumberOf, IsGrownBy, IsMapOfPlace, IsNumberOfLine, AreNumbersOf, HasNumbers, HaveNumbers, number_at, session_of}
 use Rattle.srp_build.proofs.FirstUse.{get_front, front_or_last, take_more, length_last, within_get}
@@ -59,7 +59,7 @@ session_parts f sends (Some o) (Some i) session e =
     ap (λ (s : Session). Some (let t : Session = record { out = f s.out; sends = s.sends; into = f s.into } in t)) same
 
 -- the session of a direction has the numbers of the maps of its kinds
-pub session_numbered : (routers : List Router) (kinds : Kinds) (maps : KindMaps) (hop : Hop) (session : Session) → session_of routers kinds.outs kinds.ins hop ≡ Some session → session_at routers (line_maps kinds maps) hop ≡ Some (numbered maps.numbers.items session)
+pub session_numbered : (routers : List Router) (kinds : Kinds) (maps : KindMaps) (hop : Hop) (session : Session) → session_of routers kinds.outs kinds.ins hop ≡ Some session → session_at routers (line_maps kinds maps) hop ≡ Some (with_maps maps.numbers.items session)
 session_numbered routers kinds maps hop session e =
     let f = number_of maps.numbers.items in
     let sends = sends_at routers hop.exporter hop.exporter_item in
@@ -158,7 +158,7 @@ inside_are p routers kinds maps hops sessions lines are place session at =
     let inside = within_get sessions place session at in
     let total = are.total in
     let hop = has_item hops place (omega arith) in
-    let at_hop : IsSessionAt routers (line_maps kinds maps) hop.item (numbered maps.numbers.items session) = session_is_at routers (line_maps kinds maps) hop.item (numbered maps.numbers.items session) (session_numbered routers kinds maps hop.item session (are.each place hop.item session hop.at at)) in
+    let at_hop : IsSessionAt routers (line_maps kinds maps) hop.item (with_maps maps.numbers.items session) = session_is_at routers (line_maps kinds maps) hop.item (with_maps maps.numbers.items session) (session_numbered routers kinds maps hop.item session (are.each place hop.item session hop.at at)) in
     record {
       out = below p false maps.maps.items routers (line_maps kinds maps).outs lines.outs hop.item.exporter hop.item.exporter_item (number_of maps.numbers.items session.out) at_hop.out;
       into = below p true maps.maps.items routers (line_maps kinds maps).ins lines.ins hop.item.importer hop.item.importer_item (number_of maps.numbers.items session.into) at_hop.into;

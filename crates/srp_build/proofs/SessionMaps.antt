@@ -25,17 +25,17 @@ use Rattle.srp_build.proofs.LinkPlaces.{direction_of}
 -- ---- tables of numbers
 
 -- the line at a place of a router, with the number of its map
-pub record IsLineAt (p : Prefix) (inbound : Bool) (maps : List Plain) (routers : List Router) (place item number : ℕ) : Type 0 where
+pub record HasNumberAt (p : Prefix) (inbound : Bool) (maps : List Plain) (routers : List Router) (place item number : ℕ) : Type 0 where
   pub router : Router
   pub at : slice_get routers place ≡ Some router
   pub line : Neighbor
   pub line_at : slice_get (neighbors_of router) item ≡ Some line
   pub is : IsNumberOf maps number (map_of_line p router inbound line)
 
-line_of : (p : Prefix) (inbound : Bool) (maps : List Plain) (router : Router) (routers : List Router) (numbers : List ℕ) → HasNumbers p router inbound maps numbers → (item number : ℕ) → slice_get numbers item ≡ Some number → IsLineAt p inbound maps (router ∷ routers) zero item number
+line_of : (p : Prefix) (inbound : Bool) (maps : List Plain) (router : Router) (routers : List Router) (numbers : List ℕ) → HasNumbers p router inbound maps numbers → (item number : ℕ) → slice_get numbers item ≡ Some number → HasNumberAt p inbound maps (router ∷ routers) zero item number
 line_of p inbound maps router routers numbers has item number at = let line = has.each item number at in record { router = router; at = refl; line = line.line; line_at = line.at; is = line.is }
 
-pub line_numbered : (p : Prefix) (inbound : Bool) (maps : List Plain) (routers : List Router) (table : List (List ℕ)) → HaveNumbers p inbound maps routers table → (place item number : ℕ) → number_at table place item ≡ Some number → IsLineAt p inbound maps routers place item number
+pub line_numbered : (p : Prefix) (inbound : Bool) (maps : List Plain) (routers : List Router) (table : List (List ℕ)) → HaveNumbers p inbound maps routers table → (place item number : ℕ) → number_at table place item ≡ Some number → HasNumberAt p inbound maps routers place item number
 line_numbered p inbound maps [] [] have place item number at = absurd cc
 line_numbered p inbound maps [] (numbers ∷ table) have place item number at = absurd have
 line_numbered p inbound maps (router ∷ routers) [] have place item number at = absurd have

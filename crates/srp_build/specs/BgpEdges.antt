@@ -10,7 +10,7 @@ use Rattle.srp_build.specs.declared.acts.BgpAct.{BgpAct}
 use Rattle.srp_build.specs.declared.bgp_edges.BgpEdges.{BgpEdges}
 use Rattle.srp_build.specs.declared.hops.Hop.{Hop}
 use Rattle.srp_build.specs.declared.kind_maps.KindMaps.{KindMaps}
-use Rattle.srp_build.specs.LineMaps.{LineMaps, number_of, numbered}
+use Rattle.srp_build.specs.LineMaps.{LineMaps, number_of, with_maps}
 use Rattle.srp_build.specs.declared.session.Session.{Session}
 use Rattle.srp_build.specs.ActOrder.{AreByFirstUse}
 use Rattle.srp_build.specs.BgpActs.{IsNewAct}
@@ -38,7 +38,7 @@ session_at routers maps hop = session_of routers maps.outs maps.ins hop
 -- the session is that of the direction, by the numbers of kinds
 pub record IsSessionOf (routers : List Router) (lines : LineMaps) (maps : KindMaps) (hop : Hop) (session : Session) : Type 0 where
   pub maps_are : maps.maps.items ≡ lines.maps
-  pub is : session_at routers lines hop ≡ Some (numbered maps.numbers.items session)
+  pub is : session_at routers lines hop ≡ Some (with_maps maps.numbers.items session)
 
 -- the importer originates, or there is no session, or it accepts nothing
 pub data IsLeftOut (routers : List Router) (init : List (Option Route)) (maps : LineMaps) (hop : Hop) : Type 0 where

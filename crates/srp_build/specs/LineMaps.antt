@@ -33,8 +33,8 @@ abbrev pub number_of : List ℕ → ℕ → ℕ
 number_of numbers kind = slice_index_or numbers kind 0
 
 -- the session by the numbers of its maps, from that by the numbers of its kinds
-abbrev pub numbered : List ℕ → Session → Session
-numbered numbers session = record { out = number_of numbers session.out; sends = session.sends; into = number_of numbers session.into }
+abbrev pub with_maps : List ℕ → Session → Session
+with_maps numbers session = record { out = number_of numbers session.out; sends = session.sends; into = number_of numbers session.into }
 
 -- the maps of all lines, from those of their kinds
 abbrev pub line_maps : Kinds → KindMaps → LineMaps

@@ -10,7 +10,7 @@ ghost use Rattle.srp_build.specs.Sessions.{AreRight, AreMapsWithin};
 
 use crate::acts::{Acts, BgpAct};
 use crate::hops::Hop;
-use crate::kind_maps::{KindMaps, numbered};
+use crate::kind_maps::{KindMaps, with_maps};
 use crate::lines::act_of_hop;
 use crate::session::Session;
 use crate::session_hops::SessionHops;
@@ -73,7 +73,7 @@ impl BgpEdges {
         if originates(init, hop.importer) {
             return Ok(());
         }
-        let session = numbered(&maps.numbers, session);
+        let session = with_maps(&maps.numbers, session);
         let act = act_of_session(
             alloc,
             store,

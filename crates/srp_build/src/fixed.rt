@@ -9,18 +9,18 @@ use base_kit::Text;
 use cfg_ast::{MapEntry, Neighbor, Router};
 use specialize::{Places, route_map_at};
 
-fn names_no_list(entries: &[MapEntry]) -> bool
+fn match_no_list(entries: &[MapEntry]) -> bool
     ensures { result ≡ list_all (λ (entry : MapEntry). is_none entry.prefixes) entries.now }
 {
     entries.iter().all(|entry| !entry.prefixes.is_some())
 }
 
-fn is_free(router: &Router, places: &Places, name: &Text) -> bool
+fn names_no_list(router: &Router, places: &Places, name: &Text) -> bool
     requires { ArePlacesOf router.now places.now }
     ensures { result ≡ names_no_list router.now name.now }
 {
     match route_map_at(router, places, name) {
-        Some(map) => names_no_list(map.entries.as_slice()),
+        Some(map) => match_no_list(map.entries.as_slice()),
         None => true,
     }
 }
@@ -35,7 +35,7 @@ pub fn is_fixed(router: &Router, places: &Places, inbound: bool, line: &Neighbor
         return false;
     }
     match map_named(inbound, line) {
-        Some(named) => is_free(router, places, &named.name),
+        Some(named) => names_no_list(router, places, &named.name),
         None => true,
     }
 }

@@ -1,5 +1,5 @@
 ghost use Rattle.std.specs.Prelude.{◌≡◌, IfOk};
-ghost use Rattle.srp_build.specs.LineMaps.{AreMapsOfKinds, number_of, numbered};
+ghost use Rattle.srp_build.specs.LineMaps.{AreMapsOfKinds, number_of, with_maps};
 ghost use Rattle.srp_build.specs.ListPlaces.{HavePlaces};
 
 use crate::kinds::LinePlace;
@@ -60,8 +60,8 @@ fn number_of(numbers: &[u32], kind: u32) -> u32
 }
 
 /// The session by the numbers of its maps, from that by the numbers of the kinds of its lines.
-pub fn numbered(numbers: &[u32], session: &Session) -> Session
-    ensures { result ≡ numbered numbers.now session.now }
+pub fn with_maps(numbers: &[u32], session: &Session) -> Session
+    ensures { result ≡ with_maps numbers.now session.now }
 {
     Session {
         out: number_of(numbers, session.out),

@@ -3,7 +3,7 @@ use Rattle.policy_dd.specs.Imports.{AcceptsNone}
 use Rattle.route_maps.specs.declared.plain.Plain.{Plain}
 use Rattle.srp_build.specs.declared.session.Session.{Session}
 use Rattle.srp_build.specs.BgpEdges.{session_at, started, denied}
-use Rattle.srp_build.specs.LineMaps.{numbered}
+use Rattle.srp_build.specs.LineMaps.{with_maps}
 use Rattle.srp_build.specs.Plains.{import_over}
 use Rattle.srp_build.specs.Sessions.{IsActFor, IsActOver, IsMaybeNew}
 use Rattle.srp_build.proofs.bgp_edges.BgpEdges.take.Goals as goal
@@ -15,9 +15,9 @@ returns-then-originates-clause-takes c = λ routers lines is. inl (record { left
 pub returns-in_default-clause-takes : goal.returns-in_default-clause-takes
 returns-in_default-clause-takes c = λ routers lines is.
     let hop = c.args.hop.now in
-    let session = c.numbered-session.result in
+    let session = c.with_maps-session.result in
     let acts = c.act_of_session.new.acts.acts.items in
-    let same : session ≡ numbered c.args.maps.now.numbers.items c.args.session.now = c.numbered-session.ensures ∙ ap (λ (l : List ℕ). numbered l c.args.session.now) c.deref.ensures.value in
+    let same : session ≡ with_maps c.args.maps.now.numbers.items c.args.session.now = c.with_maps-session.ensures ∙ ap (λ (l : List ℕ). with_maps l c.args.session.now) c.deref.ensures.value in
     let session_is : session_at routers lines hop ≡ Some session = is.is ∙ ap (λ (s : Session). Some s) (sym same) in
     let none = subst (λ (o : Option ℕ). IsActFor c.deref-2.result.now acts session o) c.in_default.is c.in_ok-act.ensures.act in
     let came = subst (λ (o : Option ℕ). IsMaybeNew c.args.self.now.acts.acts.items acts hop session o) c.in_default.is c.in_ok-act.ensures.came in
@@ -26,9 +26,9 @@ returns-in_default-clause-takes c = λ routers lines is.
 pub returns-clause-takes : goal.returns-clause-takes
 returns-clause-takes c = λ routers lines is.
     let hop = c.args.hop.now in
-    let session = c.numbered-session.result in
+    let session = c.with_maps-session.result in
     let acts = c.act_of_session.new.acts.acts.items in
-    let same : session ≡ numbered c.args.maps.now.numbers.items c.args.session.now = c.numbered-session.ensures ∙ ap (λ (l : List ℕ). numbered l c.args.session.now) c.deref.ensures.value in
+    let same : session ≡ with_maps c.args.maps.now.numbers.items c.args.session.now = c.with_maps-session.ensures ∙ ap (λ (l : List ℕ). with_maps l c.args.session.now) c.deref.ensures.value in
     let session_is : session_at routers lines hop ≡ Some session = is.is ∙ ap (λ (s : Session). Some s) (sym same) in
     let act = subst (λ (o : Option ℕ). IsActFor c.deref-2.result.now acts session o) c.in-Some.is c.in_ok-act.ensures.act in
     let came = subst (λ (o : Option ℕ). IsMaybeNew c.args.self.now.acts.acts.items acts hop session o) c.in-Some.is c.in_ok-act.ensures.came in
