@@ -12,7 +12,7 @@ use Rattle.route_maps.specs.Maps.{verdict}
 use Rattle.srp_build.specs.declared.hops.Hop.{Hop}
 use Rattle.srp_build.specs.declared.kind_maps.KindMaps.{KindMaps}
 use Rattle.srp_build.specs.declared.kinds.Kinds.{Kinds}
-use Rattle.srp_build.specs.declared.kinds.LinePlace.{LinePlace}
+use Rattle.srp_build.specs.declared.lines.LinePlace.{LinePlace}
 use Rattle.srp_build.specs.declared.session.Session.{Session}
 use Rattle.srp_build.specs.BgpEdges.{session_at, IsInside, AreInside}
 use Rattle.srp_build.specs.Kinds.{map_of_place, IsKindOf, AreKindsOf, HasKinds, HaveKinds, AreKinds, AreSessionsOf}

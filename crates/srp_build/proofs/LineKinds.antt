@@ -8,7 +8,7 @@ use Rattle.cfg_ast.specs.meaning.Topology.{neighbors_of}
 use Rattle.route_maps.specs.declared.plain.Plain.{Plain}
 use Rattle.specialize.specs.OnePrefix.{plain_of}
 use Rattle.srp_build.specs.declared.kinds.KindTable.{KindTable}
-use Rattle.srp_build.specs.declared.kinds.LinePlace.{LinePlace}
+use Rattle.srp_build.specs.declared.lines.LinePlace.{LinePlace}
 use Rattle.srp_build.specs.Kinds.{IsFixed, map_of_place, IsKindOf, IsKindOfLine, AreKindsOf, HasKinds, HaveKinds, IsAlwaysAt, IsAlwaysOf, AreFixed, IsLineAt, KindsKept, IsNewKind, IsFixedKind, IsKindNumber, IsSeenOrNumbered}
 use Rattle.srp_build.specs.Lines.{map_named, list_named, map_of_line, map_at}
 use Rattle.srp_build.specs.Plains.{SayTheSame, IsNumberOf, IsGrownBy, IsAsEarlier}

@@ -13,7 +13,7 @@ use Rattle.route_maps.specs.declared.plain.Plain.{Plain}
 use Rattle.srp_build.specs.declared.hops.Hop.{Hop}
 use Rattle.srp_build.specs.declared.kinds.KindTable.{KindTable}
 use Rattle.srp_build.specs.declared.kinds.Kinds.{Kinds}
-use Rattle.srp_build.specs.declared.kinds.LinePlace.{LinePlace}
+use Rattle.srp_build.specs.declared.lines.LinePlace.{LinePlace}
 use Rattle.srp_build.specs.declared.session.Session.{Session}
 use Rattle.srp_build.specs.Lines.{map_of_line, map_at}
 use Rattle.srp_build.specs.Plains.{SayTheSame, IsAsEarlier, session_of}

@@ -5,7 +5,7 @@ use Rattle.cfg_ast.specs.declared.network.Router.{Router}
 use Rattle.route_maps.specs.declared.plain.Plain.{Plain}
 use Rattle.srp_build.specs.declared.kind_maps.KindMaps.{KindMaps}
 use Rattle.srp_build.specs.declared.kinds.Kinds.{Kinds}
-use Rattle.srp_build.specs.declared.kinds.LinePlace.{LinePlace}
+use Rattle.srp_build.specs.declared.lines.LinePlace.{LinePlace}
 use Rattle.srp_build.specs.declared.session.Session.{Session}
 use Rattle.srp_build.specs.Kinds.{map_of_place}
 use Rattle.srp_build.specs.Plains.{IsNumberOf, IsMapOfPlace, HaveNumbers}

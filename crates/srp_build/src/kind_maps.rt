@@ -2,8 +2,7 @@ ghost use Rattle.std.specs.Prelude.{◌≡◌, IfOk};
 ghost use Rattle.srp_build.specs.LineMaps.{AreMapsOfKinds, number_of, with_maps};
 ghost use Rattle.srp_build.specs.ListPlaces.{HavePlaces};
 
-use crate::kinds::LinePlace;
-use crate::lines::map_at;
+use crate::lines::{LinePlace, map_at};
 use crate::plains::Plains;
 use crate::session::Session;
 use base_kit::{NoMemory, Prefix};
@@ -33,15 +32,7 @@ pub fn kind_maps(
     let mut plains = Plains::new(alloc);
     let mut numbers = Vec::new(alloc);
     for first in firsts {
-        let map = map_at(
-            alloc,
-            p,
-            routers,
-            places,
-            first.inbound,
-            first.router,
-            first.item,
-        )?;
+        let map = map_at(alloc, p, routers, places, *first)?;
         numbers.push(plains.number(alloc, map)?)?;
     }
     Ok(KindMaps {

@@ -5,7 +5,7 @@ ghost use Rattle.srp_build.specs.Kinds.{AreFixed, AreKinds, HasKinds, HaveKinds,
 ghost use Rattle.srp_build.specs.ListPlaces.{HavePlaces};
 
 use crate::fixed::is_fixed;
-use crate::lines::{map_of_line, neighbors};
+use crate::lines::{LinePlace, map_of_line, neighbors};
 use crate::plains::{Plains, place};
 use crate::seen::Seen;
 use base_kit::{List, NoMemory, Prefix};
@@ -13,14 +13,6 @@ use cfg_ast::{Neighbor, Router};
 use route_maps::Plain;
 use specialize::Places;
 use std::alloc::Global;
-
-/// A line of a router, inbound or outbound.
-#[derive(Clone, Copy, Debug, PartialEq, Eq)]
-pub struct LinePlace {
-    pub router: u32,
-    pub item: u32,
-    pub inbound: bool,
-}
 
 /// The kinds of all neighbour lines. Whatever the prefix, the maps of lines of one kind say the same:
 /// either they name one map and one list of one router, or they are the same map for every prefix.
@@ -107,26 +99,32 @@ impl KindTable {
     }
 }
 
-// The number of the kind of a line, which stands at the place, behind lines with these numbers.
+// A router with the places of its lists and maps, and the numbers of the kinds of its lines so far.
+#[derive(Clone, Copy)]
+struct RouterLines<'a> {
+    pub router: &'a Router,
+    pub places: &'a Places,
+    pub numbers: &'a [u32],
+}
+
+// The number of the kind of the next line of a router, which stands at the place.
 fn kind_of_line(
     alloc: Global,
     table: &mut KindTable,
     seen: &mut Seen,
     first: LinePlace,
-    router: &Router,
-    places: &Places,
-    numbers: &[u32],
+    before: RouterLines,
     line: &Neighbor,
 ) -> Result<u32, NoMemory>
-    requires { ArePlacesOf router.now places.now }
-    ensures { IfOk result (IsSeenOrNumbered table.old table.new first router.now numbers.now line.now) }
+    requires { ArePlacesOf before.router.now before.places.now }
+    ensures { IfOk result (IsSeenOrNumbered table.old table.new first before.entry.router.now before.entry.numbers.now line.now) }
 {
-    let lines = neighbors(router);
-    let known = seen.known_number(alloc, first.inbound, lines, numbers, line)?;
+    let lines = neighbors(before.router);
+    let known = seen.known_number(alloc, first.inbound, lines, before.numbers, line)?;
     if let Some(number) = known {
         return Ok(number);
     }
-    table.number(alloc, first, router, places, line)
+    table.number(alloc, first, before.router, before.places, line)
 }
 
 // The numbers of the kinds of the lines of the router at a place, inbound or outbound.
@@ -158,8 +156,12 @@ fn kinds_of_router(
             inbound,
         };
         let line = &lines[i];
-        let before = numbers.as_slice();
-        let number = kind_of_line(alloc, table, &mut seen, first, router, own, before, line)?;
+        let before = RouterLines {
+            router,
+            places: own,
+            numbers: numbers.as_slice(),
+        };
+        let number = kind_of_line(alloc, table, &mut seen, first, before, line)?;
         numbers.push(number)?;
     }
     Ok(numbers)

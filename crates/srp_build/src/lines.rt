@@ -13,6 +13,14 @@ use specialize::{Places, policy_at};
 use srp_core::Act;
 use std::alloc::Global;
 
+/// A line of a router, inbound or outbound.
+#[derive(Clone, Copy, Debug, PartialEq, Eq)]
+pub struct LinePlace {
+    pub router: u32,
+    pub item: u32,
+    pub inbound: bool,
+}
+
 /// The neighbour lines of a router.
 pub fn neighbors(router: &Router) -> &[Neighbor]
     ensures { result.now ≡ neighbors_of router.now }
@@ -77,30 +85,28 @@ fn closed(alloc: Global) -> Plain
     }
 }
 
-/// The plain map of the line at a place of a router for a prefix, inbound or outbound, by the places of
-/// all routers' lists and maps. Where there is no line, it denies all.
+/// The plain map of the line at a place for a prefix, by the places of all routers' lists and maps. Where
+/// there is no line, it denies all.
 pub fn map_at(
     alloc: Global,
     p: Prefix,
     routers: &[Router],
     places: &[Places],
-    inbound: bool,
-    at: u32,
-    item: u32,
+    line: LinePlace,
 ) -> Result<Plain, NoMemory>
     requires { HavePlaces routers.now places.now }
-    ensures { IfOk result (λ plain. plain ≡ map_at p routers.now inbound at item) }
+    ensures { IfOk result (λ plain. plain ≡ map_at p routers.now line.inbound line.router line.item) }
 {
-    let Some(router) = routers.get(at as usize) else {
+    let Some(router) = routers.get(line.router as usize) else {
         return Ok(closed(alloc));
     };
-    let Some(own) = places.get(at as usize) else {
+    let Some(own) = places.get(line.router as usize) else {
         return Ok(closed(alloc));
     };
-    let Some(line) = neighbors(router).get(item as usize) else {
+    let Some(named) = neighbors(router).get(line.item as usize) else {
         return Ok(closed(alloc));
     };
-    map_of_line(alloc, p, router, own, inbound, line)
+    map_of_line(alloc, p, router, own, line.inbound, named)
 }
 
 /// Whether the line at a place of a router sends communities.
@@ -127,24 +133,18 @@ pub fn act_of_hop(
     requires { HavePlaces routers.now places.now }
     ensures { IfOk result (λ act. act ≡ act_of_hop p routers.now hop.now) }
 {
-    let out = map_at(
-        alloc,
-        p,
-        routers,
-        places,
-        false,
-        hop.exporter,
-        hop.exporter_item,
-    )?;
+    let from = LinePlace {
+        router: hop.exporter,
+        item: hop.exporter_item,
+        inbound: false,
+    };
+    let to = LinePlace {
+        router: hop.importer,
+        item: hop.importer_item,
+        inbound: true,
+    };
+    let out = map_at(alloc, p, routers, places, from)?;
     let sends = sends_at(routers, hop.exporter, hop.exporter_item);
-    let into = map_at(
-        alloc,
-        p,
-        routers,
-        places,
-        true,
-        hop.importer,
-        hop.importer_item,
-    )?;
+    let into = map_at(alloc, p, routers, places, to)?;
     Ok(Act::Import { out, sends, into })
 }

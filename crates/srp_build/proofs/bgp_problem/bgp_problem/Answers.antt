@@ -10,7 +10,7 @@ use Rattle.srp_core.specs.ProblemOf.{as_number_of}
 use Rattle.srp_build.specs.declared.acts.BgpAct.{BgpAct}
 use Rattle.srp_build.specs.declared.hops.Hop.{Hop}
 use Rattle.srp_build.specs.declared.kind_maps.KindMaps.{KindMaps}
-use Rattle.srp_build.specs.declared.kinds.LinePlace.{LinePlace}
+use Rattle.srp_build.specs.declared.lines.LinePlace.{LinePlace}
 use Rattle.srp_build.specs.declared.session_hops.SessionHops.{SessionHops}
 use Rattle.srp_build.specs.Directions.{AreSessionHops, directions_of}
 use Rattle.srp_build.specs.Kinds.{AreSessionsOf}

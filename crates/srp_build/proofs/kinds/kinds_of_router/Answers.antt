@@ -3,7 +3,7 @@ use Rattle.std.proofs.lemmas.Option.{slice_get_read}
 use Rattle.cfg_ast.specs.declared.bgp.Neighbor.{Neighbor}
 use Rattle.cfg_ast.specs.declared.network.Router.{Router}
 use Rattle.cfg_ast.specs.meaning.Topology.{neighbors_of}
-use Rattle.srp_build.specs.declared.kinds.LinePlace.{LinePlace}
+use Rattle.srp_build.specs.declared.lines.LinePlace.{LinePlace}
 use Rattle.srp_build.specs.Kinds.{AreKindsOf, HasKinds, IsLineAt, KindsKept, IsSeenOrNumbered}
 use Rattle.srp_build.proofs.FirstUse.{length_last}
 use Rattle.srp_build.proofs.LineKinds.{LineSteps, line_step}
@@ -27,7 +27,7 @@ loop-i-preserved c =
       at = ap (slice_get routers) c.in_ok-router_place.ensures ∙ read_router;
       line_at = ap (slice_get (neighbors_of router)) c.in_ok-place.ensures ∙ read;
     } in
-    let seen : IsSeenOrNumbered old new first router numbers line number = subst (λ (l : List ℕ). IsSeenOrNumbered old new first router l line number) c.as_slice-before.ensures c.in_ok-number.ensures in
+    let seen : IsSeenOrNumbered old new first router numbers line number = subst (λ (l : List ℕ). IsSeenOrNumbered old new first router l line number) c.as_slice.ensures c.in_ok-number.ensures in
     let step : LineSteps routers old new router c.args.inbound numbers number = line_step routers old new first router numbers line number there (ap (slice_get (neighbors_of router)) total ∙ read) c.loop-i.invariant.fixed c.loop-i.invariant.each seen in
     record {
       total = (let a = ap (λ (l : List ℕ). length l) pushed in let b = length_last numbers number in omega arith);
