@@ -35,7 +35,7 @@ pub record AreOfSessions (n : Network) (found : SessionHops) : Type 0 where
 
 -- the edges and the costs of the directions of any other network
 pub record AreOfAdjacencies (n : Network) (numbered : Numbered) : Type 0 where
-  pub ospf : is_bgp (protocol_of n) ≡ false
+  pub not_bgp : is_bgp (protocol_of n) ≡ false
   pub numbers : NumbersHops n.routers numbered.costs (directions_of n) numbered.edges
   pub few : length (directions_of n) < 2 ^ 32
 

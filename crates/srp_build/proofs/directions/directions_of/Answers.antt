@@ -68,7 +68,7 @@ returns c =
     let same = sorted_are n c.as_slice-routers.result.now c.as_slice-links.result.now hops routers_are links_are c.in_ok-numbers.ensures.sorted in
     let numbered = c.in_ok-numbered.numbered in
     record {
-      ospf = sym c.runs_bgp.ensures ∙ c.if-runs_bgp.false;
+      not_bgp = sym c.runs_bgp.ensures ∙ c.if-runs_bgp.false;
       numbers = subst (λ (r : List Router). NumbersHops r numbered.costs (directions_of n) numbered.edges) routers_are
           (subst (λ (h : List Hop). NumbersHops c.as_slice-routers.result.now numbered.costs h numbered.edges) (ap (map f) c.deref.ensures.value ∙ same) c.in_ok-numbered.ensures);
       few = few_directions n c.as_slice-links.result.now hops links_are same (length-map c.in_ok-numbers.numbers.items f ∙ c.in_ok-numbers.ensures.len) few_links;

@@ -16,7 +16,7 @@ ospf_problem-requires-clause-ospf c =
     let n = c.args.net.now.network in
     let same = c.network.ensures.same in
     let few = subst (λ (n : Network). length n.routers ≤ 4096) same c.network.ensures.few_routers in
-    let ospf = ospf_is (protocol_of n) (λ none. no_class n c.args.class.now none c.requires.class) c.requires.directions.ospf in
+    let ospf = ospf_is (protocol_of n) (λ none. no_class n c.args.class.now none c.requires.class) c.requires.directions.not_bgp in
     subst IsOspf (sym same) (is_ospf n c.args.net.now.given c.args.net.now.faultless few ospf)
 
 pub returns-clause-problem : goal.returns-clause-problem
