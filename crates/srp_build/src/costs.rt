@@ -115,7 +115,7 @@ pub fn number_hops(
     ensures { IfOk result (λ n. NumbersHops routers.now n.costs (map (hop_at links.now) numbers.now) n.edges) }
 {
     let mut costs = Costs::new(alloc);
-    let mut edges = List::new(alloc);
+    let mut edges = List::from_vec(Vec::with_capacity(alloc, numbers.len())?);
     for number in numbers {
         let hop = hop_at(links, *number);
         push_edge(routers, &mut costs, &mut edges, &hop)?;
