@@ -1,0 +1,4 @@
+pub mod ByName
+pub mod NameHash
+pub mod NamedLists
+pub mod NumberedLists

@@ -1,0 +1,17 @@
+ghost use Rattle.std.specs.Prelude.{◌≡◌, ◌++◌, ◌∷◌, [], IfOk};
+
+use base_kit::{List, NoMemory};
+
+/// The list with one more item behind. Its room grows by a quarter of what is there, and not to twice
+/// as much: a text may have very many lists of a few items.
+pub fn pushed<T: Drop>(items: List<T>, item: T) -> Result<List<T>, NoMemory>
+    ensures { IfOk result (λ all. all ≡ items ++ item ∷ []) }
+{
+    let mut items = items.into_vec();
+    let count = items.len();
+    if count == items.capacity() {
+        items.reserve_exact(count / 4 + 1)?;
+    }
+    items.push(item)?;
+    Ok(List::from_vec(items))
+}
