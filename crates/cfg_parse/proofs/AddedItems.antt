@@ -8,7 +8,7 @@ use Rattle.cfg_ast.specs.declared.policy.PrefixEntry.{PrefixEntry}
 use Rattle.cfg_ast.specs.declared.policy.PrefixList.{PrefixList}
 use Rattle.cfg_ast.specs.declared.policy.MapEntry.{MapEntry}
 use Rattle.cfg_ast.specs.declared.policy.RouteMap.{RouteMap}
-use Rattle.cfg_ast.specs.text.PolicyLines.{has_prefix_entry, with_prefix_entry, put_prefix_entry, is_prefix_list, has_seq, has_map_entry, with_map_entry, put_map_entry, is_route_map, has_entry_seq, changed_or_new, put_before}
+use Rattle.cfg_ast.specs.text.PolicyLines.{has_prefix_entry, with_prefix_entry, put_prefix_entry, has_map_entry, with_map_entry, put_map_entry, changed_or_new, put_before}
 use Rattle.cfg_ast.specs.text.Reading.{has_interface}
 
 or_three : (a b c : Bool) → (a || (b || c)) ≡ (b || (a || c))
@@ -56,23 +56,30 @@ any_changed f is_it change new b begins changes (x ∷ xs) = change_one f is_it 
 same_name : (m n : List ℕ) → bytes_eq m n ≡ true → m ≡ n
 same_name m n e = (bytes_eq-Decides m n).0 e
 
+-- an entry put into the list of its name: L is a list or map of entries E, and change puts it there
+module _ {E L : Type 0} (name_of : L → List ℕ) (entries_of : L → List E) (number : E → ℕ) (name : List ℕ) (e : E) (change : L → L) (new : L) (kept : (l : L) → name_of (change l) ≡ name_of l)
+    (put : (l : L) → entries_of (change l) ≡ put_before (λ (x : E). nat_lt (number e) (number x)) e (entries_of l)) (named : name_of new ≡ name) (begun : entries_of new ≡ e ∷ []) where
+  abbrev has : List ℕ → ℕ → L → Bool
+  has n k l = bytes_eq (name_of l) n && list_any (λ (x : E). number x == k) (entries_of l)
+
+  entry_put : (lists : List L) (n : List ℕ) (k : ℕ) → list_any (has n k) (changed_or_new (λ (l : L). bytes_eq (name_of l) name) change new lists) ≡ ((bytes_eq name n && (number e == k)) || list_any (has n k) lists)
+  entry_put lists n k =
+      any_changed (has n k) (λ (l : L). bytes_eq (name_of l) name) change new (bytes_eq name n && (number e == k))
+      (rw (named, begun) (ap (λ (b : Bool). bytes_eq name n && b) (or_none (number e == k))))
+      (λ l is. rw (kept l, put l) (ap (λ (b : Bool). bytes_eq (name_of l) n && b) (any_put (λ (x : E). number x == k) (λ (x : E). nat_lt (number e) (number x)) e (entries_of l))
+      ∙ and_or (bytes_eq (name_of l) n) (number e == k) (list_any (λ (x : E). number x == k) (entries_of l))
+      ∙ ap (λ (m : List ℕ). (bytes_eq m n && (number e == k)) || has n k l) (same_name (name_of l) name is)))
+      lists
+
 pub prefix_put : (name : List ℕ) (e : PrefixEntry) (lists : List PrefixList) (n : List ℕ) (k : ℕ) → has_prefix_entry (with_prefix_entry name e lists) n k ≡ ((bytes_eq name n && (e.seq == k)) || has_prefix_entry lists n k)
 unfolding has_prefix_entry
 prefix_put name e lists n k =
-    any_changed (λ (l : PrefixList). is_prefix_list n l && has_seq l.entries k) (is_prefix_list name) (put_prefix_entry e) (record { name = name; entries = e ∷ [] }) (bytes_eq name n && (e.seq == k))
-    (ap (λ (b : Bool). bytes_eq name n && b) (or_none (e.seq == k)))
-    (λ l is. ap (λ (b : Bool). bytes_eq l.name n && b) (any_put (λ (x : PrefixEntry). x.seq == k) (λ (x : PrefixEntry). nat_lt e.seq x.seq) e l.entries) ∙ and_or (bytes_eq l.name n) (e.seq == k) (has_seq l.entries k)
-    ∙ ap (λ (m : List ℕ). (bytes_eq m n && (e.seq == k)) || (bytes_eq l.name n && has_seq l.entries k)) (same_name l.name name is))
-    lists
+    entry_put (λ (l : PrefixList). l.name) (λ (l : PrefixList). l.entries) (λ (x : PrefixEntry). x.seq) name e (put_prefix_entry e) (record { name = name; entries = e ∷ [] }) (λ l. refl) (λ l. refl) refl refl lists n k
 
 pub map_put : (name : List ℕ) (e : MapEntry) (maps : List RouteMap) (n : List ℕ) (k : ℕ) → has_map_entry (with_map_entry name e maps) n k ≡ ((bytes_eq name n && (e.seq == k)) || has_map_entry maps n k)
 unfolding has_map_entry
 map_put name e maps n k =
-    any_changed (λ (m : RouteMap). is_route_map n m && has_entry_seq m.entries k) (is_route_map name) (put_map_entry e) (record { name = name; entries = e ∷ [] }) (bytes_eq name n && (e.seq == k))
-    (ap (λ (b : Bool). bytes_eq name n && b) (or_none (e.seq == k)))
-    (λ m is. ap (λ (b : Bool). bytes_eq m.name n && b) (any_put (λ (x : MapEntry). x.seq == k) (λ (x : MapEntry). nat_lt e.seq x.seq) e m.entries) ∙ and_or (bytes_eq m.name n) (e.seq == k) (has_entry_seq m.entries k)
-    ∙ ap (λ (o : List ℕ). (bytes_eq o n && (e.seq == k)) || (bytes_eq m.name n && has_entry_seq m.entries k)) (same_name m.name name is))
-    maps
+    entry_put (λ (m : RouteMap). m.name) (λ (m : RouteMap). m.entries) (λ (x : MapEntry). x.seq) name e (put_map_entry e) (record { name = name; entries = e ∷ [] }) (λ m. refl) (λ m. refl) refl refl maps n k
 
 pub has_push : (is : List Interface) (i : Interface) (n : List ℕ) → has_interface (is ++ i ∷ []) n ≡ (bytes_eq i.name n || has_interface is n)
 unfolding has_interface

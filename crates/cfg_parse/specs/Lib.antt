@@ -1,9 +1,7 @@
-pub mod ByName
 pub mod FormFaults
-pub mod InOrder
 pub mod Indexes
 pub mod MemberSteps
-pub mod NameHash
+pub mod NamedLists
 pub mod Neighbors
 pub mod Open
 pub mod Rest

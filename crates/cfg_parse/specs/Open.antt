@@ -1,4 +1,4 @@
--- The open stanza as the definition of reading sees it.
+-- What reading in place leaves, as against its definition, and the open stanza as the definition sees it.
 use Rattle.std.specs.Prelude.{◌≡◌, Result, Ok, Err}
 use Rattle.cfg_ast.specs.declared.refusal.ReadRefusal.{ReadRefusal}
 use Rattle.cfg_ast.specs.text.Answers.{RefusesAs}
@@ -14,7 +14,7 @@ stanza_of (open_stanza.Bgp b) = in_bgp b
 stanza_of (open_stanza.Ospf o) = in_ospf o
 stanza_of (open_stanza.Entry name e) = in_entry name e
 
--- the stanza is that of the definition, or memory ran out
-abbrev pub GivesOpen : Result Open ReadRefusal → Result Stanza ReadRefusal → Type 0
-GivesOpen (Ok now_open) defined = defined ≡ Ok (stanza_of now_open)
-GivesOpen (Err fault) defined = RefusesAs fault defined
+-- the value is changed as the definition says, or memory ran out
+abbrev pub Changes : {X Y : Type 0} → Result Y ReadRefusal → X → Result X ReadRefusal → Type 0
+Changes (Ok _) now defined = defined ≡ Ok now
+Changes (Err fault) now defined = RefusesAs fault defined

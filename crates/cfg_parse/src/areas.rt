@@ -1,4 +1,4 @@
-ghost use Rattle.std.specs.Prelude.{◌≡◌, ◌++◌, ◌∷◌, [], IfOk};
+ghost use Rattle.std.specs.Prelude.{◌≡◌, ◌++◌, ◌∷◌, [], IfOk, OnOk};
 ghost use Rattle.std.specs.List.{list_any};
 ghost use Rattle.cfg_ast.specs.text.Stanzas.{same_area_line, with_area};
 ghost use Rattle.cfg_parse.specs.Indexes.{area_key};
@@ -62,15 +62,17 @@ impl Areas {
         Ok(Areas { items, said })
     }
 
-    /// Those, and the line behind them if none of them says the same.
+    /// Puts the line behind them if none of them says the same. After an error there are none.
     #[tactic(auto, unfolding(cfg_ast::specs::text::Stanzas::with_area))]
-    pub(crate) fn with(self, area: AreaLine) -> Result<Areas, NoMemory>
-        ensures { IfOk result (λ all. all ≡ with_area self area) }
+    pub(crate) fn add(&mut self, alloc: Global, area: AreaLine) -> Result<(), NoMemory>
+        ensures { OnOk result (self.new ≡ with_area self.old area) }
     {
         if self.has(&area) {
-            return Ok(self);
+            return Ok(());
         }
-        self.with_new(area)
+        let others = std::mem::replace(self, Areas::new(alloc));
+        *self = others.with_new(area)?;
+        Ok(())
     }
 
     pub(crate) fn into_list(self) -> List<AreaLine>

@@ -1,7 +1,7 @@
 ghost use Rattle.std.specs.Prelude.{◌≡◌};
-ghost use Rattle.cfg_ast.specs.text.Answers.{Gives};
 ghost use Rattle.cfg_ast.specs.text.Reading.{new_bgp};
 ghost use Rattle.cfg_ast.specs.text.Stanzas.{set_bgp, with_peer, peer_of, set_process, set_base, add_network, add_neighbor};
+ghost use Rattle.cfg_parse.specs.Open.{Changes};
 
 use crate::neighbors::{Neighbors, new_neighbor};
 use crate::networks::Networks;
@@ -65,12 +65,12 @@ fn set_peer(
     number: u32,
     addr: u32,
     item: RouterItem,
-    mut process: BgpDraft,
-) -> Result<BgpDraft, ReadRefusal>
-    ensures { Gives result (with_peer number addr item process) }
+    process: &mut BgpDraft,
+) -> Result<(), ReadRefusal>
+    ensures { Changes result process.new (with_peer number addr item process.old) }
 {
-    process.neighbors = process.neighbors.changed(number, addr, item)?;
-    Ok(process)
+    process.neighbors.change(number, addr, item)?;
+    Ok(())
 }
 
 fn peer_of(item: &RouterItem) -> Option<u32>
@@ -85,61 +85,75 @@ fn peer_of(item: &RouterItem) -> Option<u32>
     }
 }
 
-fn add_network(number: u32, net: &NetLine, mut process: BgpDraft) -> Result<BgpDraft, ReadRefusal>
-    ensures { Gives result (add_network number net.now process) }
+fn add_network(
+    alloc: Global,
+    number: u32,
+    net: &NetLine,
+    process: &mut BgpDraft,
+) -> Result<(), ReadRefusal>
+    ensures { Changes result process.new (add_network number net.now process.old) }
 {
     once(number, process.networks.has(net.prefix))?;
-    process.networks = process.networks.with(*net)?;
-    Ok(process)
+    process.networks.add(alloc, *net)?;
+    Ok(())
 }
 
 fn add_neighbor(
+    alloc: Global,
     number: u32,
     addr: u32,
     remote: u32,
-    mut process: BgpDraft,
-) -> Result<BgpDraft, ReadRefusal>
-    ensures { Gives result (add_neighbor number addr remote process) }
+    process: &mut BgpDraft,
+) -> Result<(), ReadRefusal>
+    ensures { Changes result process.new (add_neighbor number addr remote process.old) }
 {
     once(number, process.neighbors.has(addr))?;
-    process.neighbors = process.neighbors.with(new_neighbor(number, addr, remote))?;
-    Ok(process)
+    process
+        .neighbors
+        .add(alloc, new_neighbor(number, addr, remote))?;
+    Ok(())
 }
 
-fn set_base(number: u32, base: Base, mut process: BgpDraft) -> Result<BgpDraft, ReadRefusal>
-    ensures { Gives result (set_base number base process) }
+fn set_base(number: u32, base: Base, process: &mut BgpDraft) -> Result<(), ReadRefusal>
+    ensures { Changes result process.new (set_base number base process.old) }
 {
     once(number, process.base.is_some())?;
     process.base = Some(base);
-    Ok(process)
+    Ok(())
 }
 
 #[tactic(auto, unfolding(cfg_ast::specs::text::Stanzas::set_process))]
-fn set_process(number: u32, item: &RouterItem, process: BgpDraft) -> Result<BgpDraft, ReadRefusal>
-    ensures { Gives result (set_process number item.now process) }
+fn set_process(
+    alloc: Global,
+    number: u32,
+    item: &RouterItem,
+    process: &mut BgpDraft,
+) -> Result<(), ReadRefusal>
+    ensures { Changes result process.new (set_process number item.now process.old) }
 {
     match item {
         RouterItem::Base(base) => set_base(number, *base, process),
-        RouterItem::Network(net) => add_network(number, net, process),
+        RouterItem::Network(net) => add_network(alloc, number, net, process),
         RouterItem::RemoteAs {
             addr,
             number: remote,
-        } => add_neighbor(number, *addr, *remote, process),
-        _ => Ok(process),
+        } => add_neighbor(alloc, number, *addr, *remote, process),
+        _ => Ok(()),
     }
 }
 
-/// The process with what one of its lines says.
+/// Adds to the process what one of its lines says.
 #[tactic(auto, unfolding(cfg_ast::specs::text::Stanzas::set_bgp))]
 pub(crate) fn set_bgp(
+    alloc: Global,
     number: u32,
     item: RouterItem,
-    process: BgpDraft,
-) -> Result<BgpDraft, ReadRefusal>
-    ensures { Gives result (set_bgp number item process) }
+    process: &mut BgpDraft,
+) -> Result<(), ReadRefusal>
+    ensures { Changes result process.new (set_bgp number item process.old) }
 {
     match peer_of(&item) {
         Some(addr) => set_peer(number, addr, item, process),
-        None => set_process(number, &item, process),
+        None => set_process(alloc, number, &item, process),
     }
 }

@@ -1,4 +1,4 @@
-ghost use Rattle.std.specs.Prelude.{◌≡◌, IfOk};
+ghost use Rattle.std.specs.Prelude.{◌≡◌, OnOk};
 ghost use Rattle.cfg_ast.specs.text.Reading.{no_draft, at_start, with_closed};
 
 use crate::bgp::BgpDraft;
@@ -84,37 +84,23 @@ pub(crate) fn at_start(alloc: Global) -> State
     }
 }
 
-/// The draft after its open stanza is closed.
+/// Closes the open stanza: what it gives goes to the router.
 #[tactic(auto, unfolding(cfg_ast::specs::text::Reading::with_closed))]
-pub(crate) fn with_closed(alloc: Global, draft: Draft) -> Result<Draft, NoMemory>
-    ensures { IfOk result (λ d. d ≡ with_closed draft) }
+pub(crate) fn close(alloc: Global, draft: &mut Draft) -> Result<(), NoMemory>
+    ensures { OnOk result (draft.new ≡ with_closed draft.old) }
 {
-    let Draft {
-        name,
-        mut interfaces,
-        mut bgp,
-        mut ospf,
-        prefix_lists,
-        community_lists,
-        mut route_maps,
-        stanza,
-    } = draft;
-    match stanza {
-        Open::Closed => {}
-        Open::Ignored => {}
-        Open::Interface(interface) => interfaces.add(alloc, interface)?,
-        Open::Bgp(process) => bgp = Aside::some(alloc, process.into_process())?,
-        Open::Ospf(process) => ospf = Aside::some(alloc, process.into_process())?,
-        Open::Entry(name, entry) => route_maps = route_maps.with_entry(alloc, name, entry)?,
+    match std::mem::replace(&mut draft.stanza, Open::Closed) {
+        Open::Closed => Ok(()),
+        Open::Ignored => Ok(()),
+        Open::Interface(interface) => draft.interfaces.add(alloc, interface),
+        Open::Bgp(process) => {
+            draft.bgp = Aside::some(alloc, process.into_process())?;
+            Ok(())
+        }
+        Open::Ospf(process) => {
+            draft.ospf = Aside::some(alloc, process.into_process())?;
+            Ok(())
+        }
+        Open::Entry(name, entry) => draft.route_maps.add(alloc, name, entry),
     }
-    Ok(Draft {
-        name,
-        interfaces,
-        bgp,
-        ospf,
-        prefix_lists,
-        community_lists,
-        route_maps,
-        stanza: Open::Closed,
-    })
 }

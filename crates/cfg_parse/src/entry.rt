@@ -1,5 +1,5 @@
-ghost use Rattle.cfg_ast.specs.text.Answers.{Gives};
 ghost use Rattle.cfg_ast.specs.text.PolicyLines.{set_prefixes, set_comms, set_lp, set_change, set_delete, set_prepend, set_entry};
+ghost use Rattle.cfg_parse.specs.Open.{Changes};
 
 use crate::stanza::once;
 use base_kit::Aside;
@@ -10,13 +10,13 @@ fn set_prefixes(
     alloc: Global,
     number: u32,
     names: NameLine,
-    mut entry: MapEntry,
-) -> Result<MapEntry, ReadRefusal>
-    ensures { Gives result (set_prefixes number names entry) }
+    entry: &mut MapEntry,
+) -> Result<(), ReadRefusal>
+    ensures { Changes result entry.new (set_prefixes number names entry.old) }
 {
     once(number, entry.prefixes.is_some())?;
     entry.prefixes = Aside::some(alloc, names)?;
-    Ok(entry)
+    Ok(())
 }
 
 fn set_comms(
@@ -24,73 +24,73 @@ fn set_comms(
     number: u32,
     names: NameLine,
     exact: bool,
-    mut entry: MapEntry,
-) -> Result<MapEntry, ReadRefusal>
-    ensures { Gives result (set_comms number names exact entry) }
+    entry: &mut MapEntry,
+) -> Result<(), ReadRefusal>
+    ensures { Changes result entry.new (set_comms number names exact entry.old) }
 {
     once(number, entry.comms.is_some())?;
     entry.comms = Aside::some(alloc, names)?;
     entry.exact = exact;
-    Ok(entry)
+    Ok(())
 }
 
-fn set_lp(number: u32, lp: u32, mut entry: MapEntry) -> Result<MapEntry, ReadRefusal>
-    ensures { Gives result (set_lp number lp entry) }
+fn set_lp(number: u32, lp: u32, entry: &mut MapEntry) -> Result<(), ReadRefusal>
+    ensures { Changes result entry.new (set_lp number lp entry.old) }
 {
     once(number, entry.lp.is_some())?;
     entry.lp = Some(lp);
-    Ok(entry)
+    Ok(())
 }
 
 fn set_change(
     alloc: Global,
     number: u32,
     change: Change,
-    mut entry: MapEntry,
-) -> Result<MapEntry, ReadRefusal>
-    ensures { Gives result (set_change number change entry) }
+    entry: &mut MapEntry,
+) -> Result<(), ReadRefusal>
+    ensures { Changes result entry.new (set_change number change entry.old) }
 {
     once(number, entry.change.is_some())?;
     entry.change = Aside::some(alloc, change)?;
     entry.change_line = number;
-    Ok(entry)
+    Ok(())
 }
 
 fn set_delete(
     alloc: Global,
     number: u32,
     list: Named,
-    mut entry: MapEntry,
-) -> Result<MapEntry, ReadRefusal>
-    ensures { Gives result (set_delete number list entry) }
+    entry: &mut MapEntry,
+) -> Result<(), ReadRefusal>
+    ensures { Changes result entry.new (set_delete number list entry.old) }
 {
     once(number, entry.delete.is_some())?;
     entry.delete = Aside::some(alloc, list)?;
-    Ok(entry)
+    Ok(())
 }
 
 fn set_prepend(
     alloc: Global,
     number: u32,
     prepend: Prepend,
-    mut entry: MapEntry,
-) -> Result<MapEntry, ReadRefusal>
-    ensures { Gives result (set_prepend number prepend entry) }
+    entry: &mut MapEntry,
+) -> Result<(), ReadRefusal>
+    ensures { Changes result entry.new (set_prepend number prepend entry.old) }
 {
     once(number, entry.prepend.is_some())?;
     entry.prepend = Aside::some(alloc, prepend)?;
-    Ok(entry)
+    Ok(())
 }
 
-/// The entry with what one of its lines says.
+/// Adds to the entry what one of its lines says.
 #[tactic(auto, unfolding(cfg_ast::specs::text::PolicyLines::set_entry))]
 pub(crate) fn set_entry(
     alloc: Global,
     number: u32,
     item: PolicyItem,
-    entry: MapEntry,
-) -> Result<MapEntry, ReadRefusal>
-    ensures { Gives result (set_entry number item entry) }
+    entry: &mut MapEntry,
+) -> Result<(), ReadRefusal>
+    ensures { Changes result entry.new (set_entry number item entry.old) }
 {
     match item {
         PolicyItem::MatchPrefixes(names) => set_prefixes(alloc, number, names, entry),
@@ -99,6 +99,6 @@ pub(crate) fn set_entry(
         PolicyItem::Comms(change) => set_change(alloc, number, change, entry),
         PolicyItem::Delete(list) => set_delete(alloc, number, list, entry),
         PolicyItem::Prepend(prepend) => set_prepend(alloc, number, prepend, entry),
-        _ => Ok(entry),
+        _ => Ok(()),
     }
 }

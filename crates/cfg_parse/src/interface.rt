@@ -1,16 +1,16 @@
-ghost use Rattle.cfg_ast.specs.text.Answers.{Gives};
 ghost use Rattle.cfg_ast.specs.text.Stanzas.{set_interface};
+ghost use Rattle.cfg_parse.specs.Open.{Changes};
 
 use cfg_ast::{Interface, Kind, ReadRefusal, RouterItem};
 
-/// The interface with what one of its lines says.
+/// Adds to the interface what one of its lines says.
 #[tactic(auto, unfolding(cfg_ast::specs::text::Stanzas::set_interface))]
 pub(crate) fn set_interface(
     number: u32,
     item: RouterItem,
-    mut interface: Interface,
-) -> Result<Interface, ReadRefusal>
-    ensures { Gives result (set_interface number item interface) }
+    interface: &mut Interface,
+) -> Result<(), ReadRefusal>
+    ensures { Changes result interface.new (set_interface number item interface.old) }
 {
     let repeated = ReadRefusal::At {
         line: number,
@@ -32,5 +32,5 @@ pub(crate) fn set_interface(
         RouterItem::Shutdown => interface.shut = true,
         _ => {}
     }
-    Ok(interface)
+    Ok(())
 }

@@ -1,19 +1,11 @@
 ghost use Rattle.std.specs.Prelude.{◌≡◌, ◌∷◌, ◌++◌, [], OnOk};
 ghost use Rattle.cfg_ast.specs.text.Reading.{has_interface};
 
-use crate::by_name::{ByName, HasName};
 use base_kit::{List, NoMemory};
 use cfg_ast::Interface;
+use named_lists::ByName;
 use std::alloc::Global;
 use std::marker::Model;
-
-impl HasName for Interface {
-    ghost name = { λ i. i.name };
-
-    fn name(&self) -> &str {
-        self.name.as_str()
-    }
-}
 
 /// The interfaces of a router, found by their names.
 #[derive(Drop)]

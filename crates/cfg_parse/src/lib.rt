@@ -10,18 +10,14 @@
 
 mod areas;
 mod bgp;
-mod by_name;
 mod community_lists;
 mod draft;
 mod end_line;
 mod entry;
-mod exchange;
 mod interface;
 mod interfaces;
-mod keys;
 pub mod laws;
 mod members;
-mod name_hash;
 mod names;
 mod neighbors;
 mod networks;
@@ -29,7 +25,6 @@ mod ospf;
 mod policy;
 mod prefix_lists;
 mod reading;
-mod room;
 mod route_maps;
 mod stanza;
 mod top;

@@ -1,14 +1,13 @@
-ghost use Rattle.std.specs.Prelude.{◌≡◌, ◌<◌, ◌∷◌, ◌++◌, [], IfOk, length, false, slice_index_or, slice_set, nat_eq};
+ghost use Rattle.std.specs.Prelude.{◌≡◌, ◌<◌, ◌∷◌, ◌++◌, [], IfOk, OnOk, length, false, slice_index_or, slice_set, nat_eq};
 ghost use Rattle.std.specs.List.{position};
-ghost use Rattle.cfg_ast.specs.text.Answers.{Gives};
 ghost use Rattle.cfg_parse.specs.Neighbors.{change_at};
+ghost use Rattle.cfg_parse.specs.Open.{Changes};
 ghost use Rattle.cfg_ast.specs.text.Stanzas.{has_neighbor, new_neighbor, set_neighbor, at_neighbor, set_list, set_map};
 
-use crate::exchange::exchange;
-use crate::room::pushed;
 use crate::stanza::{misplaced, once};
 use base_kit::{List, NoMemory};
 use cfg_ast::{Named, Neighbor, ReadRefusal, RouterItem};
+use named_lists::pushed;
 use std::alloc::Global;
 use std::collections::BTreeMap;
 use std::marker::Model;
@@ -16,7 +15,7 @@ use std::marker::Model;
 /// The neighbours of a BGP process, with the place of each by its address.
 #[derive(Drop)]
 pub(crate) struct Neighbors {
-    items: List<Neighbor>,
+    items: Vec<Neighbor>,
     places: BTreeMap<u32, usize>,
 }
 
@@ -27,9 +26,9 @@ impl Model for Neighbors {
 
     ghost Value = { List Neighbor };
 
-    ghost view = { λ a. a.items };
+    ghost view = { λ a. a.items.items };
 
-    ghost invariant = { λ a. HasAddresses a.places a.items };
+    ghost invariant = { λ a. HasAddresses a.places a.items.items };
 }
 
 /// A neighbour of which only its `remote-as` line has stood.
@@ -49,13 +48,9 @@ pub(crate) fn new_neighbor(number: u32, addr: u32, remote: u32) -> Neighbor
     }
 }
 
-fn set_list(
-    number: u32,
-    list: Named,
-    inward: bool,
-    mut peer: Neighbor,
-) -> Result<Neighbor, ReadRefusal>
-    ensures { Gives result (set_list number list inward peer) }
+fn set_list(number: u32, list: Named, inward: bool, peer: &mut Neighbor) -> Result<(), ReadRefusal>
+    ensures set { Changes result peer.new (set_list number list inward peer.old) }
+    ensures addr { peer.new.addr ≡ peer.old.addr }
 {
     if inward {
         once(number, peer.list_in.is_some())?;
@@ -64,16 +59,12 @@ fn set_list(
         once(number, peer.list_out.is_some())?;
         peer.list_out = Some(list);
     }
-    Ok(peer)
+    Ok(())
 }
 
-fn set_map(
-    number: u32,
-    map: Named,
-    inward: bool,
-    mut peer: Neighbor,
-) -> Result<Neighbor, ReadRefusal>
-    ensures { Gives result (set_map number map inward peer) }
+fn set_map(number: u32, map: Named, inward: bool, peer: &mut Neighbor) -> Result<(), ReadRefusal>
+    ensures set { Changes result peer.new (set_map number map inward peer.old) }
+    ensures addr { peer.new.addr ≡ peer.old.addr }
 {
     if inward {
         once(number, peer.map_in.is_some())?;
@@ -82,12 +73,13 @@ fn set_map(
         once(number, peer.map_out.is_some())?;
         peer.map_out = Some(map);
     }
-    Ok(peer)
+    Ok(())
 }
 
 #[tactic(auto, unfolding(cfg_ast::specs::text::Stanzas::set_neighbor))]
-fn set_neighbor(number: u32, item: RouterItem, mut peer: Neighbor) -> Result<Neighbor, ReadRefusal>
-    ensures { Gives result (set_neighbor number item peer) }
+fn set_neighbor(number: u32, item: RouterItem, peer: &mut Neighbor) -> Result<(), ReadRefusal>
+    ensures set { Changes result peer.new (set_neighbor number item peer.old) }
+    ensures addr { peer.new.addr ≡ peer.old.addr }
 {
     match item {
         RouterItem::PeerShut(_) => peer.shut = true,
@@ -96,26 +88,7 @@ fn set_neighbor(number: u32, item: RouterItem, mut peer: Neighbor) -> Result<Nei
         RouterItem::PeerMap { map, inward, .. } => return set_map(number, map, inward, peer),
         _ => {}
     }
-    Ok(peer)
-}
-
-// Changes the neighbour in its place.
-#[tactic(auto, using(crate::proofs::ChangedNeighbors::other_default, crate::proofs::ChangedNeighbors::twice_set))]
-fn change_at(
-    number: u32,
-    item: RouterItem,
-    peers: List<Neighbor>,
-    place: usize,
-) -> Result<List<Neighbor>, ReadRefusal>
-    requires { place < length peers }
-    ensures { Gives result (change_at number item peers place) }
-{
-    let mut peers = peers.into_vec();
-    let vacant = new_neighbor(0, 0, 0);
-    let peer = exchange(&mut peers, place, vacant);
-    let peer = set_neighbor(number, item, peer)?;
-    exchange(&mut peers, place, peer);
-    Ok(List::from_vec(peers))
+    Ok(())
 }
 
 impl Neighbors {
@@ -123,7 +96,7 @@ impl Neighbors {
         ensures { result ≡ [] }
     {
         Neighbors {
-            items: List::new(alloc),
+            items: Vec::new(alloc),
             places: BTreeMap::new(alloc),
         }
     }
@@ -144,42 +117,49 @@ impl Neighbors {
         self.places.contains_key(&addr)
     }
 
-    /// Those, and one of another address behind them.
-    pub(crate) fn with(self, peer: Neighbor) -> Result<Neighbors, NoMemory>
+    fn with(self, peer: Neighbor) -> Result<Neighbors, NoMemory>
         requires { has_neighbor self peer.addr ≡ false }
         ensures { IfOk result (λ all. all ≡ self ++ peer ∷ []) }
     {
         let Neighbors { items, mut places } = self;
+        let items = List::from_vec(items);
         places.insert(peer.addr, items.len())?;
         let items = pushed(items, peer)?;
-        Ok(Neighbors { items, places })
+        Ok(Neighbors {
+            items: items.into_vec(),
+            places,
+        })
     }
 
-    fn changed_at(
-        self,
-        number: u32,
-        item: RouterItem,
-        place: usize,
-    ) -> Result<Neighbors, ReadRefusal>
-        requires { place < length self }
-        ensures { Gives result (change_at number item self place) }
+    /// Puts one of another address behind them. After an error there are none.
+    pub(crate) fn add(&mut self, alloc: Global, peer: Neighbor) -> Result<(), NoMemory>
+        requires { has_neighbor self.old peer.addr ≡ false }
+        ensures { OnOk result (self.new ≡ self.old ++ peer ∷ []) }
     {
-        let Neighbors { items, places } = self;
-        let items = change_at(number, item, items, place)?;
-        Ok(Neighbors { items, places })
+        let others = std::mem::replace(self, Neighbors::new(alloc));
+        *self = others.with(peer)?;
+        Ok(())
     }
 
-    /// Those, with what a line says of the one of the address.
-    pub(crate) fn changed(
-        self,
+    fn change_at(&mut self, number: u32, item: RouterItem, place: usize) -> Result<(), ReadRefusal>
+        requires { place < length self.old }
+        ensures { Changes result self.new (change_at number item self.old place) }
+    {
+        set_neighbor(number, item, &mut self.items[place])?;
+        Ok(())
+    }
+
+    /// Adds what a line says of the one of the address.
+    pub(crate) fn change(
+        &mut self,
         number: u32,
         addr: u32,
         item: RouterItem,
-    ) -> Result<Neighbors, ReadRefusal>
-        ensures { Gives result (at_neighbor number addr (set_neighbor number item) self) }
+    ) -> Result<(), ReadRefusal>
+        ensures { Changes result self.new (at_neighbor number addr (set_neighbor number item) self.old) }
     {
         match self.place_of(addr) {
-            Some(place) => self.changed_at(number, item, place),
+            Some(place) => self.change_at(number, item, place),
             None => Err(misplaced(number)),
         }
     }
@@ -188,6 +168,6 @@ impl Neighbors {
         ensures { result ≡ self }
     {
         let Neighbors { items, .. } = self;
-        items
+        List::from_vec(items)
     }
 }

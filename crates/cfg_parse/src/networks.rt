@@ -1,4 +1,4 @@
-ghost use Rattle.std.specs.Prelude.{◌≡◌, ◌∷◌, ◌++◌, [], IfOk};
+ghost use Rattle.std.specs.Prelude.{◌≡◌, ◌∷◌, ◌++◌, [], IfOk, OnOk};
 ghost use Rattle.cfg_ast.specs.text.Stanzas.{has_network};
 
 use base_kit::{List, NoMemory, Prefix};
@@ -43,8 +43,7 @@ impl Networks {
         self.prefixes.contains(&prefix)
     }
 
-    /// Those, and another one behind them.
-    pub(crate) fn with(self, net: NetLine) -> Result<Networks, NoMemory>
+    fn with(self, net: NetLine) -> Result<Networks, NoMemory>
         ensures { IfOk result (λ all. all ≡ self ++ net ∷ []) }
     {
         let Networks {
@@ -54,6 +53,15 @@ impl Networks {
         prefixes.insert(net.prefix)?;
         items.push(net)?;
         Ok(Networks { items, prefixes })
+    }
+
+    /// Puts another one behind them. After an error there are none.
+    pub(crate) fn add(&mut self, alloc: Global, net: NetLine) -> Result<(), NoMemory>
+        ensures { OnOk result (self.new ≡ self.old ++ net ∷ []) }
+    {
+        let others = std::mem::replace(self, Networks::new(alloc));
+        *self = others.with(net)?;
+        Ok(())
     }
 
     pub(crate) fn into_list(self) -> List<NetLine>

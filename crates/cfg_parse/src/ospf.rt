@@ -1,4 +1,4 @@
-ghost use Rattle.std.specs.Prelude.{◌≡◌, true, IfOk};
+ghost use Rattle.std.specs.Prelude.{◌≡◌, true, OnOk};
 ghost use Rattle.cfg_ast.specs.text.Reading.{new_ospf};
 ghost use Rattle.cfg_ast.specs.text.Stanzas.{with_text, with_area, set_ospf};
 
@@ -64,52 +64,51 @@ impl OspfDraft {
     }
 }
 
-fn with_area(area: AreaLine, mut process: OspfDraft) -> Result<OspfDraft, NoMemory>
-    ensures { IfOk result (λ p. p ≡ record process { areas = with_area process.areas area }) }
+fn add_area(alloc: Global, area: AreaLine, process: &mut OspfDraft) -> Result<(), NoMemory>
+    ensures { OnOk result (process.new ≡ record process.old { areas = with_area process.old.areas area }) }
 {
-    process.areas = process.areas.with(area)?;
-    Ok(process)
+    process.areas.add(alloc, area)
 }
 
-fn with_passive(alloc: Global, name: Text, mut process: OspfDraft) -> Result<OspfDraft, NoMemory>
-    ensures { IfOk result (λ p. p ≡ record process { passive = with_text process.passive name }) }
+fn add_passive(alloc: Global, name: Text, process: &mut OspfDraft) -> Result<(), NoMemory>
+    ensures { OnOk result (process.new ≡ record process.old { passive = with_text process.old.passive name }) }
 {
-    process.passive = process.passive.with(alloc, name)?;
-    Ok(process)
+    let names = std::mem::replace(&mut process.passive, Names::new(alloc));
+    process.passive = names.with(alloc, name)?;
+    Ok(())
 }
 
-fn with_not_passive(
-    alloc: Global,
-    name: Text,
-    mut process: OspfDraft,
-) -> Result<OspfDraft, NoMemory>
-    ensures { IfOk result (λ p. p ≡ record process { not_passive = with_text process.not_passive name }) }
+fn add_not_passive(alloc: Global, name: Text, process: &mut OspfDraft) -> Result<(), NoMemory>
+    ensures { OnOk result (process.new ≡ record process.old { not_passive = with_text process.old.not_passive name }) }
 {
-    process.not_passive = process.not_passive.with(alloc, name)?;
-    Ok(process)
+    let names = std::mem::replace(&mut process.not_passive, Names::new(alloc));
+    process.not_passive = names.with(alloc, name)?;
+    Ok(())
 }
 
-fn with_passive_default(mut process: OspfDraft) -> OspfDraft
-    ensures { result ≡ record process { passive_default = true } }
+fn set_passive_default(process: &mut OspfDraft)
+    ensures { process.new ≡ record process.old { passive_default = true } }
 {
     process.passive_default = true;
-    process
 }
 
-/// The process with what one of its lines says.
+/// Adds to the process what one of its lines says.
 #[tactic(auto, unfolding(cfg_ast::specs::text::Stanzas::set_ospf))]
 pub(crate) fn set_ospf(
     alloc: Global,
     item: RouterItem,
-    process: OspfDraft,
-) -> Result<OspfDraft, NoMemory>
-    ensures { IfOk result (λ p. p ≡ set_ospf item process) }
+    process: &mut OspfDraft,
+) -> Result<(), NoMemory>
+    ensures { OnOk result (process.new ≡ set_ospf item process.old) }
 {
     match item {
-        RouterItem::Area(area) => with_area(area, process),
-        RouterItem::PassiveDefault => Ok(with_passive_default(process)),
-        RouterItem::Passive(name) => with_passive(alloc, name, process),
-        RouterItem::NotPassive(name) => with_not_passive(alloc, name, process),
-        _ => Ok(process),
+        RouterItem::Area(area) => add_area(alloc, area, process),
+        RouterItem::PassiveDefault => {
+            set_passive_default(process);
+            Ok(())
+        }
+        RouterItem::Passive(name) => add_passive(alloc, name, process),
+        RouterItem::NotPassive(name) => add_not_passive(alloc, name, process),
+        _ => Ok(()),
     }
 }

@@ -1,9 +1,9 @@
-ghost use Rattle.std.specs.Prelude.{◌≡◌, IfOk, bytes_eq, codes};
+ghost use Rattle.std.specs.Prelude.{◌≡◌, OnOk, bytes_eq, codes};
 ghost use Rattle.std.specs.List.{AllByRecursion};
-ghost use Rattle.cfg_ast.specs.text.Answers.{Gives};
 ghost use Rattle.cfg_ast.specs.text.Lines.{IsWordIn, texts, text_of};
 ghost use Rattle.cfg_ast.specs.text.PolicyLines.{is_policy_line, is_list_word, with_community_line};
 ghost use Rattle.cfg_ast.specs.text.Reading.{ignored, add_prefix_entry, open_entry, take_policy};
+ghost use Rattle.cfg_parse.specs.Open.{Changes};
 
 use crate::draft::{Draft, Open};
 use crate::stanza::repeated;
@@ -69,53 +69,52 @@ fn add_prefix_entry(
     number: u32,
     name: Text,
     entry: PrefixEntry,
-    mut draft: Draft,
-) -> Result<Draft, ReadRefusal>
-    ensures { Gives result (add_prefix_entry number name entry draft) }
+    draft: &mut Draft,
+) -> Result<(), ReadRefusal>
+    ensures { Changes result draft.new (add_prefix_entry number name entry draft.old) }
 {
     if draft.prefix_lists.has_entry(name.as_str(), entry.seq) {
         return Err(repeated(number));
     }
-    draft.prefix_lists = draft.prefix_lists.with_entry(alloc, name, entry)?;
-    Ok(draft)
+    draft.prefix_lists.add(alloc, name, entry)?;
+    Ok(())
 }
 
 fn add_community_line(
     alloc: Global,
     name: Text,
     line: CommunityLine,
-    mut draft: Draft,
-) -> Result<Draft, NoMemory>
-    ensures { IfOk result (λ d. d ≡ record draft { community_lists = with_community_line name line draft.community_lists }) }
+    draft: &mut Draft,
+) -> Result<(), NoMemory>
+    ensures { OnOk result (draft.new ≡ record draft.old { community_lists = with_community_line name line draft.old.community_lists }) }
 {
-    draft.community_lists = draft.community_lists.with_line(alloc, name, line)?;
-    Ok(draft)
+    draft.community_lists.add(alloc, name, line)
 }
 
 fn open_entry(
     number: u32,
     name: Text,
     entry: MapEntry,
-    mut draft: Draft,
-) -> Result<Draft, ReadRefusal>
-    ensures { Gives result (open_entry number name entry draft) }
+    draft: &mut Draft,
+) -> Result<(), ReadRefusal>
+    ensures { Changes result draft.new (open_entry number name entry draft.old) }
 {
     if draft.route_maps.has_entry(name.as_str(), entry.seq) {
         return Err(repeated(number));
     }
     draft.stanza = Open::Entry(name, entry);
-    Ok(draft)
+    Ok(())
 }
 
-/// The draft after a top line of a list or a route map.
+/// Adds to the draft what a top line of a list or a route map says.
 #[tactic(auto, unfolding(cfg_ast::specs::text::Reading::take_policy))]
 pub(crate) fn take_policy(
     alloc: Global,
     number: u32,
     item: PolicyItem,
-    draft: Draft,
-) -> Result<Draft, ReadRefusal>
-    ensures { Gives result (take_policy number item draft) }
+    draft: &mut Draft,
+) -> Result<(), ReadRefusal>
+    ensures { Changes result draft.new (take_policy number item draft.old) }
 {
     match item {
         PolicyItem::PrefixEntry(name, entry) => {
@@ -125,7 +124,10 @@ pub(crate) fn take_policy(
             Ok(add_community_line(alloc, name, line, draft)?)
         }
         PolicyItem::MapHead(name, entry) => open_entry(number, name, entry, draft),
-        PolicyItem::Ignored => Ok(ignore(draft)),
-        _ => Ok(draft),
+        PolicyItem::Ignored => {
+            ignore(draft);
+            Ok(())
+        }
+        _ => Ok(()),
     }
 }

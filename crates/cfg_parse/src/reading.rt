@@ -3,9 +3,10 @@ ghost use Rattle.cfg_ast.specs.text.Answers.{Gives};
 ghost use Rattle.cfg_ast.specs.text.Lines.{IsLineIn, lines_of};
 ghost use Rattle.cfg_ast.specs.text.TextLines.{text_line};
 ghost use Rattle.cfg_ast.specs.text.Reading.{at_start, step_policy, step_router, step_top, step_inner, step, end_at, network_of_lines, network_of_text};
+ghost use Rattle.cfg_parse.specs.Open.{Changes};
 ghost use Rattle.cfg_parse.specs.Rest.{answer_of, state_after};
 
-use crate::draft::{Draft, State, at_start, with_closed};
+use crate::draft::{State, at_start, close};
 use crate::end_line::is_end_line;
 use crate::policy::{is_policy_line, take_policy};
 use crate::stanza::{policy_said_in, said_in, take_inner};
@@ -15,31 +16,39 @@ use cfg_lex::{Place, line_from, sound};
 use std::alloc::Global;
 
 #[tactic(auto, unfolding(cfg_ast::specs::text::Reading::step_router))]
-fn step_router(alloc: Global, bytes: &[u8], line: &Line, state: State) -> Result<State, ReadRefusal>
+fn step_router(
+    alloc: Global,
+    bytes: &[u8],
+    line: &Line,
+    state: &mut State,
+) -> Result<(), ReadRefusal>
     requires { IsLineIn bytes.now line.now }
-    ensures { Gives result (step_router state (text_line bytes.now line.now)) }
+    ensures { Changes result state.new (step_router state.old (text_line bytes.now line.now)) }
 {
-    let State { routers, draft } = state;
     let item = said_in(alloc, bytes, line, Scope::Top)?;
-    let draft = with_closed(alloc, draft)?;
-    take_top(alloc, line.number, item, State { routers, draft })
+    close(alloc, &mut state.draft)?;
+    take_top(alloc, line.number, item, state)
 }
 
 #[tactic(auto, unfolding(cfg_ast::specs::text::Reading::step_policy))]
-fn step_policy(alloc: Global, bytes: &[u8], line: &Line, state: State) -> Result<State, ReadRefusal>
+fn step_policy(
+    alloc: Global,
+    bytes: &[u8],
+    line: &Line,
+    state: &mut State,
+) -> Result<(), ReadRefusal>
     requires { IsLineIn bytes.now line.now }
-    ensures { Gives result (step_policy state (text_line bytes.now line.now)) }
+    ensures { Changes result state.new (step_policy state.old (text_line bytes.now line.now)) }
 {
-    let State { routers, draft } = state;
     let item = policy_said_in(alloc, bytes, line, PolicyScope::Top)?;
-    let draft = with_closed(alloc, draft)?;
-    let draft = take_policy(alloc, line.number, item, draft)?;
-    Ok(State { routers, draft })
+    close(alloc, &mut state.draft)?;
+    take_policy(alloc, line.number, item, &mut state.draft)?;
+    Ok(())
 }
 
-fn step_top(alloc: Global, bytes: &[u8], line: &Line, state: State) -> Result<State, ReadRefusal>
+fn step_top(alloc: Global, bytes: &[u8], line: &Line, state: &mut State) -> Result<(), ReadRefusal>
     requires { IsLineIn bytes.now line.now }
-    ensures { Gives result (step_top state (text_line bytes.now line.now)) }
+    ensures { Changes result state.new (step_top state.old (text_line bytes.now line.now)) }
 {
     if is_policy_line(bytes, line.words.as_slice()) {
         step_policy(alloc, bytes, line, state)
@@ -48,41 +57,24 @@ fn step_top(alloc: Global, bytes: &[u8], line: &Line, state: State) -> Result<St
     }
 }
 
-fn step_inner(alloc: Global, bytes: &[u8], line: &Line, state: State) -> Result<State, ReadRefusal>
+fn step_inner(
+    alloc: Global,
+    bytes: &[u8],
+    line: &Line,
+    state: &mut State,
+) -> Result<(), ReadRefusal>
     requires { IsLineIn bytes.now line.now }
-    ensures { Gives result (step_inner state (text_line bytes.now line.now)) }
+    ensures { Changes result state.new (step_inner state.old (text_line bytes.now line.now)) }
 {
-    let State { routers, draft } = state;
-    let Draft {
-        name,
-        interfaces,
-        bgp,
-        ospf,
-        prefix_lists,
-        community_lists,
-        route_maps,
-        stanza,
-    } = draft;
-    let stanza = take_inner(alloc, bytes, line, stanza)?;
-    Ok(State {
-        routers,
-        draft: Draft {
-            name,
-            interfaces,
-            bgp,
-            ospf,
-            prefix_lists,
-            community_lists,
-            route_maps,
-            stanza,
-        },
-    })
+    let draft = &mut state.draft;
+    take_inner(alloc, bytes, line, &mut draft.stanza)?;
+    Ok(())
 }
 
 #[tactic(auto, unfolding(cfg_ast::specs::text::Reading::step))]
-fn step(alloc: Global, bytes: &[u8], line: &Line, state: State) -> Result<State, ReadRefusal>
+fn step(alloc: Global, bytes: &[u8], line: &Line, state: &mut State) -> Result<(), ReadRefusal>
     requires { IsLineIn bytes.now line.now }
-    ensures { Gives result (step state (text_line bytes.now line.now)) }
+    ensures { Changes result state.new (step state.old (text_line bytes.now line.now)) }
 {
     if line.indent == 0 {
         step_top(alloc, bytes, line, state)
@@ -126,7 +118,7 @@ fn read_lines(alloc: Global, bytes: &[u8]) -> Result<State, ReadRefusal>
     let mut state = at_start(alloc);
     let mut last = None;
     while let Some((line, next)) = line_from(alloc, bytes, place)? {
-        state = step(alloc, bytes, &line, state)?;
+        step(alloc, bytes, &line, &mut state)?;
         last = unended(bytes, &line);
         place = next;
     }

@@ -6,7 +6,7 @@ ghost use Rattle.cfg_ast.specs.text.PolicyForms.{policy_item_of};
 ghost use Rattle.cfg_ast.specs.text.RouterForms.{router_item_of};
 ghost use Rattle.cfg_ast.specs.text.Reading.{take_inner};
 ghost use Rattle.cfg_ast.specs.text.Stanzas.{once, said_at};
-ghost use Rattle.cfg_parse.specs.Open.{stanza_of, GivesOpen};
+ghost use Rattle.cfg_parse.specs.Open.{Changes, stanza_of};
 ghost use Rattle.cfg_ast.specs.declared.refusal.ReadRefusal.TheVariants.{At};
 ghost use Rattle.cfg_ast.specs.declared.refusal.Kind.TheVariants.{Misplaced, Repeated};
 
@@ -114,35 +114,39 @@ pub(crate) fn policy_said_in(
     }
 }
 
-/// The open stanza with what one of its lines says.
+/// Adds to the open stanza what one of its lines says.
 #[tactic(auto, unfolding(cfg_ast::specs::text::Reading::take_inner))]
 pub(crate) fn take_inner(
     alloc: Global,
     bytes: &[u8],
     line: &Line,
-    stanza: Open,
-) -> Result<Open, ReadRefusal>
+    stanza: &mut Open,
+) -> Result<(), ReadRefusal>
     requires { IsLineIn bytes.now line.now }
-    ensures { GivesOpen result (take_inner (text_line bytes.now line.now) (stanza_of stanza)) }
+    ensures { Changes result (stanza_of stanza.new) (take_inner (text_line bytes.now line.now) (stanza_of stanza.old)) }
 {
     match stanza {
         Open::Closed => Err(misplaced(line.number)),
-        Open::Ignored => Ok(Open::Ignored),
+        Open::Ignored => Ok(()),
         Open::Interface(interface) => {
             let item = said_in(alloc, bytes, line, Scope::Interface)?;
-            Ok(Open::Interface(set_interface(line.number, item, interface)?))
+            set_interface(line.number, item, interface)?;
+            Ok(())
         }
         Open::Bgp(process) => {
             let item = said_in(alloc, bytes, line, Scope::Bgp)?;
-            Ok(Open::Bgp(set_bgp(line.number, item, process)?))
+            set_bgp(alloc, line.number, item, process)?;
+            Ok(())
         }
         Open::Ospf(process) => {
             let item = said_in(alloc, bytes, line, Scope::Ospf)?;
-            Ok(Open::Ospf(set_ospf(alloc, item, process)?))
+            set_ospf(alloc, item, process)?;
+            Ok(())
         }
-        Open::Entry(name, entry) => {
+        Open::Entry(_, entry) => {
             let item = policy_said_in(alloc, bytes, line, PolicyScope::Entry)?;
-            Ok(Open::Entry(name, set_entry(alloc, line.number, item, entry)?))
+            set_entry(alloc, line.number, item, entry)?;
+            Ok(())
         }
     }
 }

@@ -1,14 +1,20 @@
-ghost use Rattle.std.specs.Prelude.{◌≡◌};
+ghost use Rattle.std.specs.Prelude.{◌≡◌, IfOk};
 ghost use Rattle.cfg_ast.specs.text.Answers.{Gives};
 ghost use Rattle.cfg_ast.specs.text.Stanzas.{once};
 ghost use Rattle.cfg_ast.specs.text.Reading.{new_interface, take_hostname, open_interface, open_bgp, open_ospf, ignored, router_of, end_router, ends_router, take_line, take_top};
+ghost use Rattle.cfg_parse.specs.Open.{Changes};
 
 use crate::bgp::BgpDraft;
+use crate::community_lists::CommunityLists;
 use crate::draft::{Draft, Open, State, no_draft};
 use crate::ospf::OspfDraft;
+use crate::prefix_lists::PrefixLists;
+use crate::route_maps::RouteMaps;
 use crate::stanza::{once, repeated};
-use base_kit::Text;
-use cfg_ast::{Interface, Kind, Named, ReadRefusal, Router, RouterItem};
+use base_kit::{List, NoMemory, Text};
+use cfg_ast::{
+    CommunityList, Interface, Kind, Named, PrefixList, ReadRefusal, RouteMap, Router, RouterItem,
+};
 use std::alloc::Global;
 
 fn new_interface(number: u32, name: Text) -> Interface
@@ -23,46 +29,70 @@ fn new_interface(number: u32, name: Text) -> Interface
     }
 }
 
-fn take_hostname(number: u32, name: Text, mut draft: Draft) -> Result<Draft, ReadRefusal>
-    ensures { Gives result (take_hostname number name draft) }
+fn take_hostname(number: u32, name: Text, draft: &mut Draft) -> Result<(), ReadRefusal>
+    ensures { Changes result draft.new (take_hostname number name draft.old) }
 {
     once(number, draft.name.is_some())?;
     draft.name = Some(Named { name, line: number });
-    Ok(draft)
+    Ok(())
 }
 
-fn open_interface(number: u32, name: Text, mut draft: Draft) -> Result<Draft, ReadRefusal>
-    ensures { Gives result (open_interface number name draft) }
+fn open_interface(number: u32, name: Text, draft: &mut Draft) -> Result<(), ReadRefusal>
+    ensures { Changes result draft.new (open_interface number name draft.old) }
 {
     if draft.interfaces.has(name.as_str()) {
         return Err(repeated(number));
     }
     draft.stanza = Open::Interface(new_interface(number, name));
-    Ok(draft)
+    Ok(())
 }
 
-fn open_bgp(alloc: Global, line: u32, number: u32, mut draft: Draft) -> Result<Draft, ReadRefusal>
-    ensures { Gives result (open_bgp line number draft) }
+fn open_bgp(alloc: Global, line: u32, number: u32, draft: &mut Draft) -> Result<(), ReadRefusal>
+    ensures { Changes result draft.new (open_bgp line number draft.old) }
 {
     once(line, draft.bgp.is_some())?;
     draft.stanza = Open::Bgp(BgpDraft::new(alloc, line, number));
-    Ok(draft)
+    Ok(())
 }
 
-fn open_ospf(alloc: Global, line: u32, number: u32, mut draft: Draft) -> Result<Draft, ReadRefusal>
-    ensures { Gives result (open_ospf line number draft) }
+fn open_ospf(alloc: Global, line: u32, number: u32, draft: &mut Draft) -> Result<(), ReadRefusal>
+    ensures { Changes result draft.new (open_ospf line number draft.old) }
 {
     once(line, draft.ospf.is_some())?;
     draft.stanza = Open::Ospf(OspfDraft::new(alloc, line, number));
-    Ok(draft)
+    Ok(())
 }
 
-/// The draft in an ignored stanza.
-pub(crate) fn ignore(mut draft: Draft) -> Draft
-    ensures { result ≡ record draft { stanza = ignored } }
+/// Opens a stanza whose lines are ignored.
+pub(crate) fn ignore(draft: &mut Draft)
+    ensures { draft.new ≡ record draft.old { stanza = ignored } }
 {
     draft.stanza = Open::Ignored;
-    draft
+}
+
+// The lists and maps of a router, in order.
+#[derive(Drop)]
+struct Lists {
+    prefix_lists: List<PrefixList>,
+    community_lists: List<CommunityList>,
+    route_maps: List<RouteMap>,
+}
+
+fn lists_of(
+    alloc: Global,
+    prefix_lists: PrefixLists,
+    community_lists: CommunityLists,
+    route_maps: RouteMaps,
+) -> Result<Lists, NoMemory>
+    ensures prefix_lists { IfOk result (λ lists. lists.prefix_lists ≡ prefix_lists) }
+    ensures community_lists { IfOk result (λ lists. lists.community_lists ≡ community_lists) }
+    ensures route_maps { IfOk result (λ lists. lists.route_maps ≡ route_maps) }
+{
+    Ok(Lists {
+        prefix_lists: prefix_lists.into_list(alloc)?,
+        community_lists: community_lists.into_list(alloc)?,
+        route_maps: route_maps.into_list(alloc)?,
+    })
 }
 
 fn router_of(alloc: Global, number: u32, draft: Draft) -> Result<Router, ReadRefusal>
@@ -76,8 +106,11 @@ fn router_of(alloc: Global, number: u32, draft: Draft) -> Result<Router, ReadRef
         prefix_lists,
         community_lists,
         route_maps,
-        ..
+        stanza,
     } = draft;
+    // It goes first, so that no later return has to drop each kind of stanza.
+    drop(stanza);
+    let lists = lists_of(alloc, prefix_lists, community_lists, route_maps)?;
     match name {
         Some(host) => Ok(Router {
             name: host.name,
@@ -85,9 +118,9 @@ fn router_of(alloc: Global, number: u32, draft: Draft) -> Result<Router, ReadRef
             interfaces: interfaces.into_list(),
             bgp,
             ospf,
-            prefix_lists: prefix_lists.into_list(alloc)?,
-            community_lists: community_lists.into_list(),
-            route_maps: route_maps.into_list(alloc)?,
+            prefix_lists: lists.prefix_lists,
+            community_lists: lists.community_lists,
+            route_maps: lists.route_maps,
         }),
         None => Err(ReadRefusal::At {
             line: number,
@@ -111,45 +144,44 @@ fn take_line(
     alloc: Global,
     number: u32,
     item: RouterItem,
-    draft: Draft,
-) -> Result<Draft, ReadRefusal>
-    ensures { Gives result (take_line number item draft) }
+    draft: &mut Draft,
+) -> Result<(), ReadRefusal>
+    ensures { Changes result draft.new (take_line number item draft.old) }
 {
     match item {
         RouterItem::Hostname(name) => take_hostname(number, name, draft),
         RouterItem::Interface(name) => open_interface(number, name, draft),
         RouterItem::Bgp(process) => open_bgp(alloc, number, process, draft),
         RouterItem::Ospf(process) => open_ospf(alloc, number, process, draft),
-        RouterItem::Ignored => Ok(ignore(draft)),
-        _ => Ok(draft),
+        RouterItem::Ignored => {
+            ignore(draft);
+            Ok(())
+        }
+        _ => Ok(()),
     }
 }
 
-fn end_router(alloc: Global, number: u32, state: State) -> Result<State, ReadRefusal>
-    ensures { Gives result (end_router number state) }
+fn end_router(alloc: Global, number: u32, state: &mut State) -> Result<(), ReadRefusal>
+    ensures { Changes result state.new (end_router number state.old) }
 {
-    let State { mut routers, draft } = state;
-    routers.push(router_of(alloc, number, draft)?)?;
-    Ok(State {
-        routers,
-        draft: no_draft(alloc),
-    })
+    let draft = std::mem::replace(&mut state.draft, no_draft(alloc));
+    state.routers.push(router_of(alloc, number, draft)?)?;
+    Ok(())
 }
 
-/// The state after a top line.
+/// Adds to the state what a top line says.
 #[tactic(auto, unfolding(cfg_ast::specs::text::Reading::take_top))]
 pub(crate) fn take_top(
     alloc: Global,
     number: u32,
     item: RouterItem,
-    state: State,
-) -> Result<State, ReadRefusal>
-    ensures { Gives result (take_top number item state) }
+    state: &mut State,
+) -> Result<(), ReadRefusal>
+    ensures { Changes result state.new (take_top number item state.old) }
 {
     if ends_router(&item) {
         return end_router(alloc, number, state);
     }
-    let State { routers, draft } = state;
-    let draft = take_line(alloc, number, item, draft)?;
-    Ok(State { routers, draft })
+    take_line(alloc, number, item, &mut state.draft)?;
+    Ok(())
 }

@@ -7,13 +7,13 @@ use Rattle.cfg_parse.specs.Rest.{answer_of, state_after}
 use Rattle.cfg_parse.proofs.Rest.{line_ok, line_gives, lines_end, refuses}
 use Rattle.cfg_parse.proofs.reading.read_lines.Goals as goal
 
-pub returns-in_err-state : goal.returns-in_err-state
-returns-in_err-state c =
+pub returns-in_err-step : goal.returns-in_err-step
+returns-in_err-step c =
     let bs = c.args.bytes.now in
     let place = c.loop-state.place in
     let first : IsFirst bs place c.in-Some.next c.in-Some.line = subst (IsNext bs place) c.in-Some.is c.in_ok-line.ensures in
-    let p = err_from_is_err_and c.from_residual-in_err-state.result c.from_residual-in_err-state.ensures.1 in
-    rw (p.1, p.2) (subst (RefusesAs c.in_err-state.field-0.0) c.loop-state.invariant.same (line_gives bs place c.in-Some.next c.loop-state.state (answer_of c.loop-state.last) c.in-Some.line c.in_err-state.field-0.0 first c.in_err-state.ensures))
+    let p = err_from_is_err_and c.from_residual-in_err-step.result c.from_residual-in_err-step.ensures.1 in
+    rw (p.1, p.2) (subst (RefusesAs c.in_err-step.field-0.0) c.loop-state.invariant.same (line_gives bs place c.in-Some.next c.loop-state.state (answer_of c.loop-state.last) c.in-Some.line c.in_err-step.field-0.0 first c.in_err-step.ensures))
 
 pub loop-state-preserved : goal.loop-state-preserved
 loop-state-preserved c =
@@ -23,8 +23,8 @@ loop-state-preserved c =
     record {
       is_place = first.is_place;
       sound = first.sound;
-      same = ap (λ said. state_after bs c.in_ok-state.state said (lines_from bs c.in-Some.next)) c.unended-last.ensures
-          ∙ sym (line_ok bs place c.in-Some.next c.loop-state.state c.in_ok-state.state (answer_of c.loop-state.last) c.in-Some.line first c.in_ok-state.ensures) ∙ c.loop-state.invariant.same;
+      same = ap (λ said. state_after bs c.step.new.state said (lines_from bs c.in-Some.next)) c.unended-last.ensures
+          ∙ sym (line_ok bs place c.in-Some.next c.loop-state.state c.step.new.state (answer_of c.loop-state.last) c.in-Some.line first c.in_ok-step.ensures) ∙ c.loop-state.invariant.same;
     }
 
 pub returns-in_err-ended : goal.returns-in_err-ended
