@@ -1,7 +1,6 @@
 pub mod Accepted
 pub mod AreaBits
 pub mod AreaLookups
-pub mod AreaRouters
 pub mod BlockLemmas
 pub mod CommunityCounts
 pub mod Counted

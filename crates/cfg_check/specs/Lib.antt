@@ -1,4 +1,3 @@
-pub mod AreaIndexes
 pub mod AreaLines
 pub mod AreaTables
 pub mod Blocks

@@ -1,12 +1,13 @@
-ghost use Rattle.std.specs.Prelude.{◌≡◌, map, filter_map, flat_map, codes};
+ghost use Rattle.std.specs.Prelude.{◌≡◌, IfOk, map, filter_map, flat_map, codes};
 ghost use Rattle.std.specs.Option.{option_map};
 ghost use Rattle.cfg_ast.specs.meaning.RouterFaults.{address_line, is_wide_loopback, has_no_cost, area_address_with, area_addresses_with};
-ghost use Rattle.cfg_check.specs.AreaIndexes.{routers_of};
 ghost use Rattle.cfg_check.specs.LeastLine.{least_line};
 
 use crate::area_index::AreaIndex;
 use crate::least::lesser_line;
-use cfg_ast::Interface;
+use base_kit::NoMemory;
+use cfg_ast::{Interface, Router};
+use std::alloc::Global;
 
 /// The faults of up interfaces in the area, each by its least `ip address` line.
 #[derive(Clone, Copy)]
@@ -69,31 +70,32 @@ fn no_cost_in(index: &AreaIndex, interfaces: &[Interface]) -> Option<u32>
     least
 }
 
-fn area_faults_of(index: &AreaIndex) -> AreaFaults
-    ensures wide_loopback { result.wide_loopback ≡ least_line (map address_line (area_addresses_with is_wide_loopback index.now.router.now)) }
-    ensures no_cost { result.no_cost ≡ least_line (map address_line (area_addresses_with has_no_cost index.now.router.now)) }
+fn area_faults_of(alloc: Global, router: &Router) -> Result<AreaFaults, NoMemory>
+    ensures wide_loopback { IfOk result (λ faults. faults.wide_loopback ≡ least_line (map address_line (area_addresses_with is_wide_loopback router.now))) }
+    ensures no_cost { IfOk result (λ faults. faults.no_cost ≡ least_line (map address_line (area_addresses_with has_no_cost router.now))) }
 {
-    let interfaces = index.router.interfaces.as_slice();
-    AreaFaults {
-        wide_loopback: wide_loopback_in(index, interfaces),
-        no_cost: no_cost_in(index, interfaces),
-    }
+    let index = AreaIndex::of(alloc, router)?;
+    let interfaces = router.interfaces.as_slice();
+    Ok(AreaFaults {
+        wide_loopback: wide_loopback_in(&index, interfaces),
+        no_cost: no_cost_in(&index, interfaces),
+    })
 }
 
-/// The faults of the interfaces in the area, of all routers by their indexes.
-pub(crate) fn area_faults(indexes: &[AreaIndex]) -> AreaFaults
-    ensures wide_loopback { result.wide_loopback ≡ least_line (map address_line (flat_map (area_addresses_with is_wide_loopback) (routers_of indexes.now))) }
-    ensures no_cost { result.no_cost ≡ least_line (map address_line (flat_map (area_addresses_with has_no_cost) (routers_of indexes.now))) }
+/// The faults of all routers' interfaces in the area.
+pub(crate) fn area_faults(alloc: Global, routers: &[Router]) -> Result<AreaFaults, NoMemory>
+    ensures wide_loopback { IfOk result (λ faults. faults.wide_loopback ≡ least_line (map address_line (flat_map (area_addresses_with is_wide_loopback) routers.now))) }
+    ensures no_cost { IfOk result (λ faults. faults.no_cost ≡ least_line (map address_line (flat_map (area_addresses_with has_no_cost) routers.now))) }
 {
     let mut wide_loopback = None;
     let mut no_cost = None;
-    for index in indexes {
-        let faults = area_faults_of(index);
+    for router in routers {
+        let faults = area_faults_of(alloc, router)?;
         wide_loopback = lesser_line(wide_loopback, faults.wide_loopback);
         no_cost = lesser_line(no_cost, faults.no_cost);
     }
-    AreaFaults {
+    Ok(AreaFaults {
         wide_loopback,
         no_cost,
-    }
+    })
 }

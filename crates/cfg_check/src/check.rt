@@ -6,7 +6,6 @@ ghost use Rattle.cfg_ast.specs.text.Reading.{IsGiven};
 
 use crate::addresses::shared_address;
 use crate::area::area_faults;
-use crate::area_indexes::area_indexes;
 use crate::checked::Checked;
 use crate::communities::{all_mentions, communities, too_many_communities};
 use crate::deletions::delete_list_form;
@@ -47,16 +46,14 @@ fn least_fault(
     let least = with_fault(least, Kind::SharedAddress, shared_address(alloc, routers)?);
     let overlapping = overlapping_interfaces(alloc, routers)?;
     let least = with_fault(least, Kind::OverlappingInterfaces, overlapping);
-    let indexes = area_indexes(alloc, routers)?;
-    let in_area = area_faults(indexes.as_slice());
+    let in_area = area_faults(alloc, routers)?;
     let least = with_fault(least, Kind::LoopbackMask, in_area.wide_loopback);
     let least = with_fault(least, Kind::NoCost, in_area.no_cost);
     let least = with_fault(least, Kind::TooManyRouters, too_many_routers(routers));
     let communities = too_many_communities(alloc, mentions)?;
     let least = with_fault(least, Kind::TooManyCommunities, communities);
     let least = with_fault(least, Kind::TooManyNeighbors, too_many_neighbors(routers));
-    let links = too_many_links(alloc, indexes.as_slice())?;
-    let least = with_fault(least, Kind::TooManyLinks, links);
+    let least = with_fault(least, Kind::TooManyLinks, too_many_links(alloc, routers)?);
     let least = with_fault(least, Kind::PrependForm, prepend_form(routers));
     let least = with_fault(least, Kind::PrependIn, prepend_in(alloc, routers)?);
     Ok(least)

@@ -10,7 +10,6 @@
 mod addresses;
 mod area;
 mod area_index;
-mod area_indexes;
 mod area_table;
 mod check;
 mod checked;

@@ -1,6 +1,5 @@
 ghost use Rattle.std.specs.Prelude.{◌≡◌, ◌≤◌, IfOk, OnOk, map, filter_map, length, []};
 ghost use Rattle.cfg_ast.specs.meaning.RouterFaults.{active_address_on, active_addresses_of, added_after, exceeding};
-ghost use Rattle.cfg_check.specs.AreaIndexes.{routers_of};
 ghost use Rattle.cfg_check.specs.LeastLine.{least_line};
 ghost use Rattle.buckets.specs.Buckets.{bucket};
 ghost use Rattle.cfg_check.specs.Pairs.{subnet_pair, counted, sum_or_line, AddsAll};
@@ -9,7 +8,7 @@ use crate::area_index::AreaIndex;
 use crate::gather::push_some;
 use base_kit::NoMemory;
 use buckets::{Index, items_at, push_at};
-use cfg_ast::{Address, Interface};
+use cfg_ast::{Address, Interface, Router};
 use std::alloc::Global;
 use std::collections::HashMap;
 
@@ -36,10 +35,12 @@ fn active_addresses_in(
     Ok(found)
 }
 
-fn active_addresses(alloc: Global, index: &AreaIndex) -> Result<Vec<Address>, NoMemory>
-    ensures { IfOk result (λ found. found.items ≡ active_addresses_of index.now.router.now) }
+fn active_addresses(alloc: Global, router: &Router) -> Result<Vec<Address>, NoMemory>
+    ensures { IfOk result (λ found. found.items ≡ active_addresses_of router.now) }
 {
-    active_addresses_in(alloc, index, index.router.interfaces.as_slice())
+    let index = AreaIndex::of(alloc, router)?;
+    let found = active_addresses_in(alloc, &index, router.interfaces.as_slice())?;
+    Ok(found)
 }
 
 // Puts the addresses in, each behind those of its subnet.
@@ -76,15 +77,14 @@ fn sum_of_pairs(seen: &Index<Address>, addresses: &[Address], sum: u64) -> Resul
     Ok(sum)
 }
 
-/// The `ip address` line at which the number of OSPF adjacent pairs first exceeds the limit, in all
-/// routers by their indexes.
-pub(crate) fn too_many_links(alloc: Global, indexes: &[AreaIndex]) -> Result<Option<u32>, NoMemory>
-    ensures { IfOk result (λ line. line ≡ least_line (exceeding 1048576 0 (added_after [] (routers_of indexes.now)))) }
+/// The `ip address` line at which the number of OSPF adjacent pairs first exceeds the limit.
+pub(crate) fn too_many_links(alloc: Global, routers: &[Router]) -> Result<Option<u32>, NoMemory>
+    ensures { IfOk result (λ line. line ≡ least_line (exceeding 1048576 0 (added_after [] routers.now))) }
 {
     let mut seen: Index<Address> = HashMap::new(alloc);
     let mut sum = 0;
-    for index in indexes {
-        let addresses = active_addresses(alloc, index)?;
+    for router in routers {
+        let addresses = active_addresses(alloc, router)?;
         match sum_of_pairs(&seen, addresses.as_slice(), sum) {
             Ok(more) => sum = more,
             Err(line) => return Ok(Some(line)),

@@ -7,7 +7,6 @@ use Rattle.cfg_ast.specs.meaning.Topology.{neighbors_of}
 use Rattle.cfg_ast.specs.meaning.Meaning.{meaning_faults, faults_at}
 use Rattle.cfg_ast.specs.meaning.PolicyFaults.{undefined_map_lines, undefined_list_lines, delete_list_lines, too_many_communities_lines, prepend_form_lines, prepend_in_lines, undefined_maps_of, undefined_lists_of, wide_deletions_of, exceeding_mentions, foreign_prepends_of, prepending_maps_in_of}
 use Rattle.cfg_ast.specs.meaning.RouterFaults.{shared_name_lines, shared_as_lines, internal_peer_lines, mixed_protocol_lines, other_area_lines, shared_address_lines, overlapping_lines, loopback_mask_lines, no_cost_lines, too_many_routers_lines, too_many_neighbors_lines, too_many_links_lines, router_line, process_line, neighbor_line, address_line, area_line, line_of_protocol, repeats, unlike_first, first_beyond, same_name, bgp_of, same_number, internal_peers_of, same_protocol, protocol_lines_of, same_area, areas_of, same_address, up_addresses_of, overlapping_in, area_addresses_with, is_wide_loopback, has_no_cost, exceeding, added_after}
-use Rattle.cfg_check.specs.AreaIndexes.{routers_of}
 use Rattle.cfg_check.specs.LeastLine.{least_line}
 use Rattle.cfg_check.proofs.LeastFault.{kind_step}
 use Rattle.cfg_check.proofs.check.least_fault.Goals as goal
@@ -17,8 +16,6 @@ unfolding meaning_faults shared_name_lines shared_as_lines internal_peer_lines m
 returns c =
     let n = c.args.network.now in
     let same = c.as_slice-routers.ensures in
-    let indexed = ap routers_of c.as_slice.ensures.value ∙ c.in_ok-indexes.ensures ∙ same in
-    let lent = ap routers_of c.as_slice-2.ensures.value ∙ c.in_ok-indexes.ensures ∙ same in
     let s1 = kind_step [] kind.SharedName (shared_name_lines n) None c.with_fault-least.result c.in_ok-shared_name.field-0 refl (c.in_ok-shared_name.ensures ∙ ap (λ (rs : List Router). least_line (map router_line (repeats same_name rs))) same) c.with_fault-least.ensures in
     let f1 : List Fault = faults_at kind.SharedName (shared_name_lines n) in
     let s2 = kind_step f1 kind.SharedAs (shared_as_lines n) c.with_fault-least.result c.with_fault-least-2.result c.in_ok-shared_as.field-0 s1 (c.in_ok-shared_as.ensures ∙ ap (λ (rs : List Router). least_line (map process_line (repeats same_number (filter_map bgp_of rs)))) same) c.with_fault-least-2.ensures in
@@ -39,9 +36,9 @@ returns c =
     let f9 : List Fault = f8 ++ faults_at kind.SharedAddress (shared_address_lines n) in
     let s10 = kind_step f9 kind.OverlappingInterfaces (overlapping_lines n) c.with_fault-least-9.result c.with_fault-least-10.result c.in_ok-overlapping.overlapping s9 (c.in_ok-overlapping.ensures ∙ ap (λ (rs : List Router). least_line (map address_line (flat_map overlapping_in rs))) same) c.with_fault-least-10.ensures in
     let f10 : List Fault = f9 ++ faults_at kind.OverlappingInterfaces (overlapping_lines n) in
-    let s11 = kind_step f10 kind.LoopbackMask (loopback_mask_lines n) c.with_fault-least-10.result c.with_fault-least-11.result c.area_faults-in_area.result.wide_loopback s10 (c.area_faults-in_area.ensures.wide_loopback ∙ ap (λ (rs : List Router). least_line (map address_line (flat_map (area_addresses_with is_wide_loopback) rs))) indexed) c.with_fault-least-11.ensures in
+    let s11 = kind_step f10 kind.LoopbackMask (loopback_mask_lines n) c.with_fault-least-10.result c.with_fault-least-11.result c.in_ok-in_area.in_area.wide_loopback s10 (c.in_ok-in_area.ensures.wide_loopback ∙ ap (λ (rs : List Router). least_line (map address_line (flat_map (area_addresses_with is_wide_loopback) rs))) same) c.with_fault-least-11.ensures in
     let f11 : List Fault = f10 ++ faults_at kind.LoopbackMask (loopback_mask_lines n) in
-    let s12 = kind_step f11 kind.NoCost (no_cost_lines n) c.with_fault-least-11.result c.with_fault-least-12.result c.area_faults-in_area.result.no_cost s11 (c.area_faults-in_area.ensures.no_cost ∙ ap (λ (rs : List Router). least_line (map address_line (flat_map (area_addresses_with has_no_cost) rs))) indexed) c.with_fault-least-12.ensures in
+    let s12 = kind_step f11 kind.NoCost (no_cost_lines n) c.with_fault-least-11.result c.with_fault-least-12.result c.in_ok-in_area.in_area.no_cost s11 (c.in_ok-in_area.ensures.no_cost ∙ ap (λ (rs : List Router). least_line (map address_line (flat_map (area_addresses_with has_no_cost) rs))) same) c.with_fault-least-12.ensures in
     let f12 : List Fault = f11 ++ faults_at kind.NoCost (no_cost_lines n) in
     let s13 = kind_step f12 kind.TooManyRouters (too_many_routers_lines n) c.with_fault-least-12.result c.with_fault-least-13.result c.too_many_routers.result s12 (c.too_many_routers.ensures ∙ ap (λ (rs : List Router). least_line (map router_line (first_beyond 4096 rs))) same) c.with_fault-least-13.ensures in
     let f13 : List Fault = f12 ++ faults_at kind.TooManyRouters (too_many_routers_lines n) in
@@ -49,7 +46,7 @@ returns c =
     let f14 : List Fault = f13 ++ faults_at kind.TooManyCommunities (too_many_communities_lines n) in
     let s15 = kind_step f14 kind.TooManyNeighbors (too_many_neighbors_lines n) c.with_fault-least-14.result c.with_fault-least-15.result c.too_many_neighbors.result s14 (c.too_many_neighbors.ensures ∙ ap (λ (rs : List Router). least_line (map neighbor_line (first_beyond 131072 (flat_map neighbors_of rs)))) same) c.with_fault-least-15.ensures in
     let f15 : List Fault = f14 ++ faults_at kind.TooManyNeighbors (too_many_neighbors_lines n) in
-    let s16 = kind_step f15 kind.TooManyLinks (too_many_links_lines n) c.with_fault-least-15.result c.with_fault-least-16.result c.in_ok-links.links s15 (c.in_ok-links.ensures ∙ ap (λ (rs : List Router). least_line (exceeding 1048576 0 (added_after [] rs))) lent) c.with_fault-least-16.ensures in
+    let s16 = kind_step f15 kind.TooManyLinks (too_many_links_lines n) c.with_fault-least-15.result c.with_fault-least-16.result c.in_ok-too_many_links.field-0 s15 (c.in_ok-too_many_links.ensures ∙ ap (λ (rs : List Router). least_line (exceeding 1048576 0 (added_after [] rs))) same) c.with_fault-least-16.ensures in
     let f16 : List Fault = f15 ++ faults_at kind.TooManyLinks (too_many_links_lines n) in
     let s17 = kind_step f16 kind.PrependForm (prepend_form_lines n) c.with_fault-least-16.result c.with_fault-least-17.result c.prepend_form.result s16 (c.prepend_form.ensures ∙ ap (λ (rs : List Router). least_line (flat_map foreign_prepends_of rs)) same) c.with_fault-least-17.ensures in
     let f17 : List Fault = f16 ++ faults_at kind.PrependForm (prepend_form_lines n) in
