@@ -1,13 +1,5 @@
-pub mod AddedItems
-pub mod BgpLines
 pub mod ChangedNeighbors
-pub mod EmptyHeads
-pub mod FormFaults
-pub mod Given
 pub mod Indexed
 pub mod MemberLines
-pub mod Peers
 pub mod Rest
-pub mod StanzaLines
-pub mod TopLines
 pub mod UnderNames

@@ -1,4 +1,3 @@
-pub mod FormFaults
 pub mod Indexes
 pub mod MemberSteps
 pub mod NamedLists

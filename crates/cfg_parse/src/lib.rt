@@ -2,8 +2,7 @@
 //!
 //! `read_network` reads a text line by line: it gives the network of the text, or refuses the text at
 //! the first line with a fault of its own or of its form. Its contract is the definition
-//! `network_of_text`. The laws of `laws` say the same of refusals without the reader's state: a text is
-//! refused with the fault of the first line that has one, each line judged by the lines before it.
+//! `network_of_text`.
 //!
 //! `read_members` gives the names on the member lines of a text, which reading a network skips.
 #![tactic(auto)]
@@ -16,7 +15,6 @@ mod end_line;
 mod entry;
 mod interface;
 mod interfaces;
-pub mod laws;
 mod members;
 mod names;
 mod neighbors;

@@ -1,4 +1,4 @@
-ghost use Rattle.std.specs.Prelude.{◌≡◌, ◌<◌, ◌∷◌, ◌++◌, [], IfOk, OnOk, length, false, slice_index_or, slice_set, nat_eq};
+ghost use Rattle.std.specs.Prelude.{◌≡◌, ◌<◌, ◌∷◌, ◌++◌, [], IfOk, OnOk, length, false, nat_eq};
 ghost use Rattle.std.specs.List.{position};
 ghost use Rattle.cfg_parse.specs.Neighbors.{change_at};
 ghost use Rattle.cfg_parse.specs.Open.{Changes};

@@ -2,7 +2,7 @@ ghost use Rattle.std.specs.Prelude.{◌≡◌, OnOk, bytes_eq, codes};
 ghost use Rattle.std.specs.List.{AllByRecursion};
 ghost use Rattle.cfg_ast.specs.text.Lines.{IsWordIn, texts, text_of};
 ghost use Rattle.cfg_ast.specs.text.PolicyLines.{is_policy_line, is_list_word, with_community_line};
-ghost use Rattle.cfg_ast.specs.text.Reading.{ignored, add_prefix_entry, open_entry, take_policy};
+ghost use Rattle.cfg_ast.specs.text.Reading.{add_prefix_entry, open_entry, take_policy};
 ghost use Rattle.cfg_parse.specs.Open.{Changes};
 
 use crate::draft::{Draft, Open};

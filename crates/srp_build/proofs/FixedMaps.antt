@@ -1,5 +1,5 @@
 -- A line whose map names no prefix list has one map for all prefixes.
-use Rattle.std.proofs.Common.{◌≡◌, ℕ, Bool, true, false, ◌&&◌, List, [], ◌∷◌, map, filter, Option, Some, None, refl, sym, ◌∙◌, ap}
+use Rattle.std.proofs.Common.{◌≡◌, ℕ, Bool, true, false, ◌&&◌, List, [], ◌∷◌, map, filter, Option, Some, None, refl, ◌∙◌, ap}
 use Rattle.std.specs.Prelude.{is_none, if◌then◌else◌}
 use Rattle.std.specs.Option.{option_map_or}
 use Rattle.std.specs.List.{list_all}
@@ -10,10 +10,10 @@ use Rattle.cfg_ast.specs.declared.network.Router.{Router}
 use Rattle.cfg_ast.specs.declared.policy.MapEntry.{MapEntry}
 use Rattle.cfg_ast.specs.declared.policy.NameLine.{NameLine}
 use Rattle.cfg_ast.specs.declared.policy.RouteMap.{RouteMap}
-use Rattle.cfg_ast.specs.meaning.Policy.{name_of, prefixes_match, passes_list, route_map_named}
+use Rattle.cfg_ast.specs.meaning.Policy.{name_of, prefixes_match, route_map_named}
 use Rattle.route_maps.specs.declared.plain.Plain.{Plain}
 use Rattle.route_maps.specs.declared.plain.PlainEntry.{PlainEntry}
-use Rattle.specialize.specs.OnePrefix.{own_preference, plain_entry, entries_for, plain_of}
+use Rattle.specialize.specs.OnePrefix.{own_preference, plain_entry, plain_of}
 use Rattle.srp_build.specs.Kinds.{IsFixed, names_no_list}
 use Rattle.srp_build.specs.Lines.{map_named, list_named}
 

@@ -8,17 +8,16 @@ use Rattle.cfg_ast.specs.declared.bgp.Neighbor.{Neighbor}
 use Rattle.cfg_ast.specs.declared.network.Router.{Router}
 use Rattle.cfg_ast.specs.meaning.Topology.{neighbors_of}
 use Rattle.route_maps.specs.declared.plain.Plain.{Plain}
-use Rattle.route_maps.specs.Maps.{verdict}
 use Rattle.srp_build.specs.declared.hops.Hop.{Hop}
 use Rattle.srp_build.specs.declared.kind_maps.KindMaps.{KindMaps}
 use Rattle.srp_build.specs.declared.kinds.Kinds.{Kinds}
 use Rattle.srp_build.specs.declared.lines.LinePlace.{LinePlace}
 use Rattle.srp_build.specs.declared.session.Session.{Session}
-use Rattle.srp_build.specs.BgpEdges.{session_at, IsInside, AreInside}
-use Rattle.srp_build.specs.Kinds.{map_of_place, IsKindOf, AreKindsOf, HasKinds, HaveKinds, AreKinds, AreSessionsOf}
+use Rattle.srp_build.specs.BgpEdges.{session_at, AreInside}
+use Rattle.srp_build.specs.Kinds.{map_of_place, IsKindOf, AreKindsOf, HaveKinds, AreKinds, AreSessionsOf}
 use Rattle.srp_build.specs.LineMaps.{AreLineMaps, AreMapsOfKinds, number_of, with_maps, line_maps}
 use Rattle.srp_build.specs.Lines.{map_of_line, sends_at}
-use Rattle.srp_build.specs.Plains.{SayTheSame, IsNumberOf, IsGrownBy, IsMapOfPlace, IsNumberOfLine, AreNumbersOf, HasNumbers, HaveNumbers, number_at, session_of}
+use Rattle.srp_build.specs.Plains.{IsNumberOf, IsGrownBy, IsMapOfPlace, IsNumberOfLine, AreNumbersOf, HaveNumbers, number_at, session_of}
 use Rattle.srp_build.proofs.FirstUse.{get_front, front_or_last, take_more, length_last, within_get}
 use Rattle.srp_build.proofs.LineKinds.{says_too}
 use Rattle.srp_build.proofs.SessionMaps.{IsSessionAt, session_is_at, line_numbered}

@@ -9,8 +9,8 @@ use Rattle.route_maps.specs.declared.plain.Plain.{Plain}
 use Rattle.specialize.specs.OnePrefix.{plain_of}
 use Rattle.srp_build.specs.declared.kinds.KindTable.{KindTable}
 use Rattle.srp_build.specs.declared.lines.LinePlace.{LinePlace}
-use Rattle.srp_build.specs.Kinds.{IsFixed, map_of_place, IsKindOf, IsKindOfLine, AreKindsOf, HasKinds, HaveKinds, IsAlwaysAt, IsAlwaysOf, AreFixed, IsLineAt, KindsKept, IsNewKind, IsFixedKind, IsKindNumber, IsSeenOrNumbered}
-use Rattle.srp_build.specs.Lines.{map_named, list_named, map_of_line, map_at}
+use Rattle.srp_build.specs.Kinds.{IsFixed, map_of_place, IsKindOf, AreKindsOf, HasKinds, HaveKinds, IsAlwaysAt, IsAlwaysOf, AreFixed, IsLineAt, KindsKept, IsNewKind, IsFixedKind, IsKindNumber, IsSeenOrNumbered}
+use Rattle.srp_build.specs.Lines.{map_named, list_named, map_of_line}
 use Rattle.srp_build.specs.Plains.{SayTheSame, IsNumberOf, IsGrownBy, IsAsEarlier}
 use Rattle.srp_build.proofs.FirstUse.{get_front, get_last, front_or_last, length_last, take_more, within_get}
 use Rattle.srp_build.proofs.SessionMaps.{map_at_line, some_within}

@@ -4,7 +4,7 @@ use Rattle.cfg_ast.specs.declared.bgp.Neighbor.{Neighbor}
 use Rattle.cfg_ast.specs.declared.network.Router.{Router}
 use Rattle.cfg_ast.specs.meaning.Topology.{neighbors_of}
 use Rattle.srp_build.specs.declared.lines.LinePlace.{LinePlace}
-use Rattle.srp_build.specs.Kinds.{AreKindsOf, HasKinds, IsLineAt, KindsKept, IsSeenOrNumbered}
+use Rattle.srp_build.specs.Kinds.{AreKindsOf, HasKinds, IsLineAt, IsSeenOrNumbered}
 use Rattle.srp_build.proofs.FirstUse.{length_last}
 use Rattle.srp_build.proofs.LineKinds.{LineSteps, line_step}
 use Rattle.srp_build.proofs.kinds.kinds_of_router.Goals as goal

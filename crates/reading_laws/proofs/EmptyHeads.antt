@@ -12,8 +12,8 @@ use Rattle.cfg_ast.specs.declared.refusal.FormFault.{FormFault}
 use Rattle.cfg_ast.specs.text.FormSteps.{◌>>=◌, bad_unless}
 use Rattle.cfg_ast.specs.text.Heads.{class_in, policy_heads_of}
 use Rattle.cfg_ast.specs.text.PolicyForms.{empty_entry, prefix_entry_form, community_line, numbered_line, community_line_form, map_head_form, match_prefixes_form, comms_match, marked_match, match_comms_form, lp_form, set_comms_form, delete_form, prepend_form, policy_form, policy_item_by, policy_item_of}
-use Rattle.cfg_parse.specs.FormFaults.{Part, match_prefixes}
-use Rattle.cfg_parse.proofs.Given.{entry_has}
+use Rattle.reading_laws.specs.FormFaults.{Part, match_prefixes}
+use Rattle.reading_laws.proofs.Given.{entry_has}
 
 -- a head that is read opens an empty entry
 abbrev OpensEmpty : Result PolicyItem FormFault → Type 0

@@ -17,11 +17,11 @@ use Rattle.cfg_ast.specs.text.RouterForms.{router_item_of}
 use Rattle.cfg_ast.specs.text.Stanzas.{◌>>=◌, once, said_at, set_bgp, set_process, set_neighbor, new_neighbor, has_network, has_neighbor, at_neighbor}
 use Rattle.base_kit.specs.Prefixes.{same_prefix}
 use Rattle.cfg_ast.specs.text.Reading.{Stanza, in_bgp, State, with_closed, take_inner}
-use Rattle.cfg_parse.specs.FormFaults.{Thing, host_name, bgp, Part, network, preference, remote_as, list_in, list_out, map_in, map_out, part, same_part, within, Saying, adding, bgp_saying, means, inner_says, is_given, when, repeated}
-use Rattle.cfg_parse.proofs.Given.{has_thing, bgp_has, peer_has, has_list_in, has_list_out, has_map_in, has_map_out, Outcome, fault_within}
-use Rattle.cfg_parse.proofs.AddedItems.{any_push}
-use Rattle.cfg_parse.proofs.Peers.{put_at, at_stranger, at_known, Puts, of_peer, put_parts, push_test}
-use Rattle.cfg_parse.proofs.StanzaLines.{Within, SameThing, of, adds_part, inner_step, goes_on, gives_part, gives_none, stops}
+use Rattle.reading_laws.specs.FormFaults.{Thing, host_name, bgp, Part, network, preference, remote_as, list_in, list_out, map_in, map_out, part, same_part, within, Saying, adding, bgp_saying, means, inner_says, is_given, when, repeated}
+use Rattle.reading_laws.proofs.Given.{has_thing, bgp_has, peer_has, has_list_in, has_list_out, has_map_in, has_map_out, Outcome, fault_within}
+use Rattle.reading_laws.proofs.AddedItems.{any_push}
+use Rattle.reading_laws.proofs.Peers.{put_at, at_stranger, at_known, Puts, of_peer, put_parts, push_test}
+use Rattle.reading_laws.proofs.StanzaLines.{Within, SameThing, of, adds_part, inner_step, goes_on, gives_part, gives_none, stops}
 
 same_bgp : (s : State) (b c : BgpProcess) → s.draft.stanza ≡ in_bgp b → SameThing s bgp (in_bgp c)
 unfolding with_closed

@@ -13,7 +13,7 @@ use Rattle.cfg_ast.specs.text.TextLines.{TextLine}
 use Rattle.cfg_ast.specs.text.PolicyLines.{has_prefix_entry, has_map_entry}
 use Rattle.cfg_ast.specs.text.Stanzas.{has_network, has_neighbor}
 use Rattle.cfg_ast.specs.text.Reading.{Stanza, closed, ignored, in_interface, in_bgp, in_ospf, in_entry, Draft, State, has_interface, with_closed, step}
-use Rattle.cfg_parse.specs.FormFaults.{Thing, host_name, interface, bgp, ospf, prefix_entry, map_entry, Part, address, cost, network, preference, remote_as, list_in, list_out, map_in, map_out, match_prefixes, match_communities, set_preference, set_communities, set_comm_list, set_prepend, What, whole, part, same_thing, same_what, Open, nothing, unread, within, Saying, top_says, inner_says, is_top, opens_of, open_of, says, is_given, saying_fault, fault_of}
+use Rattle.reading_laws.specs.FormFaults.{Thing, host_name, interface, bgp, ospf, prefix_entry, map_entry, Part, address, cost, network, preference, remote_as, list_in, list_out, map_in, map_out, match_prefixes, match_communities, set_preference, set_communities, set_comm_list, set_prepend, What, whole, part, same_thing, same_what, Open, nothing, unread, within, Saying, top_says, inner_says, is_top, opens_of, open_of, says, is_given, saying_fault, fault_of}
 
 -- ---- things that are the same
 
