@@ -1,6 +1,6 @@
 //! The links of the network of groups.
 //!
-//! `quotient` gives, for a graph of acting edges and a partition of its routers, the links between the
+//! `quotient` gives, for acting edges and a partition of their routers, the links between the
 //! groups, in order and exactly: for each pair of groups as many as the greater number of different
 //! acts that edges between them have in one direction. Each link names the edges that it stands for.
 //! The module `laws` says that the links carry exactly the acts between groups, and that they are no

@@ -9,7 +9,8 @@ use base_kit::{Edge, NoMemory};
 use refine_partition::Partition;
 use std::alloc::Global;
 
-/// The links between the groups of a partition of routers, from the edges between these.
+/// The links between the groups of a partition of routers, from the edges between these: fewer than
+/// 2^32, with both ends among the routers.
 ///
 /// They go by their lower and then their higher group. Between two groups the first link has the first
 /// act of each direction, the second the second, and so on: the different acts of a direction go by

@@ -14,7 +14,8 @@ stanza_of (open_stanza.Bgp b) = in_bgp b
 stanza_of (open_stanza.Ospf o) = in_ospf o
 stanza_of (open_stanza.Entry name e) = in_entry name e
 
--- the value is changed as the definition says, or memory ran out
+-- where the call succeeds, the new value is what the definition makes of the old one; else the refusal is
+-- the definition's, or memory ran out
 abbrev pub Changes : {X Y : Type 0} → Result Y ReadRefusal → X → Result X ReadRefusal → Type 0
 Changes (Ok _) now defined = defined ≡ Ok now
 Changes (Err fault) now defined = RefusesAs fault defined

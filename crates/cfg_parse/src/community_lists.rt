@@ -3,7 +3,7 @@ ghost use Rattle.cfg_ast.specs.text.PolicyLines.{with_community_line};
 
 use base_kit::{List, NoMemory, Text};
 use cfg_ast::{CommunityLine, CommunityList};
-use named_lists::{NamedList, NamedLists};
+use named_lists::{NamedList, NamedLists, fitted};
 use std::alloc::Global;
 use std::marker::Model;
 
@@ -56,6 +56,6 @@ impl CommunityLists {
                 lines: entries,
             })
             .collect(alloc)?;
-        Ok(List::from_vec(lists))
+        Ok(fitted(lists))
     }
 }

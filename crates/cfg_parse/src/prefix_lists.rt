@@ -3,7 +3,7 @@ ghost use Rattle.cfg_ast.specs.text.PolicyLines.{has_prefix_entry, with_prefix_e
 
 use base_kit::{List, NoMemory, Text};
 use cfg_ast::{PrefixEntry, PrefixList};
-use named_lists::{NamedList, NumberedLists};
+use named_lists::{NamedList, NumberedLists, fitted};
 use std::alloc::Global;
 use std::marker::Model;
 
@@ -60,6 +60,6 @@ impl PrefixLists {
             .into_iter()
             .map(|NamedList { name, entries }| PrefixList { name, entries })
             .collect(alloc)?;
-        Ok(List::from_vec(lists))
+        Ok(fitted(lists))
     }
 }

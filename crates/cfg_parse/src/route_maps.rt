@@ -3,7 +3,7 @@ ghost use Rattle.cfg_ast.specs.text.PolicyLines.{has_map_entry, with_map_entry};
 
 use base_kit::{List, NoMemory, Text};
 use cfg_ast::{MapEntry, RouteMap};
-use named_lists::{NamedList, NumberedLists};
+use named_lists::{NamedList, NumberedLists, fitted};
 use std::alloc::Global;
 use std::marker::Model;
 
@@ -55,6 +55,6 @@ impl RouteMaps {
             .into_iter()
             .map(|NamedList { name, entries }| RouteMap { name, entries })
             .collect(alloc)?;
-        Ok(List::from_vec(maps))
+        Ok(fitted(maps))
     }
 }

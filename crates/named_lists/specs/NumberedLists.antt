@@ -52,7 +52,7 @@ pair_order a b = ordering_then (nat_cmp a.0 b.0) (nat_cmp a.1 b.1)
 abbrev pub HoldsAt : {E : Type 0} → (E → ℕ) → BTreeSet (ℕ × ℕ) → ℕ → List E → Type 0
 HoldsAt number set place xs = (wanted : ℕ) → contains pair_order set (place, wanted) ≡ (not (ascends number xs) && has_number number xs wanted)
 
--- names are apart, and the set has the numbers of each list that does not ascend
+-- names are apart, and the set has the numbers of the lists that do not ascend, and no others
 pub record IsHeld {E : Type 0} (number : E → ℕ) (set : BTreeSet (ℕ × ℕ)) (lists : List (NamedList E)) : Type 0 where
   pub apart : AreApart (map name_of lists)
   pub held : (place : ℕ) → HoldsAt number set place (entries_at lists place)

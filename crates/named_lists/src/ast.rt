@@ -2,8 +2,8 @@ use crate::by_name::HasName;
 use crate::numbered::Numbered;
 use cfg_ast::{Interface, MapEntry, PrefixEntry};
 
-// The items of a network that are looked up. These impls stand beside the traits: no other crate has
-// both a trait and a type of its own.
+// The items of a network that are looked up. The impls stand beside the traits, since cfg_parse, which
+// needs them, has neither the traits nor the types.
 
 impl HasName for Interface {
     ghost name = { λ i. i.name };

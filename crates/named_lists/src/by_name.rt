@@ -16,7 +16,7 @@ pub trait HasName: Drop {
         ensures { result.now ≡ name self.now };
 }
 
-/// A name has itself.
+/// A text is its own name.
 impl HasName for Text {
     ghost name = { λ text. text };
 
@@ -72,6 +72,9 @@ impl<T: HasName> ByName<T> {
     }
 
     /// Puts another one behind them.
+    ///
+    /// # Errors
+    /// Out of memory: then none is left.
     pub fn push(&mut self, alloc: Global, item: T) -> Result<(), NoMemory>
         ensures { OnOk result (self.new ≡ self.old ++ item ∷ []) }
     {

@@ -21,4 +21,4 @@ mod tests;
 pub use by_name::{ByName, HasName};
 pub use named::{NamedList, NamedLists};
 pub use numbered::{Numbered, NumberedLists};
-pub use room::pushed;
+pub use room::{fitted, pushed};

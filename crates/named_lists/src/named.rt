@@ -103,6 +103,9 @@ impl<E: Drop> NamedLists<E> {
     }
 
     /// Puts an entry last into the list of its name, which it may begin.
+    ///
+    /// # Errors
+    /// Out of memory: then lists and entries may be lost.
     pub fn add(&mut self, alloc: Global, name: Text, entry: E) -> Result<(), NoMemory>
         ensures { OnOk result (self.new ≡ in_named name (λ entries. entries ++ entry ∷ []) self.old) }
     {

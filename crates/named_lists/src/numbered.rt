@@ -19,7 +19,7 @@ pub trait Numbered: Drop {
 }
 
 /// Lists in the order in which their names came, the entries of each by their numbers. They are put in
-/// order at the end alone.
+/// order only at the end.
 #[derive(Drop)]
 pub struct NumberedLists<E: Numbered> {
     lists: NamedLists<E>,
@@ -107,6 +107,9 @@ impl<E: Numbered> NumberedLists<E> {
     }
 
     /// Puts an entry into the list of its name, which it may begin.
+    ///
+    /// # Errors
+    /// Out of memory: then no list is left.
     pub fn add(&mut self, alloc: Global, name: Text, entry: E) -> Result<(), NoMemory>
         ensures { OnOk result (self.new ≡ in_named name (put E.number entry) self.old) }
     {
@@ -119,6 +122,9 @@ impl<E: Numbered> NumberedLists<E> {
     }
 
     /// The lists, in order.
+    ///
+    /// # Errors
+    /// Out of memory.
     pub fn into_list(self, alloc: Global) -> Result<List<NamedList<E>>, NoMemory>
         ensures { IfOk result (λ lists. lists ≡ self) }
     {

@@ -5,9 +5,10 @@ use crate::numbered::Numbered;
 use base_kit::NoMemory;
 use std::collections::BTreeSet;
 
-// The numbers of lists that do not ascend stand in a set, each with the place of its list. So a list that
-// ascends, as nearly all do, takes no memory for its numbers, and no other list is searched entry by
-// entry.
+// The numbers of lists that do not ascend stand in a set, each with the place of its list. A list that
+// ascends, as nearly all do, takes no memory for its numbers. Its entries are compared one by one only
+// with a number that is not past the last: once an entry of that number is put in, the list does not
+// ascend.
 
 /// Whether the numbers of the entries of the list at a place stand in the set.
 fn is_held<E: Numbered>(numbers: &BTreeSet<(usize, u32)>, place: usize, entries: &[E]) -> bool

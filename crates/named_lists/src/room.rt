@@ -15,3 +15,12 @@ pub fn pushed<T: Drop>(items: List<T>, item: T) -> Result<List<T>, NoMemory>
     items.push(item)?;
     Ok(List::from_vec(items))
 }
+
+/// The items as a list with no spare room.
+pub fn fitted<T: Drop>(items: Vec<T>) -> List<T>
+    ensures { result ≡ items.items }
+{
+    let mut items = items;
+    items.shrink_to_fit();
+    List::from_vec(items)
+}

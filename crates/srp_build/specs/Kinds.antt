@@ -30,8 +30,8 @@ IsFixed router inbound line = (p q : Prefix) → map_of_line p router inbound li
 abbrev pub map_of_place : Prefix → List Router → LinePlace → Plain
 map_of_place p routers place = map_at p routers place.inbound place.router place.item
 
--- The map of the line says the same, for every prefix, as that of the line at the number-th of some
--- places, where the first line of each kind stands.
+-- The map of the line says the same, for every prefix, as the map at the number-th of some places. The
+-- first lines of kinds are put at these places.
 pub record IsKindOf (routers : List Router) (firsts : List LinePlace) (router : Router) (inbound : Bool) (line : Neighbor) (number : ℕ) : Type 0 where
   pub first : LinePlace
   pub at : slice_get firsts number ≡ Some first
@@ -95,21 +95,21 @@ pub record IsLineAt (routers : List Router) (place : LinePlace) (router : Router
 abbrev pub KindsKept : List LinePlace → List LinePlace → Type 0
 KindsKept old new = (number : ℕ) (first : LinePlace) → slice_get old number ≡ Some first → slice_get new number ≡ Some first
 
--- a kind came last, with its first line at the place
+-- a kind came last, with the next number and its first line at the place; all else stays
 pub record IsNewKind (old new : KindTable) (first : LinePlace) (number : ℕ) : Type 0 where
   pub next : number ≡ length old.firsts.items
   pub last : new.firsts.items ≡ old.firsts.items ++ first ∷ []
   pub maps : new.fixed.maps.items ≡ old.fixed.maps.items
   pub kinds : new.kinds.items ≡ old.kinds.items
 
--- kinds stay, and the number is that of a kind that has the map for every prefix, if the line at the place
--- has it
+-- kinds stay, and the table stays right; the number is that of a kind that has the map for every prefix,
+-- if the line at the place has it
 pub record IsFixedKind (old new : KindTable) (first : LinePlace) (plain : Plain) (number : ℕ) : Type 0 where
   pub kept : KindsKept old.firsts.items new.firsts.items
   pub fixed : (routers : List Router) → IsAlwaysAt routers first plain → AreFixed routers old → AreFixed routers new
   pub is : (routers : List Router) → IsAlwaysAt routers first plain → AreFixed routers old → IsAlwaysOf routers new.firsts.items number plain
 
--- kinds stay, and the number is that of a kind of the line, which stands at the place
+-- kinds stay, and the table stays right; the number is that of a kind of the line, which stands at the place
 pub record IsKindNumber (old new : KindTable) (place : LinePlace) (router : Router) (line : Neighbor) (number : ℕ) : Type 0 where
   pub kept : KindsKept old.firsts.items new.firsts.items
   pub fixed : (routers : List Router) → IsLineAt routers place router line → AreFixed routers old → AreFixed routers new

@@ -16,8 +16,8 @@ pub struct Plains {
     by_sum: Index<u32>,
 }
 
-/// A number of 32 bits. No text within the limits has so many lines that one is larger, and nodes of
-/// diagrams fill the memory before.
+/// A number of 32 bits. No text within the limits has more lines, and before there are more nodes of
+/// diagrams, memory runs out.
 pub fn place(i: usize) -> Result<u32, NoMemory>
     ensures { IfOk result (λ n. n ≡ i) }
 {

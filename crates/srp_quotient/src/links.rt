@@ -17,7 +17,7 @@ pub fn links_of_groups(alloc: Global, srp: &Srp, groups: &Partition) -> Result<Q
     requires { length groups.now ≡ count srp.now }
     ensures { IfOk result (λ q. (count : ℕ) → IsNumbered groups.now count → q.links ≡ quotient_links srp.now.edges groups.now count) }
 {
-    // Its contract says that the ends of all edges are routers.
+    // The contract of `count` says that both ends of each edge are routers.
     let _count = srp.count();
     quotient(alloc, srp.edges(), groups)
 }
