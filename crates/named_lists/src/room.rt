@@ -16,7 +16,7 @@ pub fn pushed<T: Drop>(items: List<T>, item: T) -> Result<List<T>, NoMemory>
     Ok(List::from_vec(items))
 }
 
-/// The items as a list with no spare room.
+/// The items as a list, which gives spare room back.
 pub fn fitted<T: Drop>(items: Vec<T>) -> List<T>
     ensures { result ≡ items.items }
 {

@@ -1,8 +1,9 @@
 //! Laws of the definition of reading: where it stops, said line by line.
 //!
 //! `Reading.antt` of cfg_ast folds lines into a state, as a reader does. `FormFaults.antt` judges each
-//! line by the lines before it, with no state. The two agree: a text is refused with the fault of the
-//! first line that has one.
+//! line by the lines before it, with no state. The two agree: a text is refused with the first fault of
+//! its lines as such, or else with the fault of form of the first line that has one, or else for want of
+//! an end.
 #![tactic(auto)]
 
 ghost use Rattle.reading_laws.specs.FormFaults.{FirstFaultDecides, TextFaultDecides};

@@ -26,7 +26,7 @@ names_no_list router name = option_map_or (λ (map : RouteMap). list_all (λ (en
 abbrev pub IsFixed : Router → Bool → Neighbor → Type 0
 IsFixed router inbound line = (p q : Prefix) → map_of_line p router inbound line ≡ map_of_line q router inbound line
 
--- the map of the line at a place
+-- the map of the line at a place, or the closed one where no line stands there
 abbrev pub map_of_place : Prefix → List Router → LinePlace → Plain
 map_of_place p routers place = map_at p routers place.inbound place.router place.item
 
@@ -58,8 +58,8 @@ HaveKinds all inbound firsts [] (numbers ∷ table) = ⊥
 HaveKinds all inbound firsts (router ∷ routers) [] = ⊥
 HaveKinds all inbound firsts (router ∷ routers) (numbers ∷ table) = HasKinds all router inbound firsts numbers × HaveKinds all inbound firsts routers table
 
--- Each line, outbound and inbound, has the number of a kind, and its map says the same as that of the
--- kind's first line. Kinds may be alike.
+-- Each line, outbound and inbound, has a number: for every prefix its map says the same as the map at the
+-- place with that number. Kinds may be alike.
 pub record AreKinds (routers : List Router) (kinds : Kinds) : Type 0 where
   pub outs : HaveKinds routers false kinds.firsts.items routers kinds.outs
   pub ins : HaveKinds routers true kinds.firsts.items routers kinds.ins
@@ -95,21 +95,22 @@ pub record IsLineAt (routers : List Router) (place : LinePlace) (router : Router
 abbrev pub KindsKept : List LinePlace → List LinePlace → Type 0
 KindsKept old new = (number : ℕ) (first : LinePlace) → slice_get old number ≡ Some first → slice_get new number ≡ Some first
 
--- a kind came last, with the next number and its first line at the place; all else stays
+-- a kind came last, with the next number and its first line at the place; the maps and their kinds stay
 pub record IsNewKind (old new : KindTable) (first : LinePlace) (number : ℕ) : Type 0 where
   pub next : number ≡ length old.firsts.items
   pub last : new.firsts.items ≡ old.firsts.items ++ first ∷ []
   pub maps : new.fixed.maps.items ≡ old.fixed.maps.items
   pub kinds : new.kinds.items ≡ old.kinds.items
 
--- kinds stay, and the table stays right; the number is that of a kind that has the map for every prefix,
--- if the line at the place has it
+-- kinds stay; if the line at the place has the map for every prefix, the table stays right, and the number
+-- is that of a kind that has it
 pub record IsFixedKind (old new : KindTable) (first : LinePlace) (plain : Plain) (number : ℕ) : Type 0 where
   pub kept : KindsKept old.firsts.items new.firsts.items
   pub fixed : (routers : List Router) → IsAlwaysAt routers first plain → AreFixed routers old → AreFixed routers new
   pub is : (routers : List Router) → IsAlwaysAt routers first plain → AreFixed routers old → IsAlwaysOf routers new.firsts.items number plain
 
--- kinds stay, and the table stays right; the number is that of a kind of the line, which stands at the place
+-- kinds stay; if the line stands at the place, the table stays right, and the number is that of a kind of
+-- the line
 pub record IsKindNumber (old new : KindTable) (place : LinePlace) (router : Router) (line : Neighbor) (number : ℕ) : Type 0 where
   pub kept : KindsKept old.firsts.items new.firsts.items
   pub fixed : (routers : List Router) → IsLineAt routers place router line → AreFixed routers old → AreFixed routers new

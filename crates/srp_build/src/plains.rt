@@ -16,8 +16,8 @@ pub struct Plains {
     by_sum: Index<u32>,
 }
 
-/// A number of 32 bits. No text within the limits has more lines, and before there are more nodes of
-/// diagrams, memory runs out.
+/// A place as a number of 32 bits. A text within the limits has fewer than 2^32 lines. A store with as
+/// many nodes is taken to want more memory than there is.
 pub fn place(i: usize) -> Result<u32, NoMemory>
     ensures { IfOk result (λ n. n ≡ i) }
 {
