@@ -1,3 +1,5 @@
+//! Graphs whose edges are numbered by what they do.
+
 ghost use Rattle.std.specs.Prelude.{◌≡◌, ◌<◌, ◌^◌, All, length};
 
 use crate::List;

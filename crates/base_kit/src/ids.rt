@@ -1,3 +1,5 @@
+//! Communities and routers as numbers.
+
 /// A BGP community (RFC 1997): `A:B` is 65536 A + B.
 #[derive(Clone, Copy, Debug, PartialEq, Eq)]
 pub struct Community(pub u32);

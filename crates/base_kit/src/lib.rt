@@ -1,15 +1,13 @@
 //! The small types that every other crate stands on, with exact contracts.
 //!
-//! Lists and texts grow at their end, and contracts see them as lists of items and of bytes. A value
-//! that most of its owners lack is kept aside, and contracts see it as an option. A set of numbers is
-//! its ascending list. Numbers and addresses are read exactly by their grammar: the answer is `None`
-//! where the word is off it, and the number itself everywhere else. A graph of acting edges keeps its
-//! rules in its type, and beside it stands what an admissible and the coarsest partition of its routers
-//! is.
+//! Lists and texts grow at their end, and contracts see them as lists of items and of bytes. A set of
+//! numbers is its ascending list. Numbers and addresses are read exactly by their grammar: the answer
+//! is `None` where the word is off it, and the number itself everywhere else. A graph of acting edges
+//! keeps its rules in its type, and beside it stands what an admissible and the coarsest partition of
+//! its routers is.
 #![tactic(auto)]
 
 mod act_graph;
-mod aside;
 mod ids;
 mod list;
 mod memory;
@@ -24,7 +22,6 @@ mod tests;
 mod text;
 
 pub use act_graph::{ActGraph, Edge};
-pub use aside::Aside;
 pub use ids::{Community, RouterId};
 pub use list::List;
 pub use memory::NoMemory;

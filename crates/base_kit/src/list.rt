@@ -1,3 +1,5 @@
+//! A list that grows at its end.
+
 ghost use Rattle.std.specs.Prelude.{◌≡◌, ◌==◌, ◌<◌, ◌≤◌, [], ◌∷◌, ◌++◌, OnOk, OnErr, length, insert, remove, slice_index_or};
 
 use crate::NoMemory;

@@ -1,3 +1,5 @@
+//! Numbers and addresses, read by their grammar.
+
 ghost use Rattle.std.specs.Prelude.{◌≡◌, ◌∷◌, [], ◌≤◌, ◌<◌, ◌^◌, MatchOption};
 ghost use Rattle.base_kit.specs.Numbers.{number_up_to, number_of, parts_at_points, address_of};
 

@@ -1,3 +1,5 @@
+//! Address prefixes (RFC 4632 section 3.1).
+
 ghost use Rattle.std.specs.Prelude.{◌≡◌, ◌≤◌};
 
 use std::marker::Model;

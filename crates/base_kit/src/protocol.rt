@@ -1,3 +1,5 @@
+//! The routing protocols that Bonsai reads.
+
 /// A routing protocol that Bonsai reads.
 #[derive(Clone, Copy, Debug, PartialEq, Eq)]
 pub enum Protocol {

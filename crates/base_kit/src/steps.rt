@@ -1,3 +1,5 @@
+//! A count of steps that takes no bytes at run time.
+
 ghost use Rattle.std.specs.Prelude.{◌≡◌, ◌+◌, ◌<◌};
 
 use std::marker::Model;

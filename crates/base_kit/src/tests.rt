@@ -1,4 +1,6 @@
-use crate::{Aside, List, NumSet, Text, read_address, read_number};
+//! Each public call once, with values from outside.
+
+use crate::{List, NumSet, Text, read_address, read_number};
 use std::cmp::Ordering;
 use std::test::Fail;
 
@@ -14,17 +16,8 @@ fn lists_and_texts_grow(rt: HostRuntime) -> Result<(), Fail> {
     assert_eq!(rt; text.as_str(), "ab");
     let copy = Text::copy_of(rt.alloc(), "ab")?;
     assert_eq!(rt; copy.as_str(), "ab");
-    Ok(())
-}
-
-#[test]
-fn a_value_aside_comes_back(rt: HostRuntime) -> Result<(), Fail> {
-    let none: Aside<u32> = Aside::none();
-    assert!(rt; !none.is_some());
-    assert_eq!(rt; none.as_option(), None);
-    let seven = Aside::some(rt.alloc(), 7u32)?;
-    assert!(rt; seven.is_some());
-    assert_eq!(rt; seven.as_option().copied(), Some(7));
+    let text = Text::from_string(text.into_string());
+    assert_eq!(rt; text.as_str(), "ab");
     Ok(())
 }
 

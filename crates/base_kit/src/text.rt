@@ -1,4 +1,6 @@
-ghost use Rattle.std.specs.Prelude.{◌≡◌, [], ◌++◌, OnOk, OnErr, IfOk};
+//! A text that grows at its end.
+
+ghost use Rattle.std.specs.Prelude.{◌≡◌, [], ◌++◌, OnOk, OnErr, IfOk, string_bytes};
 
 use crate::NoMemory;
 use std::alloc::Global;
@@ -35,6 +37,20 @@ impl Text {
         let mut text = Text::new(alloc);
         text.push_str(s)?;
         Ok(text)
+    }
+
+    /// The text of a string, whose room it keeps.
+    pub fn from_string(content: String) -> Self
+        ensures { result ≡ string_bytes content }
+    {
+        Text { content }
+    }
+
+    /// The text as a string.
+    pub fn into_string(self) -> String
+        ensures { string_bytes result ≡ self }
+    {
+        self.content
     }
 
     /// Appends `s`. After an error the text is as before.

@@ -1,3 +1,5 @@
+//! Items under pairs of numbers.
+
 ghost use Rattle.std.specs.Prelude.{◌≡◌, OnOk};
 ghost use Rattle.buckets.specs.Buckets.{bucket, PushesAt};
 

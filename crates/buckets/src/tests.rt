@@ -1,3 +1,5 @@
+//! Items of one pair keep their order.
+
 use crate::{Index, items_at, push_at};
 use std::collections::HashMap;
 use std::test::Fail;

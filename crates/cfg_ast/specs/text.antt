@@ -9,5 +9,6 @@ pub mod PolicyLines
 pub mod Reading
 pub mod RouterForms
 pub mod Stanzas
+pub mod Steps
 pub mod TextLines
 pub mod Words

@@ -1,3 +1,5 @@
+//! BGP processes and their neighbours.
+
 use crate::network::Named;
 use base_kit::{List, Prefix};
 

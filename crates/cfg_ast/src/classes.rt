@@ -1,3 +1,5 @@
+//! Classes of destination prefixes.
+
 use base_kit::{List, Prefix};
 
 /// A destination class: its prefixes, ascending, and the routers that originate each of them, in order.

@@ -1,3 +1,5 @@
+//! What the tables say of a line's head.
+
 /// What a line is whose head is in a table.
 #[derive(Clone, Copy, Debug, PartialEq, Eq)]
 pub enum HeadClass {

@@ -1,3 +1,5 @@
+//! Interfaces and their addresses.
+
 ghost use Rattle.std.specs.Prelude.{◌≡◌, ◌≤◌};
 
 use base_kit::Text;

@@ -1,3 +1,5 @@
+//! What a line says, and where it stands.
+
 use crate::bgp::{Base, NetLine};
 use crate::interface::Address;
 use crate::network::Named;

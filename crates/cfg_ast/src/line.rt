@@ -1,3 +1,5 @@
+//! Lines and words of a text, by their places.
+
 use base_kit::List;
 
 /// A line that is not skipped: its number from 1, the number of its leading blanks and tabs, and its

@@ -1,3 +1,5 @@
+//! Questions about one interface of a router.
+
 ghost use Rattle.std.specs.Prelude.{◌≡◌, ◌<◌, ◌≤◌, length, map};
 ghost use Rattle.std.specs.List.{list_any, position_or_len};
 ghost use Rattle.std.specs.Option.{option_map_or};
@@ -172,7 +174,7 @@ impl Router {
     pub fn default_preference(&self) -> u32
         ensures { result ≡ default_preference self.now }
     {
-        match self.bgp.as_option() {
+        match &self.bgp {
             Some(process) => process.default_preference(),
             None => 100,
         }
@@ -182,7 +184,7 @@ impl Router {
     pub fn has_in_area(&self, interface: &Interface) -> bool
         ensures { result ≡ is_in_area_interface self.now interface.now }
     {
-        match (interface.up_address(), self.ospf.as_option()) {
+        match (interface.up_address(), &self.ospf) {
             (Some(address), Some(process)) => process.has_address(address.addr()),
             _ => false,
         }
@@ -192,7 +194,7 @@ impl Router {
     pub fn has_active(&self, interface: &Interface) -> bool
         ensures { result ≡ is_active_interface self.now interface.now }
     {
-        match self.ospf.as_option() {
+        match &self.ospf {
             Some(process) => self.has_in_area(interface) && !process.holds_passive(&interface.name),
             None => false,
         }

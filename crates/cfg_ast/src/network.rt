@@ -1,8 +1,10 @@
+//! Networks, routers, and the notes of a printed network.
+
 use crate::bgp::BgpProcess;
 use crate::interface::Interface;
 use crate::ospf::OspfProcess;
 use crate::policy::{CommunityList, PrefixList, RouteMap};
-use base_kit::{Aside, List, Text};
+use base_kit::{List, Text};
 
 /// The running configurations of all routers of one network, in the order of the text.
 #[derive(Drop)]
@@ -16,8 +18,8 @@ pub struct Router {
     pub name: Text,
     pub line: u32,
     pub interfaces: List<Interface>,
-    pub bgp: Aside<BgpProcess>,
-    pub ospf: Aside<OspfProcess>,
+    pub bgp: Option<BgpProcess>,
+    pub ospf: Option<OspfProcess>,
     pub prefix_lists: List<PrefixList>,
     pub community_lists: List<CommunityList>,
     pub route_maps: List<RouteMap>,

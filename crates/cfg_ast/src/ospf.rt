@@ -1,3 +1,5 @@
+//! OSPF processes and their `network` lines.
+
 use base_kit::{List, Text};
 
 /// An OSPF process: its number and its lines.

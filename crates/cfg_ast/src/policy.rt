@@ -1,5 +1,7 @@
+//! Prefix lists, community lists and route maps.
+
 use crate::network::Named;
-use base_kit::{Aside, List, NumSet, Prefix, Text};
+use base_kit::{List, NumSet, Prefix, Text};
 
 /// A prefix list, its entries by sequence number.
 #[derive(Drop)]
@@ -47,14 +49,14 @@ pub struct MapEntry {
     pub seq: u32,
     pub permit: bool,
     pub line: u32,
-    pub prefixes: Aside<NameLine>,
-    pub comms: Aside<NameLine>,
+    pub prefixes: Option<NameLine>,
+    pub comms: Option<NameLine>,
     pub exact: bool,
     pub lp: Option<u32>,
-    pub change: Aside<Change>,
+    pub change: Option<Change>,
     pub change_line: u32,
-    pub delete: Aside<Named>,
-    pub prepend: Aside<Prepend>,
+    pub delete: Option<Named>,
+    pub prepend: Option<Prepend>,
 }
 
 /// The names that a match line gives.

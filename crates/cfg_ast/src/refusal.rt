@@ -1,3 +1,5 @@
+//! The kinds of faults, and the refusals that name them.
+
 ghost use Rattle.std.specs.Prelude.{◌≡◌};
 ghost use Rattle.cfg_ast.specs.meaning.Meaning.{number_of_kind};
 ghost use Rattle.cfg_ast.specs.declared.refusal.FormFault.TheVariants as form_fault;
@@ -6,7 +8,8 @@ ghost use Rattle.cfg_ast.specs.declared.refusal.ReadRefusal.TheVariants as read_
 use base_kit::NoMemory;
 use thiserror::Error;
 
-/// What is wrong with a text, in the order in which faults of one line are tried.
+/// What is wrong with a text. Of the faults of meaning at one line the one whose kind stands first here
+/// decides; which of the faults of a line as such or of its form decides is said where lines are read.
 #[derive(Clone, Copy, Debug, PartialEq, Eq)]
 pub enum Kind {
     NotAscii,

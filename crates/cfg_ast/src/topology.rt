@@ -1,3 +1,5 @@
+//! Links between routers, and neighbours in no session.
+
 /// A link: a BGP session or an OSPF adjacency. `low` is the router of the lesser line, and the items
 /// are places in the routers' `neighbors` or `interfaces`.
 #[derive(Clone, Copy, Debug, PartialEq, Eq)]

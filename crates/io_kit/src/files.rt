@@ -1,3 +1,5 @@
+//! Files in memory.
+
 ghost use Rattle.std.specs.Prelude.{◌≡◌, ◌++◌, length, take, drop, Some, None, MatchOption, min};
 ghost use Rattle.io_kit.specs.Files.{contents_of, bytes_of};
 

@@ -4,7 +4,8 @@
 //! count their faults, and a call fails only where the count rose. `read_all` gives the whole content
 //! of a name, or says that it is longer than the limit; `put_all` leaves a first part of the bytes,
 //! and all of them where it answers Ok. Over memory the contents are told, and a call fails exactly
-//! where it was told to: that is for tests, and for callers that need an outside that cannot fail.
+//! where it is listed, where a name is begun that is not held, and where there is no room for a piece;
+//! the sure ones never fail. They are for tests, and for callers that need an outside that cannot fail.
 #![tactic(auto)]
 
 mod ends;

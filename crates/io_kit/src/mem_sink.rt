@@ -1,3 +1,5 @@
+//! A sink in memory, which fails where it is told to.
+
 ghost use Rattle.std.specs.Prelude.{◌≡◌, ◌-◌, ◌≤◌, ◌<◌, ◌⊎◌, ◌↔◌, Some, IfOk, OnOk, OnErr, IsErr, [], length, min, take};
 ghost use Rattle.io_kit.specs.Ends.{Rose, Took};
 ghost use Rattle.io_kit.specs.Calls.{up};

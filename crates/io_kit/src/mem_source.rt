@@ -1,3 +1,5 @@
+//! A source in memory, which fails where it is told to.
+
 ghost use Rattle.std.specs.Prelude.{◌≡◌, ◌++◌, ◌≤◌, ◌<◌, ◌⊎◌, ◌↔◌, ℕ, List, [], length, min, take, Some, None, true, is_some, IsErr, IfOk, IfSome, OnOk, OnErr, Contains};
 ghost use Rattle.io_kit.specs.Ends.{Rose, Gave};
 ghost use Rattle.io_kit.specs.Calls.{up};

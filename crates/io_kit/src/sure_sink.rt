@@ -1,3 +1,5 @@
+//! A sink that never fails.
+
 ghost use Rattle.std.specs.Prelude.{◌≡◌, ◌≤◌, ◌<◌, Ok, IfOk, OnErr, length, take};
 ghost use Rattle.io_kit.specs.Ends.{Rose, Took, untold};
 

@@ -1,3 +1,5 @@
+//! A source that never fails.
+
 ghost use Rattle.std.specs.Prelude.{◌≡◌, [], Some};
 ghost use Rattle.io_kit.specs.Files.{all_begun, contents_or_empty};
 

@@ -1,3 +1,5 @@
+//! Whole contents are read, and first parts are put.
+
 use crate::{
     InFault, MemFile, MemSink, MemSource, Source, SureSink, SureSource, put_all, read_all,
 };

@@ -1,17 +1,23 @@
+//! Whole contents, read within a limit and put piece by piece.
+
 ghost use Rattle.std.specs.Prelude.{◌≡◌, ◌≤◌, ◌<◌, ℕ, List, length, Result, Ok, Err, IfOk, IfSome, OnOk, OnErr, IsErrOf};
 ghost use Rattle.io_kit.specs.Ends.{Rose, Took, TookPart};
 
 use crate::{Failed, Sink, Source};
 use std::alloc::{AllocError, Global};
+use thiserror::Error;
 
 /// Why a whole content is not there.
-#[derive(Clone, Copy, Debug, PartialEq, Eq)]
+#[derive(Clone, Copy, Debug, Error, PartialEq, Eq)]
 pub enum InFault {
     /// The source failed.
+    #[error("the source failed")]
     Failed,
     /// There are more bytes than the limit.
+    #[error("more bytes than the limit")]
     TooLong,
     /// Memory ran out.
+    #[error("out of memory")]
     Memory,
 }
 

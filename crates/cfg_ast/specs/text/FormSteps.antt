@@ -5,11 +5,6 @@ use Rattle.cfg_ast.specs.declared.refusal.FormFault.{FormFault}
 use Rattle.cfg_ast.specs.declared.refusal.FormFault.TheVariants.{BadForm}
 use Rattle.cfg_ast.specs.text.Words.{is_list_name}
 
-infixl 10 ◌>>=◌
-abbrev pub ◌>>=◌ : {A B : Type 0} → Result A FormFault → (A → Result B FormFault) → Result B FormFault
-(Ok x) >>= f = f x
-(Err fault) >>= f = Err fault
-
 abbrev pub or_bad : {X : Type 0} → Option X → Result X FormFault
 or_bad None = Err BadForm
 or_bad (Some x) = Ok x

@@ -3,7 +3,6 @@
 use Rattle.std.specs.Prelude.{ℕ, ◌-◌, Bool, true, false, not, ◌&&◌, List, [], ◌∷◌, length, nat_le, if◌then◌else◌, Option, Some, None, Result, Ok, Err, codes, bytes_eq, take}
 use Rattle.std.specs.List.{list_all, list_any, filter_map}
 use Rattle.std.specs.Option.{is_some}
-use Rattle.base_kit.specs.Numbers.{number_of}
 use Rattle.base_kit.specs.Sets.{with_numbers}
 use Rattle.cfg_ast.specs.declared.policy.MapEntry.{MapEntry}
 use Rattle.cfg_ast.specs.declared.policy.Change.{Change}
@@ -18,7 +17,8 @@ use Rattle.cfg_ast.specs.declared.heads.PolicyForm.TheVariants as form
 use Rattle.cfg_ast.specs.declared.refusal.FormFault.{FormFault}
 use Rattle.cfg_ast.specs.declared.refusal.FormFault.TheVariants.{UnknownLine, Unsupported, BadForm, WellKnown}
 use Rattle.cfg_ast.specs.text.Words.{is_list_name, number_word, number_between, as_number_word, prefix_of, community_word, is_community, is_well_known, same_community}
-use Rattle.cfg_ast.specs.text.FormSteps.{◌>>=◌, or_bad, bad_unless, list_name_of, named_of}
+use Rattle.cfg_ast.specs.text.FormSteps.{or_bad, bad_unless, list_name_of, named_of}
+use Rattle.cfg_ast.specs.text.Steps.{◌>>=◌}
 use Rattle.cfg_ast.specs.text.Heads.{class_in, policy_heads_of}
 
 -- ---- parts of forms

@@ -1,5 +1,5 @@
 -- What lines of prefix lists, community lists and route maps add to a router, one after the other.
-use Rattle.std.specs.Prelude.{ℕ, Bool, false, ◌&&◌, ◌||◌, List, [], ◌∷◌, ◌++◌, ◌==◌, nat_lt, if◌then◌else◌, Some, None, Result, Ok, Err, bytes_eq, codes, is_some}
+use Rattle.std.specs.Prelude.{ℕ, Bool, false, ◌&&◌, ◌||◌, List, [], ◌∷◌, ◌++◌, ◌==◌, nat_lt, if◌then◌else◌, Some, Result, Ok, bytes_eq, codes, is_some}
 use Rattle.std.specs.List.{list_any}
 use Rattle.cfg_ast.specs.declared.network.Named.{Named}
 use Rattle.cfg_ast.specs.declared.policy.PrefixEntry.{PrefixEntry}

@@ -28,7 +28,8 @@ use Rattle.cfg_ast.specs.text.Lines.{lines_of}
 use Rattle.cfg_ast.specs.text.TextLines.{TextLine, text_line}
 use Rattle.cfg_ast.specs.text.RouterForms.{router_item_of}
 use Rattle.cfg_ast.specs.meaning.Meaning.{judged}
-use Rattle.cfg_ast.specs.text.Stanzas.{◌>>=◌, said_at, once, set_interface, set_bgp, set_ospf}
+use Rattle.cfg_ast.specs.text.Stanzas.{said_at, once, set_interface, set_bgp, set_ospf}
+use Rattle.cfg_ast.specs.text.Steps.{◌>>=◌}
 
 -- the stanza to which indented lines belong
 pub data Stanza : Type 0 where

@@ -11,7 +11,8 @@ use Rattle.cfg_ast.specs.declared.heads.RouterForm.TheVariants as form
 use Rattle.cfg_ast.specs.declared.refusal.FormFault.{FormFault}
 use Rattle.cfg_ast.specs.declared.refusal.FormFault.TheVariants.{UnknownLine, Unsupported, BadForm}
 use Rattle.cfg_ast.specs.text.Words.{is_router_name, is_interface_name, number_word, address_word, number_between, as_number_word, mask_len_of, classful_len_of, exact_prefix}
-use Rattle.cfg_ast.specs.text.FormSteps.{◌>>=◌, or_bad, bad_unless, named_of}
+use Rattle.cfg_ast.specs.text.FormSteps.{or_bad, bad_unless, named_of}
+use Rattle.cfg_ast.specs.text.Steps.{◌>>=◌}
 use Rattle.cfg_ast.specs.text.Heads.{class_in, heads_of}
 
 -- ---- top lines

@@ -18,11 +18,7 @@ use Rattle.cfg_ast.specs.declared.refusal.FormFault.TheVariants as form_fault
 use Rattle.cfg_ast.specs.declared.refusal.Kind.TheVariants as kind
 use Rattle.cfg_ast.specs.declared.refusal.ReadRefusal.{ReadRefusal}
 use Rattle.cfg_ast.specs.declared.refusal.ReadRefusal.TheVariants as refusal
-
-infixl 10 ◌>>=◌
-abbrev pub ◌>>=◌ : {A B : Type 0} → Result A ReadRefusal → (A → Result B ReadRefusal) → Result B ReadRefusal
-(Ok x) >>= f = f x
-(Err fault) >>= f = Err fault
+use Rattle.cfg_ast.specs.text.Steps.{◌>>=◌}
 
 -- the fault of a line, with its number
 abbrev pub refusal_of : ℕ → FormFault → ReadRefusal

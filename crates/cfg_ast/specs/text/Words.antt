@@ -7,10 +7,6 @@ use Rattle.std.specs.Char.{is_ascii_digit, is_ascii_alphabetic}
 use Rattle.base_kit.specs.Numbers.{number_of, address_of}
 use Rattle.base_kit.specs.Prefixes.{Prefix}
 
-infixl 10 ◌>>=◌
-abbrev ◌>>=◌ : {A B : Type 0} → Option A → (A → Option B) → Option B
-x >>= f = option_and_then f x
-
 -- ---- names
 
 -- 1 to 63 bytes
@@ -55,7 +51,7 @@ number_word word = number_of word
 
 -- a number of a range, both ends included
 unfoldable pub number_between : ℕ → ℕ → List ℕ → Option ℕ
-number_between low high word = number_word word >>= if_between low high
+number_between low high word = option_and_then (if_between low high) (number_word word)
 
 -- an AS number is from 1 to 4294967295
 unfoldable pub as_number_word : List ℕ → Option ℕ
@@ -77,7 +73,7 @@ len_of_mask mask = find (λ len. mask_of len == mask) (range_with_len 1 32)
 
 -- a mask as a word
 unfoldable pub mask_len_of : List ℕ → Option ℕ
-mask_len_of word = address_word word >>= len_of_mask
+mask_len_of word = option_and_then len_of_mask (address_word word)
 
 -- the bits behind the length
 abbrev pub bits_behind : ℕ → ℕ → ℕ
@@ -92,10 +88,9 @@ is_slash b = b == 47
 
 -- a prefix word is an address, `/` and a length from 0 to 32; bits behind the length are cleared
 unfoldable pub prefix_of : List ℕ → Option Prefix
-prefix_of word = do
-  addr ← address_word (before_first is_slash word)
-  len ← number_between 0 32 (after_first is_slash word)
-  Some (cut_to len addr)
+prefix_of word =
+    option_and_then (λ addr. option_and_then (λ len. Some (cut_to len addr))
+    (number_between 0 32 (after_first is_slash word))) (address_word (before_first is_slash word))
 
 -- the length of a network by its address's first number
 abbrev pub len_of_class : ℕ → Option ℕ
@@ -119,10 +114,8 @@ is_colon b = b == 58
 
 -- `A:B`, with A and B up to 65535
 abbrev pub community_of_halves : List ℕ → List ℕ → Option ℕ
-community_of_halves high low = do
-  a ← number_between 0 65535 high
-  b ← number_between 0 65535 low
-  Some (65536 * a + b)
+community_of_halves high low =
+    option_and_then (λ a. option_and_then (λ b. Some (65536 * a + b)) (number_between 0 65535 low)) (number_between 0 65535 high)
 
 -- a community is `A:B`, or a number from 1
 unfoldable pub community_word : List ℕ → Option ℕ
