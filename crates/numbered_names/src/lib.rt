@@ -1,0 +1,14 @@
+//! The places of names: that of a name is where it stands first among given items.
+//!
+//! `NamePlaces::of` goes over the items once and keeps a copy of each name. After that a name gives its
+//! place, and a word of a text too, whatever bytes it has; `item_named` gives the item itself.
+#![tactic(auto)]
+
+mod ast;
+mod has_name;
+mod places;
+#[cfg(test)]
+mod tests;
+
+pub use has_name::HasName;
+pub use places::NamePlaces;
