@@ -1,3 +1,5 @@
+//! The words `permit` and `deny`.
+
 ghost use Rattle.std.specs.Prelude.{◌≡◌};
 ghost use Rattle.cfg_ast.specs.text.PolicyForms.{is_permit};
 

@@ -1,3 +1,5 @@
+//! Communities, one and several.
+
 ghost use Rattle.std.specs.Prelude.{◌≡◌, ◌≤◌, ◌∷◌, [], IfOk};
 ghost use Rattle.std.specs.List.{AllByRecursion, list_all, list_any, position_or_len, filter_map, cons_option};
 ghost use Rattle.base_kit.specs.Sets.{with_numbers};

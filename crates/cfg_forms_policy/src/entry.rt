@@ -1,3 +1,5 @@
+//! The lines of an entry of a route map.
+
 ghost use Rattle.std.specs.Prelude.{◌≡◌, length, nat_le, ◌&&◌, IfOk};
 ghost use Rattle.std.specs.List.{AllByRecursion, list_all, filter_map};
 ghost use Rattle.cfg_ast.specs.text.Answers.{Reads};

@@ -1,3 +1,5 @@
+//! The item of a policy line.
+
 ghost use Rattle.std.specs.Prelude.{◌≡◌};
 ghost use Rattle.std.specs.List.{AllByRecursion};
 ghost use Rattle.cfg_ast.specs.text.Answers.{Reads};

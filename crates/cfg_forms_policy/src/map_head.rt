@@ -1,3 +1,5 @@
+//! The line that opens an entry of a route map.
+
 ghost use Rattle.std.specs.Prelude.{◌≡◌};
 ghost use Rattle.std.specs.List.{AllByRecursion};
 ghost use Rattle.cfg_ast.specs.text.Answers.{Reads};
@@ -5,7 +7,6 @@ ghost use Rattle.cfg_ast.specs.text.Lines.{IsWordIn, texts};
 ghost use Rattle.cfg_ast.specs.text.PolicyForms.{empty_entry, map_head_form};
 
 use crate::act::is_permit;
-use base_kit::Aside;
 use cfg_ast::FormFault::BadForm;
 use cfg_ast::{FormFault, MapEntry, PolicyItem, Span};
 use cfg_words::{list_name, read_between, text};
@@ -18,14 +19,14 @@ fn empty_entry(seq: u32, permit: bool, line: u32) -> MapEntry
         seq,
         permit,
         line,
-        prefixes: Aside::none(),
-        comms: Aside::none(),
+        prefixes: None,
+        comms: None,
         exact: false,
         lp: None,
-        change: Aside::none(),
+        change: None,
         change_line: 0,
-        delete: Aside::none(),
-        prepend: Aside::none(),
+        delete: None,
+        prepend: None,
     }
 }
 

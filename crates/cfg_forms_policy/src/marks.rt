@@ -1,3 +1,5 @@
+//! The place of a mark in a word, and what stands around it.
+
 ghost use Rattle.std.specs.Prelude.{◌≡◌, ◌≤◌, ◌+◌, ◌==◌, length, drop};
 ghost use Rattle.std.specs.List.{list_any, position_or_len};
 

@@ -1,3 +1,5 @@
+//! The names of lists that a `match` line gives.
+
 ghost use Rattle.std.specs.Prelude.{◌≡◌, IfOk, bytes_eq};
 ghost use Rattle.std.specs.List.{AllByRecursion, list_all, list_any};
 ghost use Rattle.cfg_ast.specs.text.Answers.{Reads};

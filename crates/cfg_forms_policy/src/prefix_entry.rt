@@ -1,3 +1,5 @@
+//! An entry of a prefix list.
+
 ghost use Rattle.std.specs.Prelude.{◌≡◌, ◌≤◌, IfSome};
 ghost use Rattle.std.specs.List.{AllByRecursion};
 ghost use Rattle.cfg_ast.specs.text.Answers.{Reads};

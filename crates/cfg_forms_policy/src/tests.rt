@@ -1,3 +1,5 @@
+//! Policy lines from the vendor's manuals.
+
 ghost use Rattle.std.specs.Prelude.{◌≤◌, length};
 
 use crate::{FormFault, PolicyItem, PolicyScope, policy_item};

@@ -1,3 +1,5 @@
+//! Groups of 1 to 32 words, and the mark behind them.
+
 ghost use Rattle.std.specs.Prelude.{◌≡◌, MatchOption, IfSome, true, false};
 ghost use Rattle.std.specs.List.{AllByRecursion};
 ghost use Rattle.cfg_ast.specs.text.Lines.{IsWordIn, texts};

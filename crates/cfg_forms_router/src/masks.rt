@@ -1,3 +1,5 @@
+//! Masks, and the lengths of classful networks.
+
 ghost use Rattle.std.specs.Prelude.{◌≡◌, ◌≤◌, IfSome};
 ghost use Rattle.cfg_ast.specs.text.Words.{len_of_mask, mask_len_of, classful_len_of};
 

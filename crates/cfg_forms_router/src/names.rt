@@ -1,3 +1,5 @@
+//! The names of routers and interfaces.
+
 ghost use Rattle.std.specs.Prelude.{◌≡◌};
 ghost use Rattle.std.specs.List.{list_all, list_any};
 ghost use Rattle.std.specs.Char.{is_ascii_alphabetic, is_ascii_digit};

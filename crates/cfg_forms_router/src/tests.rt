@@ -1,3 +1,5 @@
+//! Router lines from the vendor's manuals.
+
 ghost use Rattle.std.specs.Prelude.{◌≤◌, length};
 
 use crate::{FormFault, RouterItem, Scope, router_item};

@@ -1,3 +1,5 @@
+//! All lines of a text, also those that are skipped.
+
 ghost use Rattle.std.specs.Prelude.{◌≡◌, ◌≤◌, IfOk, All, length};
 ghost use Rattle.cfg_ast.specs.text.Members.{all_lines_of, AreSpansIn};
 

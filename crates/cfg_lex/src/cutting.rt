@@ -1,3 +1,5 @@
+//! A text cut into its lines.
+
 ghost use Rattle.std.specs.Prelude.{◌≡◌, ◌≤◌, ◌++◌, ◌∷◌, [], OnOk, IfOk, All, length, if◌then◌else◌};
 ghost use Rattle.cfg_ast.specs.text.Answers.{Gives};
 ghost use Rattle.cfg_ast.specs.text.Lines.{are_kept, lines_of, IsLineIn};

@@ -1,3 +1,5 @@
+//! Faults of lines as such: bytes, lengths, numbers.
+
 ghost use Rattle.std.specs.Prelude.{◌≡◌, ◌≤◌, length};
 ghost use Rattle.cfg_ast.specs.text.Lines.{lines_of};
 ghost use Rattle.cfg_lex.specs.Odd.{odd_end, behind_return, kind_from};

@@ -1,3 +1,5 @@
+//! A text read line by line, from a place on.
+
 ghost use Rattle.std.specs.Prelude.{◌≡◌, ◌≤◌, IfOk, length, true, is_ok};
 ghost use Rattle.cfg_lex.specs.Odd.{AreWordsFrom};
 ghost use Rattle.cfg_lex.specs.Places.{IsPlace, IsNext, lines_from};

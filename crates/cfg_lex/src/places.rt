@@ -1,3 +1,5 @@
+//! Places of bytes in a line.
+
 ghost use Rattle.std.specs.Prelude.{◌≡◌, ◌-◌, ◌≤◌, length};
 ghost use Rattle.cfg_ast.specs.text.Lines.{is_blank, is_plain, newline_from, without_return, word_end, indent_between, odd_from};
 ghost use Rattle.cfg_lex.specs.Odd.{is_letter, letters_end, behind_return};

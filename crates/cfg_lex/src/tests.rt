@@ -1,3 +1,5 @@
+//! Two lines are cut.
+
 use crate::{Span, lines};
 use std::test::Fail;
 

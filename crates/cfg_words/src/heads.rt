@@ -1,3 +1,5 @@
+//! The longest head that begins a line.
+
 ghost use Rattle.std.specs.Prelude.{◌≡◌, ◌++◌, length, map, drop, if◌then◌else◌, Some, bytes_eq};
 ghost use Rattle.std.specs.List.{AllByRecursion};
 ghost use Rattle.std.specs.Option.{option_map};

@@ -1,3 +1,5 @@
+//! The names of lists and route maps.
+
 ghost use Rattle.std.specs.Prelude.{◌≡◌};
 ghost use Rattle.std.specs.Str.{IsAscii};
 ghost use Rattle.cfg_ast.specs.text.Answers.{Reads};

@@ -1,3 +1,5 @@
+//! Numbers and addresses in the words of a line.
+
 ghost use Rattle.std.specs.Prelude.{◌≡◌, ◌≤◌, IfSome};
 ghost use Rattle.cfg_ast.specs.text.Words.{number_word, number_between, as_number_word, address_word};
 

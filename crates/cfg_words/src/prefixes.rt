@@ -1,3 +1,5 @@
+//! Prefixes of an address and a length.
+
 ghost use Rattle.std.specs.Prelude.{◌≡◌, ◌≤◌};
 ghost use Rattle.cfg_ast.specs.text.Words.{bits_behind, cut_to, exact_prefix};
 

@@ -1,3 +1,5 @@
+//! The tables of heads, one for each scope.
+
 pub(crate) mod bgp;
 pub(crate) mod entry;
 pub(crate) mod interface;

@@ -1,3 +1,5 @@
+//! The bytes of a word, and a copy of them.
+
 ghost use Rattle.std.specs.Prelude.{◌≡◌, ◌≤◌, length, IfOk};
 ghost use Rattle.std.specs.Str.{IsAscii};
 ghost use Rattle.cfg_ast.specs.text.Lines.{IsWordIn, text_of};
