@@ -1,3 +1,5 @@
+//! Addresses that two up interfaces have.
+
 ghost use Rattle.std.specs.Prelude.{◌≡◌, ◌++◌, IfOk, OnOk, map, filter_map, flat_map};
 ghost use Rattle.cfg_ast.specs.meaning.Topology.{up_address};
 ghost use Rattle.cfg_ast.specs.meaning.RouterFaults.{address_line, repeats, same_address, up_addresses_of};

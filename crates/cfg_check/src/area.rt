@@ -1,3 +1,5 @@
+//! Faults of up interfaces in the OSPF area.
+
 ghost use Rattle.std.specs.Prelude.{◌≡◌, IfOk, map, filter_map, flat_map, codes};
 ghost use Rattle.std.specs.Option.{option_map};
 ghost use Rattle.cfg_ast.specs.meaning.RouterFaults.{address_line, is_wide_loopback, has_no_cost, area_address_with, area_addresses_with};

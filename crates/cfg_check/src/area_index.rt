@@ -1,3 +1,5 @@
+//! A router's OSPF lines, by which its interfaces are looked up.
+
 ghost use Rattle.std.specs.Prelude.{◌≡◌, ◌<◌, IfOk, length, bytes_eq};
 ghost use Rattle.std.specs.List.{list_any};
 ghost use Rattle.cfg_ast.specs.meaning.Topology.{is_in_area_interface, is_active_interface, is_passive_in};
@@ -29,7 +31,7 @@ pub struct AreaIndex<'a> {
 fn listed(router: &Router) -> &[Text]
     ensures { result.now ≡ listed_of router.now.ospf }
 {
-    match router.ospf.as_option() {
+    match &router.ospf {
         Some(process) => {
             if process.passive_default {
                 process.not_passive.as_slice()
@@ -83,7 +85,7 @@ impl<'a> AreaIndex<'a> {
     fn is_passive(&self, name: &Text) -> bool
         ensures { result ≡ is_passive_in self.now.router.now.ospf name.now }
     {
-        let Some(process) = self.router.ospf.as_option() else {
+        let Some(process) = &self.router.ospf else {
             return false;
         };
         let is_listed = self.is_listed(name);

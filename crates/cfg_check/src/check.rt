@@ -1,3 +1,5 @@
+//! The check of a network: each kind of fault in turn, and the least one.
+
 ghost use Rattle.std.specs.Prelude.{◌≡◌, IfOk, IfErr, Ok, flat_map};
 ghost use Rattle.cfg_ast.specs.text.Answers.{RefusesAs};
 ghost use Rattle.cfg_ast.specs.meaning.Meaning.{meaning_faults, least_fault, judged};

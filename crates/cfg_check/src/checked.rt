@@ -1,3 +1,5 @@
+//! A network in which no fault stands.
+
 ghost use Rattle.std.specs.Prelude.{◌≡◌, ◌≤◌, length};
 ghost use Rattle.cfg_ast.specs.meaning.PolicyFaults.{communities_of};
 ghost use Rattle.cfg_ast.specs.meaning.RouterFaults.{protocol_of, area_of};

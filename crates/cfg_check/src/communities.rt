@@ -1,3 +1,5 @@
+//! The communities that a network names, and the one past the limit.
+
 ghost use Rattle.std.specs.Prelude.{◌≡◌, ◌≤◌, ◌<◌, ◌++◌, IfOk, OnOk, map, flat_map, length, nat_lt, false, if◌then◌else◌};
 ghost use Rattle.std.specs.List.{list_any};
 ghost use Rattle.base_kit.specs.Sets.{with_number};
@@ -6,7 +8,7 @@ ghost use Rattle.cfg_ast.specs.meaning.PolicyFaults.{mention_at, mentions_on, me
 ghost use Rattle.cfg_check.specs.LeastLine.{least_line};
 ghost use Rattle.cfg_check.specs.Communities.{count_before, count_up_to, KeepsUpTo};
 
-use base_kit::{Aside, NoMemory, NumSet};
+use base_kit::{NoMemory, NumSet};
 use cfg_ast::{Change, CommunityLine, CommunityList, MapEntry, Mention, RouteMap, Router};
 use std::alloc::Global;
 use std::collections::HashSet;
@@ -44,10 +46,10 @@ fn push_in_lists(found: &mut Vec<Mention>, lists: &[CommunityList]) -> Result<()
 }
 
 // The communities that a `set community` line names.
-fn changed_by(change: &Aside<Change>) -> &[u32]
+fn changed_by(change: &Option<Change>) -> &[u32]
     ensures { result.now ≡ changed_by change.now }
 {
-    match change.as_option() {
+    match change {
         Some(Change::Replace(comms)) => comms.as_slice(),
         Some(Change::Append(comms)) => comms.as_slice(),
         Some(Change::Clear) => &[],

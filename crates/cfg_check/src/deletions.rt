@@ -1,3 +1,5 @@
+//! Lists by which entries delete communities.
+
 ghost use Rattle.std.specs.Prelude.{◌≡◌, IfOk, flat_map, length, nat_lt};
 ghost use Rattle.cfg_ast.specs.meaning.PolicyFaults.{several_at, several_in, wide_deletions_of};
 ghost use Rattle.cfg_check.specs.LeastLine.{least_line};

@@ -1,3 +1,5 @@
+//! A value put last, if there is one.
+
 ghost use Rattle.std.specs.Prelude.{◌≡◌, ◌++◌, OnOk, option_to_list};
 
 use base_kit::NoMemory;

@@ -1,3 +1,5 @@
+//! The least of several lines and faults.
+
 ghost use Rattle.std.specs.Prelude.{◌≡◌, None, Some, if◌then◌else◌};
 ghost use Rattle.cfg_ast.specs.meaning.Meaning.{is_before_fault, lesser_fault};
 ghost use Rattle.cfg_check.specs.LeastLine.{lesser_line, line_if, fault_at};

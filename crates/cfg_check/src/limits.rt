@@ -1,3 +1,5 @@
+//! Too many routers, too many neighbours.
+
 ghost use Rattle.std.specs.Prelude.{◌≡◌, map, flat_map, slice_get};
 ghost use Rattle.std.specs.Option.{option_map};
 ghost use Rattle.cfg_ast.specs.meaning.Topology.{neighbors_of};
@@ -24,7 +26,7 @@ pub(crate) fn too_many_routers(routers: &[Router]) -> Option<u32>
 pub(crate) fn neighbors(router: &Router) -> &[Neighbor]
     ensures { result.now ≡ neighbors_of router.now }
 {
-    match router.bgp.as_option() {
+    match &router.bgp {
         Some(process) => process.neighbors.as_slice(),
         None => &[],
     }

@@ -1,3 +1,5 @@
+//! The names of a router's lists and maps, as sets.
+
 ghost use Rattle.std.specs.Prelude.{◌≡◌, ◌||◌, ◌&&◌, IfOk, OnOk, bytes_eq};
 ghost use Rattle.std.specs.List.{list_any};
 ghost use Rattle.cfg_ast.specs.meaning.PolicyFaults.{is_name, is_deleted_in, prepends_in_map};
@@ -55,7 +57,7 @@ pub(crate) fn community_list_names(
 fn keep_deletion<'a>(names: &mut HashSet<&'a str>, entry: &'a MapEntry) -> Result<(), NoMemory>
     ensures { OnOk result (AddsNames names.old names.new (λ q. is_name q entry.now.delete)) }
 {
-    let Some(named) = entry.delete.as_option() else {
+    let Some(named) = &entry.delete else {
         return Ok(());
     };
     names.insert(named.name.as_str())?;

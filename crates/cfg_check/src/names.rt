@@ -1,3 +1,5 @@
+//! Host names that two routers have.
+
 ghost use Rattle.std.specs.Prelude.{◌≡◌, IfOk, map};
 ghost use Rattle.cfg_ast.specs.meaning.RouterFaults.{router_line, repeats, same_name};
 ghost use Rattle.cfg_check.specs.LeastLine.{least_line};

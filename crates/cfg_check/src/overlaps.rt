@@ -1,3 +1,5 @@
+//! Subnets of one router that overlap.
+
 ghost use Rattle.std.specs.Prelude.{◌≡◌, ◌≤◌, IfOk, OnOk, map, flat_map};
 ghost use Rattle.std.specs.List.{list_any};
 ghost use Rattle.cfg_ast.specs.meaning.RouterFaults.{address_line, repeats, overlap, overlapping_in};

@@ -1,3 +1,5 @@
+//! The number of adjacent pairs in OSPF.
+
 ghost use Rattle.std.specs.Prelude.{◌≡◌, ◌≤◌, IfOk, OnOk, map, filter_map, length, []};
 ghost use Rattle.cfg_ast.specs.meaning.RouterFaults.{active_address_on, active_addresses_of, added_after, exceeding};
 ghost use Rattle.cfg_check.specs.LeastLine.{least_line};

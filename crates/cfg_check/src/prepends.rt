@@ -1,3 +1,5 @@
+//! Prepended AS numbers, and the maps that may have them.
+
 ghost use Rattle.std.specs.Prelude.{◌≡◌, IfOk, flat_map};
 ghost use Rattle.std.specs.List.{list_all};
 ghost use Rattle.cfg_ast.specs.meaning.Topology.{has_number};
@@ -16,7 +18,7 @@ use std::collections::HashSet;
 fn has_number(router: &Router, number: u32) -> bool
     ensures { result ≡ has_number router.now number }
 {
-    match router.bgp.as_option() {
+    match &router.bgp {
         Some(process) => process.number == number,
         None => false,
     }
@@ -31,7 +33,7 @@ fn has_all_numbers(router: &Router, numbers: &[u32]) -> bool
 fn foreign_prepend_in(router: &Router, entry: &MapEntry) -> Option<u32>
     ensures { result ≡ least_line (foreign_prepend_in router.now entry.now) }
 {
-    let Some(prepend) = entry.prepend.as_option() else {
+    let Some(prepend) = &entry.prepend else {
         return None;
     };
     if has_all_numbers(router, prepend.numbers.as_slice()) {

@@ -1,3 +1,5 @@
+//! AS numbers, peers and protocols of the network.
+
 ghost use Rattle.std.specs.Prelude.{◌≡◌, IfOk, map, filter, filter_map, flat_map, slice_get, nat_eq};
 ghost use Rattle.std.specs.Option.{option_map};
 ghost use Rattle.cfg_ast.specs.meaning.RouterFaults.{process_line, neighbor_line, area_line, line_of_protocol, repeats, unlike_first, bgp_of, same_number, internal_peers, internal_peers_of, protocol_lines_of, is_same_protocol, same_protocol, areas_of, same_area};
@@ -21,7 +23,7 @@ pub(crate) struct Numbered {
 fn number_of(router: &Router) -> Option<Numbered>
     ensures { result ≡ numbered_of router.now }
 {
-    let process = router.bgp.as_option()?;
+    let process = router.bgp.as_ref()?;
     Some(Numbered {
         number: process.number,
         line: process.line,
@@ -72,7 +74,7 @@ fn internal_peer_in(process: &BgpProcess) -> Option<u32>
 fn internal_peer_of(router: &Router) -> Option<u32>
     ensures { result ≡ least_line (map neighbor_line (internal_peers_of router.now)) }
 {
-    match router.bgp.as_option() {
+    match &router.bgp {
         Some(process) => internal_peer_in(process),
         None => None,
     }
@@ -92,7 +94,7 @@ pub(crate) fn internal_peer(routers: &[Router]) -> Option<u32>
 fn first_protocol_of(router: &Router) -> Option<Protocol>
     ensures { result ≡ protocol_in (protocol_lines_of router.now) }
 {
-    match (router.bgp.as_option(), router.ospf.as_option()) {
+    match (&router.bgp, &router.ospf) {
         (None, None) => None,
         (Some(_), None) => Some(Protocol::Bgp),
         (None, Some(_)) => Some(Protocol::Ospf),
@@ -121,11 +123,11 @@ fn other_protocol_of(router: &Router, protocol: Protocol) -> Option<u32>
     ensures { result ≡ least_line (map line_of_protocol (filter (has_other_protocol protocol) (protocol_lines_of router.now))) }
 {
     match protocol {
-        Protocol::Bgp => match router.ospf.as_option() {
+        Protocol::Bgp => match &router.ospf {
             Some(process) => Some(process.line),
             None => None,
         },
-        Protocol::Ospf => match router.bgp.as_option() {
+        Protocol::Ospf => match &router.bgp {
             Some(process) => Some(process.line),
             None => None,
         },
@@ -154,7 +156,7 @@ pub(crate) fn mixed_protocols(routers: &[Router]) -> Option<u32>
 pub(crate) fn areas(router: &Router) -> &[AreaLine]
     ensures { result.now ≡ areas_of router.now }
 {
-    match router.ospf.as_option() {
+    match &router.ospf {
         Some(process) => process.areas.as_slice(),
         None => &[],
     }

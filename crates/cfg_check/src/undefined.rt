@@ -1,4 +1,6 @@
-ghost use Rattle.std.specs.Prelude.{◌≡◌, ◌++◌, IfOk, flat_map, option_copied};
+//! Lists and maps that a line names and its router does not define.
+
+ghost use Rattle.std.specs.Prelude.{◌≡◌, ◌++◌, IfOk, flat_map};
 ghost use Rattle.std.specs.List.{list_any};
 ghost use Rattle.cfg_ast.specs.meaning.PolicyFaults.{line_naming, match_line_naming, map_lines_naming, list_lines_naming, entry_lines_naming, lines_in_map_naming, undefined_maps_of, undefined_lists_of};
 ghost use Rattle.cfg_check.specs.LeastLine.{least_line};
@@ -7,14 +9,14 @@ ghost use Rattle.cfg_check.specs.NameSets.{lacks_name};
 use crate::least::lesser_line;
 use crate::limits::neighbors;
 use crate::name_sets::{community_list_names, map_names, prefix_list_names};
-use base_kit::{Aside, NoMemory, Text};
+use base_kit::{NoMemory, Text};
 use cfg_ast::{MapEntry, NameLine, Named, Neighbor, RouteMap, Router};
 use std::alloc::Global;
 use std::collections::HashSet;
 
 // The line, if it gives a name that is not in the set.
-fn line_lacking(names: &HashSet<&str>, named: Option<&Named>) -> Option<u32>
-    ensures { result ≡ least_line (line_naming (lacks_name names.now) (option_copied named.entry)) }
+fn line_lacking(names: &HashSet<&str>, named: &Option<Named>) -> Option<u32>
+    ensures { result ≡ least_line (line_naming (lacks_name names.now) named.now) }
 {
     let Some(named) = named else { return None };
     if names.contains(named.name.as_str()) {
@@ -30,12 +32,10 @@ fn lacks_one(names: &HashSet<&str>, all: &[Text]) -> bool
 }
 
 // The match line, if it gives a name that is not in the set.
-fn match_line_lacking(names: &HashSet<&str>, line: &Aside<NameLine>) -> Option<u32>
+fn match_line_lacking(names: &HashSet<&str>, line: &Option<NameLine>) -> Option<u32>
     ensures { result ≡ least_line (match_line_naming (lacks_name names.now) line.now) }
 {
-    let Some(line) = line.as_option() else {
-        return None
-    };
+    let Some(line) = line else { return None };
     if !lacks_one(names, line.names.as_slice()) {
         return None;
     }
@@ -45,8 +45,8 @@ fn match_line_lacking(names: &HashSet<&str>, line: &Aside<NameLine>) -> Option<u
 fn undefined_maps_at(names: &HashSet<&str>, neighbor: &Neighbor) -> Option<u32>
     ensures { result ≡ least_line (map_lines_naming (lacks_name names.now) neighbor.now) }
 {
-    let line_in = line_lacking(names, neighbor.map_in.as_ref());
-    let line_out = line_lacking(names, neighbor.map_out.as_ref());
+    let line_in = line_lacking(names, &neighbor.map_in);
+    let line_out = line_lacking(names, &neighbor.map_out);
     lesser_line(line_in, line_out)
 }
 
@@ -81,8 +81,8 @@ pub(crate) fn undefined_map(alloc: Global, routers: &[Router]) -> Result<Option<
 fn undefined_lists_at(names: &HashSet<&str>, neighbor: &Neighbor) -> Option<u32>
     ensures { result ≡ least_line (list_lines_naming (lacks_name names.now) neighbor.now) }
 {
-    let line_in = line_lacking(names, neighbor.list_in.as_ref());
-    let line_out = line_lacking(names, neighbor.list_out.as_ref());
+    let line_in = line_lacking(names, &neighbor.list_in);
+    let line_out = line_lacking(names, &neighbor.list_out);
     lesser_line(line_in, line_out)
 }
 
@@ -105,7 +105,7 @@ fn undefined_lists_in_entry(
 {
     let by_prefixes = match_line_lacking(prefixes, &entry.prefixes);
     let by_comms = match_line_lacking(comms, &entry.comms);
-    let by_delete = line_lacking(comms, entry.delete.as_option());
+    let by_delete = line_lacking(comms, &entry.delete);
     lesser_line(lesser_line(by_prefixes, by_comms), by_delete)
 }
 

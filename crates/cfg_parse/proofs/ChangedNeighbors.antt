@@ -11,7 +11,8 @@ use Rattle.cfg_ast.specs.declared.refusal.Kind.TheVariants.{Misplaced}
 use Rattle.cfg_ast.specs.declared.refusal.ReadRefusal.{ReadRefusal}
 use Rattle.cfg_ast.specs.declared.refusal.ReadRefusal.TheVariants.{At}
 use Rattle.cfg_ast.specs.declared.items.RouterItem.{RouterItem}
-use Rattle.cfg_ast.specs.text.Stanzas.{◌>>=◌, at_neighbor, set_neighbor, new_neighbor}
+use Rattle.cfg_ast.specs.text.Stanzas.{at_neighbor, set_neighbor, new_neighbor}
+use Rattle.cfg_ast.specs.text.Steps.{◌>>=◌}
 use Rattle.cfg_parse.specs.Neighbors.{change_at}
 use Rattle.std.proofs.lemmas.List.{get_or_default}
 

@@ -13,7 +13,7 @@ use Rattle.cfg_ast.specs.declared.bgp.NetLine.{NetLine}
 use Rattle.cfg_ast.specs.declared.bgp.Neighbor.{Neighbor}
 use Rattle.cfg_ast.specs.declared.ospf.AreaLine.{AreaLine}
 use Rattle.cfg_ast.specs.text.Stanzas.{same_area_line, has_network, has_neighbor}
-use Rattle.named_lists.proofs.Positions.{any_last, any_same, any_some, none_by, number_is, parts_kept, place_by, position_by}
+use Rattle.numbered_names.proofs.Firsts.{any_last, any_same, any_some, none_by, number_is, parts_kept, place_by, position_by}
 use Rattle.cfg_parse.specs.Indexes.{HasKeys, HasAddresses, prefix_order, area_order, area_key, prefix_of}
 
 -- ---- sets

@@ -11,7 +11,7 @@ use Rattle.cfg_ast.specs.text.Answers.{RefusesAs}
 use Rattle.cfg_ast.specs.text.Lines.{lines_of, IsWordIn}
 use Rattle.cfg_ast.specs.text.Members.{IsSpanIn}
 use Rattle.cfg_ast.specs.text.TextLines.{TextLine, text_line}
-use Rattle.cfg_ast.specs.text.Stanzas.{◌>>=◌}
+use Rattle.cfg_ast.specs.text.Steps.{◌>>=◌}
 use Rattle.cfg_ast.specs.text.Reading.{State, at_start, step, steps, texts_of, end_at, ending, network_of_lines, network_of_text}
 use Rattle.cfg_lex.specs.declared.following.Place.{Place}
 use Rattle.cfg_lex.specs.Places.{lines_from, put_first, IsFirst}

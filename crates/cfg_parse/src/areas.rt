@@ -1,3 +1,5 @@
+//! The `network` lines of an OSPF process, each once.
+
 ghost use Rattle.std.specs.Prelude.{◌≡◌, ◌++◌, ◌∷◌, [], IfOk, OnOk};
 ghost use Rattle.std.specs.List.{list_any};
 ghost use Rattle.cfg_ast.specs.text.Stanzas.{same_area_line, with_area};

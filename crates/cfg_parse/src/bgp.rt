@@ -1,3 +1,5 @@
+//! The lines of a BGP process, taken one by one.
+
 ghost use Rattle.std.specs.Prelude.{◌≡◌};
 ghost use Rattle.cfg_ast.specs.text.Reading.{new_bgp};
 ghost use Rattle.cfg_ast.specs.text.Stanzas.{set_bgp, with_peer, peer_of, set_process, set_base, add_network, add_neighbor};

@@ -1,3 +1,5 @@
+//! The community lists of a router.
+
 ghost use Rattle.std.specs.Prelude.{◌≡◌, [], IfOk, OnOk};
 ghost use Rattle.cfg_ast.specs.text.PolicyLines.{with_community_line};
 

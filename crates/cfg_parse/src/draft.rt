@@ -1,3 +1,5 @@
+//! What the lines read so far give.
+
 ghost use Rattle.std.specs.Prelude.{◌≡◌, OnOk};
 ghost use Rattle.cfg_ast.specs.text.Reading.{no_draft, at_start, with_closed};
 
@@ -7,7 +9,7 @@ use crate::interfaces::Interfaces;
 use crate::ospf::OspfDraft;
 use crate::prefix_lists::PrefixLists;
 use crate::route_maps::RouteMaps;
-use base_kit::{Aside, List, NoMemory, Text};
+use base_kit::{List, NoMemory, Text};
 use cfg_ast::{BgpProcess, Interface, MapEntry, Named, OspfProcess, Router};
 use std::alloc::Global;
 use std::marker::Model;
@@ -28,8 +30,8 @@ pub(crate) enum Open {
 pub(crate) struct Draft {
     pub(crate) name: Option<Named>,
     pub(crate) interfaces: Interfaces,
-    pub(crate) bgp: Aside<BgpProcess>,
-    pub(crate) ospf: Aside<OspfProcess>,
+    pub(crate) bgp: Option<BgpProcess>,
+    pub(crate) ospf: Option<OspfProcess>,
     pub(crate) prefix_lists: PrefixLists,
     pub(crate) community_lists: CommunityLists,
     pub(crate) route_maps: RouteMaps,
@@ -66,8 +68,8 @@ pub(crate) fn no_draft(alloc: Global) -> Draft
     Draft {
         name: None,
         interfaces: Interfaces::new(alloc),
-        bgp: Aside::none(),
-        ospf: Aside::none(),
+        bgp: None,
+        ospf: None,
         prefix_lists: PrefixLists::new(alloc),
         community_lists: CommunityLists::new(alloc),
         route_maps: RouteMaps::new(alloc),
@@ -94,11 +96,11 @@ pub(crate) fn close(alloc: Global, draft: &mut Draft) -> Result<(), NoMemory>
         Open::Ignored => Ok(()),
         Open::Interface(interface) => draft.interfaces.add(alloc, interface),
         Open::Bgp(process) => {
-            draft.bgp = Aside::some(alloc, process.into_process())?;
+            draft.bgp = Some(process.into_process());
             Ok(())
         }
         Open::Ospf(process) => {
-            draft.ospf = Aside::some(alloc, process.into_process())?;
+            draft.ospf = Some(process.into_process());
             Ok(())
         }
         Open::Entry(name, entry) => draft.route_maps.add(alloc, name, entry),

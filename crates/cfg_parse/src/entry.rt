@@ -1,26 +1,20 @@
+//! The lines of an entry of a route map, taken one by one.
+
 ghost use Rattle.cfg_ast.specs.text.PolicyLines.{set_prefixes, set_comms, set_lp, set_change, set_delete, set_prepend, set_entry};
 ghost use Rattle.cfg_parse.specs.Open.{Changes};
 
 use crate::stanza::once;
-use base_kit::Aside;
 use cfg_ast::{Change, MapEntry, NameLine, Named, PolicyItem, Prepend, ReadRefusal};
-use std::alloc::Global;
 
-fn set_prefixes(
-    alloc: Global,
-    number: u32,
-    names: NameLine,
-    entry: &mut MapEntry,
-) -> Result<(), ReadRefusal>
+fn set_prefixes(number: u32, names: NameLine, entry: &mut MapEntry) -> Result<(), ReadRefusal>
     ensures { Changes result entry.new (set_prefixes number names entry.old) }
 {
     once(number, entry.prefixes.is_some())?;
-    entry.prefixes = Aside::some(alloc, names)?;
+    entry.prefixes = Some(names);
     Ok(())
 }
 
 fn set_comms(
-    alloc: Global,
     number: u32,
     names: NameLine,
     exact: bool,
@@ -29,7 +23,7 @@ fn set_comms(
     ensures { Changes result entry.new (set_comms number names exact entry.old) }
 {
     once(number, entry.comms.is_some())?;
-    entry.comms = Aside::some(alloc, names)?;
+    entry.comms = Some(names);
     entry.exact = exact;
     Ok(())
 }
@@ -42,50 +36,34 @@ fn set_lp(number: u32, lp: u32, entry: &mut MapEntry) -> Result<(), ReadRefusal>
     Ok(())
 }
 
-fn set_change(
-    alloc: Global,
-    number: u32,
-    change: Change,
-    entry: &mut MapEntry,
-) -> Result<(), ReadRefusal>
+fn set_change(number: u32, change: Change, entry: &mut MapEntry) -> Result<(), ReadRefusal>
     ensures { Changes result entry.new (set_change number change entry.old) }
 {
     once(number, entry.change.is_some())?;
-    entry.change = Aside::some(alloc, change)?;
+    entry.change = Some(change);
     entry.change_line = number;
     Ok(())
 }
 
-fn set_delete(
-    alloc: Global,
-    number: u32,
-    list: Named,
-    entry: &mut MapEntry,
-) -> Result<(), ReadRefusal>
+fn set_delete(number: u32, list: Named, entry: &mut MapEntry) -> Result<(), ReadRefusal>
     ensures { Changes result entry.new (set_delete number list entry.old) }
 {
     once(number, entry.delete.is_some())?;
-    entry.delete = Aside::some(alloc, list)?;
+    entry.delete = Some(list);
     Ok(())
 }
 
-fn set_prepend(
-    alloc: Global,
-    number: u32,
-    prepend: Prepend,
-    entry: &mut MapEntry,
-) -> Result<(), ReadRefusal>
+fn set_prepend(number: u32, prepend: Prepend, entry: &mut MapEntry) -> Result<(), ReadRefusal>
     ensures { Changes result entry.new (set_prepend number prepend entry.old) }
 {
     once(number, entry.prepend.is_some())?;
-    entry.prepend = Aside::some(alloc, prepend)?;
+    entry.prepend = Some(prepend);
     Ok(())
 }
 
 /// Adds to the entry what one of its lines says.
 #[tactic(auto, unfolding(cfg_ast::specs::text::PolicyLines::set_entry))]
 pub(crate) fn set_entry(
-    alloc: Global,
     number: u32,
     item: PolicyItem,
     entry: &mut MapEntry,
@@ -93,12 +71,12 @@ pub(crate) fn set_entry(
     ensures { Changes result entry.new (set_entry number item entry.old) }
 {
     match item {
-        PolicyItem::MatchPrefixes(names) => set_prefixes(alloc, number, names, entry),
-        PolicyItem::MatchComms(names, exact) => set_comms(alloc, number, names, exact, entry),
+        PolicyItem::MatchPrefixes(names) => set_prefixes(number, names, entry),
+        PolicyItem::MatchComms(names, exact) => set_comms(number, names, exact, entry),
         PolicyItem::Lp(lp) => set_lp(number, lp, entry),
-        PolicyItem::Comms(change) => set_change(alloc, number, change, entry),
-        PolicyItem::Delete(list) => set_delete(alloc, number, list, entry),
-        PolicyItem::Prepend(prepend) => set_prepend(alloc, number, prepend, entry),
+        PolicyItem::Comms(change) => set_change(number, change, entry),
+        PolicyItem::Delete(list) => set_delete(number, list, entry),
+        PolicyItem::Prepend(prepend) => set_prepend(number, prepend, entry),
         _ => Ok(()),
     }
 }

@@ -1,3 +1,5 @@
+//! The lines of an interface, taken one by one.
+
 ghost use Rattle.cfg_ast.specs.text.Stanzas.{set_interface};
 ghost use Rattle.cfg_parse.specs.Open.{Changes};
 

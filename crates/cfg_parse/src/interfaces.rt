@@ -1,3 +1,5 @@
+//! The interfaces of a router, found by their names.
+
 ghost use Rattle.std.specs.Prelude.{◌≡◌, ◌∷◌, ◌++◌, [], OnOk};
 ghost use Rattle.cfg_ast.specs.text.Reading.{has_interface};
 

@@ -1,3 +1,5 @@
+//! The members that a text notes for each router.
+
 ghost use Rattle.std.specs.Prelude.{◌≡◌, ◌≤◌, IfOk, All, length, map};
 ghost use Rattle.cfg_ast.specs.text.Lines.{text_of, texts};
 ghost use Rattle.cfg_ast.specs.text.TextLines.{text_line};

@@ -1,3 +1,5 @@
+//! Names, each listed once.
+
 ghost use Rattle.std.specs.Prelude.{◌≡◌, [], IfOk};
 ghost use Rattle.cfg_ast.specs.text.Stanzas.{with_text};
 

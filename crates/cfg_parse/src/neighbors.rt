@@ -1,3 +1,5 @@
+//! The neighbours of a BGP process, found by their addresses.
+
 ghost use Rattle.std.specs.Prelude.{◌≡◌, ◌<◌, ◌∷◌, ◌++◌, [], IfOk, OnOk, length, false, nat_eq};
 ghost use Rattle.std.specs.List.{position};
 ghost use Rattle.cfg_parse.specs.Neighbors.{change_at};

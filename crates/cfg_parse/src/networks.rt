@@ -1,3 +1,5 @@
+//! The `network` lines of a BGP process, each once.
+
 ghost use Rattle.std.specs.Prelude.{◌≡◌, ◌∷◌, ◌++◌, [], IfOk, OnOk};
 ghost use Rattle.cfg_ast.specs.text.Stanzas.{has_network};
 

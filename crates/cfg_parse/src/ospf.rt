@@ -1,3 +1,5 @@
+//! The lines of an OSPF process, taken one by one.
+
 ghost use Rattle.std.specs.Prelude.{◌≡◌, true, OnOk};
 ghost use Rattle.cfg_ast.specs.text.Reading.{new_ospf};
 ghost use Rattle.cfg_ast.specs.text.Stanzas.{with_text, with_area, set_ospf};

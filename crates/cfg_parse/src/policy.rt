@@ -1,3 +1,5 @@
+//! The top lines of lists and route maps.
+
 ghost use Rattle.std.specs.Prelude.{◌≡◌, OnOk, bytes_eq, codes};
 ghost use Rattle.std.specs.List.{AllByRecursion};
 ghost use Rattle.cfg_ast.specs.text.Lines.{IsWordIn, texts, text_of};

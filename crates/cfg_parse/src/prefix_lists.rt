@@ -1,3 +1,5 @@
+//! The prefix lists of a router.
+
 ghost use Rattle.std.specs.Prelude.{◌≡◌, [], IfOk, OnOk};
 ghost use Rattle.cfg_ast.specs.text.PolicyLines.{has_prefix_entry, with_prefix_entry};
 

@@ -1,3 +1,5 @@
+//! A text read into a network.
+
 ghost use Rattle.std.specs.Prelude.{◌≡◌, ◌≤◌, Some, Ok, true, is_ok, length};
 ghost use Rattle.cfg_ast.specs.text.Answers.{Gives};
 ghost use Rattle.cfg_ast.specs.text.Lines.{IsLineIn, lines_of};

@@ -1,3 +1,5 @@
+//! The route maps of a router.
+
 ghost use Rattle.std.specs.Prelude.{◌≡◌, [], IfOk, OnOk};
 ghost use Rattle.cfg_ast.specs.text.PolicyLines.{has_map_entry, with_map_entry};
 

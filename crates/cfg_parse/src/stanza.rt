@@ -1,3 +1,5 @@
+//! A line inside a stanza, and its faults.
+
 ghost use Rattle.std.specs.Prelude.{◌≡◌};
 ghost use Rattle.cfg_ast.specs.text.Answers.{Gives};
 ghost use Rattle.cfg_ast.specs.text.Lines.{IsLineIn, texts};
@@ -145,7 +147,7 @@ pub(crate) fn take_inner(
         }
         Open::Entry(_, entry) => {
             let item = policy_said_in(alloc, bytes, line, PolicyScope::Entry)?;
-            set_entry(alloc, line.number, item, entry)?;
+            set_entry(line.number, item, entry)?;
             Ok(())
         }
     }

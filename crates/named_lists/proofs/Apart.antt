@@ -5,7 +5,7 @@ use Rattle.std.specs.List.{list_any, position}
 use Rattle.std.proofs.lemmas.List.Folds.{list_any-append}
 use Rattle.std.proofs.lemmas.List.Quantifiers.{position-Some}
 use Rattle.base_kit.specs.Names.{AreApart}
-use Rattle.named_lists.proofs.Positions.{any_same, any_some, bytes_eq-sym, bytes_same, position_map}
+use Rattle.numbered_names.proofs.Firsts.{any_same, any_some, bytes_eq-sym, bytes_same, position_map}
 
 or_false : (b c : Bool) → (b || c) ≡ false → (b ≡ false) × (c ≡ false)
 or_false true c e = absurd (true≢false e)

@@ -11,7 +11,7 @@ use Rattle.by_key.proofs.SortedByKey.{Rises, grouped, sorted_is}
 use Rattle.named_lists.specs.declared.named.NamedList.{NamedList}
 use Rattle.named_lists.specs.NamedLists.{in_named}
 use Rattle.named_lists.specs.NumberedLists.{put, put_all, by_number, in_order, has_number}
-use Rattle.named_lists.proofs.Positions.{number_is}
+use Rattle.numbered_names.proofs.Firsts.{number_is}
 
 module _ {E : Type 0} (number : E → ℕ) where
   -- ---- one more at the end

@@ -7,7 +7,7 @@ use Rattle.std.proofs.lemmas.List.Quantifiers.{position-Some}
 use Rattle.std.proofs.lemmas.List.Sums.{fails_before_first}
 use Rattle.named_lists.specs.declared.named.NamedList.{NamedList}
 use Rattle.named_lists.specs.NamedLists.{in_named}
-use Rattle.named_lists.proofs.Positions.{all_of}
+use Rattle.numbered_names.proofs.Firsts.{all_of}
 
 module _ {E : Type 0} (name : List ℕ) (change : List E → List E) where
   abbrev changed : NamedList E → NamedList E

@@ -15,7 +15,7 @@ use Rattle.named_lists.specs.NumberedLists.{Adds, HoldsAt, IsHeld, added, are_be
 use Rattle.named_lists.proofs.Apart.{apart_last, has_with, has_without, none_named}
 use Rattle.named_lists.proofs.Ascending.{ascends_last, has_last}
 use Rattle.named_lists.proofs.ByNumber.{has_by_number}
-use Rattle.named_lists.proofs.Positions.{parts_kept}
+use Rattle.numbered_names.proofs.Firsts.{parts_kept}
 
 same_pair : (i q p s : ℕ) → is_eq (pair_order (i, q) (p, s)) ≡ (nat_eq i p && nat_eq q s)
 same_pair i q p s = grind (arith, nat_tests)

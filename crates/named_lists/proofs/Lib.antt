@@ -2,8 +2,5 @@ pub mod Apart
 pub mod Ascending
 pub mod ByNumber
 pub mod Entries
-pub mod Hashes
 pub mod Held
 pub mod InPlace
-pub mod Others
-pub mod Positions

@@ -1,4 +1,2 @@
-pub mod ByName
-pub mod NameHash
 pub mod NamedLists
 pub mod NumberedLists

@@ -1,56 +1,40 @@
-ghost use Rattle.std.specs.Prelude.{◌≡◌, ◌∷◌, ◌++◌, [], IfOk, OnOk, List, ℕ, bytes_eq};
+//! Items in order, each found by its name.
+
+ghost use Rattle.std.specs.Prelude.{◌≡◌, ◌∷◌, ◌++◌, [], IfOk, OnOk, OnErr, bytes_eq};
 ghost use Rattle.std.specs.List.{list_any};
 
-use crate::places::Places;
 use crate::room::pushed;
-use base_kit::{List, NoMemory, Text};
+use base_kit::{List, NoMemory};
+use numbered_names::{HasName, NamePlaces};
 use std::alloc::Global;
 use std::marker::Model;
 
-/// What has a name.
-pub trait HasName: Drop {
-    ghost name: { Self → List ℕ };
-
-    /// The name.
-    fn name(&self) -> &str
-        ensures { result.now ≡ name self.now };
-}
-
-/// A text is its own name.
-impl HasName for Text {
-    ghost name = { λ text. text };
-
-    fn name(&self) -> &str {
-        self.as_str()
-    }
-}
-
 /// Items in the order in which they were put in, each found by its name.
 #[derive(Drop)]
-pub struct ByName<T: HasName> {
+pub struct ByName<T: HasName + Drop> {
     items: List<T>,
-    places: Places,
+    places: NamePlaces,
 }
 
-impl<T: HasName> Model for ByName<T> {
+impl<T: HasName + Drop> Model for ByName<T> {
     ghost use Rattle.std.specs.Prelude.{List};
-    ghost use Rattle.named_lists.specs.ByName.{HasPlaces};
+    ghost use Rattle.numbered_names.specs.NamePlaces.{ArePlacesOf};
 
     ghost Value = { List T };
 
     ghost view = { λ a. a.items };
 
-    ghost invariant = { λ a. HasPlaces T.name a.places a.items };
+    ghost invariant = { λ a. ArePlacesOf T.name a.places a.items };
 }
 
-impl<T: HasName> ByName<T> {
+impl<T: HasName + Drop> ByName<T> {
     /// None at all.
     pub fn new(alloc: Global) -> Self
         ensures { result ≡ [] }
     {
         ByName {
             items: List::new(alloc),
-            places: Places::new(alloc),
+            places: NamePlaces::new(alloc),
         }
     }
 
@@ -58,7 +42,7 @@ impl<T: HasName> ByName<T> {
     pub fn has(&self, name: &str) -> bool
         ensures { result ≡ list_any (λ x. bytes_eq (T.name x) name.now) self.now }
     {
-        self.places.place_in(self.items.as_slice(), name).is_some()
+        self.places.place_of(name).is_some()
     }
 
     // Those, and another one behind them.
@@ -76,7 +60,8 @@ impl<T: HasName> ByName<T> {
     /// # Errors
     /// Out of memory: then none is left.
     pub fn push(&mut self, alloc: Global, item: T) -> Result<(), NoMemory>
-        ensures { OnOk result (self.new ≡ self.old ++ item ∷ []) }
+        ensures ok { OnOk result (self.new ≡ self.old ++ item ∷ []) }
+        ensures err { OnErr result (self.new ≡ []) }
     {
         let all = std::mem::replace(self, ByName::new(alloc));
         *self = all.with(alloc, item)?;

@@ -1,11 +1,12 @@
-ghost use Rattle.std.specs.Prelude.{◌≡◌, ◌<◌, ◌∷◌, ◌++◌, [], IfOk, OnOk, bytes_eq, length, slice_set};
+//! Lists under names.
+
+ghost use Rattle.std.specs.Prelude.{◌≡◌, ◌<◌, ◌∷◌, ◌++◌, [], IfOk, OnOk, OnErr, bytes_eq, length, slice_set};
 ghost use Rattle.std.specs.List.{position};
 ghost use Rattle.named_lists.specs.NamedLists.{list_at, entries_at, with_last, in_named};
 
-use crate::by_name::HasName;
-use crate::places::Places;
 use crate::room::pushed;
 use base_kit::{List, NoMemory, Text};
+use numbered_names::{HasName, NamePlaces};
 use std::alloc::Global;
 use std::marker::Model;
 
@@ -28,20 +29,20 @@ impl<E: Drop> HasName for NamedList<E> {
 #[derive(Drop)]
 pub struct NamedLists<E: Drop> {
     lists: Vec<NamedList<E>>,
-    places: Places,
+    places: NamePlaces,
 }
 
 impl<E: Drop> Model for NamedLists<E> {
     ghost use Rattle.std.specs.Prelude.{List};
     ghost use Rattle.named_lists.specs.declared.named.NamedList.{NamedList};
-    ghost use Rattle.named_lists.specs.ByName.{HasPlaces};
+    ghost use Rattle.numbered_names.specs.NamePlaces.{ArePlacesOf};
     ghost use Rattle.named_lists.specs.NamedLists.{name_of};
 
     ghost Value = { List (NamedList E) };
 
     ghost view = { λ a. a.lists.items };
 
-    ghost invariant = { λ a. HasPlaces name_of a.places a.lists.items };
+    ghost invariant = { λ a. ArePlacesOf name_of a.places a.lists.items };
 }
 
 impl<E: Drop> NamedLists<E> {
@@ -51,7 +52,7 @@ impl<E: Drop> NamedLists<E> {
     {
         NamedLists {
             lists: Vec::new(alloc),
-            places: Places::new(alloc),
+            places: NamePlaces::new(alloc),
         }
     }
 
@@ -59,7 +60,7 @@ impl<E: Drop> NamedLists<E> {
     pub(crate) fn place_of(&self, name: &str) -> Option<usize>
         ensures { result ≡ position (λ l. bytes_eq l.name name.now) self.now }
     {
-        self.places.place_in(self.lists.as_slice(), name)
+        self.places.place_of(name)
     }
 
     /// The entries of the list at a place.
@@ -102,17 +103,30 @@ impl<E: Drop> NamedLists<E> {
         Ok(())
     }
 
-    /// Puts an entry last into the list of its name, which it may begin.
-    ///
-    /// # Errors
-    /// Out of memory: then lists and entries may be lost.
-    pub fn add(&mut self, alloc: Global, name: Text, entry: E) -> Result<(), NoMemory>
+    // Puts an entry last into the list of its name, which it may begin.
+    fn put(&mut self, alloc: Global, name: Text, entry: E) -> Result<(), NoMemory>
         ensures { OnOk result (self.new ≡ in_named name (λ entries. entries ++ entry ∷ []) self.old) }
     {
         match self.place_of(name.as_str()) {
             Some(place) => self.push_at(alloc, place, entry),
             None => self.begin(alloc, name, entry),
         }
+    }
+
+    /// Puts an entry last into the list of its name, which it may begin.
+    ///
+    /// # Errors
+    /// Out of memory: then no list is left.
+    pub fn add(&mut self, alloc: Global, name: Text, entry: E) -> Result<(), NoMemory>
+        ensures ok { OnOk result (self.new ≡ in_named name (λ entries. entries ++ entry ∷ []) self.old) }
+        ensures err { OnErr result (self.new ≡ []) }
+    {
+        if let Err(error) = self.put(alloc, name, entry) {
+            // The list of the name may have lost its entries: none is kept.
+            *self = NamedLists::new(alloc);
+            return Err(error);
+        }
+        Ok(())
     }
 
     /// The lists, in order.

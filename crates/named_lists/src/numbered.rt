@@ -1,10 +1,13 @@
-ghost use Rattle.std.specs.Prelude.{◌≡◌, ◌++◌, ◌∷◌, [], ℕ, IfOk, OnOk, map};
+//! Lists under names, whose entries have numbers.
+
+ghost use Rattle.std.specs.Prelude.{◌≡◌, ◌++◌, ◌∷◌, [], ℕ, IfOk, OnOk, OnErr, map};
 ghost use Rattle.named_lists.specs.NamedLists.{in_named};
 ghost use Rattle.named_lists.specs.NumberedLists.{IsHeld, by_number, in_order, put, has_entry};
 
 use crate::named::{NamedList, NamedLists};
 use crate::numbers::{has_number, hold};
 use base_kit::{List, NoMemory, Text};
+use cfg_ast::{MapEntry, PrefixEntry};
 use std::alloc::Global;
 use std::collections::BTreeSet;
 use std::marker::Model;
@@ -16,6 +19,25 @@ pub trait Numbered: Drop {
     /// The number.
     fn number(&self) -> u32
         ensures { result ≡ number self.now };
+}
+
+// The entries of cfg_ast that have numbers. The impls stand beside the trait, since cfg_parse, which
+// needs them, has neither the trait nor the types.
+
+impl Numbered for PrefixEntry {
+    ghost number = { λ e. e.seq };
+
+    fn number(&self) -> u32 {
+        self.seq
+    }
+}
+
+impl Numbered for MapEntry {
+    ghost number = { λ e. e.seq };
+
+    fn number(&self) -> u32 {
+        self.seq
+    }
 }
 
 /// Lists in the order in which their names came, the entries of each by their numbers. They are put in
@@ -111,7 +133,8 @@ impl<E: Numbered> NumberedLists<E> {
     /// # Errors
     /// Out of memory: then no list is left.
     pub fn add(&mut self, alloc: Global, name: Text, entry: E) -> Result<(), NoMemory>
-        ensures { OnOk result (self.new ≡ in_named name (put E.number entry) self.old) }
+        ensures ok { OnOk result (self.new ≡ in_named name (put E.number entry) self.old) }
+        ensures err { OnErr result (self.new ≡ []) }
     {
         if let Err(error) = put_last(alloc, &mut self.lists, &mut self.numbers, name, entry) {
             // The set may be ahead of the lists: none of them is kept.

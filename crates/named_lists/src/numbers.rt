@@ -1,3 +1,5 @@
+//! The numbers of entries that do not ascend.
+
 ghost use Rattle.std.specs.Prelude.{◌≡◌, true, not, OnOk};
 ghost use Rattle.named_lists.specs.NumberedLists.{ascends, are_below, has_number, HoldsAt, Adds, added};
 

@@ -1,3 +1,5 @@
+//! Lists that grow with little room to spare.
+
 ghost use Rattle.std.specs.Prelude.{◌≡◌, ◌++◌, ◌∷◌, [], IfOk};
 
 use base_kit::{List, NoMemory};

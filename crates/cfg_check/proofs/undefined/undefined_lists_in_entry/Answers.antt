@@ -1,9 +1,6 @@
-use Rattle.std.specs.Prelude.{Option}
-use Rattle.cfg_ast.specs.declared.network.Named.{Named}
 use Rattle.cfg_ast.specs.meaning.PolicyFaults.{line_naming, match_line_naming}
-use Rattle.cfg_check.specs.LeastLine.{least_line}
 use Rattle.cfg_check.specs.NameSets.{lacks_name}
-use Rattle.std.proofs.Common.{◌++◌, ap, ◌∙◌}
+use Rattle.std.proofs.Common.{◌++◌, ◌∙◌}
 use Rattle.cfg_check.proofs.Turns.{both_lines}
 use Rattle.cfg_check.proofs.undefined.undefined_lists_in_entry.Goals as goal
 
@@ -14,5 +11,4 @@ returns c =
     let entry = c.args.entry.now in
     let matched = match_line_naming prefixes entry.prefixes ++ match_line_naming comms entry.comms in
     let both = c.lesser_line.ensures ∙ both_lines (match_line_naming prefixes entry.prefixes) (match_line_naming comms entry.comms) _ _ c.match_line_lacking-by_prefixes.ensures c.match_line_lacking-by_comms.ensures in
-    let by_delete = c.line_lacking-by_delete.ensures ∙ ap (λ (o : Option Named). least_line (line_naming comms o)) c.as_option.ensures in
-    c.lesser_line-2.ensures ∙ both_lines matched (line_naming comms entry.delete) _ _ both by_delete
+    c.lesser_line-2.ensures ∙ both_lines matched (line_naming comms entry.delete) _ _ both c.line_lacking-by_delete.ensures

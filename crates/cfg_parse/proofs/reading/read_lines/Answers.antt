@@ -1,11 +1,16 @@
 use Rattle.std.proofs.Common.{◌≡◌, [], Ok, sym, ap, ◌∙◌, subst}
 use Rattle.std.proofs.lemmas.Result.{err_from_is_err_and}
 use Rattle.cfg_ast.specs.text.Answers.{RefusesAs}
-use Rattle.cfg_ast.specs.text.Stanzas.{◌>>=◌}
+use Rattle.cfg_ast.specs.text.Steps.{◌>>=◌}
 use Rattle.cfg_lex.specs.Places.{IsNext, IsFirst, lines_from}
 use Rattle.cfg_parse.specs.Rest.{answer_of, state_after}
 use Rattle.cfg_parse.proofs.Rest.{line_ok, line_gives, lines_end, refuses}
 use Rattle.cfg_parse.proofs.reading.read_lines.Goals as goal
+
+pub returns-in_err-line : goal.returns-in_err-line
+returns-in_err-line c =
+    let p = err_from_is_err_and c.from_residual.result c.from_residual.ensures.1 in
+    rw (p.1, p.2) tt
 
 pub returns-in_err-step : goal.returns-in_err-step
 returns-in_err-step c =

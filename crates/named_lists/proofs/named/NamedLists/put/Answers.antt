@@ -3,7 +3,7 @@ use Rattle.std.specs.Prelude.{bytes_eq}
 use Rattle.std.specs.List.{position}
 use Rattle.named_lists.specs.declared.named.NamedList.{NamedList}
 use Rattle.named_lists.proofs.Entries.{in_named_at, in_named_new}
-use Rattle.named_lists.proofs.named.NamedLists.add.Goals as goal
+use Rattle.named_lists.proofs.named.NamedLists.put.Goals as goal
 
 pub returns-in-Some : goal.returns-in-Some
 returns-in-Some g c =
