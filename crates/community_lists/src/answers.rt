@@ -1,3 +1,5 @@
+//! What a community list permits.
+
 ghost use Rattle.std.specs.Prelude.{◌≡◌, ◌∷◌, []};
 ghost use Rattle.std.specs.List.{list_all};
 ghost use Rattle.base_kit.specs.Sets.{has};

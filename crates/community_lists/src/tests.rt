@@ -1,3 +1,5 @@
+//! Lists that permit and deny, plainly and exactly.
+
 use crate::{permits, permits_alone, permits_exact};
 use base_kit::{List, NoMemory, NumSet, Text};
 use cfg_ast::{CommunityLine, CommunityList};

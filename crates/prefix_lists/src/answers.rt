@@ -1,3 +1,5 @@
+//! What a prefix list permits.
+
 ghost use Rattle.std.specs.Prelude.{◌≡◌, ◌≤◌};
 ghost use Rattle.cfg_ast.specs.meaning.PrefixLists.{leading_bits, length_fits, prefix_entry_holds, prefix_list_permits};
 

@@ -1,3 +1,5 @@
+//! Bounds of entries, at their ends.
+
 use crate::permits;
 use base_kit::{List, NoMemory, Prefix, Text};
 use cfg_ast::{PrefixEntry, PrefixList};

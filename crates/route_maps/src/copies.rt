@@ -1,3 +1,5 @@
+//! Copies of maps and lists.
+
 ghost use Rattle.std.specs.Prelude.{◌≡◌, IfOk};
 
 use crate::plain::{Plain, PlainEntry};
@@ -36,21 +38,13 @@ pub fn list_copy(alloc: Global, list: &CommunityList) -> Result<CommunityList, N
 }
 
 /// A copy of a change.
-pub fn change_copy(change: &Change) -> Result<Change, NoMemory>
+pub fn change_copy(change: &Option<Change>) -> Result<Option<Change>, NoMemory>
     ensures { IfOk result (λ copy. copy ≡ change.now) }
 {
     match change {
-        Change::Clear => Ok(Change::Clear),
-        Change::Replace(by) => Ok(Change::Replace(by.copy()?)),
-        Change::Append(more) => Ok(Change::Append(more.copy()?)),
-    }
-}
-
-fn some_change_copy(change: &Option<Change>) -> Result<Option<Change>, NoMemory>
-    ensures { IfOk result (λ copy. copy ≡ change.now) }
-{
-    match change {
-        Some(change) => Ok(Some(change_copy(change)?)),
+        Some(Change::Clear) => Ok(Some(Change::Clear)),
+        Some(Change::Replace(by)) => Ok(Some(Change::Replace(by.copy()?))),
+        Some(Change::Append(more)) => Ok(Some(Change::Append(more.copy()?))),
         None => Ok(None),
     }
 }
@@ -100,7 +94,7 @@ fn entry_copy(alloc: Global, entry: &PlainEntry) -> Result<PlainEntry, NoMemory>
         permit: entry.permit,
         lists: lists_copy(alloc, &entry.lists)?,
         lp: entry.lp,
-        change: some_change_copy(&entry.change)?,
+        change: change_copy(&entry.change)?,
         delete: deletion_copy(alloc, &entry.delete)?,
         adds: entry.adds,
         exact: entry.exact,

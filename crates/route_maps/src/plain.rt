@@ -1,3 +1,5 @@
+//! Route maps for one prefix, and what they say of a route.
+
 use base_kit::{List, NumSet};
 use cfg_ast::{Change, CommunityList};
 

@@ -1,3 +1,5 @@
+//! Maps that say the same.
+
 ghost use Rattle.std.specs.Prelude.{◌≡◌, nat_eq};
 ghost use Rattle.std.specs.Option.{option_eq};
 ghost use Rattle.cfg_ast.specs.meaning.Classes.{same_items};

@@ -1,3 +1,5 @@
+//! What a session imports.
+
 ghost use Rattle.std.specs.Prelude.{◌≡◌, IfOk};
 ghost use Rattle.route_maps.specs.Maps.{accepted, verdict, import_of};
 

@@ -1,3 +1,5 @@
+//! Maps over sets of communities.
+
 use crate::{Plain, PlainEntry, Verdict, apply, import, map_copy, same_map};
 use base_kit::{List, NoMemory, NumSet, Text};
 use cfg_ast::{Change, CommunityLine, CommunityList};

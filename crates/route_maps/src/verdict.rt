@@ -1,3 +1,5 @@
+//! The verdict of a map on a set of communities.
+
 ghost use Rattle.std.specs.Prelude.{◌≡◌, ◌∷◌, [], IfOk, if◌then◌else◌, not, filter};
 ghost use Rattle.std.specs.List.{list_any};
 ghost use Rattle.base_kit.specs.Sets.{with_numbers};

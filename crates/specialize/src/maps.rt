@@ -1,3 +1,5 @@
+//! A route map for one prefix.
+
 ghost use Rattle.std.specs.Prelude.{◌≡◌, ℕ, [], ◌∷◌, IfOk, option_copied, min, filter_map, if◌then◌else◌};
 ghost use Rattle.std.specs.List.{list_any};
 ghost use Rattle.std.specs.Option.{option_or};
@@ -9,8 +11,8 @@ ghost use Rattle.specialize.specs.Places.{ArePlacesOf};
 ghost use Rattle.specialize.specs.Printable.{HasPrintableMaps};
 
 use crate::places::{Places, find_community_list, find_prefix_list, places_of, route_map_at};
-use base_kit::{Aside, List, NoMemory, Prefix, Text};
-use cfg_ast::{Change, CommunityList, MapEntry, NameLine, Named, Prepend, Router};
+use base_kit::{List, NoMemory, Prefix, Text};
+use cfg_ast::{CommunityList, MapEntry, NameLine, Named, Prepend, Router};
 use prefix_lists::permits;
 use route_maps::{Plain, PlainEntry, change_copy, list_copy};
 use std::alloc::Global;
@@ -34,11 +36,11 @@ fn any_list_permits(router: &Router, places: &Places, p: Prefix, names: &[Text])
         .any(|name| list_permits(router, places, p, name))
 }
 
-fn prefixes_match(router: &Router, places: &Places, p: Prefix, prefixes: &Aside<NameLine>) -> bool
+fn prefixes_match(router: &Router, places: &Places, p: Prefix, prefixes: &Option<NameLine>) -> bool
     requires { ArePlacesOf router.now places.now }
     ensures { result ≡ prefixes_match router.now p prefixes.now }
 {
-    match prefixes.as_option() {
+    match prefixes {
         Some(line) => any_list_permits(router, places, p, line.names.as_slice()),
         None => true,
     }
@@ -77,12 +79,12 @@ fn lists_named(
     alloc: Global,
     router: &Router,
     places: &Places,
-    comms: &Aside<NameLine>,
+    comms: &Option<NameLine>,
 ) -> Result<Option<List<CommunityList>>, NoMemory>
     requires { ArePlacesOf router.now places.now }
     ensures { IfOk result (λ lists. lists ≡ lists_named router.now comms.now) }
 {
-    match comms.as_option() {
+    match comms {
         Some(line) => Ok(Some(copies_named(alloc, router, places, line.names.as_slice())?)),
         None => Ok(None),
     }
@@ -92,12 +94,12 @@ fn deletion_list(
     alloc: Global,
     router: &Router,
     places: &Places,
-    delete: &Aside<Named>,
+    delete: &Option<Named>,
 ) -> Result<Option<CommunityList>, NoMemory>
     requires { ArePlacesOf router.now places.now }
     ensures { IfOk result (λ list. list ≡ deletion_list router.now delete.now) }
 {
-    match delete.as_option() {
+    match delete {
         Some(named) => match find_community_list(router, places, &named.name) {
             Some(list) => Ok(Some(list_copy(alloc, list)?)),
             None => Ok(None),
@@ -106,19 +108,10 @@ fn deletion_list(
     }
 }
 
-fn some_change_copy(change: &Aside<Change>) -> Result<Option<Change>, NoMemory>
-    ensures { IfOk result (λ copy. copy ≡ change.now) }
-{
-    match change.as_option() {
-        Some(change) => Ok(Some(change_copy(change)?)),
-        None => Ok(None),
-    }
-}
-
-fn count_of(prepend: &Aside<Prepend>) -> u8
+fn count_of(prepend: &Option<Prepend>) -> u8
     ensures { result ≡ min (prepend_count prepend.now) 255 }
 {
-    match prepend.as_option() {
+    match prepend {
         Some(line) => line.numbers.len().min(255) as u8,
         None => 0,
     }
@@ -149,7 +142,7 @@ fn plain_entry(
         permit: entry.permit,
         lists: lists_named(alloc, router, places, &entry.comms)?,
         lp: preference(entry, own),
-        change: some_change_copy(&entry.change)?,
+        change: change_copy(&entry.change)?,
         delete: deletion_list(alloc, router, places, &entry.delete)?,
         adds: count_of(&entry.prepend),
         exact: entry.exact,

@@ -1,3 +1,5 @@
+//! A router's lists and maps, found by their names.
+
 ghost use Rattle.std.specs.Prelude.{◌≡◌, IfOk, List, ℕ, option_copied};
 ghost use Rattle.cfg_ast.specs.meaning.Policy.{prefix_list_named, community_list_named, route_map_named};
 ghost use Rattle.specialize.specs.Places.{item_at, FindFirst, ArePlacesOf};

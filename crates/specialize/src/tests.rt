@@ -1,5 +1,7 @@
+//! Maps for one prefix, entry by entry.
+
 use crate::{places_of, policy, policy_at, route_map_at};
-use base_kit::{Aside, List, NoMemory, NumSet, Prefix, Text};
+use base_kit::{List, NoMemory, NumSet, Prefix, Text};
 use cfg_ast::{BgpProcess, CommunityLine, CommunityList, MapEntry, NameLine, RouteMap, Router};
 use std::alloc::Global;
 
@@ -25,19 +27,19 @@ fn list_l(alloc: Global) -> Result<CommunityList, NoMemory> {
     })
 }
 
-fn entry_of(seq: u32, permit: bool, comms: Aside<NameLine>) -> MapEntry {
+fn entry_of(seq: u32, permit: bool, comms: Option<NameLine>) -> MapEntry {
     MapEntry {
         seq,
         permit,
         line: 12,
-        prefixes: Aside::none(),
+        prefixes: None,
         comms,
         exact: false,
         lp: None,
-        change: Aside::none(),
+        change: None,
         change_line: 0,
-        delete: Aside::none(),
-        prepend: Aside::none(),
+        delete: None,
+        prepend: None,
     }
 }
 
@@ -46,9 +48,9 @@ fn map_x(alloc: Global) -> Result<RouteMap, NoMemory> {
     let mut names = List::new(alloc);
     names.push(text_of(alloc, "L")?)?;
     let mut entries = List::new(alloc);
-    let comms = Aside::some(alloc, NameLine { names, line: 13 })?;
+    let comms = Some(NameLine { names, line: 13 });
     entries.push(entry_of(10, false, comms))?;
-    entries.push(entry_of(20, true, Aside::none()))?;
+    entries.push(entry_of(20, true, None))?;
     Ok(RouteMap {
         name: text_of(alloc, "X")?,
         entries,
@@ -58,7 +60,7 @@ fn map_x(alloc: Global) -> Result<RouteMap, NoMemory> {
 // `route-map NAME permit SEQ`
 fn map_of_one(alloc: Global, name: &str, seq: u32) -> Result<RouteMap, NoMemory> {
     let mut entries = List::new(alloc);
-    entries.push(entry_of(seq, true, Aside::none()))?;
+    entries.push(entry_of(seq, true, None))?;
     Ok(RouteMap {
         name: text_of(alloc, name)?,
         entries,
@@ -78,17 +80,14 @@ fn router_with(alloc: Global, route_maps: List<RouteMap>) -> Result<Router, NoMe
         name: text_of(alloc, "b")?,
         line: 1,
         interfaces: List::new(alloc),
-        bgp: Aside::some(
-            alloc,
-            BgpProcess {
-                number: 65002,
-                line: 6,
-                base: None,
-                networks: List::new(alloc),
-                neighbors: List::new(alloc),
-            },
-        )?,
-        ospf: Aside::none(),
+        bgp: Some(BgpProcess {
+            number: 65002,
+            line: 6,
+            base: None,
+            networks: List::new(alloc),
+            neighbors: List::new(alloc),
+        }),
+        ospf: None,
         prefix_lists: List::new(alloc),
         community_lists,
         route_maps,
