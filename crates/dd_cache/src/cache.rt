@@ -1,3 +1,5 @@
+//! The memory of operations, which forgets the oldest.
+
 ghost use Rattle.std.specs.Prelude.{◌≡◌, ◌≤◌, [], IfOk, OnOk, OnErr, IsSome, IsOk};
 ghost use Rattle.dd_cache.specs.Memory.{Memory, memory, found, recalled, kept, IsBounded};
 

@@ -1,3 +1,5 @@
+//! The memory keeps the last operations.
+
 use crate::{Cache, OpKey};
 use std::test::Fail;
 

@@ -1,3 +1,5 @@
+//! A node from a variable and two sons.
+
 ghost use Rattle.std.specs.Prelude.{◌≡◌, ◌<◌, ◌≤◌, length, IfOk, ℕ};
 ghost use Rattle.dd_core.specs.Store.{IsStore, IsAbove, Extends, IsChoiceBetween, IsNotBefore, IsFirst, AreSons, IsWithin};
 

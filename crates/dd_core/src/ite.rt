@@ -1,3 +1,5 @@
+//! The operation if-then-else on diagrams (Bryant, 1986).
+
 ghost use Rattle.std.specs.Prelude.{◌≡◌, ◌<◌, Ok, Some, length, IfOk, ℕ};
 ghost use Rattle.dd_cache.specs.Memory.{memory, found, recalled};
 ghost use Rattle.dd_core.specs.Remembering.{IsMemory};

@@ -1,10 +1,12 @@
+//! The number of a node.
+
 ghost use Rattle.std.specs.Prelude.{◌≡◌, ℕ};
 
 use std::marker::Model;
 
 /// The number of a node in its store. A contract sees it as the number.
 #[derive(Clone, Copy, Debug, PartialEq, Eq, PartialOrd, Ord, Hash)]
-pub struct NodeId(usize);
+pub struct NodeId(pub usize);
 
 impl Model for NodeId {
     ghost Value = { ℕ };

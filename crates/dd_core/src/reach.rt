@@ -1,3 +1,5 @@
+//! The nodes below a node, and what they ask for.
+
 ghost use Rattle.std.specs.Prelude.{◌≡◌, ◌<◌, ◌≤◌, Bool, false, Some, length, slice_get, IfOk, ℕ};
 ghost use Rattle.std.specs.List.{slice_index_or};
 ghost use Rattle.dd_core.specs.declared.table.Node.TheVariants.{Constant, Choice};

@@ -1,3 +1,5 @@
+//! A diagram with some communities fixed.
+
 ghost use Rattle.std.specs.Prelude.{◌≡◌, ◌<◌, length, IfOk, true, ℕ};
 ghost use Rattle.dd_core.specs.Store.{IsStore, Extends, IsWithin};
 ghost use Rattle.dd_core.specs.Restrict.{fixed, IsRestricted, AreSonsRestricted};

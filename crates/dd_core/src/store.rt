@@ -1,3 +1,5 @@
+//! The store of diagrams.
+
 ghost use Rattle.std.specs.Prelude.{◌≡◌, ◌≤◌, ◌<◌, length, IfOk, IfSome, MatchOption, Ok, Some, ℕ, Bool, true, false, not, ◌&&◌, ◌||◌, List, nat_eq, slice_index};
 ghost use Rattle.base_kit.specs.Sets.{has, IsAscending};
 ghost use Rattle.dd_core.specs.Reach.{IsSupport, IsFirstOf, DependsOnNone, DependsOnOthers, IsSize};

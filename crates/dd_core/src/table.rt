@@ -1,3 +1,5 @@
+//! The nodes of a store, each once.
+
 ghost use Rattle.std.specs.Prelude.{◌≡◌, ◌<◌, ◌++◌, ◌∷◌, [], Some, length, slice_get, IfOk, OnErr, ◌⊎◌};
 
 use indexmap::IndexMap;

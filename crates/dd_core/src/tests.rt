@@ -1,3 +1,5 @@
+//! Diagrams over two communities, value by value.
+
 ghost use Rattle.std.specs.Prelude.{◌≤◌, ◌<◌, length, IfSome};
 
 use crate::{NodeId, Store};

@@ -1,3 +1,5 @@
+//! The variables of a diagram, and the communities that they stand for.
+
 ghost use Rattle.std.specs.Prelude.{◌≡◌, ◌<◌, ◌≤◌, length, slice_index, true, MatchOption};
 ghost use Rattle.base_kit.specs.Sets.{has};
 ghost use Rattle.dd_core.specs.Restrict.{fixed, StandsAs};

@@ -1,3 +1,5 @@
+//! What is carried behind a map.
+
 ghost use Rattle.std.specs.Prelude.{◌≡◌, IfOk, true};
 ghost use Rattle.base_kit.specs.Sets.{has};
 ghost use Rattle.route_maps.specs.Within.{AreWithin};

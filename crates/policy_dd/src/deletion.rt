@@ -1,3 +1,5 @@
+//! What an entry deletes and leaves.
+
 ghost use Rattle.std.specs.Prelude.{◌≡◌, ℕ, IfOk, nat_eq, if◌then◌else◌};
 ghost use Rattle.base_kit.specs.Sets.{has};
 ghost use Rattle.policy_dd.specs.Deletion.{AnswersAlone, IsWithLine, IsLeftBy, keeps_rest};

@@ -1,3 +1,5 @@
+//! The function of a session, and when two sessions import alike.
+
 ghost use Rattle.std.specs.Prelude.{◌≡◌, ℕ, List as Items, Option, true, false};
 ghost use Rattle.route_maps.specs.declared.plain.Imported.{Imported};
 ghost use Rattle.policy_dd.specs.Edge.{IsEdgeFn};

@@ -1,3 +1,5 @@
+//! Two parts of a map, of which the first decides where it can.
+
 ghost use Rattle.std.specs.Prelude.{◌≡◌, ◌<◌, length, IfOk, ◌&&◌, not, false};
 ghost use Rattle.base_kit.specs.Sets.{IsAscending};
 ghost use Rattle.dd_core.specs.Sets.{value_of, Grows};

@@ -1,3 +1,5 @@
+//! Lists that are matched exactly.
+
 ghost use Rattle.std.specs.Prelude.{◌≡◌, ◌<◌, length, map, IfOk, not, ◌&&◌, true};
 ghost use Rattle.std.specs.List.{filter};
 ghost use Rattle.base_kit.specs.Sets.{has};

@@ -1,3 +1,5 @@
+//! The function of two maps, one behind the other.
+
 ghost use Rattle.std.specs.Prelude.{◌≡◌, ◌<◌, ◌≤◌, ◌&&◌, ℕ, length, IfOk, true, false};
 ghost use Rattle.base_kit.specs.Sets.{has, IsAscending};
 ghost use Rattle.dd_core.specs.Sets.{value_of, Grows};

@@ -1,3 +1,5 @@
+//! Where a list permits what is carried.
+
 ghost use Rattle.std.specs.Prelude.{◌≡◌, ◌<◌, ◌∷◌, [], length, IfOk, IfSome, ◌&&◌, not, true};
 ghost use Rattle.std.specs.List.{list_all, list_any, AllByRecursion};
 ghost use Rattle.base_kit.specs.Sets.{has};

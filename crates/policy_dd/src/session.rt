@@ -1,3 +1,5 @@
+//! What the maps of both ends do to a route.
+
 ghost use Rattle.std.specs.Prelude.{◌≡◌, ◌<◌, length, IfOk, true};
 ghost use Rattle.std.specs.List.{AllByRecursion};
 ghost use Rattle.base_kit.specs.Sets.{has, IsAscending};

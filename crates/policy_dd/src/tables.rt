@@ -1,3 +1,5 @@
+//! Nodes under keys.
+
 ghost use Rattle.std.specs.Prelude.{◌≡◌, ◌≢◌, ◌<◌, ℕ, length, IfOk, ◌&&◌, ◌||◌, true, false};
 ghost use Rattle.base_kit.specs.Sets.{has};
 ghost use Rattle.dd_core.specs.Sets.{value_of, Grows};

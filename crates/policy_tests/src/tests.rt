@@ -1,3 +1,5 @@
+//! Sessions that import alike, and sessions that do not.
+
 ghost use Rattle.std.specs.Prelude.{◌<◌, length, IfSome};
 
 use crate::within::is_within;
