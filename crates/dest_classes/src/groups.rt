@@ -1,3 +1,5 @@
+//! Prefixes put together by originators and kind.
+
 ghost use Rattle.std.specs.Prelude.{◌≡◌, [], ◌∷◌, ◌++◌, IfOk, OnOk, map, unwrap_or};
 ghost use Rattle.indexmap.specs.IndexMap.{insert_entry, get};
 ghost use Rattle.dest_classes.specs.Groups.{same_signature, shown_group, with_members, class_from};

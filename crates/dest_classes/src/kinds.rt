@@ -1,3 +1,5 @@
+//! Prefixes told apart by what prefix lists answer.
+
 ghost use Rattle.std.specs.Prelude.{◌≡◌, ◌≤◌, [], IfOk, OnOk, map, length};
 ghost use Rattle.std.specs.BTreeMap.{IsOrdered};
 ghost use Rattle.dest_classes.specs.Lists.{lists_asked};

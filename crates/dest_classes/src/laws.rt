@@ -1,3 +1,5 @@
+//! Laws of destination classes.
+
 ghost use Rattle.cfg_ast.specs.meaning.Classes.{SameClassIsDecided, ClassOfEachMember, ClassAscends};
 
 /// Law: two prefixes are in one class exactly where they have the same originators with the same

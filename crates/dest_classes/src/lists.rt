@@ -1,3 +1,5 @@
+//! The prefix lists of a network that say different things.
+
 ghost use Rattle.std.specs.Prelude.{◌≡◌, IfOk, OnOk, map, flat_map};
 ghost use Rattle.cfg_ast.specs.meaning.Classes.{lists_on};
 ghost use Rattle.dest_classes.specs.Lists.{rule_of, rules_of, AreSaid, with_list, different, lists_asked};

@@ -1,3 +1,5 @@
+//! The destination classes of a network.
+
 ghost use Rattle.std.specs.Prelude.{◌≡◌, ◌<◌, ◌^◌, IfOk, length};
 ghost use Rattle.cfg_ast.specs.meaning.Classes.{classes_of};
 

@@ -1,3 +1,5 @@
+//! The routers that originate each prefix.
+
 ghost use Rattle.std.specs.Prelude.{◌≡◌, ◌<◌, ◌^◌, None, IfOk, OnOk, option_copied, filter_map, length};
 ghost use Rattle.std.specs.BTreeMap.{get};
 ghost use Rattle.std.specs.BTreeSet.{contains};
@@ -55,7 +57,7 @@ fn note(
 fn named_in_bgp(alloc: Global, router: &Router) -> Result<Option<BTreeSet<Prefix>>, NoMemory>
     ensures { IfOk result (AreNamed router.now.bgp) }
 {
-    match router.bgp.as_option() {
+    match &router.bgp {
         Some(process) => Ok(Some(named(alloc, process)?)),
         None => Ok(None),
     }

@@ -1,5 +1,7 @@
+//! Classes of two routers over one list.
+
 use crate::network_classes::classes_of;
-use base_kit::{Aside, List, NoMemory, Prefix, Text};
+use base_kit::{List, NoMemory, Prefix, Text};
 use cfg_ast::{
     Address, BgpProcess, Interface, NetLine, Network, Origin, PrefixEntry, PrefixList, Router,
 };
@@ -69,8 +71,8 @@ fn network_with(alloc: Global, list: PrefixList) -> Result<Network, NoMemory> {
         name: Text::copy_of(alloc, "a")?,
         line: 1,
         interfaces,
-        bgp: Aside::some(alloc, process(alloc)?)?,
-        ospf: Aside::none(),
+        bgp: Some(process(alloc)?),
+        ospf: None,
         prefix_lists,
         community_lists: List::new(alloc),
         route_maps: List::new(alloc),

@@ -8,7 +8,7 @@ use Rattle.base_kit.proofs.Elements.{In, in_contains}
 use Rattle.cfg_ast.specs.declared.network.Network.{Network}
 use Rattle.cfg_ast.specs.declared.network.Router.{Router}
 use Rattle.cfg_ast.specs.meaning.Topology.{place_on, places_on, places, interfaces_of, neighbors_of}
-use Rattle.cfg_given.specs.Laws.{PlacesAreInOrder}
+use Rattle.given_laws.specs.Laws.{PlacesAreInOrder}
 use Rattle.net_topology.specs.FewPlaces.{HasFewPlaces}
 
 places_counted : {X : Type 0} (items : Router → List X) (k : ℕ) (routers : List Router) → length (flat_map (places_on items) (enumerate_from k routers)) ≡ length (flat_map items routers)

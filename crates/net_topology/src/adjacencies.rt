@@ -1,3 +1,5 @@
+//! OSPF adjacencies.
+
 ghost use Rattle.std.specs.Prelude.{◌≡◌, ◌<◌, ◌^◌, ◌++◌, map, filter, filter_map, flat_map, length, IfOk, OnOk};
 ghost use Rattle.std.specs.List.{enumerate_from};
 ghost use Rattle.cfg_ast.specs.meaning.Topology.{place_on, adjacencies_of};

@@ -1,3 +1,5 @@
+//! The links of a network.
+
 ghost use Rattle.std.specs.Prelude.{◌≡◌, ◌++◌, IfOk, OnOk};
 ghost use Rattle.cfg_ast.specs.meaning.Topology.{links_of};
 

@@ -1,3 +1,5 @@
+//! Neighbour lines, found by the address that they name.
+
 ghost use Rattle.std.specs.Prelude.{◌≡◌, ◌++◌, map, filter, filter_map, IfOk, OnOk};
 ghost use Rattle.std.specs.List.{enumerate_from};
 ghost use Rattle.cfg_ast.specs.meaning.Topology.{place_on, neighbors_of};
@@ -34,7 +36,7 @@ pub(crate) struct Peers {
 pub(crate) fn peer_on(router: u32, item: u32, owner: &Router, neighbor: &Neighbor) -> Option<Peer>
     ensures { result ≡ peer_on router item owner.now neighbor.now }
 {
-    let process = owner.bgp.as_option()?;
+    let process = owner.bgp.as_ref()?;
     if neighbor.shut {
         return None;
     }
@@ -57,7 +59,7 @@ pub(crate) fn name_each_other(p: &Peer, q: &Peer) -> bool
 pub(crate) fn neighbors(owner: &Router) -> &[Neighbor]
     ensures { result.now ≡ neighbors_of owner.now }
 {
-    match owner.bgp.as_option() {
+    match &owner.bgp {
         Some(process) => process.neighbors.as_slice(),
         None => &[],
     }

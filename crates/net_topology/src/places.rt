@@ -1,8 +1,10 @@
+//! Places as numbers of 32 bits.
+
 ghost use Rattle.std.specs.Prelude.{◌≡◌, ◌<◌, ◌^◌};
 ghost use Rattle.net_topology.specs.FewPlaces.{HasFewPlaces};
 
 use cfg_check::Checked;
-use cfg_given::given_places_are_in_order;
+use given_laws::given_places_are_in_order;
 
 /// A place as a number of 32 bits.
 pub(crate) fn place(i: usize) -> u32

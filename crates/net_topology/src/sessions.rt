@@ -1,3 +1,5 @@
+//! BGP sessions.
+
 ghost use Rattle.std.specs.Prelude.{◌≡◌, ◌++◌, map, filter, flat_map, IfOk, OnOk};
 ghost use Rattle.cfg_ast.specs.meaning.Topology.{sessions_of};
 ghost use Rattle.cfg_check.specs.Faultless.{IsFaultless};

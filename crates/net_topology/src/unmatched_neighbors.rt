@@ -1,3 +1,5 @@
+//! Neighbours that are part of no session.
+
 ghost use Rattle.std.specs.Prelude.{◌≡◌, ◌++◌, map, filter_map, flat_map, IfOk, OnOk};
 ghost use Rattle.std.specs.List.{enumerate_from, list_any};
 ghost use Rattle.cfg_ast.specs.meaning.Topology.{place_on, places_on, neighbors_of, unmatched_of};

@@ -1,3 +1,5 @@
+//! Up interfaces, found by address and by subnet.
+
 ghost use Rattle.std.specs.Prelude.{◌≡◌, ◌<◌, ◌^◌, ◌++◌, length, IfOk, OnOk, nat_eq};
 ghost use Rattle.net_topology.specs.Ups.{up_at, up_on, ups_on, ups_of, addr_of, attachment_of, same_attachment, IsLookup};
 ghost use Rattle.net_topology.specs.Peers.{other_end};

@@ -10,3 +10,4 @@ pub mod StayingLemmas
 pub mod MoveLemmas
 pub mod TurnLemmas
 pub mod RefineLemmas
+pub mod SplittingLemmas

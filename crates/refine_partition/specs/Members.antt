@@ -1,5 +1,5 @@
 -- The members of all blocks.
-use Rattle.std.specs.Prelude.{◌≡◌, ℕ, ◌<◌, List, length, slice_index, slice_index_or, filter, ◌==◌, All, Contains, Vec}
+use Rattle.std.specs.Prelude.{◌≡◌, ℕ, ◌<◌, List, length, map, slice_index, slice_index_or, filter, ◌==◌, All, Contains, Vec}
 use Rattle.std.specs.List.{range_with_len}
 use Rattle.std.specs.declared.alloc.Global.{Global}
 use Rattle.base_kit.specs.Partition.{members_of}
@@ -21,3 +21,7 @@ pub record AreMembers (numbers : List ℕ) (block : ℕ) (routers : List ℕ) : 
   pub below : All (λ u. u < length numbers) routers
   pub only : All (λ u. slice_index numbers u ≡ block) routers
   pub all : (u : ℕ) → u < length numbers → slice_index numbers u ≡ block → Contains routers u
+
+-- the lists of blocks
+abbrev pub lists_of : List (Vec ℕ Global) → List (List ℕ)
+lists_of blocks = map (λ (block : Vec ℕ Global). block.items) blocks

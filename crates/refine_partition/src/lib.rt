@@ -7,8 +7,8 @@
 //! turns are small: the larger pieces take theirs last. `coarsest_over` is the same over a graph whose
 //! edges belong to another.
 //!
-//! `split_by` of a `Splitting` is the same step for callers that split by hand, and its contract pins the
-//! numbers and the order of the blocks after it. It costs as much as there are routers.
+//! `start` and `split_by` of a `Splitting` are the same steps for callers that split by hand, and their
+//! contracts pin the numbers and the order of the blocks. A split costs as much as there are routers and edges.
 #![tactic(auto)]
 
 mod arrivals;
@@ -30,7 +30,7 @@ mod turn;
 
 pub use graph_view::GraphView;
 pub use partition::{Partition, coarsest, coarsest_over};
-pub use splitting::Splitting;
+pub use splitting::{Splitting, start};
 
 #[cfg(test)]
 mod tests;

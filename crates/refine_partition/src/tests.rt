@@ -1,6 +1,8 @@
+//! Partitions of small graphs, and how many turns they take.
+
 ghost use Rattle.std.specs.Prelude.{◌≡◌, ◌<◌, All, IfOk, length};
 
-use crate::{Partition, Splitting, coarsest};
+use crate::{Partition, Splitting, coarsest, start};
 use base_kit::{ActGraph, Edge, List, NoMemory, Steps};
 use std::alloc::Global;
 use std::marker::Brand;
@@ -193,9 +195,9 @@ fn split_ring<L: Ledger>(alloc: Global, blank: Blank) -> Result<Splitting, Fail>
 {
     let graph = ring(alloc)?;
     let mut turns = Steps::<L>::new(blank);
-    let mut splitting = Splitting::start(alloc, &graph)?;
+    let mut splitting = start(alloc, &graph)?;
     if 0 < splitting.blocks() {
-        splitting.split_by(alloc, &graph, 0, &mut turns)?;
+        splitting.split_by(&graph, 0, &mut turns)?;
     }
     Ok(splitting)
 }
