@@ -67,7 +67,7 @@ in_by_link es k e h =
     in_flat_map (on_link es) (range_with_len 0 (link_bound es)) e.link k (in_range_0 (link_bound es) e.link (link_below es 0 e (get_in es k e h)))
     (in_filter (λ k. nat_eq (link_at es k) e.link) (range_with_len 0 (length es)) k (in_range_0 (length es) k (slice_get_within es k e h)) (eq-eqb _ _ at.link))
 
-by_link_in : (es : List Edge) (k : ℕ) → In (by_link es) k → k < length es
+pub by_link_in : (es : List Edge) (k : ℕ) → In (by_link es) k → k < length es
 unfolding by_link
 by_link_in es k h =
     let l = flat_map_in (on_link es) (range_with_len 0 (link_bound es)) k h in

@@ -11,8 +11,9 @@ use Rattle.by_key.specs.ByKey.{with_key, by_key}
 use Rattle.by_key.proofs.KeyedItems.{key_is}
 use Rattle.abstract_net.specs.declared.steps.Step.{Step}
 use Rattle.abstract_net.specs.Links.{by_link, acts_into, joined_sides, links_of_pair, group_links_from, quotient_links}
-use Rattle.abstract_net.specs.GroupSteps.{step_at, low_of, high_of, sorted_steps, edges_into, links_of_run, same_ends, links_of_steps}
-use Rattle.abstract_net.proofs.Places.{cell, steps_by_link, low_before_high, into_low, into_high}
+use Rattle.abstract_net.specs.GroupSteps.{step_at, low_of, high_of, first_kinds, none_met, sorted_steps, edges_into, links_of_run, same_ends, links_of_steps}
+use Rattle.abstract_net.proofs.FirstKinds.{first_kinds_in, cell_of_kinds, edges_of_kinds}
+use Rattle.abstract_net.proofs.Places.{cell, low_before_high, into_low, into_high}
 use Rattle.abstract_net.proofs.RunLinks.{links_one, links_parts}
 
 filter_flat : {X Y : Type 0} (p : Y → Bool) (f : X → List Y) (xs : List X) → filter p (flat_map f xs) ≡ flat_map (λ x. filter p (f x)) xs
@@ -52,8 +53,11 @@ from_later f g a (suc n) m low high before after = elim (cases_lt a m) [
     all_alike p q b (suc k) h = λ i. h b (omega arith) i ++ all_alike p q (b + 1) k (λ j from. h j (omega arith)) i
 
 module _ (es : List Edge) (groups : List ℕ) (count : ℕ) where
+  abbrev crossings : List Step
+  crossings = filter_map (step_at es groups) (by_link es)
+
   abbrev steps : List Step
-  steps = filter_map (step_at es groups) (by_link es)
+  steps = first_kinds none_met crossings
 
   abbrev row : ℕ → List Step
   row g = with_key low_of (by_key high_of count steps) g
@@ -73,16 +77,19 @@ module _ (es : List Edge) (groups : List ℕ) (count : ℕ) where
   in_cell g h x at =
       let l = key_is low_of (with_key high_of steps h) g x at in
       let u = key_is high_of steps h x l.0 in
-      record { low = l.1; high = u.1; ordered = low_before_high es groups (by_link es) x u.0 }
+      record { low = l.1; high = u.1; ordered = low_before_high es groups (by_link es) x (first_kinds_in none_met crossings x u.0) }
 
   run_of : (g h : ℕ) (xs : List Step) (ins outs : List ℕ) → edges_into true xs ≡ ins → edges_into false xs ≡ outs → ((x : Step) → In xs x → InCell g h x) → links_of_run xs ≡ joined_sides g h ins outs
   run_of g h [] ins outs a b all = λ i. joined_sides g h (a i) (b i)
   run_of g h (x ∷ xs) ins outs a b all = let c = all x (inl refl) in λ i. joined_sides (c.low i) (c.high i) (a i) (b i)
 
+  edges_of_cell : (b : Bool) (g h : ℕ) → edges_into b (cell es groups steps g h) ≡ edges_into b (cell es groups crossings g h)
+  edges_of_cell b g h = ap (edges_into b) (cell_of_kinds crossings g h) ∙ edges_of_kinds b (cell es groups crossings g h)
+
   cell_links : (g h : ℕ) → g < h → links_of_steps (cell es groups steps g h) ≡ links_of_pair es groups g h
   cell_links g h less =
       links_one (cell es groups steps g h) (λ x y i j. (let a = in_cell g h x i in let b = in_cell g h y j in same_from x y (a.low ∙ sym b.low) (a.high ∙ sym b.high)))
-      ∙ run_of g h (cell es groups steps g h) (acts_into es groups g h) (acts_into es groups h g) (into_low es groups g h less) (into_high es groups g h less) (in_cell g h)
+      ∙ run_of g h (cell es groups steps g h) (acts_into es groups g h) (acts_into es groups h g) (edges_of_cell true g h ∙ into_low es groups g h less) (edges_of_cell false g h ∙ into_high es groups g h less) (in_cell g h)
 
   no_cell : (g h : ℕ) → h ≤ g → links_of_steps (cell es groups steps g h) ≡ []
   unfolding links_of_steps
@@ -102,6 +109,5 @@ module _ (es : List Edge) (groups : List ℕ) (count : ℕ) where
   pub links_are : links_of_steps (sorted_steps es groups count) ≡ quotient_links es groups count
   unfolding sorted_steps quotient_links
   links_are =
-      ap (λ (xs : List Step). links_of_steps (by_key low_of count (by_key high_of count xs))) (steps_by_link es groups)
-      ∙ links_parts row 0 count (λ i j x y less a b. (let p = in_row i x a in let q = in_row j y b in low_differs x y (λ e. absurd (omega arith))))
+      links_parts row 0 count (λ i j x y less a b. (let p = in_row i x a in let q = in_row j y b in low_differs x y (λ e. absurd (omega arith))))
       ∙ all_rows 0 count (omega arith)

@@ -1,6 +1,8 @@
+mod ByLink
 pub mod Carried
 mod Cells
 pub mod Fewer
+mod FirstKinds
 mod Places
 mod RunEnds
 mod RunLinks

@@ -11,7 +11,7 @@ use Rattle.by_key.specs.ByKey.{with_key, by_key}
 use Rattle.abstract_net.specs.declared.steps.Step.{Step}
 use Rattle.abstract_net.specs.Carried.{act_at}
 use Rattle.abstract_net.specs.Links.{link_at, importer_at, exporter_at, link_bound, on_link, by_link, goes, first_acts, acts_into}
-use Rattle.abstract_net.specs.GroupSteps.{step_at, steps_of, low_of, high_of, link_of, first_new, goes_into, edges_into}
+use Rattle.abstract_net.specs.GroupSteps.{step_at, low_of, high_of, first_new, goes_into, edges_into}
 
 -- ---- lists
 
@@ -34,14 +34,6 @@ one_step p (Some y) b ys zs h e = ap (λ c. cond c (y ∷ filter p ys) (filter p
 pub filter_back : {X Y : Type 0} (at : X → Option Y) (p : Y → Bool) (q : X → Bool) → ((x : X) (y : Y) → at x ≡ Some y → p y ≡ q x) → (xs : List X) → filter p (filter_map at xs) ≡ filter_map at (filter q xs)
 filter_back at p q h [] = refl
 filter_back at p q h (x ∷ xs) = one_step p (at x) (q x) (filter_map at xs) (filter_map at (filter q xs)) (λ y e. h x y e) (filter_back at p q h xs) ∙ sym (kept_or_not at x (filter q xs) (q x))
-
-filter_map_flat : {X Y Z : Type 0} (at : X → Option Y) (f : Z → List X) (zs : List Z) → filter_map at (flat_map f zs) ≡ flat_map (λ z. filter_map at (f z)) zs
-filter_map_flat at f [] = refl
-filter_map_flat at f (z ∷ zs) = filter_map-append at (f z) (flat_map f zs) ∙ ap (λ ys. filter_map at (f z) ++ ys) (filter_map_flat at f zs)
-
-flat_alike : {X Y : Type 0} (f g : X → List Y) (xs : List X) → ((x : X) → f x ≡ g x) → flat_map f xs ≡ flat_map g xs
-flat_alike f g [] h = refl
-flat_alike f g (x ∷ xs) h = λ i. h x i ++ flat_alike f g xs h i
 
 both_tests : {X : Type 0} (p : X → Bool) (x : X) (b c : Bool) (ys zs : List X) → p x ≡ c → filter p ys ≡ zs → filter p (cond b (x ∷ ys) ys) ≡ cond (b && c) (x ∷ zs) zs
 both_tests p x true c ys zs h e = ap (λ d. cond d (x ∷ filter p ys) (filter p ys)) h ∙ ap (λ us. cond c (x ∷ us) us) e
@@ -81,14 +73,6 @@ module _ (es : List Edge) (groups : List ℕ) where
           link = sym (ap (λ (s : Step). s.link) same);
           edge = sym (ap (λ (s : Step). s.edge) same);
         }
-
-  -- steps by links are those of the edges by links
-  pub steps_by_link : by_key link_of (link_bound es) (steps_of es groups) ≡ filter_map (step_at es groups) (by_link es)
-  unfolding by_link
-  steps_by_link =
-      flat_alike (with_key link_of (steps_of es groups)) (λ l. filter_map (step_at es groups) (on_link es l)) (range_with_len 0 (link_bound es))
-      (λ l. filter_back (step_at es groups) (λ (x : Step). nat_eq x.link l) (λ k. nat_eq (link_at es k) l) (λ k x e. ap (λ n. nat_eq n l) (is_step k x e).link) (range_with_len 0 (length es)))
-      ∙ sym (filter_map_flat (step_at es groups) (on_link es) (range_with_len 0 (link_bound es)))
 
   pub low_before_high : (ks : List ℕ) (x : Step) → In (filter_map (step_at es groups) ks) x → x.low < x.high
   low_before_high ks x at =

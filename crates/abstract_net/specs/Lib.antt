@@ -1,3 +1,4 @@
 pub mod Carried
 pub mod Links
 pub mod GroupSteps
+pub mod Met

@@ -1,3 +1,5 @@
+//! The links between the groups of a partition.
+
 ghost use Rattle.std.specs.Prelude.{◌≡◌, ℕ, ◌<◌, ◌^◌, All, length, IfOk};
 ghost use Rattle.base_kit.specs.Partition.{IsNumbered};
 ghost use Rattle.abstract_net.specs.Links.{quotient_links};
@@ -5,11 +7,11 @@ ghost use Rattle.abstract_net.specs.Links.{quotient_links};
 use crate::qlink::Quotient;
 use crate::runs::links_of;
 use crate::steps::sorted_steps;
-use base_kit::{Edge, NoMemory};
+use base_kit::{ActGraph, Edge, NoMemory};
 use refine_partition::Partition;
 use std::alloc::Global;
 
-/// The links between the groups of a partition of routers, from the edges between these: fewer than
+/// The links between the groups of a partition of routers, from edges that another has: fewer than
 /// 2^32, with both ends among the routers.
 ///
 /// They go by their lower and then their higher group. Between two groups the first link has the first
@@ -18,7 +20,7 @@ use std::alloc::Global;
 ///
 /// # Errors
 /// Out of memory.
-pub fn quotient(alloc: Global, edges: &[Edge], p: &Partition) -> Result<Quotient, NoMemory>
+pub fn quotient_over(alloc: Global, edges: &[Edge], p: &Partition) -> Result<Quotient, NoMemory>
     requires few { length edges.now < 2 ^ 32 }
     requires importers { All (λ e. e.importer < length p.now) edges.now }
     requires exporters { All (λ e. e.exporter < length p.now) edges.now }
@@ -27,4 +29,16 @@ pub fn quotient(alloc: Global, edges: &[Edge], p: &Partition) -> Result<Quotient
     let steps = sorted_steps(alloc, edges, p)?;
     let links = links_of(alloc, &steps)?;
     Ok(Quotient { links })
+}
+
+/// The links between the groups of a partition of a graph's routers, as `quotient_over` gives them from
+/// the graph's edges.
+///
+/// # Errors
+/// Out of memory.
+pub fn quotient(alloc: Global, graph: &ActGraph, p: &Partition) -> Result<Quotient, NoMemory>
+    requires { length p.now ≡ graph.now.count }
+    ensures links { IfOk result (λ q. (count : ℕ) → IsNumbered p.now count → q.links ≡ quotient_links graph.now.edges p.now count) }
+{
+    quotient_over(alloc, graph.edges.as_slice(), p)
 }

@@ -1,3 +1,5 @@
+//! A link between two groups, and the list of such links.
+
 use base_kit::List;
 
 /// A link between two groups, `low` before `high`, and the edges that it stands for into each of them,

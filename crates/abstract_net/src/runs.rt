@@ -1,3 +1,5 @@
+//! Steps between the same two groups, put together as their links.
+
 ghost use Rattle.std.specs.Prelude.{◌≡◌, ℕ, ◌<◌, ◌≤◌, ◌++◌, ◌∷◌, List, true, false, IfOk, OnOk, length, slice_get, slice_index_or, nat_eq};
 ghost use Rattle.std.specs.HashSet as set;
 ghost use Rattle.abstract_net.specs.Links.{joined_sides};

@@ -1,13 +1,17 @@
-ghost use Rattle.std.specs.Prelude.{◌≡◌, ℕ, ◌<◌, ◌^◌, ◌++◌, [], All, IfOk, OnOk, length};
+//! Edges between groups, in the order in which their links stand.
+
+ghost use Rattle.std.specs.Prelude.{◌≡◌, ℕ, ◌<◌, ◌^◌, ◌++◌, List, All, IfOk, OnOk, length};
 ghost use Rattle.std.specs.List.{cons_option};
 ghost use Rattle.base_kit.specs.Partition.{IsNumbered};
 ghost use Rattle.by_key.specs.ByKey.{by_key};
-ghost use Rattle.abstract_net.specs.Links.{link_bound};
-ghost use Rattle.abstract_net.specs.GroupSteps.{step_of, steps_of, low_of, high_of, link_of, sorted_steps};
+ghost use Rattle.abstract_net.specs.GroupSteps.{step_of, low_of, high_of, first_kinds, first_steps, sorted_steps};
+ghost use Rattle.abstract_net.specs.Met.{is_met};
 
+use crate::by_link::places_by_link;
 use base_kit::{Edge, NoMemory};
 use refine_partition::Partition;
 use std::alloc::Global;
+use std::collections::HashSet;
 
 /// An edge between two groups, `low` before `high`: its place, its act and link, and whether it leads
 /// into the lower group.
@@ -41,33 +45,41 @@ fn step_of(p: &Partition, place: u32, edge: &Edge) -> Option<Step>
     })
 }
 
-fn push_some(steps: &mut Vec<Step>, step: Option<Step>) -> Result<(), NoMemory>
-    ensures { OnOk result (steps.new.items ≡ steps.old.items ++ cons_option step []) }
+// The groups of a step, the lower one first, and its direction and act.
+type Kind = ((u32, u32), (bool, u32));
+
+// Puts a step last, if none of its kind was met yet.
+fn push_first(
+    met: &mut HashSet<Kind>,
+    steps: &mut Vec<Step>,
+    step: Option<Step>,
+) -> Result<(), NoMemory>
+    ensures { OnOk result ((later : List Step) → steps.new.items ++ first_kinds (is_met met.new) later ≡ steps.old.items ++ first_kinds (is_met met.old) (cons_option step later)) }
 {
     if let Some(step) = step {
-        steps.push(step)?;
+        let is_new = met.insert(((step.low, step.high), (step.into_low, step.act)))?;
+        if is_new {
+            steps.push(step)?;
+        }
     }
     Ok(())
 }
 
-fn steps_of(alloc: Global, edges: &[Edge], p: &Partition) -> Result<Vec<Step>, NoMemory>
+// The first step of each kind, by links.
+fn first_steps(alloc: Global, edges: &[Edge], p: &Partition) -> Result<Vec<Step>, NoMemory>
     requires few { length edges.now < 2 ^ 32 }
     requires importers { All (λ e. e.importer < length p.now) edges.now }
     requires exporters { All (λ e. e.exporter < length p.now) edges.now }
-    ensures { IfOk result (λ steps. steps.items ≡ steps_of edges.now p.now) }
+    ensures { IfOk result (λ steps. steps.items ≡ first_steps edges.now p.now) }
 {
+    let places = places_by_link(alloc, edges)?;
+    let mut met: HashSet<Kind> = HashSet::new(alloc);
     let mut steps = Vec::new(alloc);
-    for (place, edge) in edges.iter().enumerate() {
-        push_some(&mut steps, step_of(p, place as u32, edge))?;
+    for place in &places {
+        let step = step_of(p, *place, &edges[*place as usize]);
+        push_first(&mut met, &mut steps, step)?;
     }
     Ok(steps)
-}
-
-fn sort_by_link(steps: &mut Vec<Step>) -> Result<(), NoMemory>
-    ensures { IfOk result (λ _. (n : ℕ) → All (λ (step : Step). step.link < n) steps.old.items → steps.new.items ≡ by_key link_of n steps.old.items) }
-{
-    steps.sort_by_key(|step| step.link)?;
-    Ok(())
 }
 
 fn sort_by_high(steps: &mut Vec<Step>) -> Result<(), NoMemory>
@@ -84,15 +96,15 @@ fn sort_by_low(steps: &mut Vec<Step>) -> Result<(), NoMemory>
     Ok(())
 }
 
-/// The edges between groups, by their lower group, then their higher group, then their links.
+/// The first edge of each act in each direction between two groups, by the lower group, then the higher
+/// group, then the link.
 pub fn sorted_steps(alloc: Global, edges: &[Edge], p: &Partition) -> Result<Vec<Step>, NoMemory>
     requires few { length edges.now < 2 ^ 32 }
     requires importers { All (λ e. e.importer < length p.now) edges.now }
     requires exporters { All (λ e. e.exporter < length p.now) edges.now }
     ensures { IfOk result (λ steps. (count : ℕ) → IsNumbered p.now count → steps.items ≡ sorted_steps edges.now p.now count) }
 {
-    let mut steps = steps_of(alloc, edges, p)?;
-    sort_by_link(&mut steps)?;
+    let mut steps = first_steps(alloc, edges, p)?;
     sort_by_high(&mut steps)?;
     sort_by_low(&mut steps)?;
     Ok(steps)

@@ -1,3 +1,5 @@
+//! Links between groups, and how many steps they take.
+
 ghost use Rattle.std.specs.Prelude.{◌≡◌, ◌<◌, IfOk, length};
 
 use crate::{QLink, quotient};
@@ -62,7 +64,7 @@ fn acts_make_links_in_the_order_of_their_links(rt: HostRuntime) -> Result<(), Fa
     let alloc = rt.alloc();
     let graph = hub(alloc)?;
     let groups = uncounted(alloc, &graph)?;
-    let links = quotient(alloc, graph.edges.as_slice(), &groups)?.links;
+    let links = quotient(alloc, &graph, &groups)?.links;
     let wanted = [
         QLink {
             low: 0,

@@ -1,3 +1,5 @@
+//! Acts of sessions, found by what they import.
+
 ghost use Rattle.std.specs.Prelude.{◌≡◌, [], ◌∷◌, ◌++◌, true, false, None, Some, IfOk, OnOk, IfSome, Contains, slice_get};
 ghost use Rattle.srp_build.specs.BgpActs.{nodes_of, AreApart, IsLike, AreUnlike, AreListed, IsActOfFunction, IsNumberFor};
 

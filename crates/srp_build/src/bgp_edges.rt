@@ -1,3 +1,5 @@
+//! The edges of a BGP problem.
+
 ghost use Rattle.std.specs.Prelude.{◌≡◌, [], IfOk, OnOk, List, length, map};
 ghost use Rattle.cfg_ast.specs.declared.network.Router.{Router};
 ghost use Rattle.dd_core.specs.Sets.{Grows};

@@ -1,3 +1,5 @@
+//! The problem of a class in BGP.
+
 ghost use Rattle.std.specs.Prelude.{◌≡◌, IfOk, Contains, slice_get};
 ghost use Rattle.cfg_ast.specs.meaning.Classes.{classes_of};
 ghost use Rattle.cfg_ast.specs.meaning.PolicyFaults.{communities_of};
@@ -14,8 +16,8 @@ use crate::session_hops::SessionHops;
 use base_kit::{NoMemory, Prefix, Protocol};
 use cfg_ast::DestClass;
 use cfg_check::Checked;
-use cfg_given::given_is_well_formed;
 use dd_core::Store;
+use given_laws::given_is_well_formed;
 use specialize::laws::{in_maps_add_nothing, maps_stay_within, session_imports};
 use srp_core::Srp;
 use std::alloc::Global;

@@ -1,3 +1,5 @@
+//! The edges of an OSPF problem, and the costs that number their acts.
+
 ghost use Rattle.std.specs.Prelude.{◌≡◌, ◌⊎◌, ◌<◌, ◌^◌, ◌++◌, ◌∷◌, [], Some, IfOk, OnOk, length, map, slice_get};
 ghost use Rattle.srp_core.specs.declared.route.Act.TheVariants as act;
 ghost use Rattle.srp_build.specs.Costs.{cost_at, HopAdded, NumbersHops};

@@ -1,3 +1,5 @@
+//! The directions of a network's links, which serve all classes.
+
 ghost use Rattle.std.specs.Prelude.{◌≡◌, IfOk};
 ghost use Rattle.cfg_ast.specs.meaning.RouterFaults.{protocol_of};
 ghost use Rattle.cfg_ast.specs.meaning.Topology.{links_of};
@@ -11,7 +13,7 @@ use crate::session_hops::{SessionHops, session_hops};
 use base_kit::{List, NoMemory, Protocol};
 use cfg_ast::Link;
 use cfg_check::Checked;
-use cfg_given::given_is_well_formed;
+use given_laws::given_is_well_formed;
 use net_topology::laws::few_links;
 use std::alloc::Global;
 

@@ -1,3 +1,5 @@
+//! Maps that say the same for every prefix.
+
 ghost use Rattle.std.specs.Prelude.{◌≡◌, true, is_none};
 ghost use Rattle.std.specs.List.{list_all};
 ghost use Rattle.cfg_ast.specs.declared.policy.MapEntry.{MapEntry};

@@ -1,3 +1,5 @@
+//! Directions of links.
+
 ghost use Rattle.std.specs.Prelude.{◌≡◌, ◌<◌, ◌^◌, ℕ, All, IfOk, length};
 ghost use Rattle.srp_build.specs.Hops.{into_low, into_high, hops_of};
 ghost use Rattle.by_key.specs.ByKey.{by_key};

@@ -1,3 +1,5 @@
+//! The maps of all kinds of lines for a prefix.
+
 ghost use Rattle.std.specs.Prelude.{◌≡◌, IfOk};
 ghost use Rattle.srp_build.specs.LineMaps.{AreMapsOfKinds, number_of, with_maps};
 ghost use Rattle.srp_build.specs.ListPlaces.{HavePlaces};

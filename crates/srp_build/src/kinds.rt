@@ -1,3 +1,5 @@
+//! Neighbour lines whose maps always say the same.
+
 ghost use Rattle.std.specs.Prelude.{◌≡◌, ◌<◌, [], Some, IfOk, OnOk, length, slice_get};
 ghost use Rattle.cfg_ast.specs.declared.network.Router.{Router};
 ghost use Rattle.specialize.specs.Places.{ArePlacesOf};

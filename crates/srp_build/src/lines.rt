@@ -1,3 +1,5 @@
+//! A neighbour's line in one direction, and what it names.
+
 ghost use Rattle.std.specs.Prelude.{◌≡◌, IfOk, option_copied};
 ghost use Rattle.cfg_ast.specs.meaning.Policy.{name_of};
 ghost use Rattle.cfg_ast.specs.meaning.Topology.{neighbors_of};
@@ -25,7 +27,7 @@ pub struct LinePlace {
 pub fn neighbors(router: &Router) -> &[Neighbor]
     ensures { result.now ≡ neighbors_of router.now }
 {
-    match router.bgp.as_option() {
+    match &router.bgp {
         Some(process) => process.neighbors.as_slice(),
         None => &[],
     }

@@ -1,3 +1,5 @@
+//! Routers on which several preferences can apply.
+
 ghost use Rattle.std.specs.Prelude.{◌≡◌, ◌<◌, true, false, All, IfOk, IfSome, length, map};
 ghost use Rattle.base_kit.specs.declared.act_graph.Edge.{Edge as AnEdge};
 ghost use Rattle.srp_build.specs.Lone.{Differ, Agree, IsNextMark, AreMarks, AreLone};

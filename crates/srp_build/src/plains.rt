@@ -1,3 +1,5 @@
+//! Plain maps by numbers.
+
 ghost use Rattle.std.specs.Prelude.{◌≡◌, [], true, IfOk, IfSome};
 ghost use Rattle.srp_build.specs.Plains.{IsNumberOf, IsGrownBy};
 

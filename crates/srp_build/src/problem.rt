@@ -1,3 +1,5 @@
+//! The problem of a class.
+
 ghost use Rattle.std.specs.Prelude.{◌≡◌, ◌<◌, ◌^◌, Some, IfOk, Contains, length};
 ghost use Rattle.base_kit.specs.Prefixes.{Prefix};
 ghost use Rattle.base_kit.specs.declared.protocol.Protocol.TheVariants as protocol;

@@ -1,3 +1,5 @@
+//! Names, AS numbers and initial routes of the routers.
+
 ghost use Rattle.std.specs.Prelude.{◌≡◌, ◌<◌, ◌^◌, IfOk, length, map};
 ghost use Rattle.std.specs.Option.{option_map};
 ghost use Rattle.cfg_ast.specs.declared.network.Router.{Router};
@@ -23,7 +25,7 @@ pub fn names_of(alloc: Global, routers: &[Router]) -> Result<List<Text>, NoMemor
 fn as_number_of(router: &Router) -> u32
     ensures { result ≡ as_number_of router.now }
 {
-    match router.bgp.as_option() {
+    match &router.bgp {
         Some(process) => process.number,
         None => 0,
     }

@@ -1,3 +1,5 @@
+//! Lines of a router that name the same map and list.
+
 ghost use Rattle.std.specs.Prelude.{◌≡◌, true, IfOk, IfSome};
 ghost use Rattle.cfg_ast.specs.meaning.Policy.{name_of};
 ghost use Rattle.srp_build.specs.Plains.{IsAsEarlier};

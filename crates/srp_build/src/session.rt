@@ -1,3 +1,5 @@
+//! A session by the numbers of its maps.
+
 ghost use Rattle.std.specs.Prelude.{◌≡◌};
 ghost use Rattle.srp_build.specs.Plains.{number_at, session_of};
 

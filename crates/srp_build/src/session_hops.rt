@@ -1,3 +1,5 @@
+//! The directions of sessions, with the kinds of their lines.
+
 ghost use Rattle.std.specs.Prelude.{IfOk};
 ghost use Rattle.srp_build.specs.Kinds.{AreSessionsOf};
 ghost use Rattle.srp_build.specs.Directions.{AreSessionHops};

@@ -1,3 +1,5 @@
+//! Sessions that were met, with their acts.
+
 ghost use Rattle.std.specs.Prelude.{◌≡◌, ◌<◌, [], ◌∷◌, ◌++◌, true, IfOk, OnOk, IfSome, Contains, length};
 ghost use Rattle.dd_core.specs.Sets.{Grows};
 ghost use Rattle.srp_build.specs.Sessions.{AreRight, IsActFor, IsMaybeNew, AreMapsWithin};

@@ -1,3 +1,5 @@
+//! The routes that a router may take.
+
 ghost use Rattle.std.specs.Prelude.{◌≡◌, ◌<◌, ◌++◌, ◌∷◌, [], suc, nat_lt, nat_le, All, IfOk, OnOk, Some, None, option_and_then, length};
 ghost use Rattle.base_kit.specs.declared.act_graph.Edge.{Edge};
 ghost use Rattle.srp_core.specs.Acts.{step_by, prepended};

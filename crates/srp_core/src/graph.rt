@@ -1,3 +1,5 @@
+//! The graph of a problem.
+
 ghost use Rattle.std.specs.Prelude.{◌≡◌, ◌<◌, ◌↔◌, ◌^◌, ℕ, List, All, length, IfOk};
 ghost use Rattle.base_kit.specs.Partition as partition;
 ghost use Rattle.base_kit.specs.declared.act_graph.ActGraph.{ActGraph};

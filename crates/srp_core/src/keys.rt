@@ -1,3 +1,5 @@
+//! Keys of routes, and the lone numbers in them.
+
 ghost use Rattle.std.specs.Prelude.{◌≡◌, ◌||◌, length, cond, Some};
 ghost use Rattle.std.specs.Ordering.{nat_cmp};
 ghost use Rattle.std.specs.Cmp.Lexicographic.{slice_cmp};

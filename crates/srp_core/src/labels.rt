@@ -1,3 +1,5 @@
+//! A route or none for each router.
+
 ghost use Rattle.std.specs.Prelude.{◌≡◌, ◌<◌, OnOk, OnErr, All, slice_set, ◌++◌, ◌∷◌, [], length};
 ghost use Rattle.srp_core.specs.Labels.{HasSet};
 

@@ -1,3 +1,5 @@
+//! Routes, acts and candidates.
+
 ghost use Rattle.std.specs.Prelude.{◌≡◌, IfOk};
 
 use base_kit::{List, NoMemory, NumSet};

@@ -1,3 +1,5 @@
+//! The stable routing problem of a destination.
+
 ghost use Rattle.std.specs.Prelude.{◌≡◌, All};
 ghost use Rattle.srp_core.specs.Acts.{KeepsSets};
 ghost use Rattle.srp_core.specs.Problem.{IsProblem, count};

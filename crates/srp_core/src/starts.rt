@@ -1,3 +1,5 @@
+//! What decides the color of a router.
+
 ghost use Rattle.std.specs.Prelude.{◌≡◌, ◌⊎◌, ◌++◌, ◌∷◌, [], length, Some, slice_get, IfOk};
 ghost use Rattle.srp_core.specs.Starts.{start_of};
 

@@ -1,3 +1,5 @@
+//! A copied route has its path.
+
 use crate::{Labels, Route};
 use base_kit::{List, NumSet};
 use std::test::Fail;

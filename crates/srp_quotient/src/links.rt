@@ -1,9 +1,11 @@
+//! The links between the groups of a problem.
+
 ghost use Rattle.std.specs.Prelude.{◌≡◌, ℕ, length, IfOk};
 ghost use Rattle.base_kit.specs.Partition.{IsNumbered};
 ghost use Rattle.abstract_net.specs.Links.{quotient_links};
 ghost use Rattle.srp_core.specs.Problem.{count};
 
-use abstract_net::{Quotient, quotient};
+use abstract_net::{Quotient, quotient_over};
 use base_kit::NoMemory;
 use refine_partition::Partition;
 use srp_core::Srp;
@@ -19,5 +21,5 @@ pub fn links_of_groups(alloc: Global, srp: &Srp, groups: &Partition) -> Result<Q
 {
     // The contract of `count` says that both ends of each edge are routers.
     let _count = srp.count();
-    quotient(alloc, srp.edges(), groups)
+    quotient_over(alloc, srp.edges(), groups)
 }

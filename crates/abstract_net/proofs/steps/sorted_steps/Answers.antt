@@ -6,5 +6,5 @@ pub returns : goal.returns
 returns c = λ count numbered.
     let groups : List ℕ = c.args.p.now in
     sorted_are c.args.edges.now groups count numbered c.requires.importers c.requires.exporters
-    _ _ _ _ c.in_ok-steps.ensures
-    c.in_ok-sort_by_link.ensures c.in_ok-sort_by_high.ensures c.in_ok-sort_by_low.ensures
+    _ _ _ c.in_ok-steps.ensures
+    c.in_ok-sort_by_high.ensures c.in_ok-sort_by_low.ensures

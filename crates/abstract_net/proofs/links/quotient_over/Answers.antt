@@ -1,7 +1,7 @@
 use Rattle.std.proofs.Common.{ap, ◌∙◌}
 use Rattle.abstract_net.specs.GroupSteps.{links_of_steps}
 use Rattle.abstract_net.proofs.Cells.{links_are}
-use Rattle.abstract_net.proofs.links.quotient.Goals as goal
+use Rattle.abstract_net.proofs.links.quotient_over.Goals as goal
 
 pub returns : goal.returns
 returns c = record {
