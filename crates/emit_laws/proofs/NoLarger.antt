@@ -9,9 +9,9 @@ use Rattle.cfg_ast.specs.printing.Bare.{bare_router, bare}
 use Rattle.config_emit.specs.Emitted.{emitted_router, emitted}
 use Rattle.config_emit.specs.Laws.{EmittedIsNoLarger}
 use Rattle.config_emit.specs.Plan.{Plan}
-use Rattle.emit_forms.specs.Laws.{GroupsAreNoMore, GroupsHaveNoMoreLinks}
+use Rattle.emit_form_laws.specs.Laws.{GroupsAreNoMore, GroupsHaveNoMoreLinks}
 use Rattle.emit_laws.specs.Laws.{EmittedHasPlannedLinks}
-use Rattle.emit_links.specs.Laws.{link_at}
+use Rattle.emit_link_laws.specs.Laws.{link_at}
 
 router_count : (e : Plan) → length (emitted e).routers ≡ e.count
 unfolding emitted

@@ -1,10 +1,10 @@
 -- What a network that is that of the groups but for the numbers of lines stands for.
-use Rattle.lines_aside.specs.Laws.{FaultsAside, ProblemAside, ProtocolAside}
+use Rattle.line_number_laws.specs.Laws.{FaultsAside, ProblemAside, ProtocolAside}
 use Rattle.config_emit.specs.Emitted.{emitted}
 use Rattle.config_emit.specs.Laws.{EmittedStandsForGroups}
 use Rattle.config_emit.specs.Plan.{small}
-use Rattle.emit_faults.specs.Laws.{EmittedIsFaultless}
-use Rattle.emit_problem.specs.Laws.{EmittedHasProblem}
+use Rattle.emit_fault_laws.specs.Laws.{EmittedIsFaultless}
+use Rattle.emit_problem_laws.specs.Laws.{EmittedHasProblem}
 
 pub stands : EmittedIsFaultless → EmittedHasProblem → FaultsAside → ProtocolAside → ProblemAside → EmittedStandsForGroups
 stands faultless has_problem faults protocol problem e plan n same =

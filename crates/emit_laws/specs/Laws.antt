@@ -7,7 +7,7 @@ use Rattle.cfg_ast.specs.printing.Bare.{bare}
 use Rattle.config_emit.specs.Emitted.{emitted}
 use Rattle.config_emit.specs.Laws.{IsPlan}
 use Rattle.config_emit.specs.Plan.{Plan}
-use Rattle.emit_links.specs.Laws.{link_at}
+use Rattle.emit_link_laws.specs.Laws.{link_at}
 
 -- They are those of the plan, in order.
 abbrev pub EmittedHasPlannedLinks : Type 0

@@ -6,17 +6,17 @@ ghost use Rattle.emit_laws.specs.Laws.{EmittedHasPlannedLinks};
 pub fn emitted_has_planned_links()
     ensures { EmittedHasPlannedLinks }
 {
-    emit_faults::laws::emitted_is_faultless();
-    emit_links::emitted_links();
-    lines_aside::laws::links_aside();
+    emit_fault_laws::laws::emitted_is_faultless();
+    emit_link_laws::emitted_links();
+    line_number_laws::laws::links_aside();
 }
 
 /// It has no more routers and no more links than the network read.
 pub fn emitted_is_no_larger()
     ensures { EmittedIsNoLarger }
 {
-    emit_forms::laws::no_more_groups();
-    emit_forms::laws::no_more_links();
+    emit_form_laws::laws::no_more_groups();
+    emit_form_laws::laws::no_more_links();
     emitted_has_planned_links();
 }
 
@@ -24,9 +24,9 @@ pub fn emitted_is_no_larger()
 pub fn emitted_stands_for_groups()
     ensures { EmittedStandsForGroups }
 {
-    emit_faults::laws::emitted_is_faultless();
-    emit_problem::laws::emitted_has_problem();
-    lines_aside::laws::faults_aside();
-    lines_aside::laws::protocol_aside();
-    lines_aside::laws::problem_aside();
+    emit_fault_laws::laws::emitted_is_faultless();
+    emit_problem_laws::laws::emitted_has_problem();
+    line_number_laws::laws::faults_aside();
+    line_number_laws::laws::protocol_aside();
+    line_number_laws::laws::problem_aside();
 }

@@ -2,7 +2,7 @@
 //!
 //! Each function here gets its promise from calls of laws, with no proof of its own. The laws of
 //! `srp_core` speak of routing problems: a caller reads a problem once, as by `count`, so that its rules
-//! are known. Those of `cfg_given` and `cfg_round_trip` speak of networks that a text gives.
+//! are known. Those of `given_laws` and `cfg_round_trip` speak of networks that a text gives.
 #![tactic(auto)]
 
 pub mod texts;

@@ -1,11 +1,13 @@
+//! Laws of texts, called.
+
 ghost use Rattle.cfg_ast.specs.text.Reading.{IsGiven};
-ghost use Rattle.cfg_given.specs.Laws.{PlacesAreInOrder};
+ghost use Rattle.given_laws.specs.Laws.{PlacesAreInOrder};
 ghost use Rattle.cfg_round_trip.specs.Laws.{HasFewLines, IsReadBack};
 ghost use Rattle.cfg_round_trip.specs.Notes.{AreNotes};
 
 use cfg_ast::{Network, Notes};
-use cfg_given::given_places_are_in_order;
 use cfg_round_trip::given_is_read_back;
+use given_laws::given_places_are_in_order;
 
 /// The interfaces and neighbours of a network that a text gives stand in the order of their lines.
 pub fn is_in_order(network: &Network)

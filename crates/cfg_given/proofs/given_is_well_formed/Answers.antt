@@ -1,5 +1,0 @@
-use Rattle.cfg_given.proofs.WellFormed.{given_is_well_formed}
-use Rattle.cfg_given.proofs.given_is_well_formed.Goals as goal
-
-pub returns : goal.returns
-returns c = given_is_well_formed

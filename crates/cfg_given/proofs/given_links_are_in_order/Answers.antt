@@ -1,5 +1,0 @@
-use Rattle.cfg_given.proofs.LinkOrder.{given_links_are_in_order}
-use Rattle.cfg_given.proofs.given_links_are_in_order.Goals as goal
-
-pub returns : goal.returns
-returns c = given_links_are_in_order

@@ -1,5 +1,0 @@
-use Rattle.emit_links.proofs.Links.{emitted_links}
-use Rattle.emit_links.proofs.emitted_links.Goals as goal
-
-pub returns : goal.returns
-returns c = emitted_links c.quotient_carries.ensures

@@ -1,5 +1,0 @@
-use Rattle.emit_origins.proofs.Origins.{originate}
-use Rattle.emit_origins.proofs.laws.groups_originate.Goals as goal
-
-pub returns : goal.returns
-returns c = originate c.few_links.ensures

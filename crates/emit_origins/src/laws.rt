@@ -1,9 +1,0 @@
-//! Laws of the initial routes of the network of the groups.
-ghost use Rattle.emit_origins.specs.Laws.{GroupsOriginate};
-
-/// The initial routes of the network of the groups are those of the problem of the groups.
-pub fn groups_originate()
-    ensures { GroupsOriginate }
-{
-    emit_forms::laws::few_links();
-}
