@@ -1,3 +1,5 @@
+//! The printed lines of interfaces.
+
 ghost use Rattle.std.specs.Prelude.{◌≡◌, ◌++◌, OnOk, string_bytes, flat_map};
 ghost use Rattle.cfg_ast.specs.printing.Printed.{line_text, lines_text, line_of_given, line_if, ip_address_line, cost_line, shutdown_line, interface_lines};
 

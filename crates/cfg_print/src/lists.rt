@@ -1,3 +1,5 @@
+//! The printed lines of prefix lists and community lists.
+
 ghost use Rattle.std.specs.Prelude.{◌≡◌, ◌++◌, ◌∷◌, [], OnOk, string_bytes, flat_map, map, is_some};
 ghost use Rattle.cfg_ast.specs.text.Words.{number_between, number_word};
 ghost use Rattle.cfg_ast.specs.printing.Printed.{line_text, lines_text, closing, community_text, bound_words, prefix_entry_line, prefix_list_lines, community_list_name, community_list_line, community_list_lines};

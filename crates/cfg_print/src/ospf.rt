@@ -1,3 +1,5 @@
+//! The printed lines of an OSPF process.
+
 ghost use Rattle.std.specs.Prelude.{◌≡◌, ◌++◌, ◌∷◌, [], codes, OnOk, string_bytes, map};
 ghost use Rattle.std.specs.Fmt.{decimal};
 ghost use Rattle.cfg_ast.specs.printing.Printed.{line, line_text, lines_text, line_if, passive_default_line, passive_line, not_passive_line, network_area_line, ospf_lines};

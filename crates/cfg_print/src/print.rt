@@ -1,3 +1,5 @@
+//! A network printed.
+
 ghost use Rattle.std.specs.Prelude.{◌≡◌};
 ghost use Rattle.cfg_ast.specs.printing.Printed.{printed};
 ghost use Rattle.cfg_print.specs.Prints.{count_newlines, is_too_long, Prints};

@@ -1,3 +1,5 @@
+//! Why a network is not printed.
+
 ghost use Rattle.std.specs.Prelude.{◌≡◌};
 ghost use Rattle.cfg_print.specs.declared.refusal.PrintRefusal.TheVariants as print_refusal;
 

@@ -1,3 +1,5 @@
+//! The printed lines of route maps.
+
 ghost use Rattle.std.specs.Prelude.{◌≡◌, ◌++◌, ◌∷◌, [], OnOk, string_bytes, flat_map, map, codes, if◌then◌else◌};
 ghost use Rattle.std.specs.Fmt.{decimal};
 ghost use Rattle.cfg_ast.specs.declared.policy.Change.TheVariants.{Clear, Replace, Append};
@@ -8,7 +10,7 @@ use crate::words::{
     put, put_act, put_closing, put_communities, put_name, put_names, put_number, put_numbers,
     put_word,
 };
-use base_kit::{Aside, List, NumSet};
+use base_kit::{List, NumSet};
 use cfg_ast::{Change, MapEntry, NameLine, Named, Prepend, RouteMap};
 use std::alloc::AllocError;
 
@@ -30,10 +32,10 @@ fn put_match_prefixes(text: &mut String, line: &NameLine) -> Result<(), AllocErr
     put(text, "\n")
 }
 
-fn put_some_prefixes(text: &mut String, line: &Aside<NameLine>) -> Result<(), AllocError>
+fn put_some_prefixes(text: &mut String, line: &Option<NameLine>) -> Result<(), AllocError>
     ensures { OnOk result (string_bytes text.new ≡ string_bytes text.old ++ lines_text (line_of_given match_prefixes_line line.now)) }
 {
-    match line.as_option() {
+    match line {
         Some(line) => put_match_prefixes(text, line),
         None => Ok(()),
     }
@@ -57,10 +59,10 @@ fn put_match_comms(text: &mut String, line: &NameLine, exact: bool) -> Result<()
     put(text, "\n")
 }
 
-fn put_some_comms(text: &mut String, line: &Aside<NameLine>, exact: bool) -> Result<(), AllocError>
+fn put_some_comms(text: &mut String, line: &Option<NameLine>, exact: bool) -> Result<(), AllocError>
     ensures { OnOk result (string_bytes text.new ≡ string_bytes text.old ++ lines_text (line_of_given (match_comms_line exact) line.now)) }
 {
-    match line.as_option() {
+    match line {
         Some(line) => put_match_comms(text, line, exact),
         None => Ok(()),
     }
@@ -115,10 +117,10 @@ fn put_change(text: &mut String, change: &Change) -> Result<(), AllocError>
     }
 }
 
-fn put_some_change(text: &mut String, change: &Aside<Change>) -> Result<(), AllocError>
+fn put_some_change(text: &mut String, change: &Option<Change>) -> Result<(), AllocError>
     ensures { OnOk result (string_bytes text.new ≡ string_bytes text.old ++ lines_text (line_of_given change_line change.now)) }
 {
-    match change.as_option() {
+    match change {
         Some(change) => put_change(text, change),
         None => Ok(()),
     }
@@ -132,10 +134,10 @@ fn put_delete(text: &mut String, list: &Named) -> Result<(), AllocError>
     put(text, " delete\n")
 }
 
-fn put_some_delete(text: &mut String, list: &Aside<Named>) -> Result<(), AllocError>
+fn put_some_delete(text: &mut String, list: &Option<Named>) -> Result<(), AllocError>
     ensures { OnOk result (string_bytes text.new ≡ string_bytes text.old ++ lines_text (line_of_given delete_line list.now)) }
 {
-    match list.as_option() {
+    match list {
         Some(list) => put_delete(text, list),
         None => Ok(()),
     }
@@ -149,10 +151,10 @@ fn put_prepend(text: &mut String, prepend: &Prepend) -> Result<(), AllocError>
     put(text, "\n")
 }
 
-fn put_some_prepend(text: &mut String, prepend: &Aside<Prepend>) -> Result<(), AllocError>
+fn put_some_prepend(text: &mut String, prepend: &Option<Prepend>) -> Result<(), AllocError>
     ensures { OnOk result (string_bytes text.new ≡ string_bytes text.old ++ lines_text (line_of_given prepend_line prepend.now)) }
 {
-    match prepend.as_option() {
+    match prepend {
         Some(prepend) => put_prepend(text, prepend),
         None => Ok(()),
     }

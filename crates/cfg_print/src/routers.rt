@@ -1,3 +1,5 @@
+//! The printed lines of routers, with their members.
+
 ghost use Rattle.std.specs.Prelude.{◌≡◌, ◌++◌, ◌∷◌, [], OnOk, string_bytes, flat_map, map, get_or, codes};
 ghost use Rattle.cfg_ast.specs.printing.Printed.{line, lines_text, member_line, router_lines, routers_lines, lines_of_some, bgp_lines, ospf_lines};
 ghost use Rattle.cfg_print.specs.Spaced.{router_front};
@@ -8,7 +10,7 @@ use crate::lists::{put_community_lists, put_prefix_lists};
 use crate::ospf::put_ospf;
 use crate::route_maps::put_route_maps;
 use crate::words::{put_closing, put_name};
-use base_kit::{Aside, List, Text};
+use base_kit::{List, Text};
 use cfg_ast::{BgpProcess, OspfProcess, Router};
 use std::alloc::AllocError;
 use std::fmt::Write;
@@ -24,19 +26,19 @@ fn put_members(text: &mut String, members: &[Text]) -> Result<(), AllocError>
     Ok(())
 }
 
-fn put_some_bgp(text: &mut String, process: &Aside<BgpProcess>) -> Result<(), AllocError>
+fn put_some_bgp(text: &mut String, process: &Option<BgpProcess>) -> Result<(), AllocError>
     ensures { OnOk result (string_bytes text.new ≡ string_bytes text.old ++ lines_text (lines_of_some bgp_lines process.now)) }
 {
-    match process.as_option() {
+    match process {
         Some(process) => put_bgp(text, process),
         None => Ok(()),
     }
 }
 
-fn put_some_ospf(text: &mut String, process: &Aside<OspfProcess>) -> Result<(), AllocError>
+fn put_some_ospf(text: &mut String, process: &Option<OspfProcess>) -> Result<(), AllocError>
     ensures { OnOk result (string_bytes text.new ≡ string_bytes text.old ++ lines_text (lines_of_some ospf_lines process.now)) }
 {
-    match process.as_option() {
+    match process {
         Some(process) => put_ospf(text, process),
         None => Ok(()),
     }

@@ -1,3 +1,5 @@
+//! Numbers, addresses, prefixes and communities as text.
+
 ghost use Rattle.std.specs.Prelude.{◌≡◌, ◌++◌, ◌∷◌, [], OnOk, string_bytes, map};
 ghost use Rattle.std.specs.Fmt.{decimal};
 ghost use Rattle.cfg_ast.specs.printing.Printed.{lines_text, closing, address_text, prefix_text, community_text, act_text};

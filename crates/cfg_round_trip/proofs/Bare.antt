@@ -11,8 +11,9 @@ use Rattle.cfg_ast.specs.declared.refusal.FormFault.{FormFault}
 use Rattle.cfg_ast.specs.declared.refusal.FormFault.TheVariants as form_fault
 use Rattle.cfg_ast.specs.declared.refusal.ReadRefusal.{ReadRefusal}
 use Rattle.cfg_ast.specs.declared.refusal.ReadRefusal.TheVariants as refusal
-use Rattle.cfg_ast.specs.text.FormSteps.{◌>>=◌, or_bad, bad_unless}
-use Rattle.cfg_ast.specs.text.Stanzas.{◌>>=◌ as ◌>>>◌, refusal_of, said_at, once}
+use Rattle.cfg_ast.specs.text.FormSteps.{or_bad, bad_unless}
+use Rattle.cfg_ast.specs.text.Steps.{◌>>=◌}
+use Rattle.cfg_ast.specs.text.Stanzas.{refusal_of, said_at, once}
 use Rattle.cfg_ast.specs.text.Reading.{Stanza, closed, ignored, in_interface, in_bgp, in_ospf, in_entry, Draft, State}
 use Rattle.cfg_ast.specs.printing.Bare.{bare_named, bare_address, bare_interface, bare_base, bare_net, bare_bgp, bare_area, bare_ospf, bare_prefix_entry, bare_prefix_list, bare_community_line, bare_community_list, bare_name_line, bare_prepend, bare_map_entry, bare_route_map, bare_router}
 
@@ -103,9 +104,9 @@ either_same h false q s r t first second = second
 
 -- ---- parts of steps
 
-pub then_same : {A B C D : Type 0} (k : A → D) (h : B → C) (q : Result D ReadRefusal) (r : Result A ReadRefusal) (f : D → Result C ReadRefusal) (g : A → Result B ReadRefusal) → q ≡ on_result k r → ((x : A) → f (k x) ≡ on_result h (g x)) → (q >>> f) ≡ on_result h (r >>> g)
-then_same k h q (Ok x) f g first same = ap (λ (p : Result _ ReadRefusal). p >>> f) first ∙ same x
-then_same k h q (Err fault) f g first same = ap (λ (p : Result _ ReadRefusal). p >>> f) first
+pub then_same : {A B C D : Type 0} (k : A → D) (h : B → C) (q : Result D ReadRefusal) (r : Result A ReadRefusal) (f : D → Result C ReadRefusal) (g : A → Result B ReadRefusal) → q ≡ on_result k r → ((x : A) → f (k x) ≡ on_result h (g x)) → (q >>= f) ≡ on_result h (r >>= g)
+then_same k h q (Ok x) f g first same = ap (λ (p : Result _ ReadRefusal). p >>= f) first ∙ same x
+then_same k h q (Err fault) f g first same = ap (λ (p : Result _ ReadRefusal). p >>= f) first
 
 bare_fault : {B C : Type 0} (h : B → C) (n : ℕ) (fault : FormFault) → ◌≡◌ {A = Result C ReadRefusal} (Err (refusal_of 0 fault)) (on_result h (Err (refusal_of n fault)))
 bare_fault h n form_fault.UnknownLine = refl
@@ -114,9 +115,9 @@ bare_fault h n form_fault.BadForm = refl
 bare_fault h n form_fault.WellKnown = refl
 bare_fault h n form_fault.Memory = refl
 
-pub said_same : {A B C D : Type 0} (k : A → D) (h : B → C) (n : ℕ) (q : Result D FormFault) (r : Result A FormFault) (f : D → Result C ReadRefusal) (g : A → Result B ReadRefusal) → q ≡ on_ok k r → ((x : A) → f (k x) ≡ on_result h (g x)) → (said_at 0 q >>> f) ≡ on_result h (said_at n r >>> g)
-said_same k h n q (Ok x) f g first same = ap (λ (p : Result _ FormFault). said_at 0 p >>> f) first ∙ same x
-said_same k h n q (Err fault) f g first same = ap (λ (p : Result _ FormFault). said_at 0 p >>> f) first ∙ bare_fault h n fault
+pub said_same : {A B C D : Type 0} (k : A → D) (h : B → C) (n : ℕ) (q : Result D FormFault) (r : Result A FormFault) (f : D → Result C ReadRefusal) (g : A → Result B ReadRefusal) → q ≡ on_ok k r → ((x : A) → f (k x) ≡ on_result h (g x)) → (said_at 0 q >>= f) ≡ on_result h (said_at n r >>= g)
+said_same k h n q (Ok x) f g first same = ap (λ (p : Result _ FormFault). said_at 0 p >>= f) first ∙ same x
+said_same k h n q (Err fault) f g first same = ap (λ (p : Result _ FormFault). said_at 0 p >>= f) first ∙ bare_fault h n fault
 
 pub once_same : {B C : Type 0} (h : B → C) (n : ℕ) (b c : Bool) (x : B) (y : C) → c ≡ b → y ≡ h x → once 0 c y ≡ on_result h (once n b x)
 once_same h n true c x y test same = ap (λ (d : Bool). once 0 d y) test

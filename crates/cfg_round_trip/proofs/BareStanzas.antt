@@ -14,7 +14,8 @@ use Rattle.cfg_ast.specs.declared.items.RouterItem.{RouterItem}
 use Rattle.cfg_ast.specs.declared.items.RouterItem.TheVariants as item
 use Rattle.cfg_ast.specs.declared.items.PolicyItem.{PolicyItem}
 use Rattle.cfg_ast.specs.declared.items.PolicyItem.TheVariants as policy
-use Rattle.cfg_ast.specs.text.Stanzas.{◌>>=◌, set_interface, has_network, has_neighbor, new_neighbor, set_neighbor, at_neighbor, with_peer, peer_of, set_process, set_bgp_for, set_bgp, same_area_line, with_area, set_ospf}
+use Rattle.cfg_ast.specs.text.Stanzas.{set_interface, has_network, has_neighbor, new_neighbor, set_neighbor, at_neighbor, with_peer, peer_of, set_process, set_bgp_for, set_bgp, same_area_line, with_area, set_ospf}
+use Rattle.cfg_ast.specs.text.Steps.{◌>>=◌}
 use Rattle.base_kit.specs.Prefixes.{same_prefix}
 use Rattle.cfg_ast.specs.text.PolicyLines.{set_entry}
 use Rattle.cfg_ast.specs.printing.Bare.{bare_interface, bare_net, bare_neighbor, bare_bgp, bare_area, bare_ospf, bare_map_entry}

@@ -17,7 +17,7 @@ use Rattle.cfg_ast.specs.declared.items.PolicyItem.{PolicyItem}
 use Rattle.cfg_ast.specs.declared.items.PolicyItem.TheVariants as policy
 use Rattle.cfg_ast.specs.text.TextLines.{TextLine}
 use Rattle.cfg_ast.specs.text.PolicyLines.{is_policy_line}
-use Rattle.cfg_ast.specs.text.Stanzas.{◌>>=◌}
+use Rattle.cfg_ast.specs.text.Steps.{◌>>=◌}
 use Rattle.cfg_ast.specs.text.Reading.{Stanza, closed, ignored, in_interface, in_bgp, in_ospf, in_entry, Draft, State, no_draft, closing_stanza, with_closed, has_interface, take_line, named_router, end_router, ends_router, take_top, take_policy, step_policy, step_router, take_inner, step_inner, step, steps}
 use Rattle.cfg_ast.specs.printing.Bare.{bare_line, bare_named, bare_interface, bare_bgp, bare_map_entry, bare_router}
 use Rattle.cfg_round_trip.proofs.Bare.{bare_item, bare_policy, bare_stanza, bare_draft, bare_state, on_result, then_same, said_same, once_same, is_some-map, any-map}

@@ -15,7 +15,7 @@ use Rattle.cfg_ast.specs.printing.WellFormed.{IsWellFormedRouter, IsWellFormed}
 use Rattle.std.specs.List.{AllByRecursion-prop}
 use Rattle.std.proofs.Props.{props}
 use Rattle.std.proofs.Math.Logic.{∥∥₁_elim}
-use Rattle.cfg_given.proofs.WellFormed.{given_is_well_formed}
+use Rattle.given_laws.proofs.WellFormed.{given_is_well_formed}
 use Rattle.cfg_round_trip.specs.Laws.{PrintedIsReadBack, GivenLinesAreShort, GivenIsReadBack}
 use Rattle.cfg_round_trip.proofs.Numbers.{numbers_are_aside}
 use Rattle.cfg_round_trip.proofs.PrintedLines.{is_read}

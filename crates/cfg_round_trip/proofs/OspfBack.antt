@@ -14,8 +14,8 @@ use Rattle.cfg_ast.specs.text.Reading.{in_ospf, take_inner}
 use Rattle.cfg_ast.specs.printing.Printed.{line_if, closing, passive_default_line, passive_line, not_passive_line, network_area_line}
 use Rattle.cfg_ast.specs.printing.Bare.{bare_area, bare_ospf}
 use Rattle.cfg_ast.specs.printing.WellFormed.{IsInterfaceName, IsWellFormedArea, IsWellFormedOspf}
-use Rattle.cfg_given.proofs.Each.{all_weaker}
-use Rattle.cfg_given.proofs.StanzaSteps.{bytes_other, area_swap}
+use Rattle.given_laws.proofs.Each.{all_weaker}
+use Rattle.given_laws.proofs.StanzaSteps.{bytes_other, area_swap}
 use Rattle.cfg_round_trip.proofs.ItemsBack.{passive_default_item, passive_item, not_passive_item, area_item}
 use Rattle.cfg_round_trip.proofs.ReadBack.{at_stanza, Inner, inner_none, inner_then, inner_line, inner_closing, AreNew, new_to_none, new_to_more, grown}
 

@@ -33,7 +33,7 @@ use Rattle.cfg_ast.specs.text.PolicyForms.{is_permit, all_differ, is_group, list
 use Rattle.cfg_ast.specs.printing.Printed.{act_text, prefix_text, community_text, bound_words, prefix_entry_line, community_list_line as printed_community_line, map_head_line, match_prefixes_line, match_comms_line, lp_line, change_line, delete_line, prepend_line}
 use Rattle.cfg_ast.specs.printing.Bare.{bare_named, bare_prefix_entry, bare_community_line, bare_name_line, bare_prepend}
 use Rattle.cfg_ast.specs.printing.WellFormed.{IsBetween, IsNumber, IsListName, IsCommunitySet, IsWellFormedNamed, AreBounds, IsWellFormedPrefixEntry, IsWellFormedNameLine, IsMarkRight, IsWellFormedChange, IsWellFormedPrepend}
-use Rattle.cfg_given.proofs.Each.{all_weaker}
+use Rattle.given_laws.proofs.Each.{all_weaker}
 use Rattle.cfg_round_trip.proofs.WordsBack.{IsDigit, decimal_digits, number_back, between_back, as_number_back, prefix_back, community_back}
 use Rattle.cfg_round_trip.proofs.HeadsBack.{IsPolicyHeadOf, prefix_list_head, standard_head, numbered_head, map_head, match_prefixes_head, match_comms_head, lp_head, comms_head, delete_head, prepend_head}
 use Rattle.cfg_round_trip.proofs.ItemsBack.{named_back}

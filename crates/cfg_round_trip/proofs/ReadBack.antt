@@ -13,7 +13,7 @@ use Rattle.cfg_ast.specs.text.TextLines.{TextLine}
 use Rattle.cfg_ast.specs.text.PolicyLines.{is_policy_line}
 use Rattle.cfg_ast.specs.text.RouterForms.{router_item_of}
 use Rattle.cfg_ast.specs.text.PolicyForms.{policy_item_of}
-use Rattle.cfg_ast.specs.text.Stanzas.{◌>>=◌}
+use Rattle.cfg_ast.specs.text.Steps.{◌>>=◌}
 use Rattle.cfg_ast.specs.text.Reading.{Stanza, Draft, State, with_closed, take_top, take_policy, step_router, step_policy, take_inner, step, steps}
 use Rattle.cfg_ast.specs.printing.Printed.{closing}
 use Rattle.cfg_round_trip.proofs.PrintedLines.{is_read}

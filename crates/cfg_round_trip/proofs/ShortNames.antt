@@ -22,7 +22,7 @@ use Rattle.cfg_ast.specs.text.PolicyForms.{has_mark, but_last, match_prefixes_fo
 use Rattle.cfg_ast.specs.text.FormSteps.{list_name_of, named_of}
 use Rattle.cfg_ast.specs.text.Words.{is_list_name, number_word, number_between, prefix_of}
 use Rattle.cfg_ast.specs.printing.Printed.{line_text, match_prefixes_line, match_comms_line}
-use Rattle.cfg_given.proofs.Given.{IsAny, given, after, fits, either, anything, any_result}
+use Rattle.given_laws.proofs.Given.{IsAny, given, after, fits, either, anything, any_result}
 use Rattle.cfg_round_trip.specs.ShortMaps.{IsShortLine, IsShortEntry}
 use Rattle.cfg_round_trip.proofs.ShortTexts.{joined}
 

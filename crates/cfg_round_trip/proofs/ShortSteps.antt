@@ -20,12 +20,13 @@ use Rattle.cfg_ast.specs.text.TextLines.{TextLine}
 use Rattle.cfg_ast.specs.text.Lines.{lines_of}
 use Rattle.cfg_ast.specs.text.RouterForms.{router_item_of}
 use Rattle.cfg_ast.specs.text.PolicyForms.{policy_item_of}
-use Rattle.cfg_ast.specs.text.Stanzas.{◌>>=◌, set_interface, set_bgp}
+use Rattle.cfg_ast.specs.text.Stanzas.{set_interface, set_bgp}
+use Rattle.cfg_ast.specs.text.Steps.{◌>>=◌}
 use Rattle.cfg_ast.specs.text.PolicyLines.{is_policy_line, is_route_map, put_map_entry, with_map_entry, has_prefix_entry, has_map_entry, set_entry}
 use Rattle.cfg_ast.specs.text.Reading.{Stanza, closed, ignored, in_interface, in_bgp, in_ospf, in_entry, Draft, State, at_start, closing_stanza, with_closed, has_interface, take_line, named_router, router_of, ends_router, take_top, take_policy, step_policy, step_router, take_inner, step, steps, ending, network_of_lines, texts_of, network_of_text, IsGiven}
-use Rattle.cfg_given.proofs.Given.{IsAny, any_result, either, then_step, then_said, stands_once}
-use Rattle.cfg_given.proofs.Each.{all_push}
-use Rattle.cfg_given.proofs.Lists.{put_all, changed_all}
+use Rattle.given_laws.proofs.Given.{IsAny, any_result, either, then_step, then_said, stands_once}
+use Rattle.given_laws.proofs.Each.{all_push}
+use Rattle.given_laws.proofs.Lists.{put_all, changed_all}
 use Rattle.cfg_round_trip.proofs.ShortTexts.{joined, IsShortText, lines_short}
 use Rattle.cfg_round_trip.specs.ShortMaps.{IsShortEntry, IsShortMap, HasShortMaps}
 use Rattle.cfg_round_trip.proofs.ShortNames.{IsShortItem, outside_item, inside_item}

@@ -13,7 +13,7 @@ use Rattle.cfg_ast.specs.text.Reading.{texts_of}
 use Rattle.cfg_ast.proofs.Places.{first_below, first_from, first_fails, first_passes}
 use Rattle.cfg_ast.proofs.WordRuns.{words_blank, words_word, words_end, word_past}
 use Rattle.cfg_ast.proofs.Within.{Lies, pieces_lie, lines_faultless}
-use Rattle.cfg_given.proofs.Each.{all_both, all_filter}
+use Rattle.given_laws.proofs.Each.{all_both, all_filter}
 
 abbrev pub joined : List (List ℕ) → ℕ
 joined words = length (join_with_byte 32 words)

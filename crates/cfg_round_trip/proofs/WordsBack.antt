@@ -14,7 +14,7 @@ use Rattle.base_kit.proofs.Words.{is_plain_digits, a_number}
 use Rattle.cfg_ast.specs.text.Words.{number_word, number_between, as_number_word, address_word, mask_of, len_of_mask, mask_len_of, bits_behind, cut_to, is_slash, prefix_of, is_colon, community_word}
 use Rattle.cfg_ast.specs.printing.Printed.{address_text, prefix_text, community_text}
 use Rattle.cfg_ast.specs.printing.WellFormed.{IsBetween, IsNumber, IsPrefix}
-use Rattle.cfg_given.proofs.Each.{all_weaker, all_pass}
+use Rattle.given_laws.proofs.Each.{all_weaker, all_pass}
 
 -- ---- numbers
 

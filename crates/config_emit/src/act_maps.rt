@@ -1,3 +1,5 @@
+//! The maps that an act gives both ends of a link, by numbers.
+
 ghost use Rattle.std.specs.Prelude.{◌≡◌, false, Some, None, IfOk, OnOk, option_copied};
 ghost use Rattle.std.specs.Option.{option_map};
 ghost use Rattle.config_emit.specs.LinkSteps.{act_by};

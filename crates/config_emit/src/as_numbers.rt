@@ -1,3 +1,5 @@
+//! The AS numbers of the groups.
+
 ghost use Rattle.std.specs.Prelude.{◌≡◌, ◌<◌, map, slice_index, IfOk};
 ghost use Rattle.std.specs.List.{range_with_len};
 ghost use Rattle.srp_quotient.specs.Groups.{is_used, number_of_group};

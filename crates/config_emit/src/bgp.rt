@@ -1,3 +1,5 @@
+//! The BGP process of a group.
+
 ghost use Rattle.std.specs.Prelude.{◌≡◌, map, IfOk};
 ghost use Rattle.config_emit.specs.BgpSteps.{announced, neighbor_of};
 ghost use Rattle.config_emit.specs.Emitted.{base_of};

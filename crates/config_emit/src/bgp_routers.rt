@@ -1,3 +1,5 @@
+//! The routers of a BGP network of groups.
+
 ghost use Rattle.std.specs.Prelude.{◌≡◌, ◌<◌, map, flat_map, IfOk};
 ghost use Rattle.std.specs.List.{enumerate_from, range_with_len};
 ghost use Rattle.base_kit.specs.declared.protocol.Protocol.TheVariants as over;
@@ -20,7 +22,7 @@ use crate::router_maps::{RouterMaps, router_maps};
 use crate::routers::class_interfaces_of;
 use crate::source::{Source, originates, router_at};
 use crate::written::{push_lists_of_map, written_map};
-use base_kit::{Aside, List, NoMemory};
+use base_kit::{List, NoMemory};
 use cfg_ast::{Base, BgpProcess, CommunityList, NetLine, RouteMap, Router};
 use std::alloc::Global;
 
@@ -63,7 +65,7 @@ fn process(
     numbers: &[u32],
     group: u32,
     links: &[ActLink],
-) -> Result<Aside<BgpProcess>, NoMemory>
+) -> Result<Option<BgpProcess>, NoMemory>
     requires source { IsSource source.now }
     requires bgp { source.now.srp.now.protocol ≡ over.Bgp }
     requires policies { ArePlanned (plan_of source.now) policies.now }
@@ -75,21 +77,18 @@ fn process(
 {
     let number = number_at(numbers, group);
     if number == 0 {
-        return Ok(Aside::none());
+        return Ok(None);
     }
     let networks = net_lines_of(alloc, source, group)?;
     let base = base_line(source, group, networks.as_slice());
     let neighbors = neighbors_of(alloc, policies, maps, numbers, group, links)?;
-    Aside::some(
-        alloc,
-        BgpProcess {
-            number,
-            line: 0,
-            base,
-            networks,
-            neighbors,
-        },
-    )
+    Ok(Some(BgpProcess {
+        number,
+        line: 0,
+        base,
+        networks,
+        neighbors,
+    }))
 }
 
 fn lists_of(alloc: Global, maps: &RouterMaps) -> Result<List<CommunityList>, NoMemory>
@@ -159,7 +158,7 @@ fn bgp_router(
         line: 0,
         interfaces,
         bgp,
-        ospf: Aside::none(),
+        ospf: None,
         prefix_lists: List::new(alloc),
         community_lists,
         route_maps,

@@ -1,3 +1,5 @@
+//! Interfaces in the prefixes that a group originates.
+
 ghost use Rattle.std.specs.Prelude.{◌≡◌, ◌++◌, IfOk, OnOk, filter_map};
 ghost use Rattle.std.specs.List.{enumerate_from};
 ghost use Rattle.config_emit.specs.Interfaces.{class_interfaces_on, cost_over};

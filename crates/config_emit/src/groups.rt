@@ -1,3 +1,5 @@
+//! The names of a group's members.
+
 ghost use Rattle.std.specs.Prelude.{◌≡◌, [], IfOk, Contains, map, slice_index_or};
 ghost use Rattle.std.specs.List.{range_with_len};
 ghost use Rattle.base_kit.specs.Partition.{IsNumbered, members_of};

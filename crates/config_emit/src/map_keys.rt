@@ -1,3 +1,5 @@
+//! What a map says, as a key that names do not change.
+
 ghost use Rattle.std.specs.Prelude.{◌≡◌, map, IfOk};
 ghost use Rattle.std.specs.Option.{option_map};
 ghost use Rattle.config_emit.specs.MapKeys.{line_shown, list_shown, lists_shown, change_shown, entry_shown, shown, line_said, list_said, lists_said, entry_said, said};

@@ -1,3 +1,5 @@
+//! Maps that say different things, by numbers.
+
 ghost use Rattle.std.specs.Prelude.{◌≡◌, map, IfOk, OnOk};
 ghost use Rattle.config_emit.specs.MapNumbers.{AreNumbers, with_map, number_of};
 

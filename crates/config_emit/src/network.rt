@@ -1,3 +1,5 @@
+//! The network of the groups of a class.
+
 ghost use Rattle.std.specs.Prelude.{◌≡◌, ℕ, map, IfOk, Contains};
 ghost use Rattle.std.specs.List.{range_with_len};
 ghost use Rattle.base_kit.specs.declared.protocol.Protocol.TheVariants as over;

@@ -1,3 +1,5 @@
+//! Places as numbers, addresses of links, and numbered words.
+
 ghost use Rattle.std.specs.Prelude.{◌≡◌, ◌+◌, ◌*◌, ◌++◌, IfOk};
 ghost use Rattle.std.specs.Fmt.{decimal};
 

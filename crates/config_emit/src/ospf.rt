@@ -1,7 +1,9 @@
+//! The OSPF process of a group.
+
 ghost use Rattle.std.specs.Prelude.{◌≡◌, map, filter_map, IfOk};
 ghost use Rattle.config_emit.specs.Emitted.{host_area_line, interface_name, ospf_on};
 
-use base_kit::{Aside, List, NoMemory, Text};
+use base_kit::{List, NoMemory, Text};
 use cfg_ast::{AreaLine, Interface, OspfProcess};
 use std::alloc::Global;
 
@@ -51,21 +53,18 @@ pub(crate) fn ospf_on(
     area: u32,
     class: &[Interface],
     interfaces: &[Interface],
-) -> Result<Aside<OspfProcess>, NoMemory>
+) -> Result<Option<OspfProcess>, NoMemory>
     ensures { IfOk result (λ process. process ≡ ospf_on area class.now interfaces.now) }
 {
     if interfaces.is_empty() {
-        return Ok(Aside::none());
+        return Ok(None);
     }
-    Aside::some(
-        alloc,
-        OspfProcess {
-            number: 1,
-            line: 0,
-            passive_default: false,
-            passive: names_of(alloc, class)?,
-            not_passive: List::new(alloc),
-            areas: area_lines(alloc, area, interfaces)?,
-        },
-    )
+    Ok(Some(OspfProcess {
+        number: 1,
+        line: 0,
+        passive_default: false,
+        passive: names_of(alloc, class)?,
+        not_passive: List::new(alloc),
+        areas: area_lines(alloc, area, interfaces)?,
+    }))
 }

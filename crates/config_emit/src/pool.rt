@@ -1,3 +1,5 @@
+//! The addresses of the links, and the prefixes that meet them.
+
 ghost use Rattle.std.specs.Prelude.{◌≡◌, find, option_copied};
 ghost use Rattle.std.specs.Option.{option_and_then, unwrap_or};
 ghost use Rattle.cfg_ast.specs.meaning.Classes.{is_up_in};

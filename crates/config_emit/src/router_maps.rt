@@ -1,3 +1,5 @@
+//! The maps that a group uses, in the order of their use.
+
 ghost use Rattle.std.specs.Prelude.{◌≡◌, [], map, flat_map, option_copied, IfOk, OnOk};
 ghost use Rattle.std.specs.Option.{option_map};
 ghost use Rattle.config_emit.specs.MapNumbers.{maps_now, ArePolicies};

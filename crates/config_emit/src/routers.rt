@@ -1,3 +1,5 @@
+//! The routers of an OSPF network of groups.
+
 ghost use Rattle.std.specs.Prelude.{◌≡◌, ◌<◌, map, IfOk};
 ghost use Rattle.std.specs.List.{range_with_len};
 ghost use Rattle.base_kit.specs.declared.protocol.Protocol.TheVariants as over;
@@ -11,7 +13,7 @@ use crate::link_interfaces::push_link_interfaces;
 use crate::links_by_group::{LinksByGroup, links_of};
 use crate::ospf::ospf_on;
 use crate::source::{Source, originates, router_at};
-use base_kit::{Aside, List, NoMemory};
+use base_kit::{List, NoMemory};
 use cfg_ast::{Interface, Router};
 use std::alloc::Global;
 
@@ -64,7 +66,7 @@ fn ospf_router(
         name: name_at(alloc, source.srp.names().as_slice(), first)?,
         line: 0,
         interfaces,
-        bgp: Aside::none(),
+        bgp: None,
         ospf,
         prefix_lists: List::new(alloc),
         community_lists: List::new(alloc),

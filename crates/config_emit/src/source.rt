@@ -1,3 +1,5 @@
+//! What the network of the groups is written from.
+
 ghost use Rattle.std.specs.Prelude.{◌≡◌, is_some, slice_get, option_copied};
 ghost use Rattle.srp_core.specs.Problem.{initial};
 

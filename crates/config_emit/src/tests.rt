@@ -1,10 +1,12 @@
+//! Maps are told apart by what they say.
+
 use crate::act_links::{ActLink, Sides, last_sides, sides_at};
 use crate::act_maps::policies_of;
 use crate::link_interfaces::push_link_interfaces;
 use crate::pool::pool_line;
 use crate::written::{push_lists_of_map, written_map};
 use abstract_net::QLink;
-use base_kit::{Aside, List, NoMemory, NumSet, Prefix, Text};
+use base_kit::{List, NoMemory, NumSet, Prefix, Text};
 use cfg_ast::{
     Address, CommunityLine, CommunityList, DestClass, Interface, Network, Origin, Router,
 };
@@ -88,7 +90,7 @@ fn lists_get_names_of_their_own(rt: HostRuntime) -> Result<(), NoMemory> {
     let map = written_map(alloc, 65001, 3, &plain)?;
     assert_eq!(rt; map.name.as_str(), "POLICY-3");
     for entry in map.entries.as_slice() {
-        match entry.prepend.as_option() {
+        match &entry.prepend {
             Some(prepend) => assert_eq!(rt; prepend.numbers.as_slice(), [65001, 65001].as_slice()),
             None => assert!(rt; false, "no prepending"),
         }
@@ -163,8 +165,8 @@ fn network_with(alloc: Global, addr: u32, line: u32) -> Result<Network, NoMemory
         name: Text::copy_of(alloc, "a")?,
         line: 0,
         interfaces,
-        bgp: Aside::none(),
-        ospf: Aside::none(),
+        bgp: None,
+        ospf: None,
         prefix_lists: List::new(alloc),
         community_lists: List::new(alloc),
         route_maps: List::new(alloc),

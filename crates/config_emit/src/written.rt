@@ -1,10 +1,12 @@
+//! A map as it is written: its entries and its lists.
+
 ghost use Rattle.std.specs.Prelude.{◌≡◌, ◌++◌, map, replicate, IfOk, OnOk};
 ghost use Rattle.std.specs.List.{enumerate_from};
 ghost use Rattle.cfg_ast.specs.printing.Bare.{bare_community_line};
 ghost use Rattle.config_emit.specs.Maps.{passes_all, is_whole, map_name, match_name, deletion_name, written_list, match_list, match_lists, deletion_lists, lists_of_entry, lists_of_map, name_of_list, written_prepend, written_entry, denying_entry, written_entries, written_map};
 
-use base_kit::{Aside, List, NoMemory, Text};
-use cfg_ast::{Change, CommunityLine, CommunityList, MapEntry, NameLine, Named, Prepend, RouteMap};
+use base_kit::{List, NoMemory, Text};
+use cfg_ast::{CommunityLine, CommunityList, MapEntry, NameLine, Named, Prepend, RouteMap};
 use route_maps::{Plain, PlainEntry, change_copy};
 use std::alloc::Global;
 
@@ -184,33 +186,27 @@ fn list_names(
     Ok(names)
 }
 
-fn names_line(alloc: Global, k: usize, entry: &PlainEntry) -> Result<Aside<NameLine>, NoMemory>
+fn names_line(alloc: Global, k: usize, entry: &PlainEntry) -> Result<Option<NameLine>, NoMemory>
     ensures { IfOk result (λ line. line ≡ (written_entry 0 k entry.now).comms) }
 {
     match &entry.lists {
-        Some(lists) => Aside::some(
-            alloc,
-            NameLine {
-                names: list_names(alloc, k, entry.seq, lists.as_slice())?,
-                line: 0,
-            },
-        ),
-        None => Ok(Aside::none()),
+        Some(lists) => Ok(Some(NameLine {
+            names: list_names(alloc, k, entry.seq, lists.as_slice())?,
+            line: 0,
+        })),
+        None => Ok(None),
     }
 }
 
-fn named_deletion(alloc: Global, k: usize, entry: &PlainEntry) -> Result<Aside<Named>, NoMemory>
+fn named_deletion(alloc: Global, k: usize, entry: &PlainEntry) -> Result<Option<Named>, NoMemory>
     ensures { IfOk result (λ name. name ≡ (written_entry 0 k entry.now).delete) }
 {
     match &entry.delete {
-        Some(_) => Aside::some(
-            alloc,
-            Named {
-                name: deletion_name(alloc, k, entry.seq)?,
-                line: 0,
-            },
-        ),
-        None => Ok(Aside::none()),
+        Some(_) => Ok(Some(Named {
+            name: deletion_name(alloc, k, entry.seq)?,
+            line: 0,
+        })),
+        None => Ok(None),
     }
 }
 
@@ -225,28 +221,16 @@ fn repeated(alloc: Global, number: u32, count: u8) -> Result<List<u32>, NoMemory
 }
 
 // The AS number of the router, as many times as the entry adds numbers.
-fn written_prepend(alloc: Global, number: u32, adds: u8) -> Result<Aside<Prepend>, NoMemory>
+fn written_prepend(alloc: Global, number: u32, adds: u8) -> Result<Option<Prepend>, NoMemory>
     ensures { IfOk result (λ prepend. prepend ≡ written_prepend number adds) }
 {
     if adds == 0 {
-        return Ok(Aside::none());
+        return Ok(None);
     }
-    Aside::some(
-        alloc,
-        Prepend {
-            numbers: repeated(alloc, number, adds)?,
-            line: 0,
-        },
-    )
-}
-
-fn written_change(alloc: Global, entry: &PlainEntry) -> Result<Aside<Change>, NoMemory>
-    ensures { IfOk result (λ change. change ≡ entry.now.change) }
-{
-    match &entry.change {
-        Some(change) => Aside::some(alloc, change_copy(change)?),
-        None => Ok(Aside::none()),
-    }
+    Ok(Some(Prepend {
+        numbers: repeated(alloc, number, adds)?,
+        line: 0,
+    }))
 }
 
 fn written_entry(
@@ -261,11 +245,11 @@ fn written_entry(
         seq: entry.seq,
         permit: entry.permit,
         line: 0,
-        prefixes: Aside::none(),
+        prefixes: None,
         comms: names_line(alloc, k, entry)?,
         exact: entry.lists.is_some() && entry.exact,
         lp: entry.lp,
-        change: written_change(alloc, entry)?,
+        change: change_copy(&entry.change)?,
         change_line: 0,
         delete: named_deletion(alloc, k, entry)?,
         prepend: written_prepend(alloc, number, entry.adds)?,
@@ -280,14 +264,14 @@ fn denying_entry() -> MapEntry
         seq: 10,
         permit: false,
         line: 0,
-        prefixes: Aside::none(),
-        comms: Aside::none(),
+        prefixes: None,
+        comms: None,
         exact: false,
         lp: None,
-        change: Aside::none(),
+        change: None,
         change_line: 0,
-        delete: Aside::none(),
-        prepend: Aside::none(),
+        delete: None,
+        prepend: None,
     }
 }
 

@@ -1,3 +1,5 @@
+//! Cables between switches, and their ends.
+
 /// A cable between two switches, which go by place. The first has the even address of its subnet.
 #[derive(Clone, Copy)]
 pub struct Cable {

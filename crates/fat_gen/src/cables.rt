@@ -1,3 +1,5 @@
+//! The cables of a fat tree.
+
 ghost use Rattle.std.specs.Prelude.{◌≡◌, ◌≤◌, ◌<◌, ◌++◌, IfOk, OnOk};
 ghost use Rattle.fat_gen.specs.Switches.{aggregation_place, edge_place};
 ghost use Rattle.fat_gen.specs.Cables.{core_cables, edge_cables, switch_cables, pod_cables, cables};

@@ -1,3 +1,5 @@
+//! The lines of a switch.
+
 ghost use Rattle.std.specs.Prelude.{◌≡◌, ◌<◌, ◌≤◌, ◌+◌, ◌++◌, OnOk, codes, flat_map, string_bytes};
 ghost use Rattle.fat_gen.specs.SwitchLines.{name_text, as_number, host_network, name_line, masked_address_line, interface_into, host_interface, ethernet_line, port_interface, port_interfaces, bgp_line, announced_line, remote_words, remote_as_line, sends_line, switch_neighbors, switch_interfaces, process_lines, lines_with};
 

@@ -1,3 +1,5 @@
+//! The ports of a switch.
+
 ghost use Rattle.std.specs.Prelude.{◌≡◌, ◌≤◌, ◌<◌, ◌++◌, IfOk, OnOk, length};
 ghost use Rattle.fat_gen.specs.Cables.{even_address, port_if, ports_on, ports_at};
 

@@ -1,3 +1,5 @@
+//! Why no fat tree is written.
+
 ghost use Rattle.std.specs.Prelude.{◌≡◌};
 ghost use Rattle.fat_gen.specs.declared.refusal.FatRefusal.TheVariants as fat_refusal;
 

@@ -1,3 +1,5 @@
+//! The switches of a fat tree in order.
+
 ghost use Rattle.std.specs.Prelude.{◌≡◌, ◌≤◌, ◌<◌, ◌++◌, IfOk, OnOk};
 ghost use Rattle.fat_gen.specs.Switches.{core_switches, aggregation_switches, edge_switches, pod_switches, switches};
 

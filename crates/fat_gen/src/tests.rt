@@ -1,3 +1,5 @@
+//! The smallest tree, and sizes that are refused.
+
 use crate::{FatRefusal, fat_tree};
 use std::test::Fail;
 

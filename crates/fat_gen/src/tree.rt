@@ -1,3 +1,5 @@
+//! The configurations of a fat tree (Al-Fares, Loukissas and Vahdat, SIGCOMM 2008).
+
 ghost use Rattle.std.specs.Prelude.{◌≡◌, ◌≤◌, ◌++◌, IfOk, OnOk, flat_map, length, string_bytes};
 ghost use Rattle.std.specs.List.{enumerate_from};
 ghost use Rattle.fat_gen.specs.Switches.{switches};

@@ -1,7 +1,5 @@
 use Rattle.std.proofs.Common.{ℕ, List, [], ◌∙◌, ◌++◌, ap, map}
-use Rattle.cfg_ast.specs.declared.network.Router.{Router}
-use Rattle.cfg_ast.specs.declared.ospf.OspfProcess.{OspfProcess}
-use Rattle.std.specs.Prelude.{Option, flat_map, slice_index, slice_index_or}
+use Rattle.std.specs.Prelude.{flat_map, slice_index, slice_index_or}
 use Rattle.std.specs.List.{enumerate_from}
 use Rattle.route_maps.specs.declared.plain.Plain.{Plain}
 use Rattle.srp_core.specs.Problem.{number}
@@ -40,5 +38,4 @@ returns c =
     let written = c.in_ok-route_maps.ensures
     ∙ ap (λ n. map (written_map n) (enumerate_from 1 (plains_now c.in_ok-maps.maps.uses.items))) numbered
     ∙ ap (λ (ms : List Plain). map (written_map (number (small e) g)) (enumerate_from 1 ms)) maps in
-    let router : Option OspfProcess → Router = λ ospf. record { name = c.in_ok-name_at.field-0; line = 0; interfaces = c.push_link_interfaces.new.found; bgp = c.in_ok-bgp.bgp; ospf = ospf; prefix_lists = c.new.result; community_lists = c.in_ok-community_lists.community_lists; route_maps = c.in_ok-route_maps.route_maps } in
-    ap router c.none.ensures ∙ router_is e g c.in_ok-name_at.field-0 c.push_link_interfaces.new.found c.in_ok-bgp.bgp c.new.result c.in_ok-community_lists.community_lists c.in_ok-route_maps.route_maps c.requires.bgp named are c.in_ok-bgp.ensures c.new.ensures lists written
+    router_is e g c.in_ok-name_at.field-0 c.push_link_interfaces.new.found c.in_ok-bgp.bgp c.new.result c.in_ok-community_lists.community_lists c.in_ok-route_maps.route_maps c.requires.bgp named are c.in_ok-bgp.ensures c.new.ensures lists written

@@ -1,6 +1,5 @@
 use Rattle.std.proofs.Common.{ℕ, List, ◌∙◌, ap, map, sym, subst}
-use Rattle.std.specs.Prelude.{◌≡◌, Option, IfOk, slice_index}
-use Rattle.cfg_ast.specs.declared.bgp.BgpProcess.{BgpProcess}
+use Rattle.std.specs.Prelude.{slice_index}
 use Rattle.route_maps.specs.declared.plain.Plain.{Plain}
 use Rattle.srp_core.specs.declared.route.Act.{Act}
 use Rattle.config_emit.specs.BgpSteps.{neighbor_of}
@@ -17,7 +16,7 @@ pub returns-then-number-eq0 : goal.returns-then-number-eq0
 returns-then-number-eq0 c =
     let e = plan_of c.args.source.now in
     let numbered = c.number_at-number.ensures ∙ ap (λ (ns : List ℕ). slice_index ns c.args.group) (numbers_are e c.args.numbers.now c.requires.numbers) in
-    c.none.ensures ∙ no_process e c.args.group (sym numbered ∙ c.if-number-eq0.true)
+    no_process e c.args.group (sym numbered ∙ c.if-number-eq0.true)
 
 pub returns : goal.returns
 returns c =
@@ -36,5 +35,4 @@ returns c =
     ∙ ap (λ (ns : List ℕ). map (neighbor_of known e.problem.acts uses ns g) c.args.links.now) numbers
     ∙ ap (λ (ls : List ActLink). map (neighbor_of known e.problem.acts uses (small e).numbers g) ls) c.requires.links.are
     ∙ neighbors_are e known p.numbers.items p.closed_number g c.requires.bgp are of.closed_known in
-    let written = process_is e g c.number_at-number.result c.base_line-base.result c.in_ok-networks.networks c.in_ok-neighbors.neighbors (λ z. c.if-number-eq0.false (numbered ∙ z)) numbered c.base_line-base.ensures c.in_ok-networks.ensures neighbors in
-    subst (λ (w : Option BgpProcess). IfOk c.some.result (λ process. process ≡ w)) written c.some.ensures
+    process_is e g c.number_at-number.result c.base_line-base.result c.in_ok-networks.networks c.in_ok-neighbors.neighbors (λ z. c.if-number-eq0.false (numbered ∙ z)) numbered c.base_line-base.ensures c.in_ok-networks.ensures neighbors

@@ -1,10 +1,8 @@
 use Rattle.std.proofs.Common.{ℕ, List, [], ◌∙◌, ◌++◌, ap, length, map, take}
 use Rattle.std.proofs.Math.Seq.{take-append_seam}
-use Rattle.std.specs.Prelude.{Option, slice_index_or}
-use Rattle.cfg_ast.specs.declared.bgp.BgpProcess.{BgpProcess}
+use Rattle.std.specs.Prelude.{slice_index_or}
 use Rattle.std.specs.List.{enumerate_from}
 use Rattle.cfg_ast.specs.declared.interface.Interface.{Interface}
-use Rattle.cfg_ast.specs.declared.network.Router.{Router}
 use Rattle.srp_core.specs.declared.route.Act.{Act}
 use Rattle.config_emit.specs.Emitted.{ospf_on}
 use Rattle.config_emit.specs.Interfaces.{class_interfaces, link_interfaces}
@@ -31,5 +29,4 @@ returns c =
     ∙ ap (λ n. ospf_on c.args.area (take n all) all) (c.len-of_class.ensures ∙ ap length c.in_ok-interfaces.ensures)
     ∙ ap (λ xs. ospf_on c.args.area xs all) (take-append_seam (class_interfaces e g) links)
     ∙ ap (λ a. ospf_on a (class_interfaces e g) all) c.requires.area in
-    let router : Option BgpProcess → Router = λ bgp. record { name = c.in_ok-name_at.field-0; line = 0; interfaces = c.push_link_interfaces.new.found; bgp = bgp; ospf = c.in_ok-ospf.ospf; prefix_lists = c.new.result; community_lists = c.new-2.result; route_maps = c.new-3.result } in
-    ap router c.none.ensures ∙ router_is e g c.in_ok-name_at.field-0 c.push_link_interfaces.new.found c.in_ok-ospf.ospf c.new.result c.new-2.result c.new-3.result c.requires.ospf named are process c.new.ensures c.new-2.ensures c.new-3.ensures
+    router_is e g c.in_ok-name_at.field-0 c.push_link_interfaces.new.found c.in_ok-ospf.ospf c.new.result c.new-2.result c.new-3.result c.requires.ospf named are process c.new.ensures c.new-2.ensures c.new-3.ensures
