@@ -94,7 +94,7 @@ same_place : (o : Option ℕ) (k : ℕ) → moved 0 o ≡ Some (0 + k) → o ≡
 same_place None k e = absurd cc
 same_place (Some j) k e = let f : 0 + j ≡ 0 + k = cc in ap (λ (i : ℕ). Some i) (omega arith)
 
-router_back : (names : List (List ℕ)) (u : ℕ) → AreApart names → u < length names → router_named names (printed_name names u) ≡ Some u
+pub router_back : (names : List (List ℕ)) (u : ℕ) → AreApart names → u < length names → router_named names (printed_name names u) ≡ Some u
 router_back names u apart h = same_place (router_named names (printed_name names u)) u (name_place names 0 u apart h)
 
 routers_back : (names : List (List ℕ)) (group : List ℕ) → AreApart names → AllByRecursion (λ u. u < length names) group → routers_named (router_named names) (map (printed_name names) group) ≡ Some group

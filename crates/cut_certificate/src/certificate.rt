@@ -1,3 +1,5 @@
+//! Certificates: splits, and the groups to which they lead.
+
 use base_kit::List;
 
 /// A split of one block by another one. Blocks are numbered from 1. The edge, by its place in the edges

@@ -1,3 +1,5 @@
+//! The places of names.
+
 ghost use Rattle.std.specs.Prelude.{◌≡◌, ◌<◌, ◌^◌, IfOk, length, string_bytes};
 ghost use Rattle.std.specs.Str.{IsAscii};
 ghost use Rattle.cut_certificate.specs.Names.{place_in, HasPlaces};

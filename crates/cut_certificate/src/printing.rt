@@ -1,3 +1,5 @@
+//! The text of a certificate.
+
 ghost use Rattle.std.specs.Prelude.{◌≡◌, ◌<◌, ◌++◌, All, IfOk, OnOk, length, map, string_bytes};
 ghost use Rattle.cfg_ast.specs.printing.Printed.{line_text, lines_text};
 ghost use Rattle.cut_certificate.specs.Certificates.{IsAccepted};

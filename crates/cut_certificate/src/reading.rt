@@ -1,3 +1,5 @@
+//! A text read as a certificate, and judged.
+
 ghost use Rattle.std.specs.Prelude.{◌≡◌, ◌+◌, ◌≤◌, IfOk, length, map};
 ghost use Rattle.cfg_ast.specs.text.Members.{all_lines_of};
 ghost use Rattle.cfg_ast.specs.text.TextLines.{text_line};

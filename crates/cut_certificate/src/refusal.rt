@@ -1,3 +1,5 @@
+//! Why a text is no certificate.
+
 ghost use Rattle.std.specs.Prelude.{◌≡◌};
 ghost use Rattle.cut_certificate.specs.declared.refusal.CutRefusal.TheVariants as refusal;
 ghost use Rattle.cut_certificate.specs.declared.refusal.Stop.TheVariants as stop;

@@ -1,3 +1,5 @@
+//! The grammar of router names.
+
 ghost use Rattle.std.specs.Prelude.{◌≡◌};
 ghost use Rattle.std.specs.List.{list_all};
 ghost use Rattle.cfg_ast.specs.text.Words.{is_name_long, begins_with, is_letter_or_digit, is_router_byte, is_router_name};

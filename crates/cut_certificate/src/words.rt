@@ -1,3 +1,5 @@
+//! The words of a certificate's line.
+
 ghost use Rattle.std.specs.Prelude.{◌≡◌, ◌≤◌, ◌<◌, ◌∷◌, [], length, not, MatchOption, IfSome};
 ghost use Rattle.std.specs.List.{position_or_len};
 ghost use Rattle.cfg_ast.specs.text.Lines.{is_blank, words_of, newline_from, without_return};

@@ -1,3 +1,5 @@
+//! One router is activated.
+
 ghost use Rattle.std.specs.Prelude.{◌≡◌, ◌≢◌, ◌<◌, IfOk, OnErr, MatchBool, true};
 ghost use Rattle.srp_core.specs.Problem.{count, IsProblem};
 ghost use Rattle.srp_core.specs.Stability.{label, AreLabels};

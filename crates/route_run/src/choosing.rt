@@ -1,3 +1,5 @@
+//! What a router chooses among its candidates.
+
 ghost use Rattle.std.specs.Prelude.{◌≡◌, ◌+◌, ◌<◌, IfOk, MatchOption, length, nat_eq};
 ghost use Rattle.std.specs.HashSet.{contains};
 ghost use Rattle.route_run.specs.Activations.{is_held, is_still_best, chosen_of};

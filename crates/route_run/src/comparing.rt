@@ -1,3 +1,5 @@
+//! Routes compared by their keys.
+
 ghost use Rattle.std.specs.Prelude.{◌≡◌, IfOk, nat_eq};
 ghost use Rattle.std.specs.HashSet.{contains};
 ghost use Rattle.std.specs.Ordering.{nat_cmp};

@@ -1,3 +1,5 @@
+//! The places of names.
+
 ghost use Rattle.std.specs.Prelude.{◌≡◌, ◌<◌, ◌^◌, IfOk, length};
 ghost use Rattle.solution_text.specs.Steps.{place_in};
 ghost use Rattle.route_run.specs.Names.{ArePlaces};

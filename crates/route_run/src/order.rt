@@ -1,3 +1,5 @@
+//! The order of activations that leads to a solution.
+
 ghost use Rattle.std.specs.Prelude.{◌≡◌, ℕ, ◌<◌, ◌^◌, All, Some, IfOk, map, length};
 ghost use Rattle.std.specs.List.{range_with_len};
 ghost use Rattle.by_key.specs.ByKey.{by_key};

@@ -1,3 +1,5 @@
+//! A schedule's text.
+
 ghost use Rattle.std.specs.Prelude.{◌≡◌, ◌<◌, ◌≤◌, ◌^◌, All, List, [], IfOk, IfErr, length};
 ghost use Rattle.cfg_ast.specs.text.Lines.{words_of};
 ghost use Rattle.route_run.specs.Names.{ArePlaces};

@@ -1,3 +1,5 @@
+//! Labels after a schedule.
+
 ghost use Rattle.std.specs.Prelude.{◌≡◌, ◌≢◌, ◌<◌, ℕ, All, IfOk, MatchBool, MatchOption};
 ghost use Rattle.std.specs.List.{range_with_len};
 ghost use Rattle.base_kit.specs.declared.protocol.Protocol.TheVariants.{Ospf as OverOspf};

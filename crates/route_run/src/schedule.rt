@@ -1,3 +1,5 @@
+//! What a schedule does next, or why a text is none.
+
 ghost use Rattle.std.specs.Prelude.{◌≡◌};
 ghost use Rattle.route_run.specs.declared.schedule.ScheduleRefusal.TheVariants as schedule_refusal;
 

@@ -1,3 +1,5 @@
+//! Schedules are read.
+
 use crate::{Activation, ScheduleRefusal, read_schedule};
 use base_kit::{List, Text};
 use std::test::Fail;

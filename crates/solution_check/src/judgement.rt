@@ -1,3 +1,5 @@
+//! Whether labels are stable.
+
 ghost use Rattle.std.specs.Prelude.{◌≡◌, ◌≢◌, ◌<◌, ◌≤◌, ℕ, slice_index_or, IfOk, MatchOption, length, All};
 ghost use Rattle.std.specs.List.{AllWithin};
 ghost use Rattle.base_kit.specs.declared.act_graph.Edge.{Edge};

@@ -1,3 +1,5 @@
+//! The lone routers on paths.
+
 ghost use Rattle.std.specs.Prelude.{◌≡◌, ◌&&◌, ◌||◌, ℕ, IfOk, Some, length, map, nat_eq, not};
 ghost use Rattle.std.specs.Option.{option_eq};
 ghost use Rattle.base_kit.specs.Sets.{has, IsAscending};

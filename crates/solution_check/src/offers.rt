@@ -1,3 +1,5 @@
+//! What an edge gives its importer.
+
 ghost use Rattle.std.specs.Prelude.{◌≡◌, ◌+◌, ◌<◌, ◌||◌, suc, IfOk, Some, length, nat_eq, bytes_eq, is_some};
 ghost use Rattle.std.specs.List.{list_all};
 ghost use Rattle.srp_core.specs.Routes.{is_on};

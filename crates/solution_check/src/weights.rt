@@ -1,3 +1,5 @@
+//! A label weighed against the candidates of its router.
+
 ghost use Rattle.std.specs.Prelude.{◌≡◌, ◌≤◌, ◌<◌, ◌||◌, ◌+◌, ◌^◌, suc, ℕ, IfOk, Some, All, [], filter_map, length, nat_lt, nat_eq, is_some};
 ghost use Rattle.std.specs.HashSet.{contains};
 ghost use Rattle.std.specs.List.{list_any};

@@ -1,3 +1,5 @@
+//! The edges between groups.
+
 ghost use Rattle.std.specs.Prelude.{◌≡◌, ℕ, ◌<◌, ◌^◌, ◌++◌, ◌&&◌, All, List, IfOk, OnOk, length, nat_eq, option_map, flat_map, if◌then◌else◌};
 ghost use Rattle.std.specs.HashMap as map;
 ghost use Rattle.std.specs.List.{enumerate_from};

@@ -1,3 +1,5 @@
+//! Labels carried from routers to groups.
+
 ghost use Rattle.std.specs.Prelude.{◌≡◌, ℕ, ◌<◌, IfOk, length};
 ghost use Rattle.base_kit.specs.Partition.{IsNumbered};
 ghost use Rattle.srp_core.specs.Filling.{CanBeFolded};

@@ -1,3 +1,5 @@
+//! Labels carried from groups to routers.
+
 ghost use Rattle.std.specs.Prelude.{◌≡◌, ℕ, ◌<◌, IfOk, length};
 ghost use Rattle.base_kit.specs.Partition.{IsNumbered};
 ghost use Rattle.abstract_net.specs.Links.{quotient_links};

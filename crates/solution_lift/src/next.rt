@@ -1,3 +1,5 @@
+//! What a router gets while labels are carried to it.
+
 ghost use Rattle.std.specs.Prelude.{◌≡◌, ℕ, ◌<◌, ◌&&◌, Some, IfOk, bytes_eq, length, nat_eq, slice_index};
 ghost use Rattle.std.specs.HashSet.{contains};
 ghost use Rattle.solution_check.specs.Lone.{HasNumbers};

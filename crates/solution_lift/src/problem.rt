@@ -1,3 +1,5 @@
+//! The problem of the groups.
+
 ghost use Rattle.std.specs.Prelude.{◌≡◌, ℕ, IfOk};
 ghost use Rattle.base_kit.specs.Partition.{IsNumbered};
 ghost use Rattle.abstract_net.specs.Links.{quotient_links};

@@ -1,3 +1,5 @@
+//! Groups, places and numbers on both sides.
+
 ghost use Rattle.std.specs.Prelude.{◌≡◌, ◌≢◌, ℕ, ◌<◌, ◌≤◌, Some, None, IfOk, length, nat_eq, replicate, slice_index};
 ghost use Rattle.std.specs.HashMap as map;
 ghost use Rattle.std.specs.List.{range_with_len};

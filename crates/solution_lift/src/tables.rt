@@ -1,3 +1,5 @@
+//! What a group has from its first member.
+
 ghost use Rattle.std.specs.Prelude.{◌≡◌, ℕ, ◌<◌, [], false, None, is_some, Contains, IfOk, ◌||◌, if◌then◌else◌, All, length, map, slice_index_or};
 ghost use Rattle.std.specs.List.{range_with_len, list_any};
 ghost use Rattle.base_kit.specs.Partition.{IsNumbered, members_of};

@@ -1,3 +1,5 @@
+//! The order in which routers get their labels.
+
 ghost use Rattle.std.specs.Prelude.{◌≡◌, ℕ, ◌<◌, ◌^◌, ◌++◌, [], All, IfOk, OnOk, length};
 ghost use Rattle.std.specs.Prelude.{filter_map};
 ghost use Rattle.std.specs.List.{cons_option, range_with_len};

@@ -5,7 +5,7 @@ use Rattle.base_kit.specs.Prefixes.{Prefix}
 use Rattle.cfg_ast.specs.declared.network.Network.{Network}
 use Rattle.cfg_ast.specs.printing.WellFormed.{IsNumber}
 use Rattle.cfg_ast.specs.text.Reading.{IsGiven}
-use Rattle.cfg_given.proofs.WellFormed.{given_is_well_formed, given_routers_are_well_formed}
+use Rattle.given_laws.proofs.WellFormed.{given_is_well_formed, given_routers_are_well_formed}
 use Rattle.srp_core.specs.Problem.{Problem}
 use Rattle.srp_core.specs.ProblemOf.{IsProblemOf}
 use Rattle.solution_round_trip.specs.Laws.{StableIsInRange, StableOfGroupsIsInRange}

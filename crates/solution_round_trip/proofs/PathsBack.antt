@@ -8,7 +8,7 @@ use Rattle.std.proofs.lemmas.Bool.{ne_eqb, eqb-true}
 use Rattle.std.proofs.lemmas.Bool.Decides.{nat_tests}
 use Rattle.std.proofs.Math.Seq.{take-append_seam, drop-append-add}
 use Rattle.cfg_ast.specs.printing.WellFormed.{IsBetween}
-use Rattle.cfg_given.proofs.Each.{all_weaker}
+use Rattle.given_laws.proofs.Each.{all_weaker}
 use Rattle.cfg_round_trip.proofs.WordsBack.{IsDigit, decimal_digits, as_number_back, between_back}
 use Rattle.solution_text.specs.Forms.{is_star, is_comms, piece_of, behind, path_of_words}
 use Rattle.solution_text.specs.Printed.{with_run, runs_of, piece_word, rest_words, run_words, path_words}

@@ -1,3 +1,5 @@
+//! The forms of a solution's line.
+
 ghost use Rattle.std.specs.Prelude.{◌≡◌, ◌≤◌, ◌<◌, ◌∷◌, ◌++◌, [], IfOk, IfSome, replicate, Some, option_map, option_and_then, MatchOption, OnOk};
 ghost use Rattle.cfg_ast.specs.text.Lines.{words_of};
 ghost use Rattle.cfg_ast.specs.text.Words.{is_colon, community_word};

@@ -1,3 +1,5 @@
+//! A solution's text, line by line.
+
 ghost use Rattle.std.specs.Prelude.{◌≡◌, ◌<◌, ◌≤◌, ◌∷◌, length};
 ghost use Rattle.cfg_ast.specs.text.Lines.{words_of};
 ghost use Rattle.solution_text.specs.Answers.{Reads};

@@ -1,3 +1,5 @@
+//! The text of labels.
+
 ghost use Rattle.std.specs.Prelude.{◌≡◌, ◌<◌, ◌≤◌, ◌==◌, ◌++◌, ◌∷◌, [], IfOk, OnOk, Some, length, not, string_bytes, decimal, map};
 ghost use Rattle.std.specs.List.{position_or_len};
 ghost use Rattle.cfg_ast.specs.printing.Printed.{community_text, line_text};

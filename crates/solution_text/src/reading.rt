@@ -1,3 +1,5 @@
+//! Labels read from a text.
+
 ghost use Rattle.std.specs.Prelude.{◌≡◌, ◌+◌, ◌<◌, ◌≤◌, ◌^◌, ℕ, IfOk, Some, length, map};
 ghost use Rattle.cfg_ast.specs.text.TextLines.{text_line};
 ghost use Rattle.cfg_ast.specs.text.Members.{all_lines_of};

@@ -1,3 +1,5 @@
+//! Why a text is no solution.
+
 ghost use Rattle.std.specs.Prelude.{◌≡◌};
 ghost use Rattle.solution_text.specs.declared.refusal.SolRefusal.TheVariants as sol_refusal;
 

@@ -1,3 +1,5 @@
+//! What the lines so far say.
+
 ghost use Rattle.std.specs.Prelude.{◌≡◌, ◌<◌, ◌≤◌, ◌^◌, IfOk, length, replicate, Some, None, false, if◌then◌else◌, slice_index_or};
 ghost use Rattle.std.specs.List.{list_all};
 ghost use Rattle.solution_text.specs.Steps.{nothing_said, has_line, said_at, all_labels, itself};

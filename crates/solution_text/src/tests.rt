@@ -1,3 +1,5 @@
+//! Solutions are read and printed.
+
 ghost use Rattle.std.specs.Prelude.{◌≡◌, ◌≤◌, IfOk, length};
 ghost use Rattle.base_kit.specs.Names.{AreApart};
 
