@@ -14,7 +14,8 @@ use Rattle.cfg_ast.specs.declared.refusal.ReadRefusal.{ReadRefusal}
 use Rattle.cfg_ast.specs.declared.refusal.ReadRefusal.TheVariants as refusal
 use Rattle.cfg_ast.specs.text.TextLines.{TextLine}
 use Rattle.cfg_ast.specs.text.RouterForms.{router_item_of}
-use Rattle.cfg_ast.specs.text.Stanzas.{◌>>=◌, once, said_at, set_bgp, set_process, set_neighbor, new_neighbor, has_network, has_neighbor, at_neighbor}
+use Rattle.cfg_ast.specs.text.Stanzas.{once, said_at, set_bgp, set_process, set_neighbor, new_neighbor, has_network, has_neighbor, at_neighbor}
+use Rattle.cfg_ast.specs.text.Steps.{◌>>=◌}
 use Rattle.base_kit.specs.Prefixes.{same_prefix}
 use Rattle.cfg_ast.specs.text.Reading.{Stanza, in_bgp, State, with_closed, take_inner}
 use Rattle.reading_laws.specs.FormFaults.{Thing, host_name, bgp, Part, network, preference, remote_as, list_in, list_out, map_in, map_out, part, same_part, within, Saying, adding, bgp_saying, means, inner_says, is_given, when, repeated}

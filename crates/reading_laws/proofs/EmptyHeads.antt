@@ -9,7 +9,8 @@ use Rattle.cfg_ast.specs.declared.heads.HeadClass.TheVariants as class
 use Rattle.cfg_ast.specs.declared.heads.PolicyForm.{PolicyForm}
 use Rattle.cfg_ast.specs.declared.heads.PolicyForm.TheVariants as form
 use Rattle.cfg_ast.specs.declared.refusal.FormFault.{FormFault}
-use Rattle.cfg_ast.specs.text.FormSteps.{◌>>=◌, bad_unless}
+use Rattle.cfg_ast.specs.text.FormSteps.{bad_unless}
+use Rattle.cfg_ast.specs.text.Steps.{◌>>=◌}
 use Rattle.cfg_ast.specs.text.Heads.{class_in, policy_heads_of}
 use Rattle.cfg_ast.specs.text.PolicyForms.{empty_entry, prefix_entry_form, community_line, numbered_line, community_line_form, map_head_form, match_prefixes_form, comms_match, marked_match, match_comms_form, lp_form, set_comms_form, delete_form, prepend_form, policy_form, policy_item_by, policy_item_of}
 use Rattle.reading_laws.specs.FormFaults.{Part, match_prefixes}

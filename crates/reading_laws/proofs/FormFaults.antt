@@ -12,7 +12,7 @@ use Rattle.cfg_ast.specs.text.Lines.{lines_of}
 use Rattle.cfg_ast.specs.text.RouterForms.{router_item_of}
 use Rattle.cfg_ast.specs.text.PolicyForms.{policy_item_of}
 use Rattle.cfg_ast.specs.text.PolicyLines.{is_policy_line, has_prefix_entry, has_map_entry}
-use Rattle.cfg_ast.specs.text.Stanzas.{◌>>=◌}
+use Rattle.cfg_ast.specs.text.Steps.{◌>>=◌}
 use Rattle.cfg_ast.specs.text.Reading.{Stanza, closed, ignored, in_interface, in_bgp, in_ospf, in_entry, State, at_start, has_interface, with_closed, take_inner, steps, ending, network_of_lines, texts_of, network_of_text}
 use Rattle.reading_laws.specs.FormFaults.{Thing, host_name, interface, bgp, ospf, prefix_entry, map_entry, whole, Open, nothing, unread, within, silent, is_top, open_of, is_given, fault_of, or_else, first_form_fault, fault_in, FirstFaultDecides, text_fault, TextFaultDecides}
 use Rattle.reading_laws.proofs.Given.{has_thing, IsOf, SameOpen, Agrees, Outcome, agrees_next, says_within, open_inner}

@@ -6,3 +6,4 @@ mod Given
 mod Peers
 mod StanzaLines
 mod TopLines
+pub mod WellRead

@@ -6,7 +6,8 @@ use Rattle.cfg_ast.specs.declared.bgp.BgpProcess.{BgpProcess}
 use Rattle.cfg_ast.specs.declared.refusal.Kind.TheVariants as kind
 use Rattle.cfg_ast.specs.declared.refusal.ReadRefusal.{ReadRefusal}
 use Rattle.cfg_ast.specs.declared.refusal.ReadRefusal.TheVariants as refusal
-use Rattle.cfg_ast.specs.text.Stanzas.{◌>>=◌, once, at_neighbor, has_neighbor}
+use Rattle.cfg_ast.specs.text.Stanzas.{once, at_neighbor, has_neighbor}
+use Rattle.cfg_ast.specs.text.Steps.{◌>>=◌}
 use Rattle.reading_laws.specs.FormFaults.{Part, remote_as, list_in, list_out, map_in, map_out}
 use Rattle.reading_laws.proofs.Given.{peer_has, has_list_in, has_list_out, has_map_in, has_map_out, bgp_has}
 

@@ -22,7 +22,8 @@ use Rattle.cfg_ast.specs.text.TextLines.{TextLine}
 use Rattle.cfg_ast.specs.text.RouterForms.{router_item_of}
 use Rattle.cfg_ast.specs.text.PolicyForms.{policy_item_of}
 use Rattle.cfg_ast.specs.text.PolicyLines.{set_entry, has_map_entry}
-use Rattle.cfg_ast.specs.text.Stanzas.{◌>>=◌, once, said_at, refusal_of, set_interface, set_ospf}
+use Rattle.cfg_ast.specs.text.Stanzas.{once, said_at, refusal_of, set_interface, set_ospf}
+use Rattle.cfg_ast.specs.text.Steps.{◌>>=◌}
 use Rattle.cfg_ast.specs.text.Reading.{Stanza, in_interface, in_ospf, in_entry, State, has_interface, with_closed, take_inner, step}
 use Rattle.reading_laws.specs.FormFaults.{Thing, host_name, interface, ospf, map_entry, Part, address, cost, match_prefixes, match_communities, set_preference, set_communities, set_comm_list, set_prepend, What, whole, part, same_part, within, Saying, silent, giving, interface_saying, ospf_saying, entry_saying, means, inner_says, is_top, open_of, says, is_given, fault_of}
 use Rattle.reading_laws.proofs.Given.{same_self, hits, given_next, has_thing, has_part, interface_has, entry_has, IsOf, Agrees, Outcome, Owned, agrees_next, says_within, open_inner, fault_within}

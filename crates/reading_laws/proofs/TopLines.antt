@@ -21,7 +21,8 @@ use Rattle.cfg_ast.specs.text.TextLines.{TextLine}
 use Rattle.cfg_ast.specs.text.RouterForms.{router_item_of}
 use Rattle.cfg_ast.specs.text.PolicyForms.{policy_item_of}
 use Rattle.cfg_ast.specs.text.PolicyLines.{is_policy_line, has_prefix_entry, with_prefix_entry, has_map_entry, with_community_line}
-use Rattle.cfg_ast.specs.text.Stanzas.{◌>>=◌, has_network, has_neighbor, once, said_at, refusal_of}
+use Rattle.cfg_ast.specs.text.Stanzas.{has_network, has_neighbor, once, said_at, refusal_of}
+use Rattle.cfg_ast.specs.text.Steps.{◌>>=◌}
 use Rattle.cfg_ast.specs.text.Reading.{Stanza, closed, ignored, in_interface, in_bgp, in_ospf, in_entry, Draft, State, no_draft, has_interface, with_closed, closing_stanza, new_interface, new_bgp, new_ospf, take_line, take_top, take_policy, step_policy, step_router, end_router, step}
 use Rattle.reading_laws.specs.FormFaults.{Thing, host_name, interface, bgp, ospf, prefix_entry, map_entry, Part, address, cost, What, whole, part, same_what, Open, nothing, unread, within, Saying, silent, end_of_router, top_saying, list_saying, means, top_says, is_top, says, is_given}
 use Rattle.reading_laws.proofs.EmptyHeads.{head_is_empty}

@@ -1,1 +1,2 @@
 pub mod FormFaults
+pub mod WellRead
