@@ -6,7 +6,7 @@ use Rattle.cfg_ast.specs.declared.network.Network.{Network}
 use Rattle.cfg_ast.specs.declared.classes.DestClass.{DestClass}
 use Rattle.cfg_ast.specs.meaning.Classes.{classes_of}
 use Rattle.cfg_ast.specs.text.Reading.{IsGiven}
-use Rattle.cfg_given.specs.Laws.{GivenIsWellFormed}
+use Rattle.given_laws.specs.Laws.{GivenIsWellFormed}
 use Rattle.cfg_check.specs.Faultless.{IsFaultless}
 use Rattle.net_topology.specs.Laws.{FewLinks}
 use Rattle.srp_core.specs.ProblemOf.{IsProblemOf}

@@ -1,3 +1,5 @@
+//! The command `certify`.
+
 ghost use Rattle.std.specs.Prelude.{Contains, IfOk};
 ghost use Rattle.cfg_ast.specs.meaning.Classes.{classes_of};
 ghost use Rattle.srp_build.specs.Built.{IsBuiltFor};

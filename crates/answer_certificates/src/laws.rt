@@ -4,9 +4,9 @@ ghost use Rattle.answer_certificates.specs.Agreement.{WhatIsCertifiedIsVerified,
 ghost use Rattle.answer_certificates.specs.OneAnswer.{VerifyAnswerIsOne};
 
 use certificate_round_trip::{printed_is_read_back, printed_is_short};
-use cfg_given::given_is_well_formed;
 use class_laws::built_problem_is_one;
 use cut_certificate::laws::colors_are_aside;
+use given_laws::given_is_well_formed;
 use net_topology::laws::few_links;
 
 /// `verify` has one answer to a network, the number of a class and a certificate that is told.

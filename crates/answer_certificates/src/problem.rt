@@ -1,3 +1,5 @@
+//! The problem of a class and its graph, for both commands.
+
 ghost use Rattle.std.specs.Prelude.{◌≡◌, IfOk, Contains, length};
 ghost use Rattle.cfg_ast.specs.meaning.Classes.{classes_of};
 ghost use Rattle.srp_build.specs.Built.{IsBuiltFor};

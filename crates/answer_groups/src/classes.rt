@@ -1,3 +1,5 @@
+//! The command `classes`.
+
 ghost use Rattle.std.specs.Prelude.{◌≡◌, ◌++◌, IfOk, OnOk, flat_map, string_bytes};
 ghost use Rattle.std.specs.List.{enumerate_from};
 ghost use Rattle.answer_groups.specs.ClassLines.{router_name_at, prefix_word, origin_word, class_line, class_lines, classes_text};

@@ -1,3 +1,5 @@
+//! The command `groups`.
+
 ghost use Rattle.std.specs.Prelude.{◌≡◌, IfOk, Contains};
 ghost use Rattle.cfg_ast.specs.meaning.Classes.{classes_of};
 ghost use Rattle.answer_groups.specs.GroupLines.{AreGroupLines, IsGroupsOf, IsGroupsAnswer};

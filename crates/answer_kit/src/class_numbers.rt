@@ -1,3 +1,5 @@
+//! The class that a number names, or its refusal.
+
 ghost use Rattle.std.specs.Prelude.{◌≡◌, IfOk};
 ghost use Rattle.std.specs.Option.{option_copied};
 ghost use Rattle.answer_kit.specs.ClassNumbers.{class_at, no_class};

@@ -1,3 +1,5 @@
+//! How a fault of the text is told: its line and its kind.
+
 ghost use Rattle.std.specs.Prelude.{◌≡◌, IfOk};
 ghost use Rattle.answer_kit.specs.Kinds.{name_of_kind, line_reason};
 

@@ -1,3 +1,5 @@
+//! What a command has come to, before it is told.
+
 ghost use Rattle.answer_kit.specs.Outcome.{refused};
 ghost use Rattle.answer_kit.specs.Replies.{Answers, Only};
 

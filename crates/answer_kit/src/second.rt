@@ -1,3 +1,5 @@
+//! The second file of a command, read within a limit.
+
 ghost use Rattle.std.specs.Prelude.{◌≡◌, ◌≤◌, ℕ, List, length, IfOk, IfErr, IfSome};
 ghost use Rattle.io_kit.specs.Ends.{Rose};
 ghost use Rattle.answer_kit.specs.Replies.{Answers};

@@ -1,3 +1,5 @@
+//! How a call ended, and its exit status.
+
 ghost use Rattle.std.specs.Prelude.{◌≡◌};
 ghost use Rattle.answer_kit.specs.Outcome.{code_of};
 

@@ -1,10 +1,12 @@
+//! The number of links of a network.
+
 ghost use Rattle.std.specs.Prelude.{◌≡◌, length};
 ghost use Rattle.cfg_ast.specs.meaning.Topology.{links_of};
 
 use base_kit::List;
 use cfg_ast::Link;
 use cfg_check::Checked;
-use cfg_given::given_is_well_formed;
+use given_laws::given_is_well_formed;
 use net_topology::laws::few_links;
 
 /// How many links a network has: these are they.

@@ -1,3 +1,5 @@
+//! The commands `report` and `json`.
+
 ghost use Rattle.std.specs.Prelude.{◌≡◌, IfOk, Contains};
 ghost use Rattle.cfg_ast.specs.meaning.Classes.{classes_of};
 ghost use Rattle.group_report.specs.Reports.{HasReport};

@@ -1,3 +1,5 @@
+//! The command `summary`.
+
 ghost use Rattle.std.specs.Prelude.{◌≡◌, Contains, IfOk, OnOk, length, string_bytes};
 ghost use Rattle.cfg_ast.specs.meaning.Classes.{classes_of};
 ghost use Rattle.cfg_ast.specs.meaning.PolicyFaults.{communities_of};

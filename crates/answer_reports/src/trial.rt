@@ -1,3 +1,5 @@
+//! The command `trial`.
+
 ghost use Rattle.std.specs.Prelude.{◌≡◌, ◌≤◌, IfOk, length};
 ghost use Rattle.cfg_ast.specs.text.Reading.{reading_of};
 ghost use Rattle.answer_kit.specs.Outcome.{refused};

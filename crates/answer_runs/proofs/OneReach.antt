@@ -23,7 +23,7 @@ module _ (P Q : Problem) (same : ProblemsAlike P Q) (rules : IsProblem P) where
   counts : count Q ≡ count P
   counts = ap length (sym same.numbers)
 
-  order_too : (labels : List (Option Route)) (run : List ℕ) → IsOrderOf Q labels run → IsOrderOf P labels run
+  pub order_too : (labels : List (Option Route)) (run : List ℕ) → IsOrderOf Q labels run → IsOrderOf P labels run
   order_too labels run order = record {
     each = λ u h. order.each u (subst (λ n. u < n) (sym counts) h);
     only = subst (λ n. All (λ u. u < n) run) counts order.only;

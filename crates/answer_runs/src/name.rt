@@ -1,3 +1,5 @@
+//! The name of a router of a problem.
+
 ghost use Rattle.std.specs.Prelude.{◌≡◌, [], slice_index_or};
 
 use srp_core::Srp;

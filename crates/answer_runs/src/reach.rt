@@ -1,3 +1,5 @@
+//! The command `reach`.
+
 ghost use Rattle.std.specs.Prelude.{◌≡◌, ◌≤◌, ◌++◌, ℕ, All, List, Contains, IfOk, string_bytes};
 ghost use Rattle.cfg_ast.specs.meaning.Classes.{classes_of};
 ghost use Rattle.io_kit.specs.Ends.{Rose};

@@ -1,7 +1,7 @@
 mod Carried
-mod GroupNames
+pub mod GroupNames
 mod OneAnswer
-mod OneCarry
-mod OneCheck
+pub mod OneCarry
+pub mod OneCheck
 mod ReadBack
 mod SidesApart

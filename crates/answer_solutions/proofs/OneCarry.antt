@@ -1,4 +1,4 @@
--- What `fold` and `lift` tell of a class is determined.
+-- Public: what `fold` and `lift` tell of a class is determined.
 use Rattle.std.proofs.Common.{◌≡◌, ℕ, List, [], ◌∷◌, refl, sym, ap, ◌∙◌, subst, Option}
 use Rattle.std.specs.Prelude.{Contains, IsSome}
 use Rattle.base_kit.specs.declared.act_graph.Edge.{Edge}
@@ -35,7 +35,7 @@ use Rattle.answer_solutions.specs.Carries.{AreSides, IsIfStable, IsOfStable, IsF
 abbrev sides_with : Problem → List ℕ → Problem → Sides
 sides_with problem groups small = record { problem = problem; groups = groups; small = small }
 
-one_sides : (n : Network) (class : DestClass) → Contains (classes_of n) class → BuiltProblemIsOne → (s t : Sides) → AreSides n class s → AreSides n class t → s ≡ t
+pub one_sides : (n : Network) (class : DestClass) → Contains (classes_of n) class → BuiltProblemIsOne → (s t : Sides) → AreSides n class s → AreSides n class t → s ≡ t
 one_sides n class has built s t x y =
     let p = some_prefix n class has in
     let problems = built n class has s.problem t.problem x.built y.built in
@@ -50,7 +50,7 @@ edges_self : (P : Problem) (es : List Edge) → AllEdgesAlike P P es es
 edges_self P [] = tt
 edges_self P (e ∷ es) = (record { importer = refl; exporter = refl; link = refl; acts = alike_self (act_of P e) }, edges_self P es)
 
-problem_self : (P : Problem) → ProblemsAlike P P
+pub problem_self : (P : Problem) → ProblemsAlike P P
 problem_self P = record { protocol = refl; names = refl; numbers = refl; init = refl; lone = refl; edges = edges_self P P.edges }
 
 module _ (P : Problem) (labels : List (Option Route)) (A : Outcome → Type 0) (one : IsStable P labels → (o p : Outcome) → A o → A p → o ≡ p) where

@@ -1,4 +1,4 @@
--- What `check` tells of a class is determined.
+-- Public: what `check` tells of a class is determined.
 use Rattle.std.proofs.Common.{◌≡◌, ℕ, List, [], ◌++◌, refl, sym, ap, ◌∙◌, codes, Option}
 use Rattle.std.specs.Prelude.{Contains, IsSome, slice_index_or}
 use Rattle.cfg_ast.specs.declared.network.Network.{Network}
@@ -21,7 +21,7 @@ module _ (P Q : Problem) (same : ProblemsAlike P Q) (rules : IsProblem P) where
   one_told Stable = refl
   one_told (Not router why) = ap (λ (names : List (List ℕ)). not_stable (slice_index_or names router [] ++ codes " " ++ name_of_break why)) same.names
 
-  one_judgement : (labels : List (Option Route)) (o p : Outcome) → IsJudgement P labels o → IsJudgement Q labels p → o ≡ p
+  pub one_judgement : (labels : List (Option Route)) (o p : Outcome) → IsJudgement P labels o → IsJudgement Q labels p → o ≡ p
   one_judgement labels o p x y =
       x.told ∙ ap (told_of P) (one_answer P Q labels rules same x.fitting x.answer y.answer x.judged y.judged) ∙ one_told y.answer ∙ sym y.told
 

@@ -8,7 +8,7 @@ use Rattle.cfg_ast.specs.declared.classes.DestClass.{DestClass}
 use Rattle.cfg_ast.specs.meaning.Classes.{classes_of}
 use Rattle.cfg_ast.specs.text.Reading.{IsGiven}
 use Rattle.cfg_ast.specs.text.Words.{is_router_name}
-use Rattle.cfg_given.specs.Laws.{GivenIsWellFormed}
+use Rattle.given_laws.specs.Laws.{GivenIsWellFormed}
 use Rattle.cfg_check.specs.Faultless.{IsFaultless}
 use Rattle.srp_core.specs.declared.route.Route.{Route}
 use Rattle.srp_core.specs.Problem.{Problem, IsProblem}

@@ -3,8 +3,8 @@
 ghost use Rattle.answer_solutions.specs.OneAnswer.{CheckAnswerIsOne, FoldAnswerIsOne, LiftAnswerIsOne};
 ghost use Rattle.answer_solutions.specs.ReadBack.{FoldIsReadBack, LiftIsReadBack};
 
-use cfg_given::given_is_well_formed;
 use class_laws::built_problem_is_one;
+use given_laws::given_is_well_formed;
 use solution_lift::laws::{folding_is_one, lifting_is_one};
 use solution_round_trip::{printed_is_read_back, stable_is_in_range, stable_of_groups_is_in_range};
 use srp_quotient::laws::quotient_is_quotient;

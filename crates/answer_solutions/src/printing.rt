@@ -1,3 +1,5 @@
+//! The text of the labels that a command writes.
+
 ghost use Rattle.std.specs.Prelude.{◌≡◌, length};
 ghost use Rattle.srp_core.specs.Stability.{AreLabels};
 ghost use Rattle.solution_text.specs.Printed.{labels_text};

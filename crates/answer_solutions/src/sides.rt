@@ -1,3 +1,5 @@
+//! Both sides of `fold` and `lift`: the problem of a class and that of its groups.
+
 ghost use Rattle.std.specs.Prelude.{◌≡◌, ℕ, IfOk, Contains};
 ghost use Rattle.base_kit.specs.Partition.{IsNumbered};
 ghost use Rattle.cfg_ast.specs.meaning.Classes.{classes_of};

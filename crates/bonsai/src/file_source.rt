@@ -1,3 +1,5 @@
+//! Files of the system, as a source.
+
 ghost use Rattle.std.specs.Prelude.{None, true};
 ghost use Rattle.bonsai.specs.Adapters.{rest_of};
 

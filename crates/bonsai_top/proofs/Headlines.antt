@@ -8,17 +8,14 @@ use Rattle.cfg_ast.specs.declared.network.Network.{Network}
 use Rattle.cfg_ast.specs.declared.refusal.ReadRefusal.{ReadRefusal}
 use Rattle.cfg_ast.specs.declared.refusal.ReadRefusal.TheVariants as read_refusal
 use Rattle.cfg_ast.specs.meaning.Classes.{classes_of}
-use Rattle.cfg_ast.specs.declared.refusal.Fault.{Fault}
-use Rattle.cfg_ast.specs.meaning.Meaning.{judged, refused_by, least_fault, lesser_fault, meaning_faults}
-use Rattle.cfg_ast.specs.text.Reading.{network_of_text, reading_of}
-use Rattle.cfg_ast.specs.text.Stanzas.{◌>>=◌}
-use Rattle.cfg_check.specs.Faultless.{IsFaultless}
-use Rattle.cfg_check.proofs.Faultless.{faultless_of}
+use Rattle.cfg_ast.specs.text.Reading.{reading_of}
 use Rattle.cfg_print.specs.Prints.{is_too_long}
 use Rattle.config_emit.specs.Pool.{pool_line}
 use Rattle.compress_laws.specs.Compressed.{Compresses}
 use Rattle.compress_laws.specs.Laws.{compressed_text, PlanCompresses}
 use Rattle.io_kit.specs.Ends.{with_end}
+use Rattle.reading_laws.specs.WellRead.{IsRead}
+use Rattle.reading_laws.proofs.WellRead.{reads_well}
 use Rattle.bonsai_top.specs.declared.command.Command.{Command}
 use Rattle.bonsai_top.specs.declared.command.Command.TheVariants as command
 use Rattle.answer_kit.specs.declared.status.Status.{Status}
@@ -35,44 +32,6 @@ use Rattle.bonsai_top.proofs.DoneCarries.{fold_is_done, lift_is_done}
 use Rattle.answer_solutions.specs.Carries.{IsFoldAnswer, IsLiftAnswer}
 use Rattle.answer_solutions.specs.ReadBack.{FoldIsReadBack, LiftIsReadBack}
 use Rattle.bonsai_top.specs.Words.{file_of, second_of}
-
--- ---- a network that is accepted has no fault
-
-no_fault : (fs : List Fault) → least_fault fs ≡ None → fs ≡ []
-no_fault [] e = refl
-no_fault (f ∷ fs) e = absurd (step (least_fault fs) e)
-  where
-    by : (b : Bool) (g : Fault) → (if b then Some g else Some f) ≡ None → ⊥
-    by true g e = cc
-    by false g e = cc
-
-    step : (o : Option Fault) → lesser_fault (Some f) o ≡ None → ⊥
-    step None e = cc
-    step (Some g) e = by _ g e
-
-accepted : (n m : Network) (o : Option Fault) → refused_by n o ≡ Ok m → (o ≡ None) × (n ≡ m)
-accepted n m None e = (refl, cc)
-accepted n m (Some f) e = absurd cc
-
-judged_well : (n m : Network) → judged n ≡ Ok m → IsFaultless n × (n ≡ m)
-unfolding judged
-judged_well n m e = let a = accepted n m (least_fault (meaning_faults n)) e in (faultless_of n (no_fault (meaning_faults n) a.0), a.1)
-
--- ---- a network that was read
-
-record IsRead (text : List ℕ) (n : Network) : Type 0 where
-  given : network_of_text text ≡ Ok n
-  faultless : IsFaultless n
-
-reads_well : (text : List ℕ) (n : Network) → reading_of text ≡ Ok n → IsRead text n
-unfolding reading_of
-reads_well text n e = step (network_of_text text) refl e
-  where
-    step : (r : Result Network ReadRefusal) → network_of_text text ≡ r → (r >>= judged) ≡ Ok n → IsRead text n
-    step (Err refusal) is e = absurd cc
-    step (Ok m) is e =
-        let j = judged_well m n e in
-        record { given = is ∙ ap (λ (k : Network). Ok k) j.1; faultless = subst IsFaultless j.1 j.0 }
 
 -- ---- the bytes that were written
 

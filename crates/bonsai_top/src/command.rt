@@ -1,3 +1,5 @@
+//! The words of a call, and the command that they name.
+
 ghost use Rattle.std.specs.Prelude.{◌≡◌};
 ghost use Rattle.bonsai_top.specs.Words.{words_of, short_number_of, form_on_file, form_on_class, form_on_second, form_of, file_of, second_of};
 ghost use Rattle.bonsai_top.specs.Commands.{built, command_of};

@@ -1,3 +1,5 @@
+//! How a reply is told to the outputs.
+
 ghost use Rattle.std.specs.Prelude.{◌≡◌, ◌≢◌, ◌≤◌, ◌++◌, ◌⊎◌, [], OnOk, OnErr};
 ghost use Rattle.io_kit.specs.Ends.{Rose, Took, TookPart};
 ghost use Rattle.answer_kit.specs.Outcome.{done};

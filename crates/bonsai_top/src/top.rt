@@ -1,3 +1,5 @@
+//! The one public call of the program.
+
 ghost use Rattle.std.specs.Prelude.{◌≡◌, ◌≤◌, ◌⊎◌, ℕ, List, Some, None, IsSome, false};
 ghost use Rattle.io_kit.specs.Ends.{Rose};
 ghost use Rattle.bonsai_top.specs.Words.{words_of, file_of, second_of};

@@ -1,3 +1,5 @@
+//! The work of a command, up to its reply.
+
 ghost use Rattle.std.specs.Prelude.{◌≡◌, ◌≤◌, ℕ, List, length, codes, Some, false};
 ghost use Rattle.cfg_ast.specs.text.Reading.{reading_of};
 ghost use Rattle.io_kit.specs.Ends.{Rose};

@@ -1,5 +1,5 @@
 -- What is written of a plan compresses the network.
-use Rattle.std.proofs.Common.{◌≡◌, ◌<◌, ℕ, max, List, sym, ap, ◌∙◌, length, subst, Ok}
+use Rattle.std.proofs.Common.{◌≡◌, ◌<◌, ◌≤◌, ℕ, max, List, sym, ap, ◌∙◌, length, subst, Ok}
 use Rattle.std.specs.Prelude.{map, filter, Option, Contains}
 use Rattle.std.specs.List.{range_with_len}
 use Rattle.base_kit.specs.Prefixes.{Prefix}
@@ -31,7 +31,7 @@ use Rattle.cfg_ast.specs.declared.topology.Link.{Link}
 use Rattle.compress_laws.specs.Compressed.{IsCompressedFor, Compresses}
 use Rattle.compress_laws.specs.GroupLinks.{joins, HasLinksForActs}
 use Rattle.compress_laws.specs.Laws.{compressed_text, HasProblemOfGroups}
-use Rattle.emit_forms.proofs.Groups.{problem_of}
+use Rattle.emit_form_laws.proofs.Groups.{problem_of}
 use Rattle.compress_laws.proofs.ActEdges.{edges_at, as_many_edges, one_of_each}
 use Rattle.compress_laws.proofs.LinkCounts.{joins_groups, as_many_as_acts, as_many_as_planned}
 use Rattle.compress_laws.proofs.Names.{names_noted, names_read}
@@ -106,8 +106,8 @@ module _ (g : Given) (e : Plan) (plan : IsPlan e) (coarse : IsCoarsest e.problem
   unfolding emitted
   as_many read same = sym (length-map read.routers bare_router) ∙ ap (λ (n : Network). length n.routers) same ∙ length-map (map (emitted_router e) (range_with_len 0 e.count)) bare_router ∙ length-map-range_with_len (emitted_router e) 0 e.count
 
-  pub compresses : HasFewLines (emitted e) (notes_of e) → Compresses e.network e.class (compressed_text e)
-  compresses few =
+  pub compresses : HasFewLines (emitted e) (notes_of e) → length (compressed_text e) ≤ 16777216 → Compresses e.network e.class (compressed_text e)
+  compresses few short =
       let can = g.can_be_printed e plan in
       let back = g.read_back (emitted e) (notes_of e) can.well_formed can.notes few can.short in
       let stands = g.stands e plan back.read back.same in
@@ -119,6 +119,7 @@ module _ (g : Given) (e : Plan) (plan : IsPlan e) (coarse : IsCoarsest e.problem
         count = e.count;
         numbered = plan.numbered;
         read = back.read;
+        short = short;
         reads = accepted_text back.read (compressed_text e) back.reads (g.accepted back.read stands.faultless);
         routers = many;
         names = names_read e some.prefix back.read some.of (stands.problem some.prefix some.has);

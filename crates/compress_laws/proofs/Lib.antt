@@ -4,4 +4,4 @@ mod FirstActs
 mod LinkCounts
 mod Names
 mod Plans
-mod Texts
+pub mod Texts

@@ -10,7 +10,7 @@ use Rattle.base_kit.specs.declared.act_graph.Edge.{Edge}
 use Rattle.abstract_net.specs.declared.qlink.QLink.{QLink}
 use Rattle.abstract_net.specs.Links.{acts_into, group_link, links_of_pair, group_links_from, quotient_links}
 use Rattle.config_emit.specs.Plan.{Plan}
-use Rattle.emit_links.specs.Laws.{link_at}
+use Rattle.emit_link_laws.specs.Laws.{link_at}
 use Rattle.compress_laws.specs.GroupLinks.{joins}
 
 -- ---- what a filter keeps

@@ -8,14 +8,14 @@ use Rattle.cfg_ast.specs.meaning.Classes.{classes_of}
 use Rattle.cfg_ast.specs.meaning.PolicyFaults.{communities_of}
 use Rattle.cfg_ast.specs.text.Reading.{IsGiven}
 use Rattle.cfg_check.specs.Faultless.{IsFaultless}
-use Rattle.cfg_given.specs.Laws.{GivenIsWellFormed}
+use Rattle.given_laws.specs.Laws.{GivenIsWellFormed}
 use Rattle.srp_build.specs.Laws.{HasMapsThatPrint, HasMapsWithin, ActsPrint, ActsStayWithin}
 use Rattle.srp_core.specs.declared.route.Act.{Act}
 use Rattle.srp_core.specs.declared.route.Act.TheVariants.{Import, Cost}
 use Rattle.config_emit.specs.Laws.{IsPlan, IsPrintableAct, IsActWithin}
 use Rattle.config_emit.specs.Plan.{Plan}
 use Rattle.config_emit.specs.Pool.{pool_line}
-use Rattle.emit_forms.proofs.Origins.{class_is, some_prefix}
+use Rattle.emit_form_laws.proofs.Origins.{class_is, some_prefix}
 use Rattle.compress_laws.specs.Built.{IsPlanOf}
 use Rattle.compress_laws.specs.Laws.{PlanFits}
 

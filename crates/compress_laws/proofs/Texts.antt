@@ -1,5 +1,5 @@
--- The text of a class's plan compresses the network.
-use Rattle.std.proofs.Common.{◌≡◌, ℕ, ◌≤◌, Bool, true, false, ◌||◌, List, length, subst, arith}
+-- Public: the text of a class's plan compresses the network.
+use Rattle.std.proofs.Common.{◌≡◌, ℕ, ◌≤◌, Bool, true, false, ◌||◌, List, length, refl, subst, arith}
 use Rattle.std.specs.Prelude.{nat_lt}
 use Rattle.std.proofs.lemmas.Bool.Decides.{nat_tests}
 use Rattle.cfg_ast.specs.declared.classes.DestClass.{DestClass}
@@ -20,11 +20,20 @@ few : (bs : List ℕ) → is_too_long bs ≡ false → count_newlines bs ≤ 100
 unfolding is_too_long
 few bs e = let f = second (nat_lt 16777216 (length bs)) (nat_lt 1000000 (count_newlines bs)) e in grind (arith, nat_tests)
 
+first : (a b : Bool) → (a || b) ≡ false → a ≡ false
+first true b e = e
+first false b e = refl
+
+-- what is not too long is short enough for a text
+pub short_text : (bs : List ℕ) → is_too_long bs ≡ false → length bs ≤ 16777216
+unfolding is_too_long
+short_text bs e = let f = first (nat_lt 16777216 (length bs)) (nat_lt 1000000 (count_newlines bs)) e in grind (arith, nat_tests)
+
 pub plan_compresses : PlanFits → TextCompresses → PlanCompresses
 plan_compresses fits compresses n class e given ok has is apart short =
     subst (λ (c : DestClass). Compresses n c (compressed_text e)) is.class_is
     (subst (λ (m : Network). Compresses m e.class (compressed_text e)) is.network_is
-    (compresses e (fits n class e given ok has is apart) is.coarsest (few (compressed_text e) short)))
+    (compresses e (fits n class e given ok has is apart) is.coarsest (few (compressed_text e) short) (short_text (compressed_text e) short)))
 
 pub text_has_problem : PlanFits → EmittedCanBePrinted → EmittedStandsForGroups → PrintedIsReadBack → FaultlessIsAccepted → TextHasProblemOfGroups
 text_has_problem fits printed stands back accepted n class e given ok has is apart short =

@@ -53,7 +53,7 @@ names_of_groups network groups count = map (λ g. map (router_name network) (mem
 abbrev pub names_of_first_members : Network → List ℕ → ℕ → List (List ℕ)
 names_of_first_members network groups count = map (λ g. router_name network (first_member groups g)) (range_with_len 0 count)
 
--- The bytes are read without refusal, as a network whose routers are the groups, in their order, each under
+-- The bytes are few enough for a text, and are read without refusal, as a network whose routers are the groups, in their order, each under
 -- the name of its first member, and whose notes name the members. It has no more routers and no more links, and is the compressed network for
 -- every prefix of the class.
 pub record Compresses (network : Network) (class : DestClass) (bytes : List ℕ) : Type 0 where
@@ -61,6 +61,7 @@ pub record Compresses (network : Network) (class : DestClass) (bytes : List ℕ)
   pub count : ℕ
   pub numbered : IsNumbered groups count
   pub read : Network
+  pub short : length bytes ≤ 16777216
   pub reads : reading_of bytes ≡ Ok read
   pub routers : length read.routers ≡ count
   pub names : map name_of_router read.routers ≡ names_of_first_members network groups count

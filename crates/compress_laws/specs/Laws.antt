@@ -1,5 +1,5 @@
 -- What is written of a plan is the compressed network.
-use Rattle.std.specs.Prelude.{◌≡◌, ℕ, false, List, None, Ok, Contains}
+use Rattle.std.specs.Prelude.{◌≡◌, ◌≤◌, ℕ, false, List, length, None, Ok, Contains}
 use Rattle.base_kit.specs.Prefixes.{Prefix}
 use Rattle.cfg_print.specs.Prints.{is_too_long}
 use Rattle.cfg_ast.specs.declared.classes.DestClass.{DestClass}
@@ -22,9 +22,9 @@ use Rattle.compress_laws.specs.Compressed.{Compresses}
 abbrev pub compressed_text : Plan → List ℕ
 compressed_text e = printed (emitted e) (notes_of e)
 
--- Where its groups are the coarsest ones and it has at most 1,000,000 lines, it compresses the network.
+-- Where its groups are the coarsest ones and it has at most 1,000,000 lines and 16,777,216 bytes, it compresses the network.
 abbrev pub TextCompresses : Type 0
-TextCompresses = (e : Plan) → IsPlan e → IsCoarsest e.problem e.groups → HasFewLines (emitted e) (notes_of e) → Compresses e.network e.class (compressed_text e)
+TextCompresses = (e : Plan) → IsPlan e → IsCoarsest e.problem e.groups → HasFewLines (emitted e) (notes_of e) → length (compressed_text e) ≤ 16777216 → Compresses e.network e.class (compressed_text e)
 
 -- A plan of a class of a network that may be used fits together, where no prefix of the class meets the
 -- addresses of the links.

@@ -5,7 +5,7 @@ ghost use Rattle.compress_laws.specs.Laws.{TextCompresses, PlanFits, PlanCompres
 pub fn text_compresses()
     ensures { TextCompresses }
 {
-    emit_forms::laws::emitted_can_be_printed();
+    emit_form_laws::laws::emitted_can_be_printed();
     emit_laws::laws::emitted_has_planned_links();
     emit_laws::laws::emitted_is_no_larger();
     emit_laws::laws::emitted_stands_for_groups();
@@ -24,7 +24,7 @@ pub fn text_compresses()
 pub fn plan_fits()
     ensures { PlanFits }
 {
-    cfg_given::given_is_well_formed();
+    given_laws::given_is_well_formed();
     srp_build::laws::acts_print();
     srp_build::laws::acts_stay_within();
 }
@@ -42,7 +42,7 @@ pub fn text_has_problem_of_groups()
     ensures { TextHasProblemOfGroups }
 {
     plan_fits();
-    emit_forms::laws::emitted_can_be_printed();
+    emit_form_laws::laws::emitted_can_be_printed();
     emit_laws::laws::emitted_stands_for_groups();
     cfg_round_trip::printed_is_read_back();
     cfg_check::laws::faultless_is_accepted();

@@ -1,3 +1,5 @@
+//! The line of the counts of a class.
+
 ghost use Rattle.std.specs.Prelude.{◌≡◌, ◌++◌, IfOk, OnOk, string_bytes};
 ghost use Rattle.group_report.specs.Reports.{class_words, network_words, group_words, count_line};
 

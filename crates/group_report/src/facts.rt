@@ -1,3 +1,5 @@
+//! What a report says of a router.
+
 ghost use Rattle.std.specs.Prelude.{◌≡◌};
 ghost use Rattle.srp_core.specs.Problem.{is_lone};
 ghost use Rattle.group_report.specs.GroupLines.{name_at, originates};

@@ -1,3 +1,5 @@
+//! The lines of the groups.
+
 ghost use Rattle.std.specs.Prelude.{◌≡◌, ◌++◌, IfOk, OnOk, flat_map, string_bytes};
 ghost use Rattle.base_kit.specs.Partition.{IsNumbered};
 ghost use Rattle.group_report.specs.GroupLines.{mark_of, group_mark, member_word, group_line, line_of_group, group_lines, HasGroupLines};

@@ -1,3 +1,5 @@
+//! The values of that JSON.
+
 ghost use Rattle.std.specs.Prelude.{◌≡◌, IfOk, map, string_bytes};
 ghost use Rattle.base_kit.specs.Partition.{IsNumbered};
 ghost use Rattle.cfg_ast.specs.printing.Printed.{address_text};

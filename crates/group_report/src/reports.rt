@@ -1,3 +1,5 @@
+//! The report as lines of text.
+
 ghost use Rattle.std.specs.Prelude.{◌≡◌, ◌++◌, IfOk, OnOk, flat_map, string_bytes};
 ghost use Rattle.base_kit.specs.Partition.{IsNumbered};
 ghost use Rattle.group_report.specs.Reports.{unmatched_line, report_text, HasReport};

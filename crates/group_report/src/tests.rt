@@ -1,3 +1,5 @@
+//! The line of the counts.
+
 use crate::count_line;
 use std::test::Fail;
 

@@ -2,7 +2,7 @@ use Rattle.compress_laws.proofs.Compressing.{compresses}
 use Rattle.compress_laws.proofs.laws.text_compresses.Goals as goal
 
 pub returns : goal.returns
-returns c = λ e plan coarse few. compresses (record {
+returns c = λ e plan coarse few short. compresses (record {
   can_be_printed = c.emitted_can_be_printed.ensures;
   stands = c.emitted_stands_for_groups.ensures;
   planned_links = c.emitted_has_planned_links.ensures;
@@ -16,4 +16,4 @@ returns c = λ e plan coarse few. compresses (record {
   alike = c.problems_of_one_prefix.ensures;
   coarsest = c.partitions.ensures.coarsest;
   quotients = c.quotients.ensures;
-}) e plan coarse few
+}) e plan coarse few short
