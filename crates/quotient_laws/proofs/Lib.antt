@@ -1,0 +1,2 @@
+mod CarriedBack
+mod Pictures

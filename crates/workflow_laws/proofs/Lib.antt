@@ -1,0 +1,14 @@
+mod Again
+mod Answers
+mod Asked
+mod Certified
+mod Down
+mod Kept
+mod Named
+mod Rests
+mod RoundTrips
+mod Schedules
+mod ShortOrders
+mod Told
+mod Up
+mod Verdicts

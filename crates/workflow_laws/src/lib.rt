@@ -1,0 +1,103 @@
+//! What the commands do together, as laws over the words that a person types.
+//!
+//! A person compresses a network, asks the small network and carries the answer back. Each law says what the
+//! outcome of one command is by that of another, for all words and contents of files that are told. A law is the
+//! contract of a function that does nothing: whoever needs one calls it.
+#![tactic(auto)]
+
+ghost use Rattle.workflow_laws.specs.Again.{CompressedAgain};
+ghost use Rattle.workflow_laws.specs.CarriedDown.{CheckIsFold, WhatIsFoldedIsLifted, WhatIsFoldedIsStableBelow};
+ghost use Rattle.workflow_laws.specs.CarriedUp.{CheckBelowIsLift, WhatIsLiftedIsStable};
+ghost use Rattle.workflow_laws.specs.Certificates.{WhatIsCertifiedIsVerified};
+ghost use Rattle.workflow_laws.specs.Orders.{WhatIsReachedRests};
+ghost use Rattle.workflow_laws.specs.Questions.{SmallAnswersForLarge};
+
+use answer_certificates::laws::verify_answer_is_one;
+use answer_solutions::laws::{fold_is_read_back, lift_is_read_back};
+use class_laws::built_problem_is_one;
+use compress_laws::laws::{plan_compresses, text_has_problem_of_groups};
+use given_laws::given_is_well_formed;
+use quotient_laws::{pictures_agree, questions_carry, quotient_is_smallest};
+use reading_laws::what_is_read_is_well;
+use srp_quotient::laws::quotient_is_quotient;
+
+/// `check` of the small network and `lift` of the large one have one outcome, but for what is written
+/// where the work is done.
+pub fn check_below_is_lift()
+    ensures { CheckBelowIsLift }
+{
+    what_is_read_is_well();
+    built_problem_is_one();
+    text_has_problem_of_groups();
+}
+
+/// What `lift` writes is stable in the large network.
+pub fn what_is_lifted_is_stable()
+    ensures { WhatIsLiftedIsStable }
+{
+    what_is_read_is_well();
+    lift_is_read_back();
+}
+
+/// `check` and `fold` have one outcome, but for what is written where the work is done.
+pub fn check_is_fold()
+    ensures { CheckIsFold }
+{}
+
+/// What `fold` writes is stable in the small network.
+pub fn what_is_folded_is_stable_below()
+    ensures { WhatIsFoldedIsStableBelow }
+{
+    what_is_read_is_well();
+    built_problem_is_one();
+    text_has_problem_of_groups();
+    fold_is_read_back();
+}
+
+/// `lift` takes what `fold` writes.
+pub fn what_is_folded_is_lifted()
+    ensures { WhatIsFoldedIsLifted }
+{
+    what_is_read_is_well();
+    built_problem_is_one();
+    fold_is_read_back();
+}
+
+/// `verify` says yes to what `certify` writes.
+pub fn what_is_certified_is_verified()
+    ensures { WhatIsCertifiedIsVerified }
+{
+    what_is_read_is_well();
+    answer_certificates::laws::what_is_certified_is_verified();
+    verify_answer_is_one();
+}
+
+/// `run` of the order that `reach` writes rests in stable labels with the keys of the solution.
+pub fn what_is_reached_rests()
+    ensures { WhatIsReachedRests }
+{
+    what_is_read_is_well();
+    given_is_well_formed();
+}
+
+/// The groups of the small network are its routers: compressed again it gets no smaller.
+pub fn compressed_again()
+    ensures { CompressedAgain }
+{
+    what_is_read_is_well();
+    built_problem_is_one();
+    text_has_problem_of_groups();
+    quotient_is_quotient();
+    quotient_is_smallest();
+}
+
+/// Questions that are asked of groups, as reachability, path lengths and waypoints, have one answer in the
+/// large network and in the small one.
+pub fn small_answers_for_large()
+    ensures { SmallAnswersForLarge }
+{
+    what_is_read_is_well();
+    plan_compresses();
+    pictures_agree();
+    questions_carry();
+}
