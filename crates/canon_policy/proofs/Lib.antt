@@ -1,0 +1,15 @@
+mod Carried
+mod Firsts
+mod FixedNodes
+mod Follows
+mod Imports
+mod Least
+mod Leaves
+mod ListLaws
+mod Plain
+mod SameSets
+mod Splits
+mod Told
+mod Values
+mod Verdicts
+mod Walks

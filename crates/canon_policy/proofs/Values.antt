@@ -1,0 +1,147 @@
+-- Values of nodes on sets, and the communities on which they depend.
+use Rattle.std.proofs.Common.{◌≡◌, ◌≢◌, ℕ, ◌+◌, ◌<◌, ◌≤◌, max, Bool, true, false, not, ◌&&◌, ◌||◌, cond, nat_lt, nat_eq, List, [], ◌∷◌, length, get_or, filter, Option, Some, None, refl, sym, ◌∙◌, ap, arith, inl, inr, ◌⊎◌}
+use Rattle.std.specs.Prelude.{if◌then◌else◌, find, MatchOption}
+use Rattle.std.specs.Bool.{beq}
+use Rattle.std.specs.List.{list_any, list_all}
+use Rattle.std.specs.Option.{option_map}
+use Rattle.std.proofs.Math.Path.{fun_ext}
+use Rattle.std.proofs.lemmas.Bool.{cases_lt}
+use Rattle.std.proofs.lemmas.Bool.Decides.{nat_tests}
+use Rattle.base_kit.specs.declared.ids.Community.{Community}
+use Rattle.base_kit.specs.Sets.{has, with_number, without_number, AllAbove, IsAscending}
+use Rattle.base_kit.proofs.SetFacts.{same_number, other_number, has-with_number, has-filter, has_not, ascending_filter}
+use Rattle.base_kit.proofs.Elements.{In}
+use Rattle.dd_core.specs.Sets.{Shown, IsShown, Grows, Means, value_of, test_of, has_others}
+use Rattle.dd_core.specs.Reach.{DependsOn, IsFirstOf, DependsOnNone, DependsOnOthers}
+use Rattle.dd_core.proofs.SetLemmas.{value_agrees}
+use Rattle.dd_core.proofs.SupportLemmas.{has-index, any-with_number}
+use Rattle.canon_policy.specs.Functions.{as_set, outside_of}
+use Rattle.canon_policy.specs.Fixings.{depends, least, yes, sets_of}
+use Rattle.canon_policy.specs.Hanging.{SameOn, TestHangsOn, NumberHangsOn}
+use Rattle.canon_policy.specs.Nodes.{AgreeAt, Tells, number_of, lesser}
+use Rattle.canon_policy.proofs.SameSets.{in_any, any_in, none_in, named, named_same, same_sets, has-as_set, ascending-as_set, with_there, without_absent, has-without_number}
+use Rattle.canon_policy.proofs.Least.{in_has, has_in, equal, Differing, depends_differ, differ_depends, is_found, none_found}
+use Rattle.canon_policy.proofs.Splits.{yes_hangs}
+
+both_true : (a b : Bool) → (a ≡ true → b ≡ true) → (b ≡ true → a ≡ true) → a ≡ b
+both_true true b f g = sym (f refl)
+both_true false true f g = g refl
+both_true false false f g = refl
+
+any_same : (p : ℕ → Bool) (a b : List ℕ) → ((c : ℕ) → has a c ≡ has b c) → list_any p a ≡ true → list_any p b ≡ true
+any_same p a b same e =
+    let f = in_any p a e in
+    any_in p b f.item (has_in b f.item (sym (same f.item) ∙ in_has a f.item f.there)) f.passes
+
+-- sets with the same communities have one value
+pub value_same : (shown : Shown) → IsShown shown → (node : ℕ) → node < length shown.nodes → (a b : List ℕ) → ((c : ℕ) → has a c ≡ has b c) → value_of shown a node ≡ value_of shown b node
+unfolding value_of
+value_same shown is node inside a b same =
+    value_agrees shown.nodes (length shown.universe) (test_of shown.universe a) (test_of shown.universe b) (length shown.nodes) node is.store is.within
+    (λ v le. elim (cases_lt v (length shown.universe)) [
+      | inl lt ↦ (let e : nat_lt v (length shown.universe) ≡ true = grind (arith, nat_tests) in rw e (same (get_or shown.universe v 0)))
+      | inr ge ↦ (let e : nat_lt v (length shown.universe) ≡ false = grind (arith, nat_tests) in rw e (both_true (has_others shown.universe a) (has_others shown.universe b) (any_same (λ c. not (has shown.universe c)) a b same) (any_same (λ c. not (has shown.universe c)) b a (λ c. sym (same c)))))
+    ]) inside inside
+
+-- what depends on no community outside the universe hangs on the universe
+all_below : (n : ℕ) (xs : List ℕ) (x : ℕ) → outside_of xs ≤ n → In xs x → x < n
+all_below n [] x le h = absurd h
+all_below n (y ∷ ys) x le (inl e) = omega arith
+all_below n (y ∷ ys) x le (inr h) = all_below n ys x (omega arith) h
+
+pub outside_not : (universe : List ℕ) → has universe (outside_of universe) ≡ false
+outside_not universe = by (has universe (outside_of universe)) refl
+  where
+    by : (b : Bool) → has universe (outside_of universe) ≡ b → b ≡ false
+    by true e = let lt = all_below (outside_of universe) universe (outside_of universe) (omega arith) (has_in universe (outside_of universe) e) in absurd (omega arith)
+    by false e = refl
+
+none_others : (universe set : List ℕ) → list_any (λ c. not (has universe c)) (filter (has set) universe) ≡ false
+none_others universe set = by (list_any (λ c. not (has universe c)) (filter (has set) universe)) refl
+  where
+    by : (b : Bool) → list_any (λ c. not (has universe c)) (filter (has set) universe) ≡ b → b ≡ false
+    by true e =
+        let f = in_any (λ c. not (has universe c)) (filter (has set) universe) e in
+        let h = in_has (filter (has set) universe) f.item f.there in
+        let h' = has-filter (has set) universe f.item in
+        let known : has universe f.item ≡ true = part (has set f.item) (has universe f.item) (sym h' ∙ h) in
+        let passes = f.passes in
+        let no : not (has universe f.item) ≡ false = rw known refl in
+        absurd cc
+      where
+        part : (a b : Bool) → a && b ≡ true → b ≡ true
+        part true b e = e
+        part false b e = absurd cc
+    by false e = refl
+
+-- the tests of a set are those of its part in the universe, with a community outside where it has one
+tests_named : (universe set : List ℕ) (outside : ℕ) (v : ℕ) → v ≤ length universe → has universe outside ≡ false → has_others universe set ≡ true → test_of universe set v ≡ test_of universe (with_number outside (named universe set)) v
+tests_named universe set outside v le none others = elim (cases_lt v (length universe)) [
+  | inl lt ↦
+      let e : nat_lt v (length universe) ≡ true = grind (arith, nat_tests) in
+      let c : ℕ = get_or universe v 0 in
+      let known = has-index universe v lt in
+      let ne : nat_eq outside (get_or universe v 0) ≡ false = other_number outside (get_or universe v 0) (λ same. let h = ap (has universe) same in cc) in
+      rw e (sym ((named_same universe set).same (get_or universe v 0) known) ∙ sym (has-with_number outside (named universe set) (get_or universe v 0) ∙ rw ne refl))
+  | inr ge ↦
+      let e : nat_lt v (length universe) ≡ false = grind (arith, nat_tests) in
+      rw e (others ∙ sym (any-with_number (λ c. not (has universe c)) outside (named universe set) ∙ rw none refl))
+]
+
+tests_bare : (universe set : List ℕ) (v : ℕ) → v ≤ length universe → has_others universe set ≡ false → test_of universe set v ≡ test_of universe (named universe set) v
+tests_bare universe set v le others = elim (cases_lt v (length universe)) [
+  | inl lt ↦
+      let e : nat_lt v (length universe) ≡ true = grind (arith, nat_tests) in
+      rw e (sym ((named_same universe set).same (get_or universe v 0) (has-index universe v lt)))
+  | inr ge ↦
+      let e : nat_lt v (length universe) ≡ false = grind (arith, nat_tests) in
+      rw e (others ∙ sym (none_others universe set))
+]
+
+-- equal unless shown to be different
+unless : (a b : Bool) → (a ≢ b → ⊥) → a ≡ b
+unless true true f = refl
+unless true false f = absurd (f (λ e. cc))
+unless false true f = absurd (f (λ e. cc))
+unless false false f = refl
+
+pub value_named : (shown : Shown) → IsShown shown → (node : ℕ) → node < length shown.nodes → (DependsOnOthers shown node → ⊥) → (set : List ℕ) → value_of shown set node ≡ value_of shown (named shown.universe set) node
+unfolding value_of
+value_named shown is node inside none set = by (has_others shown.universe set) refl
+  where
+    out : ℕ
+    out = outside_of shown.universe
+
+    by : (b : Bool) → has_others shown.universe set ≡ b → value_of shown set node ≡ value_of shown (named shown.universe set) node
+    by true others =
+        value_agrees shown.nodes (length shown.universe) (test_of shown.universe set) (test_of shown.universe (with_number (outside_of shown.universe) (named shown.universe set))) (length shown.nodes) node is.store is.within
+        (λ v le. tests_named shown.universe set (outside_of shown.universe) v le (outside_not shown.universe) others) inside inside
+        ∙ unless (value_of shown (with_number (outside_of shown.universe) (named shown.universe set)) node) (value_of shown (named shown.universe set) node) (λ ne. none (record {
+          community = outside_of shown.universe;
+          outside = outside_not shown.universe;
+          depends = record { set = named shown.universe set; ascending = ascending_filter (has set) shown.universe is.ascending; differ = ne };
+        }))
+    by false others =
+        value_agrees shown.nodes (length shown.universe) (test_of shown.universe set) (test_of shown.universe (named shown.universe set)) (length shown.nodes) node is.store is.within
+        (λ v le. tests_bare shown.universe set v le others) inside inside
+
+pub named_equal : (universe a b : List ℕ) → SameOn universe a b → (c : ℕ) → has (named universe a) c ≡ has (named universe b) c
+named_equal universe a b same c = has-filter (has a) universe c ∙ by (has universe c) refl ∙ sym (has-filter (has b) universe c)
+  where
+    by : (u : Bool) → has universe c ≡ u → has a c && u ≡ has b c && u
+    by true known = ap (λ x. x && true) (same.same c known)
+    by false known = none (has a c) (has b c)
+      where
+        none : (x y : Bool) → x && false ≡ y && false
+        none true true = refl
+        none true false = refl
+        none false true = refl
+        none false false = refl
+
+pub node_hangs : (shown : Shown) → IsShown shown → (node : ℕ) → node < length shown.nodes → (DependsOnOthers shown node → ⊥) → TestHangsOn shown.universe (λ set. value_of shown set node)
+node_hangs shown is node inside none = record {
+  same = λ a b same.
+      value_named shown is node inside none a
+      ∙ value_same shown is node inside (named shown.universe a) (named shown.universe b) (named_equal shown.universe a b same)
+      ∙ sym (value_named shown is node inside none b);
+}

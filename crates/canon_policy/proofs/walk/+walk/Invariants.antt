@@ -1,0 +1,4 @@
+use Rattle.canon_policy.proofs.walk.+walk.Given as goal
+
+abbrev pub decreases-walk : goal.decreases-walk
+decreases-walk l = l.depth

@@ -1,0 +1,18 @@
+-- Import functions on which communities outside a universe bear only by being kept or not. Such are those of
+-- maps that name communities of the universe and match none of them exactly.
+use Rattle.std.specs.Prelude.{◌≡◌, ℕ, true, false, ◌&&◌, List, Option, Some}
+use Rattle.base_kit.specs.Sets.{has, IsAscending}
+use Rattle.route_maps.specs.declared.plain.Imported.{Imported}
+use Rattle.canon_policy.specs.Functions.{accepts, carries, keeps, preference, count}
+use Rattle.canon_policy.specs.Hanging.{TestHangsOn, NumberHangsOn}
+
+-- Acceptance, the preference, the count and whether a community of the universe is in the result depend on
+-- the communities of the universe that the set has. The others are all kept, or none is.
+pub record IsPlain (universe : List ℕ) (f : List ℕ → Option Imported) : Type 0 where
+  pub accepted : TestHangsOn universe (accepts f)
+  pub kept : TestHangsOn universe (keeps f universe)
+  pub lp : NumberHangsOn universe (preference f)
+  pub adds : NumberHangsOn universe (count f)
+  pub carried : (c : ℕ) → has universe c ≡ true → TestHangsOn universe (carries f c)
+  pub unnamed : (set : List ℕ) (c : ℕ) → has universe c ≡ false → carries f c set ≡ has set c && keeps f universe set
+  pub ascending : (set : List ℕ) (import : Imported) → f set ≡ Some import → IsAscending import.comms

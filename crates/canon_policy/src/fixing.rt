@@ -1,0 +1,46 @@
+//! What is known of a set of communities: those that it has and those that it lacks.
+
+ghost use Rattle.std.specs.Prelude.{◌≡◌, IfOk};
+ghost use Rattle.canon_policy.specs.Fixings.{nothing_fixed, with_present, with_absent};
+
+use base_kit::{NoMemory, NumSet};
+use std::alloc::Global;
+
+/// What is known of a set of communities: that it has some, and has others not.
+#[derive(Drop)]
+pub struct Fixing {
+    pub present: NumSet,
+    pub absent: NumSet,
+}
+
+impl Fixing {
+    /// Nothing is known.
+    pub fn new(alloc: Global) -> Fixing
+        ensures { result ≡ nothing_fixed }
+    {
+        Fixing {
+            present: NumSet::new(alloc),
+            absent: NumSet::new(alloc),
+        }
+    }
+
+    /// The set has the community, too.
+    pub fn with_present(&self, community: u32) -> Result<Fixing, NoMemory>
+        ensures { IfOk result (λ fixing. fixing ≡ with_present community self.now) }
+    {
+        let mut present = self.present.copy()?;
+        present.add(community)?;
+        let absent = self.absent.copy()?;
+        Ok(Fixing { present, absent })
+    }
+
+    /// The set has not the community, either.
+    pub fn with_absent(&self, community: u32) -> Result<Fixing, NoMemory>
+        ensures { IfOk result (λ fixing. fixing ≡ with_absent community self.now) }
+    {
+        let present = self.present.copy()?;
+        let mut absent = self.absent.copy()?;
+        absent.add(community)?;
+        Ok(Fixing { present, absent })
+    }
+}
