@@ -1,0 +1,113 @@
+"""What all tools share at their command line: `--version`, `-` for standard input, one line for each failure, and exit statuses.
+
+0 done, 1 the input was refused, 2 the words are wrong, 3 a file could not be read, 4 the output did not take all bytes,
+130 interrupted.
+"""
+from __future__ import annotations
+
+import argparse
+import importlib
+import os
+import subprocess
+import sys
+from collections.abc import Callable
+
+from roads.manual import Manual
+from roads.program import TOP, NotAnswered
+
+
+class Refused(Exception):
+    """An input that a tool does not take, with one line that says which and why."""
+
+
+def version() -> str:
+    """The version of the tools, as git names it, or `unknown` outside a repository."""
+    try:
+        told = subprocess.run(["git", "-C", str(TOP), "describe", "--always", "--dirty"], capture_output=True, text=True, check=False)
+    except OSError:
+        return "unknown"
+    return told.stdout.strip() or "unknown"
+
+
+def parser(name: str, purpose: str, **more: object) -> argparse.ArgumentParser:
+    """A parser with `--version`, whose help tells the purpose, and with `--manual`, which writes the tool's page of the manual."""
+    made = argparse.ArgumentParser(prog=name, description=purpose, formatter_class=argparse.RawDescriptionHelpFormatter, **more)
+    made.add_argument("--version", action="version", version=f"{name} {version()}")
+    made.add_argument("--manual", action=Manual)
+    return made
+
+
+def read_input(name: str) -> bytes:
+    """The bytes of a file, or of standard input where the name is `-`."""
+    if name == "-":
+        return sys.stdin.buffer.read()
+    with open(name, "rb") as file:
+        return file.read()
+
+
+def write_output(name: str, made: bytes, source: str = "-") -> None:
+    """Writes a file whole or not at all; `-` is standard output. Refused where the file is the one that was read."""
+    if name == "-":
+        sys.stdout.buffer.write(made)
+        sys.stdout.buffer.flush()
+        return
+    if source != "-" and os.path.exists(name) and os.path.samefile(source, name):
+        raise Refused(f"{name}: is the file that is read")
+    whole = os.path.realpath(name)
+    if os.path.exists(whole) and not os.path.isfile(whole):
+        with open(whole, "wb") as file:
+            file.write(made)
+        return
+    part = f"{whole}.{os.getpid()}.part"
+    try:
+        with open(part, "xb") as file:
+            file.write(made)
+        os.replace(part, whole)
+    except BaseException as fault:
+        if os.path.exists(part):
+            os.unlink(part)
+        if isinstance(fault, OSError):
+            fault.filename = name
+        raise
+
+
+def run(name: str, work: Callable[[], int | None]) -> int:
+    """Runs a tool's work and turns each failure into one line on standard error and a status."""
+    try:
+        status = work() or 0
+        sys.stdout.flush()
+        return status
+    except Refused as refused:
+        print(f"{name}: {refused}", file=sys.stderr)
+        return 1
+    except NotAnswered as fault:
+        print(f"{name}: {fault}", file=sys.stderr)
+        return 1
+    except KeyboardInterrupt:
+        print(f"{name}: interrupted", file=sys.stderr)
+        return 130
+    except BrokenPipeError:
+        os.dup2(os.open(os.devnull, os.O_WRONLY), sys.stdout.fileno())
+        print(f"{name}: write fault", file=sys.stderr)
+        return 4
+    except OSError as fault:
+        is_read = fault.filename is not None
+        told = f"{fault.filename}: {fault.strerror}" if is_read else f"write fault: {fault.strerror}"
+        print(f"{name}: {told}", file=sys.stderr)
+        if not is_read:
+            os.dup2(os.open(os.devnull, os.O_WRONLY), sys.stdout.fileno())
+        return 3 if is_read else 4
+
+
+def main(name: str, module: str) -> int:
+    """Runs the tool that a module has as `words` and `work`. A Python module that is not installed is one line on standard error."""
+    try:
+        tool = importlib.import_module(module)
+    except ModuleNotFoundError as fault:
+        lacking = (fault.name or "").partition(".")[0]
+        if lacking == "roads":
+            raise
+        print(f"{name}: the Python module {lacking} is not there: install the package python3-{lacking}", file=sys.stderr)
+        return 1
+    arguments = tool.words().parse_args()
+    return run(name, lambda: tool.work(arguments))
