@@ -1,0 +1,28 @@
+"""What the command line asks of the rules."""
+from __future__ import annotations
+
+import dataclasses
+from ipaddress import IPv4Address, IPv4Network
+
+from roads.command_line import Refused
+
+
+@dataclasses.dataclass(frozen=True)
+class Options:
+    """Whether routers get AS numbers of their own, and which stubs are added: for a peer's address its prefixes."""
+
+    own_as: bool = False
+    stubs: tuple[tuple[IPv4Address, tuple[IPv4Network, ...]], ...] = ()
+
+    @staticmethod
+    def of(own_as: bool, stubs: list[str]) -> Options:
+        """The options of words `PEER=PREFIX,..`."""
+        return Options(own_as, tuple(_stub(word) for word in stubs))
+
+
+def _stub(word: str) -> tuple[IPv4Address, tuple[IPv4Network, ...]]:
+    peer, sign, prefixes = word.partition("=")
+    try:
+        return IPv4Address(peer), tuple(IPv4Network(prefix) for prefix in prefixes.split(",") if sign)
+    except ValueError as fault:
+        raise Refused(f"--stub {word}: {fault}") from fault

@@ -1,0 +1,89 @@
+"""The command `bonsai-import`: a folder in, a text for Bonsai out, and a report of every line that changed."""
+from __future__ import annotations
+
+import argparse
+import sys
+
+from roads.command_line import Refused, parser, run
+from roads.importing.decisions import Decisions, apply_drops, read_decisions
+from roads.importing.folder import Folder, Source
+from roads.importing.ignored import is_ignored
+from roads.importing.judge import judge
+from roads.importing.read import read_folder
+from roads.importing.report import Report, report_of
+from roads.importing.rules import STEPS
+from roads.importing.rules.filters import leave_out_unused
+from roads.importing.rules.interfaces import leave_out_idle
+from roads.importing.rules.options import Options
+from roads.program import Program
+from roads.text import Line, Stanza, text_of
+
+PURPOSE = """Reads a folder of running configurations (Cisco IOS, FRR) and writes one text that Bonsai reads.
+
+Only what says the same is written otherwise; each line that did not reach the text unchanged stands in the report, which goes
+to standard error. Where a line can change routes and no rule can write it, nothing is written and the status is 1; a file of
+decisions can drop such lines, each with a reason. docs/IMPORT.md lists the rules."""
+
+
+def import_folder(name: str, program: Program, decisions: Decisions | None = None, options: Options | None = None) -> Report:
+    """Reads a folder, works through all rules and asks the program. The report's folder has the routers as they stand at the end."""
+    folder = read_folder(name)
+    work(folder, program, decisions, options)
+    return report_of(folder)
+
+
+def work(folder: Folder, program: Program, decisions: Decisions | None = None, options: Options | None = None) -> None:
+    """Works through all rules on a folder that was read, and asks the program."""
+    folder.decisions = decisions or Decisions()
+    folder.takes = is_ignored
+    apply_drops(folder)
+    for step in STEPS:
+        step(folder, options or Options())
+    judge(folder, program, _excuse)
+
+
+def _excuse(folder: Folder, router: Source, stanza: Stanza, line: Line) -> bool:
+    """Whether a refused line stands where nothing has a bearing, and is left out for that."""
+    return leave_out_unused(folder, router, stanza, line) or leave_out_idle(folder, router, stanza, line)
+
+
+def main() -> int:
+    """Runs the tool."""
+    return run("bonsai-import", _main)
+
+
+def command_line() -> argparse.ArgumentParser:
+    """The tool's command line."""
+    made = parser("bonsai-import", PURPOSE)
+    made.add_argument(
+        "folder", help="a file for each router, one file with several, or a folder of FRR's files for each; of a Batfish snapshot `configs/` is read"
+    )
+    made.add_argument("--decisions", metavar="FILE", help="what to do with lines that no rule can write, each with a reason")
+    made.add_argument("--own-as", action="store_true", help="give each router of a shared AS number a number of its own")
+    made.add_argument(
+        "--stub", metavar="PEER=PREFIX,..", action="append", default=[], help="add a router at the address PEER that announces these prefixes"
+    )
+    made.add_argument("--report", metavar="FILE", help="write the report to FILE and not to standard error")
+    made.add_argument("--json", action="store_true", help="write the report as JSON")
+    return made
+
+
+def _main() -> int:
+    words = command_line().parse_args()
+    decisions = None
+    if words.decisions:
+        with open(words.decisions, encoding="utf-8", errors="replace") as file:
+            decisions = read_decisions(file.read(), words.decisions)
+    report = import_folder(words.folder, Program(), decisions, Options.of(words.own_as, words.stub))
+    told = report.json if words.json else report.text
+    if words.report:
+        with open(words.report, "w", encoding="utf-8") as file:
+            file.write(told)
+    else:
+        sys.stderr.write(told)
+    if report.folder.log.refusals:
+        raise Refused(
+            f"{len(report.folder.log.refusals)} lines are refused, the first at {report.folder.log.refusals[0].place}; what is left to you can be told by --decisions"
+        )
+    sys.stdout.write(text_of(report.folder.routers))
+    return 0
