@@ -1,0 +1,69 @@
+"""bonsai-draw: the network before and after compression as one picture."""
+from __future__ import annotations
+
+import argparse
+import os
+
+import graphviz
+
+from roads.command_line import Refused, parser, read_input, write_output
+from roads.compressed import Asked, Compressed, asked
+from roads.drawing.graph import Graph, large, large_by_groups, small
+from roads.drawing.layout import laid_out, picture
+from roads.program import Program
+
+ROUTERS_DRAWN = 150
+LINKS_DRAWN = 600
+FORMATS = ("dot", "svg", "png")
+
+
+def words() -> argparse.ArgumentParser:
+    """The words of the command line."""
+    made = parser("bonsai-draw", "Draws a network before and after compression, the large one beside the small one.")
+    made.add_argument("file", metavar="F", help="the configurations of the network, or - for standard input")
+    made.add_argument("number", metavar="N", type=int, help="the number of the class, as `bonsai classes F` counts it")
+    made.add_argument("-f", "--format", choices=FORMATS, help="what is written (default: by the name of the output, else svg)")
+    made.add_argument("-o", "--output", metavar="FILE", default="-", help="where it is written (default: - for standard output)")
+    made.add_argument("--part", choices=("both", "before", "after"), default="both", help="which network is drawn (default: both)")
+    by_groups = f"draw the large network by groups and counts, as is done beyond {ROUTERS_DRAWN} routers or {LINKS_DRAWN} links"
+    made.add_argument("--by-groups", action="store_true", help=by_groups)
+    return made
+
+
+def work(arguments: argparse.Namespace) -> None:
+    """Draws what the words ask for."""
+    program = Program()
+    text = asked(program, read_input(arguments.file), "standard input" if arguments.file == "-" else arguments.file)
+    found = text.compress(program, arguments.number)
+    if found.refusal and arguments.part != "before":
+        raise Refused(f"bonsai compress: {found.refusal}: the network before can be drawn with --part before")
+    drawn = picture(graphs(text, found, arguments.part, arguments.by_groups), title(text, found), found.groups)
+    write(drawn, arguments.format or format_of(arguments.output), arguments.output, arguments.file)
+
+
+def graphs(text: Asked, found: Compressed, part: str = "both", by_groups: bool = False) -> list[Graph]:
+    """The sides of a picture."""
+    is_large = len(text.network.devices) > ROUTERS_DRAWN or len(text.network.links) > LINKS_DRAWN
+    before = large_by_groups if by_groups or is_large else large
+    sides = [before(text.network, found)] if part != "after" else []
+    return sides + ([small(found)] if part != "before" else [])
+
+
+def title(text: Asked, found: Compressed) -> str:
+    """The name of the text, the class, and its first prefixes."""
+    prefixes = found.found.prefixes
+    shown = " ".join(prefixes[:4]) + (f" and {len(prefixes) - 4} more" if len(prefixes) > 4 else "")
+    return f"{text.name.rpartition('/')[2]}, class {found.number}: {shown}"
+
+
+def format_of(output: str) -> str:
+    """The format that the end of a name tells; svg where it has none. Refused where the end is another."""
+    end = os.path.splitext(output)[1][1:].lower()
+    if end and end != "gv" and end not in FORMATS:
+        raise Refused(f"{output}: no format has this end: give --format dot, svg or png")
+    return "dot" if end == "gv" else end or "svg"
+
+
+def write(drawn: graphviz.Graph, form: str, output: str, source: str = "-") -> None:
+    """Writes a picture."""
+    write_output(output, drawn.source.encode() if form == "dot" else laid_out(drawn, form), source)

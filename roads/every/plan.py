@@ -1,0 +1,95 @@
+"""Which classes are asked, which answers stand for which classes, and what a folder of answers belongs to."""
+from __future__ import annotations
+
+import dataclasses
+import hashlib
+import json
+from collections import Counter
+from collections.abc import Hashable
+from pathlib import Path
+
+from roads.command_line import Refused
+from roads.compressed import asked, side_by_side
+from roads.program import Class, Program
+
+PLAN = "plan.json"
+INDEX = "index.tsv"
+LOG = "jobs.log"
+TEXT = "input.cfg"
+
+
+@dataclasses.dataclass(frozen=True)
+class Plan:
+    """A command, the classes that are asked, and for each class the class whose answer stands for it."""
+
+    command: str
+    then: str
+    asked: tuple[int, ...]
+    stands_for: dict[int, int]
+    text: str
+    program: str
+
+    @property
+    def plain(self) -> dict[str, object]:
+        """The plan as plain data."""
+        told = dataclasses.asdict(self)
+        return told | {"asked": list(self.asked), "stands_for": {str(number): first for number, first in self.stands_for.items()}}
+
+
+def plan(program: Program, raw: bytes, executable: Path, command: str, then: str, is_each: bool) -> tuple[Plan, list[Class]]:
+    """What is to be done for a text: all classes, or of those that are alike but for their prefixes the first."""
+    classes = program.classes(raw)
+    numbers = [found.number for found in classes]
+    stands_for = {number: number for number in numbers} if is_each else first_of_equals(numbers, _shapes(program, raw, numbers))
+    asked = tuple(sorted(set(stands_for.values())))
+    return Plan(command, then, asked, stands_for, _digest(raw), _digest(executable.read_bytes())), classes
+
+
+def first_of_equals(numbers: list[int], shapes: list[Hashable]) -> dict[int, int]:
+    """For each class the first class of its shape."""
+    first: dict[Hashable, int] = {}
+    return {number: first.setdefault(shape, number) for number, shape in zip(numbers, shapes)}
+
+
+def begin(folder: Path, made: Plan, classes: list[Class], raw: bytes, is_resumed: bool) -> None:
+    """Makes the folder, or sees that it is that of the same plan. Refused where it is not, or where it has anything and is not resumed."""
+    folder.mkdir(parents=True, exist_ok=True)
+    if is_resumed:
+        _must_be_of(folder, made)
+    elif any(folder.iterdir()):
+        hint = ": --resume goes on with what it has" if (folder / PLAN).exists() else ""
+        raise Refused(f"{folder}: the folder is not empty{hint}")
+    (folder / TEXT).write_bytes(raw)
+    (folder / INDEX).write_text("".join(f"{line}\n" for line in _index(made, classes)))
+    (folder / PLAN).write_text(json.dumps(made.plain, indent=1) + "\n")
+
+
+def _shapes(program: Program, raw: bytes, numbers: list[int]) -> list[Hashable]:
+    """What classes must share to be asked once. Those that alone have their groups are not compressed for it."""
+    groups = side_by_side(lambda number: tuple(program.groups(raw, number)), numbers)
+    counts = Counter(groups)
+    several = [number for number, found in zip(numbers, groups) if counts[found] > 1]
+    if not several:
+        return list(groups)
+    shapes = {found.number: found.shape for found in asked(program, raw, "F").compress_each(program, several)}
+    return [shapes.get(number, found) for number, found in zip(numbers, groups)]
+
+
+def _must_be_of(folder: Path, made: Plan) -> None:
+    try:
+        kept = json.loads((folder / PLAN).read_text())
+    except (OSError, ValueError):
+        raise Refused(f"{folder}: nothing to resume: no {PLAN} of bonsai-every") from None
+    names = {"command": "command", "then": "command behind --then", "asked": "choice of classes", "stands_for": "choice of classes", "text": "text", "program": "program"}
+    for key, value in made.plain.items():
+        if kept.get(key) != value:
+            raise Refused(f"{folder}: it was begun with another {names[key]}: give an empty folder")
+
+
+def _index(made: Plan, classes: list[Class]) -> list[str]:
+    """A line for each class: its number, the class whose answer stands for it, and its prefixes."""
+    return ["class\tanswer\tprefixes", *(f"{found.number}\t{made.stands_for[found.number]}\t{' '.join(found.prefixes)}" for found in classes)]
+
+
+def _digest(raw: bytes) -> str:
+    return hashlib.sha256(raw).hexdigest()
