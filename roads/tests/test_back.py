@@ -1,0 +1,35 @@
+"""What an export says comes back: read by bonsai-import, it has the classes and groups of the text, as sets."""
+import os
+import subprocess
+from pathlib import Path
+
+import pytest
+
+from roads.exporting import batfish, frr, ios
+from roads.exporting.tool import write_folder
+from roads.network import read_network
+from roads.program import TOP, Program
+
+IMPORT = TOP / "tools" / "bonsai-import"
+TARGETS = {"frr": frr, "ios": ios, "batfish": batfish}
+pytestmark = pytest.mark.skipif(not IMPORT.exists() or not os.environ.get("BONSAI_PROGRAM"), reason="asks a built program, by bonsai-import")
+
+
+def said(program: Program, text: str) -> tuple:
+    """Classes and their groups, in no order: a folder is read by the names of its files."""
+    classes = program.classes(text)
+    groups = {found.prefixes: {(group.is_origin, group.is_lone, frozenset(group.members)) for group in program.groups(text, found.number)} for found in classes}
+    return {(found.prefixes, frozenset(found.origins)) for found in classes}, groups
+
+
+@pytest.mark.parametrize("target", TARGETS.values(), ids=TARGETS)
+@pytest.mark.parametrize("name, number", [("campus", 1), ("campus", 10), ("fabric", 1), ("ring-with-maps", 1), ("ospf-wire", 2)])
+@pytest.mark.parametrize("is_small", [False, True], ids=["large", "small"])
+def test_an_export_comes_back(name: str, number: int, is_small: bool, target: object, tmp_path: Path) -> None:
+    program = Program()
+    text = (TOP / "examples" / "inputs" / f"{name}.cfg").read_text()
+    text = program.compress(text, number) if is_small else text
+    write_folder(tmp_path / "out", target.export(read_network(text)).files)
+    back = subprocess.run([str(IMPORT), str(tmp_path / "out")], capture_output=True, text=True, check=False)
+    assert back.returncode == 0, back.stderr
+    assert said(program, back.stdout) == said(program, text)

@@ -1,0 +1,210 @@
+"""`./build`: what it reads of a run, and what it installs and packages, by a program made for the test."""
+from __future__ import annotations
+
+import os
+import shutil
+import signal
+import subprocess
+import sys
+import time
+from collections.abc import Callable
+from pathlib import Path
+
+import pytest
+
+from roads import building, packing
+from roads.proving import Told, at_work, closure, lines_of_failure, part_of, uses_of
+
+OUTPUT = """rt: low is kept: an earlier run on this machine proved the same files over the same libraries
+== middle
+fn middle::first: proved
+note: a note
+./src/lib.rt:3:1: error: the clause is not proved
+statements std: modules loaded=1 checked=0
+rt: middle NOT PROVED
+== high: its tests
+fn high::tests: proved
+rt: high: its tests are NOT PROVED
+rt: must-fail low/first.edit: refused, as it must be
+== high
+rt: high proved
+rt: low: its tests FAILED
+"""
+
+
+def test_crates_and_what_lies_below() -> None:
+    uses = uses_of("# crates\ntop: middle low std\nmiddle: low indexmap  # more\nlow:\nother staticlib: low\n")
+    assert uses == {"top": ["middle", "low"], "middle": ["low"], "low": [], "other": ["low"]}
+    assert closure(uses, "top") == ["low", "middle", "top"]
+
+
+def test_what_a_run_tells() -> None:
+    told = Told()
+    for line in OUTPUT.splitlines():
+        told.read(line)
+    assert told == Told(["low", "high"], ["middle", "high: its tests", "low: its tests"], {"low": 1})
+
+
+def test_lines_of_a_failure() -> None:
+    assert lines_of_failure(OUTPUT.splitlines(keepends=True), "middle") == ["./src/lib.rt:3:1: error: the clause is not proved"]
+
+
+def test_what_a_check_is_for() -> None:
+    assert part_of(["rattle", "build"], "/tmp/rt-edit-1-x") == "edits"
+    assert part_of(["rattle", "build", "--test"], "/tmp/x") == "tests"
+    assert part_of(["rattle", "build"], "/tmp/x") == "proof"
+
+
+def test_the_checks_that_are_at_work(tmp_path: Path) -> None:
+    # (a checker is known by its name; the second word is no word of `sleep`, but one of the shell's own)
+    checker = tmp_path / "rattle"
+    shutil.copy("/bin/sh", checker)
+    shell = subprocess.Popen(["/bin/sh", "-c", '"$@"; true', "", checker, "-c", "sleep 30; true", "--crate-name", "low"], start_new_session=True)
+    try:
+        wait_for(lambda: at_work(shell.pid))
+        assert [(work.crate, work.part) for work in at_work(shell.pid)] == [("low", "proof")]
+    finally:
+        os.killpg(shell.pid, signal.SIGKILL)
+        shell.wait()
+
+
+def wait_for(found: Callable[[], object]) -> None:
+    """Waits at most ten seconds until there is something."""
+    until = time.monotonic() + 10
+    while not found() and time.monotonic() < until:
+        time.sleep(0.05)
+
+
+def test_the_copy_has_no_edits_and_only_the_crates(tmp_path: Path) -> None:
+    building.copy_crates(["base_kit", "buckets"], tmp_path / "room")
+    room = tmp_path / "room"
+    assert sorted(it.name for it in (room / "crates").iterdir()) == ["base_kit", "buckets"]
+    assert not list(room.glob("crates/*/must-fail")) and not list(room.glob("crates/*/out"))
+    assert uses_of((room / "crates.txt").read_text("utf-8")) == {"base_kit": [], "buckets": ["base_kit"]}
+
+
+def test_each_installed_part(tmp_path: Path) -> None:
+    program = tmp_path / "program"
+    program.write_text('#!/bin/sh\necho "words: $*"\nexit 6\n', "utf-8")
+    made = packing.install(building.TOP, program, tmp_path / "prefix", "0+1.abc", "kit-1")
+    assert {tmp_path / "prefix/bin/bonsai", tmp_path / "prefix/lib/bonsai/bonsai"} <= set(made)
+    ran = subprocess.run([tmp_path / "prefix/bin/bonsai", "check", "F"], capture_output=True, check=False, env={})
+    assert (ran.returncode, ran.stdout) == (6, b"words: check F\n")
+    told = subprocess.run([tmp_path / "prefix/bin/bonsai", "--version"], capture_output=True, check=False, env={})
+    assert told.stdout.decode() == f"bonsai 0+1.abc\nprogram: proved, {tmp_path}/prefix/lib/bonsai/bonsai\nkit: kit-1\n"
+
+
+@pytest.mark.skipif(not shutil.which("dpkg-deb"), reason="no dpkg-deb here")
+def test_the_package(tmp_path: Path) -> None:
+    program = tmp_path / "program"
+    program.write_text('#!/bin/sh\necho "words: $*"\n', "utf-8")
+    package = packing.make_deb(building.TOP, program, tmp_path, "0+1.abc", "kit-1")
+    subprocess.run(["dpkg-deb", "--extract", package, tmp_path / "root"], check=True)
+    ran = subprocess.run([tmp_path / "root/usr/bin/bonsai", "classes", "F"], capture_output=True, check=False, env={})
+    assert (ran.returncode, ran.stdout) == (0, b"words: classes F\n")
+    assert (tmp_path / "root/usr/lib/bonsai/version").read_text("utf-8").splitlines()[1] == "program: proved, /usr/lib/bonsai/bonsai"
+    fields = subprocess.run(["dpkg-deb", "--field", package, "Package", "Version", "Depends"], capture_output=True, text=True, check=True)
+    assert fields.stdout == "Package: bonsai\nVersion: 0+1.abc\nDepends: libc6 (>= 2.34), python3 (>= 3.8)\n"
+
+
+# What stands for the kit's rt: it proves all crates of the folder that it is run in, but the one that BROKEN names.
+RT = """#!/usr/bin/python3
+import os, sys, time
+assert sys.argv[1:] == ["ci"] and not os.path.exists("crates/low/must-fail"), sys.argv
+for crate in ("low", "bonsai"):
+    print(f"== {crate}")
+    if crate == os.environ.get("BROKEN"):
+        print(f"{os.getcwd()}/crates/{crate}/src/lib.rt:1:1: error: not so")
+        print(f"rt: {crate} NOT PROVED", flush=True)
+        time.sleep(60)
+    print(f"rt: {crate} proved", flush=True)
+os.mkdir("crates/bonsai/out")
+with open("crates/bonsai/out/bonsai", "w") as made:
+    made.write("#!/bin/sh\\necho proved: $*\\n")
+with open(os.environ["CALLS"], "a") as calls:
+    calls.write("rt\\n")
+print("2 passed, 0 failed")
+"""
+
+
+@pytest.fixture(name="clone")
+def clone_fixture(tmp_path: Path) -> Path:
+    """A repository with ./build, the launcher and two crates, and beside it a kit."""
+    clone = tmp_path / "clone"
+    shutil.copytree(building.TOP / "roads", clone / "roads", ignore=shutil.ignore_patterns("tests", "__pycache__"))
+    for name in ("build", "bonsai", "HANDLES"):
+        shutil.copy(building.TOP / name, clone / name)
+    (clone / "crates.txt").write_text("low:\nbonsai: low\nother: low\n", "utf-8")
+    for path in ("crates/low/src/lib.rt", "crates/low/must-fail/one.edit", "crates/bonsai/src/main.rt", "crates/other/src/lib.rt"):
+        (clone / path).parent.mkdir(parents=True, exist_ok=True)
+        (clone / path).write_text("// text\n", "utf-8")
+    (tmp_path / "kit/bin").mkdir(parents=True)
+    (tmp_path / "kit/bin/rt").write_text(RT, "utf-8")
+    (tmp_path / "kit/bin/rt").chmod(0o755)
+    (tmp_path / "kit/WHAT").write_text("kit 1\n", "utf-8")
+    (tmp_path / "kit/KIT-ID").write_text("kit-1 and more\n", "utf-8")
+    return clone
+
+
+def build(clone: Path, *words: str, **more: str) -> subprocess.CompletedProcess[str]:
+    """Runs ./build with the clone's kit."""
+    room = clone.parent
+    env = {"PATH": f"{room}/kit/bin:/usr/bin:/bin", "CALLS": str(room / "calls"), **more}
+    return subprocess.run([clone / "build", *words], capture_output=True, text=True, check=False, env=env)
+
+
+def test_the_program_is_built_once(clone: Path) -> None:
+    first, second = build(clone), build(clone)
+    assert (first.returncode, second.returncode) == (0, 0)
+    assert first.stderr.splitlines()[-1] == "build: crates/bonsai/out/bonsai is proved"
+    assert second.stderr == "build: crates/bonsai/out/bonsai is proved already\n"
+    assert (clone.parent / "calls").read_text("utf-8") == "rt\n"
+    ran = subprocess.run([clone / "bonsai", "classes", "F"], capture_output=True, text=True, check=False, env={"PATH": "/usr/bin:/bin"})
+    assert (ran.returncode, ran.stdout, ran.stderr) == (0, "proved: classes F\n", "")
+
+
+@pytest.mark.parametrize("change", ["crates/low/src/lib.rt", "crates/bonsai/out/bonsai"])
+def test_what_changed_is_built_again(clone: Path, change: str) -> None:
+    build(clone)
+    (clone / change).write_text("// other\n", "utf-8")
+    assert build(clone).returncode == 0
+    assert (clone.parent / "calls").read_text("utf-8") == "rt\nrt\n"
+
+
+def test_a_crate_that_the_program_does_not_use_is_left_alone(clone: Path) -> None:
+    build(clone)
+    (clone / "crates/other/src/lib.rt").write_text("// other\n", "utf-8")
+    assert build(clone).stderr == "build: crates/bonsai/out/bonsai is proved already\n"
+
+
+def test_a_crate_that_is_not_proved(clone: Path) -> None:
+    ran = build(clone, BROKEN="low")
+    lines = ran.stderr.splitlines()
+    assert ran.returncode == 1 and not (clone / "crates/bonsai/out/bonsai").exists()
+    assert lines[1].startswith("build: low: not proved, after ") and lines[1].endswith(f"; the log is {clone}/out/build.log")
+    assert lines[2:] == [f"{clone}/crates/low/src/lib.rt:1:1: error: not so"]
+    assert (clone / "out/build.log").read_text("utf-8").endswith("rt: low NOT PROVED\n")
+
+
+def test_build_installs_and_packages(clone: Path) -> None:
+    ran = build(clone, "--install", str(clone.parent / "prefix"), "--deb", str(clone.parent / "packages"))
+    assert ran.returncode == 0
+    assert (clone.parent / "prefix/lib/bonsai/version").read_text("utf-8").splitlines()[2] == "kit: kit-1 and more"
+    assert [path.suffix for path in (clone.parent / "packages").iterdir()] == [".deb"]
+
+
+def test_a_prefix_that_cannot_be_written(clone: Path) -> None:
+    (clone.parent / "prefix").write_text("", "utf-8")
+    ran = build(clone, "--install", str(clone.parent / "prefix"))
+    assert ran.returncode == 3 and "Traceback" not in ran.stderr and "prefix" in ran.stderr.splitlines()[-1]
+
+
+@pytest.mark.parametrize(("words", "status"), [(["--help"], 0), (["--version"], 0), (["--nothing"], 2)])
+def test_words(words: list[str], status: int) -> None:
+    ran = subprocess.run([sys.executable, building.TOP / "build", *words], capture_output=True, check=False)
+    assert ran.returncode == status
+
+
+def test_without_a_kit() -> None:
+    ran = subprocess.run(["/usr/bin/python3", building.TOP / "build"], capture_output=True, check=False, env={"PATH": "/usr/sbin"})
+    assert (ran.returncode, ran.stderr) == (1, b"build: the command rt of the Rattle kit is not on the path\n")

@@ -1,0 +1,58 @@
+"""tools/gate-times: the table, by figures and a run made for the test."""
+from __future__ import annotations
+
+import json
+import os
+import subprocess
+from pathlib import Path
+
+from roads.gate_times import table
+from roads.program import TOP
+
+FIGURES = {
+    "words": ["ci"],
+    "status": 0,
+    "minutes": 3.0,
+    "processor_seconds": 600.0,
+    "crates": {"low": {"proof": 60.0, "tests": 0.0, "edits": 30.0}, "high": {"proof": 240.0, "tests": 60.0, "edits": 120.0}},
+    "edits": {"low": 1, "high": 3},
+}
+
+# What stands for the kit's rt: it starts a check of its own that takes two seconds of a processor, and fails.
+RT = """#!/bin/sh
+echo "words: $*"
+cp /bin/sh "$ROOM/rattle"
+"$ROOM/rattle" -c 'end=$(($(date +%s) + 3)); while [ "$(date +%s)" -lt $end ]; do :; done' --crate-name low
+echo "rt: low proved"
+echo "rt: must-fail low/one.edit: refused, as it must be"
+exit 1
+"""
+
+
+def test_the_table() -> None:
+    lines = table(FIGURES).splitlines()
+    assert [line.split() for line in lines[1:4]] == [
+        ["high", "4.0", "1.0", "2.0", "3", "7.0"],
+        ["low", "1.0", "0.0", "0.5", "1", "1.5"],
+        ["all", "crates", "5.0", "1.0", "2.5", "4", "8.5"],
+    ]
+    assert lines[4].split()[-1] == "1.5" and lines[5].split()[-1] == "10.0"
+
+
+def test_a_run_is_measured(tmp_path: Path) -> None:
+    (tmp_path / "rt").write_text(RT, "utf-8")
+    (tmp_path / "rt").chmod(0o755)
+    kept = tmp_path / "figures"
+    env = {**os.environ, "PATH": f"{tmp_path}:/usr/bin:/bin", "ROOM": str(tmp_path)}
+    ran = subprocess.run([TOP / "tools/gate-times", "run", "--keep", kept, "low"], capture_output=True, text=True, check=False, env=env)
+    assert ran.returncode == 1
+    assert ran.stdout.startswith("  0:00 words: ci low\n")
+    found = json.loads(kept.read_text("utf-8"))
+    assert found["edits"] == {"low": 1} and 0 < found["crates"]["low"]["proof"] <= found["processor_seconds"]
+    again = subprocess.run([TOP / "tools/gate-times", "table", kept], capture_output=True, text=True, check=True)
+    assert ran.stdout.endswith(again.stdout)
+
+
+def test_what_are_no_figures() -> None:
+    ran = subprocess.run([TOP / "tools/gate-times", "table", TOP / "README.md"], capture_output=True, text=True, check=False)
+    assert (ran.returncode, ran.stderr.count("\n")) == (1, 1)

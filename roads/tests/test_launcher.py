@@ -1,0 +1,206 @@
+"""The launcher `bonsai`: statuses, streams, and the unproved build that it keeps, by programs and a kit made for the test."""
+from __future__ import annotations
+
+import os
+import re
+import shutil
+import subprocess
+import time
+from pathlib import Path
+
+import pytest
+
+from roads.program import TOP
+
+# What stands for the program: it tells its words, copies its first file, and ends with the status that STATUS has.
+PROGRAM = '#!/bin/sh\necho "words: $*"\n[ ! -e "$2" ] || cat "$2"\nexit "${STATUS:-0}"\n'
+MANY_BYTES = '#!/bin/sh\nhead -c 3000000 /dev/zero 2>/dev/null || { echo "write fault" >&2; exit 4; }\n'
+# What stands for the kit's rt: it links by the toolchain of its own kit, runs what was linked, and counts its calls.
+RT = """#!/usr/bin/env python3
+import os, subprocess, sys, tempfile
+kit = os.path.dirname(os.path.dirname(os.path.realpath(__file__)))
+with open(os.environ["CALLS"], "a") as calls:
+    calls.write(" ".join(sys.argv[1:]) + "\\n")
+with tempfile.TemporaryDirectory() as room:
+    subprocess.run([kit + "/toolchain/bin/clang", "-O0"], cwd=room, check=True)
+    subprocess.run([kit + "/toolchain/bin/ld.lld"], cwd=room, check=True)
+print(os.environ.get("ENDS", "run=ended status=1 runners=1 proved=no"), file=sys.stderr)
+sys.exit(1)
+"""
+
+
+def script(path: Path, text: str) -> Path:
+    """Writes a program."""
+    path.parent.mkdir(parents=True, exist_ok=True)
+    path.write_text(text, "utf-8")
+    path.chmod(0o755)
+    return path
+
+
+def launch(*words: str, at: Path = TOP, **more: object) -> subprocess.CompletedProcess[bytes]:
+    """Runs the launcher."""
+    env = {**os.environ, **more.pop("env", {})}
+    return subprocess.run([at / "bonsai", *words], capture_output=True, check=False, env=env, **{"stdin": subprocess.DEVNULL, **more})
+
+
+@pytest.fixture(name="given")
+def given_fixture(tmp_path: Path) -> dict[str, str]:
+    """An environment whose program is the one above."""
+    return {"BONSAI_PROGRAM": str(script(tmp_path / "program", PROGRAM))}
+
+
+@pytest.fixture(name="clone")
+def clone_fixture(tmp_path: Path) -> Path:
+    """A repository with the launcher and two crates, and beside it a kit."""
+    (tmp_path / "clone/crates/low/src").mkdir(parents=True)
+    (tmp_path / "clone/crates/bonsai/src").mkdir(parents=True)
+    (tmp_path / "clone/crates.txt").write_text("bonsai: low\nlow:\n", "utf-8")
+    (tmp_path / "clone/crates/low/src/lib.rt").write_text("// one\n", "utf-8")
+    shutil.copy(TOP / "bonsai", tmp_path / "clone/bonsai")
+    kit = tmp_path / "kit"
+    script(kit / "bin/rt", RT)
+    (kit / "bin/rtlib.py").write_text("", "utf-8")
+    (kit / "WHAT").write_text("kit 1\n", "utf-8")
+    (kit / "KIT-ID").write_text("kit-1\n", "utf-8")
+    (kit / "toolchain/lib").mkdir(parents=True)
+    script(kit / "toolchain/bin/clang", '#!/bin/sh\n[ "$1" = -O1 ]\n')
+    script(kit / "toolchain/bin/ld.lld", f"#!/bin/sh\ncat > program <<'END'\n{PROGRAM}END\nchmod 755 program\n")
+    return tmp_path / "clone"
+
+
+def beside(clone: Path, **more: str) -> dict[str, str]:
+    """An environment with the clone's kit, and a cache of its own."""
+    room = clone.parent
+    named = {"BONSAI_PROGRAM": "", "XDG_CACHE_HOME": str(room / "cache"), "CALLS": str(room / "calls")}
+    return {**named, "PATH": f"{room}/kit/bin:{os.environ['PATH']}", **more}
+
+
+def calls(clone: Path) -> int:
+    """How often rt was called."""
+    file = clone.parent / "calls"
+    return len(file.read_text("utf-8").splitlines()) if file.exists() else 0
+
+
+@pytest.mark.parametrize("status", range(8))
+def test_a_status_is_kept(given: dict[str, str], status: int) -> None:
+    ran = launch("classes", "F", env={**given, "STATUS": str(status)})
+    assert (ran.returncode, ran.stdout, ran.stderr) == (status, b"words: classes F\n", b"")
+
+
+def test_dash_is_standard_input(given: dict[str, str]) -> None:
+    ran = launch("classes", "-", env=given, stdin=None, input=b"hostname a\n")
+    assert (ran.returncode, ran.stdout) == (0, b"words: classes /dev/stdin\nhostname a\n")
+
+
+def test_dash_stands_for_one_file(given: dict[str, str]) -> None:
+    ran = launch("check", "-", "1", "-", env=given)
+    assert (ran.returncode, ran.stdout, ran.stderr.count(b"\n")) == (2, b"", 1)
+
+
+@pytest.mark.parametrize("words", [["--help"], ["-h"], ["--version"]])
+def test_own_answers(words: list[str]) -> None:
+    ran = launch(*words)
+    assert (ran.returncode, ran.stderr) == (0, b"")
+    assert ran.stdout.startswith(b"bonsai " if words == ["--version"] else b"Usage: bonsai ")
+
+
+def test_help_comes_at_once() -> None:
+    def seconds() -> float:
+        start = time.monotonic()
+        launch("--help")
+        return time.monotonic() - start
+
+    assert min(seconds() for _ in range(5)) < 0.2
+
+
+def test_help_names_each_command_and_status_of_the_pages() -> None:
+    pages = "".join(path.read_text("utf-8") for path in [TOP / "README.md", *sorted(TOP.glob("docs/*.md"))])
+    told = launch("--help").stdout.decode()
+    forms = re.findall(r"^\| `([a-z]+(?: [A-Z])+)` \|", pages, re.M)
+    statuses = re.findall(r"^\| (\d+) ([A-Z][a-z]\w+) \|", pages, re.M)
+    assert len(forms) >= 14 and len(statuses) >= 9
+    assert all(f"\n  {form} " in told for form in forms)
+    assert all(re.search(rf"^ +{status}  {name}: ", told, re.M) for status, name in statuses)
+
+
+@pytest.mark.parametrize("words", [["--help"], ["--version"]])
+def test_own_output_on_a_full_device(words: list[str]) -> None:
+    with open("/dev/full", "wb") as full:
+        ran = subprocess.run([TOP / "bonsai", *words], stdout=full, stderr=subprocess.PIPE, check=False)
+    assert (ran.returncode, ran.stderr) == (4, b"write fault\n")
+
+
+def test_own_output_on_a_closed_pipe() -> None:
+    reader, writer = os.pipe()
+    os.close(reader)
+    ran = subprocess.run([TOP / "bonsai", "--help"], stdout=writer, stderr=subprocess.PIPE, check=False)
+    os.close(writer)
+    assert (ran.returncode, ran.stderr) == (4, b"write fault\n")
+
+
+def test_the_program_has_the_streams_itself(tmp_path: Path) -> None:
+    env = {**os.environ, "BONSAI_PROGRAM": str(script(tmp_path / "program", MANY_BYTES))}
+    with open("/dev/full", "wb") as full:
+        ran = subprocess.run([TOP / "bonsai", "compress", "F", "1"], stdout=full, stderr=subprocess.PIPE, check=False, env=env)
+    assert (ran.returncode, ran.stderr) == (4, b"write fault\n")
+
+
+def test_a_program_that_is_not_there() -> None:
+    ran = launch("classes", "F", env={"BONSAI_PROGRAM": "/nowhere/bonsai"})
+    assert (ran.returncode, ran.stdout, ran.stderr) == (8, b"", b"bonsai: /nowhere/bonsai: No such file or directory\n")
+
+
+def test_a_program_that_names_the_launcher(clone: Path) -> None:
+    assert launch("classes", "F", at=clone, env=beside(clone, BONSAI_PROGRAM=str(clone / "bonsai"))).returncode == 0
+
+
+def test_the_unproved_build_is_kept_for_its_sources(clone: Path) -> None:
+    first = launch("classes", "F", at=clone, env=beside(clone))
+    second = launch("classes", "F", at=clone, env=beside(clone, STATUS="6"))
+    assert (first.returncode, second.returncode, calls(clone)) == (0, 6, 1)
+    assert first.stdout == second.stdout == b"words: classes F\n"
+    assert all(it.stderr.startswith(b"bonsai: this answer is from an unproved build") and it.stderr.count(b"\n") == 1 for it in (first, second))
+    (clone / "crates/low/src/lib.rt").write_text("// two\n", "utf-8")
+    assert launch("classes", "F", at=clone, env=beside(clone)).returncode == 0
+    assert calls(clone) == 2
+
+
+def test_few_unproved_builds_are_kept(clone: Path) -> None:
+    for number in range(5):
+        (clone / "crates/low/src/lib.rt").write_text(f"// {number}\n", "utf-8")
+        assert launch("classes", "F", at=clone, env=beside(clone)).returncode == 0
+    assert len(list((clone.parent / "cache/bonsai").glob("unproved-*"))) == 3
+
+
+def test_runs_at_once_build_once(clone: Path) -> None:
+    env = {**os.environ, **beside(clone)}
+    runs = [subprocess.Popen([clone / "bonsai", "classes", "F"], env=env, stdout=subprocess.PIPE, stderr=subprocess.PIPE) for _ in range(4)]
+    assert [run.communicate()[0] for run in runs] == [b"words: classes F\n"] * 4
+    assert calls(clone) == 1
+
+
+def test_an_unproved_build_that_fails(clone: Path) -> None:
+    ran = launch("classes", "F", at=clone, env=beside(clone, ENDS="error: no such thing"))
+    assert (ran.returncode, ran.stdout) == (8, b"")
+    assert ran.stderr.splitlines()[1:] == [b"error: no such thing", b"bonsai: the unproved build failed, as the lines above say"]
+
+
+def test_without_a_kit(clone: Path) -> None:
+    path = ":".join(it for it in os.environ["PATH"].split(":") if not os.path.exists(f"{it}/rt"))
+    ran = launch("classes", "F", at=clone, env=beside(clone, PATH=path))
+    assert (ran.returncode, ran.stdout) == (8, b"")
+    assert ran.stderr.splitlines()[-1].startswith(b"bonsai: the command rt of the Rattle kit is not on the path")
+
+
+def test_a_cache_that_cannot_be_written(clone: Path) -> None:
+    (clone.parent / "cache").write_text("", "utf-8")
+    ran = launch("classes", "F", at=clone, env=beside(clone))
+    assert ran.returncode == 8
+    assert b"XDG_CACHE_HOME" in ran.stderr and b"Traceback" not in ran.stderr
+
+
+def test_the_proved_program_while_no_source_is_newer(clone: Path) -> None:
+    script(clone / "crates/bonsai/out/bonsai", '#!/bin/sh\necho "proved: $*"\n')
+    assert launch("classes", "F", at=clone, env=beside(clone)).stdout == b"proved: classes F\n"
+    os.utime(clone / "crates/low/src/lib.rt", (time.time() + 9, time.time() + 9))
+    assert launch("classes", "F", at=clone, env=beside(clone)).stdout == b"words: classes F\n"
