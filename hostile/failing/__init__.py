@@ -1,0 +1,1 @@
+"""Devices and memory that fail, and what the program must then say."""

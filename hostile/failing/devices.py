@@ -1,0 +1,185 @@
+"""Devices that fail: what a command must end with, by the table of statuses in docs/COMMANDS.md."""
+from __future__ import annotations
+
+import contextlib
+import os
+import signal
+import subprocess
+import threading
+import time
+from collections.abc import Callable
+from pathlib import Path
+
+from roads.program import TOP, Program
+
+FABRIC = str(TOP / "examples" / "inputs" / "fabric.cfg")
+SOLUTION = str(TOP / "examples" / "inputs" / "fabric-solution.txt")
+End = tuple[int, bytes, bytes]
+"""A status, what was written, and the line on standard error."""
+
+
+def end(words: list[str], **more: object) -> End:
+    """Runs a command to its end."""
+    ran = subprocess.run([Program().path, *words], stderr=subprocess.PIPE, check=False, timeout=60, **{"stdout": subprocess.PIPE, **more})
+    return ran.returncode, ran.stdout or b"", ran.stderr
+
+
+def plain() -> bytes:
+    """What `compress` of the example writes where nothing fails."""
+    return end(["compress", FABRIC, "1"])[1]
+
+
+def full() -> End:
+    """The output takes nothing."""
+    with open("/dev/full", "wb") as device:
+        return end(["compress", FABRIC, "1"], stdout=device)
+
+
+def closed_pipe() -> End:
+    """Nobody reads the output."""
+    reader, writer = os.pipe()
+    os.close(reader)
+    with os.fdopen(writer, "wb") as device:
+        return end(["compress", FABRIC, "1"], stdout=device)
+
+
+def closed_output() -> End:
+    """There is no standard output at all."""
+    return end(["compress", FABRIC, "1"], preexec_fn=lambda: os.close(1), stdout=None)
+
+
+def full_error() -> int:
+    """Standard error takes nothing, where a line has to be said there: the status."""
+    with open("/dev/full", "wb") as device:
+        return subprocess.run([Program().path], stderr=device, stdout=subprocess.PIPE, check=False).returncode
+
+
+def small_file(folder: Path) -> End:
+    """The output is a file that may not grow beyond 512 bytes."""
+    import resource
+
+    def limit() -> None:
+        signal.signal(signal.SIGXFSZ, signal.SIG_IGN)
+        resource.setrlimit(resource.RLIMIT_FSIZE, (512, 512))
+
+    file = folder / "small"
+    with file.open("wb") as device:
+        status, _, err = end(["compress", FABRIC, "1"], stdout=device, preexec_fn=limit)
+    return status, file.read_bytes(), err
+
+
+def directory(folder: Path) -> End:
+    """F is a directory."""
+    return end(["classes", str(folder)])
+
+
+def vanished(folder: Path) -> End:
+    """F is no more."""
+    return end(["classes", str(folder / "nowhere.cfg")])
+
+
+def second_vanished(folder: Path) -> End:
+    """S is no more."""
+    return end(["check", FABRIC, "1", str(folder / "nowhere.txt")])
+
+
+def dangling(folder: Path) -> End:
+    """F is a link to nothing."""
+    (folder / "link").symlink_to(folder / "nowhere.cfg")
+    return end(["classes", str(folder / "link")])
+
+
+def own_memory() -> End:
+    """F can be begun and not be read: the memory of a process, of which the first byte is not there."""
+    return end(["classes", "/proc/self/mem"])
+
+
+def endless() -> End:
+    """F never ends."""
+    return end(["classes", "/dev/zero"])
+
+
+def empty() -> End:
+    """F has nothing."""
+    return end(["classes", "/dev/null"])
+
+
+def _fed(folder: Path, words: Callable[[str], list[str]], feed: Callable[[int], None]) -> End:
+    fifo = folder / "fifo"
+    os.mkfifo(fifo)
+
+    def write() -> None:
+        with contextlib.suppress(BrokenPipeError):
+            place = os.open(fifo, os.O_WRONLY)
+            feed(place)
+            os.close(place)
+
+    writer = threading.Thread(target=write, daemon=True)
+    writer.start()
+    found = end(words(str(fifo)))
+    writer.join(10)
+    return found
+
+
+def early_fifo(folder: Path) -> End:
+    """F is a FIFO that ends in the middle of a line."""
+    text = Path(FABRIC).read_bytes()
+    return _fed(folder, lambda name: ["classes", name], lambda place: os.write(place, text[: text.index(b"interface") + 4]))
+
+
+def slow_fifo(folder: Path) -> End:
+    """F is a FIFO that gives one byte at a time."""
+    def feed(place: int) -> None:
+        for byte in Path(FABRIC).read_bytes():
+            os.write(place, bytes([byte]))
+
+    return _fed(folder, lambda name: ["classes", name], feed)
+
+
+def slow_reader() -> End:
+    """Whoever reads the output takes one byte at a time of a pipe of one page."""
+    import fcntl
+
+    reader, writer = os.pipe()
+    fcntl.fcntl(writer, fcntl.F_SETPIPE_SZ, 4096)
+    with subprocess.Popen([Program().path, "compress", FABRIC, "1"], stdout=writer, stderr=subprocess.PIPE) as ran:
+        os.close(writer)
+        taken = bytearray()
+        while byte := os.read(reader, 1):
+            taken += byte
+        os.close(reader)
+        return ran.wait(60), bytes(taken), ran.stderr.read()
+
+
+def reader_goes_away(folder: Path) -> End:
+    """Whoever reads the output goes away in the middle of much of it: 20,000 classes of one router."""
+    place = folder / "classes.cfg"
+    place.write_text(many_classes(20_000))
+    reader, writer = os.pipe()
+    with subprocess.Popen([Program().path, "classes", str(place)], stdout=writer, stderr=subprocess.PIPE) as ran:
+        os.close(writer)
+        taken = os.read(reader, 100)
+        os.close(reader)
+        return ran.wait(60), taken, ran.stderr.read()
+
+
+def many_classes(count: int) -> str:
+    """One router that originates this many subnets; a cost for each, so that each is a class."""
+    lines = ["hostname a"]
+    for number in range(count):
+        lines += [f"interface Vlan{number}", f" ip address 11.{number >> 16}.{number >> 8 & 255}.{number & 255} 255.255.255.255", f" ip ospf cost {1 + number % 60000}"]
+    return "\n".join([*lines, "router ospf 1", " network 0.0.0.0 255.255.255.255 area 0", "end", ""])
+
+
+def ended_by(number: int, folder: Path) -> tuple[int, bytes]:
+    """A signal comes while the program waits for F: how it ends, and what it wrote."""
+    fifo = folder / f"fifo{number}"
+    os.mkfifo(fifo)
+    with subprocess.Popen([Program().path, "classes", str(fifo)], stdout=subprocess.PIPE, stderr=subprocess.PIPE) as ran:
+        place = os.open(fifo, os.O_WRONLY)
+        os.write(place, b"hostname a\n")
+        time.sleep(0.1)
+        ran.send_signal(number)
+        status = ran.wait(10)
+        os.close(place)
+        return status, ran.stdout.read()

@@ -1,0 +1,103 @@
+"""Laws between commands, tried on texts without any judge: the rounds of docs/WORKFLOW.md."""
+from __future__ import annotations
+
+import random
+
+from hostile.compare import Counts, Difference
+from roads.program import Answer, Program, classes_of, groups_of
+from roads.text import read_text, text_of
+
+ROUNDS = b"*\n" * 12
+
+
+class Rounds:
+    """The laws over one text and one class."""
+
+    def __init__(self, program: Program, text: bytes, seed: int, counts: Counts) -> None:
+        self.program, self.text, self.counts = program, text, counts
+        self.chance = random.Random(seed)
+        self.found: list[Difference] = []
+
+    def ask(self, text: bytes, *words: str, S: bytes = b"") -> Answer:
+        """A command over a text, counted."""
+        self.counts.commands[words[0]] += 1
+        return self.program.ask(words[0], "F", *words[1:], texts={"F": text, "S": S}, seconds=60)
+
+    def law(self, name: str, holds: bool, *seen: Answer) -> None:
+        """Notes a law that does not hold."""
+        if not holds:
+            self.found.append(Difference(f"law-{name}", "the law", "\n".join(f"status {one.status} {one.reason}\n{one.text}" for one in seen)))
+
+    def run(self) -> list[Difference]:
+        """All laws over one class."""
+        listed = self.ask(self.text, "classes")
+        if listed.status or not listed.out:
+            return self.found
+        chosen = self.chance.choice(classes_of(listed.text))
+        small = self.ask(self.text, "compress", str(chosen.number))
+        self.permuted(listed)
+        self.carried_up_and_down(self.text, str(chosen.number))
+        if not small.status:
+            self.compressed(small, chosen.number, set(chosen.prefixes))
+        return self.found
+
+    def compressed(self, small: Answer, number: int, prefixes: set[str]) -> None:
+        """What is compressed is read, has these groups, gains nothing by compressing, and judges as `lift` does."""
+        again = self.ask(small.out, "classes")
+        below = [one for one in classes_of(again.text) if prefixes <= set(one.prefixes)] if not again.status else []
+        self.law("compressed-is-read", len(below) == 1, small, again)
+        if not below:
+            return
+        place, word = str(below[0].number), str(number)
+        parts = self.ask(small.out, "groups", place)
+        self.law("compressed-again", all(len(group.members) == 1 for group in groups_of(parts.text)), small, parts)
+        if b"router bgp" in small.out:
+            twice = self.ask(small.out, "compress", place)
+            self.law("compressed-twice", _without_notes(twice.out) == _without_notes(small.out), small, twice)
+        ran = self.ask(small.out, "run", place, "S", S=ROUNDS)
+        labels = ran.out.partition(b"\n")[2]
+        judged, lifted = self.ask(small.out, "check", place, "S", S=labels), self.ask(self.text, "lift", word, "S", S=labels)
+        self.law("check-below-is-lift", (judged.status, judged.reason) == (lifted.status, lifted.reason), judged, lifted)
+        if not lifted.status:
+            self.law("lifted-is-stable", self.ask(self.text, "check", word, "S", S=lifted.out).out == b"stable\n", lifted)
+        above = self.ask(self.text, "run", word, "S", S=ROUNDS).out.partition(b"\n")[2]
+        folded = self.ask(self.text, "fold", word, "S", S=above)
+        if not folded.status:
+            self.law("folded-is-stable-below", self.ask(small.out, "check", place, "S", S=folded.out).out == b"stable\n", folded)
+
+    def carried_up_and_down(self, text: bytes, word: str) -> None:
+        """`fold` is done where `check` says stable; what is folded is lifted; what is reached rests; certified, verified."""
+        above = self.ask(text, "run", word, "S", S=ROUNDS)
+        labels = above.out.partition(b"\n")[2]
+        judged, folded = self.ask(text, "check", word, "S", S=labels), self.ask(text, "fold", word, "S", S=labels)
+        self.law("rest-is-stable", above.text.startswith("rest\n") == (judged.out == b"stable\n"), above, judged)
+        self.law("check-is-fold", (judged.status, judged.reason) == (folded.status, folded.reason), judged, folded)
+        if not folded.status:
+            lifted = self.ask(text, "lift", word, "S", S=folded.out)
+            self.law("folded-is-lifted", not lifted.status, folded, lifted)
+            order = self.ask(text, "reach", word, "S", S=labels)
+            self.law("reached-rests", self.ask(text, "run", word, "S", S=order.out).text.startswith("rest\n"), order)
+        made = self.ask(text, "certify", word)
+        self.law("certified-is-verified", self.ask(text, "verify", word, "S", S=made.out).out == b"yes\n", made)
+
+    def permuted(self, listed: Answer) -> None:
+        """Routers in another order have the same classes, up to the order of originators, and groups of the same members."""
+        routers = read_text(self.text.decode("latin-1"), "F")
+        self.chance.shuffle(routers)
+        moved = text_of(routers).encode("latin-1")
+        other = self.ask(moved, "classes")
+        plain = [(one.number, one.prefixes, frozenset(one.origins)) for one in classes_of(listed.text)]
+        same = not other.status and plain == [(one.number, one.prefixes, frozenset(one.origins)) for one in classes_of(other.text)]
+        self.law("permuted-classes", same, listed, other)
+        word = str(self.chance.randint(1, len(plain)))
+        sides = [{frozenset(group.members) for group in groups_of(self.ask(text, "groups", word).text)} for text in (self.text, moved)]
+        self.law("permuted-groups", sides[0] == sides[1], listed, other)
+
+
+def _without_notes(text: bytes) -> list[bytes]:
+    return [line for line in text.split(b"\n") if not line.startswith(b"! member")]
+
+
+def broken(program: Program, text: bytes, seed: int, counts: Counts) -> list[Difference]:
+    """The laws that do not hold over a text, one class of it."""
+    return Rounds(program, text, seed, counts).run()

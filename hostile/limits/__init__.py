@@ -1,0 +1,1 @@
+"""Each limit of the README at its value and one beyond."""

@@ -1,0 +1,61 @@
+"""Runs the cases of `limits.texts` and tells what differs, with time and memory of each."""
+from __future__ import annotations
+
+import dataclasses
+import subprocess
+import sys
+import tempfile
+from pathlib import Path
+
+from hostile.limits.texts import Case, cases
+from roads.program import Program
+
+WATCH = """
+import resource, subprocess, sys, time
+start = time.monotonic()
+status = subprocess.run(sys.argv[2:]).returncode
+used = resource.getrusage(resource.RUSAGE_CHILDREN)
+with open(sys.argv[1], "w") as file:
+    print(status, used.ru_utime + used.ru_stime, time.monotonic() - start, used.ru_maxrss / 1024, file=file)
+"""
+"""Starts a command from a process that is small, as the most memory of a process counts from before it became another program."""
+
+
+@dataclasses.dataclass(frozen=True)
+class Measured:
+    """A case that ran: what was wrong about its answer (empty: nothing), processor seconds, seconds, and MiB at most."""
+
+    case: Case
+    wrong: str
+    processor: float
+    seconds: float
+    memory: float
+
+
+def measured(case: Case, folder: Path) -> Measured:
+    """Runs one case, with its texts and its output in files of a folder."""
+    files = {"F": folder / "F", "S": folder / "S"}
+    files["F"].write_bytes(case.make())
+    files["S"].write_bytes(case.second() if case.second else b"")
+    words = [str(files[word]) if word in files else word for word in case.words]
+    with (folder / "out").open("wb") as out, (folder / "err").open("wb") as err:
+        subprocess.run([sys.executable, "-c", WATCH, str(folder / "used"), Program().path, *words], stdout=out, stderr=err, check=True)
+    status, processor, seconds, memory = (folder / "used").read_text().split()
+    reason = (folder / "err").read_text().strip()
+    lines = (folder / "out").read_bytes().count(b"\n")
+    told = (int(status), reason, lines if case.lines is not None else None)
+    wrong = "" if told == (case.status, case.reason, case.lines) else f"status {status} {reason} {lines} lines"
+    return Measured(case, wrong, float(processor), float(seconds), float(memory))
+
+
+def main() -> int:
+    """`hostile/limits/measure`: a line for each case; status 1 where one has another answer."""
+    failed = False
+    print("| limit | command | ends with | processor seconds | MiB |\n|---|---|---|---:|---:|")
+    with tempfile.TemporaryDirectory() as folder:
+        for case in cases():
+            one = measured(case, Path(folder))
+            failed |= bool(one.wrong)
+            end = f"**{one.wrong}**" if one.wrong else case.reason or "done"
+            print(f"| {case.name} | `{case.words[0]}` | {end} | {one.processor:.2f} | {one.memory:.0f} |", flush=True)
+    return 1 if failed else 0

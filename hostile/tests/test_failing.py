@@ -1,0 +1,100 @@
+"""Failing devices and failing memory, with the ends that docs/COMMANDS.md has."""
+from __future__ import annotations
+
+import os
+import shutil
+import signal
+import subprocess
+from pathlib import Path
+
+import pytest
+
+from hostile.failing import devices, memory
+from roads.program import TOP
+
+FAULT = (4, b"", b"write fault\n")
+
+
+def test_an_output_that_takes_nothing() -> None:
+    """A full device, a pipe that nobody reads, and none at all."""
+    assert devices.full() == FAULT
+    assert devices.closed_pipe() == FAULT
+    assert devices.closed_output() == FAULT
+
+
+def test_an_error_output_that_takes_nothing() -> None:
+    """The usage line can't be said."""
+    assert devices.full_error() == 4
+
+
+def test_an_output_that_ends(tmp_path: Path) -> None:
+    """What was taken is a first part of the answer."""
+    status, taken, err = devices.small_file(tmp_path)
+    assert (status, err) == (4, b"write fault\n")
+    assert len(taken) <= 512 and devices.plain().startswith(taken)
+    status, taken, err = devices.reader_goes_away(tmp_path)
+    assert (status, err) == (4, b"write fault\n") and taken.startswith(b"class 1 prefixes")
+
+
+def test_a_reader_of_single_bytes() -> None:
+    """The whole answer comes, however slowly it is taken."""
+    assert devices.slow_reader() == (0, devices.plain(), b"")
+
+
+@pytest.mark.parametrize("fault", [devices.directory, devices.vanished, devices.second_vanished, devices.dangling])
+def test_a_file_that_cannot_be_read(fault, tmp_path: Path) -> None:
+    """Status 3, and the name."""
+    status, out, err = fault(tmp_path)
+    assert (status, out) == (3, b"") and err.startswith(b"read fault: ") and err.count(b"\n") == 1
+
+
+def test_a_file_that_fails_behind_its_beginning() -> None:
+    """It can be opened and not be read."""
+    assert devices.own_memory() == (3, b"", b"read fault: /proc/self/mem\n")
+
+
+@pytest.mark.skipif(os.geteuid() == 0, reason="root may read every file")
+def test_no_permission(tmp_path: Path) -> None:
+    """Status 3, and the name."""
+    (tmp_path / "secret").touch(mode=0)
+    assert devices.end(["classes", str(tmp_path / "secret")])[0] == 3
+
+
+def test_files_without_end_or_content() -> None:
+    """A file without an end is too long; an empty one has no class."""
+    assert devices.endless() == (1, b"", b"refused: FileTooLong\n")
+    assert devices.empty() == (0, b"", b"")
+
+
+def test_a_fifo_that_ends_early(tmp_path: Path) -> None:
+    """What came is read: the broken line decides."""
+    status, out, err = devices.early_fifo(tmp_path)
+    assert (status, out) == (1, b"") and err.startswith(b"refused: line ")
+
+
+def test_a_fifo_of_single_bytes(tmp_path: Path) -> None:
+    """The answer is that of the file."""
+    assert devices.slow_fifo(tmp_path) == devices.end(["classes", devices.FABRIC])
+
+
+@pytest.mark.parametrize("number", [signal.SIGINT, signal.SIGTERM, signal.SIGHUP])
+def test_a_signal_ends_it_without_output(number: int, tmp_path: Path) -> None:
+    """As the system does it by itself."""
+    assert devices.ended_by(number, tmp_path) == (-number, b"")
+
+
+@pytest.mark.skipif(shutil.which("gcc") is None, reason="no gcc here")
+def test_memory_that_fails_in_turn(tmp_path: Path) -> None:
+    """Each command on a network of either protocol: `out of memory`, or as without the fault."""
+    library, inputs = memory.allocator(tmp_path), TOP / "examples" / "inputs"
+    fabric, campus, rounds = str(inputs / "fabric.cfg"), str(inputs / "campus.cfg"), tmp_path / "rounds"
+    rounds.write_text("*\n" * 9)
+    wrong = [one for words in memory.commands([fabric, campus], tmp_path) for one in memory.wrong(words, library, tmp_path, 40)]
+    assert not wrong
+
+
+def test_memory_that_is_short() -> None:
+    """Under a limit of the address space, from 8 MB up, it ends with `out of memory` or with the answer."""
+    for size in (8000, 12_000, 20_000):
+        ran = subprocess.run(["bash", "-c", f'ulimit -v {size}; exec "$0" trial 8', memory.program_file()], capture_output=True, check=False)
+        assert ran.returncode == 0 or (ran.returncode, ran.stdout, ran.stderr) == memory.OUT_OF_MEMORY, size

@@ -1,0 +1,21 @@
+"""Each limit at its value and one beyond."""
+from __future__ import annotations
+
+from pathlib import Path
+
+import pytest
+
+from hostile.limits.measuring import measured
+from hostile.limits.texts import Case, cases, exact_pairs, long_text
+
+
+@pytest.mark.parametrize("case", cases(), ids=lambda case: case.name)
+def test_a_limit(case: Case, tmp_path: Path) -> None:
+    """The answer is the one that the pages tell."""
+    assert measured(case, tmp_path).wrong == ""
+
+
+def test_the_sizes_of_texts() -> None:
+    """The makers of texts keep their word."""
+    assert len(long_text(70_003)) == 70_003
+    assert exact_pairs(0).count(b"Vlan1\n") == 1448
