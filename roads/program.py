@@ -16,6 +16,8 @@ from pathlib import Path
 from typing import BinaryIO
 
 TOP = Path(__file__).resolve().parent.parent
+ELF = b"\x7fELF"
+LAUNCHES = 8
 UNPROVED = b"bonsai: this answer is from an unproved build"
 
 
@@ -107,9 +109,34 @@ class Program:
         if not found:
             raise FileNotFoundError("no program bonsai: set BONSAI_PROGRAM, or build it with ./build")
         self.path = found
+        self.asked = 0
+
+    def executable(self) -> Path | None:
+        """The program as one file that runs alone: the one that is asked, or the one that the launcher names. None where there is none."""
+        installed = Path(self.path).resolve().parent.parent / "lib" / "bonsai" / "bonsai"
+        for place in (Path(self.path), *self._named_by_launcher(), installed):
+            try:
+                with open(place, "rb") as file:
+                    if file.read(4) == ELF:
+                        return place
+            except OSError:
+                continue
+        return None
+
+    def _named_by_launcher(self) -> list[Path]:
+        """The program that `--version` of the launcher names, as `program: unproved, FILE; ..`; of the repository it names a place below it."""
+        told = subprocess.run([self.path, "--version"], capture_output=True, text=True, check=False).stdout
+        return [TOP / found for found in re.findall(r"^program: (?:\w+, )?([^;,\n]+)", told, re.M)]
+
+    def _skip_launcher(self) -> None:
+        """After some answers the file behind the launcher is asked itself: the launcher looks at all sources anew each time."""
+        self.asked += 1
+        if self.asked == LAUNCHES:
+            self.path = str(self.executable() or self.path)
 
     def ask(self, *words: str, texts: dict[str, str | bytes] | None = None, seconds: float | None = None) -> Answer:
         """Runs a command. A word that is a key of `texts` names a file with that text, in memory and made for this call alone."""
+        self._skip_launcher()
         with contextlib.ExitStack() as room:
             files = {name: room.enter_context(_in_memory(text)) for name, text in (texts or {}).items()}
             places = {name: f"/proc/self/fd/{file.fileno()}" for name, file in files.items()}

@@ -10,7 +10,8 @@ import time
 from collections.abc import Callable
 from pathlib import Path
 
-from roads.program import TOP, Program
+from roads.native import program_file
+from roads.program import TOP
 
 FABRIC = str(TOP / "examples" / "inputs" / "fabric.cfg")
 SOLUTION = str(TOP / "examples" / "inputs" / "fabric-solution.txt")
@@ -20,7 +21,7 @@ End = tuple[int, bytes, bytes]
 
 def end(words: list[str], **more: object) -> End:
     """Runs a command to its end."""
-    ran = subprocess.run([Program().path, *words], stderr=subprocess.PIPE, check=False, timeout=60, **{"stdout": subprocess.PIPE, **more})
+    ran = subprocess.run([program_file(), *words], stderr=subprocess.PIPE, check=False, timeout=60, **{"stdout": subprocess.PIPE, **more})
     return ran.returncode, ran.stdout or b"", ran.stderr
 
 
@@ -51,7 +52,7 @@ def closed_output() -> End:
 def full_error() -> int:
     """Standard error takes nothing, where a line has to be said there: the status."""
     with open("/dev/full", "wb") as device:
-        return subprocess.run([Program().path], stderr=device, stdout=subprocess.PIPE, check=False).returncode
+        return subprocess.run([program_file()], stderr=device, stdout=subprocess.PIPE, check=False).returncode
 
 
 def small_file(folder: Path) -> End:
@@ -142,7 +143,7 @@ def slow_reader() -> End:
 
     reader, writer = os.pipe()
     fcntl.fcntl(writer, fcntl.F_SETPIPE_SZ, 4096)
-    with subprocess.Popen([Program().path, "compress", FABRIC, "1"], stdout=writer, stderr=subprocess.PIPE) as ran:
+    with subprocess.Popen([program_file(), "compress", FABRIC, "1"], stdout=writer, stderr=subprocess.PIPE) as ran:
         os.close(writer)
         taken = bytearray()
         while byte := os.read(reader, 1):
@@ -156,7 +157,7 @@ def reader_goes_away(folder: Path) -> End:
     place = folder / "classes.cfg"
     place.write_text(many_classes(20_000))
     reader, writer = os.pipe()
-    with subprocess.Popen([Program().path, "classes", str(place)], stdout=writer, stderr=subprocess.PIPE) as ran:
+    with subprocess.Popen([program_file(), "classes", str(place)], stdout=writer, stderr=subprocess.PIPE) as ran:
         os.close(writer)
         taken = os.read(reader, 100)
         os.close(reader)
@@ -175,7 +176,7 @@ def ended_by(number: int, folder: Path) -> tuple[int, bytes]:
     """A signal comes while the program waits for F: how it ends, and what it wrote."""
     fifo = folder / f"fifo{number}"
     os.mkfifo(fifo)
-    with subprocess.Popen([Program().path, "classes", str(fifo)], stdout=subprocess.PIPE, stderr=subprocess.PIPE) as ran:
+    with subprocess.Popen([program_file(), "classes", str(fifo)], stdout=subprocess.PIPE, stderr=subprocess.PIPE) as ran:
         place = os.open(fifo, os.O_WRONLY)
         os.write(place, b"hostname a\n")
         time.sleep(0.1)

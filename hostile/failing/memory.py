@@ -5,13 +5,12 @@ that are is counted over as many words that are no command."""
 from __future__ import annotations
 
 import dataclasses
-import functools
 import os
 import subprocess
 from collections.abc import Iterator
 from pathlib import Path
 
-from roads.native import native
+from roads.native import program_file
 from roads.program import Program
 
 SOURCE = Path(__file__).with_name("refuse.c")
@@ -38,13 +37,8 @@ def allocator(folder: Path) -> Path:
     return library
 
 
-@functools.cache
-def program_file() -> str:
-    """The program itself: the launcher in front of it is a script, whose memory would fail first."""
-    return str(native(Program()))
-
-
 def _run(words: tuple[str, ...], library: Path, **more: str) -> tuple[int, bytes, bytes]:
+    # (the launcher is a script, whose memory would fail first)
     ran = subprocess.run([program_file(), *words], env={**os.environ, "LD_PRELOAD": str(library), **more}, capture_output=True, check=False)
     return ran.returncode, ran.stdout, ran.stderr
 

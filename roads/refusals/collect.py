@@ -54,6 +54,7 @@ def collect(program: Program, given: Input) -> Refusals:
     own = verdict(program, given.text)
     if own is None:
         return Refusals(given, [])
+    program = Program(str(program.executable() or program.path))
     rests = [Rest(part.texts) for part in given.parts]
     told: dict[int, list[tuple[Found, str]]] = defaultdict(list)
     start = _place_of(given, own.line) if own.line else None
