@@ -59,6 +59,7 @@ class Neighbor:
     map_out: str | None = None
     descriptions: list[str] = dataclasses.field(default_factory=list)
     lines: dict[str, Line] = dataclasses.field(default_factory=dict)
+    ignored: list[Line] = dataclasses.field(default_factory=list)
 
 
 @dataclasses.dataclass
@@ -311,6 +312,8 @@ class _Reader:
                 neighbor.descriptions.append(" ".join(told))
                 neighbor.lines.setdefault("description", line)
             case _:
+                if neighbor:
+                    neighbor.ignored.append(line)
                 self._ignore(line, words or [])
 
     def _ospf(self, line: Line, words: list[str]) -> None:

@@ -22,6 +22,7 @@ SORTS = {
     "no-session": "neighbours that are part of no session",
     "no-neighbour": "interfaces in the OSPF area without a neighbour",
     "no-link": "routers without links",
+    "no-agreement": "links whose ends say different things in lines that Bonsai passes over",
     "unused": "lists and maps that nothing uses",
     "not-reached": "entries that nothing reaches",
     "tie": "ties: routes of one preference and length of which communities or lone numbers decided",

@@ -7,6 +7,7 @@ from collections.abc import Iterator
 
 from roads.command_line import Refused, parser, read_input
 from roads.compressed import Asked, asked
+from roads.doubts.agreement import doubts_of_agreement
 from roads.doubts.finding import SORTS, Doubt
 from roads.doubts.links import doubts_of_links
 from roads.doubts.numbers import doubts_of_numbers
@@ -18,12 +19,13 @@ from roads.program import NotAnswered, Program
 
 PURPOSE = """Lists what a text says that Bonsai accepts and that is likely not meant.
 
-Lines that originate nothing, neighbours in no session, interfaces in the area without a neighbour, routers without links, lists and
-maps that nothing uses, entries that nothing reaches, each with the reason. Ties: where at rest two routes of a router have one
-preference and one length, and communities or lone numbers decided. Real routers break these by age or identifier, and may rest
-elsewhere; the program is asked for them on the compressed network of each class, by `run` and `check`. Paths that pass two routers
-of one AS number, where bonsai-import --own-as gave them numbers of their own. With --folder: links that the raw folder suggests, by
-two interfaces in one subnet, and the text has not. A doubt is no fault: the status is 0."""
+Lines that originate nothing, neighbours in no session, interfaces in the area without a neighbour, routers without links, links whose
+ends differ in timers, authentication, MTU or password, which Bonsai takes to agree, lists and maps that nothing uses, entries that
+nothing reaches, each with the reason. Ties: where at rest two routes of a router have one preference and one length, and communities
+or lone numbers decided. Real routers break these by age or identifier, and may rest elsewhere; the program is asked for them on the
+compressed network of each class, by `run` and `check`. Paths that pass two routers of one AS number, where bonsai-import --own-as gave
+them numbers of their own. With --folder: links that the raw folder suggests, by two interfaces in one subnet, and the text has not. A
+doubt is no fault: the status is 0."""
 
 
 def words() -> argparse.ArgumentParser:
@@ -43,7 +45,7 @@ def work(arguments: argparse.Namespace) -> None:
     name = "standard input" if arguments.file == "-" else arguments.file
     text = _asked(program, read_input(arguments.file), name)
     folder = read_folder(arguments.folder) if arguments.folder else None
-    found = [*doubts_of_links(text.network), *doubts_of_policies(text.network)]
+    found = [*doubts_of_links(text.network), *doubts_of_agreement(text.network), *doubts_of_policies(text.network)]
     if not arguments.no_ties:
         numbers = chosen(text, arguments.numbers)
         found += [*doubts_of_ties(program, text, numbers), *doubts_of_numbers(program, text, numbers)]
