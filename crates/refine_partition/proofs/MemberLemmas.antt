@@ -55,7 +55,7 @@ All-filter_map {X} {Y} h P (x ∷ xs) from = by (h x) refl (All-filter_map h P x
     by (Some y) e rest = All-cons P y (filter_map h xs) (from x y (0, omega arith, refl) e) rest
     by None e rest = rest
 
-range_more : (a n j : ℕ) → a + n ≡ j → range_with_len a (suc n) ≡ range_with_len a n ++ j ∷ []
+pub range_more : (a n j : ℕ) → a + n ≡ j → range_with_len a (suc n) ≡ range_with_len a n ++ j ∷ []
 range_more a zero j e = ap (λ i. i ∷ []) (omega arith)
 range_more a (suc n) j e = ap (λ (xs : List ℕ). a ∷ xs) (range_more (a + 1) n j (omega arith))
 

@@ -75,7 +75,7 @@ together_push numbers keys y together new u v hu hv same =
     ]
 
 -- a number in use, as a router
-used_at : (numbers : List ℕ) (group : ℕ) → Contains numbers group → (u : ℕ) × (u < length numbers) × (slice_index numbers u ≡ group)
+pub used_at : (numbers : List ℕ) (group : ℕ) → Contains numbers group → (u : ℕ) × (u < length numbers) × (slice_index numbers u ≡ group)
 used_at numbers group (k, inside, at) = (k, inside, get_or_default numbers k 0 group inside ∙ at)
 
 -- numbers of the first keys, with the names that they have

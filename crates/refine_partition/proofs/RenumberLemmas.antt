@@ -206,13 +206,18 @@ stands_before numbers queue k w queued here (i, inside, at) =
 pub place_of : (done : List ℕ) (w : ℕ) → Contains done w → (j : ℕ) × (j < length done) × (slice_index done j ≡ w)
 place_of done w (j, inside, at) = (j, inside, get_or_default done j 0 w inside ∙ at)
 
-pub renumbered_next : (numbers classes queue : List ℕ) (blocks : List (Vec ℕ Global)) (class_count k : ℕ) (next origins origins' : List ℕ) (names names' : ℕ → Option ℕ) (number : ℕ) → IsRefined numbers blocks classes class_count → IsQueueOf numbers queue → k < length queue → Renumbering numbers classes (take k queue) (length blocks) next origins names → IsNextNumber (names (slice_index classes (slice_index queue k))) numbers (slice_index queue k) (length blocks) origins origins' number → names' (slice_index classes (slice_index queue k)) ≡ Some number → ((other : ℕ) → other ≢ slice_index classes (slice_index queue k) → names' other ≡ names other) → Renumbering numbers classes (take (k + 1) queue) (length blocks) (slice_set next (slice_index queue k) number) origins' names'
-renumbered_next numbers classes queue blocks class_count k next origins origins' names names' number given queued here so_far chosen named others =
+pub renumbered_next : (numbers classes queue : List ℕ) (before k : ℕ) (next origins origins' : List ℕ) (names names' : ℕ → Option ℕ) (number : ℕ) →
+    All (λ n. n < before) numbers → ((u v : ℕ) → u < length numbers → v < length numbers → slice_index classes u ≡ slice_index classes v →
+    slice_index numbers u ≡ slice_index numbers v) → IsQueueOf numbers queue → k < length queue →
+    Renumbering numbers classes (take k queue) before next origins names →
+    IsNextNumber (names (slice_index classes (slice_index queue k))) numbers (slice_index queue k) before origins origins' number →
+    names' (slice_index classes (slice_index queue k)) ≡ Some number → ((other : ℕ) → other ≢ slice_index classes (slice_index queue k) →
+    names' other ≡ names other) → Renumbering numbers classes (take (k + 1) queue) before (slice_set next (slice_index queue k) number) origins' names'
+renumbered_next numbers classes queue before k next origins origins' names names' number below same queued here so_far chosen named others =
     let block : ℕ = slice_index numbers (slice_index queue k) in
     let router : ℕ = slice_index queue k in
     let class : ℕ = slice_index classes router in
     let done : List ℕ = take k queue in
-    let before : ℕ = length blocks in
     let inside : router < length numbers = queued.below k 0 here in
     let stands : (w : ℕ) → Contains done w → StandsBefore numbers w router = λ w found. stands_before numbers queue k w queued here found in
     let in_range : (w : ℕ) → Contains done w → w < length numbers = λ w found. All-contains (λ u. u < length numbers) done w (All-take (λ u. u < length numbers) k queue queued.below) found in
@@ -220,12 +225,12 @@ renumbered_next numbers classes queue blocks class_count k next origins origins'
       | inl lt ↦ absurd (omega arith)
       | inr e ↦ e.1
     ] in
-    let low : slice_index numbers router < before = given.below router 0 inside in
+    let low : slice_index numbers router < before = below router 0 inside in
     rw (take_more queue k 0 here)
     (elim chosen [
       | inl old ↦
           let (w, found, at, is) = so_far.back class number old.0 in
-          let together : slice_index numbers w ≡ slice_index numbers router = given.same w router (in_range w found) inside at in
+          let together : slice_index numbers w ≡ slice_index numbers router = same w router (in_range w found) inside at in
           let lt = so_far.below w found in
           renumbered_more numbers classes done before next origins origins' names names' router class number so_far inside stands refl named others
           (inl old.0)

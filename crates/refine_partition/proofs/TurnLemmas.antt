@@ -1,5 +1,5 @@
 -- What the parts of a turn say together.
-use Rattle.std.proofs.Common.{◌≡◌, ◌≢◌, ℕ, ◌+◌, ◌<◌, List, [], ◌∷◌, ◌++◌, length, slice_set, All, Any, Contains, Vec, sym, ◌∙◌, ap, arith, inl, inr}
+use Rattle.std.proofs.Common.{◌≡◌, ◌≢◌, ℕ, ◌+◌, ◌<◌, List, [], ◌∷◌, ◌++◌, length, slice_set, All, Any, Contains, Vec, sym, ◌∙◌, ap, subst, arith, inl, inr}
 use Rattle.std.specs.Prelude.{slice_index, ◌⊎◌}
 use Rattle.std.specs.declared.alloc.Global.{Global}
 use Rattle.std.proofs.lemmas.Bool.{cases_eq}
@@ -12,13 +12,16 @@ use Rattle.refine_partition.specs.Members.{AreBlocks}
 use Rattle.refine_partition.specs.Splits.{HasAct}
 use Rattle.refine_partition.specs.Arrivals.{IsArrival, AreArrivals}
 use Rattle.refine_partition.specs.Classes.{AreClasses}
-use Rattle.refine_partition.specs.Loose.{AreFiner, AreMoved, AreParted, AreSettled}
+use Rattle.refine_partition.specs.Loose.{AreFiner, AreMoved, AreParted, AreSettled, AreUsed, IsDividedAsSplit}
 use Rattle.refine_partition.proofs.RenumberLemmas.{place_of}
 use Rattle.refine_partition.proofs.StayingLemmas.{listed_first}
 use Rattle.refine_partition.proofs.MoveLemmas.{used_few}
+use Rattle.refine_partition.proofs.PinnedLemmas.{pinned_split}
 
 -- the acts of arrivals are those of the edges into the block
-acts_listed : (graph : ActGraph) (taken : ℕ) (numbers : List ℕ) (arrivals : List Import) (u v : ℕ) → AreArrivals graph.edges numbers taken arrivals → slice_index numbers u ≢ taken → ((act : ℕ) → Contains arrivals (record { importer = u; act = act }) → Contains arrivals (record { importer = v; act = act })) → (act : ℕ) → HasAct graph.edges numbers taken u act → HasAct graph.edges numbers taken v act
+acts_listed : (graph : ActGraph) (taken : ℕ) (numbers : List ℕ) (arrivals : List Import) (u v : ℕ) → AreArrivals graph.edges numbers taken arrivals →
+    slice_index numbers u ≢ taken → ((act : ℕ) → Contains arrivals (record { importer = u; act = act }) →
+    Contains arrivals (record { importer = v; act = act })) → (act : ℕ) → HasAct graph.edges numbers taken u act → HasAct graph.edges numbers taken v act
 acts_listed graph taken numbers arrivals u v arrived outside there act has =
     (All-contains (IsArrival graph.edges numbers taken) arrivals (record { importer = v; act = act }) arrived.only (there act (arrived.all u act outside has))).has
 
@@ -59,6 +62,17 @@ parted graph taken numbers classes next origins arrivals before after class_coun
           let lt : slice_index numbers u < before = All-get_or (λ n. n < before) numbers u 0 (omega arith) low in
           omega arith);
     }
+
+-- a turn divides the blocks as a split does
+pub divided : (graph : ActGraph) (taken : ℕ) (numbers classes next origins : List ℕ) (arrivals : List Import) (before after class_count : ℕ) →
+    length numbers ≡ graph.count → All (λ n. n < before) numbers → AreArrivals graph.edges numbers taken arrivals →
+    AreClasses numbers arrivals before classes class_count → AreMoved numbers classes arrivals before next origins → after ≡ before + length origins →
+    IsDividedAsSplit graph taken numbers next before after
+divided graph taken numbers classes next origins arrivals before after class_count total low arrived are moved size = record {
+  split = pinned_split graph taken numbers next origins before after total
+      (parted graph taken numbers classes next origins arrivals before after class_count total low arrived are moved size)
+      (subst (λ n. AreUsed n next) (sym size) moved.used);
+}
 
 pub finer : (numbers classes : List ℕ) (arrivals : List Import) (before class_count : ℕ) → AreClasses numbers arrivals before classes class_count → AreFiner numbers classes
 finer numbers classes arrivals before class_count are = λ u v hu hv same. are.same u v hu hv same

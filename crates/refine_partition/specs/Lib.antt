@@ -11,5 +11,6 @@ pub mod Planned
 pub mod Kept
 pub mod Splitting
 pub mod SplittingInside
-pub mod Pending
 pub mod Loose
+pub mod Runs
+pub mod Pending

@@ -5,7 +5,7 @@ use Rattle.std.specs.HashMap.{get}
 use Rattle.base_kit.specs.declared.act_graph.ActGraph.{ActGraph}
 use Rattle.refine_partition.specs.declared.imports.Import.{Import}
 use Rattle.refine_partition.specs.Classes.{ClassNames}
-use Rattle.refine_partition.specs.Splits.{StayTogether}
+use Rattle.refine_partition.specs.Splits.{StayTogether, IsSplit}
 
 -- each router is in the list of its block, which may have others too
 pub record AreListed (numbers : List ℕ) (lists : List (Vec ℕ Global)) : Type 0 where
@@ -99,3 +99,24 @@ pub record AreSettled (numbers classes : List ℕ) (lists : List (Vec ℕ Global
   pub listed : AreListed numbers lists
   pub used : AreUsed (length lists) numbers
   pub classes_are : classes ≡ numbers
+
+-- The same blocks under other numbers: two routers have one number where they had, and each number below
+-- `count` is in use.
+pub record AreRenamed (count : ℕ) (numbers others : List ℕ) : Type 0 where
+  pub total : length others ≡ length numbers
+  pub below : All (λ number. number < count) others
+  pub used : AreUsed count others
+  pub together : (u v : ℕ) → u < length numbers → v < length numbers → slice_index numbers u ≡ slice_index numbers v →
+      slice_index others u ≡ slice_index others v
+  pub apart : (u v : ℕ) → u < length numbers → v < length numbers → slice_index others u ≡ slice_index others v → slice_index numbers u ≡ slice_index numbers v
+
+-- Blocks `new` that are, under some numbers, the split by the block `taken` of the blocks `old`, which have
+-- these numbers.
+pub record IsSplitFrom (graph : ActGraph) (taken : ℕ) (old numbers new : List ℕ) (before after : ℕ) : Type 0 where
+  pub next : List ℕ
+  pub renamed : AreRenamed after new next
+  pub split : (u : ℕ) → u < graph.count → slice_index old u ≡ taken → IsSplit graph (slice_index numbers u) numbers next before after
+
+-- A division of the blocks as a split makes it, number for number, whatever the numbers of the blocks are.
+pub record IsDividedAsSplit (graph : ActGraph) (taken : ℕ) (old new : List ℕ) (before after : ℕ) : Type 0 where
+  pub split : (numbers : List ℕ) → AreRenamed before old numbers → IsSplitFrom graph taken old numbers new before after

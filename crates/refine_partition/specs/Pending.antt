@@ -1,8 +1,11 @@
 -- The blocks that wait for their turn.
-use Rattle.std.specs.Prelude.{◌≡◌, ◌≢◌, ℕ, ◌+◌, ◌*◌, ◌<◌, ◌≤◌, List, length, slice_index, slice_index_or, Bool, true, false, Contains, All, ◌⊎◌}
+use Rattle.std.specs.Prelude.{◌≡◌, ◌≢◌, ℕ, ◌+◌, ◌*◌, ◌<◌, ◌≤◌, List, [], length, slice_index, slice_index_or, Bool, true, false, Contains, All, ◌⊎◌}
 use Rattle.base_kit.specs.declared.act_graph.ActGraph.{ActGraph}
 use Rattle.base_kit.specs.Partition.{color, IsAdmissibleOn, Refines}
+use Rattle.refine_partition.specs.Loose.{AreRenamed}
+use Rattle.refine_partition.specs.Runs.{IsRun}
 use Rattle.refine_partition.specs.Splits.{ActAlike}
+use Rattle.refine_partition.specs.Splitting.{blocks_of}
 
 -- a block that is marked as waiting stands in the queue
 pub record AreMarked (queue : List ℕ) (waits : List Bool) : Type 0 where
@@ -44,3 +47,11 @@ pub record IsRefining (graph : ActGraph) (numbers : List ℕ) (count : ℕ) (que
   pub refined : (others : List ℕ) → IsAdmissibleOn graph others → Refines graph.count others numbers
   pub even : (block : ℕ) → block < count → ¬ Contains queue block → IsEven graph numbers block
   pub known : All (λ block. block < count) queue
+
+-- between turns: the blocks are those to which so many splits lead, under other numbers
+pub record AreSplitSoFar (graph : ActGraph) (splits : ℕ) (slots : List ℕ) (count : ℕ) : Type 0 where
+  pub history : List (List (List ℕ))
+  pub run : IsRun graph splits history
+  pub numbers : List ℕ
+  pub renamed : AreRenamed count slots numbers
+  pub last : slice_index_or history splits [] ≡ blocks_of numbers count

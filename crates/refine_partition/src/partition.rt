@@ -1,7 +1,8 @@
 //! Partitions of routers into numbered groups, and the coarsest admissible one.
 
-ghost use Rattle.std.specs.Prelude.{◌≡◌, ◌<◌, ◌≤◌, ◌+◌, ◌*◌, ◌^◌, IfOk, Contains, length, slice_index};
+ghost use Rattle.std.specs.Prelude.{◌≡◌, ℕ, ◌<◌, ◌≤◌, ◌+◌, ◌*◌, ◌^◌, IfOk, Contains, length, slice_index};
 ghost use Rattle.base_kit.specs.Partition.{IsNumbered, IsCoarsestOn, members_of};
+ghost use Rattle.refine_partition.specs.Runs.{AreReachedBy};
 
 use crate::blocks::blocks_of;
 use crate::graph_view::GraphView;
@@ -72,13 +73,15 @@ fn from_numbers(alloc: Global, numbers: Vec<u32>, count: u32) -> Result<Partitio
 }
 
 /// The coarsest admissible partition of a graph that another has: every admissible one refines it. It
-/// counts its turns, at most two for each router.
+/// counts its turns, at most two for each router. Its groups are the blocks to which as many splits lead
+/// from the start, each as `split_by` divides, number for number.
 pub fn coarsest_over<L: Ledger>(
     alloc: Global,
     graph: &GraphView,
     turns: &mut Steps<L>,
 ) -> Result<Partition, NoMemory>
     ensures coarsest { IfOk result (λ p. IsCoarsestOn graph.now p) }
+    ensures splits { IfOk result (λ p. (splits : ℕ) × (turns.new ≡ turns.old + splits) × AreReachedBy graph.now splits p) }
     ensures turns { turns.new ≤ turns.old + 2 * graph.now.count }
 {
     let _count = graph.count();
@@ -89,13 +92,15 @@ pub fn coarsest_over<L: Ledger>(
 }
 
 /// The coarsest admissible partition of a graph: every admissible one refines it. It counts its turns,
-/// at most two for each router.
+/// at most two for each router. Its groups are the blocks to which as many calls of `split_by` lead from
+/// `start`.
 pub fn coarsest<L: Ledger>(
     alloc: Global,
     graph: &ActGraph,
     turns: &mut Steps<L>,
 ) -> Result<Partition, NoMemory>
     ensures coarsest { IfOk result (λ p. IsCoarsestOn graph.now p) }
+    ensures splits { IfOk result (λ p. (splits : ℕ) × (turns.new ≡ turns.old + splits) × AreReachedBy graph.now splits p) }
     ensures turns { turns.new ≤ turns.old + 2 * graph.now.count }
 {
     coarsest_over(alloc, &GraphView::of(graph), turns)

@@ -2,7 +2,7 @@
 
 ghost use Rattle.std.specs.Prelude.{◌≡◌, ℕ, ◌<◌, ◌≤◌, ◌+◌, ◌*◌, ◌^◌, All, Contains, IfOk, OnOk, length, slice_index};
 ghost use Rattle.base_kit.specs.Partition.{IsCoarsestOn};
-ghost use Rattle.refine_partition.specs.Pending.{AreAllWaiting, AreMarked, IsWaiting, ArePiecesWaiting};
+ghost use Rattle.refine_partition.specs.Pending.{AreAllWaiting, AreMarked, IsWaiting, ArePiecesWaiting, AreSplitSoFar};
 
 use crate::graph_view::GraphView;
 use crate::imports::imports_of;
@@ -83,13 +83,14 @@ fn add_pieces(
     Ok(())
 }
 
-/// The number of each router's block after all turns.
+/// The number of each router's block after all turns, each of which is a split.
 pub fn refined<L: Ledger>(
     alloc: Global,
     graph: &GraphView,
     turns: &mut Steps<L>,
 ) -> Result<Vec<u32>, NoMemory>
     ensures coarsest { IfOk result (λ numbers. IsCoarsestOn graph.now numbers.items) }
+    ensures splits { IfOk result (λ numbers. (splits count : ℕ) × (turns.new ≡ turns.old + splits) × AreSplitSoFar graph.now splits numbers.items count) }
     ensures turns { turns.new ≤ turns.old + 2 * graph.now.count }
 {
     let _count = graph.count();

@@ -3,7 +3,7 @@
 ghost use Rattle.std.specs.Prelude.{◌≡◌, ℕ, ◌<◌, ◌+◌, ◌≤◌, IfOk, Vec, length, slice_index_or};
 ghost use Rattle.std.specs.declared.alloc.Global.{Global as TheGlobal};
 ghost use Rattle.refine_partition.specs.Index.{IsImportIndex};
-ghost use Rattle.refine_partition.specs.Loose.{AreListed, AreParted, AreSettled};
+ghost use Rattle.refine_partition.specs.Loose.{AreListed, AreParted, AreSettled, IsDividedAsSplit};
 ghost use Rattle.refine_partition.specs.Members.{AreMembers};
 ghost use Rattle.refine_partition.specs.Splits.{IsStart};
 
@@ -57,8 +57,9 @@ fn keep_members(lists: &mut Vec<Vec<u32>>, numbers: &[u32], block: u32)
 }
 
 /// Divides all other blocks by the acts of their members' edges into the taken one, which counts as one
-/// step, and gives for each new piece the block that it comes from. One piece of each divided block keeps
-/// its number.
+/// step, and gives for each new piece the block that it comes from. Under whatever numbers the blocks had,
+/// this is the split of a `Splitting`, number for number. The numbers here are other ones: members that no
+/// edge reaches keep theirs, also where the least member leaves them, so that nobody looks at them.
 pub fn turn<L: Ledger>(
     alloc: Global,
     graph: &GraphView,
@@ -75,6 +76,7 @@ pub fn turn<L: Ledger>(
     requires known { taken < length blocks.old.lists.items }
     ensures tick { turns.new ≡ turns.old + 1 }
     ensures settled { IfOk result (λ origins. AreSettled blocks.new.numbers.items blocks.new.classes.items blocks.new.lists.items) }
+    ensures split { IfOk result (λ origins. IsDividedAsSplit graph.now taken blocks.old.numbers.items blocks.new.numbers.items (length blocks.old.lists.items) (length blocks.new.lists.items)) }
     ensures parted { IfOk result (λ origins. AreParted graph.now taken blocks.old.numbers.items blocks.new.numbers.items (length blocks.old.lists.items) (length blocks.new.lists.items) origins.items) }
 {
     turns.tick();

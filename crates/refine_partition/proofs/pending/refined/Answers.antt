@@ -1,8 +1,9 @@
-use Rattle.std.proofs.Common.{rules, ◌≡◌, [], ◌∷◌, ◌++◌, false, slice_set, length, subst, ap, ◌∙◌, arith}
+use Rattle.std.proofs.Common.{rules, ◌≡◌, [], ◌∷◌, ◌++◌, ◌+◌, false, slice_set, length, subst, ap, ◌∙◌, arith}
 use Rattle.std.proofs.lemmas.List.{length_push}
 use Rattle.std.proofs.Math.ListN.{length-set}
 use Rattle.refine_partition.specs.Pending.{IsRefining}
 use Rattle.refine_partition.proofs.RefineLemmas.{refining_start, refining_turn, refining_end, marked_all, marked_taken, left_known, taken_or_left}
+use Rattle.refine_partition.proofs.RunLemmas.{split_start, split_more}
 use Rattle.refine_partition.proofs.pending.refined.Goals as goal
 
 pub loop-block-init : goal.loop-block-init
@@ -17,6 +18,7 @@ loop-block-init g c =
       refining = refining_start _ _ _ _ start all.all all.known;
       size = all.size;
       marked = marked_all _ _ _ all;
+      splits = (0, omega arith, split_start _ _ _ start);
       bound = omega arith;
     }
 
@@ -46,11 +48,13 @@ loop-block-preserved g c =
     let grows = divided.size in
     let most = divided.few in
     let small = before.refining.small in
+    let (splits, turns, so_far) = before.splits in
     record {
       settled = c.in_ok-origins.ensures.settled;
       refining = refining;
       size = added.size ∙ ap length c.deref-in-Some.ensures.value;
       marked = added.marked;
+      splits = (splits + 1, omega arith, split_more _ _ _ _ _ _ _ before.refining.total before.settled.used known.1 so_far c.in_ok-origins.ensures.split);
       bound = omega arith;
     }
 
@@ -58,3 +62,6 @@ pub returns-clause-coarsest : goal.returns-clause-coarsest
 returns-clause-coarsest g c =
     let none : c.loop-block.queue.items ≡ [] = search rules in
     refining_end _ _ _ (subst (IsRefining c.args.graph.now c.loop-block.blocks.numbers.items (length c.loop-block.blocks.lists.items)) none c.loop-block.invariant.refining)
+
+pub returns-clause-splits : goal.returns-clause-splits
+returns-clause-splits g c = let (splits, turns, so_far) = c.loop-block.invariant.splits in (splits, length c.loop-block.blocks.lists.items, turns, so_far)

@@ -30,7 +30,7 @@ loop-router-preserved c =
     let inside : router < length c.args.numbers.now = c.requires.queue.below c.loop-router.router-index 0 here in
     record {
       names = named.size ∙ size;
-      so_far = renumbered_next _ _ _ _ _ _ _ _ _ (λ x. get_or c.loop-router.names.items x None) _ _ given c.requires.queue here c.loop-router.invariant.so_far c.in_ok-number.ensures.next named.named named.others;
+      so_far = renumbered_next _ _ _ _ _ _ _ _ (λ x. get_or c.loop-router.names.items x None) _ _ given.below given.same c.requires.queue here c.loop-router.invariant.so_far c.in_ok-number.ensures.next named.named named.others;
     }
 
 pub returns : goal.returns

@@ -1,0 +1,117 @@
+-- One more split of the blocks, and the groups to which the splits lead.
+use Rattle.std.proofs.Common.{◌≡◌, ℕ, ◌+◌, ◌<◌, List, [], ◌∷◌, ◌++◌, length, All, refl, sym, ◌∙◌, ap, subst, arith, inl, inr}
+use Rattle.std.specs.Prelude.{slice_index, slice_index_or}
+use Rattle.std.proofs.lemmas.Bool.{cases_eq}
+use Rattle.std.proofs.lemmas.List.{length_push, get_or_push, get_or_append_left}
+use Rattle.std.proofs.lemmas.List.Elements.{All-get_or}
+use Rattle.std.proofs.lemmas.List.FromFn.{length-map-range_with_len}
+use Rattle.base_kit.specs.declared.act_graph.ActGraph.{ActGraph}
+use Rattle.base_kit.specs.Partition.{members_of}
+use Rattle.refine_partition.specs.Splits.{IsSplit, IsStart}
+use Rattle.refine_partition.specs.Splitting.{blocks_of, AreNumbersOf, IsSplitOf}
+use Rattle.refine_partition.specs.Numbering.{IsNumbering}
+use Rattle.refine_partition.specs.Loose.{AreUsed, IsDividedAsSplit}
+use Rattle.refine_partition.specs.Runs.{AreReachedBy}
+use Rattle.refine_partition.specs.Pending.{AreSplitSoFar}
+use Rattle.refine_partition.proofs.NumberingLemmas.{used_at}
+
+blocks_size : (numbers : List ℕ) (count : ℕ) → length (blocks_of numbers count) ≡ count
+blocks_size numbers count = length-map-range_with_len (members_of numbers) 0 count
+
+numbers_of_blocks : (total count : ℕ) (numbers : List ℕ) (blocks : List (List ℕ)) → length numbers ≡ total → All (λ number. number < count) numbers →
+    blocks ≡ blocks_of numbers count → AreNumbersOf total blocks numbers
+numbers_of_blocks total count numbers blocks size low are =
+    let many : length blocks ≡ count = ap length are ∙ blocks_size numbers count in
+    record {
+      total = size;
+      below = subst (λ n. All (λ number. number < n) numbers) (sym many) low;
+      blocks_are = subst (λ n. blocks ≡ blocks_of numbers n) (sym many) are;
+    }
+
+-- before the first split
+pub split_start : (graph : ActGraph) (numbers : List ℕ) (count : ℕ) → IsStart graph numbers count → AreSplitSoFar graph 0 numbers count
+split_start graph numbers count start =
+    let blocks : List (List ℕ) = blocks_of numbers count in
+    let many : length blocks ≡ count = blocks_size numbers count in
+    record {
+      history = blocks ∷ [];
+      run = record {
+        size = refl;
+        start = record {
+          numbers = numbers;
+          are = numbers_of_blocks graph.count count numbers blocks start.total start.numbered.below refl;
+          start = subst (IsStart graph numbers) (sym many) start;
+        };
+        each = λ k inside. absurd (omega arith);
+      };
+      numbers = numbers;
+      renamed = record {
+        total = refl;
+        below = start.numbered.below;
+        used = λ block inside. used_at numbers block (start.numbered.used block inside);
+        together = λ u v hu hv same. same;
+        apart = λ u v hu hv same. same;
+      };
+      last = refl;
+    }
+
+-- after one more
+pub split_more : (graph : ActGraph) (splits taken : ℕ) (slots next : List ℕ) (before after : ℕ) → length slots ≡ graph.count → AreUsed before slots →
+    taken < before → AreSplitSoFar graph splits slots before → IsDividedAsSplit graph taken slots next before after →
+    AreSplitSoFar graph (splits + 1) next after
+split_more graph splits taken slots next before after total used known so_far divided =
+    let made = divided.split so_far.numbers so_far.renamed in
+    let old : List (List ℕ) = slice_index_or so_far.history splits [] in
+    let new : List (List ℕ) = blocks_of made.next after in
+    let history : List (List (List ℕ)) = so_far.history ++ new ∷ [] in
+    let size = so_far.run.size in
+    let more = length_push so_far.history new in
+    let earlier : (k : ℕ) → k < splits + 1 → slice_index_or history k [] ≡ slice_index_or so_far.history k [] = λ k inside.
+    get_or_append_left so_far.history (new ∷ []) [] k (omega arith) in
+    let last : slice_index_or history (splits + 1) [] ≡ new = get_or_push so_far.history new [] (splits + 1) (omega arith) in
+    let (u, hu, is) = used taken known in
+    let numbers_total : length so_far.numbers ≡ graph.count = so_far.renamed.total ∙ total in
+    let hu' : u < graph.count = omega arith in
+    let number : ℕ = slice_index so_far.numbers u in
+    let split = made.split u hu' is in
+    let old_size : length old ≡ before = ap length so_far.last ∙ blocks_size so_far.numbers before in
+    let new_size : length new ≡ after = blocks_size made.next after in
+    let in_use : number < length old = let lt = All-get_or (λ n. n < before) so_far.numbers u 0 (omega arith) so_far.renamed.below in omega arith in
+    let split_is : IsSplitOf graph number old new = record {
+      old_numbers = so_far.numbers;
+      new_numbers = made.next;
+      old_are = numbers_of_blocks graph.count before so_far.numbers old numbers_total so_far.renamed.below so_far.last;
+      new_are = numbers_of_blocks graph.count after made.next new split.total made.renamed.below refl;
+      split = subst (λ n. IsSplit graph number so_far.numbers made.next n (length new)) (sym old_size)
+          (subst (IsSplit graph number so_far.numbers made.next before) (sym new_size) split);
+    } in
+    record {
+      history = history;
+      run = record {
+        size = omega arith;
+        start = rw (earlier 0 (omega arith)) so_far.run.start;
+        each = λ k inside. elim (cases_eq k splits) [
+          | inl e ↦ (number, rw (e, earlier splits (omega arith)) in_use, rw (e, earlier splits (omega arith), last) split_is)
+          | inr ne ↦
+              let (block, lt, step) = so_far.run.each k (omega arith) in
+              (block, rw (earlier k (omega arith)) lt, rw (earlier k (omega arith), earlier (k + 1) (omega arith)) step)
+        ];
+      };
+      numbers = made.next;
+      renamed = made.renamed;
+      last = last;
+    }
+
+-- groups that are equal where the blocks are
+pub reached_by : (graph : ActGraph) (splits : ℕ) (slots groups : List ℕ) (count group_count : ℕ) → length slots ≡ graph.count →
+    AreSplitSoFar graph splits slots count → length groups ≡ length slots → IsNumbering slots groups group_count → AreReachedBy graph splits groups
+reached_by graph splits slots groups count group_count total so_far size numbering =
+    let renamed = so_far.renamed in
+    record {
+      history = so_far.history;
+      run = so_far.run;
+      numbers = so_far.numbers;
+      are = numbers_of_blocks graph.count count so_far.numbers (slice_index_or so_far.history splits []) (renamed.total ∙ total) renamed.below so_far.last;
+      finer = λ u v hu hv same. renamed.together u v (omega arith) (omega arith) (numbering.apart u v (omega arith) (omega arith) same);
+      coarser = λ u v hu hv same. numbering.together u v (omega arith) (omega arith) (renamed.apart u v (omega arith) (omega arith) same);
+    }
