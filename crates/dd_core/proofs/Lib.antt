@@ -1,6 +1,7 @@
 pub mod DependLemmas
 pub mod DifferLemmas
 pub mod FirstLemmas
+pub mod FixedLemmas
 pub mod IteLemmas
 pub mod MarkLemmas
 pub mod MemoryLemmas

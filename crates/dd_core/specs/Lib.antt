@@ -1,3 +1,4 @@
+pub mod Fixed
 pub mod Marks
 pub mod Reach
 pub mod Remembering

@@ -1,7 +1,7 @@
 use Rattle.std.proofs.Common.{◌≡◌, ℕ, length}
 use Rattle.dd_core.specs.Store.{IsStore, Extends, IsWithin}
 use Rattle.dd_core.specs.Restrict.{fixed, AreRestricted}
-use Rattle.dd_core.proofs.restrict.restricted_node.Given as goal
+use Rattle.dd_core.proofs.restrict.restricted_below.Given as goal
 
 abbrev pub invariant-loop-place : goal.invariant-loop-place
 invariant-loop-place l = record {
