@@ -25,7 +25,7 @@ pub record IsSound (graph : ActGraph) (s : Standing) : Type 0 where
   pub after : AreAfter graph (first_blocks graph) s.splits s.blocks
   pub even : s.stage ≡ Closed → are_even graph.edges s.blocks.numbers ≡ true
 
-step_sound : (graph : ActGraph) (s next : Standing) → IsSound graph s → IsStep graph.edges s next → IsSound graph next
+pub step_sound : (graph : ActGraph) (s next : Standing) → IsSound graph s → IsStep graph.edges s next → IsSound graph next
 step_sound graph s next sound (stays splits blocks stage) = record {
   after = subst (λ ss. AreAfter graph (first_blocks graph) ss next.blocks) (sym splits) (subst (AreAfter graph (first_blocks graph) s.splits) (sym blocks) sound.after);
   even = λ c. ap (λ (b : Blocks). are_even graph.edges b.numbers) blocks ∙ elim (stage c) [ inl was ↦ sound.even was | inr e ↦ e ];

@@ -9,6 +9,7 @@ pub mod LinesLeft
 pub mod Made
 pub mod NamesRead
 pub mod NextNumber
+pub mod NotAdmissible
 pub mod PlacedEdges
 pub mod Reached
 pub mod RouterNames
