@@ -6,7 +6,7 @@ ghost use Rattle.cfg_ast.specs.text.Lines.{words_of};
 ghost use Rattle.cfg_ast.specs.text.Words.{is_router_name};
 ghost use Rattle.cut_certificate.specs.Answers.{Steps};
 ghost use Rattle.cut_certificate.specs.Forms.{closing_form, group_form, head_form, split_form};
-ghost use Rattle.cut_certificate.specs.Names.{AreWithin, place_in};
+ghost use Rattle.cut_certificate.specs.Names.{ArePlacesAmong, place_at_name};
 ghost use Rattle.cut_certificate.specs.Outgoing.{AreIndexed};
 ghost use Rattle.cut_certificate.specs.Texts.{edge_named, routers_named, with_edge, with_line, with_members, with_saying};
 
@@ -80,9 +80,9 @@ fn with_split(
     line: &[u8],
 ) -> Result<Standing, Stop>
     requires index { AreIndexed graph.now outgoing.now }
-    requires within { AreWithin places.now graph.now.count }
+    requires within { ArePlacesAmong places.now graph.now.count }
     requires total { length standing.blocks.numbers ≡ graph.now.count }
-    ensures { Steps result (with_saying graph.now.edges (place_in places.now) standing (split_form (words_of line.now))) }
+    ensures { Steps result (with_saying graph.now.edges (place_at_name places.now) standing (split_form (words_of line.now))) }
 {
     let Some((block, by, name, link)) = split_form(line) else {
         return Err(Stop::Fault(CutKind::BadForm));
@@ -106,7 +106,7 @@ fn routers_named(
     line: &[u8],
 ) -> Result<Option<Vec<u32>>, NoMemory>
     requires { list_all is_router_name (words_of line.now) ≡ true }
-    ensures { IfOk result (λ found. option_map (λ v. v.items) found ≡ routers_named (place_in places.now) (words_of line.now)) }
+    ensures { IfOk result (λ found. option_map (λ v. v.items) found ≡ routers_named (place_at_name places.now) (words_of line.now)) }
 {
     let mut routers = Vec::new(alloc);
     let mut rest = line;
@@ -128,7 +128,7 @@ fn with_names(
 ) -> Result<Standing, Stop>
     requires names { list_all is_router_name (words_of line.now) ≡ true }
     requires few { length standing.blocks.numbers < 2 ^ 32 }
-    ensures { Steps result (with_members standing (routers_named (place_in places.now) (words_of line.now))) }
+    ensures { Steps result (with_members standing (routers_named (place_at_name places.now) (words_of line.now))) }
 {
     match routers_named(alloc, places, line)? {
         Some(members) => standing.with_members(alloc, &members),
@@ -143,7 +143,7 @@ fn with_group(
     line: &[u8],
 ) -> Result<Standing, Stop>
     requires { length standing.blocks.numbers < 2 ^ 32 }
-    ensures { Steps result (with_saying [] (place_in places.now) standing (group_form (words_of line.now))) }
+    ensures { Steps result (with_saying [] (place_at_name places.now) standing (group_form (words_of line.now))) }
 {
     if !is_group(line) {
         return Err(Stop::Fault(CutKind::BadForm));
@@ -186,10 +186,10 @@ pub(crate) fn with_line(
     line: &[u8],
 ) -> Result<Standing, Stop>
     requires index { AreIndexed graph.now outgoing.now }
-    requires within { AreWithin places.now graph.now.count }
+    requires within { ArePlacesAmong places.now graph.now.count }
     requires total { length standing.blocks.numbers ≡ graph.now.count }
     requires few { length standing.blocks.numbers < 2 ^ 32 }
-    ensures { Steps result (with_line graph.now.edges (place_in places.now) standing (words_of line.now)) }
+    ensures { Steps result (with_line graph.now.edges (place_at_name places.now) standing (words_of line.now)) }
 {
     let Some((word, rest)) = next_word(line) else {
         return Ok(standing);

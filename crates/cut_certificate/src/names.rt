@@ -2,7 +2,7 @@
 
 ghost use Rattle.std.specs.Prelude.{◌≡◌, ◌<◌, ◌^◌, IfOk, length, string_bytes};
 ghost use Rattle.std.specs.Str.{IsAscii};
-ghost use Rattle.cut_certificate.specs.Names.{place_in, HasPlaces};
+ghost use Rattle.cut_certificate.specs.Names.{place_at_name, HasPlaces};
 
 use base_kit::{NoMemory, Text};
 use std::alloc::Global;
@@ -37,7 +37,7 @@ fn as_text(word: &[u8]) -> &str
 /// The place of a name that is ASCII.
 pub(crate) fn place_of(places: &HashMap<String, u32>, name: &[u8]) -> Option<u32>
     requires { IsAscii name.now }
-    ensures { result ≡ place_in places.now name.now }
+    ensures { result ≡ place_at_name places.now name.now }
 {
     match places.get(as_text(name)) {
         Some(place) => Some(*place),

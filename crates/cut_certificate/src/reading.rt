@@ -5,7 +5,7 @@ ghost use Rattle.cfg_ast.specs.text.Members.{all_lines_of};
 ghost use Rattle.cfg_ast.specs.text.TextLines.{text_line};
 ghost use Rattle.cut_certificate.specs.Answers.{Verifies, refused_at};
 ghost use Rattle.cut_certificate.specs.Certificates.{AreCoarsest, IsAccepted};
-ghost use Rattle.cut_certificate.specs.Names.{AreWithin, place_in};
+ghost use Rattle.cut_certificate.specs.Names.{ArePlacesAmong, place_at_name};
 ghost use Rattle.cut_certificate.specs.Outgoing.{AreIndexed};
 ghost use Rattle.cut_certificate.specs.Texts.{certificate_from, certificate_of_text, opening};
 
@@ -39,8 +39,8 @@ fn read_lines(
 ) -> Result<Certificate, CutRefusal>
     requires short { length bytes.now ≤ 16777216 }
     requires index { AreIndexed graph.now outgoing.now }
-    requires within { AreWithin places.now graph.now.count }
-    ensures { Verifies result (certificate_from graph.now.edges (place_in places.now) (length (all_lines_of bytes.now) + 1) (map (text_line bytes.now) (all_lines_of bytes.now)) (opening graph.now)) }
+    requires within { ArePlacesAmong places.now graph.now.count }
+    ensures { Verifies result (certificate_from graph.now.edges (place_at_name places.now) (length (all_lines_of bytes.now) + 1) (map (text_line bytes.now) (all_lines_of bytes.now)) (opening graph.now)) }
 {
     let _count = graph.count;
     let mut standing = Standing::opening(alloc, graph)?;

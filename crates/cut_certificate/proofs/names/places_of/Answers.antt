@@ -2,7 +2,7 @@ use Rattle.std.proofs.Common.{◌≡◌, ◌+◌, ◌-◌, ◌∷◌, suc, cond,
 use Rattle.std.specs.Prelude.{bytes_eq}
 use Rattle.std.specs.List.{position}
 use Rattle.std.proofs.lemmas.Map.Text.{hash_map_updates_text}
-use Rattle.cut_certificate.specs.Names.{place_in}
+use Rattle.cut_certificate.specs.Names.{place_at_name}
 use Rattle.cut_certificate.proofs.RouterNames.{moved, position_first, bytes_eq-sym}
 use Rattle.cut_certificate.proofs.names.places_of.Goals as goal
 
@@ -21,7 +21,7 @@ loop-place-preserved c =
       inside = omega (arith, c.loop-place.invariant.inside);
       places = λ wanted.
           hash_map_updates_text key c.loop-place.places c.insert.new.self (Some place) c.in_ok-insert.ensures.updates wanted
-          ∙ ap (λ (bs : List ℕ). cond (bytes_eq bs wanted) (Some place) (place_in c.loop-place.places wanted)) said
+          ∙ ap (λ (bs : List ℕ). cond (bytes_eq bs wanted) (Some place) (place_at_name c.loop-place.places wanted)) said
           ∙ ap (cond (bytes_eq name wanted) (Some place)) (c.loop-place.invariant.places wanted)
           ∙ ap (λ (b : Bool). cond b (Some place) (moved c.loop-place.place (position (bytes_eq wanted) (drop c.loop-place.place names)))) (bytes_eq-sym name wanted)
           ∙ ap (λ (k : ℕ). cond (bytes_eq wanted name) (Some place) (moved k (position (bytes_eq wanted) (drop c.loop-place.place names)))) (sym next)

@@ -1,7 +1,7 @@
 use Rattle.std.proofs.Common.{◌≡◌, ◌≤◌, ℕ, List, length, drop}
 use Rattle.std.specs.Prelude.{bytes_eq}
 use Rattle.std.specs.List.{position}
-use Rattle.cut_certificate.specs.Names.{place_in}
+use Rattle.cut_certificate.specs.Names.{place_at_name}
 use Rattle.cut_certificate.proofs.RouterNames.{moved}
 use Rattle.cut_certificate.proofs.names.places_of.Given as goal
 
@@ -9,7 +9,7 @@ use Rattle.cut_certificate.proofs.names.places_of.Given as goal
 abbrev pub invariant-loop-place : goal.invariant-loop-place
 invariant-loop-place l = record {
   inside : l.place ≤ length l.names;
-  places : (wanted : List ℕ) → place_in l.places wanted ≡ moved l.place (position (bytes_eq wanted) (drop l.place l.names));
+  places : (wanted : List ℕ) → place_at_name l.places wanted ≡ moved l.place (position (bytes_eq wanted) (drop l.place l.names));
 }
 
 abbrev pub decreases-loop-place : goal.decreases-loop-place
