@@ -6,6 +6,7 @@ from pathlib import Path
 import pytest
 
 from hostile.limits.measuring import measured
+from hostile.limits.stale import Ring, ran
 from hostile.limits.texts import Case, cases, exact_pairs, long_text
 
 
@@ -19,3 +20,13 @@ def test_the_sizes_of_texts() -> None:
     """The makers of texts keep their word."""
     assert len(long_text(70_003)) == 70_003
     assert exact_pairs(0).count(b"Vlan1\n") == 1448
+
+
+def test_stale_labels(tmp_path: Path) -> None:
+    """In a small ring too, each label is left with a path over more than half of the routers."""
+    ring = Ring(parts=6, part=5)
+    assert ran(ring, tmp_path).startswith("moving ")
+    labels = (tmp_path / "T").read_text().splitlines()
+    assert labels[0] == "r0 bgp 100 path comms"
+    hops = [line.count("*11") for line in labels[1:]]
+    assert len(hops) == ring.size and min(hops) > ring.size // 2 and max(hops) == ring.size
