@@ -16,7 +16,8 @@ length_map : (f : ℕ → ℕ) (xs : List ℕ) → length (map f xs) ≡ length 
 length_map f [] = refl
 length_map f (x ∷ xs) = ap suc (length_map f xs)
 
-module _ (P Q : Problem) (groups hs : List ℕ) (rules : IsProblem P) (coarsest : IsCoarsest P groups) (q : IsQuotient P groups Q) (adm : IsAdmissible Q hs) where
+module _ (P Q : Problem) (groups hs : List ℕ) (rules : IsProblem P) (coarsest : IsCoarsest P groups) (q : IsQuotient P groups Q)
+    (adm : IsAdmissible Q hs) where
   abbrev of : ℕ → ℕ
   of u = group_of groups u
 
@@ -37,14 +38,17 @@ module _ (P Q : Problem) (groups hs : List ℕ) (rules : IsProblem P) (coarsest 
       let same : of u ≡ of v = adm.alone (of u) (of v) (q.inside u hu) (q.inside v hv) (below u v hu hv one) (q.lone u hu ∙ lone) in
       coarsest.admissible.alone u v hu hv same lone
 
-  twins : (u v : ℕ) (edge : Edge) → u < count P → v < count P → group_of back u ≡ group_of back v → Contains P.edges edge → edge.importer ≡ u → group_of back edge.exporter ≢ group_of back u → Twin P back v edge
+  twins : (u v : ℕ) (edge : Edge) → u < count P → v < count P → group_of back u ≡ group_of back v → Contains P.edges edge
+      → edge.importer ≡ u → group_of back edge.exporter ≢ group_of back u → Twin P back v edge
   twins u v edge hu hv one has importer out =
       let inside = edge_inside edge has in
-      let apart : of edge.importer ≢ of edge.exporter = λ e. out (back_at edge.exporter inside.1 ∙ ap (group_of hs) (sym e) ∙ ap (λ w. group_of hs (of w)) importer ∙ sym (back_at u hu)) in
+      let apart : of edge.importer ≢ of edge.exporter = λ e.
+      out (back_at edge.exporter inside.1 ∙ ap (group_of hs) (sym e) ∙ ap (λ w. group_of hs (of w)) importer ∙ sym (back_at u hu)) in
       let low = q.up edge has apart in
       let lies = low.2 in
       let importer_low : low.0.importer ≡ of u = sym lies.importer ∙ ap of importer in
-      let out_low : group_of hs low.0.exporter ≢ group_of hs (of u) = λ e. out (back_at edge.exporter inside.1 ∙ ap (group_of hs) lies.exporter ∙ e ∙ sym (back_at u hu)) in
+      let out_low : group_of hs low.0.exporter ≢ group_of hs (of u) = λ e.
+      out (back_at edge.exporter inside.1 ∙ ap (group_of hs) lies.exporter ∙ e ∙ sym (back_at u hu)) in
       let t = adm.twins (of u) (of v) low.0 (q.inside u hu) (q.inside v hv) (below u v hu hv one) low.1 importer_low out_low in
       let up = q.down t.other t.other_in in
       let over = up.2 in
@@ -58,7 +62,9 @@ module _ (P Q : Problem) (groups hs : List ℕ) (rules : IsProblem P) (coarsest 
         other = last.other;
         other_in = last.other_in;
         importer = last.importer;
-        exporter = back_at last.other.exporter inside_last.1 ∙ ap (group_of hs) (last.exporter ∙ over.exporter) ∙ t.exporter ∙ ap (group_of hs) (sym lies.exporter) ∙ sym (back_at edge.exporter inside.1);
+        exporter =
+            back_at last.other.exporter inside_last.1 ∙ ap (group_of hs) (last.exporter ∙ over.exporter) ∙ t.exporter
+            ∙ ap (group_of hs) (sym lies.exporter) ∙ sym (back_at edge.exporter inside.1);
         alike = alike_trans (act_of P edge) (act_of Q low.0) (act_of P last.other) lies.alike
             (alike_trans (act_of Q low.0) (act_of Q t.other) (act_of P last.other) t.alike
             (alike_trans (act_of Q t.other) (act_of P up.0) (act_of P last.other) (alike_sym (act_of P up.0) (act_of Q t.other) over.alike) last.alike));
@@ -74,8 +80,10 @@ module _ (P Q : Problem) (groups hs : List ℕ) (rules : IsProblem P) (coarsest 
   single g h hg hh one =
       let a = q.onto g hg in
       let b = q.onto h hh in
-      let together : group_of back a.0 ≡ group_of back b.0 = back_at a.0 a.1 ∙ ap (group_of hs) a.2 ∙ one ∙ ap (group_of hs) (sym b.2) ∙ sym (back_at b.0 b.1) in
+      let together : group_of back a.0 ≡ group_of back b.0 =
+      back_at a.0 a.1 ∙ ap (group_of hs) a.2 ∙ one ∙ ap (group_of hs) (sym b.2) ∙ sym (back_at b.0 b.1) in
       sym a.2 ∙ coarsest.refined back carried_back a.0 b.0 a.1 b.1 together ∙ b.2
 
 pub quotient_is_smallest : QuotientIsSmallest
-quotient_is_smallest problem small groups others rules small_rules coarsest quotient admissible = single problem small groups others rules coarsest quotient admissible
+quotient_is_smallest problem small groups others rules small_rules coarsest quotient admissible =
+    single problem small groups others rules coarsest quotient admissible

@@ -7,13 +7,17 @@ use Rattle.srp_core.specs.Problem.{Problem, count, key_of, IsProblem}
 use Rattle.srp_core.specs.Stability.{label, IsStable, ForwardsTo, HaveSameKeys}
 use Rattle.srp_core.specs.Quotient.{group_of, IsAdmissible, IsQuotient, Corresponds}
 use Rattle.srp_core.specs.Laws.{Below, Above}
-use Rattle.quotient_laws.specs.Questions.{Picture, key_at, MemberHolds, MemberForwards, of_routers, of_groups, ShowSame, IsQuestion, HaveSamePictures, PicturesAgree, HasOneAnswer, QuestionsCarry, each_reaches, HasChain, has_no_chain_of, HasChainAround, passes}
+use Rattle.quotient_laws.specs.Questions.{Picture, key_at, MemberHolds, MemberForwards, of_routers, of_groups, ShowSame, IsQuestion, IsQuotiented, IsSolution, QuestionsAgree}
+use Rattle.quotient_laws.specs.Questions.{HaveSamePictures, PicturesAgree, HasOneAnswer, QuestionsCarry}
+use Rattle.quotient_laws.specs.Questions.{each_reaches, HasChain, has_no_chain_of, HasChainAround, passes}
 
 same_keys : (P Q : Problem) (a b : Option Route) → HaveSameKeys P Q a b → option_map (key_of P) a ≡ option_map (key_of Q) b
 same_keys P Q a b (HaveSameKeys.both_none none other) = ap (option_map (key_of P)) none ∙ sym (ap (option_map (key_of Q)) other)
-same_keys P Q a b (HaveSameKeys.both_some r s is other keys) = ap (option_map (key_of P)) is ∙ ap (λ (k : Key). Some k) keys ∙ sym (ap (option_map (key_of Q)) other)
+same_keys P Q a b (HaveSameKeys.both_some r s is other keys) =
+    ap (option_map (key_of P)) is ∙ ap (λ (k : Key). Some k) keys ∙ sym (ap (option_map (key_of Q)) other)
 
-module _ (P Q : Problem) (groups : List ℕ) (q : IsQuotient P groups Q) (labels lower : List (Option Route)) (c : Corresponds P Q groups labels lower) where
+module _ (P Q : Problem) (groups : List ℕ) (q : IsQuotient P groups Q) (labels lower : List (Option Route))
+    (c : Corresponds P Q groups labels lower) where
   keys_at : (u : ℕ) → u < count P → key_at P labels u ≡ key_at Q lower (group_of groups u)
   keys_at u h = same_keys P Q (label labels u) (label lower (group_of groups u)) (c.keys u h)
 
@@ -31,7 +35,8 @@ module _ (P Q : Problem) (groups : List ℕ) (q : IsQuotient P groups Q) (labels
   forwards : (g h : ℕ) → MemberForwards P groups labels g h → (g < count Q) × ForwardsTo Q lower g h
   forwards g h m = (
     subst (λ k. k < count Q) m.in_group (q.inside m.member m.inside),
-    subst (ForwardsTo Q lower g) m.next_in_group (subst (λ k. ForwardsTo Q lower k (group_of groups m.next)) m.in_group (c.down m.member m.next m.inside m.forwards)),
+    subst (ForwardsTo Q lower g) m.next_in_group
+        (subst (λ k. ForwardsTo Q lower k (group_of groups m.next)) m.in_group (c.down m.member m.next m.inside m.forwards)),
   )
 
   forwarded : (g h : ℕ) → (g < count Q) × ForwardsTo Q lower g h → MemberForwards P groups labels g h
@@ -47,26 +52,47 @@ turned : (a b : Picture) → ShowSame a b → ShowSame b a
 turned a b s = record { holds = s.held; held = s.holds; forwards = s.forwarded; forwarded = s.forwards }
 
 abbrev Down : Type 0
-Down = (problem small : Problem) (groups : List ℕ) (labels : List (Option Route)) → IsProblem problem → IsProblem small → IsAdmissible problem groups → IsQuotient problem groups small → IsStable problem labels → Below problem small groups labels
+Down = (problem small : Problem) (groups : List ℕ) (labels : List (Option Route)) → IsProblem problem → IsProblem small
+    → IsAdmissible problem groups → IsQuotient problem groups small → IsStable problem labels → Below problem small groups labels
 
 abbrev Up : Type 0
-Up = (problem small : Problem) (groups : List ℕ) (lower : List (Option Route)) → IsProblem problem → IsProblem small → IsAdmissible problem groups → IsQuotient problem groups small → IsStable small lower → Above problem small groups lower
+Up = (problem small : Problem) (groups : List ℕ) (lower : List (Option Route)) → IsProblem problem → IsProblem small
+    → IsAdmissible problem groups → IsQuotient problem groups small → IsStable small lower → Above problem small groups lower
 
 pub pictures_agree : Down → Up → PicturesAgree
-pictures_agree down up P Q groups rules small_rules admissible q = record {
-  below = λ labels stable. (let b = down P Q groups labels rules small_rules admissible q stable in (b.lower, b.stable, show_same P Q groups q labels b.lower b.correspond));
-  above = λ lower stable. (let a = up P Q groups lower rules small_rules admissible q stable in (a.labels, a.stable, turned (of_routers P groups a.labels) (of_groups Q lower) (show_same P Q groups q a.labels lower a.correspond)));
+pictures_agree down up P Q groups q = record {
+  below = λ labels stable. (
+      let b = down P Q groups labels q.rules q.small_rules q.admissible q.quotient stable in
+      record { labels = b.lower; stable = b.stable; holds = show_same P Q groups q.quotient labels b.lower b.correspond });
+  above = λ lower stable. (
+      let a = up P Q groups lower q.rules q.small_rules q.admissible q.quotient stable in
+      let same = show_same P Q groups q.quotient a.labels lower a.correspond in
+      record { labels = a.labels; stable = a.stable; holds = turned (of_routers P groups a.labels) (of_groups Q lower) same });
 }
 
 -- ---- each question has one answer
 
 module _ (P Q : Problem) (groups : List ℕ) (same : HaveSamePictures P Q groups) (asks : Picture → Type 0) (is : IsQuestion asks) where
+  abbrev above : List (Option Route) → Picture
+  above labels = of_routers P groups labels
+
+  abbrev below : List (Option Route) → Picture
+  below lower = of_groups Q lower
+
   pub question_carries : HasOneAnswer P Q groups asks
   question_carries = record {
-    every_below = λ holds lower stable. (let a = same.above lower stable in is (of_routers P groups a.0) (of_groups Q lower) (turned (of_groups Q lower) (of_routers P groups a.0) a.2) (holds a.0 a.1));
-    every_above = λ holds labels stable. (let b = same.below labels stable in is (of_groups Q b.0) (of_routers P groups labels) (turned (of_routers P groups labels) (of_groups Q b.0) b.2) (holds b.0 b.1));
-    some_below = λ labels stable holds. (let b = same.below labels stable in (b.0, b.1, is (of_routers P groups labels) (of_groups Q b.0) b.2 holds));
-    some_above = λ lower stable holds. (let a = same.above lower stable in (a.0, a.1, is (of_groups Q lower) (of_routers P groups a.0) a.2 holds));
+    every_below = λ each lower stable. (
+        let a = same.above lower stable in
+        is (above a.labels) (below lower) (turned (below lower) (above a.labels) a.holds) (each a.labels a.stable));
+    every_above = λ each labels stable. (
+        let b = same.below labels stable in
+        is (below b.labels) (above labels) (turned (above labels) (below b.labels) b.holds) (each b.labels b.stable));
+    some_below = λ some. (
+        let b = same.below some.labels some.stable in
+        record { labels = b.labels; stable = b.stable; holds = is (above some.labels) (below b.labels) b.holds some.holds });
+    some_above = λ some. (
+        let a = same.above some.labels some.stable in
+        record { labels = a.labels; stable = a.stable; holds = is (below some.labels) (above a.labels) a.holds some.holds });
   }
 
 -- ---- the three questions
@@ -89,8 +115,10 @@ passes_is : (g h w : ℕ) → IsQuestion (passes g h w)
 passes_is g h w a b same asks hops chain = asks hops (around_back a b same w hops g h chain)
 
 pub questions_carry : Down → Up → QuestionsCarry
-questions_carry down up = record {
-  reachability = λ P Q groups rules small_rules admissible q. question_carries P Q groups (pictures_agree down up P Q groups rules small_rules admissible q) each_reaches reaches_is;
-  path_length = λ P Q groups rules small_rules admissible q hops g. question_carries P Q groups (pictures_agree down up P Q groups rules small_rules admissible q) (has_no_chain_of hops g) (length_is hops g);
-  waypoint = λ P Q groups rules small_rules admissible q g h w. question_carries P Q groups (pictures_agree down up P Q groups rules small_rules admissible q) (passes g h w) (passes_is g h w);
-}
+questions_carry down up P Q groups q =
+    let same = pictures_agree down up P Q groups q in
+    record {
+      reachability = question_carries P Q groups same each_reaches reaches_is;
+      path_length = λ hops g. question_carries P Q groups same (has_no_chain_of hops g) (length_is hops g);
+      waypoint = λ g h w. question_carries P Q groups same (passes g h w) (passes_is g h w);
+    }

@@ -10,4 +10,5 @@ IsSingle routers groups = (u v : ℕ) → u < routers → v < routers → group_
 
 -- An admissible partition of the quotient of a problem by its coarsest partition puts no two routers together.
 abbrev pub QuotientIsSmallest : Type 0
-QuotientIsSmallest = (problem small : Problem) (groups others : List ℕ) → IsProblem problem → IsProblem small → IsCoarsest problem groups → IsQuotient problem groups small → IsAdmissible small others → IsSingle (count small) others
+QuotientIsSmallest = (problem small : Problem) (groups others : List ℕ) → IsProblem problem → IsProblem small → IsCoarsest problem groups
+    → IsQuotient problem groups small → IsAdmissible small others → IsSingle (count small) others

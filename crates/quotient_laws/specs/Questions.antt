@@ -57,21 +57,38 @@ pub record ShowSame (first second : Picture) : Type 0 where
 abbrev pub IsQuestion : (Picture → Type 0) → Type 1
 IsQuestion asks = (first second : Picture) → ShowSame first second → asks first → asks second
 
+-- a problem, and its quotient by an admissible partition
+pub record IsQuotiented (problem small : Problem) (groups : List ℕ) : Type 0 where
+  pub rules : IsProblem problem
+  pub small_rules : IsProblem small
+  pub admissible : IsAdmissible problem groups
+  pub quotient : IsQuotient problem groups small
+
+-- a stable solution in whose picture holds what is asked
+pub record IsSolution (problem : Problem) (picture_of : List (Option Route) → Picture) (asks : Picture → Type 0) : Type 0 where
+  pub labels : List (Option Route)
+  pub stable : IsStable problem labels
+  pub holds : asks (picture_of labels)
+
+-- what is asked holds in every stable solution
+abbrev pub InEach : Problem → (List (Option Route) → Picture) → (Picture → Type 0) → Type 0
+InEach problem picture_of asks = (labels : List (Option Route)) → IsStable problem labels → asks (picture_of labels)
+
 -- Each stable solution of either problem shows the same of the groups as some stable solution of the other one.
 pub record HaveSamePictures (problem small : Problem) (groups : List ℕ) : Type 0 where
-  pub below : (labels : List (Option Route)) → IsStable problem labels → (lower : List (Option Route)) × IsStable small lower × ShowSame (of_routers problem groups labels) (of_groups small lower)
-  pub above : (lower : List (Option Route)) → IsStable small lower → (labels : List (Option Route)) × IsStable problem labels × ShowSame (of_groups small lower) (of_routers problem groups labels)
+  pub below : InEach problem (of_routers problem groups) (λ picture. IsSolution small (of_groups small) (ShowSame picture))
+  pub above : InEach small (of_groups small) (λ picture. IsSolution problem (of_routers problem groups) (ShowSame picture))
 
 abbrev pub PicturesAgree : Type 0
-PicturesAgree = (problem small : Problem) (groups : List ℕ) → IsProblem problem → IsProblem small → IsAdmissible problem groups → IsQuotient problem groups small → HaveSamePictures problem small groups
+PicturesAgree = (problem small : Problem) (groups : List ℕ) → IsQuotiented problem small groups → HaveSamePictures problem small groups
 
 -- A question holds in every stable solution of the one problem exactly where it holds in every one of the other, and in
 -- some exactly where in some.
 pub record HasOneAnswer (problem small : Problem) (groups : List ℕ) (asks : Picture → Type 0) : Type 0 where
-  pub every_below : ((labels : List (Option Route)) → IsStable problem labels → asks (of_routers problem groups labels)) → (lower : List (Option Route)) → IsStable small lower → asks (of_groups small lower)
-  pub every_above : ((lower : List (Option Route)) → IsStable small lower → asks (of_groups small lower)) → (labels : List (Option Route)) → IsStable problem labels → asks (of_routers problem groups labels)
-  pub some_below : (labels : List (Option Route)) → IsStable problem labels → asks (of_routers problem groups labels) → (lower : List (Option Route)) × IsStable small lower × asks (of_groups small lower)
-  pub some_above : (lower : List (Option Route)) → IsStable small lower → asks (of_groups small lower) → (labels : List (Option Route)) × IsStable problem labels × asks (of_routers problem groups labels)
+  pub every_below : InEach problem (of_routers problem groups) asks → InEach small (of_groups small) asks
+  pub every_above : InEach small (of_groups small) asks → InEach problem (of_routers problem groups) asks
+  pub some_below : IsSolution problem (of_routers problem groups) asks → IsSolution small (of_groups small) asks
+  pub some_above : IsSolution small (of_groups small) asks → IsSolution problem (of_routers problem groups) asks
 
 -- ---- three questions
 
@@ -97,8 +114,11 @@ HasChainAround p w (suc hops) g h = (g ≡ w → ⊥) × ((next : ℕ) × p.forw
 abbrev pub passes : ℕ → ℕ → ℕ → Picture → Type 0
 passes g h w p = (hops : ℕ) → HasChainAround p w hops g h → ⊥
 
--- the three have one answer
-pub record QuestionsCarry : Type 0 where
-  pub reachability : (problem small : Problem) (groups : List ℕ) → IsProblem problem → IsProblem small → IsAdmissible problem groups → IsQuotient problem groups small → HasOneAnswer problem small groups each_reaches
-  pub path_length : (problem small : Problem) (groups : List ℕ) → IsProblem problem → IsProblem small → IsAdmissible problem groups → IsQuotient problem groups small → (hops g : ℕ) → HasOneAnswer problem small groups (has_no_chain_of hops g)
-  pub waypoint : (problem small : Problem) (groups : List ℕ) → IsProblem problem → IsProblem small → IsAdmissible problem groups → IsQuotient problem groups small → (g h w : ℕ) → HasOneAnswer problem small groups (passes g h w)
+-- the three have one answer in a problem and in its quotient
+pub record QuestionsAgree (problem small : Problem) (groups : List ℕ) : Type 0 where
+  pub reachability : HasOneAnswer problem small groups each_reaches
+  pub path_length : (hops g : ℕ) → HasOneAnswer problem small groups (has_no_chain_of hops g)
+  pub waypoint : (g h w : ℕ) → HasOneAnswer problem small groups (passes g h w)
+
+abbrev pub QuestionsCarry : Type 0
+QuestionsCarry = (problem small : Problem) (groups : List ℕ) → IsQuotiented problem small groups → QuestionsAgree problem small groups

@@ -1,5 +1,5 @@
 -- The groups of the small network are its routers.
-use Rattle.std.proofs.Common.{◌≡◌, ℕ, ◌<◌, ◌+◌, List, length, refl, sym, ap, ◌∙◌, subst, arith, Option, Some, get_or}
+use Rattle.std.proofs.Common.{◌≡◌, ℕ, ◌<◌, ◌+◌, List, length, refl, sym, ap, ◌∙◌, subst, arith, Option, get_or}
 use Rattle.std.specs.Prelude.{Contains, slice_index, All}
 use Rattle.std.specs.List.{range_with_len}
 use Rattle.std.proofs.lemmas.List.FromFn.{length-range_with_len, get_or-range_with_len}
@@ -14,14 +14,14 @@ use Rattle.config_emit.specs.Plan.{small}
 use Rattle.group_report.specs.GroupLines.{group_lines}
 use Rattle.quotient_laws.specs.Laws.{IsSingle, QuotientIsSmallest}
 use Rattle.reading_laws.specs.WellRead.{WhatIsReadIsWell}
-use Rattle.srp_core.specs.Problem.{Problem, count}
+use Rattle.srp_core.specs.Problem.{count, Problem}
 use Rattle.srp_core.specs.Quotient.{IsQuotient}
 use Rattle.srp_core.proofs.Alike.{same_coarsest}
 use Rattle.srp_core.proofs.AlikeOf.{one_problem as problems_alike}
 use Rattle.srp_quotient.specs.Groups.{quotient_problem}
 use Rattle.srp_quotient.specs.Laws.{QuotientIsQuotient}
-use Rattle.answer_groups.specs.GroupLines.{IsGroupsOf, IsGroupsAnswer}
-use Rattle.answer_kit.specs.ClassNumbers.{class_at, IsOfClass}
+use Rattle.answer_groups.specs.GroupLines.{IsGroupsOf}
+use Rattle.answer_kit.specs.ClassNumbers.{IsOfClass}
 use Rattle.answer_kit.specs.Outcome.{Outcome, done}
 use Rattle.answer_kit.proofs.NumberedOnce.{one_numbering, one_count_of_groups}
 use Rattle.answer_kit.proofs.OneClass.{some_prefix}
@@ -80,7 +80,7 @@ module _ (n m : ℕ) (hs : List ℕ) (total : length hs ≡ n) (single : IsSingl
 -- ---- the small network
 
 again : QuotientIsQuotient → QuotientIsSmallest → (n m : Network) (class lower : DestClass) (bytes : List ℕ) → Contains (classes_of n) class → IsSmall n class bytes m → ((p : _) → Contains class.prefixes p → Contains lower.prefixes p)
-    → (o : Outcome) → IsGroupsOf m lower o → PutsEachAlone o
+    → (o : Outcome) → IsGroupsOf m lower o → PutsEachAlone m lower o
 again is_quotient smallest n m class lower bytes has s prefixes o x =
     let p = some_prefix n class has in
     let e = s.plan in
@@ -97,7 +97,7 @@ again is_quotient smallest n m class lower bytes has s prefixes o x =
     let total = a.are.coarsest.admissible.total in
     let range = is_range (count R) a.lines.count a.groups total single_here a.lines.numbered in
     let number = is_count (count R) a.lines.count a.groups total single_here a.lines.numbered in
-    record { problem = R; told = x.written ∙ ap done (a.lines.lines ∙ (λ j. group_lines R (range j) (number j))) }
+    record { problem = R; of_class = a.are.of_class; told = x.written ∙ ap done (a.lines.lines ∙ (λ j. group_lines R (range j) (number j))) }
 
 pub compressed_again : WhatIsReadIsWell → BuiltProblemIsOne → TextHasProblemOfGroups → QuotientIsQuotient → QuotientIsSmallest → CompressedAgain
 compressed_again well built has_problem is_quotient smallest contents F G N K c o x =

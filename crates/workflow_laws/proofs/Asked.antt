@@ -1,18 +1,15 @@
 -- The small network answers for the large one.
-use Rattle.std.proofs.Common.{◌≡◌, ℕ, ◌-◌, List, sym, ap, ◌∙◌, subst, Ok}
-use Rattle.std.specs.Prelude.{Contains, nat_eq}
-use Rattle.base_kit.specs.Prefixes.{Prefix}
+use Rattle.std.proofs.Common.{◌≡◌, sym, ◌∙◌, subst}
 use Rattle.cfg_ast.specs.declared.network.Network.{Network}
 use Rattle.compress_laws.specs.Compressed.{Compresses}
 use Rattle.compress_laws.specs.Laws.{PlanCompresses}
-use Rattle.quotient_laws.specs.Questions.{PicturesAgree, QuestionsCarry}
+use Rattle.quotient_laws.specs.Questions.{IsQuotiented, PicturesAgree, QuestionsCarry}
 use Rattle.reading_laws.specs.WellRead.{WhatIsReadIsWell}
-use Rattle.srp_core.specs.Problem.{Problem}
 use Rattle.srp_core.specs.ProblemOf.{IsProblemOf}
 use Rattle.carried_laws.proofs.Carried.{plan_text}
-use Rattle.workflow_laws.specs.Questions.{AnswerAlike, SmallAnswersForLarge}
-use Rattle.workflow_laws.specs.Setting.{IsCompressed}
+use Rattle.workflow_laws.specs.Questions.{SmallAnswersForLarge, AnswerAlike}
 use Rattle.workflow_laws.proofs.Kept.{has_class, done_compress, one_network}
+use Rattle.workflow_laws.specs.Setting.{IsCompressed}
 
 pub small_answers_for_large : WhatIsReadIsWell → PlanCompresses → PicturesAgree → QuestionsCarry → SmallAnswersForLarge
 small_answers_for_large well compresses agree carry contents F G N K c =
@@ -22,7 +19,8 @@ small_answers_for_large well compresses agree carry contents F G N K c =
     let read = well c.large n c.of_large.reads in
     let has = has_class n N class c.of_large.class_is in
     let t = plan_text n N class c.small c.of_large.class_is (done_compress contents F G N K c).answer in
-    let k : Compresses n class c.small = subst (Compresses n class) (sym t.text) (compresses n class t.plan ∣ (c.large, read.given) ∣₁ read.faultless has t.is t.apart t.short) in
+    let k : Compresses n class c.small =
+    subst (Compresses n class) (sym t.text) (compresses n class t.plan ∣ (c.large, read.given) ∣₁ read.faultless has t.is t.apart t.short) in
     let same : k.read ≡ m = one_network k.read m (sym k.reads ∙ c.of_small.reads) in
     record {
       groups = k.groups;
@@ -31,10 +29,7 @@ small_answers_for_large well compresses agree carry contents F G N K c =
           let f = k.for_each p i in
           let coarsest = f.coarsest above of in
           let quotient = f.quotient above below of below_read in
-          record {
-            pictures = agree above below k.groups of.rules of_small.rules coarsest.admissible quotient;
-            reachability = carry.reachability above below k.groups of.rules of_small.rules coarsest.admissible quotient;
-            path_length = carry.path_length above below k.groups of.rules of_small.rules coarsest.admissible quotient;
-            waypoint = carry.waypoint above below k.groups of.rules of_small.rules coarsest.admissible quotient;
-          });
+          let q : IsQuotiented above below k.groups =
+          record { rules = of.rules; small_rules = of_small.rules; admissible = coarsest.admissible; quotient = quotient } in
+          record { coarsest = coarsest; quotient = quotient; pictures = agree above below k.groups q; questions = carry above below k.groups q });
     }

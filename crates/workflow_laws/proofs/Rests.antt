@@ -1,6 +1,6 @@
 -- `run` of the order that `reach` writes rests.
 use Rattle.std.proofs.Common.{◌≡◌, ◌≤◌, ◌<◌, inl, inr, ℕ, suc, List, [], ◌∷◌, ◌++◌, length, map, flat_map, true, refl, sym, ap, ◌∙◌, subst, arith, Option, Some, None, Result, Ok, Err, codes}
-use Rattle.std.specs.Prelude.{Contains, All, slice_index_or}
+use Rattle.std.specs.Prelude.{All, slice_index_or}
 use Rattle.std.specs.List.{AllByRecursion}
 use Rattle.cfg_ast.specs.declared.classes.DestClass.{DestClass}
 use Rattle.cfg_ast.specs.declared.network.Network.{Network}
@@ -34,13 +34,14 @@ use Rattle.route_run.specs.Schedules.{run_of, schedule_of_text}
 use Rattle.route_run.proofs.AlikeRuns.{rest_same}
 use Rattle.route_run.proofs.Reaching.{order_reaches}
 use Rattle.answer_runs.proofs.OneReach.{order_too}
+use Rattle.answer_kit.specs.Groups.{IsProblemOfClass}
 use Rattle.answer_kit.specs.declared.status.Status.TheVariants.{Done, NotStable}
 use Rattle.answer_kit.specs.ClassNumbers.{class_at, no_class, IsOfClass}
-use Rattle.answer_kit.specs.Outcome.{Outcome, done, refused, not_stable}
+use Rattle.answer_kit.specs.Outcome.{Outcome, done, not_stable}
 use Rattle.answer_kit.specs.SecondFiles.{long_solution, solution_reason, IsOfLabels, IsOfSolution, IsOfSecond}
 use Rattle.answer_kit.proofs.NamesApart.{problem_apart}
 use Rattle.answer_kit.proofs.OneClass.{some_prefix}
-use Rattle.answer_runs.specs.Reaches.{name_lines, IsOrderTold, IsToldOf, IsReach, IsReachOf, IsReachAnswer}
+use Rattle.answer_runs.specs.Reaches.{name_lines, IsToldOf, IsReach, IsReachOf, IsReachAnswer, IsOrderTold}
 use Rattle.answer_runs.specs.Schedules.{schedule_limit, long_schedule, IsMoving, rest_line, IsRest, IsOfActivations, IsOfSchedule, IsRunOf, IsRunAnswer}
 use Rattle.answer_solutions.specs.Checks.{break_reason}
 use Rattle.answer_solutions.proofs.GroupNames.{router_names}
@@ -48,8 +49,9 @@ use Rattle.answer_solutions.proofs.OneCarry.{problem_self}
 use Rattle.carried_laws.proofs.Carried.{not_refused}
 use Rattle.bonsai_top.specs.declared.command.Command.TheVariants as command
 use Rattle.workflow_laws.specs.Orders.{RestsLike, WhatIsReachedRests}
+use Rattle.workflow_laws.specs.Setting.{HasClass}
 use Rattle.workflow_laws.specs.Words.{run, reach}
-use Rattle.workflow_laws.proofs.Answers.{answer_of, IsDoneReading, done_reading}
+use Rattle.workflow_laws.proofs.Answers.{answer_of, done_reading, IsDoneReading}
 use Rattle.workflow_laws.proofs.Kept.{has_class}
 use Rattle.workflow_laws.proofs.Named.{names_reach, names_run}
 use Rattle.workflow_laws.proofs.Schedules.{names_are_read, run_is}
@@ -112,13 +114,14 @@ rests P labels o rules stable is = by is.moving is.is is.told
 
 -- the schedule's text is read as the run, which leads to labels like the solution
 runs_to_rest : (P Q : Problem) → ProblemsAlike P Q → IsProblem P → IsProblem Q → AreApart Q.names → AllByRecursion (λ (name : List ℕ). is_router_name name ≡ true) Q.names → (solution order : List ℕ) → IsReached P solution order → count Q ≤ 4096
-    → (o : Outcome) → IsOfSecond schedule_limit long_schedule (Some order) (IsOfSchedule Q) o → RestsLike solution o
-runs_to_rest P Q same rules other apart names solution order r few o (inl long) =
+    → (text : List ℕ) (number : ℕ) (h : HasClass text number) → IsProblemOfClass h.network h.class Q
+    → (o : Outcome) → IsOfSecond schedule_limit long_schedule (Some order) (IsOfSchedule Q) o → RestsLike text number solution o
+runs_to_rest P Q same rules other apart names solution order r few from number has of_class o (inl long) =
     let ordered = order_too Q P (turned P Q same) other r.labels r.run r.is in
     let text : order ≡ name_lines Q r.run = r.text ∙ ap (λ (ns : List (List ℕ)). flat_map (λ u. slice_index_or ns u [] ++ codes "\n") r.run) same.names in
     let short : length order ≤ schedule_limit = subst (λ (bs : List ℕ). length bs ≤ schedule_limit) (sym text) (order_short Q r.labels r.run ordered (from_all (λ u. u < count Q) r.run ordered.only) few names) in
     absurd (omega (arith, long.0, short))
-runs_to_rest P Q same rules other apart names solution order r few o (inr is) =
+runs_to_rest P Q same rules other apart names solution order r few from number has of_class o (inr is) =
     let counts : count P ≡ count Q = ap (λ (numbers : List ℕ). length numbers) same.numbers in
     let stable = same_stable P Q same r.labels r.stable in
     let ordered = order_too Q P (turned P Q same) other r.labels r.run r.is in
@@ -129,7 +132,9 @@ runs_to_rest P Q same rules other apart names solution order r few o (inr is) =
     let ran_run : IsRest Q (labels_after Q (no_labels Q) r.run) o = subst (λ (xs : List ℕ). IsRest Q (labels_after Q (no_labels Q) xs) o) (run_is (count Q) r.run) ran in
     let like = order_reaches Q other r.labels stable r.run ordered in
     record {
+      of_text = has;
       problem = Q;
+      of_class = of_class;
       given = r.labels;
       read = (λ j. labels_of_text (sym same.protocol j) (sym same.names j) solution) ∙ r.read;
       reached = labels_after Q (no_labels Q) r.run;
@@ -153,4 +158,5 @@ what_is_reached_rests well formed contents F S T text solution order N small hol
     let names = subst (AllByRecursion (λ (name : List ℕ). is_router_name name ≡ true)) (sym second.names) (router_names n.routers (formed n ∣ (text, read.given) ∣₁).routers) in
     let few : count k.problem ≤ 4096 = (let long = ap (λ (ns : List (List ℕ)). length ns) second.names ∙ length-map n.routers (λ (router : Router). router.name) in omega (arith, second.rules.tables.names, long, few_routers n read.faultless)) in
     runs_to_rest r.allowed.problem k.problem same first.rules second.rules (problem_apart n read.faultless r.class has k.problem k.of_class) names solution order
-    (reached r.allowed.problem solution order r.allowed.reach) few ran k.ran
+    (reached r.allowed.problem solution order r.allowed.reach) few text N
+    (record { network = n; reads = d.read; class = r.class; class_is = r.class_is }) k.of_class ran k.ran

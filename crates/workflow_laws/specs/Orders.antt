@@ -1,20 +1,22 @@
 -- Orders: `run` of the order that `reach` writes rests in stable labels with the keys of the solution.
 use Rattle.std.specs.Prelude.{◌≡◌, ℕ, List, ◌++◌, Option, Some, Ok, codes}
-use Rattle.cfg_ast.specs.declared.network.Network.{Network}
-use Rattle.cfg_ast.specs.text.Reading.{reading_of}
 use Rattle.srp_core.specs.declared.route.Route.{Route}
 use Rattle.srp_core.specs.Problem.{Problem}
 use Rattle.route_run.specs.Orders.{IsSolutionLike}
 use Rattle.solution_text.specs.Printed.{labels_text}
 use Rattle.solution_text.specs.Solutions.{labels_of_text}
+use Rattle.answer_kit.specs.Groups.{IsProblemOfClass}
 use Rattle.answer_kit.specs.Outcome.{Outcome, done}
 use Rattle.bonsai_top.specs.Outcomes.{IsOutcome}
-use Rattle.workflow_laws.specs.Setting.{Contents, IsShort}
+use Rattle.workflow_laws.specs.Setting.{Contents, HasClass, IsShort}
 use Rattle.workflow_laws.specs.Words.{run, reach}
 
--- The outcome has the first line `rest`, and behind it labels that are stable and have the keys of the solution.
-pub record RestsLike (solution : List ℕ) (o : Outcome) : Type 0 where
+-- The text has a class of the number. The outcome has the first line `rest`, and behind it labels that are stable in the
+-- problem of the class and have the keys of the solution.
+pub record RestsLike (text : List ℕ) (number : ℕ) (solution : List ℕ) (o : Outcome) : Type 0 where
+  pub of_text : HasClass text number
   pub problem : Problem
+  pub of_class : IsProblemOfClass of_text.network of_text.class problem
   pub given : List (Option Route)
   pub read : labels_of_text problem.protocol problem.names solution ≡ Ok given
   pub reached : List (Option Route)
@@ -25,4 +27,4 @@ pub record RestsLike (solution : List ℕ) (o : Outcome) : Type 0 where
 abbrev pub WhatIsReachedRests : Type 0
 WhatIsReachedRests = (contents : Contents) (F S T text solution order : List ℕ) (N : ℕ) → IsShort N → contents F ≡ Some text → contents S ≡ Some solution
     → IsOutcome (reach F N S) contents (done order) → contents T ≡ Some order
-    → (ran : Outcome) → IsOutcome (run F N T) contents ran → RestsLike solution ran
+    → (ran : Outcome) → IsOutcome (run F N T) contents ran → RestsLike text N solution ran

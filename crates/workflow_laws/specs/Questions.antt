@@ -1,26 +1,30 @@
 -- What may be concluded from the small network: questions that are asked of groups have one answer in both.
-use Rattle.std.specs.Prelude.{◌≡◌, ℕ, List, Contains}
+use Rattle.std.specs.Prelude.{ℕ, List, Contains}
 use Rattle.base_kit.specs.Prefixes.{Prefix}
 use Rattle.cfg_ast.specs.declared.classes.DestClass.{DestClass}
 use Rattle.cfg_ast.specs.declared.network.Network.{Network}
-use Rattle.quotient_laws.specs.Questions.{HaveSamePictures, HasOneAnswer, each_reaches, has_no_chain_of, passes}
+use Rattle.quotient_laws.specs.Questions.{HaveSamePictures, QuestionsAgree}
 use Rattle.srp_core.specs.Problem.{Problem}
 use Rattle.srp_core.specs.ProblemOf.{IsProblemOf}
+use Rattle.srp_core.specs.Quotient.{IsCoarsest, IsQuotient}
 use Rattle.workflow_laws.specs.Setting.{Contents, IsCompressed}
 
--- A problem of the large network and one of the small: each stable solution of either shows the same of the groups as
--- some stable solution of the other. So reachability, path lengths and waypoints have one answer.
+-- A problem of the large network and one of the small, whose routers are the coarsest groups of the large one's: each
+-- stable solution of either shows the same of the groups as some stable solution of the other. So reachability, path
+-- lengths and waypoints have one answer.
 pub record AnswerAlike (problem small : Problem) (groups : List ℕ) : Type 0 where
+  pub coarsest : IsCoarsest problem groups
+  pub quotient : IsQuotient problem groups small
   pub pictures : HaveSamePictures problem small groups
-  pub reachability : HasOneAnswer problem small groups each_reaches
-  pub path_length : (hops g : ℕ) → HasOneAnswer problem small groups (has_no_chain_of hops g)
-  pub waypoint : (g h w : ℕ) → HasOneAnswer problem small groups (passes g h w)
+  pub questions : QuestionsAgree problem small groups
 
 -- so for each prefix of the class
 pub record AnswersFor (large small : Network) (class : DestClass) : Type 0 where
   pub groups : List ℕ
-  pub alike : (p : Prefix) → Contains class.prefixes p → (above below : Problem) → IsProblemOf large p above → IsProblemOf small p below → AnswerAlike above below groups
+  pub alike : (p : Prefix) → Contains class.prefixes p
+      → (above below : Problem) → IsProblemOf large p above → IsProblemOf small p below → AnswerAlike above below groups
 
 -- The network of G answers for that of F.
 abbrev pub SmallAnswersForLarge : Type 0
-SmallAnswersForLarge = (contents : Contents) (F G : List ℕ) (N K : ℕ) → (c : IsCompressed contents F N G K) → AnswersFor c.of_large.network c.of_small.network c.of_large.class
+SmallAnswersForLarge = (contents : Contents) (F G : List ℕ) (N K : ℕ)
+    → (c : IsCompressed contents F N G K) → AnswersFor c.of_large.network c.of_small.network c.of_large.class
