@@ -5,6 +5,8 @@ mod Certified
 mod Down
 mod Kept
 mod Named
+mod NamedGroups
+mod OneGroups
 mod Rests
 mod RoundTrips
 mod Schedules

@@ -8,7 +8,7 @@
 ghost use Rattle.workflow_laws.specs.Again.{CompressedAgain};
 ghost use Rattle.workflow_laws.specs.CarriedDown.{CheckIsFold, WhatIsFoldedIsLifted, WhatIsFoldedIsStableBelow};
 ghost use Rattle.workflow_laws.specs.CarriedUp.{CheckBelowIsLift, WhatIsLiftedIsStable};
-ghost use Rattle.workflow_laws.specs.Certificates.{WhatIsCertifiedIsVerified};
+ghost use Rattle.workflow_laws.specs.Certificates.{WhatIsCertifiedIsVerified, WhatIsVerifiedNamesTheGroups};
 ghost use Rattle.workflow_laws.specs.Orders.{WhatIsReachedRests};
 ghost use Rattle.workflow_laws.specs.Questions.{SmallAnswersForLarge};
 
@@ -70,6 +70,13 @@ pub fn what_is_certified_is_verified()
     what_is_read_is_well();
     answer_certificates::laws::what_is_certified_is_verified();
     verify_answer_is_one();
+}
+
+/// A text to which `verify` says yes names the groups that `groups` prints.
+pub fn what_is_verified_names_the_groups()
+    ensures { WhatIsVerifiedNamesTheGroups }
+{
+    answer_certificates::laws::what_is_verified_names_the_groups();
 }
 
 /// `run` of the order that `reach` writes rests in stable labels with the keys of the solution.
