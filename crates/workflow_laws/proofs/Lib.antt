@@ -1,12 +1,17 @@
 mod Again
+mod Agree
 mod Answers
 mod Asked
 mod Certified
+mod Decided
 mod Down
+mod Existence
 mod Kept
+mod Labelled
 mod Named
 mod NamedGroups
 mod OneGroups
+mod ReadLabels
 mod Rests
 mod RoundTrips
 mod Schedules

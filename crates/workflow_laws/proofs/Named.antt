@@ -11,7 +11,7 @@ use Rattle.bonsai_top.specs.declared.command.Command.TheVariants as command
 use Rattle.bonsai_top.specs.Words.{short, short_number_of, form_on_class, form_on_second}
 use Rattle.bonsai_top.specs.Commands.{built, command_of}
 use Rattle.workflow_laws.specs.Setting.{IsShort}
-use Rattle.workflow_laws.specs.Words.{groups, compress, certify, check, fold, lift, run, reach, verify}
+use Rattle.workflow_laws.specs.Words.{classes, groups, compress, report, json, certify, check, fold, lift, run, reach, verify}
 
 number_read : (n : ℕ) → n ≤ 4294967295 → number_of (decimal n) ≡ Some n
 number_read n small = up_to_back 4294967295 n small (omega arith)
@@ -31,12 +31,22 @@ of_second : (name file second : List ℕ) (n : ℕ) → IsShort n → command_of
 unfolding command_of
 of_second name file second n small = ap (λ (found : Option ℕ). option_and_then built (option_and_then (form_on_second name) found)) (short_read n small)
 
+pub names_classes : (F : List ℕ) → command_of (classes F) ≡ Some command.Classes
+unfolding command_of
+names_classes F = refl
+
 module _ (F : List ℕ) (N : ℕ) (small : IsShort N) where
   pub names_groups : command_of (groups F N) ≡ Some (command.Groups N)
   names_groups = of_class (codes "groups") F N small
 
   pub names_compress : command_of (compress F N) ≡ Some (command.Compress N)
   names_compress = of_class (codes "compress") F N small
+
+  pub names_report : command_of (report F N) ≡ Some (command.Report N)
+  names_report = of_class (codes "report") F N small
+
+  pub names_json : command_of (json F N) ≡ Some (command.Json N)
+  names_json = of_class (codes "json") F N small
 
   pub names_certify : command_of (certify F N) ≡ Some (command.Certify N)
   names_certify = of_class (codes "certify") F N small

@@ -9,16 +9,20 @@ ghost use Rattle.workflow_laws.specs.Again.{CompressedAgain};
 ghost use Rattle.workflow_laws.specs.CarriedDown.{CheckIsFold, WhatIsFoldedIsLifted, WhatIsFoldedIsStableBelow};
 ghost use Rattle.workflow_laws.specs.CarriedUp.{CheckBelowIsLift, WhatIsLiftedIsStable};
 ghost use Rattle.workflow_laws.specs.Certificates.{WhatIsCertifiedIsVerified, WhatIsVerifiedNamesTheGroups};
+ghost use Rattle.workflow_laws.specs.Existence.{OutcomesAgree, OutcomesComeTogether};
 ghost use Rattle.workflow_laws.specs.Orders.{WhatIsReachedRests};
 ghost use Rattle.workflow_laws.specs.Questions.{SmallAnswersForLarge};
 
 use answer_certificates::laws::verify_answer_is_one;
 use answer_solutions::laws::{fold_is_read_back, lift_is_read_back};
+use bonsai_top::laws::outcome_is_one;
 use class_laws::built_problem_is_one;
 use compress_laws::laws::{plan_compresses, text_has_problem_of_groups};
 use given_laws::given_is_well_formed;
 use quotient_laws::{pictures_agree, questions_carry, quotient_is_smallest};
 use reading_laws::what_is_read_is_well;
+use route_run::laws::{one_order, rest};
+use srp_core::laws::listed_candidates;
 use srp_quotient::laws::quotient_is_quotient;
 
 /// `check` of the small network and `lift` of the large one have one outcome, but for what is written
@@ -107,4 +111,20 @@ pub fn small_answers_for_large()
     plan_compresses();
     pictures_agree();
     questions_carry();
+}
+
+/// Two outcomes that words allow are equal, or they are two certificates.
+pub fn outcomes_agree()
+    ensures { OutcomesAgree }
+{
+    outcome_is_one();
+}
+
+/// Where `report` has an outcome, so have other commands on the class, with whatever solution or schedule.
+pub fn outcomes_come_together()
+    ensures { OutcomesComeTogether }
+{
+    listed_candidates();
+    one_order();
+    rest();
 }
