@@ -31,7 +31,8 @@ module _ (number : ℕ) (second : Option (List ℕ)) (o p : Outcome) where
   of_class n None x y = inl (x ∙ sym y)
   of_class n (Some class) x y = inr (ap (λ (q : Outcome). q.status) x.told, ap (λ (q : Outcome). q.status) y.told)
 
-  of_reading : (r : Result Network ReadRefusal) → IsOutcomeOfReading (command.Certify number) second r o → IsOutcomeOfReading (command.Certify number) second r p
+  of_reading : (r : Result Network ReadRefusal) → IsOutcomeOfReading (command.Certify number) second r o
+      → IsOutcomeOfReading (command.Certify number) second r p
       → AreAlike o p
   of_reading (Ok n) x y = of_class n (class_at (classes_of n) number) x y
   of_reading (Err (read_refusal.At line kind)) x y = inl (x ∙ sym y)
@@ -88,7 +89,8 @@ outcomes_agree one words contents told o p x y = elim (named_by words (command_o
       let named = asks.1 in
       let first = told.first (ap (is_read reads_first) named) in
       let alike =
-      of_files number (contents (second_of words)) o p (contents (file_of words)) first (over_files words contents number named o x) (over_files words contents number named p y) in
+      of_files number (contents (second_of words)) o p (contents (file_of words)) first
+      (over_files words contents number named o x) (over_files words contents number named p y) in
       elim alike [
         | inl same ↦ inl same
         | inr both ↦ inr (record { number = number; named = named; first_done = both.0; second_done = both.1 })

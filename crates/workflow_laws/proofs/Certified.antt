@@ -9,7 +9,8 @@ use Rattle.reading_laws.specs.WellRead.{WhatIsReadIsWell}
 use Rattle.srp_core.specs.Problem.{Problem, count}
 use Rattle.srp_core.proofs.Alike.{same_coarsest, turned}
 use Rattle.srp_core.proofs.AlikeOf.{one_problem as problems_alike}
-use Rattle.answer_certificates.specs.Agreement.{NamesTheGroups, WhatIsCertifiedIsVerified as VerifiesWhatIsCertified, WhatIsVerifiedNamesTheGroups as VerifiedNamesTheGroups}
+use Rattle.answer_certificates.specs.Agreement.{NamesTheGroups, WhatIsCertifiedIsVerified as VerifiesWhatIsCertified}
+use Rattle.answer_certificates.specs.Agreement.{WhatIsVerifiedNamesTheGroups as VerifiedNamesTheGroups}
 use Rattle.answer_certificates.specs.OneAnswer.{VerifyAnswerIsOne}
 use Rattle.answer_certificates.specs.Verified.{IsVerifyAnswer}
 use Rattle.answer_groups.specs.GroupLines.{IsGroupsOf}
@@ -40,7 +41,8 @@ map_map : (P : Problem) (gs : List ℕ) (numbers : List ℕ) → map (map (print
 map_map P gs [] = refl
 map_map P gs (g ∷ numbers) = ap (λ (rest : List (List (List ℕ))). names_in P gs g ∷ rest) (map_map P gs numbers)
 
-named_printed : (n : Network) (number : ℕ) (text : List ℕ) (v : NamesTheGroups n number text) (o : Outcome) → IsGroupsOf n v.class o → PrintsGroups (named_groups text) o
+named_printed : (n : Network) (number : ℕ) (text : List ℕ) (v : NamesTheGroups n number text) (o : Outcome) → IsGroupsOf n v.class o
+    → PrintsGroups (named_groups text) o
 named_printed n number text v o g =
     let p = some_prefix n v.class (has_class n number v.class v.class_is) in
     let l = g.lines in
@@ -49,7 +51,9 @@ named_printed n number text v o g =
     let own = v.coarsest.of_class p.0 p.1 in
     let alike = problems_alike n p.0 P Q own (l.are.of_class p.0 p.1) in
     let coarsest = same_coarsest Q P (turned P Q alike) l.groups l.are.coarsest in
-    let listed = listed_alike v.groups l.groups (count P) l.lines.count v.coarsest.coarsest.admissible.total coarsest.admissible.total (coarsest.refined v.groups v.coarsest.coarsest.admissible) (v.coarsest.coarsest.refined l.groups coarsest.admissible) l.lines.numbered in
+    let listed =
+    listed_alike v.groups l.groups (count P) l.lines.count v.coarsest.coarsest.admissible.total coarsest.admissible.total
+    (coarsest.refined v.groups v.coarsest.coarsest.admissible) (v.coarsest.coarsest.refined l.groups coarsest.admissible) l.lines.numbered in
     record {
       problem = Q;
       partition = l.groups;

@@ -3,7 +3,7 @@
 -- 1. Two labels are equal or not, and a list has a candidate that passes a test or has none.
 -- 2. A router holds a best candidate, or breaks stability for one of the four reasons.
 -- 3. So all routers hold one, or there is a first that does not.
-use Rattle.std.proofs.Common.{◌≡◌, ◌≢◌, ◌⊎◌, inl, inr, ℕ, zero, suc, ◌<◌, ◌≤◌, Bool, true, false, List, [], ◌∷◌, refl, sym, ap, ◌∙◌, subst, arith, Option, Some, None}
+use Rattle.std.proofs.Common.{◌≡◌, ◌⊎◌, inl, inr, ℕ, zero, suc, ◌<◌, ◌≤◌, true, List, [], ◌∷◌, refl, sym, ap, ◌∙◌, subst, arith, Option, Some, None}
 use Rattle.std.specs.Prelude.{Contains, bytes_eq}
 use Rattle.std.specs.declared.cmp.Ordering.{Ordering}
 use Rattle.std.specs.declared.cmp.Ordering.TheVariants.{Less, Equal, Greater}
@@ -21,7 +21,7 @@ use Rattle.srp_core.specs.Routes.{preference_of, size_of, path_of, comms_of, com
 use Rattle.srp_core.specs.Stability.{label, AreLabels, IsCandidate}
 use Rattle.solution_check.specs.declared.judgement.Answer.{Answer}
 use Rattle.solution_check.specs.declared.judgement.Answer.TheVariants.{Stable, Not}
-use Rattle.solution_check.specs.Breaks.{BreaksBy, HasBetterCandidate, HasNoCandidate, HasWrongOrigin, HoldsBest, IsFirstBreak, Judges, LacksLabel}
+use Rattle.solution_check.specs.Breaks.{BreaksBy, HasWrongOrigin, HoldsBest, IsFirstBreak, Judges, HasBetterCandidate, HasNoCandidate, LacksLabel}
 use Rattle.solution_check.specs.Breaks.BreaksBy.{better_candidate, none_with_candidate, not_a_candidate, wrong_origin}
 
 abbrev pub Dec : Type 0 → Type 0
@@ -121,7 +121,8 @@ module _ (sound : IsSound) (complete : IsComplete) (P : Problem) (L : List (Opti
     IsDecided = HoldsBest P L u ⊎ ((why : ℕ) × BreaksBy P L u why)
 
     of_none : ¬ HasWrongOrigin P L u → label L u ≡ None → Dec ((c : Candidate) × In (candidates P L u) c × Unit {0}) → IsDecided
-    of_none right none (inl found) = inr (4, none_with_candidate right (record { none = none; candidate = found.0.route; is_candidate = is_one found.0 found.1 }))
+    of_none right none (inl found) =
+        inr (4, none_with_candidate right (record { none = none; candidate = found.0.route; is_candidate = is_one found.0 found.1 }))
     of_none right none (inr never) = inl (record {
       none = λ c e is. none_passes (λ r. Unit {0}) never c is tt;
       held = λ r e. absurd (let other : None ≡ Some r = sym none ∙ e in cc);
@@ -130,12 +131,14 @@ module _ (sound : IsSound) (complete : IsComplete) (P : Problem) (L : List (Opti
 
     of_some : ¬ HasWrongOrigin P L u → (r : Route) → label L u ≡ Some r → Dec ((c : Candidate) × In (candidates P L u) c × (c.route ≡ r))
         → Dec ((c : Candidate) × In (candidates P L u) c × (compare_keys (key_of P c.route) (key_of P r) ≡ Less)) → IsDecided
-    of_some right r is (inr never) better = inr (2, not_a_candidate right (record { route = r; labelled = is; other = λ cand. none_passes (λ s. s ≡ r) never r cand refl }))
+    of_some right r is (inr never) better =
+        inr (2, not_a_candidate right (record { route = r; labelled = is; other = λ cand. none_passes (λ s. s ≡ r) never r cand refl }))
     of_some right r is (inl found) (inl b) =
         let held : IsIt r = subst IsIt found.2 (is_one found.0 found.1) in
         inr (
           3,
-          better_candidate right (λ w. w.other (subst IsIt (let same : Some r ≡ Some w.route = sym is ∙ w.labelled in (let one : r ≡ w.route = cc in one)) held))
+          better_candidate right (λ w. w.other (subst IsIt (let same : Some r ≡ Some w.route =
+              sym is ∙ w.labelled in (let one : r ≡ w.route = cc in one)) held))
               (record { route = r; labelled = is; candidate = b.0.route; is_candidate = is_one b.0 b.1; beats = b.2 }),
         )
     of_some right r is (inl found) (inr never) =
@@ -146,7 +149,8 @@ module _ (sound : IsSound) (complete : IsComplete) (P : Problem) (L : List (Opti
           best = λ s c e cand less. (
               let same : Some r ≡ Some s = sym is ∙ e in
               let one : s ≡ r = cc in
-              none_passes (λ t. compare_keys (key_of P t) (key_of P r) ≡ Less) never c cand (subst (λ t. compare_keys (key_of P c) (key_of P t) ≡ Less) one less));
+              none_passes (λ t. compare_keys (key_of P t) (key_of P r) ≡ Less) never c cand
+              (subst (λ t. compare_keys (key_of P c) (key_of P t) ≡ Less) one less));
         })
 
     of_label : ¬ HasWrongOrigin P L u → (held : Option Route) → label L u ≡ held → IsDecided

@@ -101,9 +101,11 @@ module _ (n : Network) (number : ℕ) (class : DestClass) (r : Outcome) (is : Is
 
 -- what another command is to write of a class, where `report` has something to write
 abbrev Comes : ℕ → (Network → DestClass → Outcome → Type 0) → Type 0
-Comes number IsAllowed = (n : Network) (class : DestClass) → Contains (classes_of n) class → (r : Outcome) → IsReported report_text n number class r → SomeOf (IsAllowed n class)
+Comes number IsAllowed =
+    (n : Network) (class : DestClass) → Contains (classes_of n) class → (r : Outcome) → IsReported report_text n number class r → SomeOf (IsAllowed n class)
 
-of_number : (n : Network) (number : ℕ) (A : Network → DestClass → Outcome → Type 0) → Comes number A → (found : Option DestClass) → class_at (classes_of n) number ≡ found → (r : Outcome)
+of_number : (n : Network) (number : ℕ) (A : Network → DestClass → Outcome → Type 0) → Comes number A → (found : Option DestClass)
+    → class_at (classes_of n) number ≡ found → (r : Outcome)
     → IsOfClass found number (IsReported report_text n number) r → SomeOf (IsOfClass found number (A n))
 of_number n number A comes None at r is = (refused (no_class number), refl)
 of_number n number A comes (Some class) at r is = comes n class (has_class n number class at) r is
@@ -147,17 +149,22 @@ outcomes_come_together sound complete has_order rest contents F S text N small h
           (λ n is. of_number n N IsGroupsOf (λ m class has q x. groups_of_plan m N class q x) (class_at (classes_of n) N) refl r is) text own);
       compress = has_outcome (compress F N) contents (command.Compress N) refl (names_compress F N small) text holds
           (of_texts N (command.Compress N) second second r
-          (λ n is. of_number n N IsCompressOf (λ m class has q x. unless_pool m N class q x (pool_line m class)) (class_at (classes_of n) N) refl r is) text own);
+          (λ n is. of_number n N IsCompressOf (λ m class has q x. unless_pool m N class q x (pool_line m class))
+          (class_at (classes_of n) N) refl r is) text own);
       json = has_outcome (json F N) contents (command.Json N) refl (names_json F N small) text holds
           (of_texts N (command.Json N) second second r
-          (λ n is. of_number n N (λ m. IsReported json_text m N) (λ m class has q x. json_of_plan m N class q x) (class_at (classes_of n) N) refl r is) text own);
+          (λ n is. of_number n N (λ m. IsReported json_text m N) (λ m class has q x. json_of_plan m N class q x)
+          (class_at (classes_of n) N) refl r is) text own);
       check = has_outcome (check F N S) contents (command.Check N) refl (names_check F S N small) text holds
           (of_texts N (command.Check N) second (contents S) r
-          (λ n is. of_number n N (λ m. IsCheckOf m (contents S)) (λ m class has q x. check_of_plan m N class q x has sound complete (contents S) told) (class_at (classes_of n) N) refl r is) text own);
+          (λ n is. of_number n N (λ m. IsCheckOf m (contents S)) (λ m class has q x. check_of_plan m N class q x has sound complete (contents S) told)
+          (class_at (classes_of n) N) refl r is) text own);
       run = has_outcome (run F N S) contents (command.Run N) refl (names_run F S N small) text holds
           (of_texts N (command.Run N) second (contents S) r
-          (λ n is. of_number n N (λ m. IsRunOf m (contents S)) (λ m class has q x. run_of_plan m N class q x has rest (contents S) told) (class_at (classes_of n) N) refl r is) text own);
+          (λ n is. of_number n N (λ m. IsRunOf m (contents S)) (λ m class has q x. run_of_plan m N class q x has rest (contents S) told)
+          (class_at (classes_of n) N) refl r is) text own);
       reach = has_outcome (reach F N S) contents (command.Reach N) refl (names_reach F S N small) text holds
           (of_texts N (command.Reach N) second (contents S) r
-          (λ n is. of_number n N (λ m. IsReachOf m (contents S)) (λ m class has q x. reach_of_plan m N class q x has sound complete (contents S) told has_order) (class_at (classes_of n) N) refl r is) text own);
+          (λ n is. of_number n N (λ m. IsReachOf m (contents S)) (λ m class has q x. reach_of_plan m N class q x has sound complete (contents S) told has_order)
+          (class_at (classes_of n) N) refl r is) text own);
     }

@@ -1,5 +1,6 @@
 -- What `check`, `reach` and `run` are to write of a problem: there is such an outcome for each second file that is told.
-use Rattle.std.proofs.Common.{◌≡◌, ◌≢◌, ◌⊎◌, inl, inr, ℕ, zero, suc, ◌<◌, ◌≤◌, List, [], ◌∷◌, ◌++◌, length, refl, sym, ap, ◌∙◌, subst, arith, codes, get_or, Option, Some, None, Result, Ok, Err}
+use Rattle.std.proofs.Common.{◌≡◌, ◌⊎◌, inl, inr, ℕ, zero, suc, ◌<◌, ◌≤◌, List, [], ◌∷◌, ◌++◌, length, refl, sym, ap, subst, arith, Option, Some}
+use Rattle.std.proofs.Common.{None, Result, Ok, Err}
 use Rattle.std.specs.Prelude.{IsSome, replicate, slice_set}
 use Rattle.std.proofs.lemmas.Bool.{cases_eq, cases_lt}
 use Rattle.srp_core.specs.declared.route.Route.{Route}
@@ -7,7 +8,6 @@ use Rattle.srp_core.specs.Problem.{Problem, count, IsProblem}
 use Rattle.srp_core.specs.Stability.{label, AreLabels, IsStable}
 use Rattle.solution_check.specs.declared.judgement.Answer.{Answer}
 use Rattle.solution_check.specs.declared.judgement.Answer.TheVariants.{Stable, Not}
-use Rattle.solution_check.specs.Breaks.{Judges}
 use Rattle.solution_text.specs.declared.refusal.SolRefusal.{SolRefusal}
 use Rattle.solution_text.specs.declared.refusal.SolRefusal.TheVariants as sol_refusal
 use Rattle.solution_text.specs.Printed.{labels_text}
@@ -15,12 +15,12 @@ use Rattle.solution_text.specs.Solutions.{labels_of_text}
 use Rattle.route_run.specs.declared.schedule.Activation.{Activation}
 use Rattle.route_run.specs.declared.schedule.ScheduleRefusal.{ScheduleRefusal}
 use Rattle.route_run.specs.declared.schedule.ScheduleRefusal.TheVariants as schedule_refusal
-use Rattle.route_run.specs.Activations.{activated, chosen_label, labels_after, no_labels, IsAtRest, IsFirstMoving}
+use Rattle.route_run.specs.Activations.{chosen_label, labels_after, no_labels, IsAtRest, IsFirstMoving}
 use Rattle.route_run.specs.Orders.{IsOrderOf}
-use Rattle.route_run.specs.Schedules.{activation_of, before, line_word, or_unknown, run_of, schedule_of_text, schedule_of_words, words_of_text, LineWord}
+use Rattle.route_run.specs.Schedules.{activation_of, before, or_unknown, run_of, schedule_of_text, schedule_of_words, words_of_text, LineWord}
 use Rattle.answer_kit.specs.Outcome.{Outcome, done, not_stable, refused}
 use Rattle.answer_kit.specs.SecondFiles.{long_solution, solution_limit, solution_reason, IsOfLabels, IsOfSecond, IsOfSolution}
-use Rattle.answer_runs.specs.Reaches.{name_lines, IsOrderTold, IsReach, IsToldOf}
+use Rattle.answer_runs.specs.Reaches.{name_lines, IsReach, IsToldOf, IsOrderTold}
 use Rattle.answer_runs.specs.Schedules.{long_schedule, rest_line, schedule_limit, schedule_reason, IsMoving, IsOfActivations, IsOfSchedule, IsRest}
 use Rattle.answer_solutions.specs.Checks.{break_reason, told_of, IsJudgement}
 use Rattle.workflow_laws.proofs.Decided.{dec_label, is_judged, Dec, IsComplete, IsSound}
@@ -32,7 +32,8 @@ SomeOf IsAllowed = (o : Outcome) × IsAllowed o
 
 -- ---- over the labels of a text
 
-module _ (P : Problem) (rules : IsProblem P) (A : List (Option Route) → Outcome → Type 0) (work : (labels : List (Option Route)) → AreLabels P labels → SomeOf (A labels)) where
+module _ (P : Problem) (rules : IsProblem P) (A : List (Option Route) → Outcome → Type 0)
+    (work : (labels : List (Option Route)) → AreLabels P labels → SomeOf (A labels)) where
   of_result : (text : List ℕ) (r : Result (List (Option Route)) SolRefusal) → labels_of_text P.protocol P.names text ≡ r → SomeOf (IsOfLabels A r)
   of_result text (Ok labels) e = work labels (are_labels P rules.tables text labels e)
   of_result text (Err (sol_refusal.At line kind)) e = (refused (solution_reason line kind), refl)
@@ -71,7 +72,8 @@ unfolding schedule_of_words
 no_fault names [] e = cc
 no_fault names (w ∷ ws) e = by (activation_of names w.word) (schedule_of_words names ws) (no_fault names ws) e
   where
-    by : (o : Option Activation) (later : Result (List Activation) ScheduleRefusal) → (later ≡ Err schedule_refusal.Memory → ⊥) → or_unknown w.line o later ≡ Err schedule_refusal.Memory → ⊥
+    by : (o : Option Activation) (later : Result (List Activation) ScheduleRefusal) → (later ≡ Err schedule_refusal.Memory → ⊥)
+        → or_unknown w.line o later ≡ Err schedule_refusal.Memory → ⊥
     by None later rest e = cc
     by (Some a) (Ok schedule) rest e = cc
     by (Some a) (Err schedule_refusal.Memory) rest e = rest refl

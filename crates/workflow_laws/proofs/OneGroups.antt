@@ -1,5 +1,6 @@
 -- Two partitions in which the same routers are together have the same groups in the same order, whatever the numbers.
-use Rattle.std.proofs.Common.{◌≡◌, inl, inr, ℕ, zero, suc, ◌+◌, ◌-◌, ◌<◌, ◌≤◌, Bool, true, false, cond, ◌||◌, nat_eq, List, [], ◌∷◌, ◌++◌, length, map, get_or, drop, refl, sym, ap, ◌∙◌, subst, arith, filter}
+use Rattle.std.proofs.Common.{◌≡◌, inl, inr, ℕ, zero, suc, ◌+◌, ◌-◌, ◌<◌, ◌≤◌, Bool, true, false, cond, ◌||◌, nat_eq, List, [], ◌∷◌, ◌++◌, length}
+use Rattle.std.proofs.Common.{map, get_or, drop, refl, sym, ap, ◌∙◌, subst, arith, filter}
 use Rattle.std.specs.Prelude.{slice_index, ◌==◌}
 use Rattle.std.specs.List.{range_with_len}
 use Rattle.std.proofs.lemmas.Bool.{cases_lt}
@@ -27,7 +28,9 @@ abbrev at : List ℕ → ℕ → ℕ
 at gs u = get_or gs u 0
 
 listed : (gs : List ℕ) (n : ℕ) → length gs ≡ n → gs ≡ map (at gs) (range_with_len 0 n)
-listed gs n total = ext_get_or 0 gs (map (at gs) (range_with_len 0 n)) (total ∙ sym (map_long (at gs) (range_with_len 0 n) ∙ length-range_with_len 0 n)) (λ u h. sym (over_range (at gs) n u (omega (arith, total, h))))
+listed gs n total =
+    ext_get_or 0 gs (map (at gs) (range_with_len 0 n)) (total ∙ sym (map_long (at gs) (range_with_len 0 n) ∙ length-range_with_len 0 n))
+    (λ u h. sym (over_range (at gs) n u (omega (arith, total, h))))
 
 equal_tests : (a b : Bool) → (a ≡ true → b ≡ true) → (b ≡ true → a ≡ true) → a ≡ b
 equal_tests true b there back = sym (there refl)
@@ -44,7 +47,8 @@ filter_same p q (u ∷ us) n below same =
 module _ (gs hs : List ℕ) (n : ℕ) (tests : (u v : ℕ) → u < n → v < n → nat_eq (at gs u) (at gs v) ≡ nat_eq (at hs u) (at hs v)) where
   has_same : (ks : List ℕ) (u : ℕ) → AreBelow n ks → u < n → has (map (at gs) ks) (at gs u) ≡ has (map (at hs) ks) (at hs u)
   has_same [] u below h = refl
-  has_same (k ∷ ks) u below h = ap (λ b. b || has (map (at gs) ks) (at gs u)) (tests k u below.0 h) ∙ ap (λ b. nat_eq (at hs k) (at hs u) || b) (has_same ks u below.1 h)
+  has_same (k ∷ ks) u below h =
+      ap (λ b. b || has (map (at gs) ks) (at gs u)) (tests k u below.0 h) ∙ ap (λ b. nat_eq (at hs k) (at hs u) || b) (has_same ks u below.1 h)
 
   -- both see the same routers first
   record AreSeenAlike (old us : List ℕ) : Type 0 where
@@ -53,7 +57,8 @@ module _ (gs hs : List ℕ) (n : ℕ) (tests : (u v : ℕ) → u < n → v < n �
     first : seen_after (map (at gs) old) (map (at gs) us) ≡ map (at gs) routers
     second : seen_after (map (at hs) old) (map (at hs) us) ≡ map (at hs) routers
 
-  seen_step : (old : List ℕ) (u : ℕ) (us : List ℕ) (b : Bool) → has (map (at gs) old) (at gs u) ≡ b → has (map (at hs) old) (at hs u) ≡ b → AreSeenAlike (cond b old (old ++ u ∷ [])) us → AreSeenAlike old (u ∷ us)
+  seen_step : (old : List ℕ) (u : ℕ) (us : List ℕ) (b : Bool) → has (map (at gs) old) (at gs u) ≡ b → has (map (at hs) old) (at hs u) ≡ b
+      → AreSeenAlike (cond b old (old ++ u ∷ [])) us → AreSeenAlike old (u ∷ us)
   seen_step old u us true e f rest = record {
     routers = rest.routers;
     below = rest.below;
@@ -81,7 +86,8 @@ module _ (gs hs : List ℕ) (n : ℕ) (tests : (u v : ℕ) → u < n → v < n �
     members_same : (u : ℕ) → u < n → members_of gs (at gs u) ≡ members_of hs (at hs u)
     members_same u h =
         ap (λ k. filter (λ router. slice_index gs router == at gs u) (range_with_len 0 k)) first_total
-        ∙ filter_same (λ router. slice_index gs router == at gs u) (λ router. slice_index hs router == at hs u) (range_with_len 0 n) n (below_range n 0 n (omega arith)) (λ v inside. tests v u inside h)
+        ∙ filter_same (λ router. slice_index gs router == at gs u) (λ router. slice_index hs router == at hs u)
+        (range_with_len 0 n) n (below_range n 0 n (omega arith)) (λ v inside. tests v u inside h)
         ∙ ap (λ k. filter (λ router. slice_index hs router == at hs u) (range_with_len 0 k)) (sym second_total)
 
     each_same : (us : List ℕ) → AreBelow n us → map (members_of gs) (map (at gs) us) ≡ map (members_of hs) (map (at hs) us)
@@ -107,7 +113,8 @@ range_has a zero u low high = absurd (omega (arith, low, high))
 range_has a (suc n) u low high = by (λ above. range_has (a + 1) n u above (omega (arith, high))) (nat_eq a u) refl
   where
     other : nat_eq a u ≡ false → a + 1 ≤ u
-    other e = elim (cases_lt a u) [ inl less ↦ omega (arith, less) | inr ge ↦ absurd (let same : a ≡ u = omega (arith, low, ge) in let t = same_test a u same in cc) ]
+    other e =
+        elim (cases_lt a u) [ inl less ↦ omega (arith, less) | inr ge ↦ absurd (let same : a ≡ u = omega (arith, low, ge) in let t = same_test a u same in cc) ]
 
     by : (a + 1 ≤ u → has (range_with_len (a + 1) n) u ≡ true) → (b : Bool) → nat_eq a u ≡ b → (b || has (range_with_len (a + 1) n) u) ≡ true
     by rest true e = refl
@@ -124,7 +131,8 @@ range_lacks a (suc n) u high = by (range_lacks (a + 1) n u (omega (arith, high))
 drop_next : (xs : List ℕ) (v : ℕ) → v < length xs → drop v xs ≡ slice_index xs v ∷ drop (v + 1) xs
 drop_next [] v h = absurd (omega (arith, h))
 drop_next (x ∷ xs) zero h = refl
-drop_next (x ∷ xs) (suc v) h = drop_next xs v (omega (arith, h)) ∙ (let k : suc (v + 1) ≡ suc v + 1 = omega arith in ap (λ j. slice_index xs v ∷ drop j (x ∷ xs)) k)
+drop_next (x ∷ xs) (suc v) h =
+    drop_next xs v (omega (arith, h)) ∙ (let k : suc (v + 1) ≡ suc v + 1 = omega arith in ap (λ j. slice_index xs v ∷ drop j (x ∷ xs)) k)
 
 drop_none : (xs : List ℕ) (v : ℕ) → length xs ≤ v → drop v xs ≡ []
 drop_none [] zero h = refl
@@ -145,9 +153,11 @@ module _ (gs : List ℕ) (count : ℕ) (numbered : IsNumbered gs count) where
 
   all_met : (v m : ℕ) → length gs ≡ v → AreFirst v m → m ≡ count
   all_met v m over first = elim (cases_lt m count) [
-    | inl less ↦ absurd (let c = numbered.used m less in let inside = c.1 in let low = first.low c.0 (omega (arith, inside, over)) in let is : slice_index gs c.0 ≡ m = any_default gs c.0 0 m inside ∙ c.2 in omega (arith, low, is))
+    | inl less ↦ absurd (let c = numbered.used m less in let inside = c.1 in
+        let low = first.low c.0 (omega (arith, inside, over)) in let is : slice_index gs c.0 ≡ m = any_default gs c.0 0 m inside ∙ c.2 in omega (arith, low, is))
     | inr ge ↦ elim (cases_lt count m) [
-      | inl more ↦ absurd (let u = first.met count more in let inside = u.1 in let below : slice_index gs u.0 < count = numbered.below u.0 0 (omega (arith, inside, over)) in let is = u.2 in omega (arith, below, is))
+      | inl more ↦ absurd (let u = first.met count more in let inside = u.1 in
+          let below : slice_index gs u.0 < count = numbered.below u.0 0 (omega (arith, inside, over)) in let is = u.2 in omega (arith, below, is))
       | inr same ↦ omega (arith, ge, same)
     ]
   ]
@@ -155,7 +165,12 @@ module _ (gs : List ℕ) (count : ℕ) (numbered : IsNumbered gs count) where
   -- a router whose group was met
   old_first : (v m : ℕ) → slice_index gs v < m → AreFirst v m → AreFirst (v + 1) m
   old_first v m old first = record {
-    low = λ u h. elim (cases_lt u v) [ inl less ↦ first.low u less | inr ge ↦ (let same : v ≡ u = omega (arith, h, ge) in subst (λ w. slice_index gs w < m) same old) ];
+    low =
+        λ u h. elim (cases_lt u v) [
+          | inl less ↦ first.low u less
+          | inr ge ↦ (let same : v ≡ u =
+              omega (arith, h, ge) in subst (λ w. slice_index gs w < m) same old)
+        ];
     met = λ g h. (let u = first.met g h in let less = u.1 in (u.0, omega (arith, less), u.2));
   }
 
@@ -191,19 +206,28 @@ module _ (gs : List ℕ) (count : ℕ) (numbered : IsNumbered gs count) where
           | inr low ↦
               let is : next ≡ m = omega (arith, ge, low) in
               let seen = with_next (range_with_len 0 m) next (range_lacks 0 m next (omega (arith, ge))) in
-              let more : range_with_len 0 m ++ next ∷ [] ≡ range_with_len 0 (m + 1) = ap (λ k. range_with_len 0 m ++ k ∷ []) is ∙ sym (range_more 0 m m (omega arith)) ∙ (let k : suc m ≡ m + 1 = omega arith in ap (range_with_len 0) k) in
+              let more : range_with_len 0 m ++ next ∷ [] ≡ range_with_len 0 (m + 1) =
+              ap (λ k. range_with_len 0 m ++ k ∷ []) is ∙ sym (range_more 0 m m (omega arith)) ∙ (let k : suc m ≡ m + 1 =
+              omega arith in ap (range_with_len 0) k) in
               ap (λ s. seen_after s (drop (v + 1) gs)) (seen ∙ more) ∙ in_order left (v + 1) (m + 1) (omega (arith, total)) (new_first v m is first)
         ]
       ]
 
   pub numbered_groups : groups_of gs ≡ map (members_of gs) (range_with_len 0 count)
   unfolding groups_of distinct
-  numbered_groups = ap (map (members_of gs)) (in_order (length gs) 0 0 (omega arith) (record { low = λ u h. absurd (omega (arith, h)); met = λ g h. absurd (omega (arith, h)) }))
+  numbered_groups =
+      ap (map (members_of gs)) (in_order (length gs) 0 0 (omega arith) (record {
+        low =
+            λ u h. absurd (omega (arith, h));
+        met = λ g h. absurd (omega (arith, h));
+      }))
 
 -- ---- both
 
-pub listed_alike : (gs hs : List ℕ) (n count : ℕ) → length gs ≡ n → length hs ≡ n → Refines n gs hs → Refines n hs gs → IsNumbered hs count → groups_of gs ≡ map (members_of hs) (range_with_len 0 count)
+pub listed_alike : (gs hs : List ℕ) (n count : ℕ) → length gs ≡ n → length hs ≡ n → Refines n gs hs → Refines n hs gs → IsNumbered hs count
+    → groups_of gs ≡ map (members_of hs) (range_with_len 0 count)
 listed_alike gs hs n count first second there back numbered =
     groups_same gs hs n
-    (λ u v hu hv. equal_tests (nat_eq (at gs u) (at gs v)) (nat_eq (at hs u) (at hs v)) (λ e. same_test _ _ (there u v hu hv (test_same _ _ e))) (λ e. same_test _ _ (back u v hu hv (test_same _ _ e))))
+    (λ u v hu hv. equal_tests (nat_eq (at gs u) (at gs v)) (nat_eq (at hs u) (at hs v)) (λ e. same_test _ _ (there u v hu hv (test_same _ _ e)))
+    (λ e. same_test _ _ (back u v hu hv (test_same _ _ e))))
     first second ∙ numbered_groups hs count numbered

@@ -2,8 +2,9 @@
 --
 -- 1. What is said of a router has its communities in order, so all labels have.
 -- 2. The fault of a text is that of a line.
-use Rattle.std.proofs.Common.{◌≡◌, inl, inr, ℕ, zero, suc, ◌+◌, ◌<◌, ◌&&◌, Bool, true, false, cond, List, [], ◌∷◌, All, length, refl, sym, ap, ◌∙◌, subst, arith, Option, Some, None, Result, Ok, Err, codes, map}
-use Rattle.std.specs.Prelude.{bytes_eq, filter_map, find, nat_lt, option_and_then, option_map}
+use Rattle.std.proofs.Common.{◌≡◌, ℕ, zero, suc, ◌+◌, ◌<◌, ◌&&◌, Bool, true, false, cond, List, [], ◌∷◌, All, length, refl, sym, ap, ◌∙◌, subst}
+use Rattle.std.proofs.Common.{arith, Option, Some, None, Ok, Err, codes, map}
+use Rattle.std.specs.Prelude.{bytes_eq, find, nat_lt, option_and_then, option_map}
 use Rattle.std.specs.List.{AllByRecursion, cons_option}
 use Rattle.std.proofs.lemmas.Bool.Decides.{nat_tests}
 use Rattle.base_kit.specs.declared.protocol.Protocol.{Protocol}
@@ -15,13 +16,15 @@ use Rattle.cfg_ast.specs.text.Words.{community_word, is_router_name, number_word
 use Rattle.srp_core.specs.declared.route.Route.{Route}
 use Rattle.srp_core.specs.declared.route.Route.TheVariants.{Bgp, Ospf}
 use Rattle.srp_core.specs.Labels.{HasSet}
-use Rattle.srp_core.specs.Problem.{Problem, count, HasTables}
-use Rattle.srp_core.specs.Stability.{label, AreLabels}
+use Rattle.srp_core.specs.Problem.{Problem, HasTables}
+use Rattle.srp_core.specs.Stability.{AreLabels}
 use Rattle.solution_text.specs.declared.refusal.SolKind.{SolKind}
 use Rattle.solution_text.specs.declared.refusal.SolRefusal.{SolRefusal}
 use Rattle.solution_text.specs.declared.refusal.SolRefusal.TheVariants as sol_refusal
-use Rattle.solution_text.specs.Forms.{above, bgp_label_form, bgp_route, communities_above, community_above, label_form, named_label_of, none_form, ospf_label_form, path_of_words, saying, NamedLabel}
-use Rattle.solution_text.specs.Solutions.{first_at_line, first_fault, kind_of, labels_by, labels_of_text, labels_unless, named_labels, named_too, said_of, solution_lines}
+use Rattle.solution_text.specs.Forms.{above, bgp_label_form, bgp_route, communities_above, community_above, label_form, named_label_of, none_form}
+use Rattle.solution_text.specs.Forms.{ospf_label_form, path_of_words, saying, NamedLabel}
+use Rattle.solution_text.specs.Solutions.{first_at_line, first_fault, kind_of, labels_by, labels_of_text, labels_unless, named_labels, named_too}
+use Rattle.solution_text.specs.Solutions.{said_of, solution_lines}
 use Rattle.solution_text.proofs.Kept.{labels_routes, labels_total}
 
 -- ---- communities in order
@@ -54,7 +57,8 @@ unfolding communities_above
 all_over [] bound comms e = (let none : [] ≡ comms = cc in subst (AreOver bound) none (tt, tt))
 all_over (word ∷ words) bound comms e = by (λ c rest. all_over words c rest) (community_above bound word) refl e
   where
-    more : (c : ℕ) → bound < c → (o : Option (List ℕ)) → ((rest : List ℕ) → o ≡ Some rest → AreOver c rest) → option_map (λ rest. c ∷ rest) o ≡ Some comms → AreOver bound comms
+    more : (c : ℕ) → bound < c → (o : Option (List ℕ)) → ((rest : List ℕ) → o ≡ Some rest → AreOver c rest) → option_map (λ rest. c ∷ rest) o ≡ Some comms
+        → AreOver bound comms
     more c less (Some rest) all e =
         let same : c ∷ rest ≡ comms = cc in
         let over = all rest refl in
@@ -72,11 +76,13 @@ bgp_set : (words : List (List ℕ)) (r : Route) → bgp_label_form words ≡ Som
 unfolding bgp_label_form
 bgp_set (preference ∷ mark ∷ words) r e = by (bytes_eq mark (codes "path")) (number_word preference) (path_of_words words) e
   where
-    over : (lp : ℕ) (path : List ℕ) (rest : List (List ℕ)) (o : Option (List ℕ)) → communities_above 0 rest ≡ o → option_map (λ comms. Bgp lp path comms) o ≡ Some r → HasSet (Some r)
+    over : (lp : ℕ) (path : List ℕ) (rest : List (List ℕ)) (o : Option (List ℕ)) → communities_above 0 rest ≡ o
+        → option_map (λ comms. Bgp lp path comms) o ≡ Some r → HasSet (Some r)
     over lp path rest (Some comms) is e = (let same : Bgp lp path comms ≡ r = cc in subst (λ s. HasSet (Some s)) same (all_over rest 0 comms is).1)
     over lp path rest None is e = absurd cc
 
-    by : (b : Bool) (n : Option ℕ) (p : Option (List ℕ × List (List ℕ))) → cond b (option_and_then (λ lp. option_and_then (bgp_route lp) p) n) None ≡ Some r → HasSet (Some r)
+    by : (b : Bool) (n : Option ℕ) (p : Option (List ℕ × List (List ℕ)))
+        → cond b (option_and_then (λ lp. option_and_then (bgp_route lp) p) n) None ≡ Some r → HasSet (Some r)
     by true (Some lp) (Some (path, rest)) e = over lp path rest (communities_above 0 rest) refl e
     by true (Some lp) None e = absurd cc
     by true None p e = absurd cc
@@ -107,7 +113,8 @@ form_set word words l e = by (bytes_eq word (codes "none")) (bytes_eq word (code
     of_bgp None is e = absurd cc
 
     by : (a b c : Bool)
-        → cond a (none_form words) (cond b (option_map (λ r. Some r) (ospf_label_form words)) (cond c (option_map (λ r. Some r) (bgp_label_form words)) None)) ≡ Some l → HasSet l
+        → cond a (none_form words) (cond b (option_map (λ r. Some r) (ospf_label_form words)) (cond c (option_map (λ r. Some r) (bgp_label_form words)) None))
+        ≡ Some l → HasSet l
     by true b c e = of_none words e
     by false true c e = of_cost words e
     by false false true e = of_bgp (bgp_label_form words) refl e
@@ -144,7 +151,8 @@ said_set (s ∷ says) sets name l e = by (said_set says sets.1 name l) (bytes_eq
     by rest true e = (let same : s.label ≡ l = cc in subst HasSet same sets.0)
     by rest false e = rest e
 
-given_sets : (says : List NamedLabel) → HaveSets says → (names : List (List ℕ)) (labels : List (Option Route)) → all_given (map (said_of says) names) ≡ Some labels → AllByRecursion HasSet labels
+given_sets : (says : List NamedLabel) → HaveSets says → (names : List (List ℕ)) (labels : List (Option Route))
+    → all_given (map (said_of says) names) ≡ Some labels → AllByRecursion HasSet labels
 given_sets says sets [] labels e = (let none : [] ≡ labels = cc in subst (AllByRecursion HasSet) none tt)
 given_sets says sets (name ∷ names) labels e = by (said_of says name) refl (all_given (map (said_of says) names)) refl (given_sets says sets names) e
   where
@@ -155,7 +163,8 @@ given_sets says sets (name ∷ names) labels e = by (said_of says name) refl (al
         let both : option_map (λ more. l ∷ more) (Some ls) ≡ Some labels = ap (option_map (λ more. l ∷ more)) (sym are) ∙ e in
         let same : l ∷ ls ≡ labels = cc in
         subst (AllByRecursion HasSet) same (said_set says sets name l is, all ls are)
-    by (Some l) is None are all e = absurd (let none : option_map (λ (more : List (Option Route)). l ∷ more) None ≡ Some labels = ap (option_map (λ more. l ∷ more)) (sym are) ∙ e in cc)
+    by (Some l) is None are all e =
+        absurd (let none : option_map (λ (more : List (Option Route)). l ∷ more) None ≡ Some labels = ap (option_map (λ more. l ∷ more)) (sym are) ∙ e in cc)
     by None is rest are all e = absurd cc
 
 each_set : (labels : List (Option Route)) → AllByRecursion HasSet labels → All HasSet labels
@@ -163,24 +172,32 @@ each_set [] all k d h = absurd (omega (arith, h))
 each_set (l ∷ labels) all zero d h = all.0
 each_set (l ∷ labels) all (suc k) d h = each_set labels all.1 k d (omega (arith, h))
 
-labels_given : (fault : Option SolRefusal) (line : ℕ) (found : Option (List (Option Route))) (labels : List (Option Route)) → labels_unless fault line found ≡ Ok labels → found ≡ Some labels
+labels_given : (fault : Option SolRefusal) (line : ℕ) (found : Option (List (Option Route))) (labels : List (Option Route))
+    → labels_unless fault line found ≡ Ok labels → found ≡ Some labels
 labels_given None line (Some found) labels e = (let same : found ≡ labels = cc in ap (λ (ls : List (Option Route)). Some ls) same)
 labels_given None line None labels e = absurd cc
 labels_given (Some fault) line found labels e = absurd cc
 
-pub are_labels : (P : Problem) → HasTables P → (text : List ℕ) (labels : List (Option Route)) → labels_of_text P.protocol P.names text ≡ Ok labels → AreLabels P labels
+pub are_labels : (P : Problem) → HasTables P → (text : List ℕ) (labels : List (Option Route)) → labels_of_text P.protocol P.names text ≡ Ok labels
+    → AreLabels P labels
 unfolding labels_of_text labels_by
 are_labels P tables text labels e =
-    let given = labels_given (first_fault P.protocol P.names [] (solution_lines text)) (length (all_lines_of text) + 1) (labels_by (named_labels (solution_lines text)) P.names) labels e in
+    let given =
+    labels_given (first_fault P.protocol P.names [] (solution_lines text)) (length (all_lines_of text) + 1)
+    (labels_by (named_labels (solution_lines text)) P.names) labels e in
     let sets = given_sets (named_labels (solution_lines text)) (lines_sets (solution_lines text)) P.names labels given in
-    record { total = labels_total P.protocol P.names text labels e ∙ tables.names; routes = labels_routes P.protocol P.names text labels e (each_set labels sets) }
+    record {
+      total = labels_total P.protocol P.names text labels e ∙ tables.names;
+      routes = labels_routes P.protocol P.names text labels e (each_set labels sets);
+    }
 
 -- ---- faults
 
 not_memory : (protocol : Protocol) (names earlier : List (List ℕ)) (ls : List TextLine) → first_fault protocol names earlier ls ≡ Some sol_refusal.Memory → ⊥
 unfolding first_fault
 not_memory protocol names earlier [] e = cc
-not_memory protocol names earlier (l ∷ ls) e = by (kind_of protocol names earlier (named_label_of l.words)) (not_memory protocol names (named_too (named_label_of l.words) earlier) ls) e
+not_memory protocol names earlier (l ∷ ls) e =
+    by (kind_of protocol names earlier (named_label_of l.words)) (not_memory protocol names (named_too (named_label_of l.words) earlier) ls) e
   where
     by : (o : Option SolKind) → (first_fault protocol names (named_too (named_label_of l.words) earlier) ls ≡ Some sol_refusal.Memory → ⊥)
         → first_at_line l.number o (first_fault protocol names (named_too (named_label_of l.words) earlier) ls) ≡ Some sol_refusal.Memory → ⊥
