@@ -99,32 +99,28 @@ module _ (n : Network) (number : ℕ) (class : DestClass) (r : Outcome) (is : Is
 
 -- ---- from one command to another
 
--- what another command is to write of a class, where `report` has something to write
-abbrev Comes : ℕ → (Network → DestClass → Outcome → Type 0) → Type 0
-Comes number IsAllowed =
-    (n : Network) (class : DestClass) → Contains (classes_of n) class → (r : Outcome) → IsReported report_text n number class r → SomeOf (IsAllowed n class)
+-- what another command is to write of a class, where the one has something to write
+pub of_number : (n : Network) (number : ℕ) (B A : DestClass → Outcome → Type 0)
+    → ((class : DestClass) → Contains (classes_of n) class → (r : Outcome) → B class r → SomeOf (A class))
+    → (found : Option DestClass) → class_at (classes_of n) number ≡ found → (r : Outcome) → IsOfClass found number B r → SomeOf (IsOfClass found number A)
+of_number n number B A comes None at r is = (refused (no_class number), refl)
+of_number n number B A comes (Some class) at r is = comes class (has_class n number class at) r is
 
-of_number : (n : Network) (number : ℕ) (A : Network → DestClass → Outcome → Type 0) → Comes number A → (found : Option DestClass)
-    → class_at (classes_of n) number ≡ found → (r : Outcome)
-    → IsOfClass found number (IsReported report_text n number) r → SomeOf (IsOfClass found number (A n))
-of_number n number A comes None at r is = (refused (no_class number), refl)
-of_number n number A comes (Some class) at r is = comes n class (has_class n number class at) r is
-
-module _ (number : ℕ) (named : Command) (second other : Option (List ℕ)) (r : Outcome)
-    (answer : (n : Network) → IsAnswerTo (command.Report number) n second r → SomeOf (IsAnswerTo named n other)) where
-  of_reading : (read : Result Network ReadRefusal) → IsOutcomeOfReading (command.Report number) second read r → SomeOf (IsOutcomeOfReading named other read)
+module _ (from named : Command) (second other : Option (List ℕ)) (r : Outcome)
+    (answer : (n : Network) → IsAnswerTo from n second r → SomeOf (IsAnswerTo named n other)) where
+  of_reading : (read : Result Network ReadRefusal) → IsOutcomeOfReading from second read r → SomeOf (IsOutcomeOfReading named other read)
   of_reading (Ok n) is = answer n is
   of_reading (Err (read_refusal.At line kind)) is = (refused (line_reason line kind), refl)
   of_reading (Err read_refusal.Memory) is = absurd is
 
-  of_texts : (text : List ℕ) → IsOutcomeOfText (command.Report number) second text r → SomeOf (IsOutcomeOfText named other text)
+  pub of_texts : (text : List ℕ) → IsOutcomeOfText from second text r → SomeOf (IsOutcomeOfText named other text)
   of_texts text (inl long) = (refused (codes "FileTooLong"), inl (long.0, refl))
   of_texts text (inr short) = (let o = of_reading (reading_of text) short.1 in (o.0, inr (short.0, o.1)))
 
 -- an outcome over the text of the first file is one of the words
 module _ (words : List (List ℕ)) (contents : Contents) (named : Command) (reads : reads_first named ≡ true) (names : command_of words ≡ Some named)
     (text : List ℕ) (told : contents (file_of words) ≡ Some text) where
-  has_outcome : SomeOf (IsOutcomeOfText named (contents (second_of words)) text) → HasOutcome words contents
+  pub has_outcome : SomeOf (IsOutcomeOfText named (contents (second_of words)) text) → HasOutcome words contents
   unfolding IsOutcome
   has_outcome o =
       let files : IsOutcomeOfFiles named (contents (file_of words)) (contents (second_of words)) o.0 =
@@ -143,28 +139,28 @@ outcomes_come_together sound complete has_order rest contents F S text N small h
     let second = contents [] in
     record {
       classes = has_outcome (classes F) contents command.Classes refl (names_classes F) text holds
-          (of_texts N command.Classes second second r (λ n is. (done (classes_text n), refl)) text own);
+          (of_texts (command.Report N) command.Classes second second r (λ n is. (done (classes_text n), refl)) text own);
       groups = has_outcome (groups F N) contents (command.Groups N) refl (names_groups F N small) text holds
-          (of_texts N (command.Groups N) second second r
-          (λ n is. of_number n N IsGroupsOf (λ m class has q x. groups_of_plan m N class q x) (class_at (classes_of n) N) refl r is) text own);
+          (of_texts (command.Report N) (command.Groups N) second second r
+          (λ n is. of_number n N (IsReported report_text n N) (IsGroupsOf n) (λ class has q x. groups_of_plan n N class q x) (class_at (classes_of n) N) refl r is) text own);
       compress = has_outcome (compress F N) contents (command.Compress N) refl (names_compress F N small) text holds
-          (of_texts N (command.Compress N) second second r
-          (λ n is. of_number n N IsCompressOf (λ m class has q x. unless_pool m N class q x (pool_line m class))
+          (of_texts (command.Report N) (command.Compress N) second second r
+          (λ n is. of_number n N (IsReported report_text n N) (IsCompressOf n) (λ class has q x. unless_pool n N class q x (pool_line n class))
           (class_at (classes_of n) N) refl r is) text own);
       json = has_outcome (json F N) contents (command.Json N) refl (names_json F N small) text holds
-          (of_texts N (command.Json N) second second r
-          (λ n is. of_number n N (λ m. IsReported json_text m N) (λ m class has q x. json_of_plan m N class q x)
+          (of_texts (command.Report N) (command.Json N) second second r
+          (λ n is. of_number n N (IsReported report_text n N) (IsReported json_text n N) (λ class has q x. json_of_plan n N class q x)
           (class_at (classes_of n) N) refl r is) text own);
       check = has_outcome (check F N S) contents (command.Check N) refl (names_check F S N small) text holds
-          (of_texts N (command.Check N) second (contents S) r
-          (λ n is. of_number n N (λ m. IsCheckOf m (contents S)) (λ m class has q x. check_of_plan m N class q x has sound complete (contents S) told)
+          (of_texts (command.Report N) (command.Check N) second (contents S) r
+          (λ n is. of_number n N (IsReported report_text n N) (IsCheckOf n (contents S)) (λ class has q x. check_of_plan n N class q x has sound complete (contents S) told)
           (class_at (classes_of n) N) refl r is) text own);
       run = has_outcome (run F N S) contents (command.Run N) refl (names_run F S N small) text holds
-          (of_texts N (command.Run N) second (contents S) r
-          (λ n is. of_number n N (λ m. IsRunOf m (contents S)) (λ m class has q x. run_of_plan m N class q x has rest (contents S) told)
+          (of_texts (command.Report N) (command.Run N) second (contents S) r
+          (λ n is. of_number n N (IsReported report_text n N) (IsRunOf n (contents S)) (λ class has q x. run_of_plan n N class q x has rest (contents S) told)
           (class_at (classes_of n) N) refl r is) text own);
       reach = has_outcome (reach F N S) contents (command.Reach N) refl (names_reach F S N small) text holds
-          (of_texts N (command.Reach N) second (contents S) r
-          (λ n is. of_number n N (λ m. IsReachOf m (contents S)) (λ m class has q x. reach_of_plan m N class q x has sound complete (contents S) told has_order)
+          (of_texts (command.Report N) (command.Reach N) second (contents S) r
+          (λ n is. of_number n N (IsReported report_text n N) (IsReachOf n (contents S)) (λ class has q x. reach_of_plan n N class q x has sound complete (contents S) told has_order)
           (class_at (classes_of n) N) refl r is) text own);
     }

@@ -39,7 +39,7 @@ module _ (P : Problem) (rules : IsProblem P) (A : List (Option Route) → Outcom
   of_result text (Err (sol_refusal.At line kind)) e = (refused (solution_reason line kind), refl)
   of_result text (Err sol_refusal.Memory) e = absurd (no_memory P.protocol P.names text e)
 
-  of_solution : (second : Option (List ℕ)) → IsSome second → SomeOf (IsOfSolution P second A)
+  pub of_solution : (second : Option (List ℕ)) → IsSome second → SomeOf (IsOfSolution P second A)
   of_solution None told = absurd cc
   of_solution (Some text) told = elim (cases_lt solution_limit (length text)) [
     | inl long ↦ (refused long_solution, inl (long, refl))

@@ -2,6 +2,8 @@ mod Again
 mod Agree
 mod Answers
 mod Asked
+mod Carriers
+mod Carrying
 mod Certified
 mod Decided
 mod Down

@@ -7,7 +7,7 @@ use Rattle.bonsai_top.specs.Commands.{command_of}
 use Rattle.bonsai_top.specs.OneOutcome.{AreTold}
 use Rattle.bonsai_top.specs.Outcomes.{IsOutcome}
 use Rattle.workflow_laws.specs.Setting.{Contents, IsShort}
-use Rattle.workflow_laws.specs.Words.{check, classes, compress, groups, json, reach, report, run}
+use Rattle.workflow_laws.specs.Words.{check, classes, compress, fold, groups, json, lift, reach, report, run}
 
 -- The words ask for a certificate, and both outcomes are done.
 pub record AreCertificates (words : List (List ℕ)) (o p : Outcome) : Type 0 where
@@ -42,3 +42,13 @@ pub record HaveOutcomes (contents : Contents) (F S : List ℕ) (N : ℕ) : Type 
 abbrev pub OutcomesComeTogether : Type 0
 OutcomesComeTogether = (contents : Contents) (F S text : List ℕ) (N : ℕ) → IsShort N → contents F ≡ Some text → IsSome (contents S)
     → HasOutcome (report F N) contents → HaveOutcomes contents F S N
+
+-- the commands that carry a solution
+pub record HaveCarried (contents : Contents) (F S : List ℕ) (N : ℕ) : Type 0 where
+  pub fold : HasOutcome (fold F N S) contents
+  pub lift : HasOutcome (lift F N S) contents
+
+-- Where `fold F N S` has an outcome for one S, then whatever T holds `fold F N T` and `lift F N T` have one.
+abbrev pub SolutionsAreCarried : Type 0
+SolutionsAreCarried = (contents : Contents) (F S T text : List ℕ) (N : ℕ) → IsShort N → contents F ≡ Some text → IsSome (contents T)
+    → HasOutcome (fold F N S) contents → HaveCarried contents F T N

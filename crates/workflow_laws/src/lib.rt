@@ -9,7 +9,7 @@ ghost use Rattle.workflow_laws.specs.Again.{CompressedAgain};
 ghost use Rattle.workflow_laws.specs.CarriedDown.{CheckIsFold, WhatIsFoldedIsLifted, WhatIsFoldedIsStableBelow};
 ghost use Rattle.workflow_laws.specs.CarriedUp.{CheckBelowIsLift, WhatIsLiftedIsStable};
 ghost use Rattle.workflow_laws.specs.Certificates.{WhatIsCertifiedIsVerified, WhatIsVerifiedNamesTheGroups};
-ghost use Rattle.workflow_laws.specs.Existence.{OutcomesAgree, OutcomesComeTogether};
+ghost use Rattle.workflow_laws.specs.Existence.{OutcomesAgree, OutcomesComeTogether, SolutionsAreCarried};
 ghost use Rattle.workflow_laws.specs.Orders.{WhatIsReachedRests};
 ghost use Rattle.workflow_laws.specs.Questions.{SmallAnswersForLarge};
 
@@ -22,7 +22,9 @@ use given_laws::given_is_well_formed;
 use quotient_laws::{pictures_agree, questions_carry, quotient_is_smallest};
 use reading_laws::what_is_read_is_well;
 use route_run::laws::{one_order, rest};
-use srp_core::laws::listed_candidates;
+use srp_core::laws::{
+    equal_keys, folds, lifts, lifts_and_folds_exist, listed_candidates, ospf_folds, ospf_lifts,
+};
 use srp_quotient::laws::quotient_is_quotient;
 
 /// `check` of the small network and `lift` of the large one have one outcome, but for what is written
@@ -127,4 +129,18 @@ pub fn outcomes_come_together()
     listed_candidates();
     one_order();
     rest();
+}
+
+/// Where `fold` has an outcome for one solution, `fold` and `lift` have one for each.
+pub fn solutions_are_carried()
+    ensures { SolutionsAreCarried }
+{
+    listed_candidates();
+    lifts_and_folds_exist();
+    folds();
+    lifts();
+    ospf_folds();
+    ospf_lifts();
+    equal_keys();
+    quotient_is_quotient();
 }
