@@ -1,5 +1,6 @@
 -- Stable labels are folded, and stable labels of the groups are lifted: there are such labels.
-use Rattle.std.proofs.Common.{◌≡◌, ◌⊎◌, inl, inr, ℕ, zero, suc, ◌+◌, ◌<◌, ◌≤◌, List, [], ◌∷◌, map, length, refl, sym, ap, ◌∙◌, subst, arith, get_or, Option, Some, None}
+use Rattle.std.proofs.Common.{◌≡◌, ◌⊎◌, inl, inr, ℕ, zero, suc, ◌+◌, ◌<◌, ◌≤◌, List, [], ◌∷◌, map}
+use Rattle.std.proofs.Common.{length, refl, sym, ap, ◌∙◌, subst, arith, get_or, Option, Some, None}
 use Rattle.std.specs.List.{range_with_len}
 use Rattle.std.proofs.lemmas.Bool.{cases_lt}
 use Rattle.std.proofs.lemmas.List.{length-map}
@@ -64,7 +65,8 @@ by_place f n = map f (range_with_len 0 n)
 
 at_place : (f : ℕ → Option Route) (n u : ℕ) → u < n → label (by_place f n) u ≡ f u
 unfolding by_place
-at_place f n u h = map_at (range_with_len 0 n) u (let long = length-range_with_len 0 n in omega (arith, long, h)) ∙ ap f (get_or-range_with_len 0 n u 0 h ∙ (let e : 0 + u ≡ u = omega arith in e))
+at_place f n u h = map_at (range_with_len 0 n) u (let long = length-range_with_len 0 n in omega (arith, long, h))
+    ∙ ap f (get_or-range_with_len 0 n u 0 h ∙ (let e : 0 + u ≡ u = omega arith in e))
   where
     map_at : (xs : List ℕ) (k : ℕ) → k < length xs → label (map f xs) k ≡ f (get_or xs k 0)
     map_at [] k h = absurd (omega (arith, h))
@@ -77,10 +79,12 @@ place_long f n = length-map (range_with_len 0 n) f ∙ length-range_with_len 0 n
 
 module _ (laws : HasCarrying) (P Q : Problem) (groups : List ℕ) (p : IsPair P Q groups) where
   -- routes of OSPF that have equal keys are equal
-  same_cost : P.protocol ≡ OverOspf → (labels : List (Option Route)) → IsStable P labels → (u v : ℕ) → HaveSameKeys P P (label labels u) (label labels v) → label labels u ≡ label labels v
+  same_cost : P.protocol ≡ OverOspf → (labels : List (Option Route)) → IsStable P labels → (u v : ℕ)
+      → HaveSameKeys P P (label labels u) (label labels v) → label labels u ≡ label labels v
   same_cost over labels stable u v (HaveSameKeys.both_none none other) = none ∙ sym other
   same_cost over labels stable u v (HaveSameKeys.both_some r s is other keys) =
-      is ∙ ap (λ (x : Route). Some x) (by r s (subst (λ q. IsRouteOf q r) over (stable.fitting.routes u r is)) (subst (λ q. IsRouteOf q s) over (stable.fitting.routes v s other)) (ap (λ (k : Key). k.size) keys)) ∙ sym other
+      is ∙ ap (λ (x : Route). Some x) (by r s (subst (λ q. IsRouteOf q r) over (stable.fitting.routes u r is))
+      (subst (λ q. IsRouteOf q s) over (stable.fitting.routes v s other)) (ap (λ (k : Key). k.size) keys)) ∙ sym other
     where
       by : (a b : Route) → IsRouteOf OverOspf a → IsRouteOf OverOspf b → size_of a ≡ size_of b → a ≡ b
       by (Ospf cost) (Ospf other) x y same = (λ j. Ospf (same j))
@@ -95,7 +99,8 @@ module _ (laws : HasCarrying) (P Q : Problem) (groups : List ℕ) (p : IsPair P 
     unfolding pick
     picked over u h = by (cases_lt (group_of groups u) (count Q))
       where
-        by : (c : (group_of groups u < count Q) ⊎ (count Q ≤ group_of groups u)) → elim c [ inl h ↦ label labels (p.quotient.onto (group_of groups u) h).0 | inr past ↦ None ] ≡ label labels u
+        by : (c : (group_of groups u < count Q) ⊎ (count Q ≤ group_of groups u))
+            → elim c [ inl h ↦ label labels (p.quotient.onto (group_of groups u) h).0 | inr past ↦ None ] ≡ label labels u
         by (inl inside) =
             let v = p.quotient.onto (group_of groups u) inside in
             same_cost over labels stable v.0 u (laws.equal_keys P groups labels p.rules p.admissible stable v.0 u v.1 h v.2)
@@ -119,7 +124,8 @@ module _ (laws : HasCarrying) (P Q : Problem) (groups : List ℕ) (p : IsPair P 
           lower,
           record {
             stable = laws.costs_stable P Q groups labels lower p.rules p.small_rules p.admissible p.quotient over stable (place_long pick (count Q)) costs;
-            corresponds = laws.costs_correspond P Q groups labels lower p.rules p.small_rules p.admissible p.quotient over stable (place_long pick (count Q)) costs;
+            corresponds = laws.costs_correspond P Q groups labels lower p.rules p.small_rules p.admissible p.quotient over stable
+                (place_long pick (count Q)) costs;
             routes = λ e. absurd (let no : OverOspf ≡ OverBgp = sym over ∙ e in cc);
             costs = λ e. costs;
           },
@@ -149,7 +155,8 @@ module _ (laws : HasCarrying) (P Q : Problem) (groups : List ℕ) (p : IsPair P 
           labels,
           record {
             stable = laws.lifted_stable P Q groups labels lower p.rules p.small_rules p.admissible p.quotient below stable (place_long f (count P)) costs;
-            corresponds = laws.lifted_correspond P Q groups labels lower p.rules p.small_rules p.admissible p.quotient below stable (place_long f (count P)) costs;
+            corresponds = laws.lifted_correspond P Q groups labels lower p.rules p.small_rules p.admissible p.quotient below stable
+                (place_long f (count P)) costs;
             routes = λ e. absurd (let no : OverOspf ≡ OverBgp = sym over ∙ e in cc);
             costs = λ e. costs;
           },
