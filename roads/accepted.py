@@ -1,12 +1,21 @@
 """Texts that the program accepts, which is what the tools behind it read."""
 from __future__ import annotations
 
-from roads.program import NotAnswered, Program, Status
+from roads.command_line import Refused
+from roads.program import Class, NotAnswered, Program, Status, classes_of
 
 
-def accepted_text(program: Program, text: bytes, name: str) -> str:
-    """The text of bytes that the program accepts. NotAnswered, with the name and the program's reason, where it does not."""
-    answer = program.ask("classes", "F", texts={"F": text})
+def accepted_classes(program: Program, raw: bytes, name: str) -> list[Class]:
+    """The classes of a text. Refused, with its name, the program's reason and the tool for all refusals, where the program does not accept it."""
+    answer = program.ask("classes", "F", texts={"F": raw})
+    if answer.status == Status.REFUSED:
+        raise Refused(f"{name}: {answer.reason}; tools/bonsai-refusals tells all refusals")
     if answer.status != Status.DONE:
         raise NotAnswered(answer, f"classes {name}")
-    return text.decode("ascii")
+    return classes_of(answer.text)
+
+
+def accepted_text(program: Program, raw: bytes, name: str) -> str:
+    """The text of bytes that the program accepts. Refused where it does not."""
+    accepted_classes(program, raw, name)
+    return raw.decode("ascii")

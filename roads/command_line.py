@@ -1,16 +1,18 @@
 """What all tools share at their command line: `--version`, `-` for standard input, one line for each failure, and exit statuses.
 
-0 done, 1 the input was refused, 2 the words are wrong, 3 a file could not be read, 4 the output did not take all bytes,
+0 done, 1 the input was refused, 2 the words are wrong, 3 a file could not be read, 4 the output could not be written,
 130 interrupted.
 """
 from __future__ import annotations
 
 import argparse
+import contextlib
+import errno
 import importlib
 import os
 import subprocess
 import sys
-from collections.abc import Callable
+from collections.abc import Callable, Iterator
 
 from roads.manual import Manual
 from roads.program import TOP, NotAnswered
@@ -45,6 +47,11 @@ def read_input(name: str) -> bytes:
         return file.read()
 
 
+def name_of(file: str) -> str:
+    """What a file of the command line is called."""
+    return "standard input" if file == "-" else file
+
+
 def write_output(name: str, made: bytes, source: str = "-") -> None:
     """Writes a file whole or not at all; `-` is standard output. Refused where the file is the one that was read."""
     if name == "-":
@@ -53,22 +60,32 @@ def write_output(name: str, made: bytes, source: str = "-") -> None:
         return
     if source != "-" and os.path.exists(name) and os.path.samefile(source, name):
         raise Refused(f"{name}: is the file that is read")
+    with kept(name, made):
+        pass
+
+
+@contextlib.contextmanager
+def kept(name: str, made: bytes) -> Iterator[None]:
+    """Writes a file that is in its place at the end of the context, and nowhere where the context fails. What is no file is written at once."""
     whole = os.path.realpath(name)
-    if os.path.exists(whole) and not os.path.isfile(whole):
-        with open(whole, "wb") as file:
-            file.write(made)
-        return
-    part = f"{whole}.{os.getpid()}.part"
+    part = whole if os.path.exists(whole) and not os.path.isfile(whole) else f"{whole}.{os.getpid()}.part"
     try:
-        with open(part, "xb") as file:
-            file.write(made)
-        os.replace(part, whole)
-    except BaseException as fault:
-        if os.path.exists(part):
+        try:
+            with open(part, "xb" if part != whole else "wb") as file:
+                file.write(made)
+        except OSError as fault:
+            raise not_written(name, fault) from None
+        yield
+        if part != whole:
+            os.replace(part, whole)
+    finally:
+        if part != whole and os.path.exists(part):
             os.unlink(part)
-        if isinstance(fault, OSError):
-            fault.filename = name
-        raise
+
+
+def not_written(name: str | os.PathLike[str], fault: OSError) -> OSError:
+    """The fault of a file that was not written, which ends a tool with status 4."""
+    return OSError(fault.errno or errno.EIO, f"{os.fspath(name)}: {fault.strerror}")
 
 
 def run(name: str, work: Callable[[], int | None]) -> int:

@@ -9,10 +9,12 @@ import sys
 from collections.abc import Callable, Hashable, Iterable, Sequence
 from typing import TypeVar
 
+from roads.accepted import accepted_classes
 from roads.command_line import Refused
 from roads.network import End, Network, read_network
 from roads.profile import Device
 from roads.program import Class, Group, NotAnswered, Program, Size, Status
+from roads.words import counted
 
 Item = TypeVar("Item")
 Made = TypeVar("Made")
@@ -82,7 +84,7 @@ class Asked:
 
         def compress_and_tell(number: int) -> Compressed:
             found = self.compress(program, number)
-            print(f"\r{teller}: {next(done)} of {len(numbers)} classes ", end="", file=sys.stderr, flush=True)
+            print(f"\r{teller}: {next(done)} of {counted(len(numbers), 'class', 'classes')} ", end="", file=sys.stderr, flush=True)
             return found
 
         try:
@@ -101,9 +103,9 @@ def side_by_side(work: Callable[[Item], Made], items: Iterable[Item]) -> list[Ma
 
 
 def asked(program: Program, raw: bytes, name: str) -> Asked:
-    """What the program says of a text. NotAnswered where it refuses it."""
-    text = raw.decode("ascii", "surrogateescape")
-    classes = program.classes(raw)
+    """What the program says of a text. Refused where it does not accept it."""
+    classes = accepted_classes(program, raw, name)
+    text = raw.decode("ascii")
     sizes = program.summary(raw)
     network = read_network(text, name)
     if sizes:
@@ -137,5 +139,5 @@ def _how_many(count: int) -> str:
 def _must_agree(name: str, network: Network, routers: int, links: int) -> None:
     """A fault of ours is told and never drawn."""
     if (len(network.devices), len(network.links)) != (routers, links):
-        found = f"{len(network.devices)} routers and {len(network.links)} links"
+        found = f"{counted(len(network.devices), 'router')} and {counted(len(network.links), 'link')}"
         raise Refused(f"{name}: read here with {found}, where the program counts {routers} and {links}")

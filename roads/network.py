@@ -91,6 +91,16 @@ class Network:
         return dict(found)
 
     @functools.cached_property
+    def cables(self) -> dict[IPv4Network, list[End]]:
+        """The interfaces of each subnet in order, those that are shut among them, where there are several."""
+        found: dict[IPv4Network, list[End]] = defaultdict(list)
+        for device in self.devices:
+            for interface in device.interfaces:
+                if interface.address is not None:
+                    found[interface.address.network].append(End(device, interface))
+        return {subnet: ends for subnet, ends in found.items() if len(ends) > 1}
+
+    @functools.cached_property
     def links(self) -> list[Link]:
         """The sessions or adjacencies, by the order of their lines: lower end first, then higher."""
         return self._sessions() if self.protocol == "bgp" else self._adjacencies()

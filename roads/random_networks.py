@@ -10,14 +10,18 @@ FIRST_LINK = IPv4Address("172.16.0.0")
 
 
 def random_text(seed: int) -> str:
-    """A network of four to eight routers: a tree with more links, one or two originators, and maps or costs."""
+    """A network of four to eight routers: a tree with more links, one or two originators, and maps or costs.
+
+    Ports of the links beyond the tree may be shut, and in OSPF passive, by lines in any order.
+    """
     chance = random.Random(seed)
+    spare = random.Random(f"spare {seed}")
     count = chance.randint(4, 8)
     pairs = [(chance.randrange(place), place) for place in range(1, count)]
     pairs += [tuple(sorted(chance.sample(range(count), 2))) for _ in range(chance.randint(1, count))]
     origins = chance.sample(range(count), chance.randint(1, 2))
     write = _bgp if seed % 3 else _ospf
-    return "".join(f"{line}\n" for place in range(count) for line in write(chance, place, pairs, origins))
+    return "".join(f"{line}\n" for place in range(count) for line in write(chance, spare, place, pairs, origins))
 
 
 def _ports(place: int, pairs: list[tuple[int, int]]) -> list[tuple[int, int, IPv4Address, IPv4Address]]:
@@ -31,22 +35,42 @@ def _ports(place: int, pairs: list[tuple[int, int]]) -> list[tuple[int, int, IPv
     return found
 
 
-def _ospf(chance: random.Random, place: int, pairs: list[tuple[int, int]], origins: list[int]) -> list[str]:
-    lines = [f"hostname r{place}"]
+def _is_beyond_the_tree(number: int, pairs: list[tuple[int, int]]) -> bool:
+    return number >= max(high for _, high in pairs)
+
+
+def _ospf(chance: random.Random, spare: random.Random, place: int, pairs: list[tuple[int, int]], origins: list[int]) -> list[str]:
+    lines, passive, active = [f"hostname r{place}"], [], []
     if place in origins:
         lines += ["interface Vlan1", f" ip address 10.0.0.{place + 1} 255.255.255.0", f" ip ospf cost {chance.choice([1, 10])}"]
+        passive.append("Vlan1")
     for number, _, own, _ in _ports(place, pairs):
-        lines += [f"interface GigabitEthernet0/{number}", f" ip address {own} 255.255.255.254", f" ip ospf cost {chance.choice([1, 1, 5, 65535])}"]
-    return [*lines, "router ospf 1", *([" passive-interface Vlan1"] if place in origins else []), " network 0.0.0.0 255.255.255.255 area 0", "end"]
+        name = f"GigabitEthernet0/{number}"
+        lines += [f"interface {name}", f" ip address {own} 255.255.255.254", f" ip ospf cost {chance.choice([1, 1, 5, 65535])}"]
+        is_spare = _is_beyond_the_tree(number, pairs)
+        lines += [" shutdown"] if is_spare and spare.random() < 0.1 else []
+        (passive if is_spare and spare.random() < 0.2 else active).append(name)
+    return [*lines, "router ospf 1", *_passive_lines(spare, passive, active), " network 0.0.0.0 255.255.255.255 area 0", "end"]
 
 
-def _bgp(chance: random.Random, place: int, pairs: list[tuple[int, int]], origins: list[int]) -> list[str]:
+def _passive_lines(spare: random.Random, passive: list[str], active: list[str]) -> list[str]:
+    """Lines that make some interfaces passive and others not, in either form, in any order, and among them some without effect."""
+    idle = spare.sample([*passive, *active], spare.randint(0, 1))
+    if spare.random() < 0.5:
+        lines = [*(f" passive-interface {name}" for name in passive), *(f" no passive-interface {name}" for name in idle)]
+    else:
+        lines = [" passive-interface default", *(f" no passive-interface {name}" for name in active), *(f" passive-interface {name}" for name in idle)]
+    return spare.sample(lines, len(lines))
+
+
+def _bgp(chance: random.Random, spare: random.Random, place: int, pairs: list[tuple[int, int]], origins: list[int]) -> list[str]:
     lines = [f"hostname r{place}"]
     if place in origins:
         lines += ["interface Vlan1", f" ip address 10.0.0.{place + 1} 255.255.255.0"]
     ports = _ports(place, pairs)
     for number, _, own, _ in ports:
         lines += [f"interface GigabitEthernet0/{number}", f" ip address {own} 255.255.255.254"]
+        lines += [" shutdown"] if _is_beyond_the_tree(number, pairs) and spare.random() < 0.1 else []
     lines.append(f"router bgp {65001 + place}")
     if chance.random() < 0.2:
         lines.append(f" bgp default local-preference {chance.choice([50, 150])}")

@@ -4,7 +4,7 @@ from __future__ import annotations
 import argparse
 import json
 
-from roads.command_line import Refused, parser, read_input
+from roads.command_line import Refused, name_of, parser, read_input
 from roads.compressed import Asked, asked
 from roads.document.build import document
 from roads.program import TOP, Program
@@ -25,7 +25,7 @@ def words() -> argparse.ArgumentParser:
 def work(arguments: argparse.Namespace) -> None:
     """Writes the document."""
     program = Program()
-    text = asked(program, read_input(arguments.file), "standard input" if arguments.file == "-" else arguments.file)
+    text = asked(program, read_input(arguments.file), name_of(arguments.file))
     made = document(text, text.compress_each(program, chosen(text, arguments.numbers), "bonsai-json"))
     if arguments.check:
         check(made)

@@ -5,7 +5,7 @@ import argparse
 import json
 from collections.abc import Iterator
 
-from roads.command_line import Refused, parser, read_input
+from roads.command_line import Refused, name_of, parser, read_input
 from roads.compressed import Asked, asked
 from roads.doubts.agreement import doubts_of_agreement
 from roads.doubts.finding import SORTS, Doubt
@@ -15,7 +15,7 @@ from roads.doubts.policies import doubts_of_policies
 from roads.doubts.suggested import doubts_of_folder
 from roads.doubts.ties import doubts_of_ties
 from roads.importing.read import read_folder
-from roads.program import NotAnswered, Program
+from roads.program import Program
 
 PURPOSE = """Lists what a text says that Bonsai accepts and that is likely not meant.
 
@@ -42,8 +42,8 @@ def words() -> argparse.ArgumentParser:
 def work(arguments: argparse.Namespace) -> None:
     """Writes the doubts."""
     program = Program()
-    name = "standard input" if arguments.file == "-" else arguments.file
-    text = _asked(program, read_input(arguments.file), name)
+    name = name_of(arguments.file)
+    text = asked(program, read_input(arguments.file), name)
     folder = read_folder(arguments.folder) if arguments.folder else None
     found = [*doubts_of_links(text.network), *doubts_of_agreement(text.network), *doubts_of_policies(text.network)]
     if not arguments.no_ties:
@@ -87,13 +87,3 @@ def _told(one: Doubt) -> str:
 def _one_json(one: Doubt) -> dict[str, object]:
     place = {"file": one.place.file, "line": one.place.line} if one.place else {"file": None, "line": None}
     return {"sort": one.sort, "routers": one.router.split(), **place, "text": one.text, "told": one.told}
-
-
-def _asked(program: Program, raw: bytes, name: str) -> Asked:
-    """What the program says of the text. Refused, with the way to all refusals, where it is not accepted."""
-    try:
-        return asked(program, raw, name)
-    except NotAnswered as fault:
-        if "refused" in fault.answer.reason:
-            raise Refused(f"{name}: {fault.answer.reason}; tools/bonsai-refusals tells all refusals") from None
-        raise

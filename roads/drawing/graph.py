@@ -8,6 +8,7 @@ from roads.compressed import Compressed
 from roads.drawing.policy import direction
 from roads.network import Link, Network
 from roads.program import Group
+from roads.words import counted
 
 
 @dataclasses.dataclass(frozen=True)
@@ -69,7 +70,7 @@ def large(network: Network, compressed: Compressed) -> Graph:
     """The network before compression, router by router."""
     group_of = compressed.group_of()
     nodes = [Node(device.name, group_of[device.name], (device.name,)) for device in network.devices]
-    title = f"before: {_count(compressed.size.routers, 'router')}, {_count(compressed.size.links, 'link')}"
+    title = f"before: {counted(compressed.size.routers, 'router')}, {counted(compressed.size.links, 'link')}"
     return Graph("before", title, nodes, _alike(network))
 
 
@@ -81,19 +82,15 @@ def large_by_groups(network: Network, compressed: Compressed) -> Graph:
     for link in network.links:
         ends = sorted((group_of[link.low.device.name], group_of[link.high.device.name]), key=lambda group: group.number)
         counts[ends[0].members[0], ends[1].members[0]] += 1
-    title = f"before: {_count(compressed.size.routers, 'router')}, {_count(compressed.size.links, 'link')}, drawn by groups and counts"
+    title = f"before: {counted(compressed.size.routers, 'router')}, {counted(compressed.size.links, 'link')}, drawn by groups and counts"
     return Graph("before", title, nodes, [Edge(*ends, count=count) for ends, count in counts.items()])
 
 
 def small(compressed: Compressed) -> Graph:
     """The network that `compress` writes, with a node for each group."""
     nodes = [Node(group.members[0], group, group.members) for group in compressed.groups]
-    title = f"after: {_count(compressed.size.groups, 'router')}, {_count(compressed.size.links_after, 'link')}"
+    title = f"after: {counted(compressed.size.groups, 'router')}, {counted(compressed.size.links_after, 'link')}"
     return Graph("after", title, nodes, _alike(compressed.network))
-
-
-def _count(number: int, word: str) -> str:
-    return f"{number} {word}{'' if number == 1 else 's'}"
 
 
 def _alike(network: Network) -> list[Edge]:

@@ -6,7 +6,7 @@ import os
 
 import graphviz
 
-from roads.command_line import Refused, parser, read_input, write_output
+from roads.command_line import Refused, name_of, parser, read_input, write_output
 from roads.compressed import Asked, Compressed, asked
 from roads.drawing.graph import Graph, large, large_by_groups, small
 from roads.drawing.layout import laid_out, picture
@@ -33,7 +33,7 @@ def words() -> argparse.ArgumentParser:
 def work(arguments: argparse.Namespace) -> None:
     """Draws what the words ask for."""
     program = Program()
-    text = asked(program, read_input(arguments.file), "standard input" if arguments.file == "-" else arguments.file)
+    text = asked(program, read_input(arguments.file), name_of(arguments.file))
     found = text.compress(program, arguments.number)
     if found.refusal and arguments.part != "before":
         raise Refused(f"bonsai compress: {found.refusal}: the network before can be drawn with --part before")

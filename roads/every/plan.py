@@ -8,7 +8,7 @@ from collections import Counter
 from collections.abc import Hashable
 from pathlib import Path
 
-from roads.command_line import Refused
+from roads.command_line import Refused, not_written
 from roads.compressed import asked, side_by_side
 from roads.program import Class, Program
 
@@ -36,13 +36,12 @@ class Plan:
         return told | {"asked": list(self.asked), "stands_for": {str(number): first for number, first in self.stands_for.items()}}
 
 
-def plan(program: Program, raw: bytes, executable: Path, command: str, then: str, is_each: bool) -> tuple[Plan, list[Class]]:
+def plan(program: Program, raw: bytes, classes: list[Class], executable: Path, command: str, then: str, is_each: bool) -> Plan:
     """What is to be done for a text: all classes, or of those that are alike but for their prefixes the first."""
-    classes = program.classes(raw)
     numbers = [found.number for found in classes]
     stands_for = {number: number for number in numbers} if is_each else first_of_equals(numbers, _shapes(program, raw, numbers))
     asked = tuple(sorted(set(stands_for.values())))
-    return Plan(command, then, asked, stands_for, _digest(raw), _digest(executable.read_bytes())), classes
+    return Plan(command, then, asked, stands_for, _digest(raw), _digest(executable.read_bytes()))
 
 
 def first_of_equals(numbers: list[int], shapes: list[Hashable]) -> dict[int, int]:
@@ -53,15 +52,21 @@ def first_of_equals(numbers: list[int], shapes: list[Hashable]) -> dict[int, int
 
 def begin(folder: Path, made: Plan, classes: list[Class], raw: bytes, is_resumed: bool) -> None:
     """Makes the folder, or sees that it is that of the same plan. Refused where it is not, or where it has anything and is not resumed."""
-    folder.mkdir(parents=True, exist_ok=True)
+    try:
+        folder.mkdir(parents=True, exist_ok=True)
+    except OSError as fault:
+        raise not_written(folder, fault) from None
     if is_resumed:
         _must_be_of(folder, made)
     elif any(folder.iterdir()):
         hint = ": --resume goes on with what it has" if (folder / PLAN).exists() else ""
         raise Refused(f"{folder}: the folder is not empty{hint}")
-    (folder / TEXT).write_bytes(raw)
-    (folder / INDEX).write_text("".join(f"{line}\n" for line in _index(made, classes)))
-    (folder / PLAN).write_text(json.dumps(made.plain, indent=1) + "\n")
+    try:
+        (folder / TEXT).write_bytes(raw)
+        (folder / INDEX).write_text("".join(f"{line}\n" for line in _index(made, classes)))
+        (folder / PLAN).write_text(json.dumps(made.plain, indent=1) + "\n")
+    except OSError as fault:
+        raise not_written(folder, fault) from None
 
 
 def _shapes(program: Program, raw: bytes, numbers: list[int]) -> list[Hashable]:

@@ -5,11 +5,13 @@ import argparse
 import sys
 from pathlib import Path
 
-from roads.command_line import parser, read_input
+from roads.accepted import accepted_classes
+from roads.command_line import name_of, parser, read_input
 from roads.every.jobs import Where, must_have_parallel, run
 from roads.every.plan import begin, plan
 from roads.native import native
 from roads.program import Program
+from roads.words import counted
 
 COMMANDS = ("compress", "groups", "report", "json", "certify")
 PURPOSE = """Runs compress, or another command, for every class of a network and keeps each answer in a file of its own.
@@ -39,14 +41,15 @@ def work(arguments: argparse.Namespace) -> int:
     program = Program()
     executable = native(program)
     raw = read_input(arguments.file)
-    made, classes = plan(Program(str(executable)), raw, executable, arguments.command, arguments.then, arguments.each)
     must_have_parallel()
+    classes = accepted_classes(program, raw, name_of(arguments.file))
+    made = plan(Program(str(executable)), raw, classes, executable, arguments.command, arguments.then, arguments.each)
     begin(arguments.folder, made, classes, raw, arguments.resume)
     if not made.asked:
         print("bonsai-every: the network has no class, so nothing is asked", file=sys.stderr)
         return 0
     if len(made.asked) < len(classes):
-        told = f"{len(classes)} classes, {len(made.asked)} asked: those that are alike but for their prefixes once"
+        told = f"{counted(len(classes), 'class', 'classes')}, {len(made.asked)} asked: those that are alike but for their prefixes once"
         print(f"bonsai-every: {told}, see {arguments.folder}/index.tsv", file=sys.stderr)
     has_bar = sys.stderr.isatty() and not arguments.no_progress
     failures = run(arguments.folder, made, executable, Where(arguments.sshlogin, arguments.ssh, arguments.jobs, has_bar))

@@ -5,6 +5,7 @@
 from __future__ import annotations
 
 import re
+from ipaddress import IPv4Network
 from itertools import product
 
 from roads.exporting.doubts import doubts_of
@@ -22,6 +23,7 @@ RULES = {
     "address-length": "FRR takes `ip address A/LENGTH`.",
     "cost": "FRR takes its default cost from the bandwidth of the interface, so each interface in the area gets its cost by a line.",
     "point-to-point": "Two ends of a wire need no designated router, and a loopback of a shorter mask than /32 is announced with its length.",
+    "process-number": "FRR numbers a process of OSPF only where a router runs several.",
     "router-id": "FRR picks its identifier from the interfaces that it has at the time; the highest address that is up is written, so that it is the same each time.",
     "requires-policy": "FRR takes no route from an external neighbour without a policy, and IOS takes all.",
     "import-check": "A network is originated only where the router has it as a connected subnet.",
@@ -63,7 +65,7 @@ def export(network: Network, with_lab_timers: bool = False) -> Exported:
     linked = linked_interfaces(network)
     ends = active_ends(network)
     for device in network.devices:
-        router = _Router(device, exported, linked, ends, with_lab_timers)
+        router = _Router(device, exported, linked, ends, set(network.cables) if with_lab_timers else None)
         exported.files[f"{device.name}.conf"] = router.text()
     doubts_of(network, Writer(RULES, exported))
     return exported
@@ -103,12 +105,15 @@ def router_id(device: Device) -> str:
 class _Router:
     """Writes one router."""
 
-    def __init__(self, device: Device, exported: Exported, linked: set[tuple[str, str]], ends: dict[tuple[str, str], int], with_lab_timers: bool) -> None:
+    def __init__(
+        self, device: Device, exported: Exported, linked: set[tuple[str, str]], ends: dict[tuple[str, str], int], cables: set[IPv4Network] | None
+    ) -> None:
+        """`cables` are the subnets that a lab wires, or none outside of a lab."""
         self.device = device
         self.writer = Writer(RULES, exported)
         self.linked = linked
         self.ends = ends
-        self.with_lab_timers = with_lab_timers
+        self.cables = cables
         self.names = interface_names(device, linked)
         self.lists = _list_names(device)
 
@@ -147,12 +152,15 @@ class _Router:
         if interface.address:
             writer.put(f" ip address {interface.address}", interface.lines["address"], "address-length")
         if is_in_area(device, interface):
-            writer.put(f" ip ospf cost {interface.cost_in_area}", interface.lines.get("cost", interface.line), "cost")
+            if "cost" in interface.lines:
+                writer.put(f" ip ospf cost {interface.cost}", interface.lines["cost"], "cost")
+            else:
+                writer.add(f" ip ospf cost {interface.cost_in_area}", interface.line, "cost")
             is_pair = self.ends.get((device.name, interface.name)) == 2
             is_short = interface.address.network.prefixlen < 32
             if is_pair or is_stub and is_short and name.startswith("Loopback"):
                 writer.add(" ip ospf network point-to-point", interface.line, "point-to-point")
-            if self.with_lab_timers and not is_stub:
+            if self.cables and interface.address.network in self.cables:
                 writer.add(" ip ospf hello-interval 1", interface.line, "lab-timers")
                 writer.add(f" ip ospf dead-interval {40 if is_pair else 8}", interface.line, "lab-timers")
         elif "cost" in interface.lines:
@@ -221,15 +229,15 @@ class _Router:
 
     def _bgp(self) -> None:
         writer, process = self.writer, self.device.bgp
-        writer.put(f"router bgp {process.number}", process.line, "router-id")
+        writer.put(f"router bgp {process.number}", process.line, "no-bearing")
         writer.add(f" bgp router-id {router_id(self.device)}", process.line, "router-id")
         writer.add(" no bgp ebgp-requires-policy", process.line, "requires-policy")
         writer.add(" bgp network import-check", process.line, "import-check")
-        if self.with_lab_timers:
+        if self.cables is not None:
             for line in ("timers bgp 30 90", "bgp graceful-restart-disable"):
                 writer.add(f" {line}", process.line, "lab-timers")
         if process.preference is not None:
-            writer.put(f" bgp default local-preference {process.preference}", process.preference_line, "router-id")
+            writer.put(f" bgp default local-preference {process.preference}", process.preference_line, "no-bearing")
         for neighbor in process.neighbors.values():
             self._session(neighbor)
         writer.add(" address-family ipv4 unicast", process.line, "address-family")
@@ -248,7 +256,7 @@ class _Router:
             writer.put(f" neighbor {address} description {neighbor.descriptions[-1]}", neighbor.lines["description"], "no-bearing")
         if neighbor.is_shut:
             writer.put(f" neighbor {address} shutdown", neighbor.lines["shut"], "no-bearing")
-        if self.with_lab_timers:
+        if self.cables is not None:
             writer.add(f" neighbor {address} timers connect 1", neighbor.line, "lab-timers")
             writer.add(f" neighbor {address} advertisement-interval 0", neighbor.line, "lab-timers")
 
@@ -270,9 +278,9 @@ class _Router:
 
     def _ospf(self) -> None:
         writer, process = self.writer, self.device.ospf
-        writer.put("router ospf", process.line, "router-id")
+        writer.put("router ospf", process.line, "process-number")
         writer.add(f" ospf router-id {router_id(self.device)}", process.line, "router-id")
-        if self.with_lab_timers:
+        if self.cables is not None:
             for line in ("timers throttle spf 50 100 500", "timers throttle lsa all 0", "timers lsa min-arrival 0"):
                 writer.add(f" {line}", process.line, "lab-timers")
         for line in sorted(process.passive_lines, key=is_default, reverse=True):

@@ -23,6 +23,7 @@ RULES = {
     "point-to-point": "Two ends of a wire need no designated router, for which IOS waits 40 seconds; a loopback of a shorter mask than /32 is announced as /32 but for this line.",
     "new-format": "Communities are shown as A:B only after `ip bgp-community new-format`.",
     "range": "IOS refuses a range whose `ge` is the length of the prefix.",
+    "entry-number": "IOS numbers the entries of a prefix list up to 4294967294.",
     "deletions-first": "The deletions of an entry stand before its additions, which is the order in which they run.",
     "passive-nowhere": "The router has no interface of this name.",
     "passive-order": "The line has no effect here, and a device would take the last one of its interface.",
@@ -32,8 +33,8 @@ RULES = {
     "edge-of-subnet": "An address that is the first or last of its subnet is the subnet itself or its broadcast, and IOS refuses it.",
     "own-wire": "A prefix of this class is a wire that a session runs over, so a route for it can take the session down.",
     "subinterface": "A subinterface of a LAN port takes no address without its `encapsulation` line, which is left out here, and needs its port up.",
-    "subinterface": "A subinterface of a LAN port takes no address without its `encapsulation` line, which is left out here, and needs its port up.",
 }
+HIGHEST_ENTRY = 4294967294
 WITHOUT_PORT = ("Vlan", "Loopback", "Tunnel", "BVI", "Null")
 
 
@@ -61,6 +62,15 @@ def interface_names(device: Device, linked: set[tuple[str, str]]) -> dict[str, s
                 named[interface.name] = f"GigabitEthernet0/{number}"
                 taken.add(named[interface.name])
     return named
+
+
+def entry_numbers(sequences: list[int]) -> list[int]:
+    """The numbers of the entries of a prefix list, which ascend: the last ones lowered as far as IOS takes them."""
+    found, next_one = [], HIGHEST_ENTRY + 1
+    for sequence in reversed(sequences):
+        next_one = min(sequence, next_one - 1)
+        found.append(next_one)
+    return found[::-1]
 
 
 class _Router:
@@ -176,9 +186,10 @@ class _Router:
     def _lists(self) -> None:
         writer = self.writer
         for name, entries in self.device.prefix_lists.items():
-            for entry in entries:
+            for entry, number in zip(entries, entry_numbers([entry.sequence for entry in entries])):
                 act = "permit" if entry.is_permit else "deny"
-                writer.put(f"ip prefix-list {name} seq {entry.sequence} {act} {entry.prefix}{prefix_range(entry)}", entry.line, "range")
+                rule = "range" if number == entry.sequence else "entry-number"
+                writer.put(f"ip prefix-list {name} seq {number} {act} {entry.prefix}{prefix_range(entry)}", entry.line, rule)
             writer.bare("!")
         for lines in self.device.community_lists.values():
             for line in lines:

@@ -1,8 +1,8 @@
 """The command `bonsai-export`."""
 from __future__ import annotations
 
+import contextlib
 import dataclasses
-import errno
 import json
 import os
 import shutil
@@ -11,11 +11,12 @@ from pathlib import Path
 
 from roads.change import Change
 from roads.accepted import accepted_text
-from roads.command_line import Refused, parser, read_input
+from roads.command_line import Refused, kept, name_of, not_written, parser, read_input
 from roads.exporting import batfish, frr, ios
 from roads.exporting.writer import Exported, NotExported
 from roads.network import read_network
 from roads.program import Program
+from roads.words import counted
 
 
 def main(argv: list[str] | None = None) -> int:
@@ -31,23 +32,26 @@ def main(argv: list[str] | None = None) -> int:
     if words.switches and words.to != "ios":
         made.error("--switches goes with --to ios")
     text = read_input(words.text)
-    network = read_network(accepted_text(Program(), text, words.text), words.text)
+    name = name_of(words.text)
+    network = read_network(accepted_text(Program(), text, name), name)
     try:
         exported = ios.export(network, words.switches) if words.to == "ios" else {"frr": frr, "batfish": batfish}[words.to].export(network)
     except NotExported as cause:
         raise Refused(str(cause)) from None
-    write_folder(Path(words.folder), exported.files)
+    folder = Path(words.folder)
     report = json_text(exported) if words.json else report_text(exported)
-    if words.report:
-        Path(words.report).write_text(report)
-    else:
+    if words.report and Path(words.report).resolve().is_relative_to(folder.resolve()):
+        raise Refused(f"{words.report}: the report goes beside {folder}, not into it")
+    with kept(words.report, report.encode()) if words.report else contextlib.nullcontext():
+        write_folder(folder, exported.files)
+    if not words.report:
         sys.stderr.write(report)
-    print(f"{len(exported.files)} configurations in {words.folder}")
+    print(f"{counted(len(exported.files), 'configuration')} in {words.folder}")
     return 0
 
 
 def write_folder(folder: Path, files: dict[str, str]) -> None:
-    """Writes all files, or none. Refused where the folder holds something; OSError without a name where the system refuses."""
+    """Writes all files, or none. Refused where the folder holds something."""
     if folder.exists() and (not folder.is_dir() or any(folder.iterdir())):
         raise Refused(f"{folder}: not an empty folder")
     partial = folder.with_name(f"{folder.name}.partial-{os.getpid()}")
@@ -59,7 +63,7 @@ def write_folder(folder: Path, files: dict[str, str]) -> None:
             place.write_text(text)
         os.rename(partial, folder)
     except OSError as cause:
-        raise OSError(cause.errno or errno.EIO, f"{cause.strerror}: {folder}") from None
+        raise not_written(folder, cause) from None
     finally:
         shutil.rmtree(partial, ignore_errors=True)
 

@@ -4,7 +4,7 @@ from __future__ import annotations
 import argparse
 import sys
 
-from roads.command_line import Refused, parser, run
+from roads.command_line import Refused, parser, run, write_output
 from roads.importing.decisions import Decisions, apply_drops, read_decisions
 from roads.importing.folder import Folder, Source
 from roads.importing.ignored import is_ignored
@@ -17,6 +17,7 @@ from roads.importing.rules.interfaces import leave_out_idle
 from roads.importing.rules.options import Options
 from roads.program import Program
 from roads.text import Line, Stanza, text_of
+from roads.words import counted
 
 PURPOSE = """Reads a folder of running configurations (Cisco IOS, FRR) and writes one text that Bonsai reads.
 
@@ -77,13 +78,12 @@ def _main() -> int:
     report = import_folder(words.folder, Program(), decisions, Options.of(words.own_as, words.stub))
     told = report.json if words.json else report.text
     if words.report:
-        with open(words.report, "w", encoding="utf-8") as file:
-            file.write(told)
+        write_output(words.report, told.encode("utf-8", "replace"))
     else:
         sys.stderr.write(told)
-    if report.folder.log.refusals:
-        raise Refused(
-            f"{len(report.folder.log.refusals)} lines are refused, the first at {report.folder.log.refusals[0].place}; what is left to you can be told by --decisions"
-        )
+    refusals = report.folder.log.refusals
+    if refusals:
+        lines = counted(len(refusals), "line is", "lines are")
+        raise Refused(f"{lines} refused, the first at {refusals[0].place}; what is left to you can be told by --decisions")
     sys.stdout.write(text_of(report.folder.routers))
     return 0

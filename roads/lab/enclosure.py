@@ -17,6 +17,7 @@ from pathlib import Path
 from roads.command_line import Refused
 from roads.lab.plan import Plan
 from roads.program import TOP
+from roads.words import counted
 
 PYTHON = "/usr/bin/python3"
 ENCLOSE = ("setpriv", "--pdeathsig", "KILL", "unshare", "--pid", "--fork", "--kill-child", "--mount-proc", "--mount", "--net")
@@ -37,7 +38,7 @@ def refuse_unless_small(routers: int) -> None:
     """Refuses a lab that could take more than half of the memory that is free, so that other work on the machine goes on."""
     need, free = routers * MEMORY_OF_A_ROUTER, free_memory()
     if need > MOST_OF_MEMORY * free:
-        raise Refused(f"a lab of {routers} routers takes up to {need // MEBI} MiB, more than half of the {free // MEBI} MiB that are free")
+        raise Refused(f"a lab of {counted(routers, 'router')} takes up to {need // MEBI} MiB, more than half of the {free // MEBI} MiB that are free")
 
 
 def refuse_unless_able() -> None:

@@ -36,7 +36,7 @@ class LabFault(Exception):
 
 
 def link_commands(plan: Plan) -> str:
-    """The batch for `ip` that makes the namespaces and the wires. A wire of two ends is a veth pair, of more a bridge."""
+    """The batch for `ip` that makes the namespaces and the wires. A wire is a veth pair, or a bridge."""
     lines = [f"netns add {router.space}" for router in plan.routers]
     made = 0
 
@@ -46,8 +46,8 @@ def link_commands(plan: Plan) -> str:
         lines.append(f"link add name p{made} type veth peer name {port} netns {space}")
         lines.append(f"link set p{made} {f'master {bridge} ' if bridge else ''}up")
 
-    for number, wire in enumerate(plan.wires):
-        if len(wire) == 2:
+    for number, (wire, is_bridge) in enumerate(zip(plan.wires, plan.bridges)):
+        if not is_bridge:
             (low, low_port, _), (high, high_port, _) = wire
             near, far = hardware_address(number, 0), hardware_address(number, 1)
             lines.append(f"link add name {low_port} address {near} netns {low} type veth peer name {high_port} address {far} netns {high}")
@@ -68,15 +68,15 @@ def hardware_address(wire: int, end: int) -> str:
 
 
 def port_commands(plan: Plan) -> dict[str, str]:
-    """For each namespace the batch that brings its ports up, and names the other ends of wires of two.
+    """For each namespace the batch that brings its ports up, and names the other ends of pairs.
 
     The table of hardware addresses is one for all namespaces, and holds 1,024 that were asked for; those that are named do not count.
     """
     lines = {router.space: [f"link set {name} up" for name in ["lo", *router.stubs]] for router in plan.routers}
-    for number, wire in enumerate(plan.wires):
+    for number, (wire, is_bridge) in enumerate(zip(plan.wires, plan.bridges)):
         for end, (space, port, _) in enumerate(wire):
             lines[space].append(f"link set {port} up")
-            if len(wire) == 2:
+            if not is_bridge:
                 far = wire[1 - end][2]
                 lines[space].append(f"neigh add {far} lladdr {hardware_address(number, 1 - end)} dev {port} nud permanent")
     return {space: "".join(f"{line}\n" for line in texts) for space, texts in lines.items()}

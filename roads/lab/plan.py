@@ -9,7 +9,6 @@ from roads.exporting.writer import Exported, linked_interfaces
 from roads.network import Network
 
 
-
 @dataclasses.dataclass
 class RouterPlan:
     """A router: the name of its namespace, the files of its daemons, and its neighbours when all sessions or adjacencies stand.
@@ -36,11 +35,15 @@ class RouterPlan:
 
 @dataclasses.dataclass
 class Plan:
-    """A lab: its protocol, its routers, and its wires as lists of ends, each a namespace, the name of an interface there, and its address."""
+    """A lab: its protocol, its routers, and its wires as lists of ends, each a namespace, the name of an interface there, and its address.
+
+    A wire with an end that is shut is a bridge, also where it has two ends: the other end of a pair would go down with it.
+    """
 
     protocol: str
     routers: list[RouterPlan]
     wires: list[list[tuple[str, str, str]]]
+    bridges: list[bool]
     prefixes: list[str]
 
     def text(self) -> str:
@@ -52,7 +55,8 @@ class Plan:
         """The plan that a JSON text has."""
         told = json.loads(text)
         routers = [RouterPlan(**router) for router in told["routers"]]
-        return Plan(told["protocol"], routers, [[(space, port, address) for space, port, address in wire] for wire in told["wires"]], told["prefixes"])
+        wires = [[(space, port, address) for space, port, address in wire] for wire in told["wires"]]
+        return Plan(told["protocol"], routers, wires, told["bridges"], told["prefixes"])
 
 
 def plan_of(network: Network, exported: Exported, prefixes: list[str]) -> Plan:
@@ -64,18 +68,15 @@ def plan_of(network: Network, exported: Exported, prefixes: list[str]) -> Plan:
     for link in network.links:
         peers[link.low.device.name].append(str(link.high.address))
         peers[link.high.device.name].append(str(link.low.address))
-    wired = {link.subnet for link in network.links}
-    wires = [
-        [(spaces[end.device.name], names[end.device.name][end.interface.name], str(end.address)) for end in ends]
-        for subnet, ends in network.wires.items()
-        if subnet in wired
-    ]
+    cables = network.cables
+    wires = [[(spaces[end.device.name], names[end.device.name][end.interface.name], str(end.address)) for end in ends] for ends in cables.values()]
+    bridges = [len(ends) > 2 or any(end.interface.is_shut for end in ends) for ends in cables.values()]
     routers = []
     for device in network.devices:
-        stubs = [names[device.name][i.name] for i in device.up_interfaces if i.address.network not in wired]
+        stubs = [names[device.name][i.name] for i in device.interfaces if i.address and i.address.network not in cables]
         files = daemon_files(exported.files[f"{device.name}.conf"], network.protocol or "bgp")
         routers.append(RouterPlan(device.name, spaces[device.name], files, peers[device.name], stubs))
-    return Plan(network.protocol or "bgp", routers, wires, prefixes)
+    return Plan(network.protocol or "bgp", routers, wires, bridges, prefixes)
 
 
 def daemon_files(text: str, protocol: str) -> dict[str, str]:

@@ -16,7 +16,7 @@ BETWEEN_LOOKS = 0.25
 
 
 class NoRest(Exception):
-    """The routers did not come to rest in time, with what was missing."""
+    """The routers did not come to rest in time, with what was missing, or have a session that the network does not have."""
 
 
 class Watch:
@@ -28,7 +28,7 @@ class Watch:
         self.look = look_bgp if plan.protocol == "bgp" else look_ospf
 
     def wait(self, until: float, quiet: float, processes: list[subprocess.Popen[bytes]]) -> float:
-        """The time of the last change before all was quiet. NoRest where that does not come."""
+        """The time of the last change before all was quiet. NoRest where that does not come, and at once where there is a session too many."""
         before: list[object] = []
         changed = time.monotonic()
         while True:
@@ -102,7 +102,8 @@ def held_ospf(vty: Vty, prefixes: list[str]) -> dict[str, object]:
 
 
 def _difference(router: RouterPlan, wanted: Counter[str], standing: Counter[str]) -> str:
+    """The sessions that are lacking. NoRest where there is one too many: configurations stay as they are, so it does not go away."""
     lacking, more = wanted - standing, standing - wanted
-    if lacking:
-        return f"{router.name}: no session with {next(iter(lacking))} ({sum(lacking.values())} lacking)"
-    return f"{router.name}: a session with {next(iter(more))} that the network does not have"
+    if more:
+        raise NoRest(f"{router.name}: a session with {next(iter(more))} that the network does not have")
+    return f"{router.name}: no session with {next(iter(lacking))} ({sum(lacking.values())} lacking)"

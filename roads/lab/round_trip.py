@@ -10,7 +10,7 @@ from roads.lab.lab import Case, Rested, Verdict, Waiting, case_of, case_with, ex
 from roads.lab.ties import run_with_ties
 from roads.labels import read_solution, solution_text
 from roads.program import Program
-
+from roads.words import counted
 
 
 @dataclasses.dataclass
@@ -52,7 +52,7 @@ def run_round(program: Program, text: str, file: str, number: int, ties: str, wa
     told: list[str] = []
     ends = []
     for name, case in (("large", large_case), ("small", small_case)):
-        tell(f"{name}: {len(case.network.devices)} routers on FRR")
+        tell(f"{name}: {counted(len(case.network.devices), 'router')} on FRR")
         rested = run_lab(case, waiting, export_told(case, tell))
         run = Run(name, case, rested, judge(program, case, rested))
         run.imports, run.differing = compare_imports(program, case, rested)
@@ -116,7 +116,7 @@ def table(found: Round) -> str:
 
 def outcome(found: Round) -> list[str]:
     """The round in a few words."""
-    sizes = f"{len(found.large.case.network.devices)} routers and {len(found.small.case.network.devices)} groups:"
+    sizes = f"{counted(len(found.large.case.network.devices), 'router')} and {counted(len(found.small.case.network.devices), 'group')}:"
     words = [sizes, "agreement" if found.agrees else "no agreement"]
     if found.ties:
         words.append("after ties")

@@ -6,7 +6,7 @@ import sys
 from collections import Counter
 
 from roads.accepted import accepted_text
-from roads.command_line import parser, read_input
+from roads.command_line import name_of, parser, read_input
 from roads.lab.enclosure import refuse_unless_able
 from roads.lab.lab import Waiting, case_of, export_told, judge, run_lab
 from roads.lab.round_trip import MEBI, outcome, run_round, table
@@ -14,6 +14,7 @@ from roads.lab.ties import run_with_ties
 from roads.labels import solution_text
 from roads.program import Program
 from roads.random_networks import PREFIX, random_text
+from roads.words import counted
 
 STATUS_NOT_STABLE = 6
 
@@ -42,7 +43,7 @@ def _words(name: str, purpose: str, ties: tuple[str, ...], argv: list[str] | Non
 
 
 def _text(program: Program, name: str) -> str:
-    return accepted_text(program, read_input(name), name)
+    return accepted_text(program, read_input(name), name_of(name))
 
 
 def lab(argv: list[str] | None = None) -> int:
@@ -50,7 +51,7 @@ def lab(argv: list[str] | None = None) -> int:
     words = _words("bonsai-lab", lab.__doc__ or "", ("frr", "model"), argv)
     refuse_unless_able()
     program = Program()
-    case = case_of(program, _text(program, words.text), words.text, words.number)
+    case = case_of(program, _text(program, words.text), name_of(words.text), words.number)
     waiting = Waiting(words.seconds, words.quiet)
     rested = run_lab(case, waiting, export_told(case, tell))
     verdict = judge(program, case, rested)
@@ -60,7 +61,8 @@ def lab(argv: list[str] | None = None) -> int:
     sys.stdout.write(texts[0])
     if len(texts) > 1:
         tell(f"the routers hold {len(texts)} different solutions for the {len(rested.labels)} prefixes of the class; the first prefix's is written")
-    tell(f"{len(case.network.devices)} routers, {rested.processes} daemons, {rested.memory / MEBI:.0f} MiB, at rest after {rested.rest:.1f} s: {verdict.word}")
+    sizes = f"{counted(len(case.network.devices), 'router')}, {counted(rested.processes, 'daemon')}"
+    tell(f"{sizes}, {rested.memory / MEBI:.0f} MiB, at rest after {rested.rest:.1f} s: {verdict.word}")
     if verdict.tie:
         tell(f"tie: {verdict.tie}")
     return 0 if verdict.is_stable else STATUS_NOT_STABLE
@@ -95,6 +97,6 @@ def round_trip(argv: list[str] | None = None) -> int:
     words = _words("round-trip", round_trip.__doc__ or "", ("both", "frr", "model"), argv)
     refuse_unless_able()
     program = Program()
-    found = run_round(program, _text(program, words.text), words.text, words.number, words.ties, Waiting(words.seconds, words.quiet), tell)
+    found = run_round(program, _text(program, words.text), name_of(words.text), words.number, words.ties, Waiting(words.seconds, words.quiet), tell)
     sys.stdout.write(table(found))
     return 0 if found.agrees else STATUS_NOT_STABLE

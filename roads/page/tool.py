@@ -7,7 +7,7 @@ from typing import Any
 
 import jinja2
 
-from roads.command_line import Refused, parser, read_input, version, write_output
+from roads.command_line import Refused, name_of, parser, read_input, version, write_output
 from roads.compressed import asked
 from roads.page.build import everything
 from roads.program import Program
@@ -26,7 +26,7 @@ def work(arguments: argparse.Namespace) -> None:
     """Writes the page."""
     program = Program()
     told = read_report(arguments.import_report) if arguments.import_report else None
-    text = asked(program, read_input(arguments.file), "standard input" if arguments.file == "-" else arguments.file)
+    text = asked(program, read_input(arguments.file), name_of(arguments.file))
     found = text.compress_each(program, [each.number for each in text.classes], "bonsai-page")
     page = html(everything(text, found, told))
     write_output(arguments.output, page.encode(), arguments.file)

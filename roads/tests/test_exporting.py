@@ -199,6 +199,31 @@ def test_batfish_takes_names_in_small_letters() -> None:
         batfish.export(read_network(SMALL.replace("core1", "Dist1")))
 
 
+def test_frr_is_told_costs_and_processes_by_their_rules() -> None:
+    text = SMALL.replace("router ospf 1", "router ospf 7").replace(" ip ospf cost 3\n", "")
+    found = {(change.place.line, change.before, change.after, change.rule) for change in frr.export(read_network(text)).changes}
+    assert (9, "", ("ip ospf cost 1",), "cost") in found
+    assert (12, "router ospf 7", ("router ospf",), "process-number") in found
+    assert not any(rule == "cost" for _, before, _, rule in found if before)
+
+
+def test_entries_beyond_the_numbers_of_ios_are_lowered() -> None:
+    text = BGP.replace("P seq 1 permit 10.0.0.0/8 ge 8", "P seq 4294967294 permit 10.0.0.0/8 le 32\nip prefix-list P seq 4294967295 deny 0.0.0.0/0")
+    exported = ios.export(read_network(text))
+    lines = lines_of(exported.files["a.cfg"])
+    assert [line for line in lines if line.startswith("ip prefix-list P")] == [
+        "ip prefix-list P seq 4294967293 permit 10.0.0.0/8 le 32", "ip prefix-list P seq 4294967294 deny 0.0.0.0/0",
+    ]
+    assert [change.after for change in exported.changes if change.rule == "entry-number"] == [(line,) for line in lines if line.startswith("ip prefix-list P")]
+
+
+@given(st.sets(st.integers(1, 50) | st.integers(4294967280, 4294967295)))
+def test_numbers_of_entries_keep_their_order(sequences: set[int]) -> None:
+    numbers = ios.entry_numbers(sorted(sequences))
+    assert numbers == sorted(set(numbers)) and all(1 <= number <= ios.HIGHEST_ENTRY for number in numbers)
+    assert all(number == sequence for number, sequence in zip(numbers, sorted(sequences))) or 4294967295 in sequences
+
+
 def test_doubts_are_told() -> None:
     text = SMALL.replace("100.64.0.0 255.255.255.254", "100.64.0.3 255.255.255.252").replace("100.64.0.1 255.255.255.254", "100.64.0.1 255.255.255.252")
     text = text.replace("100.64.0.0 0.0.0.0", "100.64.0.3 0.0.0.0").replace("10.0.0.1 255.255.255.252", "127.0.0.1 255.255.255.252")

@@ -1,4 +1,5 @@
 """The parts of a lab that need no root: plans, wires, labels from FRR's words, ranks, and the table."""
+import pytest
 from hypothesis import given
 from hypothesis import strategies as st
 
@@ -7,7 +8,7 @@ from roads.fat_tree import fat_tree_text
 from roads.lab.held import accepted, label_of, labels_of
 from roads.lab.inside import hardware_address, link_commands, port_commands
 from roads.lab.plan import Plan, daemon_files, plan_of
-from roads.lab.rest import adjacencies_missing
+from roads.lab.rest import NoRest, adjacencies_missing
 from roads.lab.ties import ranks_of
 from roads.labels import BgpLabel, OspfLabel, read_solution, solution_text
 from roads.network import read_network
@@ -51,8 +52,8 @@ def test_wires_of_two_ends_are_pairs_and_of_more_are_bridges() -> None:
     commands = link_commands(plan("ospf-wire.cfg"))
     assert "link add name b0 type bridge\n" in commands
     assert commands.count("master b0") == 5
-    assert "type veth peer name Loopback5 netns r0\n" in commands
-    assert "nud permanent" not in port_commands(plan("ospf-wire.cfg"))["r0"]
+    assert "type veth peer name Loopback0 netns r4\n" in commands
+    assert "dev Gi0-0 nud permanent" not in port_commands(plan("ospf-wire.cfg"))["r0"]
     pairs = link_commands(plan("two-routers.cfg"))
     assert pairs.count("type veth peer") == 1 + pairs.count("link set p") and "bridge" not in pairs
 
@@ -107,6 +108,32 @@ def test_a_wire_waits_for_its_designated_router() -> None:
     assert adjacencies_missing(router, states) == "one: no designated router at Gi0-0"
     assert adjacencies_missing(router, [*states[:3], ("Gi0-0", router.peers[3], "Full/DR")]) is None
     assert adjacencies_missing(router, states[:3]) == "one: no session with 10.0.0.5 (1 lacking)"
+
+
+def test_a_session_that_the_network_does_not_have_ends_the_lab() -> None:
+    router = next(router for router in plan("ospf-wire.cfg").routers if router.name == "one")
+    states = [("Gi0-0", address, "Full/DR") for address in [*router.peers, "10.0.0.9"]]
+    with pytest.raises(NoRest, match="one: a session with 10.0.0.9 that the network does not have"):
+        adjacencies_missing(router, states)
+
+
+CABLE = (
+    "hostname a\ninterface Vlan1\n ip address 10.0.0.1 255.255.255.0\ninterface Serial0/0\n ip address 10.0.1.0 255.255.255.254\nrouter ospf 1\n passive-interface Vlan1\n"
+    " network 0.0.0.0 255.255.255.255 area 0\nend\n"
+    "hostname b\ninterface Vlan1\n ip address 10.0.0.2 255.255.255.0\ninterface Serial0/0\n ip address 10.0.1.1 255.255.255.254\n shutdown\nrouter ospf 1\n passive-interface Vlan1\n"
+    " network 0.0.0.0 255.255.255.255 area 0\nend\n"
+)
+
+
+def test_subnets_without_a_link_are_wired_so_that_a_lacking_line_shows() -> None:
+    network = read_network(CABLE)
+    assert network.links == []
+    exported = frr.export(network, with_lab_timers=True)
+    made = plan_of(network, exported, [])
+    assert made.wires == [[("r0", "Loopback1", "10.0.0.1"), ("r1", "Loopback1", "10.0.0.2")], [("r0", "Se0-0", "10.0.1.0"), ("r1", "Se0-0", "10.0.1.1")]]
+    assert made.bridges == [False, True] and [router.stubs for router in made.routers] == [[], []]
+    assert "link add name b1 type bridge\n" in link_commands(made) and "nud permanent" in port_commands(made)["r0"]
+    assert exported.files["a.conf"].count(" ip ospf hello-interval 1\n") == 2
 
 
 def test_the_other_end_of_a_pair_is_named() -> None:

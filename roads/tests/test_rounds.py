@@ -180,6 +180,42 @@ def test_an_export_is_told(monkeypatch: pytest.MonkeyPatch, tmp_path: Path, caps
     assert {change["rule"] for change in record["changes"]} <= set(frr.RULES)
 
 
+def export(monkeypatch: pytest.MonkeyPatch, report: Path, folder: Path, text: str = "") -> int:
+    """Exports a text, by default of one router, with a report."""
+    monkeypatch.setattr(tool, "Program", lambda: fake({"classes": Answer(0, b"", b"")}))
+    source = folder.parent / "text.cfg"
+    source.write_text(text or "hostname a\nend\n")
+    return tool.main(["--to", "frr", "--report", str(report), str(source), str(folder)])
+
+
+def test_one_configuration_is_one(monkeypatch: pytest.MonkeyPatch, tmp_path: Path, capsys: pytest.CaptureFixture) -> None:
+    assert export(monkeypatch, tmp_path / "report", tmp_path / "out") == 0
+    assert capsys.readouterr().out == f"1 configuration in {tmp_path / 'out'}\n"
+
+
+@pytest.mark.parametrize("report, told", [("none/report", "No such file or directory"), ("text.cfg/report", "Not a directory"), ("/dev/full", "No space left on device")])
+def test_without_its_report_no_folder_is_written(report: str, told: str, monkeypatch: pytest.MonkeyPatch, tmp_path: Path) -> None:
+    with pytest.raises(OSError) as fault:
+        export(monkeypatch, tmp_path / report, tmp_path / "out")
+    # (a fault without the name of a file is one of writing, status 4)
+    assert (fault.value.filename, fault.value.strerror) == (None, f"{tmp_path / report}: {told}")
+    assert [path.name for path in tmp_path.iterdir()] == ["text.cfg"]
+
+
+def test_without_its_folder_no_report_is_written(monkeypatch: pytest.MonkeyPatch, tmp_path: Path) -> None:
+    (tmp_path / "out").mkdir()
+    (tmp_path / "out" / "kept").touch()
+    with pytest.raises(Refused, match="not an empty folder"):
+        export(monkeypatch, tmp_path / "report", tmp_path / "out")
+    assert sorted(path.name for path in tmp_path.iterdir()) == ["out", "text.cfg"]
+
+
+def test_the_report_stands_beside_the_folder(monkeypatch: pytest.MonkeyPatch, tmp_path: Path) -> None:
+    with pytest.raises(Refused, match="the report goes beside"):
+        export(monkeypatch, tmp_path / "out" / "report", tmp_path / "out")
+    assert not (tmp_path / "out").exists()
+
+
 @pytest.mark.skipif(not shutil.which("vtysh"), reason="FRRouting is not there")
 @pytest.mark.parametrize("seed", range(1, 4))
 def test_frr_takes_random_networks(seed: int, tmp_path: Path) -> None:

@@ -47,7 +47,7 @@ def test_a_file_without_permission(name: str, tmp_path: Path) -> None:
 @pytest.mark.parametrize("raw, told", [(b"\xff\xfe\x00", "refused: line 1: NotAscii"), (b"hostname a\n", "refused: line 1: NoEnd"), (b"hello\nend\n", "refused: line 1: UnknownLine")])
 def test_a_broken_text(name: str, raw: bytes, told: str, tmp_path: Path) -> None:
     (tmp_path / "broken.cfg").write_bytes(raw)
-    refused(name, "broken.cfg", tmp_path, 1, told)
+    refused(name, "broken.cfg", tmp_path, 1, f"{name}: broken.cfg: {told}; tools/bonsai-refusals tells all refusals\n")
 
 
 @pytest.mark.parametrize("name", WRITERS)
@@ -55,6 +55,19 @@ def test_an_output_that_is_full(name: str) -> None:
     with open("/dev/full", "wb") as full:
         ran = subprocess.run([TOP / "tools" / name, place_of("fabric.cfg"), *WRITERS[name]], stdout=full, stderr=subprocess.PIPE, check=False)
     assert (ran.returncode, ran.stderr) == (4, f"{name}: write fault: No space left on device\n".encode())
+
+
+@pytest.mark.parametrize("name, words", [("bonsai-draw", ["1", "-o", "none/a.svg"]), ("bonsai-page", ["-o", "none/a.html"])])
+def test_an_output_that_cannot_be_made(name: str, words: list[str], tmp_path: Path) -> None:
+    ran = tool(name, place_of("fabric.cfg"), *words, cwd=tmp_path)
+    assert (ran.returncode, ran.stderr) == (4, f"{name}: write fault: {words[-1]}: No such file or directory\n".encode())
+
+
+@pytest.mark.parametrize("name", ["bonsai-every"])
+def test_a_folder_that_cannot_be_made(name: str, tmp_path: Path) -> None:
+    (tmp_path / "file").touch()
+    ran = tool(name, place_of("fabric.cfg"), "file/all", cwd=tmp_path)
+    assert (ran.returncode, ran.stderr) == (4, f"{name}: write fault: file/all: Not a directory\n".encode())
 
 
 @pytest.mark.parametrize("name", WRITERS)

@@ -101,7 +101,7 @@ def test_formats_and_streams(tmp_path) -> None:
     [
         (["no-such-file", "1"], 3, b"bonsai-draw: no-such-file: No such file or directory\n"),
         (["campus.cfg", "17"], 1, b"no class 17: the classes are 1 to 16\n"),
-        (["campus-with-static-route.cfg", "1"], 1, b"bonsai-draw: bonsai classes: refused: line 28: Unsupported\n"),
+        (["campus-with-static-route.cfg", "1"], 1, b"campus-with-static-route.cfg: refused: line 28: Unsupported; tools/bonsai-refusals tells all refusals\n"),
     ],
 )
 def test_refusals(words: list[str], status: int, told: bytes) -> None:
@@ -113,7 +113,7 @@ def test_refusals(words: list[str], status: int, told: bytes) -> None:
 
 def test_an_output_that_cannot_be_written() -> None:
     ran = tool("bonsai-draw", place_of("campus.cfg"), 1, "-f", "dot", "-o", "/no-such-folder/a.dot")
-    assert (ran.returncode, ran.stderr) == (3, b"bonsai-draw: /no-such-folder/a.dot: No such file or directory\n")
+    assert (ran.returncode, ran.stderr) == (4, b"bonsai-draw: write fault: /no-such-folder/a.dot: No such file or directory\n")
 
 
 @pytest.mark.parametrize("script, told", [(None, "the program dot is not there: install the package graphviz"), ("echo broken >&2; exit 1", "the program dot failed: broken")])
