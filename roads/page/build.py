@@ -10,9 +10,10 @@ from typing import Any
 from roads.compressed import Asked, Compressed, side_by_side
 from roads.document.build import unmatched
 from roads.drawing.graph import Graph, Node, large, small
-from roads.drawing.layout import color_of, laid_out, picture
+from roads.drawing.layout import CLOSED, color_of, laid_out, picture
 from roads.drawing.tool import LINKS_DRAWN, ROUTERS_DRAWN, graphs
 from roads.program import Group
+from roads.words import counted
 
 GROUPS_DRAWN = 60
 EDGES_DRAWN = 240
@@ -84,6 +85,8 @@ def everything(text: Asked, found: list[Compressed], told_by_import: dict[str, A
         "large": large_picture(text, found),
         "unmatched": unmatched(text.network),
         "told_by_import": told_by_import,
+        "closed": CLOSED,
+        "counted": counted,
     }
 
 

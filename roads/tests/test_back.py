@@ -12,7 +12,6 @@ from roads.program import TOP, Program
 
 IMPORT = TOP / "tools" / "bonsai-import"
 TARGETS = {"frr": frr, "ios": ios, "batfish": batfish}
-pytestmark = pytest.mark.skipif(not IMPORT.exists() or not os.environ.get("BONSAI_PROGRAM"), reason="asks a built program, by bonsai-import")
 
 
 def said(program: Program, text: str) -> tuple:
@@ -25,11 +24,11 @@ def said(program: Program, text: str) -> tuple:
 @pytest.mark.parametrize("target", TARGETS.values(), ids=TARGETS)
 @pytest.mark.parametrize("name, number", [("campus", 1), ("campus", 10), ("fabric", 1), ("ring-with-maps", 1), ("ospf-wire", 2)])
 @pytest.mark.parametrize("is_small", [False, True], ids=["large", "small"])
-def test_an_export_comes_back(name: str, number: int, is_small: bool, target: object, tmp_path: Path) -> None:
-    program = Program()
+def test_an_export_comes_back(name: str, number: int, is_small: bool, target: object, tmp_path: Path, program: Program) -> None:
     text = (TOP / "examples" / "inputs" / f"{name}.cfg").read_text()
     text = program.compress(text, number) if is_small else text
     write_folder(tmp_path / "out", target.export(read_network(text)).files)
-    back = subprocess.run([str(IMPORT), str(tmp_path / "out")], capture_output=True, text=True, check=False)
+    asked = {**os.environ, "BONSAI_PROGRAM": program.path}
+    back = subprocess.run([str(IMPORT), str(tmp_path / "out")], capture_output=True, text=True, check=False, env=asked)
     assert back.returncode == 0, back.stderr
     assert said(program, back.stdout) == said(program, text)

@@ -9,9 +9,9 @@ import pytest
 pytest.importorskip("graphviz", reason="the package python3-graphviz is not there: pictures are not tried")
 
 from roads.drawing.graph import large, large_by_groups, small
-from roads.drawing.layout import color_of, picture
+from roads.drawing.layout import CLOSED, color_of, key, picture
 from roads.drawing.tool import graphs
-from roads.program import Group
+from roads.program import Group, Program
 from roads.tests.asking import bytes_of, compressed, example, place_of, tool
 
 CASES = [("campus.cfg", 1), ("campus.cfg", 10), ("fabric.cfg", 1), ("edge-and-provider.cfg", 1), ("two-lone-routers.cfg", 1), ("ospf-star.cfg", 1)]
@@ -50,6 +50,12 @@ def test_a_direction_that_policies_close_has_no_arrow() -> None:
     edges = {(edge.low, edge.high): (edge.to_low, edge.to_high, edge.policies) for edge in small(compressed("two-lone-routers.cfg", 1)).edges}
     assert edges["d", "x"] == (False, True, ())
     assert ("x: preference 200",) in {policies for _, _, policies in edges.values()}
+
+
+def test_links_that_are_closed_towards_an_originator_are_no_policy() -> None:
+    sides = graphs(example("two-lone-routers.cfg"), compressed("two-lone-routers.cfg", 1))
+    assert CLOSED in key(sides) and CLOSED not in key(sides[:1])
+    assert CLOSED not in key(graphs(example("campus.cfg"), compressed("campus.cfg", 1)))
 
 
 def test_colours_are_for_groups_of_several() -> None:
@@ -117,9 +123,9 @@ def test_an_output_that_cannot_be_written() -> None:
 
 
 @pytest.mark.parametrize("script, told", [(None, "the program dot is not there: install the package graphviz"), ("echo broken >&2; exit 1", "the program dot failed: broken")])
-def test_graphviz_that_is_not_there_or_fails(script: str | None, told: str, tmp_path) -> None:
+def test_graphviz_that_is_not_there_or_fails(script: str | None, told: str, tmp_path, program: Program) -> None:
     if script:
         (tmp_path / "dot").write_text(f"#!/bin/sh\n{script}\n")
         (tmp_path / "dot").chmod(0o755)
-    ran = tool("bonsai-draw", place_of("fabric.cfg"), 1, env=os.environ | {"PATH": str(tmp_path)})
+    ran = tool("bonsai-draw", place_of("fabric.cfg"), 1, env=os.environ | {"PATH": str(tmp_path), "BONSAI_PROGRAM": program.path})
     assert (ran.returncode, ran.stderr.decode()) == (1, f"bonsai-draw: {told}\n")

@@ -28,7 +28,7 @@ function filter() {
     row.hidden = !wanted.every((word) => text.includes(word));
     shown += !row.hidden;
   }
-  document.getElementById("shown").textContent = `${shown} of ${body.rows.length} rows`;
+  document.getElementById("shown").textContent = `${shown} of ${body.rows.length} ${body.rows.length === 1 ? "row" : "rows"}`;
 }
 
 function color(picture, {colors, origins, lone}) {

@@ -12,6 +12,7 @@ import pytest
 pytest.importorskip("graphviz", reason="the package python3-graphviz is not there: the page is not tried")
 pytest.importorskip("jinja2", reason="the package python3-jinja2 is not there: the page is not tried")
 
+from roads.drawing.layout import CLOSED
 from roads.page.build import everything, inline, rows
 from roads.page.tool import html as page_of
 from roads.fat_tree import fat_tree_text
@@ -56,6 +57,14 @@ def test_nothing_is_loaded_from_elsewhere() -> None:
     assert set(re.findall(r"https?://[^\"' <]+", made)) <= {"http://www.w3.org/2000/svg"}
 
 
+def test_one_is_told_as_one() -> None:
+    assert "<p>OSPF, 2 routers, 1 link, 2 classes of destination prefixes." in page("two-routers.cfg")
+
+
+def test_an_arrow_of_the_small_network_is_no_policy_of_the_large_one() -> None:
+    assert CLOSED in page("two-lone-routers.cfg") and CLOSED not in page("campus.cfg")
+
+
 def test_unmatched_neighbours_have_reasons() -> None:
     assert re.search(r"<td>border</td><td>192.0.2.77</td>.*<td>the neighbour is shut down here</td>", page("edge-and-provider.cfg"))
 
@@ -77,7 +86,9 @@ def test_a_report_that_is_none(report: str, told: bytes, tmp_path: Path) -> None
 def test_a_network_without_classes(tmp_path: Path) -> None:
     ran = tool("bonsai-page", "-", "-o", tmp_path / "none.html", raw=b"hostname a\nend\n")
     assert (ran.returncode, ran.stderr) == (0, b"")
-    assert "0 of 0 rows" in (tmp_path / "none.html").read_text()
+    made = (tmp_path / "none.html").read_text()
+    assert "<p>no protocol, 1 router, 0 links, 0 classes of destination prefixes." in made
+    assert "There is no class: no router originates a prefix." in made and "<table" not in made and "<script" not in made
 
 
 @pytest.fixture(scope="module")
