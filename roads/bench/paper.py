@@ -1,6 +1,7 @@
-"""bench/paper: the synthetic networks of the paper's evaluation, their sizes before and after, and the time for each class.
+"""bench/paper: fat trees, rings and full meshes, their sizes before and after, and the time for each class.
 
-The paper is Beckett, Gupta, Mahajan and Walker, Control Plane Compression, SIGCOMM 2018.
+These are the synthetic networks of the evaluation in Beckett, Gupta, Mahajan and Walker, Control Plane Compression, SIGCOMM 2018, as
+remembered: the paper was not at hand, so none of its figures stands here. The groups that a shape must have are counted by hand.
 """
 from __future__ import annotations
 
@@ -26,7 +27,11 @@ KEPT = TOP / "bench" / "measured" / "paper.csv"
 
 @dataclasses.dataclass(frozen=True)
 class Family:
-    """Networks of one rule: how their text is made, the sizes that are measured, and the groups that the paper gives for a size."""
+    """Networks of one shape: how their text is made, the sizes that are measured, and the groups that the shape has, counted by hand.
+
+    Seen from an edge router of a fat tree there are six sorts: it, the other edge routers and the aggregation of its pod, the core, and both of the other pods. In a
+    ring routers are told apart by their distance, in a full mesh the originator from the others.
+    """
 
     name: str
     text: Callable[[int], str]
@@ -57,12 +62,12 @@ class Row:
     class_seconds: float
     compress_seconds: float
     memory: float
-    groups_of_paper: int
+    groups_by_hand: int
 
 
 def words() -> argparse.ArgumentParser:
     """The words of the command line."""
-    made = parser("paper", "Measures the synthetic networks of the paper's evaluation and prints the table.")
+    made = parser("paper", "Measures fat trees, rings and full meshes, and prints the table.")
     made.add_argument("--small", action="store_true", help="only networks up to 200 routers")
     made.add_argument("--keep", action="store_true", help="write the measurements to bench/measured/paper.csv, with the load of the machine")
     made.add_argument("--kept", action="store_true", help="print the table of the kept measurements, and measure nothing")
@@ -137,12 +142,12 @@ def asked(program: Path, *words: str) -> tuple[str, float, float]:
 
 def table(rows: Iterable[Row]) -> str:
     """The table as Markdown."""
-    lines = ["| network | routers | links | groups | links after | groups by the paper's rule | classes | s, read and classes | s, each class | s, `compress` | MiB |"]
+    lines = ["| network | routers | links | groups | links after | groups counted by hand | classes | s, read and classes | s, each class | s, `compress` | MiB |"]
     lines.append("|---|" + "---:|" * 10)
     for row in rows:
         name = f"{row.family} {row.size}" if row.family == "fat tree" else row.family
         lines.append(
-            f"| {name} | {row.routers:,} | {row.links:,} | {row.groups:,} | {row.links_after:,} | {row.groups_of_paper:,} | {row.classes:,} "
+            f"| {name} | {row.routers:,} | {row.links:,} | {row.groups:,} | {row.links_after:,} | {row.groups_by_hand:,} | {row.classes:,} "
             f"| {row.classes_seconds:.2f} | {row.class_seconds:.4f} | {row.compress_seconds:.2f} | {row.memory:.0f} |"
         )
     return "\n".join(lines) + "\n"

@@ -32,3 +32,13 @@ def test_an_export_comes_back(name: str, number: int, is_small: bool, target: ob
     back = subprocess.run([str(IMPORT), str(tmp_path / "out")], capture_output=True, text=True, check=False, env=asked)
     assert back.returncode == 0, back.stderr
     assert said(program, back.stdout) == said(program, text)
+
+
+@pytest.mark.parametrize("target", TARGETS.values(), ids=TARGETS)
+def test_a_loopback_comes_back_as_the_vlan_that_it_was(target: object, tmp_path: Path, program: Program) -> None:
+    small = program.compress((TOP / "examples" / "inputs" / "campus.cfg").read_bytes(), 1)
+    write_folder(tmp_path / "out", target.export(read_network(small)).files)
+    asked = {**os.environ, "BONSAI_PROGRAM": program.path}
+    back = subprocess.run([str(IMPORT), str(tmp_path / "out")], capture_output=True, text=True, check=True, env=asked).stdout
+    assert "interface Vlan1\n" in small and "interface Loopback" not in back
+    assert {device.name for device in read_network(back).devices if any(port.name == "Vlan1" for port in device.interfaces)} == {"core1"}

@@ -1,4 +1,4 @@
-"""The networks of the paper's evaluation have the groups that follow from their rule, and kept measurements are drawn alike each time."""
+"""Fat trees, rings and meshes have the groups that their shape gives, and kept measurements are drawn alike each time."""
 from pathlib import Path
 
 import pytest

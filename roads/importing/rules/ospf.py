@@ -2,6 +2,7 @@
 from __future__ import annotations
 
 import dataclasses
+import re
 from collections import defaultdict
 from ipaddress import IPv4Interface, IPv4Network
 
@@ -199,7 +200,9 @@ def _loopback(folder: Folder, router: Source, stanza: Stanza) -> None:
 
 def _as_vlan(folder: Folder, router: Source, stanza: Stanza, given: Line | None) -> None:
     old = name_of(stanza)
-    name = free_name("Vlan", {name_of(other) for other in router.interfaces})
+    taken = {name_of(other) for other in router.interfaces}
+    number = re.search(r"\d+$", old)
+    name = f"Vlan{number[0]}" if number and f"Vlan{number[0]}" not in taken else free_name("Vlan", taken)
     folder.log.by(stanza.head, LOOPBACK_NET)
     stanza.head = stanza.head.with_text(f"interface {name}")
     if given:
