@@ -43,8 +43,11 @@ def read_input(name: str) -> bytes:
     """The bytes of a file, or of standard input where the name is `-`."""
     if name == "-":
         return sys.stdin.buffer.read()
-    with open(name, "rb") as file:
-        return file.read()
+    try:
+        with open(name, "rb") as file:
+            return file.read()
+    except IsADirectoryError as fault:
+        raise IsADirectoryError(fault.errno, f"{fault.strerror}: bonsai-import makes one text of a folder", name) from None
 
 
 def name_of(file: str) -> str:

@@ -9,7 +9,7 @@ import sys
 from collections.abc import Callable, Hashable, Iterable, Sequence
 from typing import TypeVar
 
-from roads.accepted import accepted_classes
+from roads.accepted import accepted_classes, class_of
 from roads.command_line import Refused
 from roads.network import End, Network, read_network
 from roads.profile import Device
@@ -63,8 +63,7 @@ class Asked:
 
     def compress(self, program: Program, number: int) -> Compressed:
         """The class of a number. Refused where there is none, or where what was read differs from what the program counts."""
-        if not 1 <= number <= len(self.classes):
-            raise Refused(f"{self.name}: no class {number}: {_how_many(len(self.classes))}")
+        found = class_of(self.classes, number, self.name)
         groups = program.groups(self.text, number)
         answer = program.ask("compress", "F", str(number), texts={"F": self.text})
         if answer.status not in (Status.DONE, Status.REFUSED):
@@ -74,7 +73,7 @@ class Asked:
         size = self.sizes[number - 1]
         if refusal is None:
             _must_agree(f"compress of class {number}", small, size.groups, size.links_after)
-        return Compressed(self.classes[number - 1], size, groups, answer.text, small, refusal)
+        return Compressed(found, size, groups, answer.text, small, refusal)
 
     def compress_each(self, program: Program, numbers: Sequence[int], teller: str = "") -> list[Compressed]:
         """Several classes, asked side by side. A tool that gives its name tells on a terminal how many are done."""
@@ -130,10 +129,6 @@ def _end_shape(end: End) -> Hashable:
     maps = (end.neighbor.map_in, end.neighbor.map_out)
     policies = tuple(tuple(policy_lines(end.device, name)) if name else None for name in maps)
     return end.device.name, end.neighbor.sends_communities, policies
-
-
-def _how_many(count: int) -> str:
-    return f"the classes are 1 to {count}" if count else "the network has no class, since no router originates a prefix"
 
 
 def _must_agree(name: str, network: Network, routers: int, links: int) -> None:

@@ -5,7 +5,8 @@ import argparse
 import json
 from collections.abc import Iterator
 
-from roads.command_line import Refused, name_of, parser, read_input
+from roads.accepted import class_of
+from roads.command_line import name_of, parser, read_input
 from roads.compressed import Asked, asked
 from roads.doubts.agreement import doubts_of_agreement
 from roads.doubts.finding import SORTS, Doubt
@@ -57,8 +58,7 @@ def work(arguments: argparse.Namespace) -> None:
 def chosen(text: Asked, numbers: list[int] | None) -> list[int]:
     """The classes that are asked for: all, where none is named. Refused where there is no such class."""
     for number in numbers or []:
-        if not 1 <= number <= len(text.classes):
-            raise Refused(f"{text.name}: no class {number}: the network has {len(text.classes)}")
+        class_of(text.classes, number, text.name)
     return numbers or [one.number for one in text.classes]
 
 

@@ -13,7 +13,7 @@ from roads.program import Group
 FONT = "Helvetica"
 COLORS = ("#8dd3c7", "#fdb462", "#bebada", "#fb8072", "#80b1d3", "#b3de69", "#fccde5", "#ffed6f", "#ccebc5", "#bc80bd", "#e5c494", "#a6cee3")
 ALONE = "#ffffff"
-CLOSED = "After: each link is closed towards a router that originates the class, which takes no route of it; that is no policy of the network before."
+CLOSED = "After, policies are for this class alone: a link is closed the way that none of its routes comes, and towards each router that originates it."
 NAMES_SHOWN = 6
 COSTS_UP_TO = 60
 POLICIES_UP_TO = 12
@@ -74,16 +74,10 @@ def key(graphs: list[Graph]) -> list[str]:
         (any(edge.at_low is not None for edge in edges), "Number at a link: its OSPF cost, at the router that adds it."),
         (any(edge.policies for edge in edges), "Words at a link: what is done to routes that the router named takes there."),
         (any(edge.to_low != edge.to_high for edge in edges), "Arrow: only this way do policies let routes pass."),
-        (any(_has_closed_origin(graph) for graph in graphs if graph.side == "after"), CLOSED),
+        (any(edge.to_low != edge.to_high for graph in graphs if graph.side == "after" for edge in graph.edges), CLOSED),
         (any(not edge.to_low and not edge.to_high for edge in edges), "Dotted: policies let no route pass."),
     ]
     return [words for holds, words in told if holds]
-
-
-def _has_closed_origin(graph: Graph) -> bool:
-    """Whether a link is closed towards an originator alone."""
-    origins = {node.name for node in graph.nodes if node.group.is_origin}
-    return any(edge.to_low != edge.to_high and (edge.high if edge.to_low else edge.low) in origins for edge in graph.edges)
 
 
 def _put(part: graphviz.Graph, graph: Graph, prefix: str, colors: dict[int, str]) -> None:

@@ -5,6 +5,7 @@ import dataclasses
 import re
 from collections.abc import Callable
 
+from roads.accepted import class_of
 from roads.command_line import Refused
 from roads.exporting import frr
 from roads.exporting.writer import Exported
@@ -70,10 +71,7 @@ class Verdict:
 
 def case_of(program: Program, text: str, file: str, number: int) -> Case:
     """The class of a text. NotAnswered where the program refuses the text; Refused where there is no such class."""
-    classes = program.classes(text)
-    if not 1 <= number <= len(classes):
-        raise Refused(f"{file} has no class {number}; it has {len(classes)}")
-    return _case(program, text, file, read_network(text, file), classes[number - 1])
+    return _case(program, text, file, read_network(text, file), class_of(program.classes(text), number, file))
 
 
 def case_with(program: Program, text: str, file: str, prefixes: tuple[str, ...]) -> Case:

@@ -33,7 +33,7 @@ def test_a_file_that_is_not_there(name: str, tmp_path: Path) -> None:
 
 @pytest.mark.parametrize("name", TOOLS)
 def test_a_folder_in_place_of_a_file(name: str, tmp_path: Path) -> None:
-    refused(name, ".", tmp_path, 3, "Is a directory")
+    refused(name, ".", tmp_path, 3, f"{name}: .: Is a directory: bonsai-import makes one text of a folder\n")
 
 
 @pytest.mark.parametrize("name", TOOLS)
@@ -41,6 +41,12 @@ def test_a_folder_in_place_of_a_file(name: str, tmp_path: Path) -> None:
 def test_a_file_without_permission(name: str, tmp_path: Path) -> None:
     (tmp_path / "secret.cfg").touch(mode=0)
     refused(name, "secret.cfg", tmp_path, 3, "Permission denied")
+
+
+@pytest.mark.parametrize("name", TOOLS)
+def test_an_empty_text(name: str, tmp_path: Path) -> None:
+    (tmp_path / "net.cfg").write_text("\n")
+    refused(name, "net.cfg", tmp_path, 1, f"{name}: net.cfg: no router in it; bonsai-import writes nothing where it refuses a line\n")
 
 
 @pytest.mark.parametrize("name", TOOLS)

@@ -52,7 +52,7 @@ def test_a_direction_that_policies_close_has_no_arrow() -> None:
     assert ("x: preference 200",) in {policies for _, _, policies in edges.values()}
 
 
-def test_links_that_are_closed_towards_an_originator_are_no_policy() -> None:
+def test_arrows_of_the_small_network_are_told_apart_from_policies_of_the_large_one() -> None:
     sides = graphs(example("two-lone-routers.cfg"), compressed("two-lone-routers.cfg", 1))
     assert CLOSED in key(sides) and CLOSED not in key(sides[:1])
     assert CLOSED not in key(graphs(example("campus.cfg"), compressed("campus.cfg", 1)))
