@@ -10,6 +10,8 @@ import pytest
 
 from roads.program import TOP
 
+SECONDS = 120
+
 pytestmark = pytest.mark.skipif(os.geteuid() != 0 or not os.environ.get("BONSAI_LAB"), reason="run by hand, as root")
 
 
@@ -60,15 +62,18 @@ def test_a_lab_that_is_killed_leaves_nothing(number: signal.Signals, after: floa
     before = files(tmp_path)
     words = [str(TOP / "tools" / "bonsai-lab"), str(TOP / "examples" / "inputs" / "fat-tree-4.cfg"), "1"]
     lab = subprocess.Popen(words, stderr=subprocess.DEVNULL, env={**os.environ, "TMPDIR": str(tmp_path)})
-    until = time.monotonic() + 30
-    while not (space := enclosure_of(lab.pid)):
-        assert time.monotonic() < until, "the lab had not begun"
-        time.sleep(0.01)
-    time.sleep(after)
-    made = networks(space)
-    assert made
-    lab.send_signal(number)
-    lab.wait(20)
+    until = time.monotonic() + SECONDS
+    try:
+        while not (space := enclosure_of(lab.pid)):
+            assert time.monotonic() < until, "the lab had not begun"
+            time.sleep(0.01)
+        time.sleep(after)
+        made = networks(space)
+        assert made
+        lab.send_signal(number)
+        lab.wait(SECONDS)
+    finally:
+        lab.kill()
     while any(own == space for _, own in processes().values()) and time.monotonic() < until:
         time.sleep(0.05)
     assert not any(own == space for _, own in processes().values())
