@@ -103,6 +103,8 @@ def run(name: str, work: Callable[[], int | None]) -> int:
     except NotAnswered as fault:
         print(f"{name}: {fault}", file=sys.stderr)
         return 1
+    except ModuleNotFoundError as fault:
+        return lacking(name, fault)
     except KeyboardInterrupt:
         print(f"{name}: interrupted", file=sys.stderr)
         return 130
@@ -119,15 +121,20 @@ def run(name: str, work: Callable[[], int | None]) -> int:
         return 3 if is_read else 4
 
 
+def lacking(name: str, fault: ModuleNotFoundError) -> int:
+    """Names the package of a Python module that is not there. A module of our own is no package's."""
+    module = (fault.name or "").partition(".")[0]
+    if module in ("", "roads"):
+        raise fault
+    print(f"{name}: the Python module {module} is not there: install the package python3-{module}", file=sys.stderr)
+    return 1
+
+
 def main(name: str, module: str) -> int:
     """Runs the tool that a module has as `words` and `work`. A Python module that is not installed is one line on standard error."""
     try:
         tool = importlib.import_module(module)
     except ModuleNotFoundError as fault:
-        lacking = (fault.name or "").partition(".")[0]
-        if lacking == "roads":
-            raise
-        print(f"{name}: the Python module {lacking} is not there: install the package python3-{lacking}", file=sys.stderr)
-        return 1
+        return lacking(name, fault)
     arguments = tool.words().parse_args()
     return run(name, lambda: tool.work(arguments))

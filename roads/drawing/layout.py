@@ -13,7 +13,7 @@ from roads.program import Group
 FONT = "Helvetica"
 COLORS = ("#8dd3c7", "#fdb462", "#bebada", "#fb8072", "#80b1d3", "#b3de69", "#fccde5", "#ffed6f", "#ccebc5", "#bc80bd", "#e5c494", "#a6cee3")
 ALONE = "#ffffff"
-CLOSED = "After, policies are for this class alone: a link is closed the way that none of its routes comes, and towards each router that originates it."
+CLOSED = "After: policies for this class alone, closed where none of its routes comes, and towards its originators."
 NAMES_SHOWN = 6
 COSTS_UP_TO = 60
 POLICIES_UP_TO = 12

@@ -26,6 +26,15 @@ def started(name: str) -> None:
     needs(name)
 
 
+@pytest.mark.parametrize("name, module", [("bonsai-page", "jinja2"), ("bonsai-draw", "graphviz"), ("round-figures", "matplotlib")])
+def test_a_package_that_is_not_there(name: str, module: str, tmp_path: Path) -> None:
+    (tmp_path / f"{module}.py").write_text(f"raise ModuleNotFoundError('none', name='{module}')\n")
+    words = [place_of("fabric.cfg"), 1] if name == "bonsai-draw" else [place_of("fabric.cfg")] if name == "bonsai-page" else []
+    ran = tool(name, *words, env=os.environ | {"PYTHONPATH": str(tmp_path)})
+    assert (ran.returncode, ran.stdout) == (1, b"")
+    assert ran.stderr == f"{name}: the Python module {module} is not there: install the package python3-{module}\n".encode()
+
+
 @pytest.mark.parametrize("name", TOOLS)
 def test_a_file_that_is_not_there(name: str, tmp_path: Path) -> None:
     refused(name, "nowhere.cfg", tmp_path, 3, "nowhere.cfg: No such file or directory")
