@@ -1,18 +1,18 @@
 """One text asked of the program and of the second reader: every command, and what differs."""
 from __future__ import annotations
 
-import collections
 import dataclasses
 import json
 import random
 
+from hostile.asking import Asked
 from hostile.judge import answers, certificates as judge, groups, labels, problem
 from hostile.judge.network import Refused
-from hostile.makers import certificates, solutions
-from roads.program import Answer, Program
+from hostile.makers import certificates, labels as maker, solutions
+from roads.program import Answer
 
 LARGEST_SUMMARY = 60
-PROBES = 5
+PROBES = 6
 
 
 @dataclasses.dataclass(frozen=True)
@@ -24,19 +24,11 @@ class Difference:
     answered: str
 
 
-@dataclasses.dataclass
-class Counts:
-    """What was asked so far: commands, and kinds of refusals."""
-
-    commands: collections.Counter[str] = dataclasses.field(default_factory=collections.Counter)
-    kinds: collections.Counter[str] = dataclasses.field(default_factory=collections.Counter)
-
-
 class Comparison:
     """The commands over one text. `found` are the differences; `seed` decides class, schedule and labels."""
 
-    def __init__(self, program: Program, text: bytes, seed: int, counts: Counts) -> None:
-        self.program, self.text, self.counts = program, text, counts
+    def __init__(self, asked: Asked, text: bytes, seed: int) -> None:
+        self.asked, self.text = asked, text
         self.chance = random.Random(seed)
         self.found: list[Difference] = []
 
@@ -44,24 +36,19 @@ class Comparison:
         """Asks all commands and gives what differs."""
         net = answers.read(self.text)
         if isinstance(net, answers.Expected):
-            self._same("classes", self._ask("classes", "F"), net)
+            self._same("classes", self._ask("classes"), net)
             return self.found
-        self._same("classes", self._ask("classes", "F"), answers.Expected(0, out=answers.classes(net)))
+        self._same("classes", self._ask("classes"), answers.Expected(0, out=answers.classes(net)))
         if len(net.classes) <= LARGEST_SUMMARY:
-            self._same("summary", self._ask("summary", "F"), answers.Expected(0, out=answers.summary(net)))
+            self._same("summary", self._ask("summary"), answers.Expected(0, out=answers.summary(net)))
         beyond = str(len(net.classes) + self.chance.randint(1, 3))
-        self._same("groups", self._ask("groups", "F", beyond), answers.Expected(1, f"refused: NoClass {beyond}", ""))
+        self._same("groups", self._ask("groups", beyond), answers.Expected(1, f"refused: NoClass {beyond}", ""))
         if net.classes:
             self._class(net, self.chance.randint(1, len(net.classes)))
         return self.found
 
-    def _ask(self, *words: str, **texts: bytes) -> Answer:
-        answer = self.program.ask(*words, texts={"F": self.text, **texts}, seconds=60)
-        self.counts.commands[words[0]] += 1
-        if answer.status:
-            kind = [word for word in answer.reason.split() if not word.isdigit()][-1] if answer.status in (1, 6) else f"status {answer.status}"
-            self.counts.kinds[kind] += 1
-        return answer
+    def _ask(self, *words: str, S: bytes = b"") -> Answer:
+        return self.asked.ask(self.text, *words, S=S)
 
     def _differ(self, command: str, expected: object, answer: Answer) -> None:
         self.found.append(Difference(command, str(expected), f"status {answer.status} {answer.reason}\n{answer.text}"))
@@ -75,12 +62,12 @@ class Comparison:
         word = str(number)
         whole = problem.problem(net, net.classes[number - 1])
         parts = groups.groups(whole)
-        self._same("groups", self._ask("groups", "F", word), answers.Expected(0, out=answers.group_lines(whole, parts)))
-        self._same("report", self._ask("report", "F", word), answers.Expected(0, out=answers.report(net, number)))
+        self._same("groups", self._ask("groups", word), answers.Expected(0, out=answers.group_lines(whole, parts)))
+        self._same("report", self._ask("report", word), answers.Expected(0, out=answers.report(net, number)))
         self._json(net, number, whole, parts)
         self._compress(net, number)
         self._certificate(word, whole)
-        self._labels(word, whole, parts)
+        self._labels(net, word, whole, parts)
 
     def _json(self, net: problem.Network, number: int, whole: problem.Problem, parts: list[list[int]]) -> None:
         document = {
@@ -94,17 +81,17 @@ class Comparison:
             "unmatched": [{"address": answers.dotted(address), "router": name} for name, address in net.unmatched],
         }
         text = json.dumps(document, sort_keys=True, separators=(",", ":")) + "\n"
-        self._same("json", self._ask("json", "F", str(number)), answers.Expected(0, out=text))
+        self._same("json", self._ask("json", str(number)), answers.Expected(0, out=text))
 
     def _compress(self, net: problem.Network, number: int) -> None:
-        answer, line = self._ask("compress", "F", str(number)), answers.pool_line(net, number)
+        answer, line = self._ask("compress", str(number)), answers.pool_line(net, number)
         if line is not None:
             self._same("compress", answer, answers.Expected(1, f"refused: line {line}: PoolOverlap", ""))
         elif answer.status or (fault := answers.compress_fault(net, number, answer.out)):
             self._differ("compress", "a compressed network" if answer.status else fault, answer)
 
     def _certificate(self, word: str, whole: problem.Problem) -> None:
-        made = self._ask("certify", "F", word)
+        made = self._ask("certify", word)
         if made.status:
             self._differ("certify", "a certificate", made)
             return
@@ -114,46 +101,44 @@ class Comparison:
                 judge.Judge(whole).read(text)
             except Refused as refused:
                 expected = answers.Expected(1, f"refused: certificate {refused}", "")
-            self._same("verify", self._ask("verify", "F", word, "S", S=text), expected)
+            self._same("verify", self._ask("verify", word, "S", S=text), expected)
 
-    def _labels(self, word: str, whole: problem.Problem, parts: list[list[int]]) -> None:
+    def _labels(self, net: problem.Network, word: str, whole: problem.Problem, parts: list[list[int]]) -> None:
         names = [*whole.names, "*", "*"]
         schedule = " ".join(self.chance.choice(names) for _ in range(self.chance.randint(0, 12))) + "\n" + "*\n" * self.chance.choice([0, 9, 9])
-        ran = self._ask("run", "F", word, "S", S=schedule.encode())
-        if ran.status:
-            self._differ("run", "labels", ran)
+        rest = self._run(word, whole, schedule)
+        if rest is None:
             return
-        first, _, rest = ran.text.partition("\n")
-        stop = labels.fault(whole, labels.read(rest.encode(), whole))
-        if first != (f"moving {stop[0]}" if stop else "rest"):
-            self._differ("run", stop or "rest", ran)
         above = solutions.broken(self.chance, rest, whole.names)
         for command in ("check", "fold", "reach"):
             self._judged(command, word, whole, parts, above)
+        probes = maker.Maker(self.chance, net, whole)
         for _ in range(PROBES if whole.protocol == "bgp" else 1):
-            self._judged("check", word, whole, parts, self._probe(whole))
+            self._judged("check", word, whole, parts, probes.text())
         small = groups.quotient(whole, parts)
         below = "".join(line + "\n" for line in rest.splitlines() if line.split(" ")[0] in small.names)
         self._judged("lift", word, small, parts, solutions.broken(self.chance, below, small.names), whole)
 
-    def _probe(self, whole: problem.Problem) -> bytes:
-        """Labels by chance, but the first router's: it has the best candidate, as long as the judge is right about what its edges do."""
-        origin = {place: labels.start(whole, place) for place in whole.initial}
-        held = [origin.get(place, self._route(whole)) for place in range(len(whole.names))]
-        for place in range(min(2, len(held))):
-            held[place] = min(labels.candidates(whole, held, place), key=lambda route: labels.key(whole, route), default=None)
-        return "".join(f"{name} {labels.text(label)}\n" for name, label in zip(whole.names, held)).encode()
-
-    def _route(self, whole: problem.Problem) -> labels.Label:
-        if self.chance.random() < 0.1:
-            return None
-        if whole.protocol != "bgp":
-            return self.chance.choice([1, 5, 64, 4294967295, 4294967294])
-        path = tuple(self.chance.choice([64999, 64999, *whole.numbers]) or 1 for _ in range(self.chance.randint(0, 3)))
-        return labels.Route(self.chance.choice([100, 100, 50]), path, self.chance.choice(whole.sets))
+    def _run(self, word: str, whole: problem.Problem, schedule: str) -> str | None:
+        """The labels that a schedule leads to, where one more activation behind it does what it should."""
+        router = self.chance.randrange(len(whole.names))
+        before, after = (self._ask("run", word, "S", S=text.encode()) for text in (schedule, f"{schedule}{whole.names[router]}\n"))
+        held = []
+        for ran in (before, after):
+            first, _, rest = ran.text.partition("\n")
+            if ran.status:
+                self._differ("run", "labels", ran)
+                return None
+            held.append(labels.read(rest.encode(), whole))
+            stop = labels.fault(whole, held[-1])
+            if first != (f"moving {stop[0]}" if stop else "rest"):
+                self._differ("run", stop or "rest", ran)
+        if not labels.activated(whole, held[0], held[1], router):
+            self._differ("run", f"a best candidate at {whole.names[router]}, and nothing else changed", after)
+        return before.text.partition("\n")[2]
 
     def _judged(self, command: str, word: str, whole: problem.Problem, parts: list[list[int]], text: bytes, large: problem.Problem | None = None) -> None:
-        answer = self._ask(command, "F", word, "S", S=text)
+        answer = self._ask(command, word, "S", S=text)
         try:
             held = labels.read(text, whole)
         except Refused as refused:
@@ -167,7 +152,7 @@ class Comparison:
         elif answer.status:
             self._differ(command, "done", answer)
         elif command == "reach":
-            again = self._ask("run", "F", word, "S", S=answer.out)
+            again = self._ask("run", word, "S", S=answer.out)
             first, _, rest = again.text.partition("\n")
             other = labels.read(rest.encode(), whole)
             if first != "rest" or [labels.key(whole, one) for one in other] != [labels.key(whole, one) for one in held]:

@@ -3,9 +3,10 @@ from __future__ import annotations
 
 import random
 
-from hostile.compare import Counts, Difference
-from roads.program import Answer, Program, classes_of, groups_of
-from roads.text import read_text, text_of
+from hostile import permutations
+from hostile.asking import Asked
+from hostile.compare import Difference
+from roads.program import Answer, classes_of, groups_of
 
 ROUNDS = b"*\n" * 12
 
@@ -13,15 +14,10 @@ ROUNDS = b"*\n" * 12
 class Rounds:
     """The laws over one text and one class."""
 
-    def __init__(self, program: Program, text: bytes, seed: int, counts: Counts) -> None:
-        self.program, self.text, self.counts = program, text, counts
+    def __init__(self, asked: Asked, text: bytes, seed: int) -> None:
+        self.ask, self.text = asked.ask, text
         self.chance = random.Random(seed)
         self.found: list[Difference] = []
-
-    def ask(self, text: bytes, *words: str, S: bytes = b"") -> Answer:
-        """A command over a text, counted."""
-        self.counts.commands[words[0]] += 1
-        return self.program.ask(words[0], "F", *words[1:], texts={"F": text, "S": S}, seconds=60)
 
     def law(self, name: str, holds: bool, *seen: Answer) -> None:
         """Notes a law that does not hold."""
@@ -35,7 +31,7 @@ class Rounds:
             return self.found
         chosen = self.chance.choice(classes_of(listed.text))
         small = self.ask(self.text, "compress", str(chosen.number))
-        self.permuted(listed)
+        self.the_same_network(listed)
         self.carried_up_and_down(self.text, str(chosen.number))
         if not small.status:
             self.compressed(small, chosen.number, set(chosen.prefixes))
@@ -80,24 +76,31 @@ class Rounds:
         made = self.ask(text, "certify", word)
         self.law("certified-is-verified", self.ask(text, "verify", word, "S", S=made.out).out == b"yes\n", made)
 
-    def permuted(self, listed: Answer) -> None:
-        """Routers in another order have the same classes, up to the order of originators, and groups of the same members."""
-        routers = read_text(self.text.decode("latin-1"), "F")
-        self.chance.shuffle(routers)
-        moved = text_of(routers).encode("latin-1")
-        other = self.ask(moved, "classes")
-        plain = [(one.number, one.prefixes, frozenset(one.origins)) for one in classes_of(listed.text)]
-        same = not other.status and plain == [(one.number, one.prefixes, frozenset(one.origins)) for one in classes_of(other.text)]
-        self.law("permuted-classes", same, listed, other)
+    def the_same_network(self, listed: Answer) -> None:
+        """Routers in another order, under other names or numbers, or with lines moved: the same classes and groups up to that."""
+        how, change = self.chance.choice(["permuted", "renamed", "renumbered", "moved-lines"]), {}
+        if how == "permuted":
+            other = permutations.reordered(self.chance, self.text)
+        elif how == "renamed":
+            other, change = permutations.renamed(self.chance, self.text)
+        elif how == "renumbered":
+            other = permutations.renumbered(self.chance, self.text)
+        else:
+            other = permutations.moved(self.chance, self.text)
+        again = self.ask(other, "classes")
+        plain = [(one.number, one.prefixes, frozenset((change.get(name, name), cost) for name, cost in one.origins)) for one in classes_of(listed.text)]
+        same = not again.status and plain == [(one.number, one.prefixes, frozenset(one.origins)) for one in classes_of(again.text)]
+        self.law(f"{how}-classes", same, listed, again)
         word = str(self.chance.randint(1, len(plain)))
-        sides = [{frozenset(group.members) for group in groups_of(self.ask(text, "groups", word).text)} for text in (self.text, moved)]
-        self.law("permuted-groups", sides[0] == sides[1], listed, other)
+        first, second = self.ask(self.text, "groups", word), self.ask(other, "groups", word)
+        parts = {frozenset(change.get(name, name) for name in group.members) for group in groups_of(first.text)}
+        self.law(f"{how}-groups", parts == {frozenset(group.members) for group in groups_of(second.text)}, first, second)
 
 
 def _without_notes(text: bytes) -> list[bytes]:
     return [line for line in text.split(b"\n") if not line.startswith(b"! member")]
 
 
-def broken(program: Program, text: bytes, seed: int, counts: Counts) -> list[Difference]:
+def broken(asked: Asked, text: bytes, seed: int) -> list[Difference]:
     """The laws that do not hold over a text, one class of it."""
-    return Rounds(program, text, seed, counts).run()
+    return Rounds(asked, text, seed).run()

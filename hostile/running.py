@@ -1,24 +1,29 @@
 """Many texts asked by several jobs for some time, and what they found. Each job is a process of its own."""
 from __future__ import annotations
 
-import argparse
 import concurrent.futures
 import dataclasses
+import functools
 import hashlib
-import os
+import json
 import random
 import signal
 import subprocess
 import time
 from collections import Counter
 from pathlib import Path
+from typing import TextIO
 
 from hostile import laws, shrink
-from hostile.compare import Comparison, Counts, Difference
+from hostile.asking import Asked, Asker, Counts
+from hostile.compare import Comparison, Difference
 from hostile.judge.answers import TooLarge
 from hostile.judge.network import Refused
-from hostile.makers import faults, meant, networks
+from hostile.makers import makers
 from roads.program import Program
+
+SLICE = 5.0
+LOG_EVERY = 60.0
 
 
 @dataclasses.dataclass
@@ -38,47 +43,56 @@ class Found:
         self.counts.kinds += other.counts.kinds
         self.differences += other.differences
 
+    @property
+    def asked(self) -> int:
+        """How many commands were asked."""
+        return sum(self.counts.commands.values())
 
-def made(chance: random.Random) -> bytes:
-    """A text of one of the makers."""
-    how = chance.random()
-    if how < 0.4:
-        return networks.text(chance).encode()
-    if how < 0.6:
-        return meant.changed(chance, networks.text(chance))
-    if how < 0.75:
-        return faults.planted(chance, networks.text(chance))
-    if how < 0.9:
-        return faults.planted(chance, chance.choice(faults.examples()).decode("latin-1"))
-    return faults.bytes_changed(chance, chance.choice([networks.text(chance).encode(), chance.choice(faults.examples())]))
+
+@dataclasses.dataclass(frozen=True)
+class Plan:
+    """What a run asks for: its seed, how long and by how many jobs, at most how many commands, and whether the first difference ends it."""
+
+    seed: int
+    seconds: float
+    jobs: int
+    folder: Path
+    commands: int | None = None
+    first: bool = False
 
 
 def differences(program: Program, text: bytes, seed: int, counts: Counts) -> list[Difference]:
     """What differs over a text: against the judge, and against the laws. An answer that never comes differs too."""
+    asked = Asked(program, counts)
     try:
-        return Comparison(program, text, seed, counts).run() + laws.broken(program, text, seed, counts)
+        return Comparison(asked, text, seed).run() + laws.broken(asked, text, seed)
     except Refused as refused:
         return [Difference("labels", "labels that can be read", str(refused))]
     except subprocess.TimeoutExpired as late:
         return [Difference(str(late.cmd[1]), "an answer", "none in time")]
 
 
-def job(seed: int, number: int, until: float, folder: Path) -> Found:
-    """One job: texts from its seed until the time is over."""
+@functools.cache
+def _program() -> Asker:
     signal.signal(signal.SIGINT, signal.SIG_IGN)
-    program, found, turn = Program(), Found(), 0
-    while time.monotonic() < until:
+    return Asker()
+
+
+def part_of_job(plan: Plan, number: int, turn: int, seconds: float) -> tuple[Found, int]:
+    """A job's texts from a turn on, for some time, and the next turn. A difference ends it where the first is looked for."""
+    program, found, until = _program(), Found(), time.monotonic() + seconds
+    while time.monotonic() < until and not (plan.first and found.differences):
         turn += 1
-        start = seed * 1_000_003 + number * 100_000_007 + turn
-        text = made(random.Random(start))
+        start = plan.seed * 1_000_003 + number * 100_000_007 + turn
+        text = makers.made(random.Random(start))
         try:
             differ = differences(program, text, start, found.counts)
         except TooLarge:
             found.left_out += 1
             continue
         found.runs += 1
-        found.differences += [_kept(program, text, start, difference, folder) for difference in differ[:1]]
-    return found
+        found.differences += [_kept(program, text, start, difference, plan.folder) for difference in differ[:1]]
+    return found, turn
 
 
 def _kept(program: Program, text: bytes, start: int, difference: Difference, folder: Path) -> str:
@@ -97,43 +111,51 @@ def _kept(program: Program, text: bytes, start: int, difference: Difference, fol
     return name
 
 
-def report(found: Found) -> str:
+def run(plan: Plan, log: TextIO | None = None) -> tuple[Found, float]:
+    """All jobs until their time is over, or enough was asked or found; and the seconds that it took. Interrupted, it ends with what it has."""
+    begun, found, logged = time.monotonic(), Found(), 0.0
+    spent = lambda: time.monotonic() - begun  # noqa: E731
+    with concurrent.futures.ProcessPoolExecutor(plan.jobs) as pool:
+        def part(number: int, turn: int) -> concurrent.futures.Future:
+            return pool.submit(part_of_job, plan, number, turn, min(SLICE, max(0.0, plan.seconds - spent())))
+
+        waiting = {part(number, 0): number for number in range(plan.jobs)}
+        try:
+            while waiting:
+                done, _ = concurrent.futures.wait(waiting, return_when=concurrent.futures.FIRST_COMPLETED)
+                for one in done:
+                    number = waiting.pop(one)
+                    more, turn = one.result()
+                    found.add(more)
+                    enough = (plan.first and found.differences) or (plan.commands is not None and found.asked >= plan.commands)
+                    if spent() < plan.seconds and not enough:
+                        waiting[part(number, turn)] = number
+                if log and spent() - logged >= LOG_EVERY:
+                    logged = spent()
+                    print(line_of_log(found, logged), file=log, flush=True)
+        except KeyboardInterrupt:
+            pool.shutdown(cancel_futures=True)
+    if log:
+        print(line_of_log(found, spent()), file=log, flush=True)
+    return found, spent()
+
+
+def line_of_log(found: Found, seconds: float) -> str:
+    """What was asked so far, as one line of JSON."""
+    counts = {"commands": dict(sorted(found.counts.commands.items())), "kinds": dict(sorted(found.counts.kinds.items()))}
+    return json.dumps({"seconds": round(seconds, 1), "texts": found.runs, "left_out": found.left_out, "asked": found.asked, **counts, "differences": found.differences})
+
+
+def report(found: Found, seconds: float, jobs: int) -> str:
     """What is printed at the end."""
     def table(counter: Counter[str]) -> str:
         return " ".join(f"{name}:{count}" for name, count in sorted(counter.items(), key=lambda pair: (-pair[1], pair[0])))
 
     rows = [
         f"runs {found.runs}, {found.left_out} left out with more communities than the judge lists",
-        f"commands {sum(found.counts.commands.values())}: {table(found.counts.commands)}",
+        f"seconds {seconds:.1f}, {found.asked / max(seconds, 0.001) / jobs:.0f} commands a second for each of {jobs} jobs",
+        f"commands {found.asked}: {table(found.counts.commands)}",
         f"refusals and other ends: {table(found.counts.kinds)}",
         f"differences {len(found.differences)}: {' '.join(sorted(found.differences)) or 'none'}",
     ]
     return "\n".join(rows) + "\n"
-
-
-def main(arguments: list[str] | None = None) -> int:
-    """`hostile/run`: status 0 without a difference, 1 with one or a text that is too large, 2 for wrong words, 3 where a text can't be read."""
-    parser = argparse.ArgumentParser(prog="hostile/run", description="Ask the program and the second reader over made texts, and tell what differs.")
-    parser.add_argument("--seconds", type=float, default=20, help="how long (default 20)")
-    parser.add_argument("--jobs", type=int, default=2, help="how many processes (default 2)")
-    parser.add_argument("--seed", type=int, help="the seed, a number; the same seed makes the same texts in the same order")
-    parser.add_argument("--keep", type=Path, default=Path("out/hostile"), help="the folder for texts that differ (default out/hostile)")
-    parser.add_argument("--text", type=Path, help="ask over this text alone, with --seed")
-    given = parser.parse_args(arguments)
-    seed = given.seed if given.seed is not None else int.from_bytes(os.urandom(3), "big")
-    if given.text:
-        try:
-            differ = differences(Program(), given.text.read_bytes(), seed, Counts())
-        except TooLarge:
-            parser.exit(1, "hostile/run: refused: the text names more communities than the judge lists\n")
-        except OSError as fault:
-            parser.exit(3, f"hostile/run: {given.text}: {fault.strerror}\n")
-        print("\n".join(f"{one.command}: expected {one.expected}\nanswered {one.answered}" for one in differ) or "no difference")
-        return 1 if differ else 0
-    print(f"seed {seed}", flush=True)
-    until, found = time.monotonic() + given.seconds, Found()
-    with concurrent.futures.ProcessPoolExecutor(given.jobs) as pool:
-        for one in [pool.submit(job, seed, number, until, given.keep) for number in range(given.jobs)]:
-            found.add(one.result())
-    print(report(found), end="")
-    return 1 if found.differences else 0

@@ -1,9 +1,12 @@
 """Groups by a naive refinement, and the problem of the groups."""
 from __future__ import annotations
 
+import functools
+
 from hostile.judge.problem import Edge, Problem
 
 
+@functools.lru_cache(200)
 def groups(problem: Problem) -> list[list[int]]:
     """The coarsest admissible partition: blocks are split until the members of each have the same acts into each other block."""
     count = len(problem.names)

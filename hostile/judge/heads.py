@@ -1,6 +1,7 @@
 """The heads of lines. The known ones stand here; refused and ignored ones are read from the tables of docs/LINES.md."""
 from __future__ import annotations
 
+import functools
 import re
 from pathlib import Path
 
@@ -47,7 +48,7 @@ for _kind, _table_of in TABLES.items():
             BY_FIRST.setdefault((_scope, _head.split()[0]), []).append((_kind, _head.split()))
 
 
-def _fits(head: list[str], line: list[str]) -> bool:
+def _fits(head: list[str], line: tuple[str, ...]) -> bool:
     return len(line) >= len(head) and all(_is(part, word) for part, word in zip(head, line))
 
 
@@ -59,7 +60,15 @@ def _is(part: str, word: str) -> bool:
     return part == word
 
 
+LONGEST = max(len(head) for heads in BY_FIRST.values() for _, head in heads)
+
+
 def what(scope: str, line: list[str]) -> str | None:
     """`known`, `refused` or `ignored`, by the longest head that begins the line; None for a line of no head."""
+    return _what(scope, tuple(line[:LONGEST]))
+
+
+@functools.lru_cache(100_000)
+def _what(scope: str, line: tuple[str, ...]) -> str | None:
     fitting = [(len(head), kind) for kind, head in BY_FIRST.get((scope, line[0]), []) if _fits(head, line)]
     return max(fitting, key=lambda found: found[0], default=(0, None))[1]

@@ -147,6 +147,15 @@ def fault(problem: Problem, labels: list[Label]) -> tuple[str, str] | None:
     return None
 
 
+def activated(problem: Problem, before: list[Label], after: list[Label], router: int) -> bool:
+    """Whether an activation of a router leads from labels to others: it has a best candidate, or none without one, and nothing else changed."""
+    found = candidates(problem, before, router)
+    others = all(one == other for place, (one, other) in enumerate(zip(before, after)) if place != router)
+    if not found:
+        return others and after[router] is None
+    return others and after[router] in found and key(problem, after[router]) == min(key(problem, route) for route in found)
+
+
 def forwards(problem: Problem, labels: list[Label], place: int) -> set[int]:
     """The routers to which a router forwards: those whose offers have the key of its label."""
     if labels[place] is None or problem.protocol == "bgp" and place in problem.initial:

@@ -97,7 +97,7 @@ class Entry:
     prepends: list[int] = dataclasses.field(default_factory=list)
 
 
-@dataclasses.dataclass
+@dataclasses.dataclass(eq=False)
 class Router:
     """One router, from the line behind the last `end` to its own."""
 

@@ -1,6 +1,8 @@
 """What lists and maps answer: RFC 4271 section 9.1 with the lists of docs/GLOSSARY.md's import."""
 from __future__ import annotations
 
+import functools
+
 from hostile.judge.network import Entry, Neighbor, Router
 from hostile.judge.words import Prefix, bits
 
@@ -25,6 +27,7 @@ def community_list_permits(router: Router, name: str, carried: Communities, exac
     return False
 
 
+@functools.lru_cache(20_000)
 def apply(router: Router, name: str | None, prefix: Prefix, carried: Communities) -> tuple[int | None, Communities, int] | None:
     """A route map: a preference if one is set, communities, and the count of numbers put before. None is a dropped route."""
     if name is None:

@@ -2,6 +2,7 @@
 from __future__ import annotations
 
 import dataclasses
+import functools
 import itertools
 
 from hostile.judge.network import Interface, Neighbor, Router
@@ -22,7 +23,7 @@ class Edge:
     act: Act
 
 
-@dataclasses.dataclass
+@dataclasses.dataclass(eq=False)
 class Problem:
     """The routing problem of a class over routers by place. `sets` are the sets of communities that acts list."""
 
@@ -37,7 +38,7 @@ class Problem:
     unnamed: int
 
 
-@dataclasses.dataclass
+@dataclasses.dataclass(eq=False)
 class Class:
     """A class of destinations: its prefixes, and its originators with preference or cost."""
 
@@ -45,7 +46,7 @@ class Class:
     origins: dict[int, int]
 
 
-@dataclasses.dataclass
+@dataclasses.dataclass(eq=False)
 class Network:
     """Routers, their links in order, and their classes."""
 
@@ -105,23 +106,25 @@ def _classes(routers: list[Router], protocol: str) -> list[Class]:
     return list(alike.values())
 
 
-def named(routers: list[Router]) -> set[int]:
+def named(routers: list[Router]) -> frozenset[int]:
     """The communities that a text names."""
-    return {value for router in routers for value, _ in router.named}
+    return frozenset(value for router in routers for value, _ in router.named)
 
 
-def unnamed(values: set[int]) -> int:
+def unnamed(values: frozenset[int]) -> int:
     """A community that is none of these."""
     return next(value for value in itertools.count(1) if value not in values)
 
 
-def sets_over(values: set[int]) -> list[frozenset[int]]:
+@functools.lru_cache(100)
+def sets_over(values: frozenset[int]) -> list[frozenset[int]]:
     """All sets of these communities and of one that no line names."""
     universe = [*sorted(values), unnamed(values)]
     return [frozenset(chosen) for size in range(len(universe) + 1) for chosen in itertools.combinations(universe, size)]
 
 
-def problem(net: Network, destinations: Class, values: set[int] | None = None) -> Problem:
+@functools.lru_cache(200)
+def problem(net: Network, destinations: Class, values: frozenset[int] | None = None) -> Problem:
     """The problem of a class, with acts over the communities `values`, by default those that the text names."""
     values = named(net.routers) if values is None else values
     sets = sets_over(values) if net.protocol == "bgp" else []

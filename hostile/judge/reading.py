@@ -2,6 +2,7 @@
 from __future__ import annotations
 
 import dataclasses
+import re
 
 from hostile.judge import heads, meaning, policy_forms, router_forms, words
 from hostile.judge.network import Bgp, Entry, Interface, Ospf, Refused, Router
@@ -9,6 +10,7 @@ from hostile.judge.router_forms import once
 
 MOST_LINES = 1_000_000
 MOST_LINE = 1024
+NOT_ASCII = re.compile(rb"[^\t\x20-\x7e]")
 
 
 def lines_of(text: bytes) -> list[bytes]:
@@ -22,7 +24,7 @@ def lines_of(text: bytes) -> list[bytes]:
 def line_faults(lines: list[bytes]) -> None:
     """Refuses the first line with a fault of bytes, length or number."""
     for place, line in enumerate(lines, 1):
-        if any(byte != 9 and not 0x20 <= byte <= 0x7E for byte in line):
+        if NOT_ASCII.search(line):
             raise Refused(place, "NotAscii")
         if len(line) > MOST_LINE:
             raise Refused(place, "LineTooLong")

@@ -1,0 +1,74 @@
+"""`hostile/run`: its words, its log and its statuses."""
+from __future__ import annotations
+
+import argparse
+import contextlib
+import datetime
+import hashlib
+import json
+import os
+from pathlib import Path
+
+from hostile import running
+from hostile.asking import Asker, Counts
+from hostile.judge.answers import TooLarge
+from roads.program import Program
+
+
+def words() -> argparse.ArgumentParser:
+    """The words of `hostile/run`."""
+    parser = argparse.ArgumentParser(prog="hostile/run", description="Ask the program and the second reader over made texts, and tell what differs.")
+    parser.add_argument("--seconds", type=float, default=20, help="how long (default 20)")
+    parser.add_argument("--jobs", type=int, default=2, help="how many processes (default 2)")
+    parser.add_argument("--commands", type=int, help="end when so many commands were asked")
+    parser.add_argument("--first", action="store_true", help="end at the first difference")
+    parser.add_argument("--seed", type=int, help="the seed, a number; the same seed makes the same texts in the same order")
+    parser.add_argument("--keep", type=Path, default=Path("out/hostile"), help="the folder for texts that differ (default out/hostile)")
+    parser.add_argument("--log", type=Path, help="a file that gets the counts as a line of JSON each minute and at the end, behind what it had")
+    parser.add_argument("--text", type=Path, help="ask over this text alone, with --seed")
+    return parser
+
+
+def main(arguments: list[str] | None = None) -> int:
+    """Status 0 without a difference, 1 with one or a text that is too large, 2 for wrong words, 3 where a file can't be read or made."""
+    parser = words()
+    given = parser.parse_args(arguments)
+    if given.jobs < 1:
+        parser.error("--jobs is at least 1")
+    seed = given.seed if given.seed is not None else int.from_bytes(os.urandom(3), "big")
+    if given.text:
+        return _alone(parser, given.text, seed)
+    plan = running.Plan(seed, given.seconds, given.jobs, given.keep, given.commands, given.first)
+    print(f"seed {seed}", flush=True)
+    with contextlib.ExitStack() as room:
+        log = None
+        if given.log:
+            try:
+                given.log.parent.mkdir(parents=True, exist_ok=True)
+                log = room.enter_context(given.log.open("a", encoding="utf-8"))
+            except OSError as fault:
+                parser.exit(3, f"hostile/run: {given.log}: {fault.strerror}\n")
+            print(head_of_log(plan), file=log, flush=True)
+        found, seconds = running.run(plan, log)
+    print(running.report(found, seconds, plan.jobs), end="")
+    return 1 if found.differences else 0
+
+
+def head_of_log(plan: running.Plan) -> str:
+    """When and over which program a run began, as one line of JSON."""
+    program = Asker()
+    sum_of = hashlib.sha256(Path(program.path).read_bytes()).hexdigest()
+    program.close()
+    now = datetime.datetime.now(datetime.timezone.utc).isoformat(timespec="seconds")
+    return json.dumps({"begun": now, "seed": plan.seed, "jobs": plan.jobs, "for_seconds": plan.seconds, "program_sha256": sum_of})
+
+
+def _alone(parser: argparse.ArgumentParser, file: Path, seed: int) -> int:
+    try:
+        differ = running.differences(Program(), file.read_bytes(), seed, Counts())
+    except TooLarge:
+        parser.exit(1, "hostile/run: refused: the text names more communities than the judge lists\n")
+    except OSError as fault:
+        parser.exit(3, f"hostile/run: {file}: {fault.strerror}\n")
+    print("\n".join(f"{one.command}: expected {one.expected}\nanswered {one.answered}" for one in differ) or "no difference")
+    return 1 if differ else 0

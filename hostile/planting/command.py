@@ -1,0 +1,100 @@
+"""`hostile/plant`: plants faults, one at a time, and tells which of them a run finds."""
+from __future__ import annotations
+
+import argparse
+import concurrent.futures
+import dataclasses
+import os
+import re
+import subprocess
+import sys
+import tempfile
+from pathlib import Path
+
+from hostile.asking import Asker
+from hostile.planting import copies, judge_faults, program_faults
+from hostile.planting.copies import Unfit
+from hostile.planting.fault import Fault
+from roads.program import TOP
+
+
+@dataclasses.dataclass(frozen=True)
+class Outcome:
+    """Whether a run found a fault: at which command (empty: not), and behind how many texts and seconds."""
+
+    fault: Fault
+    command: str
+    texts: int
+    seconds: float
+
+    def row(self) -> str:
+        """A line of the tables of hostile/README.md."""
+        found = f"`{self.command}`" if self.command else "**not found**"
+        return f"| {self.fault.layer} | {self.fault.means} | {found} | {self.texts:,} | {self.seconds:.0f} |"
+
+
+def outcome(fault: Fault, script: Path, program: Path, given: argparse.Namespace) -> Outcome:
+    """A run that ends at its first difference."""
+    keep = given.folder.resolve() / "differed" / fault.name
+    words = ["--seconds", str(given.seconds), "--jobs", str(given.jobs), "--seed", str(given.seed), "--first", "--keep", str(keep)]
+    ran = subprocess.run([str(script), *words], env={**os.environ, "BONSAI_PROGRAM": str(program.resolve())}, capture_output=True, text=True, check=False)
+    texts, seconds = re.search(r"runs (\d+)", ran.stdout), re.search(r"seconds ([\d.]+)", ran.stdout)
+    if not texts or not seconds:
+        raise Unfit(f"{fault.name}: {ran.stderr[-2000:]}")
+    names = re.search(r"differences [1-9]\d*: (\S+)", ran.stdout)
+    return Outcome(fault, names[1].rpartition("-")[0] if names else "", int(texts[1]), float(seconds[1]))
+
+
+def of_program(fault: Fault, given: argparse.Namespace) -> Outcome | None:
+    """A fault of the program. None where it is only built."""
+    program = copies.program(fault, given.folder)
+    return None if given.build else outcome(fault, TOP / "hostile" / "run", program, given)
+
+
+def of_judge(fault: Fault, given: argparse.Namespace) -> Outcome | None:
+    """A fault of the second reader, asked about the program as it is."""
+    program = Asker()
+    program.close()
+    with tempfile.TemporaryDirectory(prefix="planted-") as room:
+        return outcome(fault, copies.reader(fault, Path(room)), Path(program.path), given)
+
+
+def words() -> argparse.ArgumentParser:
+    """The words of `hostile/plant`."""
+    parser = argparse.ArgumentParser(prog="hostile/plant", description="Plant faults in copies of the program, or of the second reader, and tell which of them hostile/run finds.")
+    parser.add_argument("name", nargs="*", help="faults by their names; all without a name")
+    parser.add_argument("--judge", action="store_true", help="plant them in the second reader")
+    parser.add_argument("--list", action="store_true", help="name the faults, and plant none")
+    parser.add_argument("--build", action="store_true", help="build copies of the program, and run none")
+    parser.add_argument("--side", type=int, default=2, help="how many faults are tried side by side (default 2)")
+    parser.add_argument("--seconds", type=float, default=120, help="how long each run may take (default 120)")
+    parser.add_argument("--jobs", type=int, default=1, help="the processes of a run (default 1)")
+    parser.add_argument("--seed", type=int, default=1, help="the seed of each run (default 1)")
+    parser.add_argument("--folder", type=Path, default=Path("out/planted"), help="where built copies and what differed are kept (default out/planted)")
+    return parser
+
+
+def main(arguments: list[str] | None = None) -> int:
+    """Status 0 where each fault is found but at most one in ten, 1 else, 2 for wrong words."""
+    parser = words()
+    given = parser.parse_args(arguments)
+    faults, tried = (judge_faults.FAULTS, of_judge) if given.judge else (program_faults.FAULTS, of_program)
+    chosen = [fault for fault in faults if not given.name or fault.name in given.name]
+    if len(chosen) < len(set(given.name)):
+        parser.error("no such fault; --list names them")
+    if given.list:
+        print("".join(f"{fault.name:22} {fault.layer}: {fault.means}\n" for fault in chosen), end="")
+        return 0
+    missed = failed = 0
+    with concurrent.futures.ThreadPoolExecutor(given.side) as pool:
+        for one in [pool.submit(tried, fault, given) for fault in chosen]:
+            try:
+                found = one.result()
+            except Unfit as why:
+                failed += 1
+                print(f"hostile/plant: {why}", file=sys.stderr)
+                continue
+            if found:
+                missed += not found.command
+                print(found.row(), flush=True)
+    return 1 if failed or missed > len(chosen) / 10 else 0

@@ -1,0 +1,43 @@
+"""Faults to plant into the sources of the program, at least one for each layer."""
+from __future__ import annotations
+
+from hostile.planting.fault import Fault
+
+FAULTS = [
+    Fault("name-length", "words", "cfg_words/src/names.rt", "word.len() <= 63", "word.len() <= 62", "a list's name of 63 bytes is no name"),
+    Fault("le-below-ge", "form of a line", "cfg_forms_policy/src/prefix_entry.rt", "read_len(text(bytes, *high), ge)", "read_len(text(bytes, *high), len)",
+          "`le` may be less than `ge`"),
+    Fault("any-own-number", "check of the network", "cfg_check/src/prepends.rt", "numbers.iter().all(", "numbers.iter().any(",
+          "prepended numbers are taken where one of them is the router's own"),
+    Fault("le-own-length", "prefix lists", "prefix_lists/src/answers.rt", "(None, Some(le)) => entry.prefix.len() <= len", "(None, Some(le)) => entry.prefix.len() < len",
+          "`le` does not hold for the entry's own length"),
+    Fault("exact-is-within", "community lists, on a route", "community_lists/src/answers.rt", "holds(line, comms) && names_all(line, comms)", "names_all(line, comms)",
+          "an exact match holds for fewer communities too"),
+    Fault("exact-of-others", "exact match, in diagrams", "policy_dd/src/exact.rt", "let none = store.not(carried.others)?;", "let none = store.constant(true);",
+          "an exact match holds beside communities that no line names"),
+    Fault("exact-denies", "exact match, in diagrams", "policy_dd/src/exact.rt", "    if line.permit {\n        return none;", "    if line.permit || !line.permit {\n        return none;",
+          "a deny line of an exact match permits"),
+    Fault("delete-last", "route maps, on a route", "route_maps/src/verdict.rt",
+          "    let kept = without_deleted(alloc, &entry.delete, comms)?;\n    let comms = change_of(alloc, &entry.change, kept)?;",
+          "    let kept = change_of(alloc, &entry.change, comms.copy()?)?;\n    let comms = without_deleted(alloc, &entry.delete, &kept)?;",
+          "deletion comes behind `set community`"),
+    Fault("set-is-kept", "route maps, in diagrams", "policy_dd/src/after.rt", "let node = store.or(put, kept)?;", "let node = store.and(put, kept)?;",
+          "a community that is set is carried on only where it was carried before"),
+    Fault("one-number", "sessions", "net_topology/src/peers.rt", "p.remote == q.number && p.number == q.remote", "p.remote == q.number",
+          "the second neighbour line of a session may name another AS number"),
+    Fault("cost-of-type", "OSPF costs", "cfg_ast/src/lookups.rt", '("FastEthernet", 1),', '("FastEthernet", 10),', "`FastEthernet` costs 10"),
+    Fault("inner-edges", "refinement", "refine_partition/src/arrivals.rt", "if numbers[import.importer as usize] != block {",
+          "if numbers[import.importer as usize] != block || numbers[import.importer as usize] == block {", "edges inside a group count"),
+    Fault("fewer-links", "links of groups", "abstract_net/src/runs.rt", "to_low.len().max(to_high.len())", "to_low.len().min(to_high.len())",
+          "two groups have the links of the direction with fewer acts"),
+    Fault("default-preference", "what is emitted", "config_emit/src/bgp.rt", "if value == 100 {", "if value >= 100 {",
+          "an originator's default preference above 100 is not written"),
+    Fault("lift-any-communities", "lift", "solution_lift/src/next.rt", "\n                && comms.as_slice() == other_comms.as_slice()", "",
+          "`lift` takes a route with other communities"),
+    Fault("ties-of-communities", "check", "solution_check/src/weights.rt", "Ordering::Less => Ok(true),", "Ordering::Less => Ok(false),",
+          "a candidate does not beat a label by its communities"),
+    Fault("ties-of-lone", "check", "solution_check/src/weights.rt", "Ok(order == Ordering::Less)", "Ok(order == Ordering::Less && lp == 0)",
+          "a candidate does not beat a label by the lone routers on its path"),
+    Fault("groups-missing", "certificates", "cut_certificate/src/standing.rt", "if named != groups.len() {", "if named > groups.len() {",
+          "a certificate need not name all groups"),
+]

@@ -1,0 +1,102 @@
+"""Each law of `laws.py` is broken by a program that errs in it, and by no program that does not."""
+from __future__ import annotations
+
+from collections.abc import Callable
+
+import pytest
+
+from hostile import laws
+from hostile.asking import Asked, Asker, Counts
+from hostile.tests.texts import program
+from roads.program import TOP, Answer, Program
+
+INPUTS = TOP / "examples" / "inputs"
+Edit = Callable[[tuple[str, ...], Answer], Answer]
+
+
+class Erring(Program):
+    """The program, of which an edit turns some answers."""
+
+    def __init__(self, edit: Edit) -> None:
+        super().__init__(program().path)
+        self.edit = edit
+
+    def ask(self, *words: str, texts: dict[str, str | bytes] | None = None, seconds: float | None = None) -> Answer:
+        """The answer as the edit has it."""
+        answer = Asker.ask(program(), *words, texts=texts, seconds=seconds)
+        return self.edit(words, answer)
+
+
+def turned(command: str, **parts: object) -> Edit:
+    """An edit of the answers of one command that were done."""
+    def edit(words: tuple[str, ...], answer: Answer) -> Answer:
+        if words[0] != command or answer.status:
+            return answer
+        told = {key: value(getattr(answer, key)) if callable(value) else value for key, value in parts.items()}
+        return Answer(**{"status": answer.status, "out": answer.out, "err": answer.err, **told})
+
+    return edit
+
+
+def broken(edit: Edit, name: str = "fabric.cfg", seeds: int = 4) -> set[str]:
+    """The names of the laws that do not hold over an example."""
+    text = (INPUTS / name).read_bytes()
+    return {one.command for seed in range(seeds) for one in laws.broken(Asked(Erring(edit), Counts()), text, seed)}
+
+
+@pytest.mark.parametrize("name", ["fabric.cfg", "ring-with-maps.cfg", "campus.cfg", "edge-and-provider.cfg"])
+def test_the_program_keeps_all_laws(name: str) -> None:
+    """Over examples of both protocols."""
+    assert broken(lambda words, answer: answer, name) == set()
+
+
+def _one_group_less(out: bytes) -> bytes:
+    first, _, rest = out.partition(b"\n")
+    second, _, rest = rest.partition(b"\n")
+    return first + b" " + second.partition(b": ")[2] + b"\n" + rest
+
+
+CASES = {
+    "compressed-is-read": turned("compress", out=lambda out: out.replace(b"\nend", b"\nend all", 1)),
+    "compressed-again": turned("groups", out=_one_group_less),
+    "compressed-twice": turned("compress", out=lambda out: out.replace(b"hostname ", b"hostname x-", 1) if out.count(b"! member") <= 3 else out),
+    "check-below-is-lift": turned("lift", status=6, err=b"not stable: x not-a-candidate\n"),
+    "lifted-is-stable": turned("lift", out=lambda out: out.replace(b" bgp 100 ", b" bgp 101 ", 1)),
+    "folded-is-stable-below": turned("fold", out=lambda out: out.replace(b" bgp 100 ", b" bgp 101 ", 1)),
+    "rest-is-stable": turned("run", out=lambda out: out.replace(b"rest\n", b"moving x\n", 1)),
+    "check-is-fold": turned("fold", status=6, err=b"not stable: x better-candidate\n"),
+    "folded-is-lifted": turned("fold", out=lambda out: out.replace(b" bgp 100 ", b" bgp 101 ", 1)),
+    "reached-rests": turned("reach", out=b""),
+    "certified-is-verified": turned("certify", out=lambda out: out.replace(b"group ", b"group x", 1)),
+}
+
+
+@pytest.mark.parametrize("law", CASES)
+def test_a_program_that_errs_breaks_the_law(law: str) -> None:
+    """Each law by an error of its own."""
+    assert f"law-{law}" in broken(CASES[law])
+
+
+@pytest.mark.parametrize(("law", "command"), [("permuted-classes", "classes"), ("permuted-groups", "groups"), ("renamed-classes", "classes"), ("renamed-groups", "groups"),
+                                              ("moved-lines-classes", "classes"), ("moved-lines-groups", "groups"), ("renumbered-groups", "groups")])
+def test_a_program_that_looks_at_order_or_names(law: str, command: str) -> None:
+    """The second text that it is asked about, as a permuted one, has another answer."""
+    seen: list[bytes] = []
+
+    class Second(Program):
+        def ask(self, *words: str, texts: dict[str, str | bytes] | None = None, seconds: float | None = None) -> Answer:
+            answer = Asker.ask(program(), *words, texts=texts, seconds=seconds)
+            text = bytes(texts["F"])
+            if text not in seen:
+                seen.append(text)
+            if words[0] != command or seen[0] == text or answer.status:
+                return answer
+            out = answer.out.replace(b"/24", b"/25", 1) if command == "classes" else _one_group_less(answer.out)
+            return Answer(0, out, b"")
+
+    names = set()
+    text = (INPUTS / "fabric.cfg").read_bytes()
+    for seed in range(12):
+        seen.clear()
+        names |= {one.command for one in laws.broken(Asked(Second(program().path), Counts()), text, seed)}
+    assert f"law-{law}" in names
