@@ -9,7 +9,7 @@ import signal
 import subprocess
 
 from roads.native import native
-from roads.program import Answer, Program
+from roads.program import TOP, Answer, Program
 
 SECONDS = 60.0
 LARGEST_READ = 1 << 30
@@ -17,10 +17,11 @@ LARGEST_READ = 1 << 30
 
 @dataclasses.dataclass
 class Counts:
-    """What was asked so far: commands, and kinds of refusals and other ends."""
+    """What was asked so far: commands, kinds of refusals and other ends, and texts that the second reader judges only in part."""
 
     commands: collections.Counter[str] = dataclasses.field(default_factory=collections.Counter)
     kinds: collections.Counter[str] = dataclasses.field(default_factory=collections.Counter)
+    partly: int = 0
 
     def note(self, command: str, answer: Answer) -> None:
         """One more command."""
@@ -32,10 +33,15 @@ class Counts:
 
 
 class Asker(Program):
-    """The program as one file, whose outputs are files in memory. `ask` has the same answers as that of Program."""
+    """The program, without the launcher in front of it, whose outputs are files in memory. `ask` has the same answers as that of Program.
+
+    Refused where the launcher names no program yet."""
 
     def __init__(self, path: str | None = None) -> None:
-        super().__init__(path or str(native(Program())))
+        super().__init__(path)
+        if os.path.realpath(self.path) == str(TOP / "bonsai"):
+            self.path = str(native(self))
+        self._environment = dict(os.environ)
         self._out, self._err = (os.memfd_create(name, os.MFD_CLOEXEC) for name in ("out", "err"))
 
     def close(self) -> None:
@@ -62,7 +68,7 @@ class Asker(Program):
             os.ftruncate(file, 0)
             os.lseek(file, 0, os.SEEK_SET)
         actions = [(os.POSIX_SPAWN_OPEN, 0, "/dev/null", os.O_RDONLY, 0), (os.POSIX_SPAWN_DUP2, self._out, 1), (os.POSIX_SPAWN_DUP2, self._err, 2)]
-        child = os.posix_spawn(words[0], words, os.environ, file_actions=actions)
+        child = os.posix_spawn(words[0], words, self._environment, file_actions=actions)
         watch = os.pidfd_open(child)
         try:
             poll = select.poll()

@@ -11,8 +11,7 @@ from pathlib import Path
 
 from hostile import running
 from hostile.asking import Asker, Counts
-from hostile.judge.answers import TooLarge
-from roads.program import Program
+from roads.command_line import Refused
 
 
 def words() -> argparse.ArgumentParser:
@@ -25,20 +24,25 @@ def words() -> argparse.ArgumentParser:
     parser.add_argument("--seed", type=int, help="the seed, a number; the same seed makes the same texts in the same order")
     parser.add_argument("--keep", type=Path, default=Path("out/hostile"), help="the folder for texts that differ (default out/hostile)")
     parser.add_argument("--log", type=Path, help="a file that gets the counts as a line of JSON each minute and at the end, behind what it had")
+    parser.add_argument("--answers", type=Path, help="a file that keeps the program's answers, so that later runs over the same texts do not ask it again")
     parser.add_argument("--text", type=Path, help="ask over this text alone, with --seed")
     return parser
 
 
 def main(arguments: list[str] | None = None) -> int:
-    """Status 0 without a difference, 1 with one or a text that is too large, 2 for wrong words, 3 where a file can't be read or made."""
+    """Status 0 without a difference, 1 with one or without a program, 2 for wrong words, 3 where a file can't be read or made."""
     parser = words()
     given = parser.parse_args(arguments)
+    try:
+        Asker().close()
+    except Refused as why:
+        parser.exit(1, f"hostile/run: refused: {why}\n")
     if given.jobs < 1:
         parser.error("--jobs is at least 1")
     seed = given.seed if given.seed is not None else int.from_bytes(os.urandom(3), "big")
     if given.text:
         return _alone(parser, given.text, seed)
-    plan = running.Plan(seed, given.seconds, given.jobs, given.keep, given.commands, given.first)
+    plan = running.Plan(seed, given.seconds, given.jobs, given.keep, given.commands, given.first, given.answers)
     print(f"seed {seed}", flush=True)
     with contextlib.ExitStack() as room:
         log = None
@@ -65,9 +69,7 @@ def head_of_log(plan: running.Plan) -> str:
 
 def _alone(parser: argparse.ArgumentParser, file: Path, seed: int) -> int:
     try:
-        differ = running.differences(Program(), file.read_bytes(), seed, Counts())
-    except TooLarge:
-        parser.exit(1, "hostile/run: refused: the text names more communities than the judge lists\n")
+        differ = running.differences(Asker(), file.read_bytes(), seed, Counts())
     except OSError as fault:
         parser.exit(3, f"hostile/run: {file}: {fault.strerror}\n")
     print("\n".join(f"{one.command}: expected {one.expected}\nanswered {one.answered}" for one in differ) or "no difference")

@@ -33,12 +33,15 @@ class Comparison:
         self.found: list[Difference] = []
 
     def run(self) -> list[Difference]:
-        """Asks all commands and gives what differs."""
+        """Asks all commands and gives what differs. Of a text with many communities only `classes` is asked."""
         net = answers.read(self.text)
         if isinstance(net, answers.Expected):
             self._same("classes", self._ask("classes"), net)
             return self.found
         self._same("classes", self._ask("classes"), answers.Expected(0, out=answers.classes(net)))
+        if answers.has_many_communities(net):
+            self.asked.counts.partly += 1
+            return self.found
         if len(net.classes) <= LARGEST_SUMMARY:
             self._same("summary", self._ask("summary"), answers.Expected(0, out=answers.summary(net)))
         beyond = str(len(net.classes) + self.chance.randint(1, 3))

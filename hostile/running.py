@@ -17,8 +17,8 @@ from typing import TextIO
 from hostile import laws, shrink
 from hostile.asking import Asked, Asker, Counts
 from hostile.compare import Comparison, Difference
-from hostile.judge.answers import TooLarge
 from hostile.judge.network import Refused
+from hostile.kept_answers import KeptAsker
 from hostile.makers import makers
 from roads.program import Program
 
@@ -31,14 +31,13 @@ class Found:
     """What a job, or all of them, came to."""
 
     runs: int = 0
-    left_out: int = 0
     counts: Counts = dataclasses.field(default_factory=Counts)
     differences: list[str] = dataclasses.field(default_factory=list)
 
     def add(self, other: Found) -> None:
         """Takes what another job found to this."""
         self.runs += other.runs
-        self.left_out += other.left_out
+        self.counts.partly += other.counts.partly
         self.counts.commands += other.counts.commands
         self.counts.kinds += other.counts.kinds
         self.differences += other.differences
@@ -51,7 +50,7 @@ class Found:
 
 @dataclasses.dataclass(frozen=True)
 class Plan:
-    """What a run asks for: its seed, how long and by how many jobs, at most how many commands, and whether the first difference ends it."""
+    """What a run asks for: its seed, how long and by how many jobs, at most how many commands, whether the first difference ends it, and a file of answers."""
 
     seed: int
     seconds: float
@@ -59,6 +58,7 @@ class Plan:
     folder: Path
     commands: int | None = None
     first: bool = False
+    answers: Path | None = None
 
 
 def differences(program: Program, text: bytes, seed: int, counts: Counts) -> list[Difference]:
@@ -73,23 +73,19 @@ def differences(program: Program, text: bytes, seed: int, counts: Counts) -> lis
 
 
 @functools.cache
-def _program() -> Asker:
+def _program(answers: Path | None) -> Asker:
     signal.signal(signal.SIGINT, signal.SIG_IGN)
-    return Asker()
+    return KeptAsker(answers) if answers else Asker()
 
 
 def part_of_job(plan: Plan, number: int, turn: int, seconds: float) -> tuple[Found, int]:
     """A job's texts from a turn on, for some time, and the next turn. A difference ends it where the first is looked for."""
-    program, found, until = _program(), Found(), time.monotonic() + seconds
+    program, found, until = _program(plan.answers), Found(), time.monotonic() + seconds
     while time.monotonic() < until and not (plan.first and found.differences):
         turn += 1
         start = plan.seed * 1_000_003 + number * 100_000_007 + turn
         text = makers.made(random.Random(start))
-        try:
-            differ = differences(program, text, start, found.counts)
-        except TooLarge:
-            found.left_out += 1
-            continue
+        differ = differences(program, text, start, found.counts)
         found.runs += 1
         found.differences += [_kept(program, text, start, difference, plan.folder) for difference in differ[:1]]
     return found, turn
@@ -97,10 +93,7 @@ def part_of_job(plan: Plan, number: int, turn: int, seconds: float) -> tuple[Fou
 
 def _kept(program: Program, text: bytes, start: int, difference: Difference, folder: Path) -> str:
     def holds(smaller: bytes) -> bool:
-        try:
-            return any(other.command == difference.command for other in differences(program, smaller, start, Counts()))
-        except TooLarge:
-            return False
+        return any(other.command == difference.command for other in differences(program, smaller, start, Counts()))
 
     small = shrink.smallest(text, holds)
     again = next((other for other in differences(program, small, start, Counts()) if other.command == difference.command), difference)
@@ -143,7 +136,7 @@ def run(plan: Plan, log: TextIO | None = None) -> tuple[Found, float]:
 def line_of_log(found: Found, seconds: float) -> str:
     """What was asked so far, as one line of JSON."""
     counts = {"commands": dict(sorted(found.counts.commands.items())), "kinds": dict(sorted(found.counts.kinds.items()))}
-    return json.dumps({"seconds": round(seconds, 1), "texts": found.runs, "left_out": found.left_out, "asked": found.asked, **counts, "differences": found.differences})
+    return json.dumps({"seconds": round(seconds, 1), "texts": found.runs, "partly": found.counts.partly, "asked": found.asked, **counts, "differences": found.differences})
 
 
 def report(found: Found, seconds: float, jobs: int) -> str:
@@ -152,7 +145,7 @@ def report(found: Found, seconds: float, jobs: int) -> str:
         return " ".join(f"{name}:{count}" for name, count in sorted(counter.items(), key=lambda pair: (-pair[1], pair[0])))
 
     rows = [
-        f"runs {found.runs}, {found.left_out} left out with more communities than the judge lists",
+        f"runs {found.runs}, of which {found.counts.partly} name too many communities for more than classes and laws",
         f"seconds {seconds:.1f}, {found.asked / max(seconds, 0.001) / jobs:.0f} commands a second for each of {jobs} jobs",
         f"commands {found.asked}: {table(found.counts.commands)}",
         f"refusals and other ends: {table(found.counts.kinds)}",

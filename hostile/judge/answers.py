@@ -11,10 +11,6 @@ POOL = cut(100 << 24 | 64 << 16, 10)
 NAMED_AT_MOST = 7
 
 
-class TooLarge(Exception):
-    """A text whose acts the judge does not list: it names too many communities."""
-
-
 @dataclasses.dataclass(frozen=True)
 class Expected:
     """A status with its line on standard error, and the output where there is one form of it."""
@@ -29,12 +25,14 @@ def read(text: bytes) -> problem.Network | Expected:
     if len(text) > 16_777_216:
         return Expected(1, "refused: FileTooLong", "")
     try:
-        net = problem.network(reading.read(text))
+        return problem.network(reading.read(text))
     except Refused as refused:
         return Expected(1, f"refused: {refused}", "")
-    if net.protocol == "bgp" and len(problem.named(net.routers)) > NAMED_AT_MOST:
-        raise TooLarge
-    return net
+
+
+def has_many_communities(net: problem.Network) -> bool:
+    """Whether a network names too many communities for acts to be listed over all their sets."""
+    return net.protocol == "bgp" and len(problem.named(net.routers)) > NAMED_AT_MOST
 
 
 def classes(net: problem.Network) -> str:

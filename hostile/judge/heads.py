@@ -60,12 +60,14 @@ def _is(part: str, word: str) -> bool:
     return part == word
 
 
+PARTS = {part for heads in BY_FIRST.values() for _, head in heads for part in head}
+"""The words that heads have. Other words are alike to them, but for numbers."""
 LONGEST = max(len(head) for heads in BY_FIRST.values() for _, head in heads)
 
 
 def what(scope: str, line: list[str]) -> str | None:
     """`known`, `refused` or `ignored`, by the longest head that begins the line; None for a line of no head."""
-    return _what(scope, tuple(line[:LONGEST]))
+    return _what(scope, tuple(word if word in PARTS or word.isdigit() else "" for word in line[:LONGEST]))
 
 
 @functools.lru_cache(100_000)

@@ -1,19 +1,22 @@
 """Runs the cases of `limits.texts` and tells what differs, with time and memory of each."""
 from __future__ import annotations
 
+import argparse
 import dataclasses
+import functools
 import subprocess
 import sys
 import tempfile
 from pathlib import Path
 
-from hostile.limits.texts import Case, cases
-from roads.program import Program
+from hostile.asking import Asker
+from hostile.limits.texts import Case, cases, worst
 
 WATCH = """
 import resource, subprocess, sys, time
-start = time.monotonic()
-status = subprocess.run(sys.argv[2:]).returncode
+start, limit = time.monotonic(), int(sys.argv[2]) * 1024
+bound = (lambda: resource.setrlimit(resource.RLIMIT_AS, (limit, limit))) if limit else None
+status = subprocess.run(sys.argv[3:], preexec_fn=bound).returncode
 used = resource.getrusage(resource.RUSAGE_CHILDREN)
 with open(sys.argv[1], "w") as file:
     print(status, used.ru_utime + used.ru_stime, time.monotonic() - start, used.ru_maxrss / 1024, file=file)
@@ -32,6 +35,14 @@ class Measured:
     memory: float
 
 
+@functools.cache
+def program() -> str:
+    """The program without its launcher, whose memory is not measured."""
+    asker = Asker()
+    asker.close()
+    return asker.path
+
+
 def measured(case: Case, folder: Path) -> Measured:
     """Runs one case, with its texts and its output in files of a folder."""
     files = {"F": folder / "F", "S": folder / "S"}
@@ -39,7 +50,8 @@ def measured(case: Case, folder: Path) -> Measured:
     files["S"].write_bytes(case.second() if case.second else b"")
     words = [str(files[word]) if word in files else word for word in case.words]
     with (folder / "out").open("wb") as out, (folder / "err").open("wb") as err:
-        subprocess.run([sys.executable, "-c", WATCH, str(folder / "used"), Program().path, *words], stdout=out, stderr=err, check=True)
+        watch = [sys.executable, "-c", WATCH, str(folder / "used"), str(case.memory or 0)]
+        subprocess.run([*watch, program(), *words], stdout=out, stderr=err, check=True)
     status, processor, seconds, memory = (folder / "used").read_text().split()
     reason = (folder / "err").read_text().strip()
     lines = (folder / "out").read_bytes().count(b"\n")
@@ -48,12 +60,15 @@ def measured(case: Case, folder: Path) -> Measured:
     return Measured(case, wrong, float(processor), float(seconds), float(memory))
 
 
-def main() -> int:
+def main(arguments: list[str] | None = None) -> int:
     """`hostile/limits/measure`: a line for each case; status 1 where one has another answer."""
+    parser = argparse.ArgumentParser(prog="hostile/limits/measure", description="Each limit at its value and one beyond, with time and memory; or the worst texts.")
+    parser.add_argument("--worst", type=int, metavar="SCALE", help="in place of the limits, texts made against hash tables, of up to 4,000 times SCALE keys, and against diagrams")
+    given = parser.parse_args(arguments)
     failed = False
     print("| limit | command | ends with | processor seconds | MiB |\n|---|---|---|---:|---:|")
     with tempfile.TemporaryDirectory() as folder:
-        for case in cases():
+        for case in cases() if given.worst is None else worst(given.worst):
             one = measured(case, Path(folder))
             failed |= bool(one.wrong)
             end = f"**{one.wrong}**" if one.wrong else case.reason or "done"

@@ -4,12 +4,16 @@ from __future__ import annotations
 import dataclasses
 from collections.abc import Callable, Iterator
 
+from hostile.limits import collisions
+
 TOO_LONG = "refused: FileTooLong"
 
 
 @dataclasses.dataclass(frozen=True)
 class Case:
-    """A command over a text F, and S where it has one: its status, its line on standard error, and how many lines it writes."""
+    """A command over a text F, and S where it has one: its status, its line on standard error, and how many lines it writes.
+
+    `memory` bounds the address space of the command, in KiB."""
 
     name: str
     words: tuple[str, ...]
@@ -18,6 +22,7 @@ class Case:
     reason: str = ""
     lines: int | None = None
     second: Callable[[], bytes] | None = None
+    memory: int | None = None
 
 
 def joined(lines: list[str]) -> bytes:
@@ -93,6 +98,22 @@ def cases() -> Iterator[Case]:
     yield Case("certificate bytes and 1", ("verify", "F", "1", "S"), lambda: ONE, 1, "refused: certificate FileTooLong", 0, lambda: padded(certificate, 16_777_217))
     yield Case("fat tree", ("trial", "20"), lambda: b"", 0, "", 200)
     yield Case("fat tree and 2", ("trial", "22"), lambda: b"", 1, "refused: BadSize 22", 0)
+
+
+def worst(scale: int) -> Iterator[Case]:
+    """Texts made to take long: against the tables by hashes, each beside a plain text of the same size, and against the diagrams. `scale` multiplies their sizes."""
+    one = ("classes", "F")
+    for count in (1000 * scale, 2000 * scale, 4000 * scale):
+        yield Case(f"{count:,} names", one, lambda count=count: collisions.plain_names(count), 0, "", 0)
+        yield Case(f"{count:,} names that meet", one, lambda count=count: collisions.with_names(count), 0, "", 0)
+    for count in (2000 * scale, 4000 * scale):
+        yield Case(f"{count:,} addresses", one, lambda count=count: collisions.plain_addresses(count), 0, "", 0)
+        yield Case(f"{count:,} addresses that meet", one, lambda count=count: collisions.with_addresses(count), 0, "", 0)
+    groups = ("groups", "F", "1")
+    for pairs in (8, 12, 14):
+        yield Case(f"a list of {pairs} lines whose diagram has 2^{pairs} nodes", groups, lambda pairs=pairs: collisions.exploding(pairs), 0, "", 2)
+    for memory in (32_768, 65_536):
+        yield Case(f"2^60 nodes in {memory // 1024} MiB", groups, lambda: collisions.exploding(60), 5, "out of memory", 0, memory=memory)
 
 
 def padded(text: bytes, size: int) -> bytes:

@@ -1,8 +1,11 @@
 """Texts with faults: lines planted at a place, words and lines changed, bytes."""
 from __future__ import annotations
 
+import functools
 import random
 from pathlib import Path
+
+from hostile.makers import forms
 
 EXAMPLES = Path(__file__).resolve().parents[2] / "examples"
 
@@ -34,7 +37,7 @@ def planted(chance: random.Random, text: str) -> bytes:
         place = chance.randint(0, len(lines))
         how = chance.random()
         if how < 0.7 or not lines:
-            line = chance.choice(PLANTS)
+            line = forms.line(chance) if chance.random() < 0.6 else chance.choice(PLANTS)
             likely = _places(lines, line)
             lines.insert(chance.choice(likely) if likely and chance.random() < 0.85 else place, line)
         elif how < 0.8:
@@ -48,7 +51,7 @@ def planted(chance: random.Random, text: str) -> bytes:
 
 def _places(lines: list[str], line: str) -> list[int]:
     """Where a line can stand without being at fault for its place: behind the lines of a stanza that has such lines, or at the top."""
-    if not line.startswith(" "):
+    if line[:1] not in (" ", "\t"):
         return [at for at, other in enumerate(lines) if not other.startswith(" ")]
     first = line.split()[0] if line.split() else ""
     stanzas = {"ip": "interface", "shutdown": "interface", "neighbor": "router bgp", "bgp": "router bgp", "match": "route-map", "set": "route-map",
@@ -84,6 +87,7 @@ def bytes_changed(chance: random.Random, text: bytes) -> bytes:
     return bytes(found)
 
 
+@functools.cache
 def examples() -> list[bytes]:
     """The texts of the examples, and each configuration of their folders, that are not large."""
     files = [*(EXAMPLES / "inputs").glob("*.cfg"), *(file for file in (EXAMPLES / "folders").rglob("*") if file.is_file())]

@@ -24,11 +24,14 @@ EDITS: list[tuple[str, list[str]]] = [
 ]
 
 
+COMPILED = {pattern: re.compile(pattern) for pattern, _ in EDITS}
+
+
 def changed(chance: random.Random, text: str) -> bytes:
     """One to three edits, each at one of the lines that it fits."""
     lines = text.splitlines()
     for _ in range(chance.choice([1, 1, 2, 3])):
-        fitting = [(place, edit) for edit in EDITS for place, line in enumerate(lines) if re.search(edit[0], line)]
+        fitting = [(place, edit) for edit in EDITS for place, line in enumerate(lines) if COMPILED[edit[0]].search(line)]
         kinds = sorted({edit[0] for _, edit in fitting})
         if not kinds:
             break

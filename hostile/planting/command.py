@@ -1,4 +1,4 @@
-"""`hostile/plant`: plants faults, one at a time, and tells which of them a run finds."""
+"""`hostile/plant` and `hostile/sensitivity`: plant faults, one at a time, and tell which of them a run finds."""
 from __future__ import annotations
 
 import argparse
@@ -9,12 +9,14 @@ import re
 import subprocess
 import sys
 import tempfile
+from collections.abc import Callable
 from pathlib import Path
 
 from hostile.asking import Asker
-from hostile.planting import copies, judge_faults, program_faults
+from hostile.planting import copies, judge_faults
 from hostile.planting.copies import Unfit
 from hostile.planting.fault import Fault
+from hostile.planting.program_faults import FAULTS
 from roads.program import TOP
 
 
@@ -33,10 +35,10 @@ class Outcome:
         return f"| {self.fault.layer} | {self.fault.means} | {found} | {self.texts:,} | {self.seconds:.0f} |"
 
 
-def outcome(fault: Fault, script: Path, program: Path, given: argparse.Namespace) -> Outcome:
+def outcome(fault: Fault, script: Path, program: Path, given: argparse.Namespace, *more: str) -> Outcome:
     """A run that ends at its first difference."""
     keep = given.folder.resolve() / "differed" / fault.name
-    words = ["--seconds", str(given.seconds), "--jobs", str(given.jobs), "--seed", str(given.seed), "--first", "--keep", str(keep)]
+    words = ["--seconds", str(given.seconds), "--jobs", str(given.jobs), "--seed", str(given.seed), "--first", "--keep", str(keep), *more]
     ran = subprocess.run([str(script), *words], env={**os.environ, "BONSAI_PROGRAM": str(program.resolve())}, capture_output=True, text=True, check=False)
     texts, seconds = re.search(r"runs (\d+)", ran.stdout), re.search(r"seconds ([\d.]+)", ran.stdout)
     if not texts or not seconds:
@@ -52,33 +54,42 @@ def of_program(fault: Fault, given: argparse.Namespace) -> Outcome | None:
 
 
 def of_judge(fault: Fault, given: argparse.Namespace) -> Outcome | None:
-    """A fault of the second reader, asked about the program as it is."""
+    """A fault of the second reader, asked about the program as it is, whose answers serve for all faults."""
     program = Asker()
     program.close()
-    with tempfile.TemporaryDirectory(prefix="planted-") as room:
-        return outcome(fault, copies.reader(fault, Path(room)), Path(program.path), given)
+    with tempfile.TemporaryDirectory(prefix="sensitivity-") as room:
+        given.folder.mkdir(parents=True, exist_ok=True)
+        return outcome(fault, copies.reader(fault, Path(room)), Path(program.path), given, "--answers", str(given.folder.resolve() / "answers"))
 
 
-def words() -> argparse.ArgumentParser:
-    """The words of `hostile/plant`."""
-    parser = argparse.ArgumentParser(prog="hostile/plant", description="Plant faults in copies of the program, or of the second reader, and tell which of them hostile/run finds.")
+def words(name: str, what: str, seconds: float) -> argparse.ArgumentParser:
+    """The words that both have."""
+    parser = argparse.ArgumentParser(prog=f"hostile/{name}", description=f"Plant faults in {what}, one at a time, and tell which of them hostile/run finds.")
     parser.add_argument("name", nargs="*", help="faults by their names; all without a name")
-    parser.add_argument("--judge", action="store_true", help="plant them in the second reader")
     parser.add_argument("--list", action="store_true", help="name the faults, and plant none")
-    parser.add_argument("--build", action="store_true", help="build copies of the program, and run none")
-    parser.add_argument("--side", type=int, default=2, help="how many faults are tried side by side (default 2)")
-    parser.add_argument("--seconds", type=float, default=120, help="how long each run may take (default 120)")
-    parser.add_argument("--jobs", type=int, default=1, help="the processes of a run (default 1)")
+    parser.add_argument("--side", type=int, default=1, help="how many faults are tried side by side (default 1)")
+    parser.add_argument("--seconds", type=float, default=seconds, help=f"how long each run may take (default {seconds:.0f})")
+    parser.add_argument("--jobs", type=int, default=2, help="the processes of a run (default 2)")
     parser.add_argument("--seed", type=int, default=1, help="the seed of each run (default 1)")
-    parser.add_argument("--folder", type=Path, default=Path("out/planted"), help="where built copies and what differed are kept (default out/planted)")
+    parser.add_argument("--folder", type=Path, default=Path("out") / name, help=f"where built copies, answers and what differed are kept (default out/{name})")
     return parser
 
 
-def main(arguments: list[str] | None = None) -> int:
+def plant(arguments: list[str] | None = None) -> int:
+    """`hostile/plant`."""
+    parser = words("plant", "copies of the program", 120)
+    parser.add_argument("--build", action="store_true", help="build the copies, and run none")
+    return _all(parser, arguments, FAULTS, of_program)
+
+
+def sensitivity(arguments: list[str] | None = None) -> int:
+    """`hostile/sensitivity`."""
+    return _all(words("sensitivity", "copies of the second reader", 120), arguments, judge_faults.FAULTS, of_judge)
+
+
+def _all(parser: argparse.ArgumentParser, arguments: list[str] | None, faults: list[Fault], tried: Callable[[Fault, argparse.Namespace], Outcome | None]) -> int:
     """Status 0 where each fault is found but at most one in ten, 1 else, 2 for wrong words."""
-    parser = words()
     given = parser.parse_args(arguments)
-    faults, tried = (judge_faults.FAULTS, of_judge) if given.judge else (program_faults.FAULTS, of_program)
     chosen = [fault for fault in faults if not given.name or fault.name in given.name]
     if len(chosen) < len(set(given.name)):
         parser.error("no such fault; --list names them")
@@ -92,7 +103,7 @@ def main(arguments: list[str] | None = None) -> int:
                 found = one.result()
             except Unfit as why:
                 failed += 1
-                print(f"hostile/plant: {why}", file=sys.stderr)
+                print(f"{parser.prog}: {why}", file=sys.stderr)
                 continue
             if found:
                 missed += not found.command

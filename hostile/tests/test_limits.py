@@ -1,19 +1,37 @@
 """Each limit at its value and one beyond."""
 from __future__ import annotations
 
+import shutil
 from pathlib import Path
 
 import pytest
 
+from hostile.limits import collisions
 from hostile.limits.measuring import measured
 from hostile.limits.stale import Ring, ran
-from hostile.limits.texts import Case, cases, exact_pairs, long_text
+from hostile.limits.texts import Case, cases, exact_pairs, long_text, worst
 
 
 @pytest.mark.parametrize("case", cases(), ids=lambda case: case.name)
 def test_a_limit(case: Case, tmp_path: Path) -> None:
     """The answer is the one that the pages tell."""
     assert measured(case, tmp_path).wrong == ""
+
+
+@pytest.mark.skipif(shutil.which("gcc") is None, reason="no gcc here")
+@pytest.mark.parametrize("case", worst(1), ids=lambda case: case.name)
+def test_a_text_made_to_take_long(case: Case, tmp_path: Path) -> None:
+    """The answer is that of a plain text, or `out of memory` where memory is bounded."""
+    assert measured(case, tmp_path).wrong == ""
+
+
+@pytest.mark.skipif(shutil.which("gcc") is None, reason="no gcc here")
+def test_keys_that_meet() -> None:
+    """Different names and addresses, as many as were asked for."""
+    for kind in ("names", "addresses"):
+        found = collisions.keys(kind, 2000)
+        assert len(set(found)) == len(found) == 2000
+    assert all(len(name) == 8 and name[0] == "a" and name[-1] == "0" for name in collisions.keys("names", 10))
 
 
 def test_the_sizes_of_texts() -> None:

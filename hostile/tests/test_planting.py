@@ -1,0 +1,52 @@
+"""Faults can be planted where they say."""
+from __future__ import annotations
+
+import subprocess
+from pathlib import Path
+
+import pytest
+
+from hostile.planting import copies, judge_faults, program_faults
+from hostile.planting.fault import Fault
+from roads.program import TOP
+
+ALL = [(TOP / "hostile" / "judge", fault) for fault in judge_faults.FAULTS] + [(TOP / "crates", fault) for fault in program_faults.FAULTS]
+
+
+@pytest.mark.parametrize(("folder", "fault"), ALL, ids=lambda part: part.name if isinstance(part, Fault) else "in")
+def test_a_fault_fits(folder: Path, fault: Fault, tmp_path: Path) -> None:
+    """Its right piece stands once in its file, and its name is its own."""
+    copy = tmp_path / "copy"
+    copy.write_text((folder / fault.file).read_text())
+    copies.planted(fault, copy)
+    assert fault.wrong in copy.read_text() and copy.read_text() != (folder / fault.file).read_text()
+    if folder.name == "judge":
+        compile(copy.read_text(), fault.file, "exec")
+
+
+def test_names_are_different() -> None:
+    """In each list; at least ten, and in many layers."""
+    for faults in (judge_faults.FAULTS, program_faults.FAULTS):
+        assert len({fault.name for fault in faults}) == len(faults) and len({fault.layer for fault in faults}) >= 10
+
+
+def test_a_piece_that_is_not_there(tmp_path: Path) -> None:
+    """Unfit, and nothing is written."""
+    (tmp_path / "file").write_text("a a\n")
+    for right in ("a", "b"):
+        with pytest.raises(copies.Unfit):
+            copies.planted(Fault("x", "layer", "file", right, "c", "means"), tmp_path / "file")
+
+
+def test_a_fault_of_the_second_reader_is_found(tmp_path: Path) -> None:
+    """One that the first texts show."""
+    tool = str(TOP / "hostile" / "sensitivity")
+    fault = Fault("all-refused", "words", "words.py", "return 1 <= len(word) <= 63", "return False", "no word names a list")
+    room = tmp_path / "room"
+    room.mkdir()
+    script = copies.reader(fault, room)
+    ran = subprocess.run([str(script), "--seconds", "60", "--jobs", "2", "--seed", "1", "--first", "--keep", str(tmp_path / "kept")], capture_output=True, text=True, check=False)
+    assert ran.returncode == 1 and "differences" in ran.stdout and "none" not in ran.stdout.splitlines()[-1], ran.stdout + ran.stderr
+    listed = subprocess.run([tool, "--list"], capture_output=True, text=True, check=False)
+    assert len(listed.stdout.splitlines()) == len(judge_faults.FAULTS)
+    assert subprocess.run([tool, "nothing"], capture_output=True, check=False).returncode == 2
