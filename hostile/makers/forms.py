@@ -45,11 +45,18 @@ FORMS = [
 ]
 
 
-def line(chance: random.Random) -> str:
-    """A line of some form; in one of three a word is off its form."""
+DEFINED = [
+    *(f"ip prefix-list {name} seq 7 permit 0.0.0.0/0 le 32" for name in ("P", "7", LONG)),
+    *(f"ip community-list standard {name} permit 65000:3" for name in ("A", "B", "7", "D", "exact-match", LONG)),
+    *(f"route-map {name} permit 20" for name in ("IN", "IN2", "OUT", "OUT2", LONG)),
+]
+
+
+def line(chance: random.Random, off: float = 0.33) -> str:
+    """A line of some form; in some a word is off its form."""
     form = chance.choice(FORMS)
     slots = re.findall(r"\{(\w+)\}", form)
-    wrong = chance.choice(slots) if slots and chance.random() < 0.33 else None
+    wrong = chance.choice(slots) if slots and chance.random() < off else None
 
     def word(found: re.Match[str]) -> str:
         good, bad = SLOTS[found[1]]
@@ -59,3 +66,29 @@ def line(chance: random.Random) -> str:
     if chance.random() < 0.05:
         made = made.replace(" ", chance.choice(["\t", "  ", " \t"]))
     return made.rstrip() + chance.choice(["", "", "", "", " ", "\t", "\r", " x"] if chance.random() < 0.3 else [""])
+
+
+def scope_of(line: str) -> str:
+    """A top line that opens a stanza where an indented line is known; empty for a line at the top."""
+    words = line.split()
+    if line[:1] not in (" ", "\t") or not words:
+        return ""
+    if words[0] in ("match", "set"):
+        return "route-map M permit 10"
+    if words[0] in ("passive-interface", "no") or " area" in line:
+        return "router ospf 1"
+    return "router bgp 65001" if words[0] in ("bgp", "network", "neighbor") else "interface Vlan1"
+
+
+def alone(chance: random.Random) -> bytes:
+    """A router with one or two lines of forms in their stanzas, behind what they need, and with the lists and maps that they may name."""
+    lines = ["hostname r0"] if chance.random() < 0.97 else []
+    for _ in range(chance.choice([1, 1, 1, 2])):
+        made = line(chance, 0.45)
+        lines += [scope_of(made)] if scope_of(made) and scope_of(made) not in lines else []
+        words = made.split()
+        if words[:1] == ["neighbor"] and len(words) > 2 and words[2] != "remote-as" and chance.random() < 0.9:
+            lines.append(f" neighbor {words[1]} remote-as 65002")
+        lines.append(made)
+    lines += [one for one in DEFINED if chance.random() < 0.95]
+    return "".join(f"{one}\n" for one in [*lines, "end"]).encode()

@@ -59,14 +59,12 @@ def test_a_twist_changes_one_line() -> None:
 
 def test_lines_of_forms() -> None:
     """Most fit their form, some do not; each known head is made."""
-    lines = [forms.line(random.Random(seed)) for seed in range(3000)]
-    kinds = collections.Counter()
-    for line in lines:
-        scope = {"i": "interface Vlan1", "s": "interface Vlan1", "b": "router bgp 65001", "n": "router bgp 65001", "p": "router ospf 1", "m": "route-map X permit 1"}.get(line.split()[0][0], "") if line[0] in " \t" else ""
-        scope = "route-map X permit 1" if line.split()[0] == "set" else "router ospf 1" if " area " in line or "passive" in line else scope
-        told = answers.read(f"hostname a\n{scope or '!'}\n{line}\nend\n".encode())
+    kinds: collections.Counter[str] = collections.Counter()
+    for seed in range(3000):
+        told = answers.read(forms.alone(random.Random(seed)))
         kinds[told.reason.split()[-1] if isinstance(told, answers.Expected) else "read"] += 1
-    assert kinds["read"] > 600 and kinds["BadForm"] > 300 and kinds["WellKnown"] > 10, kinds
+    assert kinds["read"] > 900 and kinds["BadForm"] > 600 and kinds["WellKnown"] > 30 and kinds["Repeated"] > 10, kinds
+    lines = [forms.line(random.Random(seed)) for seed in range(1000)]
     heads = {re.sub(r"\{.*", "", form).strip() for form in forms.FORMS}
     assert all(any(line.split()[: len(head.split())] == head.split() for line in lines) for head in heads)
 
@@ -111,12 +109,17 @@ def whole() -> tuple[problem.Network, problem.Problem]:
 
 def test_labels_are_solutions_of_the_right_form() -> None:
     """They can be read; some are stable, and the first reasons differ."""
-    net, one = whole()
-    reasons = collections.Counter()
-    for seed in range(200):
-        told = labels.fault(one, labels.read(label_maker.Maker(random.Random(seed), net, one).text(), one))
-        reasons[told[1] if told else "stable"] += 1
-    assert reasons["stable"] > 10 and reasons["not-a-candidate"] > 10, reasons
+    reasons: collections.Counter[str] = collections.Counter()
+    for seed in range(40):
+        chance = random.Random(seed)
+        net = answers.read(networks.bgp(chance, networks.shape(chance)).encode())
+        for one in [] if isinstance(net, answers.Expected) else net.classes[:1]:
+            made = problem.problem(net, one)
+            for _ in range(10):
+                told = labels.fault(made, labels.read(label_maker.Maker(chance, net, made).text(), made))
+                reasons[told[1] if told else "stable"] += 1
+    assert set(reasons) == {"stable", "not-a-candidate", "better-candidate", "none-with-candidate"} and min(reasons.values()) > 10, reasons
+    net, _ = whole()
     assert label_maker.telling_sets(net) == [frozenset({65000 << 16 | 1})]
 
 
