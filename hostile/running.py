@@ -7,6 +7,7 @@ import functools
 import hashlib
 import json
 import random
+import resource
 import signal
 import subprocess
 import time
@@ -28,15 +29,19 @@ LOG_EVERY = 60.0
 
 @dataclasses.dataclass
 class Found:
-    """What a job, or all of them, came to."""
+    """What a job, or all of them, came to, and the processor seconds of it."""
 
     runs: int = 0
+    own_seconds: float = 0.0
+    program_seconds: float = 0.0
     counts: Counts = dataclasses.field(default_factory=Counts)
     differences: list[str] = dataclasses.field(default_factory=list)
 
     def add(self, other: Found) -> None:
         """Takes what another job found to this."""
         self.runs += other.runs
+        self.own_seconds += other.own_seconds
+        self.program_seconds += other.program_seconds
         self.counts.partly += other.counts.partly
         self.counts.commands += other.counts.commands
         self.counts.kinds += other.counts.kinds
@@ -80,7 +85,7 @@ def _program(answers: Path | None) -> Asker:
 
 def part_of_job(plan: Plan, number: int, turn: int, seconds: float) -> tuple[Found, int]:
     """A job's texts from a turn on, for some time, and the next turn. A difference ends it where the first is looked for."""
-    program, found, until = _program(plan.answers), Found(), time.monotonic() + seconds
+    program, found, until, used = _program(plan.answers), Found(), time.monotonic() + seconds, _used()
     while time.monotonic() < until and not (plan.first and found.differences):
         turn += 1
         start = plan.seed * 1_000_003 + number * 100_000_007 + turn
@@ -88,7 +93,14 @@ def part_of_job(plan: Plan, number: int, turn: int, seconds: float) -> tuple[Fou
         differ = differences(program, text, start, found.counts)
         found.runs += 1
         found.differences += [_kept(program, text, start, difference, plan.folder) for difference in differ[:1]]
+    found.own_seconds, found.program_seconds = (after - before for after, before in zip(_used(), used))
     return found, turn
+
+
+def _used() -> tuple[float, float]:
+    """The processor seconds of this process, and of the programs that it ran."""
+    parts = (resource.getrusage(who) for who in (resource.RUSAGE_SELF, resource.RUSAGE_CHILDREN))
+    return tuple(part.ru_utime + part.ru_stime for part in parts)
 
 
 def _kept(program: Program, text: bytes, start: int, difference: Difference, folder: Path) -> str:
@@ -136,7 +148,7 @@ def run(plan: Plan, log: TextIO | None = None) -> tuple[Found, float]:
 def line_of_log(found: Found, seconds: float) -> str:
     """What was asked so far, as one line of JSON."""
     counts = {"commands": dict(sorted(found.counts.commands.items())), "kinds": dict(sorted(found.counts.kinds.items()))}
-    return json.dumps({"seconds": round(seconds, 1), "texts": found.runs, "partly": found.counts.partly, "asked": found.asked, **counts, "differences": found.differences})
+    return json.dumps({"seconds": round(seconds, 1), "texts": found.runs, "partly": found.counts.partly, "asked": found.asked, "own_seconds": round(found.own_seconds, 1), "program_seconds": round(found.program_seconds, 1), **counts, "differences": found.differences})
 
 
 def report(found: Found, seconds: float, jobs: int) -> str:
@@ -147,6 +159,7 @@ def report(found: Found, seconds: float, jobs: int) -> str:
     rows = [
         f"runs {found.runs}, of which {found.counts.partly} name too many communities for more than classes and laws",
         f"seconds {seconds:.1f}, {found.asked / max(seconds, 0.001) / jobs:.0f} commands a second for each of {jobs} jobs",
+        f"processor seconds {found.own_seconds:.1f} here and {found.program_seconds:.1f} in the program",
         f"commands {found.asked}: {table(found.counts.commands)}",
         f"refusals and other ends: {table(found.counts.kinds)}",
         f"differences {len(found.differences)}: {' '.join(sorted(found.differences)) or 'none'}",

@@ -3,14 +3,13 @@ from __future__ import annotations
 
 import argparse
 import dataclasses
-import functools
 import subprocess
 import sys
 import tempfile
 from pathlib import Path
 
-from hostile.asking import Asker
 from hostile.limits.texts import Case, cases, worst
+from roads.native import program_file
 
 WATCH = """
 import resource, subprocess, sys, time
@@ -35,12 +34,9 @@ class Measured:
     memory: float
 
 
-@functools.cache
-def program() -> str:
-    """The program without its launcher, whose memory is not measured."""
-    asker = Asker()
-    asker.close()
-    return asker.path
+def is_left_out(case: Case) -> bool:
+    """Whether a case bounds the address space, of which an unproved build reserves much for its checks."""
+    return case.memory is not None and "unproved" in Path(program_file()).name
 
 
 def measured(case: Case, folder: Path) -> Measured:
@@ -51,7 +47,7 @@ def measured(case: Case, folder: Path) -> Measured:
     words = [str(files[word]) if word in files else word for word in case.words]
     with (folder / "out").open("wb") as out, (folder / "err").open("wb") as err:
         watch = [sys.executable, "-c", WATCH, str(folder / "used"), str(case.memory or 0)]
-        subprocess.run([*watch, program(), *words], stdout=out, stderr=err, check=True)
+        subprocess.run([*watch, program_file(), *words], stdout=out, stderr=err, check=True)
     status, processor, seconds, memory = (folder / "used").read_text().split()
     reason = (folder / "err").read_text().strip()
     lines = (folder / "out").read_bytes().count(b"\n")
@@ -69,6 +65,9 @@ def main(arguments: list[str] | None = None) -> int:
     print("| limit | command | ends with | processor seconds | MiB |\n|---|---|---|---:|---:|")
     with tempfile.TemporaryDirectory() as folder:
         for case in cases() if given.worst is None else worst(given.worst):
+            if is_left_out(case):
+                print(f"hostile/limits/measure: left out, as the program is an unproved build: {case.name}", file=sys.stderr)
+                continue
             one = measured(case, Path(folder))
             failed |= bool(one.wrong)
             end = f"**{one.wrong}**" if one.wrong else case.reason or "done"

@@ -7,7 +7,7 @@ from pathlib import Path
 import pytest
 
 from hostile.limits import collisions
-from hostile.limits.measuring import measured
+from hostile.limits.measuring import is_left_out, measured
 from hostile.limits.stale import Ring, ran
 from hostile.limits.texts import Case, cases, exact_pairs, long_text, worst
 
@@ -22,6 +22,8 @@ def test_a_limit(case: Case, tmp_path: Path) -> None:
 @pytest.mark.parametrize("case", worst(1), ids=lambda case: case.name)
 def test_a_text_made_to_take_long(case: Case, tmp_path: Path) -> None:
     """The answer is that of a plain text, or `out of memory` where memory is bounded."""
+    if is_left_out(case):
+        pytest.skip("an unproved build reserves address space for its checks")
     assert measured(case, tmp_path).wrong == ""
 
 
