@@ -11,6 +11,7 @@ import resource
 import signal
 import subprocess
 import time
+import traceback
 from collections import Counter
 from pathlib import Path
 from typing import TextIO
@@ -67,7 +68,7 @@ class Plan:
 
 
 def differences(program: Program, text: bytes, seed: int, counts: Counts) -> list[Difference]:
-    """What differs over a text: against the judge, and against the laws. An answer that never comes differs too."""
+    """What differs over a text: against the judge, and against the laws. An answer that never comes differs too, and a text over which the judge fails."""
     asked = Asked(program, counts)
     try:
         return Comparison(asked, text, seed).run() + laws.broken(asked, text, seed)
@@ -75,6 +76,8 @@ def differences(program: Program, text: bytes, seed: int, counts: Counts) -> lis
         return [Difference("labels", "labels that can be read", str(refused))]
     except subprocess.TimeoutExpired as late:
         return [Difference(str(late.cmd[1]), "an answer", "none in time")]
+    except Exception:  # a long run goes on, and the text is kept
+        return [Difference("reader", "that the second reader does not fail", traceback.format_exc())]
 
 
 @functools.cache

@@ -5,7 +5,7 @@ import random
 import re
 
 LONG = "x" * 63
-COMMUNITIES = (["65000:1", "7", "1", "0:1", "65534:65535", "4294901759"], ["0:0", "65535:0", "65535:65535", "4294901760", "gshut", "no-export", "local-AS", "internet", "no-advertise", "0", "1:65536", "65536:1", "01:1", "1:1:1", "4294967296"])
+COMMUNITIES = (["65000:1", "7", "1", "0:1", "65534:65535", "4294901759"], ["0:0", "65535:0", "65535:0", "65535:65535", "4294901760", "4294901760", "gshut", "no-export", "local-AS", "internet", "no-advertise", "0", "1:65536", "65536:1", "01:1", "1:1:1", "4294967296"])
 SLOTS: dict[str, tuple[list[str], list[str]]] = {
     "name": (["r0", "r1", "0", "a-b_c.D", "n" * 63], ["-a", "a/b", "n" * 64, "", "a b"]),
     "port": (["Vlan1", "Vlan77", "Serial0/0", "Loopback0", "Tunnel1", "a0:/.-", "e" * 62 + "1"], ["Vlan", "1a", "e" * 63 + "1", "Vlan_1", "Vlan 1"]),
@@ -38,10 +38,10 @@ SLOTS: dict[str, tuple[list[str], list[str]]] = {
 }
 FORMS = [
     "hostname {name}", "interface {port}", "router bgp {as}", "router ospf {process}", "ip prefix-list {list} seq {seq} {act} {prefix} {bounds}", "ip prefix-list {list} seq {seq} {act} {prefix} {bounds}",
-    "ip community-list {number} {act} {communities}", "ip community-list standard {list} {act} {communities}", "route-map {map} {act} {entry}", "end",
+    "ip community-list {number} {act} {communities}", "ip community-list standard {list} {act} {communities}", "ip community-list standard {list} {act} {communities}", "route-map {map} {act} {entry}", "end",
     " ip address {address} {mask}", " ip ospf cost {cost}", " shutdown", " bgp default local-preference {preference}", " network {net}", " neighbor {address} remote-as {as}", " neighbor {address} shutdown",
     " neighbor {address} send-community {send}", " neighbor {address} prefix-list {list} {way}", " neighbor {address} route-map {map} {way}", " network {address} {wild} area {area}", " passive-interface {port}",
-    " no passive-interface {port}", " match ip address prefix-list {nets}", " match community {lists}", " set local-preference {preference}", " set community {change}", " set comm-list {delete}", " set as-path prepend {prepend}",
+    " no passive-interface {port}", " match ip address prefix-list {nets}", " match community {lists}", " set local-preference {preference}", " set community {change}", " set community {change}", " set comm-list {delete}", " set as-path prepend {prepend}",
 ]
 
 
@@ -91,4 +91,14 @@ def alone(chance: random.Random) -> bytes:
             lines.append(f" neighbor {words[1]} remote-as 65002")
         lines.append(made)
     lines += [one for one in DEFINED if chance.random() < 0.95]
-    return "".join(f"{one}\n" for one in [*lines, "end"]).encode()
+    return commented(chance, "".join(f"{one}\n" for one in [*lines, "end"]), 0.2).encode()
+
+
+def commented(chance: random.Random, text: str, often: float) -> str:
+    """Sometimes with comments and empty lines between its lines, which close no stanza."""
+    if chance.random() >= often:
+        return text
+    lines = text.splitlines()
+    for _ in range(chance.randint(1, 4)):
+        lines.insert(chance.randint(0, len(lines) - 1), chance.choice(["!", "! x", " !", "", " ", "!!", "! member", "!end"]))
+    return "".join(f"{line}\n" for line in lines)

@@ -26,15 +26,22 @@ class Maker:
     def text(self) -> bytes:
         """A solution: routes by chance, of which the first routers have their best candidate, or one of their candidates."""
         whole = self.problem
-        tied = self._route() if self.chance.random() < 0.6 else None
+        tied = self._route() if self.chance.random() < (0.9 if whole.lone else 0.6) else None
         held = [labels.start(whole, place) if place in whole.initial else self._like(tied) for place in range(len(whole.names))]
         for place in range(self.chance.randint(1, min(3, len(held)))):
-            found = labels.candidates(whole, held, place)
-            if found and self.chance.random() < 0.4:
-                held[place] = self.chance.choice(found)
-            else:
-                held[place] = min(found, key=lambda route: labels.key(whole, route), default=None)
+            held[place] = self._chosen(labels.candidates(whole, held, place))
         return "".join(f"{name} {labels.text(label)}\n" for name, label in zip(whole.names, held)).encode()
+
+    def _chosen(self, found: list[labels.Label]) -> labels.Label:
+        """The best of some candidates, or one that ties with it but for the last key, or any."""
+        if not found:
+            return None
+        best = min(found, key=lambda route: labels.key(self.problem, route))
+        how = self.chance.random()
+        if how < 0.4 or not isinstance(best, labels.Route):
+            return best if how < 0.6 else self.chance.choice(found)
+        same = [route for route in found if (route.preference, len(route.path), route.communities) == (best.preference, len(best.path), best.communities)]
+        return self.chance.choice(same if how < 0.75 else found)
 
     def _like(self, tied: labels.Label) -> labels.Label:
         if not isinstance(tied, labels.Route):
@@ -54,7 +61,7 @@ class Maker:
 
     def _path(self, length: int) -> tuple[int, ...]:
         lone = [self.problem.numbers[place] for place in self.problem.lone]
-        numbers = [64999, 64999, 64998, 4294967295, *self.problem.numbers, *lone, *lone]
+        numbers = [64999, 64999, 64998, 4294967295, *self.problem.numbers, *lone, *lone, *lone]
         return tuple(self.chance.choice(numbers) or 1 for _ in range(length))
 
     def _communities(self) -> frozenset[int]:

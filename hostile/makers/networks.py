@@ -3,7 +3,7 @@ from __future__ import annotations
 
 import random
 
-from hostile.makers import policies
+from hostile.makers import forms, policies
 from hostile.makers.shapes import Shape, mask, own_address, ports, shape
 
 TYPES = ["Serial", "Ethernet", "GigabitEthernet", "FastEthernet", "TenGigabitEthernet", "Vlan9"]
@@ -12,7 +12,7 @@ TYPES = ["Serial", "Ethernet", "GigabitEthernet", "FastEthernet", "TenGigabitEth
 def text(chance: random.Random) -> str:
     """A network of either protocol."""
     write = chance.choice([bgp, bgp, bgp, ospf])
-    return write(chance, shape(chance))
+    return forms.commented(chance, write(chance, shape(chance)), 0.15)
 
 
 def _start(one: Shape, place: int) -> list[str]:

@@ -101,7 +101,7 @@ def _sets(chance: random.Random, direction: str, named: list[str]) -> list[str]:
     if chance.random() < (0.6 if direction == "out" else 0.4):
         lines.append(f" set community {chance.choice([some(chance, named), some(chance, named) + ' additive', 'none'])}")
     lines += [" set comm-list D delete"] if chance.random() < 0.3 else []
-    if chance.random() < 0.25:
+    if chance.random() < 0.3:
         lines.append(f" set as-path prepend{' OWN' * chance.choice([1, 1, 2, 3, 10])}" if direction == "out" else f" set local-preference {chance.choice([100, 200, 200])}")
     if direction == "out" and chance.random() < 0.05:
         lines.append(" set local-preference 300")

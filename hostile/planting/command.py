@@ -9,11 +9,12 @@ import re
 import subprocess
 import sys
 import tempfile
+import time
 from collections.abc import Callable
 from pathlib import Path
 
 from hostile.asking import Asker
-from hostile.planting import copies, judge_faults
+from hostile.planting import copies, expecting, judge_faults
 from hostile.planting.copies import Unfit
 from hostile.planting.fault import Fault
 from hostile.planting.program_faults import FAULTS
@@ -22,7 +23,7 @@ from roads.program import TOP
 
 @dataclasses.dataclass(frozen=True)
 class Outcome:
-    """Whether a run found a fault: at which command (empty: not), and behind how many texts and seconds."""
+    """Whether a fault was found: at which command (empty: not), and behind how many texts and seconds."""
 
     fault: Fault
     command: str
@@ -62,6 +63,19 @@ def of_judge(fault: Fault, given: argparse.Namespace) -> Outcome | None:
         return outcome(fault, copies.reader(fault, Path(room)), Path(program.path), given, "--answers", str(given.folder.resolve() / "answers"))
 
 
+def expected(fault: Fault, given: argparse.Namespace) -> Outcome:
+    """The first text over which the faulty reader expects something else than the right one."""
+    begun = time.monotonic()
+    with tempfile.TemporaryDirectory(prefix="sensitivity-") as room:
+        copies.reader(fault, Path(room))
+        words = [sys.executable, "-m", "hostile.planting.expecting", str(given.folder.resolve() / "expected")]
+        ran = subprocess.run(words, cwd=room, capture_output=True, text=True, check=False)
+    if ran.returncode:
+        raise Unfit(f"{fault.name}: {ran.stderr[-2000:]}")
+    texts, _, command = ran.stdout.strip().partition(" ")
+    return Outcome(fault, command, int(texts), time.monotonic() - begun)
+
+
 def words(name: str, what: str, seconds: float) -> argparse.ArgumentParser:
     """The words that both have."""
     parser = argparse.ArgumentParser(prog=f"hostile/{name}", description=f"Plant faults in {what}, one at a time, and tell which of them hostile/run finds.")
@@ -84,7 +98,14 @@ def plant(arguments: list[str] | None = None) -> int:
 
 def sensitivity(arguments: list[str] | None = None) -> int:
     """`hostile/sensitivity`."""
-    return _all(words("sensitivity", "copies of the second reader", 120), arguments, judge_faults.FAULTS, of_judge)
+    parser = words("sensitivity", "copies of the second reader", 120)
+    parser.add_argument("--alone", type=int, metavar="TEXTS", help="ask no program: compare with what the right reader expects over so many texts")
+    given = parser.parse_args(arguments)
+    if given.alone is None:
+        return _all(parser, arguments, judge_faults.FAULTS, of_judge)
+    given.folder.mkdir(parents=True, exist_ok=True)
+    expecting.keep(given.folder / "expected", given.alone, given.seed)
+    return _all(parser, arguments, judge_faults.FAULTS, expected)
 
 
 def _all(parser: argparse.ArgumentParser, arguments: list[str] | None, faults: list[Fault], tried: Callable[[Fault, argparse.Namespace], Outcome | None]) -> int:

@@ -7,6 +7,8 @@ import stat
 import subprocess
 from pathlib import Path
 
+import pytest
+
 from hostile import running, shrink
 from hostile.asking import Asked, Asker, Counts
 from hostile.compare import Comparison
@@ -33,6 +35,13 @@ def test_a_run_ends_where_enough_was_asked(tmp_path: Path) -> None:
     finally:
         running.SLICE = was
     assert 0 < found.asked and seconds < 60
+
+
+def test_a_reader_that_fails_is_told(monkeypatch: pytest.MonkeyPatch) -> None:
+    """The text is kept as one that differs."""
+    monkeypatch.setattr(answers, "classes", lambda net: 1 / 0)
+    found = running.differences(Asker(), (TOP / "examples" / "inputs" / "fabric.cfg").read_bytes(), 1, Counts())
+    assert [one.command for one in found] == ["reader"] and "ZeroDivisionError" in found[0].answered
 
 
 def test_a_difference_ends_a_run_and_is_kept(tmp_path: Path) -> None:
