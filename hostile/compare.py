@@ -24,11 +24,17 @@ class Difference:
     answered: str
 
 
-class Comparison:
-    """The commands over one text. `found` are the differences; `seed` decides class, schedule and labels."""
+class Enough(Exception):
+    """The difference that was looked for is found."""
 
-    def __init__(self, asked: Asked, text: bytes, seed: int) -> None:
-        self.asked, self.text = asked, text
+
+class Comparison:
+    """The commands over one text. `found` are the differences; `seed` decides class, schedule and labels.
+
+    Where a command is given as `until`, its first difference ends all by Enough."""
+
+    def __init__(self, asked: Asked, text: bytes, seed: int, until: str | None = None) -> None:
+        self.asked, self.text, self.until = asked, text, until
         self.chance = random.Random(seed)
         self.found: list[Difference] = []
 
@@ -55,6 +61,8 @@ class Comparison:
 
     def _differ(self, command: str, expected: object, answer: Answer) -> None:
         self.found.append(Difference(command, str(expected), f"status {answer.status} {answer.reason}\n{answer.text}"))
+        if command == self.until:
+            raise Enough
 
     def _same(self, command: str, answer: Answer, expected: answers.Expected) -> None:
         wrong_out = expected.out is not None and answer.out != expected.out.encode()

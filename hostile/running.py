@@ -13,12 +13,13 @@ import subprocess
 import time
 import traceback
 from collections import Counter
+from collections.abc import Callable
 from pathlib import Path
 from typing import TextIO
 
 from hostile import laws, shrink
 from hostile.asking import Asked, Asker, Counts
-from hostile.compare import Comparison, Difference
+from hostile.compare import Comparison, Difference, Enough
 from hostile.judge.network import Refused
 from hostile.kept_answers import KeptAsker
 from hostile.makers import makers
@@ -70,8 +71,28 @@ class Plan:
 def differences(program: Program, text: bytes, seed: int, counts: Counts) -> list[Difference]:
     """What differs over a text: against the judge, and against the laws. An answer that never comes differs too, and a text over which the judge fails."""
     asked = Asked(program, counts)
+    return _caught(lambda: Comparison(asked, text, seed).run() + laws.broken(asked, text, seed))
+
+
+def still_differs(program: Program, text: bytes, seed: int, command: str) -> bool:
+    """Whether a command differs over a text. No more is asked than shows it."""
+    asked = Asked(program, Counts())
+    if command.startswith("law-"):
+        found = _caught(lambda: laws.broken(asked, text, seed))
+    else:
+        compared = Comparison(asked, text, seed, command)
+        try:
+            found = _caught(compared.run)
+        except Enough:
+            found = compared.found
+    return any(one.command == command for one in found)
+
+
+def _caught(found: Callable[[], list[Difference]]) -> list[Difference]:
     try:
-        return Comparison(asked, text, seed).run() + laws.broken(asked, text, seed)
+        return found()
+    except Enough:
+        raise
     except Refused as refused:
         return [Difference("labels", "labels that can be read", str(refused))]
     except subprocess.TimeoutExpired as late:
@@ -107,10 +128,7 @@ def _used() -> tuple[float, float]:
 
 
 def _kept(program: Program, text: bytes, start: int, difference: Difference, folder: Path) -> str:
-    def holds(smaller: bytes) -> bool:
-        return any(other.command == difference.command for other in differences(program, smaller, start, Counts()))
-
-    small = shrink.smallest(text, holds)
+    small = shrink.smallest(text, lambda smaller: still_differs(program, smaller, start, difference.command))
     again = next((other for other in differences(program, small, start, Counts()) if other.command == difference.command), difference)
     folder.mkdir(parents=True, exist_ok=True)
     name = f"{difference.command}-{hashlib.sha256(small).hexdigest()[:12]}"

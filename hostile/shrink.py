@@ -4,7 +4,7 @@ from __future__ import annotations
 from collections.abc import Callable
 
 
-def smallest(text: bytes, holds: Callable[[bytes], bool], tries: int = 600) -> bytes:
+def smallest(text: bytes, holds: Callable[[bytes], bool], tries: int = 300) -> bytes:
     """Takes out pieces of lines, ever shorter ones, as long as `holds` says yes; at most `tries` times."""
     lines = text.splitlines(keepends=True)
     size = max(1, len(lines) // 2)

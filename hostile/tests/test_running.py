@@ -47,7 +47,7 @@ def test_a_reader_that_fails_is_told(monkeypatch: pytest.MonkeyPatch) -> None:
 def test_a_difference_ends_a_run_and_is_kept(tmp_path: Path) -> None:
     """`--first` stops at it; its text is shrunk and kept with its seed."""
     erring = tmp_path / "program"
-    erring.write_text(f"#!/bin/bash\nset -o pipefail\n'{Asker().path}' \"$@\" | sed 's/ links / lines /'\n")
+    erring.write_text(f"#!/bin/bash\nset -o pipefail\n'{Asker().path}' \"$@\" | sed 's/^class 1 prefixes/class 1 prefix/'\n")
     erring.chmod(0o755)
     words = [str(TOP / "hostile" / "run"), "--seconds", "60", "--jobs", "1", "--seed", "5", "--first", "--keep", str(tmp_path / "kept")]
     ran = subprocess.run(words, env={**os.environ, "BONSAI_PROGRAM": str(erring)}, capture_output=True, text=True, check=False)
