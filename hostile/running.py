@@ -169,7 +169,8 @@ def run(plan: Plan, log: TextIO | None = None) -> tuple[Found, float]:
 def line_of_log(found: Found, seconds: float) -> str:
     """What was asked so far, as one line of JSON."""
     counts = {"commands": dict(sorted(found.counts.commands.items())), "kinds": dict(sorted(found.counts.kinds.items()))}
-    return json.dumps({"seconds": round(seconds, 1), "texts": found.runs, "partly": found.counts.partly, "asked": found.asked, "own_seconds": round(found.own_seconds, 1), "program_seconds": round(found.program_seconds, 1), **counts, "differences": found.differences})
+    return json.dumps({"seconds": round(seconds, 1), "texts": found.runs, "partly": found.counts.partly, "asked": found.asked, "own_seconds": round(found.own_seconds, 1),
+                       "program_seconds": round(found.program_seconds, 1), **counts, "differences": found.differences})
 
 
 def report(found: Found, seconds: float, jobs: int) -> str:

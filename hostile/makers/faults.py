@@ -27,7 +27,8 @@ route-map IN permit 10|route-map IN permit 65536|route-map Z permit 0|route-map 
  match ip address prefix-list P| match ip address prefix-list NONE| match ip address 7| match as-path 3| set community none| set community 1:1 none| set community additive
  set community internet| set comm-list A delete| set comm-list NONE delete| set comm-list D| set local-preference 5| set local-preference x| set as-path prepend 65001
  set as-path prepend 9| set as-path prepend| set as-path prepend 65001 65001 65001 65001 65001 65001 65001 65001 65001 65001 65001| set metric 5| continue 20
-end|end all|!| !|version 15.2|line con 0| login|banner motd ^C|frobnicate| frobnicate|service timestamps|\t|no ip routing|ip cef|exit|interface Loopback0""".replace("\\t", "\t").replace("\n", "|").split("|")
+end|end all|!| !|version 15.2|line con 0| login|banner motd ^C|frobnicate| frobnicate|service timestamps|\t|no ip routing|ip cef|exit|interface Loopback0""".replace("\\t",
+    "\t").replace("\n", "|").split("|")
 
 
 def planted(chance: random.Random, text: str) -> bytes:

@@ -5,7 +5,8 @@ import random
 import re
 
 LONG = "x" * 63
-COMMUNITIES = (["65000:1", "7", "1", "0:1", "65534:65535", "4294901759"], ["0:0", "65535:0", "65535:0", "65535:65535", "4294901760", "4294901760", "gshut", "no-export", "local-AS", "internet", "no-advertise", "0", "1:65536", "65536:1", "01:1", "1:1:1", "4294967296"])
+COMMUNITIES = (["65000:1", "7", "1", "0:1", "65534:65535", "4294901759"], ["0:0", "65535:0", "65535:0", "65535:65535", "4294901760", "4294901760", "gshut", "no-export", "local-AS",
+    "internet", "no-advertise", "0", "1:65536", "65536:1", "01:1", "1:1:1", "4294967296"])
 SLOTS: dict[str, tuple[list[str], list[str]]] = {
     "name": (["r0", "r1", "0", "a-b_c.D", "n" * 63], ["-a", "a/b", "n" * 64, "", "a b"]),
     "port": (["Vlan1", "Vlan77", "Serial0/0", "Loopback0", "Tunnel1", "a0:/.-", "e" * 62 + "1"], ["Vlan", "1a", "e" * 63 + "1", "Vlan_1", "Vlan 1"]),
@@ -17,9 +18,11 @@ SLOTS: dict[str, tuple[list[str], list[str]]] = {
     "entry": (["0", "10", "90", "65535"], ["65536", "010", "x", ""]),
     "act": (["permit", "deny"], ["allow", "Permit", ""]),
     "prefix": (["10.0.0.0/8", "10.0.0.0/24", "0.0.0.0/0", "10.0.1.77/24", "10.9.0.0/32"], ["10.0.0.0", "10.0.0.0/33", "10.0.0/8", "10.0.0.256/8", "10.0.0.0/08", "/8"]),
-    "bounds": (["", "ge 24", "ge 32", "le 32", "le 24", "ge 24 le 24", "ge 25 le 32"], ["ge 7", "ge 33", "le 7", "le 33", "ge 25 le 24", "ge 30 le 25", "le 24 ge 24", "ge", "ge 24 le", "eq 24", "ge 24 24"]),
+    "bounds": (["", "ge 24", "ge 32", "le 32", "le 24", "ge 24 le 24", "ge 25 le 32"], ["ge 7", "ge 33", "le 7", "le 33", "ge 25 le 24", "ge 30 le 25", "le 24 ge 24", "ge",
+        "ge 24 le", "eq 24", "ge 24 24"]),
     "number": (["1", "99", "7"], ["0", "07", "x"]),
-    "communities": (["65000:1", "65000:1 65000:2", "65534:65535", "1 2 3", " ".join(map(str, range(1, 33)))], ["", "1:1 65537", " ".join(map(str, range(1, 34))), *COMMUNITIES[1], *(f"1:1 {one}" for one in COMMUNITIES[1])]),
+    "communities": (["65000:1", "65000:1 65000:2", "65534:65535", "1 2 3", " ".join(map(str, range(1, 33)))], ["", "1:1 65537", " ".join(map(str, range(1, 34))), *COMMUNITIES[1],
+        *(f"1:1 {one}" for one in COMMUNITIES[1])]),
     "address": (["172.16.0.0", "172.16.0.1", "10.0.0.1", "0.0.0.0", "255.255.255.255", "203.0.113.0"], ["10.0.0.256", "10.0.0", "10.0.0.01", "10.0.0.1.1", "x", "10.0.0.1/24"]),
     "mask": (["255.255.255.255", "255.255.255.254", "255.255.255.0", "128.0.0.0"], ["0.0.0.0", "255.0.255.0", "0.0.0.255", "24", "255.255.255.256", ""]),
     "net": (["10.0.0.0", "128.0.0.0", "191.255.0.0", "192.0.0.0", "223.255.255.0", "127.0.0.0", "10.0.0.0 mask 255.255.255.0", "0.0.0.0 mask 128.0.0.0", "10.0.1.0 mask 255.255.255.255"],
@@ -30,18 +33,25 @@ SLOTS: dict[str, tuple[list[str], list[str]]] = {
     "preference": (["0", "100", "200", "4294967295"], ["00", "4294967296", "x", ""]),
     "way": (["in", "out"], ["both", "", "In"]),
     "send": (["", "standard", "both"], ["all", "standard both", "Both"]),
-    "lists": (["A", "A B", "7", "exact-match", "A exact-match", "A B exact-match", "exact-match exact-match", LONG, " ".join(f"L{n}" for n in range(32))], ["", "A A", "A A exact-match", LONG + "x", " ".join(f"L{n}" for n in range(33))]),
+    "lists": (["A", "A B", "7", "exact-match", "A exact-match", "A B exact-match", "exact-match exact-match", LONG, " ".join(f"L{n}" for n in range(32))], ["", "A A",
+        "A A exact-match", LONG + "x", " ".join(f"L{n}" for n in range(33))]),
     "nets": (["P", "P NONE", LONG], ["", "P P", LONG + "x"]),
-    "change": (["none", "65000:1", "65000:1 additive", "65000:1 65000:2", "1 additive"], ["", "additive", "none additive", "65000:1 none", "additive 65000:1", "1:1 65537", *COMMUNITIES[1], *(f"{one} additive" for one in COMMUNITIES[1])]),
+    "change": (["none", "65000:1", "65000:1 additive", "65000:1 65000:2", "1 additive"], ["", "additive", "none additive", "65000:1 none", "additive 65000:1", "1:1 65537",
+        *COMMUNITIES[1], *(f"{one} additive" for one in COMMUNITIES[1])]),
     "delete": (["D delete", "A delete", "7 delete", "NONE delete"], ["D", "D delete x", "delete", ""]),
     "prepend": (["65001", "65001 65001", "65002", "4294967295", " ".join(["65001"] * 10), "65001 65002"], ["", "0", " ".join(["65001"] * 11), "x", "65001 0"]),
 }
 FORMS = [
-    "hostname {name}", "interface {port}", "router bgp {as}", "router ospf {process}", "ip prefix-list {list} seq {seq} {act} {prefix} {bounds}", "ip prefix-list {list} seq {seq} {act} {prefix} {bounds}",
-    "ip community-list {number} {act} {communities}", "ip community-list standard {list} {act} {communities}", "ip community-list standard {list} {act} {communities}", "route-map {map} {act} {entry}", "end",
-    " ip address {address} {mask}", " ip ospf cost {cost}", " shutdown", " bgp default local-preference {preference}", " network {net}", " neighbor {address} remote-as {as}", " neighbor {address} shutdown",
-    " neighbor {address} send-community {send}", " neighbor {address} prefix-list {list} {way}", " neighbor {address} route-map {map} {way}", " network {address} {wild} area {area}", " passive-interface {port}",
-    " no passive-interface {port}", " match ip address prefix-list {nets}", " match community {lists}", " set local-preference {preference}", " set community {change}", " set community {change}", " set comm-list {delete}", " set as-path prepend {prepend}",
+    "hostname {name}", "interface {port}", "router bgp {as}", "router ospf {process}", "ip prefix-list {list} seq {seq} {act} {prefix} {bounds}",
+    "ip prefix-list {list} seq {seq} {act} {prefix} {bounds}",
+    "ip community-list {number} {act} {communities}", "ip community-list standard {list} {act} {communities}", "ip community-list standard {list} {act} {communities}",
+    "route-map {map} {act} {entry}", "end",
+    " ip address {address} {mask}", " ip ospf cost {cost}", " shutdown", " bgp default local-preference {preference}", " network {net}", " neighbor {address} remote-as {as}",
+    " neighbor {address} shutdown",
+    " neighbor {address} send-community {send}", " neighbor {address} prefix-list {list} {way}", " neighbor {address} route-map {map} {way}",
+    " network {address} {wild} area {area}", " passive-interface {port}",
+    " no passive-interface {port}", " match ip address prefix-list {nets}", " match community {lists}", " set local-preference {preference}", " set community {change}",
+    " set community {change}", " set comm-list {delete}", " set as-path prepend {prepend}",
 ]
 
 

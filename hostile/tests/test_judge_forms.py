@@ -36,7 +36,8 @@ def test_a_prefix_list(options: str, bounds: tuple[int, int]) -> None:
     "rest",
     ["P seq 0 permit 10.0.0.0/8", "P seq 01 permit 10.0.0.0/8", "P permit 10.0.0.0/8", "P seq 5 allow 10.0.0.0/8", "P seq 5 permit 10.0.0.0", "P seq 5 permit 10.0.0.0/33", "P seq 5 permit 10.0.0/8",
      "P seq 5 permit 10.0.0.0/8 ge 7", "P seq 5 permit 10.0.0.0/8 le 7", "P seq 5 permit 10.0.0.0/8 ge 33", "P seq 5 permit 10.0.0.0/8 ge 9 le 8", "P seq 5 permit 10.0.0.0/8 le 9 ge 8",
-     "P seq 5 permit 10.0.0.0/8 ge", "P seq 5 permit 10.0.0.0/8 ge 9 le", "P seq 5 permit 10.0.0.0/8 eq 9", f"{LONG}x seq 5 permit 10.0.0.0/8", "P seq 4294967296 permit 10.0.0.0/8", "P seq 5 permit 10.0.0.0/08", ""],
+     "P seq 5 permit 10.0.0.0/8 ge", "P seq 5 permit 10.0.0.0/8 ge 9 le", "P seq 5 permit 10.0.0.0/8 eq 9", f"{LONG}x seq 5 permit 10.0.0.0/8",
+     "P seq 4294967296 permit 10.0.0.0/8", "P seq 5 permit 10.0.0.0/08", ""],
 )
 def test_no_prefix_list(rest: str) -> None:
     """Words off the form."""
@@ -73,7 +74,8 @@ def test_no_community_list(rest: str, kind: str) -> None:
 
 def test_bounds_of_communities() -> None:
     """1, 65534:65535 and 32 of them fit."""
-    lists = one("ip community-list standard X permit 1 65534:65535 0:2", f"ip community-list 1 permit {' '.join(map(str, range(1, 33)))}", f"ip community-list standard {LONG} deny 4294901759").community_lists
+    lists = one("ip community-list standard X permit 1 65534:65535 0:2", f"ip community-list 1 permit {' '.join(map(str, range(1, 33)))}",
+                f"ip community-list standard {LONG} deny 4294901759").community_lists
     assert lists["X"][0][1] == {1, 2, 4294901759} and len(lists["1"][0][1]) == 32 and lists[LONG][0][1] == {4294901759}
 
 
@@ -106,7 +108,8 @@ def test_sets() -> None:
     [(" match community", "BadForm"), (" match community exact-match", "BadForm"), (" match community A A", "BadForm"), (f" match community {' '.join(f'L{n}' for n in range(33))}", "BadForm"),
      (f" match community {LONG}x", "BadForm"), (" match ip address prefix-list A A", "BadForm"), (" match ip address prefix-list", "BadForm"), (" set local-preference 4294967296", "BadForm"),
      (" set local-preference", "BadForm"), (" set community", "BadForm"), (" set community additive", "BadForm"), (" set community none additive", "BadForm"), (" set community 1:1 none", "BadForm"),
-     (" set community additive 1:1", "BadForm"), (" set community internet", "WellKnown"), (" set community 0:0 additive", "WellKnown"), (" set comm-list X", "BadForm"), (" set comm-list X Y delete", "BadForm"),
+     (" set community additive 1:1", "BadForm"), (" set community internet", "WellKnown"), (" set community 0:0 additive", "WellKnown"), (" set comm-list X", "BadForm"),
+     (" set comm-list X Y delete", "BadForm"),
      (" set as-path prepend", "BadForm"), (" set as-path prepend 0", "BadForm"), (f" set as-path prepend{' 9' * 11}", "BadForm"), (" set as-path prepend x", "BadForm")],
 )
 def test_no_line_of_an_entry(line: str, kind: str) -> None:
@@ -147,7 +150,8 @@ def test_a_network_of_bgp(line: str, network: tuple[str, int]) -> None:
 
 
 @pytest.mark.parametrize(
-    "line", ["10.1.0.0", "0.0.0.0", "224.0.0.0", "128.1.1.0", "192.0.0.1", "10.0.0.1 mask 255.255.255.0", "10.0.0.0 mask 255.0.255.0", "10.0.0.0 mask 0.0.0.0", "10.0.0.0 mask", "10.0.0.0 255.0.0.0", "", "x"]
+    "line", ["10.1.0.0", "0.0.0.0", "224.0.0.0", "128.1.1.0", "192.0.0.1", "10.0.0.1 mask 255.255.255.0", "10.0.0.0 mask 255.0.255.0", "10.0.0.0 mask 0.0.0.0", "10.0.0.0 mask",
+             "10.0.0.0 255.0.0.0", "", "x"]
 )
 def test_no_network_of_bgp(line: str) -> None:
     """Bits outside the mask, no class, no mask."""
@@ -168,8 +172,10 @@ def test_neighbours() -> None:
     ("line", "kind"),
     [("1.2.3.4 remote-as 0", "BadForm"), ("1.2.3.4 remote-as 4294967296", "BadForm"), ("1.2.3.4 remote-as", "BadForm"), ("1.2.3 remote-as 2", "BadForm"), ("1.2.3.256 remote-as 2", "BadForm"),
      ("1.2.3.04 remote-as 2", "BadForm"), ("1.2.3.4 remote-as 2", "Repeated"), ("1.2.3.4 shutdown now", "BadForm"), ("1.2.3.4 send-community all", "BadForm"), ("1.2.3.4 route-map M", "BadForm"),
-     ("1.2.3.4 route-map M both", "BadForm"), (f"1.2.3.4 route-map {LONG}x in", "BadForm"), ("1.2.3.4 prefix-list P", "BadForm"), ("1.2.3.4 route-map N in", "Repeated"), ("1.2.3.4 prefix-list Q in", "Repeated"),
-     ("9.9.9.9 shutdown", "Misplaced"), ("9.9.9.9 route-map M in", "Misplaced"), ("9.9.9.9 prefix-list M out", "Misplaced"), ("9.9.9.9 send-community standard", "Misplaced"), ("9.9.9.9 route-map M", "BadForm")],
+     ("1.2.3.4 route-map M both", "BadForm"), (f"1.2.3.4 route-map {LONG}x in", "BadForm"), ("1.2.3.4 prefix-list P", "BadForm"), ("1.2.3.4 route-map N in", "Repeated"),
+     ("1.2.3.4 prefix-list Q in", "Repeated"),
+     ("9.9.9.9 shutdown", "Misplaced"), ("9.9.9.9 route-map M in", "Misplaced"), ("9.9.9.9 prefix-list M out", "Misplaced"), ("9.9.9.9 send-community standard", "Misplaced"),
+     ("9.9.9.9 route-map M", "BadForm")],
 )
 def test_no_neighbour(line: str, kind: str) -> None:
     """Off the form first, then before `remote-as`, then given again."""
@@ -214,7 +220,8 @@ def test_an_interface(mask: tuple[str, int]) -> None:
 
 @pytest.mark.parametrize(
     ("line", "kind"),
-    [("ip address 10.0.0.1 0.0.0.0", "BadForm"), ("ip address 10.0.0.1 255.0.255.0", "BadForm"), ("ip address 10.0.0.1", "BadForm"), ("ip address 10.0.0.1/24", "BadForm"), ("ip ospf cost 0", "BadForm"),
+    [("ip address 10.0.0.1 0.0.0.0", "BadForm"), ("ip address 10.0.0.1 255.0.255.0", "BadForm"), ("ip address 10.0.0.1", "BadForm"), ("ip address 10.0.0.1/24", "BadForm"),
+     ("ip ospf cost 0", "BadForm"),
      ("ip ospf cost 65536", "BadForm"), ("ip ospf cost 07", "BadForm"), ("ip ospf cost 1", "Repeated"), ("ip address 10.0.0.1 255.0.0.0", "Repeated"), ("shutdown x", "BadForm")],
 )
 def test_no_line_of_an_interface(line: str, kind: str) -> None:
@@ -224,7 +231,8 @@ def test_no_line_of_an_interface(line: str, kind: str) -> None:
 
 @pytest.mark.parametrize(
     ("line", "kind"),
-    [("hostname -a", "BadForm"), ("hostname a b", "BadForm"), (f"hostname {'a' * 64}", "BadForm"), ("hostname a/b", "BadForm"), ("hostname b", "Repeated"), ("hostname a", "Repeated"), ("interface Vlan", "BadForm"),
+    [("hostname -a", "BadForm"), ("hostname a b", "BadForm"), (f"hostname {'a' * 64}", "BadForm"), ("hostname a/b", "BadForm"), ("hostname b", "Repeated"), ("hostname a",
+        "Repeated"), ("interface Vlan", "BadForm"),
      ("interface 1Vlan", "BadForm"), (f"interface V{'1' * 63}", "BadForm"), ("interface Vlan_1", "BadForm"), ("interface Vlan 1", "BadForm"), ("interface Vlan1", "Repeated")],
 )
 def test_no_line_at_the_top(line: str, kind: str) -> None:

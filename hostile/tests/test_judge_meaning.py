@@ -64,7 +64,8 @@ def test_areas() -> None:
     ("use", "definition", "kind"),
     [
         (" neighbor 10.0.0.2 route-map M in", "route-map M deny 10", "UndefinedMap"), (" neighbor 10.0.0.2 route-map M out", "route-map M deny 10", "UndefinedMap"),
-        (" neighbor 10.0.0.2 prefix-list M out", "ip prefix-list M seq 5 permit 0.0.0.0/0", "UndefinedList"), (" neighbor 10.0.0.2 prefix-list M in", "ip prefix-list M seq 5 permit 0.0.0.0/0", "UndefinedList"),
+        (" neighbor 10.0.0.2 prefix-list M out", "ip prefix-list M seq 5 permit 0.0.0.0/0", "UndefinedList"), (" neighbor 10.0.0.2 prefix-list M in",
+            "ip prefix-list M seq 5 permit 0.0.0.0/0", "UndefinedList"),
     ],
 )
 def test_names_of_neighbours(use: str, definition: str, kind: str) -> None:
@@ -108,11 +109,13 @@ def test_addresses() -> None:
 
 def test_interfaces_of_the_area() -> None:
     """Loopbacks and costs are asked only of up interfaces in the area; a type is exactly the name up to its first digit."""
-    for name, value, kind in (("Loopback0", "255.255.255.0", "LoopbackMask"), ("Tunnel0", "255.255.255.0", "NoCost"), ("Port-channel1", "255.255.255.0", "NoCost"), ("loopback0", "255.255.255.255", "NoCost"),
+    for name, value, kind in (("Loopback0", "255.255.255.0", "LoopbackMask"), ("Tunnel0", "255.255.255.0", "NoCost"), ("Port-channel1", "255.255.255.0", "NoCost"), ("loopback0",
+        "255.255.255.255", "NoCost"),
                               ("Loopbacks0", "255.255.255.0", "NoCost")):
         lines = [f"interface {name}", f" ip address 10.0.0.1 {value}"]
         assert refusal(text(*router("a", *lines, *AREA))) == (3, kind)
-        assert reading.read(text(*router("a", *lines, " shutdown", *AREA))) and reading.read(text(*router("a", *lines))) and reading.read(text(*router("a", *lines, "router ospf 1", " network 11.0.0.0 0.0.0.0 area 0")))
+        assert reading.read(text(*router("a", *lines, " shutdown", *AREA))) and reading.read(text(*router("a", *lines))) and reading.read(text(*router("a", *lines, "router ospf 1",
+            " network 11.0.0.0 0.0.0.0 area 0")))
     assert refusal(text(*router("a", "interface Loopback0", " ip address 10.0.0.1 255.255.255.0", " ip ospf cost 3", *AREA))) == (3, "LoopbackMask")
 
 

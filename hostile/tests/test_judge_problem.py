@@ -177,14 +177,16 @@ def test_adjacencies() -> None:
 
 def test_the_area() -> None:
     """A `network` line must agree wherever the wildcard has 0, whatever its own bits elsewhere."""
-    for line, inside in (("10.0.0.0 0.0.0.255", True), ("10.0.0.77 0.0.0.255", True), ("10.0.1.0 0.0.0.255", False), ("10.9.0.1 0.255.0.0", True), ("10.0.0.1 0.0.0.0", True), ("10.0.0.2 0.0.0.0", False)):
+    for line, inside in (("10.0.0.0 0.0.0.255", True), ("10.0.0.77 0.0.0.255", True), ("10.0.1.0 0.0.0.255", False), ("10.9.0.1 0.255.0.0", True), ("10.0.0.1 0.0.0.0", True),
+                         ("10.0.0.2 0.0.0.0", False)):
         net = network(ospf("a", ("Vlan1", "10.0.0.1 255.255.255.0"), more=("router ospf 1", f" network {line} area 0")))
         assert len(net.classes) == inside, line
 
 
 def test_costs() -> None:
     """The importer's own interface decides: its line, else its type. Originators have the cost of their interface, passive or not."""
-    ports = [("Serial0", "64"), ("Ethernet0", "10"), ("FastEthernet0", "1"), ("GigabitEthernet0", "1"), ("TenGigabitEthernet0", "1"), ("Vlan1", "1"), ("Serial0", "7;ip ospf cost 7"), ("Tunnel1", "9;ip ospf cost 9")]
+    ports = [("Serial0", "64"), ("Ethernet0", "10"), ("FastEthernet0", "1"), ("GigabitEthernet0", "1"), ("TenGigabitEthernet0", "1"), ("Vlan1", "1"), ("Serial0",
+        "7;ip ospf cost 7"), ("Tunnel1", "9;ip ospf cost 9")]
     for name, told in ports:
         cost, _, line = told.partition(";")
         value = "10.0.0.1 255.255.255.252" + (f";{line}" if line else "")

@@ -41,7 +41,8 @@ def test_most_networks_are_read() -> None:
 def test_policies_have_what_decides() -> None:
     """Exact matches, additive and plain sets, deletion, prepending, preferences, ranges of lengths, denying lines."""
     text = "".join(networks.bgp(random.Random(seed), networks.shape(random.Random(seed))) for seed in SEEDS)
-    for piece in (" exact-match\n", " additive\n", "set community none", "comm-list D delete", "prepend", "local-preference", " ge ", " le ", "deny 65", "send-community\n", "shutdown", "match ip address", policies.LONG):
+    for piece in (" exact-match\n", " additive\n", "set community none", "comm-list D delete", "prepend", "local-preference", " ge ", " le ", "deny 65", "send-community\n",
+                  "shutdown", "match ip address", policies.LONG):
         assert text.count(piece) > 2, piece
 
 
@@ -103,7 +104,8 @@ def test_examples_are_there() -> None:
 
 def whole() -> tuple[problem.Network, problem.Problem]:
     """A network of two routers, with a list of one community."""
-    net = pair(left=(" neighbor 172.16.0.1 route-map IN in",), lists=("ip community-list standard A permit 65000:1", "route-map IN permit 10", " match community A exact-match", " set local-preference 200", "route-map IN permit 20"))
+    net = pair(left=(" neighbor 172.16.0.1 route-map IN in",), lists=("ip community-list standard A permit 65000:1", "route-map IN permit 10", " match community A exact-match",
+        " set local-preference 200", "route-map IN permit 20"))
     return net, problem.problem(net, net.classes[0])
 
 

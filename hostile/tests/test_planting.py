@@ -2,11 +2,12 @@
 from __future__ import annotations
 
 import subprocess
+import sys
 from pathlib import Path
 
 import pytest
 
-from hostile.planting import copies, judge_faults, program_faults
+from hostile.planting import copies, expecting, judge_faults, program_faults
 from hostile.planting.fault import Fault
 from roads.program import TOP
 
@@ -39,14 +40,20 @@ def test_a_piece_that_is_not_there(tmp_path: Path) -> None:
 
 
 def test_a_fault_of_the_second_reader_is_found(tmp_path: Path) -> None:
-    """One that the first texts show."""
-    tool = str(TOP / "hostile" / "sensitivity")
-    fault = Fault("all-refused", "words", "words.py", "return 1 <= len(word) <= 63", "return False", "no word names a list")
+    """The copy expects something else than the right reader over one of the first texts; the right one expects the same over all."""
+    expecting.keep(tmp_path / "expected", 40, 1)
+    assert expecting.first_other(tmp_path / "expected") == (40, "")
     room = tmp_path / "room"
     room.mkdir()
-    script = copies.reader(fault, room)
-    ran = subprocess.run([str(script), "--seconds", "60", "--jobs", "2", "--seed", "1", "--first", "--keep", str(tmp_path / "kept")], capture_output=True, text=True, check=False)
-    assert ran.returncode == 1 and "differences" in ran.stdout and "none" not in ran.stdout.splitlines()[-1], ran.stdout + ran.stderr
-    listed = subprocess.run([tool, "--list"], capture_output=True, text=True, check=False)
-    assert len(listed.stdout.splitlines()) == len(judge_faults.FAULTS)
-    assert subprocess.run([tool, "nothing"], capture_output=True, check=False).returncode == 2
+    script = copies.reader(Fault("all-refused", "words", "words.py", "return 1 <= len(word) <= 63", "return False", "no word names a list"), room)
+    ran = subprocess.run([sys.executable, "-m", "hostile.planting.expecting", str(tmp_path / "expected")], cwd=room, capture_output=True, text=True, check=False)
+    assert script.is_file() and ran.returncode == 0 and ran.stdout.split()[1:] == ["classes"], ran.stdout + ran.stderr
+
+
+@pytest.mark.parametrize(("tool", "faults"), [("plant", program_faults.FAULTS), ("sensitivity", judge_faults.FAULTS)])
+def test_the_words_of_the_tools(tool: str, faults: list[Fault]) -> None:
+    """`--list` names all; a name that is none is refused."""
+    path = str(TOP / "hostile" / tool)
+    listed = subprocess.run([path, "--list"], capture_output=True, text=True, check=False)
+    assert listed.returncode == 0 and [line.split()[0] for line in listed.stdout.splitlines()] == [fault.name for fault in faults]
+    assert subprocess.run([path, "nothing"], capture_output=True, check=False).returncode == 2

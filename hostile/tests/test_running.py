@@ -2,18 +2,17 @@
 from __future__ import annotations
 
 import json
-import os
 import stat
 import subprocess
 from pathlib import Path
 
 import pytest
 
-from hostile import running, shrink
+from hostile import laws, running, shrink
 from hostile.asking import Asked, Asker, Counts
 from hostile.compare import Comparison
 from hostile.judge import answers
-from roads.program import TOP, Program
+from roads.program import TOP, Answer, Program
 
 
 def test_a_short_run_finds_no_difference(tmp_path: Path) -> None:
@@ -26,15 +25,12 @@ def test_a_short_run_finds_no_difference(tmp_path: Path) -> None:
     assert f"commands {last['asked']}: " in ran.stdout and f"runs {last['texts']}, " in ran.stdout
 
 
-def test_a_run_ends_where_enough_was_asked(tmp_path: Path) -> None:
-    """By the number of commands; the same seed asks the same."""
-    plan = running.Plan(7, 60, 1, tmp_path, commands=1, answers=tmp_path / "answers")
-    running.SLICE, was = 0.2, running.SLICE
-    try:
-        found, seconds = running.run(plan)
-    finally:
-        running.SLICE = was
-    assert 0 < found.asked and seconds < 60
+def test_a_run_ends_where_enough_was_asked(tmp_path: Path, monkeypatch: pytest.MonkeyPatch) -> None:
+    """By the number of commands, with answers that are kept or without."""
+    monkeypatch.setattr(running, "SLICE", 0.1)
+    runs = [running.run(running.Plan(7, 60, 1, tmp_path, commands=1, answers=tmp_path / "answers"))[0] for _ in range(2)]
+    assert all(found.asked > 0 and not found.differences for found in runs)
+    assert {*runs[0].counts.commands} & {*runs[1].counts.commands}
 
 
 def test_a_reader_that_fails_is_told(monkeypatch: pytest.MonkeyPatch) -> None:
@@ -44,19 +40,25 @@ def test_a_reader_that_fails_is_told(monkeypatch: pytest.MonkeyPatch) -> None:
     assert [one.command for one in found] == ["reader"] and "ZeroDivisionError" in found[0].answered
 
 
-def test_a_difference_ends_a_run_and_is_kept(tmp_path: Path) -> None:
-    """`--first` stops at it; its text is shrunk and kept with its seed."""
-    erring = tmp_path / "program"
-    erring.write_text(f"#!/bin/bash\nset -o pipefail\n'{Asker().path}' \"$@\" | sed 's/^class 1 prefixes/class 1 prefix/'\n")
-    erring.chmod(0o755)
-    words = [str(TOP / "hostile" / "run"), "--seconds", "60", "--jobs", "1", "--seed", "5", "--first", "--keep", str(tmp_path / "kept")]
-    ran = subprocess.run(words, env={**os.environ, "BONSAI_PROGRAM": str(erring)}, capture_output=True, text=True, check=False)
-    assert ran.returncode == 1 and "differences 1: " in ran.stdout, ran.stdout + ran.stderr
+class Turned(Asker):
+    """A program that is right but for one word of `classes`."""
+
+    def ask(self, *words: str, texts: dict[str, str | bytes] | None = None, seconds: float | None = 60) -> Answer:
+        """The answer, with `prefix` for `prefixes`."""
+        answer = super().ask(*words, texts=texts, seconds=seconds)
+        return Answer(answer.status, answer.out.replace(b" prefixes ", b" prefix ") if words[0] == "classes" else answer.out, answer.err)
+
+
+def test_a_difference_ends_a_run_and_is_kept(tmp_path: Path, monkeypatch: pytest.MonkeyPatch) -> None:
+    """The first one does; its text is shrunk and kept with its seed."""
+    monkeypatch.setattr(running, "_program", lambda answers: Turned())
+    monkeypatch.setattr(laws, "broken", lambda asked, text, seed: [])
+    found, _ = running.run(running.Plan(5, 120, 1, tmp_path / "kept", first=True))
+    assert len(found.differences) == 1 and found.differences[0].startswith("classes-")
     text, told = sorted((tmp_path / "kept").iterdir())
-    assert (text.suffix, told.suffix) == (".cfg", ".txt") and told.read_text().startswith("seed ")
-    seed = told.read_text().split()[1]
-    again = subprocess.run([words[0], "--text", str(text), "--seed", seed], env={**os.environ, "BONSAI_PROGRAM": str(erring)}, capture_output=True, text=True, check=False)
-    assert again.returncode == 1 and again.stdout.startswith(text.name.split("-")[0])
+    assert (text.stem, told.stem) == (found.differences[0],) * 2 and text.read_bytes().count(b"\n") < 12
+    seed = int(told.read_text().split()[1])
+    assert running.still_differs(Turned(), text.read_bytes(), seed, "classes") and not running.still_differs(Asker(), text.read_bytes(), seed, "classes")
 
 
 def _erring(tmp_path: Path, edit: str) -> Program:
