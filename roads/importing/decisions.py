@@ -8,22 +8,29 @@ A line of the file is one of
     undefined [at FILE] "NAME" permit|deny because REASON
 
 PATTERN is a line as it stands, its words parted by one blank, where `*` stands for anything. A pattern that is a top line takes
-its whole stanza. Lines that begin with `#` are comments.
+its whole stanza, and one that opens a family or a template takes all lines of it. Lines that begin with `#` are comments.
 """
 from __future__ import annotations
 
 import dataclasses
-import fnmatch
+import re
 import shlex
+from collections.abc import Iterator
 
 from roads.command_line import Refused
-from roads.importing.folder import Folder
+from roads.importing.folder import Dialect, Folder, Source
 from roads.importing.rule import rule
 from roads.text import Line, Stanza
 
 DECIDED = rule("decision", "a person decided so, for the reason that is told", "the decisions file")
 PROTECTED = "protected"
 VERBS = ("drop", "bandwidth", "cost", "undefined")
+LARGEST = {"bandwidth": 4_294_967_295, "cost": 65_535}
+OPENING = {
+    "address-family": ("exit-address-family",),
+    "template": ("exit-peer-session", "exit-peer-policy"),
+}
+TABLE = (["vrf", "forwarding"], ["ip", "vrf", "forwarding"], ["vrf", "member"])
 
 
 @dataclasses.dataclass
@@ -40,10 +47,15 @@ class Decision:
 
     def covers(self, line: Line, text: str) -> bool:
         """Whether the decision is about a text that stands at a line."""
-        if not fnmatch.fnmatchcase(line.place.file, self.file) or not fnmatch.fnmatchcase(" ".join(text.split()), self.pattern):
+        if not _fits(line.place.file, self.file) or not _fits(" ".join(text.split()), self.pattern):
             return False
         self.is_used = True
         return True
+
+
+def _fits(text: str, pattern: str) -> bool:
+    """Whether a pattern is the whole text, where `*` stands for anything."""
+    return re.fullmatch(".*".join(map(re.escape, pattern.split("*"))), text) is not None
 
 
 @dataclasses.dataclass
@@ -88,9 +100,13 @@ def _decision(line: str, number: int, name: str) -> Decision:
             f'{name}:{number}: not of the form `drop [at FILE] "PATTERN" because REASON`, or `bandwidth`, `cost` or `undefined` with a value'
         )
     value = words[1] if len(words) > 1 else ""
-    if (verb in ("bandwidth", "cost") and not value.isdigit()) or (verb == "undefined" and value not in ("permit", "deny")):
+    if (verb in LARGEST and not _is_number(value, LARGEST[verb])) or (verb == "undefined" and value not in ("permit", "deny")):
         raise Refused(f"{name}:{number}: {value!r} is no value for `{verb}`")
     return Decision(number, verb, file, " ".join(words[0].split()), value, _unquoted(reason.strip()))
+
+
+def _is_number(word: str, largest: int) -> bool:
+    return re.fullmatch("0*[0-9]{1,10}", word) is not None and 1 <= int(word) <= largest
 
 
 def _unquoted(text: str) -> str:
@@ -108,16 +124,39 @@ def apply_drops(folder: Folder) -> None:
                 folder.log.assume(stanza.head, found.reason)
                 kept.append(Stanza(note(stanza.head, found.reason, "")))
             else:
-                stanza.body = [_kept(folder, stanza, line) for line in stanza.body]
+                stanza.body = list(_body(folder, router, stanza))
                 kept.append(stanza)
         router.stanzas = kept
+
+
+def _body(folder: Folder, router: Source, stanza: Stanza) -> Iterator[Line]:
+    """The lines of a body, where a line that opens a family or a template is dropped with all lines of it."""
+    opening: Line | None = None
+    for line in stanza.body:
+        if opening and not (router.dialect is Dialect.IOS and not line.is_blank and _depth(line) <= _depth(opening) and not _closes(line, opening)):
+            folder.log.cut([line], DECIDED)
+            opening = None if _closes(line, opening) else opening
+            continue
+        opening = None
+        kept = _kept(folder, stanza, line)
+        if kept.is_blank and line.words[:1] and line.words[0] in OPENING:
+            opening = line
+        yield kept
+
+
+def _closes(line: Line, opening: Line) -> bool:
+    return line.words[:1] != [] and line.words[0] in OPENING[opening.words[0]]
+
+
+def _depth(line: Line) -> int:
+    return len(line.text) - len(line.text.lstrip())
 
 
 def _kept(folder: Folder, stanza: Stanza, line: Line) -> Line:
     found = None if line.is_blank else folder.decisions.find("drop", line, line.text)
     if not found:
         return line
-    if line.words[:1] == ["match"] or line.words[:2] == ["ip", "address"]:
+    if line.words[:1] == ["match"] or line.words[:2] == ["ip", "address"] or any(line.words[: len(head)] == head for head in TABLE):
         whole = "entry" if line.words[0] == "match" else "interface"
         folder.log.refuse(
             line, PROTECTED, f"without this line its {whole} says something else: the whole {whole} can be dropped, `{' '.join(stanza.head.words)}`"
