@@ -28,11 +28,13 @@ class Source(Router):
     """A router of the folder. `file` is the file, or the folder of files, that it was read from.
 
     `loopback` is the name that FRR's interface `lo` has in the text: on FRR no other interface is a loopback.
+    `unread` are the protocols whose daemons' files stand beside and were not read.
     """
 
     dialect: Dialect = Dialect.IOS
     file: str = ""
     loopback: str = ""
+    unread: tuple[str, ...] = ()
 
     def is_loopback(self, stanza: Stanza) -> bool:
         """Whether an interface is a loopback, by its type on IOS and by its old name on FRR."""

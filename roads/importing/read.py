@@ -109,6 +109,7 @@ def _read_router_folder(top: Path, path: Path, folder: Folder) -> None:
         whole.stanzas += _frr_stanzas(cleaned(lines, folder.log, True), folder.log)
     for other in FRR_OTHERS:
         if (path / other).is_file() and (path / other).read_text("latin-1").strip():
+            whole.unread += (other.removesuffix("d.conf"),)
             folder.log.remarks.append(f"{path.relative_to(top)}/{other} was not read: its daemon carries no IPv4 routes of BGP or OSPF")
     _finish(whole, path.name, folder)
     folder.routers.append(whole)

@@ -31,6 +31,7 @@ Step = Callable[[Folder, Options], None]
 STEPS: tuple[Step, ...] = (
     frr.heads,
     forms.refuse_short,
+    interfaces.below_shut,
     virtual.cut_vrfs,
     virtual.cut_ipv6,
     frr.bodies,
@@ -43,6 +44,7 @@ STEPS: tuple[Step, ...] = (
     frr.communities,
     frr.requires_policy,
     interfaces.below_shut,
+    ospf.passive_order,
     ospf.areas,
     interfaces.secondaries,
     neighbors.hops,

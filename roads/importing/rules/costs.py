@@ -110,7 +110,7 @@ def _cost(router: Source, kbits: int) -> int:
 def _kbits(folder: Folder, router: Source, stanza: Stanza, line: Line) -> int | None:
     """The bandwidth of an interface in kbit/s, or none with a refusal where the folder does not tell it."""
     name = name_of(stanza)
-    given = next((found for found in stanza.body if found.words[:1] == ["bandwidth"] and found.words[1:2] and found.words[1].isdigit()), None)
+    given = next((found for found in stanza.body if found.words[:1] == ["bandwidth"] and found.words[1:2] and found.words[1].isdigit() and int(found.words[1])), None)
     if router.dialect is Dialect.FRR:
         if not given:
             folder.log.refuse(line, NO_COST, "FRR takes the bandwidth from the kernel, and the folder does not tell it: decide `bandwidth` or `cost`")

@@ -6,7 +6,7 @@ from collections import defaultdict
 from collections.abc import Callable
 from ipaddress import IPv4Network
 
-from roads.importing.folder import Folder, Source
+from roads.importing.folder import Dialect, Folder, Source
 from roads.importing.rewriting import rewrite
 from roads.importing.rule import Rule, rule
 from roads.importing.rules import lists
@@ -20,7 +20,8 @@ ACCESS = rule(
     "Cisco IOS BGP, `neighbor distribute-list`, `match ip address`; FRR user guide, filtering",
 )
 NUMBERED = rule(
-    "prefix-list-number", "an entry without a number stands 5 behind the last one", "Cisco IOS BGP, `ip prefix-list`; FRR user guide, filtering"
+    "prefix-list-number",
+    "an entry without a number stands 5 behind the last one, on FRR at the next multiple of 5", "Cisco IOS BGP, `ip prefix-list`; FRR user guide, filtering"
 )
 COUNTED = rule("list-numbers", "the line says only that numbers are shown", "Cisco IOS BGP, `ip prefix-list sequence-number`")
 COMMUNITY = rule(
@@ -46,18 +47,23 @@ def prefix_list_forms(folder: Folder, _options: Options) -> None:
         kept = []
         for stanza in router.stanzas:
             words = stanza.head.words
-            if words[:3] in (["ip", "prefix-list", "sequence-number"], ["no", "ip", "prefix-list"]):
+            if words in (["ip", "prefix-list", "sequence-number"], ["no", "ip", "prefix-list", "sequence-number"]):
                 folder.log.by(stanza.head, COUNTED)
                 continue
             if words[:2] == ["ip", "prefix-list"] and len(words) > 4:
                 if words[3] in ("permit", "deny"):
                     folder.log.by(stanza.head, NUMBERED)
-                    stanza.head = stanza.head.with_text(" ".join([*words[:3], "seq", str(last[words[2]] + 5), *words[3:]]))
+                    stanza.head = stanza.head.with_text(" ".join([*words[:3], "seq", str(_next_number(router, last[words[2]])), *words[3:]]))
                 words = stanza.head.words
                 if words[3] == "seq" and words[4].isdigit():
                     last[words[2]] = max(last[words[2]], int(words[4]))
             kept.append(stanza)
         router.stanzas = kept
+
+
+def _next_number(router: Source, last: int) -> int:
+    """The number of an entry without one: 5 behind the last; on FRR the next multiple of 5."""
+    return last // 5 * 5 + 5 if router.dialect is Dialect.FRR else last + 5
 
 
 def community_lists(folder: Folder, _options: Options) -> None:

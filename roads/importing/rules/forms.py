@@ -1,4 +1,4 @@
-"""Lines that are cut short: they are refused, and set aside so that no rule reads them."""
+"""Lines that are cut short: they are refused, and set aside with those that were refused on reading, so that no rule reads them."""
 from __future__ import annotations
 
 from roads.importing.folder import Folder
@@ -57,9 +57,11 @@ def refuse_short(folder: Folder, _options: Options) -> None:
         short += [line for stanza in router.stanzas for line in stanza.body if _is_short(line, INSIDE)]
         for line in short:
             folder.log.refuse(line, CUT_SHORT, "the line has fewer words than a line of its kind")
-        gone = {id(line) for line in short}
-        for line in [line for stanza in router.stanzas if id(stanza.head) in gone for line in stanza.body if not line.is_blank]:
-            folder.log.refuse(line, CUT_SHORT, "the first line of its stanza is cut short")
+        refused = {found.place: found.name for found in folder.log.refusals}
+        gone = {id(line) for line in router.lines if line.place in refused}
+        for stanza in [stanza for stanza in router.stanzas if id(stanza.head) in gone]:
+            for line in [line for line in stanza.body if not line.is_blank]:
+                folder.log.refuse(line, refused[stanza.head.place], "the first line of its stanza is refused")
         router.stanzas = [stanza for stanza in router.stanzas if id(stanza.head) not in gone]
         for stanza in router.stanzas:
             stanza.body = [line for line in stanza.body if id(line) not in gone]

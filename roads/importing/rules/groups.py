@@ -75,6 +75,8 @@ def kind_of_setting(words: list[str]) -> tuple[str, ...]:
         return words[0], words[-1]
     if words[:1] == ["timers"] and words[1:2] == ["connect"]:
         return "timers", "connect"
+    if words[:1] == ["send-community"] and words[1:] in (["extended"], ["large"]):
+        return "send-community", words[1]
     return tuple(words[:1])
 
 

@@ -45,7 +45,7 @@ TIMERS = Subject(
     bgp=_heads(
         "bgp conditional-advertisement timer | bgp default-originate timer | bgp fast-external-fallover | bgp graceful-restart "
         "| bgp graceful-restart-disable | bgp hard-administrative-reset | bgp keepalive | bgp long-lived-graceful-restart | bgp "
-        "minimum-holdtime | bgp nexthop | bgp refresh | bgp scan-time | bgp session-dscp | bgp slow-peer | bgp tcp-keepalive | "
+        "minimum-holdtime | bgp nexthop trigger | bgp refresh | bgp scan-time | bgp session-dscp | bgp slow-peer | bgp tcp-keepalive | "
         "bgp update-delay | coalesce-time | neighbor * bfd | neighbor * delayopen | neighbor * fall-over | neighbor * "
         "graceful-restart | neighbor * graceful-restart-disable | neighbor * graceful-restart-helper | neighbor * ha-mode | "
         "neighbor * slow-peer | neighbor * timers | neighbor * update-delay | no bgp fast-external-fallover | no bgp "

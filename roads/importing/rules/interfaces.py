@@ -9,7 +9,7 @@ from roads.importing.rewriting import cut_lines
 from roads.importing.rule import rule
 from roads.importing.rules.frr import free_name
 from roads.importing.rules.options import Options
-from roads.importing.rules.ospf import in_area, is_passive
+from roads.importing.rules.ospf import AREA, in_area, is_passive
 from roads.text import Line, Stanza
 
 SECONDARY = rule(
@@ -107,6 +107,17 @@ def _is_named(folder: Folder, address: IPv4Interface) -> bool:
     return any(line.words[:1] == ["neighbor"] and an_address(line.words[1]) == address.ip for line in lines)
 
 
+def _with_interface(folder: Folder, router: Source, stanza: Stanza, line: Line, address: IPv4Interface) -> Stanza | None:
+    """The OSPF process. An area that stands on the interface takes in its secondary addresses too, unless it says `secondaries none`."""
+    process = router.process("ospf")
+    for found in list(process.body) if process else []:
+        is_of_interface = AREA in folder.log.touched.get(found.place, []) and found.words[1:2] == [str(address_of(stanza).ip)]
+        if is_of_interface and folder.raw.get(found.place, "").split()[-2:] != ["secondaries", "none"]:
+            process.body.append(indented(line, f"network {address.ip} 0.0.0.0 area {found.words[4]}"))
+            break
+    return process
+
+
 def _own_interface(folder: Folder, router: Source, stanza: Stanza, line: Line, address: IPv4Interface) -> None:
     folder.log.by(line, SECONDARY)
     name = free_name(f"{name_of(stanza)}:", {name_of(other) for other in router.interfaces})
@@ -114,16 +125,11 @@ def _own_interface(folder: Folder, router: Source, stanza: Stanza, line: Line, a
     made.body += [line.with_text(found.text) for found in stanza.body if found.words[:3] == ["ip", "ospf", "network"]]
     given = first(stanza, "ip", "ospf", "cost")
     router.stanzas.insert(router.stanzas.index(stanza) + 1, made)
-    by_interface = any(
-        found.words[:1] == ["network"] and found.words[1:3] == [str(address_of(stanza).ip), "0.0.0.0"]
-        for process in router.with_head("router", "ospf")
-        for found in process.body
-    )
-    process = router.process("ospf")
-    if process and by_interface:
-        area = next(found.words[4] for found in process.body if found.words[1:3] == [str(address_of(stanza).ip), "0.0.0.0"])
-        process.body.append(indented(line, f"network {address.ip} 0.0.0.0 area {area}"))
-    if not in_area(router, made):
+    process = _with_interface(folder, router, stanza, line, address)
+    if not process or not in_area(router, made):
+        return
+    if router.dialect is Dialect.IOS and not in_area(router, stanza):
+        folder.log.refuse(line, REFUSED, "a `network` line takes in this address and not the primary one, and then OSPF does not run on the interface")
         return
     if given:
         made.body.append(line.with_text(given.text))

@@ -43,7 +43,7 @@ class Ace:
 
 def access_list(router: Source, name: str) -> list[Ace] | None:
     """The entries of an access list; none where it is not defined, or has an entry that is no filter of prefixes."""
-    found: list[Ace] = []
+    found: list[tuple[int, Ace]] = []
     is_defined = False
     for stanza in router.stanzas:
         words = stanza.head.words
@@ -54,14 +54,18 @@ def access_list(router: Source, name: str) -> list[Ace] | None:
             lines = [(line, line.words) for line in stanza.body if not line.is_blank]
         for line, rest in lines:
             is_defined = True
-            rest = rest[2:] if rest[:1] == ["seq"] else rest[1:] if rest[:1] and rest[0].isdigit() else rest
+            number = max((number for number, _ in found), default=0) + 1
+            if rest[:1] == ["seq"] and rest[1:2] and rest[1].isdigit():
+                number, rest = int(rest[1]), rest[2:]
+            elif rest[:1] and rest[0].isdigit():
+                number, rest = int(rest[0]), rest[1:]
             if rest[:1] == ["remark"]:
                 continue
             ace = _ace(line, rest, router.dialect is Dialect.FRR)
             if ace is None:
                 return None
-            found.append(ace)
-    return found if is_defined else None
+            found.append((number, ace))
+    return [ace for _, ace in sorted(found, key=lambda numbered: numbered[0])] if is_defined else None
 
 
 def is_defined_access_list(router: Source, name: str) -> bool:
@@ -170,4 +174,6 @@ def _match(router: Source, words: list[str], prefix: IPv4Network, interface: str
     if words[:3] == ["match", "ip", "address"]:
         access = [access_list(router, name) for name in words[3:]]
         return None if any(found is None for found in access) else any(access_permits(found, prefix) for found in access)
-    return interface in words[2:] if words[:2] == ["match", "interface"] else None
+    if words[:2] != ["match", "interface"] or not interface:
+        return None
+    return interface in words[2:] or interface.partition(":")[0] in words[2:]

@@ -37,6 +37,7 @@ MAPPED = rule(
 )
 REDISTRIBUTED = "redistribute"
 NETWORK = "network"
+NOWHERE = ("Null0", "null0", "blackhole", "reject")
 
 
 def connected(folder: Folder, _options: Options) -> None:
@@ -148,7 +149,7 @@ def _originate(folder: Folder, router: Source, process: Stanza, line: Line, pref
     unchecked = is_unchecked(router, process)
     if not static and not unchecked:
         return
-    if static and not unchecked and static.head.words[4:5] not in (["Null0"], ["null0"], ["blackhole"]):
+    if static and not unchecked and _next_hop(static.head) not in NOWHERE:
         folder.log.refuse(
             line, NETWORK, f"it originates by the static route at {static.head.place}, whose next hop can fail; a route to Null0 cannot"
         )
@@ -172,6 +173,11 @@ def _originate(folder: Folder, router: Source, process: Stanza, line: Line, pref
         if static:
             folder.log.by(static.head, NULL)
             router.stanzas.remove(static)
+
+
+def _next_hop(line: Line) -> str:
+    """The word behind the prefix of a static route."""
+    return next(iter(line.words[3 if "/" in line.words[2] else 4 :]), "")
 
 
 def _taken(folder: Folder) -> set[IPv4Address]:

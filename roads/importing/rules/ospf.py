@@ -35,6 +35,7 @@ LOOPBACK_NET = rule(
 ONE_AREA = rule("ospf-one-area", "the line speaks of borders between areas, and the network has one area", "RFC 2328 section 12.4.3")
 NO_EXTERNAL = rule("ospf-no-external", "the line speaks of external routes, and this router brings in none", "RFC 2328 section 12.4.4")
 REFUSED_TYPE = "ospf-network-type"
+MULTIPOINT = "type {}: point-to-multipoint announces host routes and not the subnet, non-broadcast needs its neighbours named"
 POINT_TO_POINT = ("Serial", "Tunnel", "POS", "Multilink")
 
 
@@ -107,6 +108,30 @@ def is_passive(router: Source, name: str) -> bool:
     return ["passive-interface", name] in lines
 
 
+def passive_order(folder: Folder, _options: Options) -> None:
+    """Refuses lines about passive interfaces of which a later one takes back an earlier one: the profile does not look at their order."""
+    for router in folder.routers:
+        for process in router.with_head("router", "ospf"):
+            for name, line in _passive_named(process).items():
+                if _passive_in_order(process, name) != is_passive(router, name):
+                    folder.log.refuse(line, "passive-order", "a later line about passive interfaces takes an earlier one back: write the lines that count alone")
+
+
+def _passive_named(process: Stanza) -> dict[str, Line]:
+    """The interfaces that lines about passive interfaces name, each with the last line about it."""
+    return {line.words[-1]: line for line in process.body if "passive-interface" in line.words[:2] and line.words[-1] != "default"}
+
+
+def _passive_in_order(process: Stanza, name: str) -> bool:
+    """Whether an interface is passive where each line counts from its place on, as devices read them."""
+    found = False
+    for line in process.body:
+        words = line.words
+        if "passive-interface" in words[:2] and words[-1] in ("default", name):
+            found = words[0] != "no"
+    return found
+
+
 def network_types(folder: Folder, _options: Options) -> None:
     """Cuts network types that change no route, and refuses the others."""
     wires: dict[IPv4Network, list[Active]] = defaultdict(list)
@@ -115,13 +140,16 @@ def network_types(folder: Folder, _options: Options) -> None:
             address = address_of(stanza)
             if address and in_area(router, stanza) and not is_passive(router, name_of(stanza)):
                 wires[address.network].append(Active(router, stanza, address))
-    _judge_masks(folder, [end for wire in wires.values() if len(wire) == 1 for end in wire])
+    alone = [end for wire in wires.values() if len(wire) == 1 for end in wire]
+    _judge_masks(folder, alone)
+    _judge_unnumbered(folder, alone)
     for wire in wires.values():
         _judge_wire(folder, [end for end in wire if not end.router.is_loopback(end.stanza)])
     for router in folder.routers:
         for stanza in list(router.interfaces):
             if kind_of(name_of(stanza)) == "Loopback":
                 _loopback(folder, router, stanza)
+            _judge_multipoint(folder, router, stanza)
             cut_lines(stanza, folder.log, TYPE, lambda line: line.words[:3] == ["ip", "ospf", "network"])
 
 
@@ -151,6 +179,21 @@ def _judge_masks(folder: Folder, alone: list[Active]) -> None:
             )
 
 
+def _judge_unnumbered(folder: Folder, alone: list[Active]) -> None:
+    """Refuses point-to-point ends with a host address: devices find their neighbour on the wire, and the profile by the subnet."""
+    for end in alone:
+        if end.address.network.prefixlen == 32 and type_of(end.stanza) == "point-to-point" and not end.router.is_loopback(end.stanza):
+            line = first(end.stanza, "ip", "address") or end.stanza.head
+            folder.log.refuse(line, "mask-mismatch", "a point-to-point link without a subnet: devices are adjacent over it, and the profile has links by subnets")
+
+
+def _judge_multipoint(folder: Folder, router: Source, stanza: Stanza) -> None:
+    """Refuses point-to-multipoint wherever it stands: also without neighbours it announces the address and not the subnet."""
+    line = first(stanza, "ip", "ospf", "network")
+    if line and in_area(router, stanza) and not router.is_loopback(stanza) and type_of(stanza).startswith("point-to-multipoint"):
+        folder.log.refuse(line, REFUSED_TYPE, MULTIPOINT.format(type_of(stanza)))
+
+
 def _judge_wire(folder: Folder, wire: list[Active]) -> None:
     routers = {id(end.router) for end in wire}
     if len(routers) < 2:
@@ -163,7 +206,7 @@ def _judge_wire(folder: Folder, wire: list[Active]) -> None:
             folder.log.refuse(
                 line,
                 REFUSED_TYPE,
-                f"type {kind}: point-to-multipoint announces host routes and not the subnet, non-broadcast needs its neighbours named",
+                MULTIPOINT.format(kind),
             )
         elif len(types) > 1:
             folder.log.refuse(

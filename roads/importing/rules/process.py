@@ -5,6 +5,7 @@ from roads.importing.folder import Folder, Source
 from roads.importing.rewriting import begins, cut_lines
 from roads.importing.rule import rule
 from roads.importing.rules.options import Options
+from roads.importing.rules.redistribution import is_set_aside
 from roads.text import Line
 
 NO_MED = rule(
@@ -70,4 +71,5 @@ def _is_plain_distance(line: Line) -> bool:
 
 def _competes(router: Source) -> bool:
     processes = list(router.with_head("router"))
-    return len(processes) > 1 or any(router.with_head("ip", "route"))
+    others = ("static", "ospf", "bgp", "rip", "isis", "eigrp", "babel")
+    return len(processes) > 1 or any(router.with_head("ip", "route")) or any(is_set_aside(router, other) for other in others)

@@ -50,9 +50,17 @@ def static_prefix(line: Line) -> IPv4Network | None:
     return found.network if found else None
 
 
+def is_set_aside(router: Source, protocol: str) -> bool:
+    """Whether the router has routes of a protocol that the text does not show: a decision dropped them, or their file was not read."""
+    dropped = ["ip", "route"] if protocol == "static" else ["router", protocol]
+    return protocol in router.unread or any(
+        stanza.head.words[:2] == ["!", "assumed:"] and stanza.head.words[2:4] == dropped for stanza in router.stanzas
+    )
+
+
 def _is_nothing(router: Source, process: Stanza, line: Line) -> bool:
     words = line.words
-    if words[0] != "redistribute" or len(words) < 2:
+    if words[0] != "redistribute" or len(words) < 2 or is_set_aside(router, words[1]):
         return False
     if words[1] == "static":
         return not any(router.with_head("ip", "route"))
