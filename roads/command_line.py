@@ -91,6 +91,11 @@ def not_written(name: str | os.PathLike[str], fault: OSError) -> OSError:
     return OSError(fault.errno or errno.EIO, f"{os.fspath(name)}: {fault.strerror}")
 
 
+def one_line(text: str) -> str:
+    """The text with `?` for what would end the line or move the cursor, as names of files can have it."""
+    return "".join("?" if letter < " " or letter == "\x7f" else letter for letter in text)
+
+
 def run(name: str, work: Callable[[], int | None]) -> int:
     """Runs a tool's work and turns each failure into one line on standard error and a status."""
     try:
@@ -98,10 +103,10 @@ def run(name: str, work: Callable[[], int | None]) -> int:
         sys.stdout.flush()
         return status
     except Refused as refused:
-        print(f"{name}: {refused}", file=sys.stderr)
+        print(one_line(f"{name}: {refused}"), file=sys.stderr)
         return 1
     except NotAnswered as fault:
-        print(f"{name}: {fault}", file=sys.stderr)
+        print(one_line(f"{name}: {fault}"), file=sys.stderr)
         return 1
     except ModuleNotFoundError as fault:
         return lacking(name, fault)
@@ -115,7 +120,7 @@ def run(name: str, work: Callable[[], int | None]) -> int:
     except OSError as fault:
         is_read = fault.filename is not None
         told = f"{fault.filename}: {fault.strerror}" if is_read else f"write fault: {fault.strerror}"
-        print(f"{name}: {told}", file=sys.stderr)
+        print(one_line(f"{name}: {told}"), file=sys.stderr)
         if not is_read:
             os.dup2(os.open(os.devnull, os.O_WRONLY), sys.stdout.fileno())
         return 3 if is_read else 4

@@ -81,6 +81,8 @@ def read_folder(name: str) -> Folder:
             continue
         if path.is_dir():
             _read_router_folder(top, path, folder)
+        elif path.exists() and not path.is_file():
+            folder.log.remarks.append(f"{path.name} was not read: it is no file")
         elif path.suffix in NOT_READ or has_folders:
             folder.log.remarks.append(
                 f"{path.name} was not read: {'by its name it is no configuration' if path.suffix in NOT_READ else 'each router here has a folder'}"

@@ -2,6 +2,7 @@
 from __future__ import annotations
 
 import argparse
+import os
 import sys
 
 from roads.command_line import Refused, parser, run, write_output
@@ -69,6 +70,14 @@ def command_line() -> argparse.ArgumentParser:
     return made
 
 
+def _refuse_own(name: str, folder: str, report: Report) -> None:
+    """Refuses to write the report over a file that was read."""
+    files = {place.file for place in report.folder.raw}
+    own = {os.path.realpath(os.path.join(folder, inner, file)) for file in files for inner in ("", "configs")}
+    if name != "-" and os.path.realpath(name) in own:
+        raise Refused(f"{name}: is a file that is read")
+
+
 def _main() -> int:
     words = command_line().parse_args()
     decisions = None
@@ -78,7 +87,8 @@ def _main() -> int:
     report = import_folder(words.folder, Program(), decisions, Options.of(words.own_as, words.stub))
     told = report.json if words.json else report.text
     if words.report:
-        write_output(words.report, told.encode("utf-8", "replace"))
+        _refuse_own(words.report, words.folder, report)
+        write_output(words.report, told.encode("utf-8", "replace"), words.decisions or "-")
     else:
         sys.stderr.write(told)
     refusals = report.folder.log.refusals

@@ -198,3 +198,39 @@ def test_bad_folders(tmp_path: Path, program: Program) -> None:
 def test_other_vendors_are_refused(text: str, tmp_path: Path, program: Program) -> None:
     with pytest.raises(Refused, match="written for"):
         report(tmp_path, program, (text,))
+
+
+@pytest.mark.parametrize("value", ["cost \"V\" 0", "cost \"V\" 65536", "cost \"V\" \u00b2", "bandwidth \"V\" 0", "bandwidth \"V\" 99999999999"])
+def test_values_out_of_range_are_refused(value: str) -> None:
+    with pytest.raises(Refused, match="is no value"):
+        read_decisions(f"{value} because y", "decisions")
+
+
+def test_a_star_alone_stands_for_anything(tmp_path: Path, program: Program) -> None:
+    text = A_BGP + " neighbor 172.16.0.2 weight 5\nip route 0.0.0.0 0.0.0.0 10.1.0.9 name up[1]\n"
+    decisions = 'drop "ip route * name up[1]" because "asked so"\ndrop "neighbor ?????????? weight 5" because "asked so"\n'
+    found = report(tmp_path, program, (text, B_BGP), decisions)
+    assert [one.text for one in found.folder.log.refusals] == ["neighbor 172.16.0.2 weight 5"]
+
+
+def test_the_report_is_not_written_over_what_is_read(tmp_path: Path, program: Program) -> None:
+    folder = tmp_path / "folder"
+    folder.mkdir()
+    file = folder / "a.cfg"
+    file.write_text(A_BGP)
+    ran = run_tool(str(folder), "--report", str(file))
+    assert (ran.returncode, ran.stderr) == (1, f"bonsai-import: {file}: is a file that is read\n")
+    assert file.read_text() == A_BGP
+    assert run_tool(str(folder), "--report", str(tmp_path / "report")).returncode == 0
+
+
+def test_what_is_no_file_is_told(tmp_path: Path, program: Program) -> None:
+    os.mkfifo(tmp_path / "pipe")
+    found = report(tmp_path, program, (A_BGP, B_BGP))
+    assert "pipe was not read: it is no file" in found.folder.log.remarks
+
+
+def test_a_name_with_a_line_end_is_one_line(tmp_path: Path, program: Program) -> None:
+    (tmp_path / "a\nb.cfg").write_text(A_BGP + " neighbor 172.16.0.2 weight 5\n")
+    told = run_tool(str(tmp_path), "--report", "/dev/null").stderr
+    assert told.splitlines() == ["bonsai-import: 1 lines are refused, the first at a?b.cfg:9; what is left to you can be told by --decisions"]
