@@ -38,7 +38,8 @@ NOT_READ = (
     ".log",
 )
 FRR_FILES = ("frr.conf", "zebra.conf", "bgpd.conf", "ospfd.conf", "staticd.conf")
-FRR_OTHERS = ("ospf6d.conf", "ripd.conf", "ripngd.conf", "isisd.conf", "ldpd.conf", "pimd.conf", "bfdd.conf", "eigrpd.conf", "babeld.conf")
+FRR_OTHERS = ("ospf6d.conf", "ripd.conf", "ripngd.conf", "isisd.conf", "ldpd.conf", "pimd.conf", "bfdd.conf", "eigrpd.conf", "babeld.conf", "fabricd.conf", "nhrpd.conf")
+PROTOCOL = {"fabric": "openfabric"}
 HOSTNAME = rule("hostname", "a router without a host name has the name of its file or folder", "the names of backups, RANCID")
 END = rule("end", "each router of a text ends with the line `end`", "the profile")
 EXIT = rule("exit", "the line leaves a stanza, which the next top line does too", "FRR user guide, VTY modes; Cisco IOS Configuration Fundamentals")
@@ -111,7 +112,8 @@ def _read_router_folder(top: Path, path: Path, folder: Folder) -> None:
         whole.stanzas += _frr_stanzas(cleaned(lines, folder.log, True), folder.log)
     for other in FRR_OTHERS:
         if (path / other).is_file() and (path / other).read_text("latin-1").strip():
-            whole.unread += (other.removesuffix("d.conf"),)
+            daemon = other.removesuffix("d.conf")
+            whole.unread += (PROTOCOL.get(daemon, daemon),)
             folder.log.remarks.append(f"{path.relative_to(top)}/{other} was not read: its daemon carries no IPv4 routes of BGP or OSPF")
     _finish(whole, path.name, folder)
     folder.routers.append(whole)

@@ -20,7 +20,7 @@ BEHIND = rule(
     "a connected subnet comes before a static route to the same prefix",
     "Cisco IOS IP Routing, administrative distance; FRR user guide, zebra",
 )
-PROTOCOLS = ("ospf", "ospf6", "rip", "ripng", "eigrp", "isis", "bgp", "babel", "nhrp", "openfabric", "odr", "mobile", "lisp")
+PROTOCOLS = ("ospf", "ospf6", "rip", "ripng", "eigrp", "isis", "bgp", "babel", "openfabric", "odr", "mobile", "lisp")
 
 
 def nothing(folder: Folder, _options: Options) -> None:

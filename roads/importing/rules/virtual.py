@@ -82,21 +82,27 @@ def cut_ipv6(folder: Folder, _options: Options) -> None:
     for router in folder.routers:
         kept = []
         for stanza in router.stanzas:
-            if _is_ipv6(stanza.head) and not folder.takes("top", stanza.head.text):
+            if _is_ipv6(stanza) and not folder.takes("top", stanza.head.text):
                 folder.log.cut(stanza.lines, IPV6)
             else:
                 kept.append(stanza)
         router.stanzas = kept
         for stanza in router.interfaces:
-            cut_lines(
-                stanza, folder.log, IPV6, lambda line: line.words[0] == "ipv6" or line.words[:2] == ["no", "ipv6"] or (line.words[:1] == ["ospfv3"])
-            )
+            cut_lines(stanza, folder.log, IPV6, _is_ipv6_line)
         _cut_entries(folder, router)
 
 
-def _is_ipv6(line: Line) -> bool:
+def _is_ipv6(stanza: Stanza) -> bool:
+    """Whether a stanza speaks of IPv6 alone. OSPFv3 carries IPv4 routes too where it has the family (RFC 5838)."""
+    words = stanza.head.words
+    if words[:2] == ["router", "ospfv3"]:
+        return not has(stanza, "address-family", "ipv4")
+    return words[:1] == ["ipv6"] or words[:2] in (["no", "ipv6"], ["router", "ospf6"], ["router", "ripng"])
+
+
+def _is_ipv6_line(line: Line) -> bool:
     words = line.words
-    return words[:1] == ["ipv6"] or words[:2] in (["no", "ipv6"], ["router", "ospfv3"], ["router", "ospf6"], ["router", "ripng"])
+    return words[0] == "ipv6" or words[:2] == ["no", "ipv6"] or (words[0] == "ospfv3" and "ipv4" not in words)
 
 
 def _cut_entries(folder: Folder, router: Source) -> None:

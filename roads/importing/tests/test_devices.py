@@ -75,13 +75,22 @@ def test_redistribution_stays_where_its_source_is_out_of_sight(tmp_path: Path, p
     assert not refused(report(tmp_path, program, (A_BGP + " redistribute static\n redistribute ospf 1\n", B_BGP)))
 
 
-def test_redistribution_from_a_daemon_whose_file_is_not_read(tmp_path: Path, program: Program) -> None:
-    process = "router bgp 65001\n no bgp ebgp-requires-policy\n redistribute isis\n"
+@pytest.mark.parametrize("daemon, protocol", [("isisd", "isis"), ("ripd", "rip"), ("fabricd", "openfabric"), ("nhrpd", "nhrp")])
+def test_redistribution_from_a_daemon_whose_file_is_not_read(daemon: str, protocol: str, tmp_path: Path, program: Program) -> None:
+    process = f"router bgp 65001\n no bgp ebgp-requires-policy\n redistribute {protocol}\n"
     interface = "hostname a\ninterface eth0\n ip address 10.1.0.1/24\n"
-    found = of_frr(tmp_path, program, zebra=interface, bgpd=process, isisd="router isis X\n")
-    assert [one.text for one in found.folder.log.refusals] == ["redistribute isis"]
-    (tmp_path / "isisd.conf").unlink()
-    assert not refused(import_folder(str(tmp_path), program))
+    found = of_frr(tmp_path, program, zebra=interface, bgpd=process, **{daemon: "! a daemon\n"})
+    assert [one.text for one in found.folder.log.refusals] == [f"redistribute {protocol}"]
+    assert f"./{daemon}.conf was not read: its daemon carries no IPv4 routes of BGP or OSPF" in found.folder.log.remarks
+    (tmp_path / f"{daemon}.conf").unlink()
+    assert bool(refused(import_folder(str(tmp_path), program))) is (protocol == "nhrp")
+
+
+def test_ospfv3_that_carries_ipv4_is_refused(tmp_path: Path, program: Program) -> None:
+    text = A_OSPF + "router ospfv3 1\n address-family {0} unicast\n exit-address-family\ninterface Vlan7\n ip address 10.7.0.1 255.255.255.0\n ospfv3 1 {0} area 0\n"
+    found = report(tmp_path, program, (text.format("ipv4"), B_OSPF))
+    assert [one.text for one in found.folder.log.refusals] == ["router ospfv3 1", "ospfv3 1 ipv4 area 0"]
+    assert not refused(report(tmp_path, program, (text.format("ipv6"), B_OSPF)))
 
 
 def test_point_to_multipoint_without_neighbours(tmp_path: Path, program: Program) -> None:
