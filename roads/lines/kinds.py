@@ -23,7 +23,7 @@ KINDS = (
     Kind("TooManyLines", "line 1,000,001", "!", "leave out comments and ignored stanzas"),
     Kind("UnknownLine", "a line whose head is in no table of this page", " bfd interval 300 min_rx 300 multiplier 3", "see [the most frequent ones](#unknown-lines)"),
     Kind("Unsupported", "a line that begins with a refused head", "ip route 0.0.0.0 0.0.0.0 10.0.0.2", "see [the refused heads](#what-to-do-with-a-refused-line)"),
-    Kind("BadForm", "a line that begins with a known head and does not fit its form", " ip address dhcp", "compare the line with [its form](#known-lines); what has no such form is outside the profile"),
+    Kind("BadForm", "a line that begins with a known head and does not fit its form", " ip address dhcp", "compare the line with [its form](#known-lines). `tools/bonsai-import` writes those of FRR so, and cuts VRFs; what else has no such form is outside the profile"),
     Kind("WellKnown", "a line that fits its form but for a well-known community", " set community no-export", "Bonsai does not model what such a community does: write it with lists and maps on the sessions where it acts"),
     Kind("Misplaced", "an indented line without an open stanza, or a `neighbor` line before that neighbour's `remote-as`", " neighbor 10.0.0.2 send-community", "put the line into its stanza, behind `remote-as`; unfold peer groups"),
     Kind("Repeated", "the second line that gives one value", " ip address 10.0.1.1 255.255.255.0", "keep the line that the device keeps: mostly the last. Two files of one router are one router"),

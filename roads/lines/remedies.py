@@ -38,7 +38,7 @@ REFUSED = (
     _of("top", "ipv6", "take it out: IPv6 has no bearing on IPv4 routes. A neighbour with an IPv6 address that carries IPv4 routes is outside the profile"),
     _of("top", "banner", f"take out the banner up to its delimiter. {IMPORT}"),
     _of("top", "mpls", f"labels follow the routes and make none; the line may go where no VPN or traffic engineering hangs on it. {IMPORT}"),
-    _of("interface", "ip ospf", f"write `ip ospf N area A` as a `network ADDRESS 0.0.0.0 area A` line of the process. A type of network may go where both ends agree on it and no prefix changes. {IMPORT}"),
+    _of("interface", "ip ospf", f"write `ip ospf N area A` as a `network ADDRESS 0.0.0.0 area A` line of the process. A type of network may go where both ends agree on it and no prefix changes. {IMPORT}. Point-to-multipoint and `prefix-suppression` take prefixes away: the interface is outside the profile"),
     _of("interface", "ip unnumbered", "give the link a subnet of its own, which nothing else announces, and say so; else the link is outside the profile"),
     _of("interface", "ip vrf | vrf", "cut the interface whole. Do not delete the line alone: the interface joins the global table"),
     _of("interface", "ip policy", "packets that a policy forwards are not modelled: it may go, and the answer is about routes alone"),
