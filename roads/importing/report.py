@@ -8,7 +8,7 @@ from collections import Counter, defaultdict
 from roads.change import Change
 from roads.command_line import Refused
 from roads.importing.folder import Folder
-from roads.importing.rule import RULES
+from roads.importing.rule import RULES, Refusal
 from roads.text import Place
 
 
@@ -30,10 +30,19 @@ class Report:
         return sorted(found.items(), key=lambda item: (-item[1], item[0]))
 
     @property
+    def refused(self) -> list[Refusal]:
+        """The refusals with the lines as they stand in the folder, which patterns of decisions are compared with."""
+        return [self._as_read(found) for found in self.folder.log.refusals]
+
+    def _as_read(self, found: Refusal) -> Refusal:
+        raw, now = (" ".join(text.split()) for text in (self.folder.raw.get(found.place, found.text), found.text))
+        return found if raw == now else dataclasses.replace(found, text=raw, reason=f"{found.reason} (written as `{now}`)")
+
+    @property
     def text(self) -> str:
         """The report as text."""
         log = self.folder.log
-        lines = [f"{place_text(found.place)}: {found.text}\n    refused by {found.name}: {found.reason}" for found in log.refusals]
+        lines = [f"{place_text(found.place)}: {found.text}\n    refused by {found.name}: {found.reason}" for found in self.refused]
         lines = _part("Refused", lines)
         lines += _part("Assumed", [f"{place_text(found.place)}: {found.text}\n    {found.reason}" for found in log.assumptions])
         lines += _part("Told", log.remarks)
@@ -51,7 +60,7 @@ class Report:
         """The report as one JSON object."""
         log = self.folder.log
         told = {
-            "refused": [_plain(found) for found in log.refusals],
+            "refused": [_plain(found) for found in self.refused],
             "assumed": [_plain(found) for found in log.assumptions],
             "told": log.remarks,
             "unused": [{"line": found.line, "verb": found.verb, "pattern": found.pattern} for found in self.folder.decisions.unused],

@@ -233,4 +233,13 @@ def test_what_is_no_file_is_told(tmp_path: Path, program: Program) -> None:
 def test_a_name_with_a_line_end_is_one_line(tmp_path: Path, program: Program) -> None:
     (tmp_path / "a\nb.cfg").write_text(A_BGP + " neighbor 172.16.0.2 weight 5\n")
     told = run_tool(str(tmp_path), "--report", "/dev/null").stderr
-    assert told.splitlines() == ["bonsai-import: 1 lines are refused, the first at a?b.cfg:9; what is left to you can be told by --decisions"]
+    assert told.splitlines() == ["bonsai-import: 1 line is refused, the first at a?b.cfg:9; what is left to you can be told by --decisions"]
+
+
+def test_a_refused_line_is_told_as_it_stands(tmp_path: Path, program: Program) -> None:
+    group = " neighbor G peer-group\n neighbor G weight 5\n neighbor 172.16.0.2 peer-group G\n"
+    found = report(tmp_path, program, (A_BGP + group, B_BGP))
+    told = "r0.cfg:10: neighbor G weight 5\n    refused by program: the program refuses this line: Unsupported (written as `neighbor 172.16.0.2 weight 5`)"
+    assert told in found.text
+    assert json.loads(found.json)["refused"][0]["text"] == "neighbor G weight 5"
+    assert not refused(report(tmp_path, program, (A_BGP + group, B_BGP), 'drop "neighbor G weight 5" because "asked so"\n'))
