@@ -136,10 +136,15 @@ def lacking(name: str, fault: ModuleNotFoundError) -> int:
 
 
 def main(name: str, module: str) -> int:
-    """Runs the tool that a module has as `words` and `work`. A Python module that is not installed is one line on standard error."""
-    try:
+    """Runs the tool that a module has as `words` and `work`. The module loads inside, so that a key in that time is one line too."""
+
+    def work() -> int | None:
         tool = importlib.import_module(module)
-    except ModuleNotFoundError as fault:
-        return lacking(name, fault)
-    arguments = tool.words().parse_args()
-    return run(name, lambda: tool.work(arguments))
+        return tool.work(tool.words().parse_args())
+
+    return run(name, work)
+
+
+def main_of(name: str, module: str) -> int:
+    """Runs the `main` of a tool's module, which loads inside."""
+    return run(name, lambda: importlib.import_module(module).main())

@@ -1,0 +1,27 @@
+"""A tool's module that does not load ends with one line and a status."""
+from __future__ import annotations
+
+import importlib
+
+import pytest
+
+from roads.command_line import main, main_of
+
+
+@pytest.mark.parametrize("way", [main, main_of])
+@pytest.mark.parametrize(
+    "fault, status, told",
+    [
+        (KeyboardInterrupt(), 130, "x: interrupted\n"),
+        (ModuleNotFoundError(name="jinja2"), 1, "x: the Python module jinja2 is not there: install the package python3-jinja2\n"),
+    ],
+)
+def test_a_module_that_does_not_load(
+    way, fault: BaseException, status: int, told: str, monkeypatch: pytest.MonkeyPatch, capsys: pytest.CaptureFixture[str]
+) -> None:
+    def fails(_module: str) -> None:
+        raise fault
+
+    monkeypatch.setattr(importlib, "import_module", fails)
+    assert way("x", "roads.none") == status
+    assert capsys.readouterr().err == told
