@@ -1,3 +1,4 @@
+mod Asked
 mod Carried
 mod Firsts
 mod FixedNodes
@@ -6,9 +7,15 @@ mod Imports
 mod Least
 mod Leaves
 mod ListLaws
+mod MadeForms
+mod MadeLists
+mod Outside
 mod Plain
 mod SameSets
+mod Says
+mod Settled
 mod Splits
+mod Tables
 mod Told
 mod Values
 mod Verdicts

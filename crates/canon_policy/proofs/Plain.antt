@@ -20,7 +20,7 @@ use Rattle.canon_policy.proofs.SameSets.{Agrees, agreeing_stays, agreeing_same_o
 use Rattle.canon_policy.proofs.Least.{least_none, under_hangs, has_in, in_has, equal}
 use Rattle.canon_policy.proofs.Splits.{yes_hangs, or_none, no_split}
 
-in_parts_hang : (universe : List ℕ) (f : List ℕ → Option Imported) → IsPlain universe f → (cs : List ℕ) → ((c : ℕ) → In cs c → has universe c ≡ true) → PartsHangOn universe (in_parts universe f cs)
+pub in_parts_hang : (universe : List ℕ) (f : List ℕ → Option Imported) → IsPlain universe f → (cs : List ℕ) → ((c : ℕ) → In cs c → has universe c ≡ true) → PartsHangOn universe (in_parts universe f cs)
 in_parts_hang universe f plain [] known = tt
 in_parts_hang universe f plain (c ∷ cs) known = (plain.carried c (known c (inl refl)), in_parts_hang universe f plain cs (λ d h. known d (inr h)))
 
@@ -42,7 +42,7 @@ one_value universe part fixing a b hangs none of_a of_b =
     ∙ one a ∙ sym (one b)
     ∙ hangs.same (agreeing fixing b) b (same_sets universe (agreeing fixing b) b (agreeing_stays fixing b of_b))
 
-yes_one : (a b : Bool) → yes a ≡ yes b → a ≡ b
+pub yes_one : (a b : Bool) → yes a ≡ yes b → a ≡ b
 yes_one true true e = refl
 yes_one true false e = absurd cc
 yes_one false true e = absurd cc

@@ -23,10 +23,10 @@ use Rattle.canon_policy.proofs.SameSets.{in_any, any_in, none_in, named, named_s
 use Rattle.canon_policy.proofs.Least.{in_has, has_in, equal, Differing, depends_differ, differ_depends, is_found, none_found}
 use Rattle.canon_policy.proofs.Splits.{yes_hangs}
 
-both_true : (a b : Bool) → (a ≡ true → b ≡ true) → (b ≡ true → a ≡ true) → a ≡ b
-both_true true b f g = sym (f refl)
-both_true false true f g = g refl
-both_true false false f g = refl
+pub same_truth : (a b : Bool) → (a ≡ true → b ≡ true) → (b ≡ true → a ≡ true) → a ≡ b
+same_truth true b f g = sym (f refl)
+same_truth false true f g = g refl
+same_truth false false f g = refl
 
 any_same : (p : ℕ → Bool) (a b : List ℕ) → ((c : ℕ) → has a c ≡ has b c) → list_any p a ≡ true → list_any p b ≡ true
 any_same p a b same e =
@@ -40,7 +40,7 @@ value_same shown is node inside a b same =
     value_agrees shown.nodes (length shown.universe) (test_of shown.universe a) (test_of shown.universe b) (length shown.nodes) node is.store is.within
     (λ v le. elim (cases_lt v (length shown.universe)) [
       | inl lt ↦ (let e : nat_lt v (length shown.universe) ≡ true = grind (arith, nat_tests) in rw e (same (get_or shown.universe v 0)))
-      | inr ge ↦ (let e : nat_lt v (length shown.universe) ≡ false = grind (arith, nat_tests) in rw e (both_true (has_others shown.universe a) (has_others shown.universe b) (any_same (λ c. not (has shown.universe c)) a b same) (any_same (λ c. not (has shown.universe c)) b a (λ c. sym (same c)))))
+      | inr ge ↦ (let e : nat_lt v (length shown.universe) ≡ false = grind (arith, nat_tests) in rw e (same_truth (has_others shown.universe a) (has_others shown.universe b) (any_same (λ c. not (has shown.universe c)) a b same) (any_same (λ c. not (has shown.universe c)) b a (λ c. sym (same c)))))
     ]) inside inside
 
 -- what depends on no community outside the universe hangs on the universe
@@ -56,7 +56,7 @@ outside_not universe = by (has universe (outside_of universe)) refl
     by true e = let lt = all_below (outside_of universe) universe (outside_of universe) (omega arith) (has_in universe (outside_of universe) e) in absurd (omega arith)
     by false e = refl
 
-none_others : (universe set : List ℕ) → list_any (λ c. not (has universe c)) (filter (has set) universe) ≡ false
+pub none_others : (universe set : List ℕ) → list_any (λ c. not (has universe c)) (filter (has set) universe) ≡ false
 none_others universe set = by (list_any (λ c. not (has universe c)) (filter (has set) universe)) refl
   where
     by : (b : Bool) → list_any (λ c. not (has universe c)) (filter (has set) universe) ≡ b → b ≡ false
@@ -145,3 +145,13 @@ node_hangs shown is node inside none = record {
       ∙ value_same shown is node inside (named shown.universe a) (named shown.universe b) (named_equal shown.universe a b same)
       ∙ sym (value_named shown is node inside none b);
 }
+
+-- sets with the same communities of the universe, which both have others or both have none, have one value
+pub value_trace : (shown : Shown) → IsShown shown → (node : ℕ) → node < length shown.nodes → (a b : List ℕ) → SameOn shown.universe a b → has_others shown.universe a ≡ has_others shown.universe b → value_of shown a node ≡ value_of shown b node
+unfolding value_of
+value_trace shown is node inside a b same others =
+    value_agrees shown.nodes (length shown.universe) (test_of shown.universe a) (test_of shown.universe b) (length shown.nodes) node is.store is.within
+    (λ v le. elim (cases_lt v (length shown.universe)) [
+      | inl lt ↦ (let e : nat_lt v (length shown.universe) ≡ true = grind (arith, nat_tests) in rw e (same.same (get_or shown.universe v 0) (has-index shown.universe v lt)))
+      | inr ge ↦ (let e : nat_lt v (length shown.universe) ≡ false = grind (arith, nat_tests) in rw e others)
+    ]) inside inside

@@ -57,7 +57,7 @@ still_present fixing x y there = has-with_number y fixing.present x ∙ by (nat_
     by true b e = refl
     by false b e = e
 
-now_present : (fixing : Fixing) (x : ℕ) → has (with_present x fixing).present x ≡ true
+pub now_present : (fixing : Fixing) (x : ℕ) → has (with_present x fixing).present x ≡ true
 now_present fixing x = has-with_number x fixing.present x ∙ rw (same_number x x refl) refl
 
 module _ (entry : ℕ → Fixing → PlainEntry) (are : AreEntries entry) (by : Fixing → Option ℕ) where
@@ -90,7 +90,7 @@ pub record Decided (entry : ℕ → Fixing → PlainEntry) (by : Fixing → Opti
   pub agrees : Agrees fixing set
   pub says : outcome ≡ entry_verdict (entry 0 fixing) set
 
-agrees_present : (fixing : Fixing) (x : ℕ) (set : List ℕ) → Agrees fixing set → has set x ≡ true → Agrees (with_present x fixing) set
+pub agrees_present : (fixing : Fixing) (x : ℕ) (set : List ℕ) → Agrees fixing set → has set x ≡ true → Agrees (with_present x fixing) set
 agrees_present fixing x set agrees there = record {
   present = λ c h. elim (either (nat_eq x c) (has fixing.present c) (sym (has-with_number x fixing.present c) ∙ h)) [
     | inl e ↦ let same : x ≡ c = equal x c e in ap (has set) (sym same) ∙ there
@@ -106,7 +106,7 @@ agrees_present fixing x set agrees there = record {
     either true b e = inl refl
     either false b e = inr e
 
-agrees_absent : (fixing : Fixing) (x : ℕ) (set : List ℕ) → Agrees fixing set → has set x ≡ false → Agrees (with_absent x fixing) set
+pub agrees_absent : (fixing : Fixing) (x : ℕ) (set : List ℕ) → Agrees fixing set → has set x ≡ false → Agrees (with_absent x fixing) set
 agrees_absent fixing x set agrees none = record {
   present = agrees.present;
   absent = λ c h. elim (either (nat_eq x c) (has fixing.absent c) (sym (has-with_number x fixing.absent c) ∙ h)) [

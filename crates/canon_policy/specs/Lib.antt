@@ -4,5 +4,6 @@ pub mod Fixings
 pub mod Functions
 pub mod Hanging
 pub mod Laws
+pub mod Made
 pub mod Nodes
 pub mod Plain

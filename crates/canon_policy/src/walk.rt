@@ -15,7 +15,7 @@ use dd_core::Store;
 use std::alloc::Global;
 
 // A list has at most so many entries, which are numbered from 1.
-const MOST_ENTRIES: usize = 65535;
+pub const MOST_ENTRIES: usize = 65535;
 
 // A line names at most so many communities.
 pub const MOST_NAMES: usize = 32;

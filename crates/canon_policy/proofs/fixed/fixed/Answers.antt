@@ -1,4 +1,4 @@
-use Rattle.std.proofs.Common.{◌≡◌, sym, subst, List}
+use Rattle.std.proofs.Common.{subst, List}
 use Rattle.dd_core.proofs.ShownLemmas.{grows_trans}
 use Rattle.canon_policy.specs.declared.parts.PartNodes.{PartNodes}
 use Rattle.canon_policy.specs.Nodes.{ArePartsFixed}

@@ -1,5 +1,4 @@
-use Rattle.std.proofs.Common.{◌≡◌, ◌∙◌, ◌+◌, ◌∷◌, [], ℕ, List, drop, length, ap, sym, arith, refl}
-use Rattle.std.specs.Option.{option_map}
+use Rattle.std.proofs.Common.{◌≡◌, ◌∙◌, ◌+◌, [], List, drop, ap, sym, arith}
 use Rattle.dd_core.proofs.ShownLemmas.{grows_trans}
 use Rattle.canon_policy.specs.Fixings.{Part, unsettled, first_unsettled}
 use Rattle.canon_policy.proofs.Told.{told_at, inside_at, part_found, found_here, found_later, none_left}

@@ -1,11 +1,6 @@
-use Rattle.std.proofs.Common.{◌≡◌, ◌∙◌, ◌+◌, ◌++◌, ◌∷◌, [], ℕ, List, ap, sym, take, get_or, arith, refl, rules}
-use Rattle.std.specs.Option.{option_map}
-use Rattle.std.proofs.lemmas.List.{take_more, take_all}
-use Rattle.base_kit.proofs.Elements.{in_at}
-use Rattle.canon_policy.specs.Fixings.{least, yes}
-use Rattle.dd_core.specs.Sets.{value_of}
-use Rattle.canon_policy.specs.Nodes.{number_of, lesser}
-use Rattle.canon_policy.proofs.Firsts.{least_of_none, least_of_more, least_among, first_is_least, told_hang, told_least, NodesHang}
+use Rattle.std.proofs.Common.{◌≡◌, ◌∙◌, ℕ, List, ap, take, get_or, arith}
+use Rattle.std.proofs.lemmas.List.{take_all}
+use Rattle.canon_policy.proofs.Firsts.{least_of_none, least_among, told_hang, told_least}
 use Rattle.canon_policy.proofs.Carried.{either_known, first_known, more_least, read_at}
 use Rattle.canon_policy.proofs.parts.least_of.Goals as goal
 

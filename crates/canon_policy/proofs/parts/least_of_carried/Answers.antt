@@ -1,4 +1,4 @@
-use Rattle.std.proofs.Common.{◌≡◌, ◌∙◌, ℕ, true, false, List, [], sym}
+use Rattle.std.proofs.Common.{◌∙◌, sym}
 use Rattle.canon_policy.proofs.Carried.{follows_none, not_kept, not_following}
 use Rattle.canon_policy.proofs.parts.least_of_carried.Goals as goal
 use Rattle.canon_policy.proofs.parts.least_of_carried.Goals.{else-kept-via-then-kept+else-is_same, else-kept-via-else-kept}

@@ -1,4 +1,4 @@
-use Rattle.std.proofs.Common.{◌≡◌, ◌∙◌, ◌-◌, ◌≤◌, ◌++◌, ◌∷◌, [], ℕ, suc, List, length, ap, sym, subst, arith}
+use Rattle.std.proofs.Common.{◌∙◌, ◌-◌, ℕ, List, length, ap, sym, subst, arith}
 use Rattle.dd_core.proofs.ShownLemmas.{grows_trans}
 use Rattle.canon_policy.specs.declared.fixing.Fixing.{Fixing}
 use Rattle.canon_policy.specs.Fixings.{nothing_fixed, with_present, with_absent, split, settled}

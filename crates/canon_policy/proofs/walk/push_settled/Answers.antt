@@ -1,8 +1,4 @@
-use Rattle.std.proofs.Common.{◌≡◌, ◌||◌, ◌<◌, ◌++◌, ◌∷◌, [], true, nat_lt, length, List, arith}
-use Rattle.std.specs.List.{list_any}
-use Rattle.std.proofs.lemmas.List.{length_push}
-use Rattle.std.proofs.lemmas.Bool.Decides.{nat_tests}
-use Rattle.canon_policy.specs.declared.fixing.Fixing.{Fixing}
+use Rattle.std.proofs.Common.{arith}
 use Rattle.canon_policy.proofs.Walks.{long_over}
 use Rattle.canon_policy.proofs.walk.push_settled.Goals as goal
 
