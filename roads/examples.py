@@ -9,6 +9,7 @@ answers/NAME.out, with NAME.err and NAME.status where these are not empty and 0.
   certified  `verify` accepts what `certify` writes, for each class of the text
   json       `jq` reads what `json` writes, as it stands
   page       each command line of a page writes what the page shows
+  code       the code that a page quotes from a file stands there
   picture    the picture of README is what bonsai-draw draws
   definitions  docs/PROVED.md lists the definitions that tools/reading-list prints, each name once
   names      scripts/names-twice has the names that more than one file of definitions defines
@@ -30,7 +31,7 @@ from pathlib import Path
 
 from roads import command_line
 from roads.command_line import Refused
-from roads.pages import lend, pages, run_shown, shown_in
+from roads.pages import lend, pages, quoted_in, run_shown, shown_in
 from roads.program import TOP, UNPROVED
 
 EXAMPLES = TOP / "examples"
@@ -221,6 +222,12 @@ def faults_of_names() -> list[str]:
     return [] if listed.stdout == known else ["examples/scripts/names-twice has not what tools/reading-list --twice prints"]
 
 
+def faults_of_code() -> list[str]:
+    """The code of pages stands in the files that they name."""
+    quoted = [it for name in pages() for it in quoted_in(name, (TOP / name).read_text("utf-8"))]
+    return [f"{it.page}: {fault}" for it in quoted if (fault := it.fault(TOP))]
+
+
 def faults_of_crates() -> list[str]:
     """The table of crates is current."""
     told = subprocess.run([sys.executable, TOP / "tools" / "architecture", "--check"], capture_output=True, text=True, check=False)
@@ -238,6 +245,7 @@ def checks(asked: Asked) -> Iterator[Check]:
     for name in pages():
         if shown_in(name, (TOP / name).read_text("utf-8")):
             yield Check(name, f"the command lines of {name}", lambda name=name: asked.page(name))
+    yield Check("code", "the code that pages quote", faults_of_code)
     yield Check("picture", "the picture of README.md", faults_of_picture)
     yield Check("definitions", "the list of definitions in docs/PROVED.md", faults_of_definitions)
     yield Check("names", "the names that several files define", faults_of_names)

@@ -3,6 +3,8 @@
 In a code block a line `$ COMMAND` is a command, and the lines up to the next one are what it writes to standard output and
 standard error; a line `...` stands for any lines. The commands of a page are run in order in one folder, which has the
 repository's `bonsai`, `examples`, `tools` and `docs`. Those of SET_UP are run by the gate itself.
+
+A code block that opens with a language and a file, as "rust crates/library_uses/src/values.rt", quotes lines of that file.
 """
 from __future__ import annotations
 
@@ -53,6 +55,30 @@ def shown_in(page: str, text: str) -> list[Shown]:
         while shown.output and not shown.output[-1]:
             shown.output.pop()
     return found
+
+
+@dataclasses.dataclass(frozen=True)
+class Quoted:
+    """Lines of a file that a page quotes: where the quotation stands, the file, and the lines."""
+
+    page: str
+    line: int
+    file: str
+    code: str
+
+    def fault(self, top: Path) -> str:
+        """Why the file has no such lines one after the other, or nothing."""
+        file = top / self.file
+        if not file.is_file():
+            return f"line {self.line}: there is no file {self.file}"
+        is_there = self.code and f"\n{self.code}" in "\n" + file.read_text("utf-8")
+        return "" if is_there else f"line {self.line}: {self.file} has other lines"
+
+
+def quoted_in(page: str, text: str) -> list[Quoted]:
+    """The quotations of a page, in order."""
+    blocks = re.finditer(r"^```\w+ (\S+)\n(.*?)^```$", text, re.M | re.S)
+    return [Quoted(page, text.count("\n", 0, block.start()) + 1, block[1], block[2]) for block in blocks]
 
 
 def pages() -> list[str]:

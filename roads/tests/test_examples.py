@@ -7,7 +7,7 @@ from pathlib import Path
 import pytest
 
 from roads import examples, pages
-from roads.pages import Shown, fits, run_shown, shown_in
+from roads.pages import Quoted, Shown, fits, quoted_in, run_shown, shown_in
 from roads.program import TOP
 
 PAGE = """Text.
@@ -74,6 +74,17 @@ def test_a_command_line(tmp_path: Path, command: str, output: list[str], kind: s
     program.chmod(0o755)
     pages.lend(tmp_path)
     assert run_shown(Shown("P", 1, command, output), tmp_path, str(program))[0] == kind
+
+
+def test_code_of_a_page(tmp_path: Path) -> None:
+    (tmp_path / "a.rt").write_text("use b;\n\nfn f() {\n}\n", "utf-8")
+    text = "Text.\n\n```rust a.rt\nfn f() {\n}\n```\n\n```\nno quotation\n```\n\n```rust b.rt\nfn f() {\n```\n"
+    first, second = quoted_in("P", text)
+    assert (first, second) == (Quoted("P", 3, "a.rt", "fn f() {\n}\n"), Quoted("P", 12, "b.rt", "fn f() {\n"))
+    assert first.fault(tmp_path) == ""
+    assert second.fault(tmp_path) == "line 12: there is no file b.rt"
+    for code in ("f() {\n", "fn f() {\n}\n}\n", "fn f()\n", ""):
+        assert Quoted("P", 3, "a.rt", code).fault(tmp_path) == "line 3: a.rt has other lines"
 
 
 def test_each_page_is_read() -> None:
