@@ -6,8 +6,9 @@ use Rattle.compress_laws.specs.Laws.{PlanCompresses}
 use Rattle.quotient_laws.specs.Questions.{IsQuotiented, PicturesAgree, QuestionsCarry}
 use Rattle.reading_laws.specs.WellRead.{WhatIsReadIsWell}
 use Rattle.srp_core.specs.ProblemOf.{IsProblemOf}
+use Rattle.answer_kit.proofs.OneClass.{some_prefix}
 use Rattle.carried_laws.proofs.Carried.{plan_text}
-use Rattle.workflow_laws.specs.Questions.{SmallAnswersForLarge, AnswerAlike}
+use Rattle.workflow_laws.specs.Questions.{SmallAnswersForLarge, AnswerAlike, HaveProblems}
 use Rattle.workflow_laws.proofs.Kept.{has_class, done_compress, one_network}
 use Rattle.workflow_laws.specs.Setting.{IsCompressed}
 
@@ -22,8 +23,19 @@ small_answers_for_large well compresses agree carry contents F G N K c =
     let k : Compresses n class c.small =
     subst (Compresses n class) (sym t.text) (compresses n class t.plan ∣ (c.large, read.given) ∣₁ read.faultless has t.is t.apart t.short) in
     let same : k.read ≡ m = one_network k.read m (sym k.reads ∙ c.of_small.reads) in
+    let first = some_prefix n class has in
     record {
+      some = first.0;
+      some_in = first.1;
       groups = k.groups;
+      have = λ p i. (
+          let f = k.for_each p i in
+          record {
+            above = f.problem;
+            below = f.small;
+            of_large = f.of;
+            of_small = subst (λ (r : Network). IsProblemOf r p f.small) same f.of_read;
+          });
       alike = λ p i above below of of_small. (
           let below_read : IsProblemOf k.read p below = subst (λ (r : Network). IsProblemOf r p below) (sym same) of_small in
           let f = k.for_each p i in

@@ -18,9 +18,19 @@ pub record AnswerAlike (problem small : Problem) (groups : List ℕ) : Type 0 wh
   pub pictures : HaveSamePictures problem small groups
   pub questions : QuestionsAgree problem small groups
 
--- so for each prefix of the class
+-- both networks have a problem for the prefix
+pub record HaveProblems (large small : Network) (p : Prefix) : Type 0 where
+  pub above : Problem
+  pub below : Problem
+  pub of_large : IsProblemOf large p above
+  pub of_small : IsProblemOf small p below
+
+-- So for each prefix of the class, which has one: both networks have a problem for it, and whichever they have answer alike.
 pub record AnswersFor (large small : Network) (class : DestClass) : Type 0 where
+  pub some : Prefix
+  pub some_in : Contains class.prefixes some
   pub groups : List ℕ
+  pub have : (p : Prefix) → Contains class.prefixes p → HaveProblems large small p
   pub alike : (p : Prefix) → Contains class.prefixes p
       → (above below : Problem) → IsProblemOf large p above → IsProblemOf small p below → AnswerAlike above below groups
 
