@@ -18,6 +18,8 @@ mod Rests
 mod RoundTrips
 mod Schedules
 mod ShortOrders
+mod SmallClass
+mod SmallStarts
 mod Told
 mod Up
 mod Verdicts

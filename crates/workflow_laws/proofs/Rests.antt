@@ -89,12 +89,12 @@ module _ (P : Problem) (solution order : List ℕ) where
   reached (inr is) = of_labels (labels_of_text P.protocol P.names solution) refl is.1
 
 -- the class of what is done
-record IsOfSome (n : Network) (number : ℕ) (IsAllowed : DestClass → Outcome → Type 0) (written : List ℕ) : Type 0 where
-  class : DestClass
-  class_is : class_at (classes_of n) number ≡ Some class
-  allowed : IsAllowed class (done written)
+pub record IsOfSome (n : Network) (number : ℕ) (IsAllowed : DestClass → Outcome → Type 0) (written : List ℕ) : Type 0 where
+  pub class : DestClass
+  pub class_is : class_at (classes_of n) number ≡ Some class
+  pub allowed : IsAllowed class (done written)
 
-some_class : (n : Network) (number : ℕ) (A : DestClass → Outcome → Type 0) (written : List ℕ) (found : Option DestClass) → class_at (classes_of n) number ≡ found → IsOfClass found number A (done written) → IsOfSome n number A written
+pub some_class : (n : Network) (number : ℕ) (A : DestClass → Outcome → Type 0) (written : List ℕ) (found : Option DestClass) → class_at (classes_of n) number ≡ found → IsOfClass found number A (done written) → IsOfSome n number A written
 some_class n number A written None at is = absurd (not_refused written (no_class number) is)
 some_class n number A written (Some class) at is = record { class = class; class_is = at; allowed = is }
 

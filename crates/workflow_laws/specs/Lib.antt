@@ -2,6 +2,7 @@ pub mod Again
 pub mod CarriedDown
 pub mod CarriedUp
 pub mod Certificates
+pub mod ClassKept
 pub mod Existence
 pub mod Orders
 pub mod Questions

@@ -9,6 +9,7 @@ ghost use Rattle.workflow_laws.specs.Again.{CompressedAgain};
 ghost use Rattle.workflow_laws.specs.CarriedDown.{CheckIsFold, WhatIsFoldedIsLifted, WhatIsFoldedIsStableBelow};
 ghost use Rattle.workflow_laws.specs.CarriedUp.{CheckBelowIsLift, WhatIsLiftedIsStable};
 ghost use Rattle.workflow_laws.specs.Certificates.{WhatIsCertifiedIsVerified, WhatIsVerifiedNamesTheGroups};
+ghost use Rattle.workflow_laws.specs.ClassKept.{ClassIsKept};
 ghost use Rattle.workflow_laws.specs.Existence.{OutcomesAgree, OutcomesComeTogether, SolutionsAreCarried};
 ghost use Rattle.workflow_laws.specs.Orders.{WhatIsReachedRests};
 ghost use Rattle.workflow_laws.specs.Questions.{SmallAnswersForLarge};
@@ -17,7 +18,8 @@ use answer_certificates::laws::verify_answer_is_one;
 use answer_solutions::laws::{fold_is_read_back, lift_is_read_back};
 use bonsai_top::laws::outcome_is_one;
 use class_laws::built_problem_is_one;
-use compress_laws::laws::{plan_compresses, text_has_problem_of_groups};
+use compress_laws::laws::{plan_compresses, plan_fits, text_has_problem_of_groups};
+use emit_form_laws::laws::emitted_can_be_printed;
 use given_laws::given_is_well_formed;
 use quotient_laws::{pictures_agree, questions_carry, quotient_is_smallest};
 use reading_laws::what_is_read_is_well;
@@ -26,6 +28,18 @@ use srp_core::laws::{
     equal_keys, folds, lifts, lifts_and_folds_exist, listed_candidates, ospf_folds, ospf_lifts,
 };
 use srp_quotient::laws::quotient_is_quotient;
+
+/// What `compress` writes has a class with the prefixes of the class that it was written for.
+pub fn class_is_kept()
+    ensures { ClassIsKept }
+{
+    what_is_read_is_well();
+    text_has_problem_of_groups();
+    plan_fits();
+    emitted_can_be_printed();
+    cfg_round_trip::printed_is_read_back();
+    quotient_is_quotient();
+}
 
 /// `check` of the small network and `lift` of the large one have one outcome, but for what is written
 /// where the work is done.

@@ -1,0 +1,23 @@
+-- The class that is kept: what `compress` writes has a class with the prefixes of the class that it was written for.
+use Rattle.std.specs.Prelude.{◌≡◌, ℕ, List, Some}
+use Rattle.cfg_ast.specs.declared.classes.DestClass.{DestClass}
+use Rattle.answer_kit.specs.Outcome.{done}
+use Rattle.bonsai_top.specs.Outcomes.{IsOutcome}
+use Rattle.workflow_laws.specs.Setting.{Contents, HasClass, HasPrefixesOf, IsShort}
+use Rattle.workflow_laws.specs.Words.{compress}
+
+-- the text is read as a network that has, under some number, a class with the prefixes of this one
+pub record HasClassOf (class : DestClass) (text : List ℕ) : Type 0 where
+  pub number : ℕ
+  pub of_text : HasClass text number
+  pub prefixes : HasPrefixesOf class of_text.class
+
+-- the one text has a class of the number, and the other one keeps it
+pub record KeepsClass (large small : List ℕ) (number : ℕ) : Type 0 where
+  pub of_large : HasClass large number
+  pub of_small : HasClassOf of_large.class small
+
+-- What `compress F N` writes has a class with the prefixes of the class N of F.
+abbrev pub ClassIsKept : Type 0
+ClassIsKept = (contents : Contents) (F large small : List ℕ) (N : ℕ) → IsShort N → contents F ≡ Some large
+    → IsOutcome (compress F N) contents (done small) → KeepsClass large small N
