@@ -14,6 +14,7 @@ mod Named
 mod NamedGroups
 mod OneGroups
 mod ReadLabels
+mod Rested
 mod Rests
 mod RoundTrips
 mod Schedules

@@ -11,7 +11,7 @@ ghost use Rattle.workflow_laws.specs.CarriedUp.{CheckBelowIsLift, WhatIsLiftedIs
 ghost use Rattle.workflow_laws.specs.Certificates.{WhatIsCertifiedIsVerified, WhatIsVerifiedNamesTheGroups};
 ghost use Rattle.workflow_laws.specs.ClassKept.{ClassIsKept};
 ghost use Rattle.workflow_laws.specs.Existence.{OutcomesAgree, OutcomesComeTogether, SolutionsAreCarried};
-ghost use Rattle.workflow_laws.specs.Orders.{WhatIsReachedRests};
+ghost use Rattle.workflow_laws.specs.Orders.{WhatIsReachedRests, WhatRestsIsStable};
 ghost use Rattle.workflow_laws.specs.Questions.{SmallAnswersForLarge};
 
 use answer_certificates::laws::verify_answer_is_one;
@@ -24,6 +24,7 @@ use given_laws::given_is_well_formed;
 use quotient_laws::{pictures_agree, questions_carry, quotient_is_smallest};
 use reading_laws::what_is_read_is_well;
 use route_run::laws::{one_order, rest};
+use solution_round_trip::{printed_is_read_back, stable_is_in_range};
 use srp_core::laws::{
     equal_keys, folds, lifts, lifts_and_folds_exist, listed_candidates, ospf_folds, ospf_lifts,
 };
@@ -105,6 +106,16 @@ pub fn what_is_reached_rests()
 {
     what_is_read_is_well();
     given_is_well_formed();
+}
+
+/// What `run` writes behind the first line `rest` is stable under `check`.
+pub fn what_rests_is_stable()
+    ensures { WhatRestsIsStable }
+{
+    what_is_read_is_well();
+    given_is_well_formed();
+    printed_is_read_back();
+    stable_is_in_range();
 }
 
 /// The groups of the small network are its routers: compressed again it gets no smaller.
