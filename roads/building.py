@@ -119,7 +119,7 @@ def prove(room: Path, total: int) -> Told:
             output = log.readlines()
         name = told.failed[0] if told.failed else ""
         lines = lines_of_failure(output, name) if name else [line.rstrip() for line in output[-20:]]
-        raise Refused("\n".join([f"{name or 'the run of rt'}: not proved, after {minutes_since(start)}; the log is {LOG}", *lines]))
+        raise Refused(f"{name or 'the run of rt'}: not proved, after {minutes_since(start)}; the log is {LOG}", lines)
     print(f"build: {len(told.proved)} of {total} crates proved, after {minutes_since(start)}", file=sys.stderr)
     return told
 

@@ -12,14 +12,18 @@ import importlib
 import os
 import subprocess
 import sys
-from collections.abc import Callable, Iterator
+from collections.abc import Callable, Iterable, Iterator
 
 from roads.manual import Manual
 from roads.program import TOP, NotAnswered
 
 
 class Refused(Exception):
-    """An input that a tool does not take, with one line that says which and why."""
+    """An input that a tool does not take, with one line that says which and why. `details` are lines to write below it as they stand."""
+
+    def __init__(self, told: str, details: Iterable[str] = ()) -> None:
+        super().__init__(told)
+        self.details = list(details)
 
 
 def version() -> str:
@@ -103,7 +107,7 @@ def run(name: str, work: Callable[[], int | None]) -> int:
         sys.stdout.flush()
         return status
     except Refused as refused:
-        print(one_line(f"{name}: {refused}"), file=sys.stderr)
+        print(one_line(f"{name}: {refused}"), *refused.details, sep="\n", file=sys.stderr)
         return 1
     except NotAnswered as fault:
         print(one_line(f"{name}: {fault}"), file=sys.stderr)

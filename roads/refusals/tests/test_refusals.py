@@ -171,7 +171,7 @@ def test_bytes_outside_ascii_are_written_as_escapes(sort: str) -> None:
 
 def test_an_interrupt_is_one_line(tmp_path) -> None:
     slow = tmp_path / "slow"
-    slow.write_text(f'#!/bin/sh\nsleep 0.2\nexec "{Program().path}" "$@"\n')
+    slow.write_text(f'#!/bin/sh\nsleep 0.05\nexec "{Program().path}" "$@"\n')
     slow.chmod(0o755)
     text = fat_tree_text(16).replace("end\n", "ip route x\nmpls ip\nip vrf x\nend\n")
     command = [str(TOP / "tools" / "bonsai-refusals"), "-"]
