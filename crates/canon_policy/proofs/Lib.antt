@@ -9,6 +9,7 @@ mod Leaves
 mod ListLaws
 mod MadeForms
 mod MadeLists
+mod Numbered
 mod Outside
 mod Plain
 mod SameSets

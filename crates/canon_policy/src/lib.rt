@@ -9,6 +9,7 @@
 //! does not stand here.
 #![tactic(auto)]
 
+mod canonical;
 mod entries;
 mod fixed;
 mod fixing;

@@ -1,0 +1,166 @@
+//! The canonical lists of a function.
+
+ghost use Rattle.std.specs.Prelude.{◌≡◌, ◌≤◌, IfOk, OnOk, ◌++◌, length};
+ghost use Rattle.std.specs.List.{list_any};
+ghost use Rattle.canon_policy.specs.Canonical.{numbered_from, line_is_wide, match_is_wide, names_in_change, is_wide, passing};
+ghost use Rattle.canon_policy.specs.Made.{IsEdgeForm, carried_nodes, in_nodes, out_nodes, in_made, out_made, has_no_count};
+
+use crate::entries::{in_entry, out_entry};
+use crate::fixing::Fixing;
+use crate::others::{push_counts, push_lps};
+use crate::parts::{Nodes, PartNodes};
+use crate::walk::MOST_NAMES;
+use base_kit::{Community, List, NoMemory};
+use cfg_ast::{Change, CommunityLine, CommunityList};
+use dd_core::{NodeId, Store};
+use policy_dd::EdgeFn;
+use route_maps::{Plain, PlainEntry};
+use std::alloc::Global;
+
+fn push_carried(parts: &mut List<PartNodes>, outs: &[(Community, NodeId)]) -> Result<(), NoMemory>
+    ensures { OnOk result (parts.new ≡ parts.old ++ carried_nodes outs.now) }
+{
+    for case in outs {
+        parts.push(PartNodes::Carried(case.0, case.1))?;
+    }
+    Ok(())
+}
+
+/// Acceptance, whether communities that no line names are kept, the preference, and each community.
+fn in_nodes(alloc: Global, edge: &EdgeFn) -> Result<Nodes, NoMemory>
+    ensures { IfOk result (λ nodes. nodes ≡ in_nodes edge.now) }
+{
+    let mut kept = List::new(alloc);
+    kept.push(edge.rest)?;
+    let mut lps = List::new(alloc);
+    push_lps(&mut lps, edge.lps.as_slice())?;
+    let mut parts = List::new(alloc);
+    parts.push(PartNodes::Told(kept))?;
+    parts.push(PartNodes::Told(lps))?;
+    push_carried(&mut parts, edge.outs.as_slice())?;
+    Ok(Nodes {
+        permit: edge.permit,
+        rest: edge.rest,
+        parts,
+    })
+}
+
+/// Acceptance and the count.
+fn out_nodes(alloc: Global, edge: &EdgeFn) -> Result<Nodes, NoMemory>
+    ensures { IfOk result (λ nodes. nodes ≡ out_nodes edge.now) }
+{
+    let mut counts = List::new(alloc);
+    push_counts(&mut counts, edge.adds.as_slice())?;
+    let mut parts = List::new(alloc);
+    parts.push(PartNodes::Told(counts))?;
+    Ok(Nodes {
+        permit: edge.permit,
+        rest: edge.rest,
+        parts,
+    })
+}
+
+fn in_entries(
+    alloc: Global,
+    store: &Store,
+    edge: &EdgeFn,
+    settled: &[Fixing],
+) -> Result<List<PlainEntry>, NoMemory>
+    requires edge { IsEdgeForm store.now edge.now }
+    requires few { length settled.now ≤ 65535 }
+    ensures { IfOk result (λ entries. entries ≡ numbered_from 1 (in_made store.now edge.now) settled.now) }
+{
+    let mut entries = List::new(alloc);
+    for (place, fixing) in settled.iter().enumerate() {
+        let entry = in_entry(alloc, store, edge, place as u32 + 1, fixing)?;
+        entries.push(entry)?;
+    }
+    Ok(entries)
+}
+
+fn out_entries(
+    alloc: Global,
+    store: &Store,
+    edge: &EdgeFn,
+    settled: &[Fixing],
+) -> Result<List<PlainEntry>, NoMemory>
+    requires edge { IsEdgeForm store.now edge.now }
+    requires few { length settled.now ≤ 65535 }
+    ensures { IfOk result (λ entries. entries ≡ numbered_from 1 (out_made store.now edge.now) settled.now) }
+{
+    let mut entries = List::new(alloc);
+    for (place, fixing) in settled.iter().enumerate() {
+        let entry = out_entry(alloc, store, edge, place as u32 + 1, fixing)?;
+        entries.push(entry)?;
+    }
+    Ok(entries)
+}
+
+fn line_is_wide(line: &CommunityLine) -> bool
+    ensures { result ≡ line_is_wide line.now }
+{
+    line.comms.as_slice().len() > MOST_NAMES
+}
+
+fn match_is_wide(list: &CommunityList) -> bool
+    ensures { result ≡ match_is_wide list.now }
+{
+    list.lines.as_slice().iter().any(|line| line_is_wide(line))
+}
+
+fn any_match_is_wide(lists: &[CommunityList]) -> bool
+    ensures { result ≡ list_any match_is_wide lists.now }
+{
+    lists.iter().any(|list| match_is_wide(list))
+}
+
+fn names_in_change(change: &Option<Change>) -> usize
+    ensures { result ≡ names_in_change change.now }
+{
+    match change {
+        None => 0,
+        Some(Change::Clear) => 0,
+        Some(Change::Replace(by)) => by.as_slice().len(),
+        Some(Change::Append(more)) => more.as_slice().len(),
+    }
+}
+
+/// Whether the entry names more communities than a line holds.
+fn is_wide(entry: &PlainEntry) -> bool
+    ensures { result ≡ is_wide entry.now }
+{
+    let wide = names_in_change(&entry.change) > MOST_NAMES;
+    match &entry.lists {
+        None => wide,
+        Some(lists) => {
+            if any_match_is_wide(lists.as_slice()) {
+                return true;
+            }
+            wide
+        }
+    }
+}
+
+/// A map that passes every route as it is.
+fn passing(alloc: Global) -> Result<Plain, NoMemory>
+    ensures { IfOk result (λ map. map ≡ passing) }
+{
+    let mut entries = List::new(alloc);
+    entries.push(PlainEntry {
+        seq: 10,
+        permit: true,
+        lists: None,
+        lp: None,
+        change: None,
+        delete: None,
+        adds: 0,
+        exact: false,
+    })?;
+    Ok(Plain { entries })
+}
+
+fn adds_nothing(adds: &[(u8, NodeId)]) -> bool
+    ensures { result ≡ has_no_count adds.now }
+{
+    adds.iter().all(|case| case.0 == 0)
+}
