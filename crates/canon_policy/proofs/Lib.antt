@@ -5,8 +5,11 @@ mod FixedNodes
 mod Follows
 mod Imports
 mod Least
+mod LastDenies
 mod Leaves
+mod Limits
 mod ListLaws
+mod MadeEntries
 mod MadeForms
 mod MadeLists
 mod Numbered

@@ -1,15 +1,20 @@
 //! The canonical lists of a function.
 
-ghost use Rattle.std.specs.Prelude.{◌≡◌, ◌≤◌, IfOk, OnOk, ◌++◌, length};
+ghost use Rattle.std.specs.Prelude.{◌≡◌, ◌≤◌, ℕ, List as Items, Option, IfOk, OnOk, ◌++◌, length, false};
 ghost use Rattle.std.specs.List.{list_any};
-ghost use Rattle.canon_policy.specs.Canonical.{numbered_from, line_is_wide, match_is_wide, names_in_change, is_wide, passing};
-ghost use Rattle.canon_policy.specs.Made.{IsEdgeForm, carried_nodes, in_nodes, out_nodes, in_made, out_made, has_no_count};
+ghost use Rattle.route_maps.specs.declared.plain.Imported.{Imported};
+ghost use Rattle.policy_dd.specs.Edge.{IsEdgeFn, keys_of, by_number};
+ghost use Rattle.canon_policy.specs.Canonical.{out_asked, numbered_from, line_is_wide, match_is_wide, names_in_change, is_wide, without_last_denies, limited, in_list, out_list, passing};
+ghost use Rattle.canon_policy.specs.Fixings.{nothing_fixed, split, settled};
+ghost use Rattle.canon_policy.specs.Functions.{on_sets};
+ghost use Rattle.canon_policy.specs.Made.{IsEdgeForm, asked_of, carried_nodes, in_nodes, out_nodes, in_made, out_made, has_no_count, EndsInDeny};
+ghost use Rattle.canon_policy.specs.Plain.{IsPlain};
 
 use crate::entries::{in_entry, out_entry};
 use crate::fixing::Fixing;
 use crate::others::{push_counts, push_lps};
 use crate::parts::{Nodes, PartNodes};
-use crate::walk::MOST_NAMES;
+use crate::walk::{MOST_ENTRIES, MOST_NAMES};
 use base_kit::{Community, List, NoMemory};
 use cfg_ast::{Change, CommunityLine, CommunityList};
 use dd_core::{NodeId, Store};
@@ -139,6 +144,78 @@ fn is_wide(entry: &PlainEntry) -> bool
             wide
         }
     }
+}
+
+/// The entries without those that deny at the end.
+fn without_last_denies(mut entries: List<PlainEntry>) -> List<PlainEntry>
+    ensures { result ≡ without_last_denies entries }
+{
+    while ends_in_deny(&entries) {
+        let _deny = entries.remove(entries.len() - 1);
+    }
+    entries
+}
+
+fn ends_in_deny(entries: &List<PlainEntry>) -> bool
+    ensures { EndsInDeny entries.now result }
+{
+    match entries.as_slice().last() {
+        None => false,
+        Some(entry) => !entry.permit,
+    }
+}
+
+fn any_is_wide(entries: &[PlainEntry]) -> bool
+    ensures { result ≡ list_any is_wide entries.now }
+{
+    entries.iter().any(|entry| is_wide(entry))
+}
+
+/// The list of so many entries, none where one is wide.
+fn limited(entries: List<PlainEntry>) -> Option<Plain>
+    ensures { result ≡ limited entries }
+{
+    if entries.len() > MOST_ENTRIES {
+        return None;
+    }
+    if any_is_wide(entries.as_slice()) {
+        return None;
+    }
+    Some(Plain {
+        entries: without_last_denies(entries),
+    })
+}
+
+/// The importer's list, where there is one, of its settled fixings.
+fn in_list_of(
+    alloc: Global,
+    store: &Store,
+    edge: &EdgeFn,
+    fixings: &[Fixing],
+) -> Result<Option<Plain>, NoMemory>
+    requires edge { IsEdgeForm store.now edge.now }
+    requires few { length fixings.now ≤ 65535 }
+    ensures { (f : Items ℕ → Option Imported) → IsEdgeFn store.now edge.now f → IsPlain store.now.universe (on_sets f) → fixings.now ≡ settled (length store.now.universe) (split store.now.universe (asked_of store.now.universe (on_sets f) (keys_of (by_number edge.now.outs)))) nothing_fixed → IfOk result (λ list. list ≡ in_list store.now.universe (on_sets f)) }
+{
+    let _count = store.len();
+    let entries = in_entries(alloc, store, edge, fixings)?;
+    Ok(limited(entries))
+}
+
+/// The exporter's list, where there is one and some count is above 0, of its settled fixings.
+fn out_list_of(
+    alloc: Global,
+    store: &Store,
+    edge: &EdgeFn,
+    fixings: &[Fixing],
+) -> Result<Option<Plain>, NoMemory>
+    requires edge { IsEdgeForm store.now edge.now }
+    requires few { length fixings.now ≤ 65535 }
+    ensures { (f : Items ℕ → Option Imported) → IsEdgeFn store.now edge.now f → IsPlain store.now.universe (on_sets f) → has_no_count edge.now.adds ≡ false → fixings.now ≡ settled (length store.now.universe) (split store.now.universe (out_asked store.now.universe (on_sets f))) nothing_fixed → IfOk result (λ list. list ≡ out_list store.now.universe (on_sets f)) }
+{
+    let _count = store.len();
+    let entries = out_entries(alloc, store, edge, fixings)?;
+    Ok(limited(entries))
 }
 
 /// A map that passes every route as it is.
