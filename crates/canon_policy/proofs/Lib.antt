@@ -1,4 +1,5 @@
 mod Asked
+mod CanonLists
 mod Carried
 mod Firsts
 mod FixedNodes

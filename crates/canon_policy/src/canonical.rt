@@ -2,19 +2,21 @@
 
 ghost use Rattle.std.specs.Prelude.{◌≡◌, ◌≤◌, ℕ, List as Items, Option, IfOk, OnOk, ◌++◌, length, false};
 ghost use Rattle.std.specs.List.{list_any};
+ghost use Rattle.dd_core.specs.Sets.{Grows};
 ghost use Rattle.route_maps.specs.declared.plain.Imported.{Imported};
 ghost use Rattle.policy_dd.specs.Edge.{IsEdgeFn, keys_of, by_number};
 ghost use Rattle.canon_policy.specs.Canonical.{out_asked, numbered_from, line_is_wide, match_is_wide, names_in_change, is_wide, without_last_denies, limited, in_list, out_list, passing};
 ghost use Rattle.canon_policy.specs.Fixings.{nothing_fixed, split, settled};
 ghost use Rattle.canon_policy.specs.Functions.{on_sets};
-ghost use Rattle.canon_policy.specs.Made.{IsEdgeForm, asked_of, carried_nodes, in_nodes, out_nodes, in_made, out_made, has_no_count, EndsInDeny};
+ghost use Rattle.canon_policy.specs.Made.{IsEdgeForm, asked_of, carried_nodes, in_nodes, out_nodes, in_made, out_made, has_no_count, EndsInDeny, IsListOf};
 ghost use Rattle.canon_policy.specs.Plain.{IsPlain};
 
 use crate::entries::{in_entry, out_entry};
 use crate::fixing::Fixing;
+use crate::lists::CanonRefusal;
 use crate::others::{push_counts, push_lps};
 use crate::parts::{Nodes, PartNodes};
-use crate::walk::{MOST_ENTRIES, MOST_NAMES};
+use crate::walk::{MOST_ENTRIES, MOST_NAMES, settled_fixings};
 use base_kit::{Community, List, NoMemory};
 use cfg_ast::{Change, CommunityLine, CommunityList};
 use dd_core::{NodeId, Store};
@@ -193,11 +195,13 @@ fn in_list_of(
     edge: &EdgeFn,
     fixings: &[Fixing],
 ) -> Result<Option<Plain>, NoMemory>
-    requires edge { IsEdgeForm store.now edge.now }
-    requires few { length fixings.now ≤ 65535 }
+    requires { IsEdgeForm store.now edge.now }
     ensures { (f : Items ℕ → Option Imported) → IsEdgeFn store.now edge.now f → IsPlain store.now.universe (on_sets f) → fixings.now ≡ settled (length store.now.universe) (split store.now.universe (asked_of store.now.universe (on_sets f) (keys_of (by_number edge.now.outs)))) nothing_fixed → IfOk result (λ list. list ≡ in_list store.now.universe (on_sets f)) }
 {
     let _count = store.len();
+    if fixings.len() > MOST_ENTRIES {
+        return Ok(None);
+    }
     let entries = in_entries(alloc, store, edge, fixings)?;
     Ok(limited(entries))
 }
@@ -209,13 +213,32 @@ fn out_list_of(
     edge: &EdgeFn,
     fixings: &[Fixing],
 ) -> Result<Option<Plain>, NoMemory>
-    requires edge { IsEdgeForm store.now edge.now }
-    requires few { length fixings.now ≤ 65535 }
+    requires { IsEdgeForm store.now edge.now }
     ensures { (f : Items ℕ → Option Imported) → IsEdgeFn store.now edge.now f → IsPlain store.now.universe (on_sets f) → has_no_count edge.now.adds ≡ false → fixings.now ≡ settled (length store.now.universe) (split store.now.universe (out_asked store.now.universe (on_sets f))) nothing_fixed → IfOk result (λ list. list ≡ out_list store.now.universe (on_sets f)) }
 {
     let _count = store.len();
+    if fixings.len() > MOST_ENTRIES {
+        return Ok(None);
+    }
     let entries = out_entries(alloc, store, edge, fixings)?;
     Ok(limited(entries))
+}
+
+/// The importer's list.
+fn in_list(alloc: Global, store: &mut Store, edge: &EdgeFn) -> Result<Plain, CanonRefusal>
+    requires { IsEdgeForm store.old edge.now }
+    ensures grows { Grows store.old store.new }
+    ensures list { (f : Items ℕ → Option Imported) → IsEdgeFn store.old edge.now f → IsPlain store.old.universe (on_sets f) → IsListOf result (in_list store.old.universe (on_sets f)) }
+{
+    let _count = store.len();
+    let nodes = in_nodes(alloc, edge)?;
+    match settled_fixings(alloc, store, &nodes) {
+        Err(refusal) => Err(refusal),
+        Ok(fixings) => match in_list_of(alloc, store, edge, fixings.as_slice())? {
+            None => Err(CanonRefusal::NoCanon),
+            Some(list) => Ok(list),
+        },
+    }
 }
 
 /// A map that passes every route as it is.
@@ -240,4 +263,26 @@ fn adds_nothing(adds: &[(u8, NodeId)]) -> bool
     ensures { result ≡ has_no_count adds.now }
 {
     adds.iter().all(|case| case.0 == 0)
+}
+
+/// The exporter's list.
+fn out_list(alloc: Global, store: &mut Store, edge: &EdgeFn) -> Result<Plain, CanonRefusal>
+    requires { IsEdgeForm store.old edge.now }
+    ensures grows { Grows store.old store.new }
+    ensures list { (f : Items ℕ → Option Imported) → IsEdgeFn store.old edge.now f → IsPlain store.old.universe (on_sets f) → IsListOf result (out_list store.old.universe (on_sets f)) }
+{
+    let _count = store.len();
+    let counts = edge.adds.as_slice();
+    if adds_nothing(counts) {
+        let map = passing(alloc)?;
+        return Ok(map);
+    }
+    let nodes = out_nodes(alloc, edge)?;
+    match settled_fixings(alloc, store, &nodes) {
+        Err(refusal) => Err(refusal),
+        Ok(fixings) => match out_list_of(alloc, store, edge, fixings.as_slice())? {
+            None => Err(CanonRefusal::NoCanon),
+            Some(list) => Ok(list),
+        },
+    }
 }

@@ -1,8 +1,10 @@
-use Rattle.std.proofs.Common.{◌∙◌, List, ap}
+use Rattle.std.proofs.Common.{sym, ◌∙◌, List, ap}
 use Rattle.canon_policy.specs.declared.fixing.Fixing.{Fixing}
 use Rattle.canon_policy.specs.Canonical.{numbered_from, limited}
 use Rattle.canon_policy.specs.Made.{in_made}
-use Rattle.canon_policy.proofs.Limits.{in_limited}
+use Rattle.canon_policy.specs.Nodes.{are_over}
+use Rattle.canon_policy.proofs.CanonLists.{over_long}
+use Rattle.canon_policy.proofs.Limits.{in_limited, in_over}
 use Rattle.canon_policy.proofs.canonical.in_list_of.Goals as goal
 
 pub returns : goal.returns
@@ -10,3 +12,8 @@ returns c = λ f of plain e.
     c.limited.ensures ∙ ap limited c.in_ok-entries.ensures
     ∙ ap (λ (l : List Fixing). limited (numbered_from 1 (in_made c.args.store.now c.args.edge.now) l)) e
     ∙ in_limited c.args.store.now c.len-count.ensures.shown c.args.edge.now f of plain
+
+pub returns-then-fixings-gt-MOST_ENTRIES : goal.returns-then-fixings-gt-MOST_ENTRIES
+returns-then-fixings-gt-MOST_ENTRIES c = λ f of plain e.
+    sym (in_over c.args.store.now c.len-count.ensures.shown c.args.edge.now f of plain
+    (ap are_over (sym e) ∙ over_long c.args.fixings.now c.if-fixings-gt-MOST_ENTRIES.true))
