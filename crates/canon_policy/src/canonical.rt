@@ -1,20 +1,22 @@
 //! The canonical lists of a function.
 
-ghost use Rattle.std.specs.Prelude.{◌≡◌, ◌≤◌, ℕ, List as Items, Option, IfOk, OnOk, ◌++◌, length, false};
+ghost use Rattle.std.specs.Prelude.{◌≡◌, ◌≤◌, ℕ, List as Items, Option, IfOk, OnOk, ◌++◌, length, true, false};
 ghost use Rattle.std.specs.List.{list_any};
 ghost use Rattle.dd_core.specs.Sets.{Grows};
 ghost use Rattle.route_maps.specs.declared.plain.Imported.{Imported};
+ghost use Rattle.route_maps.specs.Maps.{import_of};
+ghost use Rattle.policy_dd.specs.Imports.{AreOneImport};
 ghost use Rattle.policy_dd.specs.Edge.{IsEdgeFn, keys_of, by_number};
-ghost use Rattle.canon_policy.specs.Canonical.{out_asked, numbered_from, line_is_wide, match_is_wide, names_in_change, is_wide, without_last_denies, limited, in_list, out_list, passing};
+ghost use Rattle.canon_policy.specs.Canonical.{out_asked, numbered_from, line_is_wide, match_is_wide, names_in_change, is_wide, without_last_denies, limited, in_list, out_list, passing, canonical_lists_of};
 ghost use Rattle.canon_policy.specs.Fixings.{nothing_fixed, split, settled};
 ghost use Rattle.canon_policy.specs.Functions.{on_sets};
-ghost use Rattle.canon_policy.specs.Made.{IsEdgeForm, asked_of, carried_nodes, in_nodes, out_nodes, in_made, out_made, has_no_count, EndsInDeny, IsListOf};
+ghost use Rattle.canon_policy.specs.Made.{IsEdgeForm, asked_of, carried_nodes, in_nodes, out_nodes, in_made, out_made, has_no_count, EndsInDeny, IsListOf, AreListsOf};
 ghost use Rattle.canon_policy.specs.Plain.{IsPlain};
 
 use crate::entries::{in_entry, out_entry};
 use crate::fixing::Fixing;
-use crate::lists::CanonRefusal;
-use crate::others::{push_counts, push_lps};
+use crate::lists::{CanonEdge, CanonRefusal};
+use crate::others::{depends_on_others, push_counts, push_lps};
 use crate::parts::{Nodes, PartNodes};
 use crate::walk::{MOST_ENTRIES, MOST_NAMES, settled_fixings};
 use base_kit::{Community, List, NoMemory};
@@ -283,6 +285,28 @@ fn out_list(alloc: Global, store: &mut Store, edge: &EdgeFn) -> Result<Plain, Ca
         Ok(fixings) => match out_list_of(alloc, store, edge, fixings.as_slice())? {
             None => Err(CanonRefusal::NoCanon),
             Some(list) => Ok(list),
+        },
+    }
+}
+
+/// The canonical lists of a function of a session, which the nodes mean in the one form that `edge_fn`
+/// makes. They import every set of communities as it does.
+pub fn canon(alloc: Global, store: &mut Store, edge: &EdgeFn) -> Result<CanonEdge, CanonRefusal>
+    requires { IsEdgeForm store.old edge.now }
+    ensures grows { Grows store.old store.new }
+    ensures canonical { (f : Items ℕ → Option Imported) → IsEdgeFn store.old edge.now f → AreListsOf result (canonical_lists_of store.old.universe f) }
+    ensures imports { (f : Items ℕ → Option Imported) → IsEdgeFn store.old edge.now f → IfOk result (λ lists. AreOneImport (import_of lists.out true lists.into) f) }
+{
+    let _count = store.len();
+    let depends = depends_on_others(alloc, store, edge)?;
+    if depends {
+        return Err(CanonRefusal::NoCanon);
+    }
+    match in_list(alloc, store, edge) {
+        Err(refusal) => Err(refusal),
+        Ok(into) => match out_list(alloc, store, edge) {
+            Err(refused) => Err(refused),
+            Ok(out) => Ok(CanonEdge { out, into }),
         },
     }
 }
