@@ -8,6 +8,8 @@ from __future__ import annotations
 import argparse
 import concurrent.futures
 import dataclasses
+import errno
+import os
 import re
 import sys
 from collections import Counter
@@ -136,7 +138,7 @@ def _main() -> int:
     if words.only_fetch:
         return 0
     if not top.is_dir():
-        raise Refused(f"{top}: no such folder")
+        raise FileNotFoundError(errno.ENOENT, os.strerror(errno.ENOENT), str(top))
     program = Program()
     for name in words.run:
         sys.stdout.write(_run(top / name, program, words.seconds))

@@ -119,7 +119,10 @@ def apply_drops(folder: Folder) -> None:
         kept = []
         for stanza in router.stanzas:
             found = None if stanza.head.is_blank else folder.decisions.find("drop", stanza.head, stanza.head.text)
-            if found and not stanza.starts("hostname"):
+            if found and stanza.starts("hostname"):
+                folder.log.refuse(stanza.head, PROTECTED, "without its name a router is none: leave its file out of the folder")
+                kept.append(stanza)
+            elif found:
                 folder.log.cut(stanza.lines, DECIDED)
                 folder.log.assume(stanza.head, found.reason)
                 kept.append(Stanza(note(stanza.head, found.reason, "")))

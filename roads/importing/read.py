@@ -5,6 +5,8 @@ what lines mean is the rules' to say.
 """
 from __future__ import annotations
 
+import errno
+import os
 import re
 from pathlib import Path
 
@@ -66,10 +68,11 @@ OTHERS = (
 
 
 def read_folder(name: str) -> Folder:
-    """The routers of a folder, in the order of their names. Refused where there are none."""
+    """The routers of a folder, in the order of their names. Refused where there are none. OSError where there is no folder."""
     top = Path(name)
     if not top.is_dir():
-        raise Refused(f"{name}: {'no folder' if top.exists() else 'no such folder'}")
+        fault = errno.ENOTDIR if top.exists() else errno.ENOENT
+        raise OSError(fault, os.strerror(fault), name)
     folder = Folder([], {})
     if (top / "configs").is_dir():
         top = top / "configs"

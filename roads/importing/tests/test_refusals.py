@@ -117,6 +117,7 @@ def test_match_and_address_lines_are_protected(tmp_path: Path, program: Program)
     text = A_BGP + " neighbor 172.16.0.2 route-map M in\nroute-map M permit 10\n match as-path 5\n"
     assert refused(report(tmp_path, program, (text, B_BGP), 'drop "match *" because "no"\n')) >= {"protected"}
     assert refused(report(tmp_path, program, (text, B_BGP), 'drop "ip address 10.1.0.1 *" because "no"\n')) >= {"protected"}
+    assert refused(report(tmp_path, program, (text, B_BGP), 'drop "hostname a" because "no"\n')) >= {"protected"}
     assert not refused(report(tmp_path, program, (text + "route-map M permit 20\n", B_BGP), 'drop "route-map M permit 10" because "yes"\n'))
 
 
@@ -182,7 +183,7 @@ def run_tool(*words: str) -> subprocess.CompletedProcess[str]:
 def test_bad_folders(tmp_path: Path, program: Program) -> None:
     ran = run_tool(str(tmp_path))
     assert (ran.returncode, ran.stdout, len(ran.stderr.splitlines())) == (1, "", 1)
-    assert run_tool(str(tmp_path / "none")).returncode == 1
+    assert run_tool(str(tmp_path / "none")).returncode == 3
     (tmp_path / "a.cfg").write_bytes(b"hostname a\0\n")
     ran = run_tool(str(tmp_path))
     assert (ran.returncode, len(ran.stderr.splitlines())) == (1, 1)
