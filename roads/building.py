@@ -1,30 +1,34 @@
 """`./build`: proves the program with the crates below it, installs it, and packages it.
 
-The proofs are those of `rt ci`, over a copy of the crates below the program, without their must-fail edits. What it
-proves is kept by the kit, so the gate does not prove it again, nor this what the gate proved.
+The proofs are those of `rt ci`, over a copy of the crates below the program, without their must-fail edits. `rt ci` proves from
+nothing each time, so `--gate` runs it over the repository as it stands, with all crates and edits, and keeps the program of that run.
 """
 from __future__ import annotations
 
 import argparse
+import contextlib
+import fcntl
 import hashlib
+import json
 import os
 import shutil
 import signal
-import subprocess
 import sys
 import tempfile
-import threading
 import time
+from collections.abc import Callable, Iterator
 from pathlib import Path
 
 from roads import command_line, packing
 from roads.command_line import Refused
 from roads.program import TOP
-from roads.proving import Told, at_work, closure, lines_of_failure, uses_of
+from roads.proof_run import Ran, run_ci
+from roads.proving import closure, lines_of_failure, uses_of
 
 PROGRAM = TOP / "crates" / "bonsai" / "out" / "bonsai"
 MADE = PROGRAM.with_name("bonsai.made")
 LOG = TOP / "out" / "build.log"
+FIGURES = LOG.with_name("gate-times.json")
 LEFT_OUT = ("out", "must-fail")
 
 
@@ -61,67 +65,25 @@ def copy_crates(crates: list[str], room: Path) -> None:
         shutil.copytree(TOP / "crates" / crate, room / "crates" / crate, ignore=shutil.ignore_patterns(*LEFT_OUT))
 
 
-class Progress:
-    """One line that tells how far the proofs are: on a terminal it is written anew, else it stands once a minute."""
-
-    def __init__(self, total: int, told: Told, process: int) -> None:
-        self.total, self.told, self.process = total, told, process
-        self.start = time.monotonic()
-        self.is_terminal = sys.stderr.isatty()
-        self.ended = threading.Event()
-        self.thread = threading.Thread(target=self.follow, daemon=True)
-
-    def line(self) -> str:
-        """The line as it stands."""
-        names = sorted({work.crate + ("'s tests" if work.part == "tests" else "") for work in at_work(self.process)})
-        minutes = int(time.monotonic() - self.start) // 60
-        return f"build: {len(self.told.proved)} of {self.total} crates proved, {minutes} minutes; at work: {' '.join(names) or 'none'}"
-
-    def follow(self) -> None:
-        """Writes the line until the run ends."""
-        while not self.ended.wait(2 if self.is_terminal else 60):
-            width = shutil.get_terminal_size().columns
-            text = f"\r\x1b[K{self.line()[: width - 1]}" if self.is_terminal else self.line() + "\n"
-            print(text, end="", file=sys.stderr, flush=True)
-
-    def __enter__(self) -> Progress:
-        self.thread.start()
-        return self
-
-    def __exit__(self, *_: object) -> None:
-        self.ended.set()
-        self.thread.join()
-        if self.is_terminal:
-            print("\r\x1b[K", end="", file=sys.stderr, flush=True)
-
-
-def prove(room: Path, total: int) -> Told:
-    """Runs `rt ci` over the copy, with its words in the log, and refuses where it does not pass."""
-    told, start = Told(), time.monotonic()
+def proved_in(room: Path, total: int, is_gate: bool, pass_on: Callable[[str], None] = lambda line: None) -> Ran:
+    """Runs `rt ci` in a folder, with its words in the log, and refuses where it does not pass."""
+    start = time.monotonic()
     LOG.parent.mkdir(exist_ok=True)
-    ran = subprocess.Popen(["rt", "ci"], cwd=room, stdin=subprocess.DEVNULL, stdout=subprocess.PIPE, stderr=subprocess.STDOUT, text=True, errors="replace")
-    try:
-        with open(LOG, "w", encoding="utf-8") as log, Progress(total, told, ran.pid):
-            for line in ran.stdout:
-                log.write(line.replace(str(room), str(TOP)))
-                log.flush()
-                told.read(line)
-                if told.failed:
-                    # (what is proved is kept, so nothing is gained by waiting for the rest)
-                    ran.terminate()
-                    break
-        status = ran.wait()
-    finally:
-        ran.terminate()
-        ran.wait()
-    if status:
-        with open(LOG, encoding="utf-8") as log:
-            output = log.readlines()
-        name = told.failed[0] if told.failed else ""
-        lines = lines_of_failure(output, name) if name else [line.rstrip() for line in output[-20:]]
-        raise Refused(f"{name or 'the run of rt'}: not proved, after {minutes_since(start)}; the log is {LOG}", lines)
-    print(f"build: {len(told.proved)} of {total} crates proved, after {minutes_since(start)}", file=sys.stderr)
-    return told
+    with open(LOG, "w", encoding="utf-8") as log:
+
+        def take(line: str) -> None:
+            log.write(line.replace(str(room), str(TOP)))
+            log.flush()
+            pass_on(line)
+
+        ran = run_ci(room, total, take, is_whole=is_gate)
+    FIGURES.write_text(json.dumps(ran.figures()), "utf-8")
+    if ran.status:
+        output = LOG.read_text("utf-8").splitlines()
+        name = ran.told.failed[0] if ran.told.failed else ""
+        raise Refused(f"{name or 'the run of rt'}: not proved, after {minutes_since(start)}; the log is {LOG}", lines_of_failure(output, name))
+    print(f"build: {len(ran.told.proved)} of {total} crates proved, after {minutes_since(start)}", file=sys.stderr)
+    return ran
 
 
 def minutes_since(start: float) -> str:
@@ -130,40 +92,86 @@ def minutes_since(start: float) -> str:
     return f"{seconds} seconds" if seconds < 120 else f"{seconds // 60} minutes"
 
 
+@contextlib.contextmanager
+def only_run() -> Iterator[None]:
+    """Waits until no other run builds here."""
+    LOG.parent.mkdir(exist_ok=True)
+    with open(LOG.with_name("build.lock"), "w", encoding="utf-8") as lock:
+        try:
+            fcntl.flock(lock, fcntl.LOCK_EX | fcntl.LOCK_NB)
+        except BlockingIOError:
+            print("build: waiting for another run that builds here", file=sys.stderr)
+            fcntl.flock(lock, fcntl.LOCK_EX)
+        yield
+
+
+class Sources:
+    """The sources of the program as they stand: when they were read, and their checksum."""
+
+    def __init__(self) -> None:
+        self.kit = kit_folder()
+        self.uses = uses_of((TOP / "crates.txt").read_text("utf-8"))
+        self.crates = closure(self.uses, "bonsai")
+        self.begun = time.time()
+        self.sum = sum_of(self.crates, self.kit)
+
+    def are_made(self) -> bool:
+        """Whether the program that is kept is the proved one of these sources."""
+        return PROGRAM.is_file() and MADE.is_file() and MADE.read_text("utf-8").splitlines()[:2] == [self.sum, packing.sum_of(PROGRAM)]
+
+    def keep(self, made: Path) -> None:
+        """Keeps the program that a run has proved. Refused, with no program left, where a source changed meanwhile."""
+        PROGRAM.parent.mkdir(exist_ok=True)
+        new = PROGRAM.with_name("bonsai.new")
+        shutil.copyfile(made, new)
+        new.chmod(0o755)
+        # (a source that was edited meanwhile is newer)
+        os.utime(new, (self.begun, self.begun))
+        MADE.unlink(missing_ok=True)
+        os.replace(new, PROGRAM)
+        if sum_of(self.crates, self.kit) != self.sum:
+            PROGRAM.unlink()
+            raise Refused("sources changed while they were proved; run it again")
+        identity = (self.kit / "KIT-ID").read_text("utf-8").strip()
+        MADE.write_text(f"{self.sum}\n{packing.sum_of(PROGRAM)}\n{identity}\n", "utf-8")
+        print("build: crates/bonsai/out/bonsai is proved", file=sys.stderr)
+
+
 def build() -> None:
     """Makes the proved program, if it is not there for these sources."""
-    kit = kit_folder()
-    crates = closure(uses_of((TOP / "crates.txt").read_text("utf-8")), "bonsai")
-    begun = time.time()
-    now = sum_of(crates, kit)
-    if PROGRAM.is_file() and MADE.is_file() and MADE.read_text("utf-8").splitlines()[:2] == [now, packing.sum_of(PROGRAM)]:
+    sources = Sources()
+    if sources.are_made():
         print("build: crates/bonsai/out/bonsai is proved already", file=sys.stderr)
         # (a checkout can write the same sources anew)
         os.utime(PROGRAM)
         return
-    print(f"build: proving {len(crates)} crates; what is proved is kept, so an interrupted build goes on from there", file=sys.stderr)
+    print(f"build: proving {len(sources.crates)} crates from nothing; an interrupted build begins anew", file=sys.stderr)
     with tempfile.TemporaryDirectory(prefix="bonsai-build-") as folder:
         room = Path(folder).resolve() / "repository"
-        copy_crates(crates, room)
-        prove(room, len(crates))
-        PROGRAM.parent.mkdir(exist_ok=True)
-        new = PROGRAM.with_name("bonsai.new")
-        shutil.copyfile(room / "crates" / "bonsai" / "out" / "bonsai", new)
-    new.chmod(0o755)
-    # (a source that was edited meanwhile is newer)
-    os.utime(new, (begun, begun))
-    identity = (kit / "KIT-ID").read_text("utf-8").strip()
-    MADE.unlink(missing_ok=True)
-    os.replace(new, PROGRAM)
-    MADE.write_text(f"{now}\n{packing.sum_of(PROGRAM)}\n{identity}\n", "utf-8")
-    if sum_of(crates, kit) != now:
-        raise Refused("sources changed while they were proved; run ./build again")
-    print("build: crates/bonsai/out/bonsai is proved", file=sys.stderr)
+        copy_crates(sources.crates, room)
+        proved_in(room, len(sources.crates), is_gate=False)
+        sources.keep(room / "crates" / "bonsai" / "out" / "bonsai")
+
+
+def gate(pass_on: Callable[[str], None]) -> Ran:
+    """Runs the gate, and keeps the program that it proved, where all of it passes. Each line of rt is passed on."""
+    with only_run():
+        sources = Sources()
+        ran = proved_in(TOP, len(sources.uses), True, pass_on)
+        # (rt ci moves what stood there away before it begins, so the program is its own)
+        sources.keep(PROGRAM)
+    return ran
+
+
+def aloud(line: str) -> None:
+    """Writes a line of rt to standard output."""
+    print(line, end="", flush=True)
 
 
 def main(words: list[str] | None = None) -> int:
     """The command line of ./build."""
     given = command_line.parser("build", (__doc__ or "").partition("\n")[0])
+    given.add_argument("--gate", action="store_true", help="run the whole gate, `rt ci`, with its words on standard output, and keep the program that it proved")
     given.add_argument("--install", nargs="?", const="/usr/local", metavar="PREFIX", help="then install program, manual page and completions (default: /usr/local)")
     given.add_argument("--deb", nargs="?", const="out", metavar="FOLDER", help="then make a Debian package in the folder (default: out)")
     given.epilog = "Exit status: 0 done; 1 not proved, or no kit; 2 the words are wrong; 3 a file could not be read or written; 130 interrupted."
@@ -176,7 +184,11 @@ def main(words: list[str] | None = None) -> int:
 
 def carry_out(asked: argparse.Namespace) -> None:
     """Builds, installs and packages as the words ask."""
-    build()
+    if asked.gate:
+        gate(aloud)
+    else:
+        with only_run():
+            build()
     version, kit = packing.version_of(TOP), MADE.read_text("utf-8").splitlines()[2]
     if asked.install is not None:
         for path in packing.install(TOP, PROGRAM, Path(asked.install), version, kit):

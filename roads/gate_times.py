@@ -1,77 +1,29 @@
-"""Processor minutes of a run of `rt ci`: for each crate its proof, its tests and its must-fail edits.
-
-Checks are looked at twice a second, so of each at most its last half second is missed. What no look saw stands in a line of its own.
-"""
+"""Processor minutes of a run of the gate: for each crate its proof, its tests and its must-fail edits. What no look saw stands in a line of its own."""
 from __future__ import annotations
 
 import argparse
 import json
-import resource
+import shutil
 import signal
-import subprocess
 import sys
-import threading
 import time
+from collections.abc import Callable
 from pathlib import Path
 
-from roads import command_line
+from roads import building, command_line
 from roads.command_line import Refused
-from roads.proving import Told, Work, at_work
-
-PARTS = ("proof", "tests", "edits")
-EVERY = 0.5
+from roads.proof_run import PARTS
 
 
-class Sampler:
-    """Looks at the checks below a process until it is told to stop, and keeps the most that each check took."""
+def clocked() -> Callable[[str], None]:
+    """Writes lines, each with the minute and second since now at its head."""
+    start = time.monotonic()
 
-    def __init__(self, process: int) -> None:
-        self.process = process
-        self.seen: dict[tuple[int, int], Work] = {}
-        self.ended = threading.Event()
-        self.thread = threading.Thread(target=self.follow, daemon=True)
-        self.thread.start()
+    def write(line: str) -> None:
+        minutes, seconds = divmod(int(time.monotonic() - start), 60)
+        print(f"{minutes:3}:{seconds:02} {line}", end="", flush=True)
 
-    def follow(self) -> None:
-        """Looks again and again."""
-        while not self.ended.wait(EVERY):
-            self.seen.update({work.process: work for work in at_work(self.process)})
-
-    def stop(self) -> dict[str, dict[str, float]]:
-        """Ends, and returns the seconds of each crate's parts."""
-        self.ended.set()
-        self.thread.join()
-        found: dict[str, dict[str, float]] = {}
-        for work in self.seen.values():
-            parts = found.setdefault(work.crate, dict.fromkeys(PARTS, 0.0))
-            parts[work.part] += work.seconds
-        return found
-
-
-def measure(words: list[str], out: object = sys.stdout) -> dict[str, object]:
-    """Runs rt with the words, passes its lines on, each with the minute and second at its head, and returns what it took."""
-    start, told = time.monotonic(), Told()
-    ran = subprocess.Popen(["rt", *words], stdin=subprocess.DEVNULL, stdout=subprocess.PIPE, stderr=subprocess.STDOUT, text=True, errors="replace")
-    sampler = Sampler(ran.pid)
-    try:
-        for line in ran.stdout:
-            seconds = int(time.monotonic() - start)
-            print(f"{seconds // 60:3}:{seconds % 60:02} {line}", end="", file=out, flush=True)
-            told.read(line)
-        status = ran.wait()
-    finally:
-        ran.terminate()
-        ran.wait()
-        crates = sampler.stop()
-    used = resource.getrusage(resource.RUSAGE_CHILDREN)
-    return {
-        "words": words,
-        "status": status,
-        "minutes": (time.monotonic() - start) / 60,
-        "processor_seconds": used.ru_utime + used.ru_stime,
-        "crates": crates,
-        "edits": told.edits,
-    }
+    return write
 
 
 def table(found: dict[str, object]) -> str:
@@ -97,11 +49,11 @@ def main(words: list[str] | None = None) -> int:
     """The command line of tools/gate-times."""
     given = command_line.parser("gate-times", __doc__ or "")
     verbs = given.add_subparsers(dest="verb", required=True)
-    run = verbs.add_parser("run", help="run `rt ci`, and print the table after its own lines; the status is that of rt")
-    run.add_argument("--keep", metavar="FILE", help="keep the figures in a file, for `table`")
-    run.add_argument("names", nargs="*", metavar="NAME", help="crates, as `rt ci NAME..` takes them")
+    run = verbs.add_parser("run", help="run the gate as `./build --gate` does, each line with its minute and second, and print the table after them")
+    run.add_argument("--keep", metavar="FILE", help="keep the figures in a file of your own too, for `table`")
     again = verbs.add_parser("table", help="print the table of figures that were kept")
-    again.add_argument("file", metavar="FILE")
+    again.add_argument("file", metavar="FILE", nargs="?", help="the file (default: that of the last run of the gate or of ./build, out/gate-times.json)")
+    given.epilog = "Exit status: 0 done; 1 not proved, or no kit; 2 the words are wrong; 3 a file could not be read or written; 130 interrupted."
     asked = given.parse_args(words)
     # (so that rt ends too)
     for ending in (signal.SIGTERM, signal.SIGHUP):
@@ -109,16 +61,24 @@ def main(words: list[str] | None = None) -> int:
     return command_line.run("gate-times", lambda: carry_out(asked))
 
 
-def carry_out(asked: argparse.Namespace) -> int:
+def carry_out(asked: argparse.Namespace) -> None:
     """Runs and tells, or tells again."""
     if asked.verb == "table":
-        try:
-            print(table(json.loads(Path(asked.file).read_text("utf-8"))), end="")
-        except (ValueError, KeyError, TypeError, AttributeError) as fault:
-            raise Refused(f"{asked.file}: these are not figures that `gate-times run --keep` wrote") from fault
-        return 0
-    found = measure(["ci", *asked.names])
-    if asked.keep:
-        Path(asked.keep).write_text(json.dumps(found), "utf-8")
-    print(table(found), end="")
-    return found["status"]
+        print(table_of(Path(asked.file or building.FIGURES)), end="")
+        return
+    building.FIGURES.unlink(missing_ok=True)
+    try:
+        building.gate(clocked())
+    finally:
+        if building.FIGURES.is_file():
+            if asked.keep:
+                shutil.copyfile(building.FIGURES, asked.keep)
+            print(table_of(building.FIGURES), end="", flush=True)
+
+
+def table_of(file: Path) -> str:
+    """The table of a file of figures."""
+    try:
+        return table(json.loads(file.read_text("utf-8")))
+    except (ValueError, KeyError, TypeError, AttributeError) as fault:
+        raise Refused(f"{file}: these are not figures of a run of the gate") from fault

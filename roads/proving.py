@@ -33,7 +33,7 @@ def closure(uses: dict[str, list[str]], name: str) -> list[str]:
 
 @dataclasses.dataclass
 class Told:
-    """What a run has told so far: crates that are proved, and what failed, each in its order."""
+    """What a run has told so far: crates that are proved, and what failed, each in its order; and of each crate how many edits were tried."""
 
     proved: list[str] = dataclasses.field(default_factory=list)
     failed: list[str] = dataclasses.field(default_factory=list)
@@ -41,24 +41,27 @@ class Told:
 
     def read(self, line: str) -> None:
         """Takes one line of the run's output into account."""
-        if found := re.match(r"rt: (\w+)(?: proved$| is kept: )", line):
+        if found := re.match(r"rt: (\w+) proved$", line):
             self.proved.append(found[1])
         elif found := re.match(r"rt: (\w+)(: its tests)?(?: are)? (?:NOT PROVED|FAILED)", line):
             self.failed.append(found[1] + (found[2] or ""))
-        elif found := re.match(r"rt: must-fail (\w+)/", line):
-            self.edits[found[1]] = self.edits.get(found[1], 0) + 1
+        elif found := re.match(r"rt: must-fail ((\w+)/\S+): (refused)?", line):
+            self.edits[found[2]] = self.edits.get(found[2], 0) + 1
+            if not found[3]:
+                self.failed.append(found[1])
 
 
 def lines_of_failure(output: Iterable[str], name: str, most: int = 20) -> list[str]:
-    """Of a run's output, the first lines that say why a crate, or `CRATE: its tests`, is not proved."""
-    kept: list[str] = []
+    """Of a run's output, the first lines that say why a crate or `CRATE: its tests` is not proved, or why an edit failed; else the last lines."""
+    told = [line.rstrip() for line in output]
+    kept = [line for line in told if line.startswith(f"rt: must-fail {name}: ")]
     is_inside = False
-    for line in map(str.rstrip, output):
+    for line in told:
         if line.startswith(("== ", f"rt: {name} ")):
             is_inside = line == f"== {name}"
         elif is_inside and not re.search(r": proved$|^(statements |logic|empty contracts|note: |rt: note)", line):
             kept.append(line)
-    return kept[:most]
+    return kept[:most] or told[-most:]
 
 
 @dataclasses.dataclass(frozen=True)

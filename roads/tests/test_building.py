@@ -15,7 +15,8 @@ import pytest
 from roads import building, packing
 from roads.proving import Told, at_work, closure, lines_of_failure, part_of, uses_of
 
-OUTPUT = """rt: low is kept: an earlier run on this machine proved the same files over the same libraries
+OUTPUT = """== low
+rt: low proved
 == middle
 fn middle::first: proved
 note: a note
@@ -25,10 +26,13 @@ rt: middle NOT PROVED
 == high: its tests
 fn high::tests: proved
 rt: high: its tests are NOT PROVED
-rt: must-fail low/first.edit: refused, as it must be
 == high
 rt: high proved
+rt: must-fail low/first.edit: refused, as it must be
+rt: must-fail low/second.edit: NOT REFUSED: the crate is still proved with this edit
 rt: low: its tests FAILED
+rt: FAILED: middle low/second.edit low (tests)
+2 passed, 3 failed
 """
 
 
@@ -42,11 +46,14 @@ def test_what_a_run_tells() -> None:
     told = Told()
     for line in OUTPUT.splitlines():
         told.read(line)
-    assert told == Told(["low", "high"], ["middle", "high: its tests", "low: its tests"], {"low": 1})
+    assert told == Told(["low", "high"], ["middle", "high: its tests", "low/second.edit", "low: its tests"], {"low": 2})
 
 
 def test_lines_of_a_failure() -> None:
-    assert lines_of_failure(OUTPUT.splitlines(keepends=True), "middle") == ["./src/lib.rt:3:1: error: the clause is not proved"]
+    lines = OUTPUT.splitlines(keepends=True)
+    assert lines_of_failure(lines, "middle") == ["./src/lib.rt:3:1: error: the clause is not proved"]
+    assert lines_of_failure(lines, "low/second.edit") == ["rt: must-fail low/second.edit: NOT REFUSED: the crate is still proved with this edit"]
+    assert lines_of_failure(lines, "low: its tests")[-1] == "2 passed, 3 failed"
 
 
 def test_what_a_check_is_for() -> None:
@@ -107,24 +114,37 @@ def test_the_package(tmp_path: Path) -> None:
     assert fields.stdout == "Package: bonsai\nVersion: 0+1.abc\nDepends: libc6 (>= 2.34), python3 (>= 3.8)\n"
 
 
-# What stands for the kit's rt: it proves all crates of the folder that it is run in, but the one that BROKEN names.
+# What stands for the kit's rt: it proves all crates of the folder that it is run in, from nothing and with their edits, but what BROKEN names.
+# What an earlier run left it moves away first. It edits the file that EDITS names when it is at work.
 RT = """#!/usr/bin/python3
-import os, sys, time
-assert sys.argv[1:] == ["ci"] and not os.path.exists("crates/low/must-fail"), sys.argv
-for crate in ("low", "bonsai"):
+import os, shutil, sys, time
+assert sys.argv[1:] == ["ci"], sys.argv
+shutil.rmtree("crates/bonsai/out", ignore_errors=True)
+broken = os.environ.get("BROKEN")
+crates = [it for it in ("low", "other", "bonsai") if os.path.isdir("crates/" + it)]
+for crate in crates:
     print(f"== {crate}")
-    if crate == os.environ.get("BROKEN"):
+    if crate == broken:
         print(f"{os.getcwd()}/crates/{crate}/src/lib.rt:1:1: error: not so")
         print(f"rt: {crate} NOT PROVED", flush=True)
-        time.sleep(60)
-    print(f"rt: {crate} proved", flush=True)
+        time.sleep(float(os.environ.get("SECONDS", "0")))
+    else:
+        print(f"rt: {crate} proved", flush=True)
 os.mkdir("crates/bonsai/out")
 with open("crates/bonsai/out/bonsai", "w") as made:
     made.write("#!/bin/sh\\necho proved: $*\\n")
+if os.path.exists("crates/low/must-fail"):
+    said = "NOT REFUSED: the crate is still proved with this edit" if broken == "low/one.edit" else "refused, as it must be"
+    print(f"rt: must-fail low/one.edit: {said}")
+if "EDITS" in os.environ:
+    with open(os.environ["EDITS"], "a") as edited:
+        edited.write("// edited\\n")
 with open(os.environ["CALLS"], "a") as calls:
-    calls.write("rt\\n")
-print("2 passed, 0 failed")
+    calls.write(f"rt {' '.join(crates)}\\n")
+print(f"{len(crates) - bool(broken)} passed, {int(bool(broken))} failed")
+sys.exit(bool(broken))
 """
+BUILT, GATE = "rt low bonsai\n", "rt low other bonsai\n"
 
 
 @pytest.fixture(name="clone")
@@ -153,14 +173,78 @@ def build(clone: Path, *words: str, **more: str) -> subprocess.CompletedProcess[
     return subprocess.run([clone / "build", *words], capture_output=True, text=True, check=False, env=env)
 
 
+def calls(clone: Path) -> str:
+    """The runs of rt, each a line with its crates."""
+    return (clone.parent / "calls").read_text("utf-8")
+
+
+def answer(clone: Path) -> subprocess.CompletedProcess[str]:
+    """What the clone's launcher answers. It has no kit."""
+    return subprocess.run([clone / "bonsai", "classes", "F"], capture_output=True, text=True, check=False, env={"PATH": "/usr/bin:/bin", "HOME": str(clone.parent)})
+
+
 def test_the_program_is_built_once(clone: Path) -> None:
     first, second = build(clone), build(clone)
     assert (first.returncode, second.returncode) == (0, 0)
     assert first.stderr.splitlines()[-1] == "build: crates/bonsai/out/bonsai is proved"
     assert second.stderr == "build: crates/bonsai/out/bonsai is proved already\n"
-    assert (clone.parent / "calls").read_text("utf-8") == "rt\n"
-    ran = subprocess.run([clone / "bonsai", "classes", "F"], capture_output=True, text=True, check=False, env={"PATH": "/usr/bin:/bin"})
+    assert calls(clone) == BUILT
+    ran = answer(clone)
     assert (ran.returncode, ran.stdout, ran.stderr) == (0, "proved: classes F\n", "")
+
+
+def test_the_gate_keeps_the_program_that_it_proved(clone: Path) -> None:
+    gate, after = build(clone, "--gate"), build(clone)
+    assert (gate.returncode, after.returncode) == (0, 0)
+    assert gate.stdout.splitlines()[-1] == "3 passed, 0 failed" and gate.stderr.splitlines()[-1] == "build: crates/bonsai/out/bonsai is proved"
+    assert (clone / "out/build.log").read_text("utf-8") == gate.stdout
+    assert (after.stdout, after.stderr) == ("", "build: crates/bonsai/out/bonsai is proved already\n")
+    assert calls(clone) == GATE
+    assert answer(clone).stdout == "proved: classes F\n"
+
+
+def test_the_gate_runs_again_over_the_same_sources(clone: Path) -> None:
+    build(clone)
+    assert build(clone, "--gate").returncode == 0
+    assert build(clone).stderr == "build: crates/bonsai/out/bonsai is proved already\n"
+    assert calls(clone) == BUILT + GATE
+
+
+@pytest.mark.parametrize(("broken", "line"), [("other", "error: not so"), ("low/one.edit", "NOT REFUSED: the crate is still proved with this edit")])
+def test_a_gate_that_fails_keeps_no_program(clone: Path, broken: str, line: str) -> None:
+    build(clone)
+    ran = build(clone, "--gate", BROKEN=broken)
+    lines = ran.stderr.splitlines()
+    assert ran.returncode == 1 and ran.stdout.splitlines()[-1] == "2 passed, 1 failed"
+    assert lines[0].startswith(f"build: {broken}: not proved, after ") and lines[1].endswith(line)
+    assert answer(clone).returncode == 8
+    assert build(clone).returncode == 0 and calls(clone) == BUILT + GATE + BUILT
+
+
+@pytest.mark.parametrize("words", [["--gate"], []])
+def test_sources_that_change_meanwhile(clone: Path, words: list[str]) -> None:
+    ran = build(clone, *words, EDITS=str(clone / "crates/low/src/lib.rt"))
+    assert (ran.returncode, ran.stderr.splitlines()[-1]) == (1, "build: sources changed while they were proved; run it again")
+    assert not (clone / "crates/bonsai/out/bonsai").exists() and answer(clone).returncode == 8
+
+
+def test_two_builds_at_once_prove_once(clone: Path) -> None:
+    room = clone.parent
+    env = {"PATH": f"{room}/kit/bin:/usr/bin:/bin", "CALLS": str(room / "calls")}
+    both = [subprocess.Popen([clone / "build", *words], stdout=subprocess.DEVNULL, stderr=subprocess.DEVNULL, env=env) for words in ([], [])]
+    assert [one.wait() for one in both] == [0, 0]
+    assert calls(clone) == BUILT
+
+
+def test_the_gate_is_measured(clone: Path) -> None:
+    room = clone.parent
+    shutil.copytree(building.TOP / "tools", clone / "tools")
+    env = {"PATH": f"{room}/kit/bin:/usr/bin:/bin", "CALLS": str(room / "calls")}
+    ran = subprocess.run([clone / "tools/gate-times", "run"], capture_output=True, text=True, check=False, env=env)
+    assert ran.returncode == 0 and "\n  0:00 3 passed, 0 failed\n" in ran.stdout
+    again = subprocess.run([clone / "tools/gate-times", "table"], capture_output=True, text=True, check=True, env=env)
+    assert ran.stdout.endswith(again.stdout) and again.stdout.splitlines()[-1].startswith("rt ci: status 0, 0 minutes")
+    assert build(clone).stderr == "build: crates/bonsai/out/bonsai is proved already\n"
 
 
 @pytest.mark.parametrize("change", ["crates/low/src/lib.rt", "crates/bonsai/out/bonsai"])
@@ -168,7 +252,7 @@ def test_what_changed_is_built_again(clone: Path, change: str) -> None:
     build(clone)
     (clone / change).write_text("// other\n", "utf-8")
     assert build(clone).returncode == 0
-    assert (clone.parent / "calls").read_text("utf-8") == "rt\nrt\n"
+    assert calls(clone) == BUILT * 2
 
 
 def test_a_crate_that_the_program_does_not_use_is_left_alone(clone: Path) -> None:
@@ -178,7 +262,7 @@ def test_a_crate_that_the_program_does_not_use_is_left_alone(clone: Path) -> Non
 
 
 def test_a_crate_that_is_not_proved(clone: Path) -> None:
-    ran = build(clone, BROKEN="low")
+    ran = build(clone, BROKEN="low", SECONDS="60")
     lines = ran.stderr.splitlines()
     assert ran.returncode == 1 and not (clone / "crates/bonsai/out/bonsai").exists()
     assert lines[1].startswith("build: low: not proved, after ") and lines[1].endswith(f"; the log is {clone}/out/build.log")
@@ -191,6 +275,11 @@ def test_build_installs_and_packages(clone: Path) -> None:
     assert ran.returncode == 0
     assert (clone.parent / "prefix/lib/bonsai/version").read_text("utf-8").splitlines()[2] == "kit: kit-1 and more"
     assert [path.suffix for path in (clone.parent / "packages").iterdir()] == [".deb"]
+
+
+def test_the_gate_installs(clone: Path) -> None:
+    assert build(clone, "--gate", "--install", str(clone.parent / "prefix")).returncode == 0
+    assert calls(clone) == GATE and (clone.parent / "prefix/lib/bonsai/bonsai").is_file()
 
 
 def test_a_prefix_that_cannot_be_written(clone: Path) -> None:

@@ -2,12 +2,14 @@
 from __future__ import annotations
 
 import json
-import os
 import subprocess
 from pathlib import Path
 
+import pytest
+
 from roads.gate_times import table
 from roads.program import TOP
+from roads.proof_run import run_ci
 
 FIGURES = {
     "words": ["ci"],
@@ -18,7 +20,7 @@ FIGURES = {
     "edits": {"low": 1, "high": 3},
 }
 
-# What stands for the kit's rt: it starts a check of its own that takes two seconds of a processor, and fails.
+# What stands for the kit's rt: it starts a check of its own that takes some seconds of a processor, and fails.
 RT = """#!/bin/sh
 echo "words: $*"
 cp /bin/sh "$ROOM/rattle"
@@ -39,18 +41,17 @@ def test_the_table() -> None:
     assert lines[4].split()[-1] == "1.5" and lines[5].split()[-1] == "10.0"
 
 
-def test_a_run_is_measured(tmp_path: Path) -> None:
+def test_a_run_is_measured(tmp_path: Path, monkeypatch: pytest.MonkeyPatch) -> None:
     (tmp_path / "rt").write_text(RT, "utf-8")
     (tmp_path / "rt").chmod(0o755)
-    kept = tmp_path / "figures"
-    env = {**os.environ, "PATH": f"{tmp_path}:/usr/bin:/bin", "ROOM": str(tmp_path)}
-    ran = subprocess.run([TOP / "tools/gate-times", "run", "--keep", kept, "low"], capture_output=True, text=True, check=False, env=env)
-    assert ran.returncode == 1
-    assert ran.stdout.startswith("  0:00 words: ci low\n")
-    found = json.loads(kept.read_text("utf-8"))
+    monkeypatch.setenv("PATH", f"{tmp_path}:/usr/bin:/bin")
+    monkeypatch.setenv("ROOM", str(tmp_path))
+    lines: list[str] = []
+    ran = run_ci(tmp_path, 1, lines.append, is_whole=True)
+    found = json.loads(json.dumps(ran.figures()))
+    assert (ran.status, lines[0]) == (1, "words: ci\n")
     assert found["edits"] == {"low": 1} and 0 < found["crates"]["low"]["proof"] <= found["processor_seconds"]
-    again = subprocess.run([TOP / "tools/gate-times", "table", kept], capture_output=True, text=True, check=True)
-    assert ran.stdout.endswith(again.stdout)
+    assert table(found).splitlines()[1].split()[0] == "low"
 
 
 def test_what_are_no_figures() -> None:

@@ -1,6 +1,7 @@
 """The launcher `bonsai`: statuses, streams, and the unproved build that it keeps, by programs and a kit made for the test."""
 from __future__ import annotations
 
+import hashlib
 import os
 import re
 import shutil
@@ -199,8 +200,32 @@ def test_a_cache_that_cannot_be_written(clone: Path) -> None:
     assert b"XDG_CACHE_HOME" in ran.stderr and b"Traceback" not in ran.stderr
 
 
+def proved(clone: Path) -> Path:
+    """Puts a program where ./build puts it, with what it says about it."""
+    program = script(clone / "crates/bonsai/out/bonsai", '#!/bin/sh\necho "proved: $*"\n')
+    (clone / "crates/bonsai/out/bonsai.made").write_text(f"sources\n{hashlib.sha256(program.read_bytes()).hexdigest()}\nkit-1\n", "utf-8")
+    return program
+
+
 def test_the_proved_program_while_no_source_is_newer(clone: Path) -> None:
-    script(clone / "crates/bonsai/out/bonsai", '#!/bin/sh\necho "proved: $*"\n')
+    proved(clone)
     assert launch("classes", "F", at=clone, env=beside(clone)).stdout == b"proved: classes F\n"
     os.utime(clone / "crates/low/src/lib.rt", (time.time() + 9, time.time() + 9))
+    assert launch("classes", "F", at=clone, env=beside(clone)).stdout == b"words: classes F\n"
+
+
+def test_a_source_that_is_put_back_with_an_old_time(clone: Path) -> None:
+    program = proved(clone)
+    source, was = clone / "crates/low/src/lib.rt", os.stat(program).st_mtime - 9
+    time.sleep(0.05)
+    source.write_text("// other\n", "utf-8")
+    os.utime(source, (was, was))
+    assert launch("classes", "F", at=clone, env=beside(clone)).stdout == b"words: classes F\n"
+
+
+def test_a_program_that_build_has_not_made(clone: Path) -> None:
+    program = proved(clone)
+    script(program, '#!/bin/sh\necho "other: $*"\n')
+    assert launch("classes", "F", at=clone, env=beside(clone)).stdout == b"words: classes F\n"
+    proved(clone).with_name("bonsai.made").unlink()
     assert launch("classes", "F", at=clone, env=beside(clone)).stdout == b"words: classes F\n"
