@@ -20,7 +20,9 @@ def words() -> argparse.ArgumentParser:
     parser.add_argument("--seconds", type=float, default=20, help="how long (default 20)")
     parser.add_argument("--jobs", type=int, default=2, help="how many processes (default 2)")
     parser.add_argument("--commands", type=int, help="end when so many commands were asked")
+    parser.add_argument("--processor-seconds", type=float, help="end when the jobs and the program used so much, as on a machine that others use too")
     parser.add_argument("--first", action="store_true", help="end at the first difference")
+    parser.add_argument("--unshrunk", action="store_true", help="keep texts that differ as they were made, in place of the smallest that still differs")
     parser.add_argument("--seed", type=int, help="the seed, a number; the same seed makes the same texts in the same order")
     parser.add_argument("--keep", type=Path, default=Path("out/hostile"), help="the folder for texts that differ (default out/hostile)")
     parser.add_argument("--log", type=Path, help="a file that gets the counts as a line of JSON each minute and at the end, behind what it had")
@@ -42,7 +44,7 @@ def main(arguments: list[str] | None = None) -> int:
     seed = given.seed if given.seed is not None else int.from_bytes(os.urandom(3), "big")
     if given.text:
         return _alone(parser, given.text, seed)
-    plan = running.Plan(seed, given.seconds, given.jobs, given.keep, given.commands, given.first, given.answers)
+    plan = running.Plan(seed, given.seconds, given.jobs, given.keep, given.commands, given.first, given.answers, given.processor_seconds, given.unshrunk)
     print(f"seed {seed}", flush=True)
     with contextlib.ExitStack() as room:
         log = None

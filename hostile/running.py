@@ -50,6 +50,11 @@ class Found:
         self.differences += other.differences
 
     @property
+    def processor(self) -> float:
+        """The processor seconds of both."""
+        return self.own_seconds + self.program_seconds
+
+    @property
     def asked(self) -> int:
         """How many commands were asked."""
         return sum(self.counts.commands.values())
@@ -57,7 +62,8 @@ class Found:
 
 @dataclasses.dataclass(frozen=True)
 class Plan:
-    """What a run asks for: its seed, how long and by how many jobs, at most how many commands, whether the first difference ends it, and a file of answers."""
+    """What a run asks for: its seed, how long and by how many jobs, at most how many commands and processor seconds, whether the first difference ends it, a file
+    of answers, and whether texts that differ are kept as they were made."""
 
     seed: int
     seconds: float
@@ -66,6 +72,8 @@ class Plan:
     commands: int | None = None
     first: bool = False
     answers: Path | None = None
+    processor: float | None = None
+    unshrunk: bool = False
 
 
 def differences(program: Program, text: bytes, seed: int, counts: Counts) -> list[Difference]:
@@ -116,7 +124,7 @@ def part_of_job(plan: Plan, number: int, turn: int, seconds: float) -> tuple[Fou
         text = makers.made(random.Random(start))
         differ = differences(program, text, start, found.counts)
         found.runs += 1
-        found.differences += [_kept(program, text, start, difference, plan.folder) for difference in differ[:1]]
+        found.differences += [_kept(program, text, start, difference, plan) for difference in differ[:1]]
     found.own_seconds, found.program_seconds = (after - before for after, before in zip(_used(), used))
     return found, turn
 
@@ -127,8 +135,10 @@ def _used() -> tuple[float, float]:
     return tuple(part.ru_utime + part.ru_stime for part in parts)
 
 
-def _kept(program: Program, text: bytes, start: int, difference: Difference, folder: Path) -> str:
-    small = shrink.smallest(text, lambda smaller: still_differs(program, smaller, start, difference.command))
+def _kept(program: Program, text: bytes, start: int, difference: Difference, plan: Plan) -> str:
+    small, folder = text, plan.folder
+    if not plan.unshrunk:
+        small = shrink.smallest(text, lambda smaller: still_differs(program, smaller, start, difference.command))
     again = next((other for other in differences(program, small, start, Counts()) if other.command == difference.command), difference)
     folder.mkdir(parents=True, exist_ok=True)
     name = f"{difference.command}-{hashlib.sha256(small).hexdigest()[:12]}"
@@ -153,8 +163,7 @@ def run(plan: Plan, log: TextIO | None = None) -> tuple[Found, float]:
                     number = waiting.pop(one)
                     more, turn = one.result()
                     found.add(more)
-                    enough = (plan.first and found.differences) or (plan.commands is not None and found.asked >= plan.commands)
-                    if spent() < plan.seconds and not enough:
+                    if spent() < plan.seconds and not _is_enough(plan, found):
                         waiting[part(number, turn)] = number
                 if log and spent() - logged >= LOG_EVERY:
                     logged = spent()
@@ -164,6 +173,12 @@ def run(plan: Plan, log: TextIO | None = None) -> tuple[Found, float]:
     if log:
         print(line_of_log(found, spent()), file=log, flush=True)
     return found, spent()
+
+
+def _is_enough(plan: Plan, found: Found) -> bool:
+    is_asked = plan.commands is not None and found.asked >= plan.commands
+    is_used = plan.processor is not None and found.processor >= plan.processor
+    return is_asked or is_used or bool(plan.first and found.differences)
 
 
 def line_of_log(found: Found, seconds: float) -> str:

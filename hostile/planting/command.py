@@ -14,16 +14,19 @@ from collections.abc import Callable
 from pathlib import Path
 
 from hostile.asking import Asker
-from hostile.planting import copies, expecting, judge_faults
+from hostile.planting import copies, expecting, judge_faults, record
 from hostile.planting.copies import Unfit
 from hostile.planting.fault import Fault
 from hostile.planting.program_faults import FAULTS
 from roads.program import TOP
 
+WAITS = 20
+"""How many times longer than asked a run may take on a machine that others use too."""
+
 
 @dataclasses.dataclass(frozen=True)
 class Outcome:
-    """Whether a fault was found: at which command (empty: not), and behind how many texts and seconds."""
+    """Whether a fault was found: at which command (empty: not), and behind how many texts and processor seconds."""
 
     fault: Fault
     command: str
@@ -32,20 +35,20 @@ class Outcome:
 
     def row(self) -> str:
         """A line of the tables of hostile/README.md."""
-        found = f"`{self.command}`" if self.command else "**not found**"
-        return f"| {self.fault.layer} | {self.fault.means} | {found} | {self.texts:,} | {self.seconds:.0f} |"
+        return record.row(self.fault, self.command, self.texts, self.seconds)
 
 
 def outcome(fault: Fault, script: Path, program: Path, given: argparse.Namespace, *more: str) -> Outcome:
-    """A run that ends at its first difference."""
+    """A run that ends at its first difference, or when its jobs used the processor seconds that they are given."""
     keep = given.folder.resolve() / "differed" / fault.name
-    words = ["--seconds", str(given.seconds), "--jobs", str(given.jobs), "--seed", str(given.seed), "--first", "--keep", str(keep), *more]
-    ran = subprocess.run([str(script), *words], env={**os.environ, "BONSAI_PROGRAM": str(program.resolve())}, capture_output=True, text=True, check=False)
-    texts, seconds = re.search(r"runs (\d+)", ran.stdout), re.search(r"seconds ([\d.]+)", ran.stdout)
+    words = ["--seconds", str(WAITS * given.seconds), "--processor-seconds", str(given.jobs * given.seconds), "--jobs", str(given.jobs), "--seed", str(given.seed)]
+    environment = {**os.environ, "BONSAI_PROGRAM": str(program.resolve())}
+    ran = subprocess.run([str(script), *words, "--first", "--unshrunk", "--keep", str(keep), *more], env=environment, capture_output=True, text=True, check=False)
+    texts, seconds = re.search(r"runs (\d+)", ran.stdout), re.search(r"processor seconds ([\d.]+) here and ([\d.]+)", ran.stdout)
     if not texts or not seconds:
         raise Unfit(f"{fault.name}: {ran.stderr[-2000:]}")
     names = re.search(r"differences [1-9]\d*: (\S+)", ran.stdout)
-    return Outcome(fault, names[1].rpartition("-")[0] if names else "", int(texts[1]), float(seconds[1]))
+    return Outcome(fault, names[1].rpartition("-")[0] if names else "", int(texts[1]), float(seconds[1]) + float(seconds[2]))
 
 
 def of_program(fault: Fault, given: argparse.Namespace) -> Outcome | None:
@@ -82,7 +85,7 @@ def words(name: str, what: str, seconds: float) -> argparse.ArgumentParser:
     parser.add_argument("name", nargs="*", help="faults by their names; all without a name")
     parser.add_argument("--list", action="store_true", help="name the faults, and plant none")
     parser.add_argument("--side", type=int, default=1, help="how many faults are tried side by side (default 1)")
-    parser.add_argument("--seconds", type=float, default=seconds, help=f"how long each run may take (default {seconds:.0f})")
+    parser.add_argument("--seconds", type=float, default=seconds, help=f"how many processor seconds each process of a run may take (default {seconds:.0f})")
     parser.add_argument("--jobs", type=int, default=2, help="the processes of a run (default 2)")
     parser.add_argument("--seed", type=int, default=1, help="the seed of each run (default 1)")
     parser.add_argument("--folder", type=Path, default=Path("out") / name, help=f"where built copies, answers and what differed are kept (default out/{name})")
@@ -93,6 +96,7 @@ def plant(arguments: list[str] | None = None) -> int:
     """`hostile/plant`."""
     parser = words("plant", "copies of the program", 120)
     parser.add_argument("--build", action="store_true", help="build the copies, and run none")
+    parser.add_argument("--record", action="store_true", help="keep what was found in hostile/measured/planted.json, and write the table of hostile/README.md from it")
     return _all(parser, arguments, FAULTS, of_program)
 
 
@@ -129,4 +133,6 @@ def _all(parser: argparse.ArgumentParser, arguments: list[str] | None, faults: l
             if found:
                 missed += not found.command
                 print(found.row(), flush=True)
+                if getattr(given, "record", False):
+                    record.keep(fault=found.fault, command=found.command, texts=found.texts, seconds=found.seconds, seed=given.seed)
     return 1 if failed or missed > len(chosen) / 10 else 0

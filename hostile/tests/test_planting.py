@@ -7,7 +7,7 @@ from pathlib import Path
 
 import pytest
 
-from hostile.planting import copies, expecting, judge_faults, program_faults
+from hostile.planting import copies, expecting, judge_faults, program_faults, record
 from hostile.planting.fault import Fault
 from roads.program import TOP
 
@@ -57,3 +57,26 @@ def test_the_words_of_the_tools(tool: str, faults: list[Fault]) -> None:
     listed = subprocess.run([path, "--list"], capture_output=True, text=True, check=False)
     assert listed.returncode == 0 and [line.split()[0] for line in listed.stdout.splitlines()] == [fault.name for fault in faults]
     assert subprocess.run([path, "nothing"], capture_output=True, check=False).returncode == 2
+
+
+def test_outcomes_are_kept_and_told(tmp_path: Path) -> None:
+    """One more outcome has its line, and what is missed is named; what stands around the table stays."""
+    file, page = tmp_path / "planted.json", tmp_path / "page.md"
+    page.write_text(f"head\n{record.BEGIN}\nold\n{record.END}\ntail\n")
+    one, two = program_faults.FAULTS[:2]
+    for fault, command in ((two, ""), (one, "classes"), (one, "groups")):
+        record.keep(fault=fault, command=command, texts=1200, seconds=4.4, seed=1, file=file, page=page)
+    assert page.read_text().splitlines()[4:] == [
+        f"| {one.layer} | {one.means} | `groups` | 1,200 | 4 |",
+        f"| {two.layer} | {two.means} | **not found** | 1,200 | 4 |",
+        "",
+        f"Found: 1 of 2. Missed: {two.means}.",
+        record.END,
+        "tail",
+    ]
+
+
+def test_the_page_has_the_kept_outcomes() -> None:
+    """The table of hostile/README.md is the one of the file."""
+    told = record.PAGE.read_text("utf-8").partition(record.BEGIN)[2].partition(record.END)[0]
+    assert told.strip() == record.table(record.kept())

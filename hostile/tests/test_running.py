@@ -33,6 +33,13 @@ def test_a_run_ends_where_enough_was_asked(tmp_path: Path, monkeypatch: pytest.M
     assert {*runs[0].counts.commands} & {*runs[1].counts.commands}
 
 
+def test_a_run_ends_where_enough_processor_time_is_used(tmp_path: Path, monkeypatch: pytest.MonkeyPatch) -> None:
+    """Long before its seconds are over."""
+    monkeypatch.setattr(running, "SLICE", 0.1)
+    found, seconds = running.run(running.Plan(7, 600, 1, tmp_path, processor=0.05))
+    assert found.processor >= 0.05 and seconds < 300
+
+
 def test_a_reader_that_fails_is_told(monkeypatch: pytest.MonkeyPatch) -> None:
     """The text is kept as one that differs."""
     monkeypatch.setattr(answers, "classes", lambda net: 1 / 0)
@@ -58,6 +65,8 @@ def test_a_difference_ends_a_run_and_is_kept(tmp_path: Path, monkeypatch: pytest
     text, told = sorted((tmp_path / "kept").iterdir())
     assert (text.stem, told.stem) == (found.differences[0],) * 2 and text.read_bytes().count(b"\n") < 12
     seed = int(told.read_text().split()[1])
+    whole, _ = running.run(running.Plan(5, 120, 1, tmp_path / "whole", first=True, unshrunk=True))
+    assert len(next((tmp_path / "whole").glob("*.cfg")).read_bytes()) > len(text.read_bytes()) and whole.runs == found.runs
     assert running.still_differs(Turned(), text.read_bytes(), seed, "classes") and not running.still_differs(Asker(), text.read_bytes(), seed, "classes")
 
 
