@@ -3,6 +3,7 @@ from __future__ import annotations
 
 import collections
 import dataclasses
+import functools
 import os
 import select
 import signal
@@ -13,6 +14,8 @@ from roads.program import TOP, Answer, Program
 
 SECONDS = 60.0
 LARGEST_READ = 1 << 30
+ONE_ROUTER = b"hostname a\ninterface Vlan1\n ip address 10.0.0.1 255.255.255.0\nrouter ospf 1\n network 0.0.0.0 255.255.255.255 area 0\nend\n"
+USAGE = 2
 
 
 @dataclasses.dataclass
@@ -95,6 +98,12 @@ def _file(text: str | bytes) -> int:
 
 def _content(file: int) -> bytes:
     return os.pread(file, min(os.fstat(file).st_size, LARGEST_READ), 0)
+
+
+@functools.cache
+def has_canon(program: Program) -> bool:
+    """Whether the program has the command `canon`, which older ones do not have."""
+    return program.ask("canon", "F", "1", texts={"F": ONE_ROUTER}).status != USAGE
 
 
 class Asked:

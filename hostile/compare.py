@@ -5,8 +5,8 @@ import dataclasses
 import json
 import random
 
-from hostile.asking import Asked
-from hostile.judge import answers, certificates as judge, groups, labels, problem
+from hostile.asking import Asked, has_canon
+from hostile.judge import answers, canonical, certificates as judge, groups, labels, problem
 from hostile.judge.network import Refused
 from hostile.makers import certificates, labels as maker, solutions
 from roads.program import Answer
@@ -77,6 +77,8 @@ class Comparison:
         self._same("report", self._ask("report", word), answers.Expected(0, out=answers.report(net, number)))
         self._json(net, number, whole, parts)
         self._compress(net, number)
+        if has_canon(self.asked.program):
+            self._canon(net, number, whole)
         self._certificate(word, whole)
         self._labels(net, word, whole, parts)
 
@@ -100,6 +102,15 @@ class Comparison:
             self._same("compress", answer, answers.Expected(1, f"refused: line {line}: PoolOverlap", ""))
         elif answer.status or (fault := answers.compress_fault(net, number, answer.out)):
             self._differ("compress", "a compressed network" if answer.status else fault, answer)
+
+    def _canon(self, net: problem.Network, number: int, whole: problem.Problem) -> None:
+        answer, line = self._ask("canon", str(number)), answers.pool_line(net, number)
+        refusals = canonical.refusals(whole) or ([] if line is None else [f"refused: line {line}: PoolOverlap"])
+        if refusals:
+            if (answer.status, answer.out) != (1, b"") or answer.reason not in refusals:
+                self._differ("canon", " or ".join(refusals), answer)
+        elif answer.status or (fault := canonical.canon_fault(net, number, answer.out)):
+            self._differ("canon", "a compressed network with canonical lists" if answer.status else fault, answer)
 
     def _certificate(self, word: str, whole: problem.Problem) -> None:
         made = self._ask("certify", word)

@@ -10,6 +10,7 @@ import subprocess
 from collections.abc import Iterator
 from pathlib import Path
 
+from hostile.asking import has_canon
 from roads.native import program_file
 from roads.program import Program
 
@@ -74,7 +75,8 @@ def commands(texts: list[str], folder: Path) -> Iterator[tuple[str, ...]]:
         Path(names["below"]).write_text(program.done("fold", text, "1", names["above"]))
         Path(names["certificate"]).write_text(program.done("certify", text, "1"))
         yield from ((word, text) for word in ("classes", "summary"))
-        yield from ((word, text, "1") for word in ("groups", "compress", "report", "json", "certify"))
+        more = ("canon",) if has_canon(program) else ()
+        yield from ((word, text, "1") for word in ("groups", "compress", "report", "json", "certify", *more))
         yield from ((word, text, "1", names["above"]) for word in ("check", "fold", "reach"))
         yield from [("lift", text, "1", names["below"]), ("run", text, "1", names["rounds"]), ("verify", text, "1", names["certificate"])]
     yield "trial", "4"

@@ -6,6 +6,8 @@ import random
 import pytest
 
 from hostile import permutations
+from hostile.judge import answers, problem
+from hostile.makers import networks
 
 NAMES = ["a", "b", "c"]
 TEXT = "".join(
@@ -48,3 +50,23 @@ def test_numbers_are_exchanged_wherever_they_stand() -> None:
     numbers = [line.split()[2] for line in text.decode().splitlines() if line.startswith("router bgp")]
     peers = {line.split()[3] for line in text.decode().splitlines() if "remote-as" in line}
     assert sorted(numbers) == ["65001", "65002", "65003"] and peers == {numbers[0]}
+
+
+@pytest.mark.parametrize("seed", range(25))
+def test_policies_written_otherwise_do_the_same(seed: int) -> None:
+    """The second reader finds the same classes and the same acts."""
+    text = networks.text(random.Random(seed)).encode()
+    whole, other = answers.read(text), answers.read(permutations.rewritten(random.Random(seed), text))
+    if isinstance(whole, answers.Expected) or answers.has_many_communities(whole):
+        return
+    assert not isinstance(other, answers.Expected) and answers.classes(other) == answers.classes(whole)
+    for one, two in zip(whole.classes, other.classes):
+        assert problem.problem(whole, one).edges == problem.problem(other, two).edges
+
+
+def test_what_is_written_otherwise() -> None:
+    """Names, the order of words, an entry in two parts, lines that never decide."""
+    text = b"\n".join([b"hostname a", b"router bgp 1", b" neighbor 10.0.0.1 remote-as 2", b" neighbor 10.0.0.1 route-map M in", b"ip community-list standard A permit 1:1 1:2",
+                       b"ip community-list standard B permit 1:3", b"route-map M permit 10", b" match community A B", b"end", b""])
+    found = b"".join(permutations.rewritten(random.Random(seed), text) for seed in range(9))
+    assert b"route-map M-" in found and b" permit 1:2 1:1\n" in found and b" permit 11\n" in found and b" deny 65535\n" in found and b" deny 1:3\n" in found
