@@ -50,9 +50,10 @@ def measured(case: Case, folder: Path) -> Measured:
         subprocess.run([*watch, program_file(), *words], stdout=out, stderr=err, check=True)
     status, processor, seconds, memory = (folder / "used").read_text().split()
     reason = (folder / "err").read_text().strip()
-    lines = (folder / "out").read_bytes().count(b"\n")
-    told = (int(status), reason, lines if case.lines is not None else None)
-    wrong = "" if told == (case.status, case.reason, case.lines) else f"status {status} {reason} {lines} lines"
+    out = (folder / "out").read_bytes()
+    lines, size = out.count(b"\n"), len(out)
+    told = (int(status), reason, lines if case.lines is not None else None, size if case.size is not None else None)
+    wrong = "" if told == (case.status, case.reason, case.lines, case.size) else f"status {status} {reason} {lines} lines {size} bytes"
     return Measured(case, wrong, float(processor), float(seconds), float(memory))
 
 

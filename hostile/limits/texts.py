@@ -4,14 +4,14 @@ from __future__ import annotations
 import dataclasses
 from collections.abc import Callable, Iterator
 
-from hostile.limits import collisions
+from hostile.limits import collisions, outputs
 
 TOO_LONG = "refused: FileTooLong"
 
 
 @dataclasses.dataclass(frozen=True)
 class Case:
-    """A command over a text F, and S where it has one: its status, its line on standard error, and how many lines it writes.
+    """A command over a text F, and S where it has one: its status, its line on standard error, and how many lines and bytes it writes.
 
     `memory` bounds the address space of the command, in KiB."""
 
@@ -23,6 +23,7 @@ class Case:
     lines: int | None = None
     second: Callable[[], bytes] | None = None
     memory: int | None = None
+    size: int | None = None
 
 
 def joined(lines: list[str]) -> bytes:
@@ -96,6 +97,11 @@ def cases() -> Iterator[Case]:
     certificate = b"bonsai certificate 1\ngroup a\nend\n"
     yield Case("certificate bytes", ("verify", "F", "1", "S"), lambda: ONE, 0, "", 1, lambda: padded(certificate, 16_777_216))
     yield Case("certificate bytes and 1", ("verify", "F", "1", "S"), lambda: ONE, 1, "refused: certificate FileTooLong", 0, lambda: padded(certificate, 16_777_217))
+    compress = ("compress", "F", "1")
+    yield Case("bytes of an output", compress, lambda: outputs.exact_bytes(0), size=outputs.BYTES)
+    yield Case("bytes of an output and 1", compress, lambda: outputs.exact_bytes(1), 1, "refused: OutputTooLong", 0)
+    yield Case("lines of an output", compress, lambda: outputs.exact_lines(0), lines=outputs.LINES)
+    yield Case("lines of an output and 1", compress, lambda: outputs.exact_lines(1), 1, "refused: OutputTooLong", 0)
     yield Case("fat tree", ("trial", "20"), lambda: b"", 0, "", 200)
     yield Case("fat tree and 2", ("trial", "22"), lambda: b"", 1, "refused: BadSize 22", 0)
 

@@ -1,11 +1,12 @@
 """Copies of the program, built without proofs, and of the second reader, each with a fault planted."""
 from __future__ import annotations
 
-import os
+import importlib.machinery
+import importlib.util
 import shutil
-import subprocess
 import tempfile
 from pathlib import Path
+from types import ModuleType
 
 from hostile.planting.fault import Fault
 from roads.program import TOP
@@ -23,24 +24,40 @@ def planted(fault: Fault, source: Path) -> None:
     source.write_text(text.replace(fault.right, fault.wrong))
 
 
-def program(fault: Fault, folder: Path) -> Path:
-    """The program with a fault of its sources, kept in a folder and built where it is not there."""
-    kept = folder / fault.name
+CLANG = '#!/bin/sh\nfor word do\n    shift\n    case $word in -O0) word=-O1 ;; -fsanitize=*) continue ;; esac\n    set -- "$@" "$word"\ndone\nexec %s/clang "$@"\n'
+LINKER = '#!/bin/sh\nfor word do\n    shift\n    case $word in */asan.a) continue ;; esac\n    set -- "$@" "$word"\ndone\n%s/ld.lld "$@" || exit\n[ ! -f program ] || cp program %s\n'
+"""In the place of the launcher's: without the checks of memory, by which an answer takes six times as long, and which have an allocator of their own."""
+
+
+def launcher_of(folder: Path) -> ModuleType:
+    """The launcher of a copy of the sources, which builds without checks of memory."""
+    loader = importlib.machinery.SourceFileLoader("launcher_of_a_copy", str(folder / "bonsai"))
+    made = importlib.util.module_from_spec(importlib.util.spec_from_loader(loader.name, loader))
+    loader.exec_module(made)
+    made.CLANG, made.LINKER = CLANG, LINKER
+    return made
+
+
+def program(fault: Fault | None, folder: Path) -> Path:
+    """The program with a fault of its sources, or without one, kept in a folder and built where it is not there."""
+    kept = folder.resolve() / (fault.name if fault else "as-it-is")
     if kept.is_file():
         return kept
     folder.mkdir(parents=True, exist_ok=True)
     with tempfile.TemporaryDirectory(prefix="planted-") as name:
-        room = Path(name)
+        room = Path(name).resolve()
         shutil.copytree(TOP / "crates", room / "crates", ignore=shutil.ignore_patterns("out", "target"))
         for file in ("bonsai", "crates.txt"):
             shutil.copy2(TOP / file, room / file)
-        planted(fault, room / "crates" / fault.file)
-        own = {key: value for key, value in os.environ.items() if key != "BONSAI_PROGRAM"}
-        ran = subprocess.run([str(room / "bonsai"), "trial", "5"], env={**own, "XDG_CACHE_HOME": str(room / "cache")}, capture_output=True, text=True, check=False)
-        made = sorted((room / "cache" / "bonsai").glob("unproved-*"))
-        if not made:
-            raise Unfit(f"{fault.name}: it is not built\n{ran.stderr[-3000:]}")
-        shutil.move(made[0], kept)
+        if fault:
+            planted(fault, room / "crates" / fault.file)
+        launcher = launcher_of(room)
+        if not launcher.kit():
+            raise Unfit("the command rt of the Rattle kit is not on the path")
+        try:
+            launcher.build_unproved(str(kept))
+        except launcher.NoProgram as why:
+            raise Unfit(f"{kept.name}: {why}") from why
     return kept
 
 
