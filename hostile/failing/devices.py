@@ -90,6 +90,43 @@ def dangling(folder: Path) -> End:
     return end(["classes", str(folder / "link")])
 
 
+def second_directory(folder: Path) -> End:
+    """S is a directory."""
+    return end(["check", FABRIC, "1", str(folder)])
+
+
+def growing(folder: Path) -> End:
+    """F gets more comments for as long as it is read, at most 8 MiB of them."""
+    file, stop = folder / "growing.cfg", threading.Event()
+    file.write_bytes(Path(FABRIC).read_bytes())
+
+    def grow() -> None:
+        with file.open("ab", buffering=0) as more:
+            for _ in range(1 << 13):
+                if stop.is_set():
+                    break
+                more.write(b"! more\n" * 146 + b"!\n")
+
+    writer = threading.Thread(target=grow, daemon=True)
+    writer.start()
+    found = end(["classes", str(file)])
+    stop.set()
+    writer.join(10)
+    return found
+
+
+def removed(folder: Path) -> End:
+    """F is removed when it is begun: the name is gone, and what it holds can still be read."""
+    text = Path(FABRIC).read_bytes()
+
+    def feed(place: int) -> None:
+        os.write(place, text[:100])
+        (folder / "fifo").unlink()
+        os.write(place, text[100:])
+
+    return _fed(folder, lambda name: ["classes", name], feed)
+
+
 def own_memory() -> End:
     """F can be begun and not be read: the memory of a process, of which the first byte is not there."""
     return end(["classes", "/proc/self/mem"])

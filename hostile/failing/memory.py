@@ -4,15 +4,23 @@ Where memory runs out before the program has its words, status 5 comes without a
 that are is counted over as many words that are no command."""
 from __future__ import annotations
 
+import argparse
+import concurrent.futures
 import dataclasses
 import os
+import random
 import subprocess
+import tempfile
 from collections.abc import Iterator
 from pathlib import Path
 
 from hostile.asking import has_canon
+from hostile.judge import answers
+from hostile.makers import networks as makers
+from hostile.makers.shapes import shape
+from roads.command_line import Refused
 from roads.native import program_file
-from roads.program import Program
+from roads.program import TOP, Program
 
 SOURCE = Path(__file__).with_name("refuse.c")
 OUT_OF_MEMORY = (5, b"", b"out of memory\n")
@@ -45,10 +53,13 @@ def _run(words: tuple[str, ...], library: Path, **more: str) -> tuple[int, bytes
 
 
 def count(words: tuple[str, ...], library: Path, folder: Path) -> tuple[int, tuple[int, bytes, bytes]]:
-    """How many allocations a command makes, and its answer."""
+    """How many allocations a command makes, and its answer. Refused where there is none, since a build with checks of memory has an allocator of its own."""
     file = folder / "count"
     answer = _run(words, library, COUNT_TO=str(file))
-    return int(file.read_text()), answer
+    found = int(file.read_text())
+    if not found:
+        raise Refused(f"{program_file()}: has an allocator of its own: take the proved program, or `hostile/plant --as-it-is`")
+    return found, answer
 
 
 def wrong(words: tuple[str, ...], library: Path, folder: Path, most: int | None = None) -> Iterator[Wrong]:
@@ -63,6 +74,31 @@ def wrong(words: tuple[str, ...], library: Path, folder: Path, most: int | None 
             ended = _run(words, library, FAIL_AT=str(place), **more)
             if ended not in (plain, OUT_OF_MEMORY) and not (ended == BEFORE_WORDS and place <= before):
                 yield Wrong(words, place, bool(more), *ended)
+
+
+def networks(folder: Path, each: int = 4) -> list[str]:
+    """Files of networks of either protocol: an example, and for the rest small ones by chance, which have a class that `compress` takes."""
+    inputs = TOP / "examples" / "inputs"
+    found = [str(inputs / "fabric.cfg"), str(inputs / "campus.cfg")]
+    for write in (makers.bgp, makers.ospf):
+        seed, made = 0, 1
+        while made < each:
+            seed += 1
+            chance = random.Random(seed)
+            text = write(chance, shape(chance)).encode()
+            net = answers.read(text)
+            if isinstance(net, answers.Expected) or not net.classes or not net.links or answers.has_many_communities(net):
+                continue
+            file = folder / f"{write.__name__}-{made}.cfg"
+            file.write_bytes(text)
+            if Program().ask("check", str(file), "1", "S", texts={"S": _rest(str(file))}).out == b"stable\n":
+                found.append(str(file))
+                made += 1
+    return found
+
+
+def _rest(text: str) -> str:
+    return Program().ask("run", text, "1", "S", texts={"S": "*\n" * 9}).text.partition("\n")[2]
 
 
 def commands(texts: list[str], folder: Path) -> Iterator[tuple[str, ...]]:
@@ -80,3 +116,34 @@ def commands(texts: list[str], folder: Path) -> Iterator[tuple[str, ...]]:
         yield from ((word, text, "1", names["above"]) for word in ("check", "fold", "reach"))
         yield from [("lift", text, "1", names["below"]), ("run", text, "1", names["rounds"]), ("verify", text, "1", names["certificate"])]
     yield "trial", "4"
+
+
+def main(arguments: list[str] | None = None) -> int:
+    """`hostile/failing/measure`: each allocation of each command; status 1 where a run ended otherwise."""
+    parser = argparse.ArgumentParser(prog="hostile/failing/measure", description="Let each allocation of each command fail, alone and with all behind it.")
+    parser.add_argument("--networks", type=int, default=4, help="how many networks of either protocol (default 4)")
+    parser.add_argument("--most", type=int, help="at most so many allocations of a command, spread evenly")
+    parser.add_argument("--jobs", type=int, default=2, help="how many commands are tried side by side (default 2)")
+    given = parser.parse_args(arguments)
+    with tempfile.TemporaryDirectory() as name, concurrent.futures.ThreadPoolExecutor(given.jobs) as pool:
+        folder = Path(name)
+        library = allocator(folder)
+        try:
+            count(("trial", "4"), library, folder)
+        except Refused as why:
+            parser.exit(1, f"hostile/failing/measure: {why}\n")
+        asked = list(commands(networks(folder, given.networks), folder))
+
+        def tried(number: int) -> tuple[int, list[Wrong]]:
+            room = folder / str(number)
+            room.mkdir()
+            total, _ = count(asked[number], library, room)
+            step = 1 if given.most is None else max(1, total // given.most)
+            return 2 * len(range(1, total + 1, step)), list(wrong(asked[number], library, room, given.most))
+
+        runs, found = 0, []
+        for more, bad in pool.map(tried, range(len(asked))):
+            runs += more
+            found += bad
+    print(f"commands {len(asked)}, runs {runs}, other ends {len(found)}", *found, sep="\n")
+    return 1 if found else 0

@@ -96,8 +96,17 @@ def plant(arguments: list[str] | None = None) -> int:
     """`hostile/plant`."""
     parser = words("plant", "copies of the program", 120)
     parser.add_argument("--build", action="store_true", help="build the copies, and run none")
+    parser.add_argument("--as-it-is", action="store_true", help="build a copy without a fault, and write where it is: for `BONSAI_PROGRAM` of hostile/failing and hostile/limits")
     parser.add_argument("--record", action="store_true", help="keep what was found in hostile/measured/planted.json, and write the table of hostile/README.md from it")
-    return _all(parser, arguments, FAULTS, of_program)
+    given = parser.parse_args(arguments)
+    if not given.as_it_is:
+        return _all(parser, arguments, FAULTS, of_program)
+    try:
+        print(copies.program(None, given.folder))
+        return 0
+    except Unfit as why:
+        print(f"{parser.prog}: {why}", file=sys.stderr)
+        return 1
 
 
 def sensitivity(arguments: list[str] | None = None) -> int:

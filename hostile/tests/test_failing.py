@@ -12,7 +12,6 @@ import pytest
 from hostile.failing import devices, memory
 from roads.command_line import Refused
 from roads.native import program_file
-from roads.program import TOP
 
 FAULT = (4, b"", b"write fault\n")
 
@@ -43,7 +42,7 @@ def test_a_reader_of_single_bytes() -> None:
     assert devices.slow_reader() == (0, devices.plain(), b"")
 
 
-@pytest.mark.parametrize("fault", [devices.directory, devices.vanished, devices.second_vanished, devices.dangling])
+@pytest.mark.parametrize("fault", [devices.directory, devices.second_directory, devices.vanished, devices.second_vanished, devices.dangling])
 def test_a_file_that_cannot_be_read(fault, tmp_path: Path) -> None:
     """Status 3, and the name."""
     status, out, err = fault(tmp_path)
@@ -68,6 +67,12 @@ def test_files_without_end_or_content() -> None:
     assert devices.empty() == (0, b"", b"")
 
 
+@pytest.mark.parametrize("fault", [devices.growing, devices.removed])
+def test_a_file_that_changes_while_it_is_read(fault, tmp_path: Path) -> None:
+    """The answer is that of what was read: more comments change nothing, and a file without a name has its content."""
+    assert fault(tmp_path) == devices.end(["classes", devices.FABRIC])
+
+
 def test_a_fifo_that_ends_early(tmp_path: Path) -> None:
     """What came is read: the broken line decides."""
     status, out, err = devices.early_fifo(tmp_path)
@@ -85,16 +90,6 @@ def test_a_signal_ends_it_without_output(number: int, tmp_path: Path) -> None:
     assert devices.ended_by(number, tmp_path) == (-number, b"")
 
 
-@pytest.mark.skipif(shutil.which("gcc") is None, reason="no gcc here")
-def test_memory_that_fails_in_turn(tmp_path: Path) -> None:
-    """Each command on a network of either protocol: `out of memory`, or as without the fault."""
-    library, inputs = memory.allocator(tmp_path), TOP / "examples" / "inputs"
-    fabric, campus, rounds = str(inputs / "fabric.cfg"), str(inputs / "campus.cfg"), tmp_path / "rounds"
-    rounds.write_text("*\n" * 9)
-    wrong = [one for words in memory.commands([fabric, campus], tmp_path) for one in memory.wrong(words, library, tmp_path, 40)]
-    assert not wrong
-
-
 def _is_unproved() -> bool:
     try:
         return "unproved" in Path(program_file()).name
@@ -102,7 +97,30 @@ def _is_unproved() -> bool:
         return True
 
 
-@pytest.mark.skipif(_is_unproved(), reason="an unproved build reserves address space for its checks: short memory is not tried")
+CHECKED = "an unproved build has an allocator of its own and reserves address space for its checks: memory is not tried"
+
+
+@pytest.mark.skipif(shutil.which("gcc") is None, reason="no gcc here")
+@pytest.mark.skipif(_is_unproved(), reason=CHECKED)
+def test_memory_that_fails_in_turn(tmp_path: Path) -> None:
+    """Each command on four networks of either protocol: `out of memory`, or as without the fault. `hostile/failing/measure` tries each allocation."""
+    library = memory.allocator(tmp_path)
+    wrong = [one for words in memory.commands(memory.networks(tmp_path), tmp_path) for one in memory.wrong(words, library, tmp_path, 8)]
+    assert not wrong
+
+
+@pytest.mark.skipif(shutil.which("gcc") is None, reason="no gcc here")
+def test_a_program_whose_memory_cannot_fail(tmp_path: Path, monkeypatch: pytest.MonkeyPatch) -> None:
+    """Refused, and nothing is said to have been tried."""
+    script = tmp_path / "program"
+    script.write_text("#!/bin/sh\necho 0 > \"$COUNT_TO\"\n")
+    script.chmod(0o755)
+    monkeypatch.setattr(memory, "program_file", lambda: str(script))
+    with pytest.raises(Refused):
+        memory.count(("classes", "F"), Path("/dev/null"), tmp_path)
+
+
+@pytest.mark.skipif(_is_unproved(), reason=CHECKED)
 def test_memory_that_is_short() -> None:
     """Under a limit of the address space, from 8 MB up, it ends with `out of memory` or with the answer."""
     for size in (8000, 12_000, 20_000):
