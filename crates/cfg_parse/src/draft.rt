@@ -3,14 +3,13 @@
 ghost use Rattle.std.specs.Prelude.{◌≡◌, OnOk};
 ghost use Rattle.cfg_ast.specs.text.Reading.{no_draft, at_start, with_closed};
 
-use crate::bgp::BgpDraft;
 use crate::community_lists::CommunityLists;
 use crate::interfaces::Interfaces;
-use crate::ospf::OspfDraft;
 use crate::prefix_lists::PrefixLists;
 use crate::route_maps::RouteMaps;
 use base_kit::{List, NoMemory, Text};
 use cfg_ast::{BgpProcess, Interface, MapEntry, Named, OspfProcess, Router};
+use cfg_stanzas::{BgpDraft, OspfDraft};
 use std::alloc::Global;
 use std::marker::Model;
 

@@ -7,19 +7,11 @@
 //! `read_members` gives the names on the member lines of a text, which reading a network skips.
 #![tactic(auto)]
 
-mod areas;
-mod bgp;
 mod community_lists;
 mod draft;
 mod end_line;
-mod entry;
-mod interface;
 mod interfaces;
 mod members;
-mod names;
-mod neighbors;
-mod networks;
-mod ospf;
 mod policy;
 mod prefix_lists;
 mod reading;

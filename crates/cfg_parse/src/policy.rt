@@ -5,13 +5,13 @@ ghost use Rattle.std.specs.List.{AllByRecursion};
 ghost use Rattle.cfg_ast.specs.text.Lines.{IsWordIn, texts, text_of};
 ghost use Rattle.cfg_ast.specs.text.PolicyLines.{is_policy_line, is_list_word, with_community_line};
 ghost use Rattle.cfg_ast.specs.text.Reading.{add_prefix_entry, open_entry, take_policy};
-ghost use Rattle.cfg_parse.specs.Open.{Changes};
+ghost use Rattle.cfg_stanzas.specs.Changes.{Changes};
 
 use crate::draft::{Draft, Open};
-use crate::stanza::repeated;
 use crate::top::ignore;
 use base_kit::{NoMemory, Text};
 use cfg_ast::{CommunityLine, MapEntry, PolicyItem, PrefixEntry, ReadRefusal, Span};
+use cfg_stanzas::repeated;
 use std::alloc::Global;
 
 fn is_route_map(bytes: &[u8], word: &Span) -> bool

@@ -5,16 +5,17 @@ ghost use Rattle.cfg_ast.specs.text.Answers.{Gives};
 ghost use Rattle.cfg_ast.specs.text.Lines.{IsLineIn, lines_of};
 ghost use Rattle.cfg_ast.specs.text.TextLines.{text_line};
 ghost use Rattle.cfg_ast.specs.text.Reading.{at_start, step_policy, step_router, step_top, step_inner, step, end_at, network_of_lines, network_of_text};
-ghost use Rattle.cfg_parse.specs.Open.{Changes};
+ghost use Rattle.cfg_stanzas.specs.Changes.{Changes};
 ghost use Rattle.cfg_parse.specs.Rest.{answer_of, state_after};
 
 use crate::draft::{State, at_start, close};
 use crate::end_line::is_end_line;
 use crate::policy::{is_policy_line, take_policy};
-use crate::stanza::{policy_said_in, said_in, take_inner};
+use crate::stanza::take_inner;
 use crate::top::take_top;
 use cfg_ast::{Kind, Line, Network, PolicyScope, ReadRefusal, Scope};
 use cfg_lex::{Place, line_from, sound};
+use cfg_stanzas::{policy_said_in, said_in};
 use std::alloc::Global;
 
 #[tactic(auto, unfolding(cfg_ast::specs::text::Reading::step_router))]

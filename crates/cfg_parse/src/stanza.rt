@@ -1,120 +1,17 @@
-//! A line inside a stanza, and its faults.
+//! A line inside a stanza.
 
-ghost use Rattle.std.specs.Prelude.{◌≡◌};
-ghost use Rattle.cfg_ast.specs.text.Answers.{Gives};
-ghost use Rattle.cfg_ast.specs.text.Lines.{IsLineIn, texts};
+ghost use Rattle.cfg_ast.specs.text.Lines.{IsLineIn};
 ghost use Rattle.cfg_ast.specs.text.TextLines.{text_line};
-ghost use Rattle.cfg_ast.specs.text.PolicyForms.{policy_item_of};
-ghost use Rattle.cfg_ast.specs.text.RouterForms.{router_item_of};
 ghost use Rattle.cfg_ast.specs.text.Reading.{take_inner};
-ghost use Rattle.cfg_ast.specs.text.Stanzas.{once, said_at};
-ghost use Rattle.cfg_parse.specs.Open.{Changes, stanza_of};
-ghost use Rattle.cfg_ast.specs.declared.refusal.ReadRefusal.TheVariants.{At};
-ghost use Rattle.cfg_ast.specs.declared.refusal.Kind.TheVariants.{Misplaced, Repeated};
+ghost use Rattle.cfg_parse.specs.Open.{stanza_of};
+ghost use Rattle.cfg_stanzas.specs.Changes.{Changes};
 
-use crate::bgp::set_bgp;
 use crate::draft::Open;
-use crate::entry::set_entry;
-use crate::interface::set_interface;
-use crate::ospf::set_ospf;
-use cfg_ast::{FormFault, Kind, Line, PolicyItem, PolicyScope, ReadRefusal, RouterItem, Scope};
-use cfg_forms_policy::policy_item;
-use cfg_forms_router::router_item;
+use cfg_ast::{Line, PolicyScope, ReadRefusal, Scope};
+use cfg_stanzas::{
+    misplaced, policy_said_in, said_in, set_bgp, set_entry, set_interface, set_ospf,
+};
 use std::alloc::Global;
-
-/// The fault of a line whose value may stand once, if it is given already.
-pub(crate) fn once(number: u32, is_given: bool) -> Result<(), ReadRefusal>
-    ensures { result ≡ once number is_given tt }
-{
-    if is_given {
-        return Err(repeated(number));
-    }
-    Ok(())
-}
-
-pub(crate) fn repeated(number: u32) -> ReadRefusal
-    ensures { result ≡ At number Repeated }
-{
-    ReadRefusal::At {
-        line: number,
-        kind: Kind::Repeated,
-    }
-}
-
-pub(crate) fn misplaced(number: u32) -> ReadRefusal
-    ensures { result ≡ At number Misplaced }
-{
-    ReadRefusal::At {
-        line: number,
-        kind: Kind::Misplaced,
-    }
-}
-
-/// What a router line says, or its fault at its line.
-pub(crate) fn said_in(
-    alloc: Global,
-    bytes: &[u8],
-    line: &Line,
-    scope: Scope,
-) -> Result<RouterItem, ReadRefusal>
-    requires { IsLineIn bytes.now line.now }
-    ensures { Gives result (said_at line.now.number (router_item_of scope line.now.number (texts bytes.now line.now.words))) }
-{
-    let number = line.number;
-    match router_item(alloc, bytes, line, scope) {
-        Ok(item) => Ok(item),
-        Err(FormFault::UnknownLine) => Err(ReadRefusal::At {
-            line: number,
-            kind: Kind::UnknownLine,
-        }),
-        Err(FormFault::Unsupported) => Err(ReadRefusal::At {
-            line: number,
-            kind: Kind::Unsupported,
-        }),
-        Err(FormFault::BadForm) => Err(ReadRefusal::At {
-            line: number,
-            kind: Kind::BadForm,
-        }),
-        Err(FormFault::WellKnown) => Err(ReadRefusal::At {
-            line: number,
-            kind: Kind::WellKnown,
-        }),
-        Err(FormFault::Memory) => Err(ReadRefusal::Memory),
-    }
-}
-
-/// What a line of a list or a route map says, or its fault at its line.
-pub(crate) fn policy_said_in(
-    alloc: Global,
-    bytes: &[u8],
-    line: &Line,
-    scope: PolicyScope,
-) -> Result<PolicyItem, ReadRefusal>
-    requires { IsLineIn bytes.now line.now }
-    ensures { Gives result (said_at line.now.number (policy_item_of scope line.now.number (texts bytes.now line.now.words))) }
-{
-    let number = line.number;
-    match policy_item(alloc, bytes, line, scope) {
-        Ok(item) => Ok(item),
-        Err(FormFault::UnknownLine) => Err(ReadRefusal::At {
-            line: number,
-            kind: Kind::UnknownLine,
-        }),
-        Err(FormFault::Unsupported) => Err(ReadRefusal::At {
-            line: number,
-            kind: Kind::Unsupported,
-        }),
-        Err(FormFault::BadForm) => Err(ReadRefusal::At {
-            line: number,
-            kind: Kind::BadForm,
-        }),
-        Err(FormFault::WellKnown) => Err(ReadRefusal::At {
-            line: number,
-            kind: Kind::WellKnown,
-        }),
-        Err(FormFault::Memory) => Err(ReadRefusal::Memory),
-    }
-}
 
 /// Adds to the open stanza what one of its lines says.
 #[tactic(auto, unfolding(cfg_ast::specs::text::Reading::take_inner))]

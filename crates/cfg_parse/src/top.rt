@@ -4,19 +4,17 @@ ghost use Rattle.std.specs.Prelude.{◌≡◌, IfOk};
 ghost use Rattle.cfg_ast.specs.text.Answers.{Gives};
 ghost use Rattle.cfg_ast.specs.text.Stanzas.{once};
 ghost use Rattle.cfg_ast.specs.text.Reading.{new_interface, take_hostname, open_interface, open_bgp, open_ospf, ignored, router_of, end_router, ends_router, take_line, take_top};
-ghost use Rattle.cfg_parse.specs.Open.{Changes};
+ghost use Rattle.cfg_stanzas.specs.Changes.{Changes};
 
-use crate::bgp::BgpDraft;
 use crate::community_lists::CommunityLists;
 use crate::draft::{Draft, Open, State, no_draft};
-use crate::ospf::OspfDraft;
 use crate::prefix_lists::PrefixLists;
 use crate::route_maps::RouteMaps;
-use crate::stanza::{once, repeated};
 use base_kit::{List, NoMemory, Text};
 use cfg_ast::{
     CommunityList, Interface, Kind, Named, PrefixList, ReadRefusal, RouteMap, Router, RouterItem,
 };
+use cfg_stanzas::{BgpDraft, OspfDraft, once, repeated};
 use std::alloc::Global;
 
 fn new_interface(number: u32, name: Text) -> Interface

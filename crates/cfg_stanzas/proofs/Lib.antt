@@ -1,0 +1,2 @@
+mod ChangedNeighbors
+mod Indexed

@@ -1,0 +1,78 @@
+//! The lines of an entry of a route map, taken one by one.
+
+ghost use Rattle.cfg_ast.specs.text.PolicyLines.{set_prefixes, set_comms, set_lp, set_change, set_delete, set_prepend, set_entry};
+ghost use Rattle.cfg_stanzas.specs.Changes.{Changes};
+
+use crate::faults::once;
+use cfg_ast::{Change, MapEntry, NameLine, Named, PolicyItem, Prepend, ReadRefusal};
+
+fn set_prefixes(number: u32, names: NameLine, entry: &mut MapEntry) -> Result<(), ReadRefusal>
+    ensures { Changes result entry.new (set_prefixes number names entry.old) }
+{
+    once(number, entry.prefixes.is_some())?;
+    entry.prefixes = Some(names);
+    Ok(())
+}
+
+fn set_comms(
+    number: u32,
+    names: NameLine,
+    exact: bool,
+    entry: &mut MapEntry,
+) -> Result<(), ReadRefusal>
+    ensures { Changes result entry.new (set_comms number names exact entry.old) }
+{
+    once(number, entry.comms.is_some())?;
+    entry.comms = Some(names);
+    entry.exact = exact;
+    Ok(())
+}
+
+fn set_lp(number: u32, lp: u32, entry: &mut MapEntry) -> Result<(), ReadRefusal>
+    ensures { Changes result entry.new (set_lp number lp entry.old) }
+{
+    once(number, entry.lp.is_some())?;
+    entry.lp = Some(lp);
+    Ok(())
+}
+
+fn set_change(number: u32, change: Change, entry: &mut MapEntry) -> Result<(), ReadRefusal>
+    ensures { Changes result entry.new (set_change number change entry.old) }
+{
+    once(number, entry.change.is_some())?;
+    entry.change = Some(change);
+    entry.change_line = number;
+    Ok(())
+}
+
+fn set_delete(number: u32, list: Named, entry: &mut MapEntry) -> Result<(), ReadRefusal>
+    ensures { Changes result entry.new (set_delete number list entry.old) }
+{
+    once(number, entry.delete.is_some())?;
+    entry.delete = Some(list);
+    Ok(())
+}
+
+fn set_prepend(number: u32, prepend: Prepend, entry: &mut MapEntry) -> Result<(), ReadRefusal>
+    ensures { Changes result entry.new (set_prepend number prepend entry.old) }
+{
+    once(number, entry.prepend.is_some())?;
+    entry.prepend = Some(prepend);
+    Ok(())
+}
+
+/// Adds to the entry what one of its lines says.
+#[tactic(auto, unfolding(cfg_ast::specs::text::PolicyLines::set_entry))]
+pub fn set_entry(number: u32, item: PolicyItem, entry: &mut MapEntry) -> Result<(), ReadRefusal>
+    ensures { Changes result entry.new (set_entry number item entry.old) }
+{
+    match item {
+        PolicyItem::MatchPrefixes(names) => set_prefixes(number, names, entry),
+        PolicyItem::MatchComms(names, exact) => set_comms(number, names, exact, entry),
+        PolicyItem::Lp(lp) => set_lp(number, lp, entry),
+        PolicyItem::Comms(change) => set_change(number, change, entry),
+        PolicyItem::Delete(list) => set_delete(number, list, entry),
+        PolicyItem::Prepend(prepend) => set_prepend(number, prepend, entry),
+        _ => Ok(()),
+    }
+}

@@ -1,0 +1,175 @@
+//! The neighbours of a BGP process, found by their addresses.
+
+ghost use Rattle.std.specs.Prelude.{◌≡◌, ◌<◌, ◌∷◌, ◌++◌, [], IfOk, OnOk, length, false, nat_eq};
+ghost use Rattle.std.specs.List.{position};
+ghost use Rattle.cfg_stanzas.specs.Neighbors.{change_at};
+ghost use Rattle.cfg_stanzas.specs.Changes.{Changes};
+ghost use Rattle.cfg_ast.specs.text.Stanzas.{has_neighbor, new_neighbor, set_neighbor, at_neighbor, set_list, set_map};
+
+use crate::faults::{misplaced, once};
+use base_kit::{List, NoMemory};
+use cfg_ast::{Named, Neighbor, ReadRefusal, RouterItem};
+use named_lists::pushed;
+use std::alloc::Global;
+use std::collections::BTreeMap;
+use std::marker::Model;
+
+/// The neighbours of a BGP process, with the place of each by its address.
+#[derive(Drop)]
+pub(crate) struct Neighbors {
+    items: Vec<Neighbor>,
+    places: BTreeMap<u32, usize>,
+}
+
+impl Model for Neighbors {
+    ghost use Rattle.std.specs.Prelude.{List};
+    ghost use Rattle.cfg_ast.specs.declared.bgp.Neighbor.{Neighbor};
+    ghost use Rattle.cfg_stanzas.specs.Indexes.{HasAddresses};
+
+    ghost Value = { List Neighbor };
+
+    ghost view = { λ a. a.items.items };
+
+    ghost invariant = { λ a. HasAddresses a.places a.items.items };
+}
+
+/// A neighbour of which only its `remote-as` line has stood.
+pub(crate) fn new_neighbor(number: u32, addr: u32, remote: u32) -> Neighbor
+    ensures { result ≡ new_neighbor number addr remote }
+{
+    Neighbor {
+        addr,
+        remote,
+        line: number,
+        shut: false,
+        sends: false,
+        list_in: None,
+        list_out: None,
+        map_in: None,
+        map_out: None,
+    }
+}
+
+fn set_list(number: u32, list: Named, inward: bool, peer: &mut Neighbor) -> Result<(), ReadRefusal>
+    ensures set { Changes result peer.new (set_list number list inward peer.old) }
+    ensures addr { peer.new.addr ≡ peer.old.addr }
+{
+    if inward {
+        once(number, peer.list_in.is_some())?;
+        peer.list_in = Some(list);
+    } else {
+        once(number, peer.list_out.is_some())?;
+        peer.list_out = Some(list);
+    }
+    Ok(())
+}
+
+fn set_map(number: u32, map: Named, inward: bool, peer: &mut Neighbor) -> Result<(), ReadRefusal>
+    ensures set { Changes result peer.new (set_map number map inward peer.old) }
+    ensures addr { peer.new.addr ≡ peer.old.addr }
+{
+    if inward {
+        once(number, peer.map_in.is_some())?;
+        peer.map_in = Some(map);
+    } else {
+        once(number, peer.map_out.is_some())?;
+        peer.map_out = Some(map);
+    }
+    Ok(())
+}
+
+#[tactic(auto, unfolding(cfg_ast::specs::text::Stanzas::set_neighbor))]
+fn set_neighbor(number: u32, item: RouterItem, peer: &mut Neighbor) -> Result<(), ReadRefusal>
+    ensures set { Changes result peer.new (set_neighbor number item peer.old) }
+    ensures addr { peer.new.addr ≡ peer.old.addr }
+{
+    match item {
+        RouterItem::PeerShut(_) => peer.shut = true,
+        RouterItem::PeerSends(_) => peer.sends = true,
+        RouterItem::PeerList { list, inward, .. } => return set_list(number, list, inward, peer),
+        RouterItem::PeerMap { map, inward, .. } => return set_map(number, map, inward, peer),
+        _ => {}
+    }
+    Ok(())
+}
+
+impl Neighbors {
+    pub(crate) fn new(alloc: Global) -> Self
+        ensures { result ≡ [] }
+    {
+        Neighbors {
+            items: Vec::new(alloc),
+            places: BTreeMap::new(alloc),
+        }
+    }
+
+    fn place_of(&self, addr: u32) -> Option<usize>
+        ensures { result ≡ position (λ p. nat_eq p.addr addr) self.now }
+    {
+        match self.places.get(&addr) {
+            Some(place) => Some(*place),
+            None => None,
+        }
+    }
+
+    /// Whether one of them has the address.
+    pub(crate) fn has(&self, addr: u32) -> bool
+        ensures { result ≡ has_neighbor self.now addr }
+    {
+        self.places.contains_key(&addr)
+    }
+
+    fn with(self, peer: Neighbor) -> Result<Neighbors, NoMemory>
+        requires { has_neighbor self peer.addr ≡ false }
+        ensures { IfOk result (λ all. all ≡ self ++ peer ∷ []) }
+    {
+        let Neighbors { items, mut places } = self;
+        let items = List::from_vec(items);
+        places.insert(peer.addr, items.len())?;
+        let items = pushed(items, peer)?;
+        Ok(Neighbors {
+            items: items.into_vec(),
+            places,
+        })
+    }
+
+    /// Puts one of another address behind them. After an error there are none.
+    pub(crate) fn add(&mut self, alloc: Global, peer: Neighbor) -> Result<(), NoMemory>
+        requires { has_neighbor self.old peer.addr ≡ false }
+        ensures { OnOk result (self.new ≡ self.old ++ peer ∷ []) }
+    {
+        let others = std::mem::replace(self, Neighbors::new(alloc));
+        *self = others.with(peer)?;
+        Ok(())
+    }
+
+    fn change_at(&mut self, number: u32, item: RouterItem, place: usize) -> Result<(), ReadRefusal>
+        requires { place < length self.old }
+        ensures { Changes result self.new (change_at number item self.old place) }
+    {
+        set_neighbor(number, item, &mut self.items[place])?;
+        Ok(())
+    }
+
+    /// Adds what a line says of the one of the address.
+    pub(crate) fn change(
+        &mut self,
+        number: u32,
+        addr: u32,
+        item: RouterItem,
+    ) -> Result<(), ReadRefusal>
+        ensures { Changes result self.new (at_neighbor number addr (set_neighbor number item) self.old) }
+    {
+        match self.place_of(addr) {
+            Some(place) => self.change_at(number, item, place),
+            None => Err(misplaced(number)),
+        }
+    }
+
+    pub(crate) fn into_list(self) -> List<Neighbor>
+        ensures { result ≡ self }
+    {
+        let Neighbors { items, .. } = self;
+        List::from_vec(items)
+    }
+}
