@@ -1,2 +1,6 @@
+mod Answered
 mod CarriedBack
+mod Chains
+mod FewLinks
+mod Numbered
 mod Pictures

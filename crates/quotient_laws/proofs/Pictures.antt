@@ -1,15 +1,13 @@
 -- Labels that correspond show the same of the groups.
-use Rattle.std.proofs.Common.{◌≡◌, ℕ, ◌<◌, zero, suc, List, sym, ap, ◌∙◌, subst, Option, Some, None}
+use Rattle.std.proofs.Common.{◌≡◌, ℕ, ◌<◌, List, sym, ap, ◌∙◌, subst, Option, Some}
 use Rattle.std.specs.Option.{option_map}
 use Rattle.srp_core.specs.declared.route.Route.{Route}
 use Rattle.srp_core.specs.Routes.{Key}
-use Rattle.srp_core.specs.Problem.{Problem, count, key_of, IsProblem}
-use Rattle.srp_core.specs.Stability.{label, IsStable, ForwardsTo, HaveSameKeys}
-use Rattle.srp_core.specs.Quotient.{group_of, IsAdmissible, IsQuotient, Corresponds}
-use Rattle.srp_core.specs.Laws.{Below, Above}
-use Rattle.quotient_laws.specs.Questions.{Picture, key_at, MemberHolds, MemberForwards, of_routers, of_groups, ShowSame, IsQuestion, IsQuotiented, IsSolution, QuestionsAgree}
-use Rattle.quotient_laws.specs.Questions.{HaveSamePictures, PicturesAgree, HasOneAnswer, QuestionsCarry}
-use Rattle.quotient_laws.specs.Questions.{each_reaches, HasChain, has_no_chain_of, HasChainAround, passes}
+use Rattle.srp_core.specs.Problem.{Problem, count, key_of}
+use Rattle.srp_core.specs.Stability.{label, ForwardsTo, HaveSameKeys}
+use Rattle.srp_core.specs.Quotient.{group_of, IsQuotient, Corresponds}
+use Rattle.quotient_laws.specs.Questions.{Picture, itself, key_at, picture, HaveSamePictures, IsOfPictures, HasOneAnswer, MemberForwards, MemberHolds, PicturesAgree, ShowSame}
+use Rattle.quotient_laws.proofs.Answered.{Down, Up}
 
 same_keys : (P Q : Problem) (a b : Option Route) → HaveSameKeys P Q a b → option_map (key_of P) a ≡ option_map (key_of Q) b
 same_keys P Q a b (HaveSameKeys.both_none none other) = ap (option_map (key_of P)) none ∙ sym (ap (option_map (key_of Q)) other)
@@ -21,43 +19,40 @@ module _ (P Q : Problem) (groups : List ℕ) (q : IsQuotient P groups Q) (labels
   keys_at : (u : ℕ) → u < count P → key_at P labels u ≡ key_at Q lower (group_of groups u)
   keys_at u h = same_keys P Q (label labels u) (label lower (group_of groups u)) (c.keys u h)
 
-  holds : (g : ℕ) (key : Option Key) → MemberHolds P groups labels g key → (g < count Q) × (key_at Q lower g ≡ key)
-  holds g key m = (
-    subst (λ k. k < count Q) m.in_group (q.inside m.member m.inside),
-    ap (key_at Q lower) (sym m.in_group) ∙ sym (keys_at m.member m.inside) ∙ m.held,
-  )
+  holds : (g : ℕ) (key : Option Key) → MemberHolds P (group_of groups) labels g key → MemberHolds Q itself lower g key
+  holds g key m = record {
+    member = group_of groups m.member;
+    inside = q.inside m.member m.inside;
+    in_group = m.in_group;
+    held = sym (keys_at m.member m.inside) ∙ m.held;
+  }
 
-  held : (g : ℕ) (key : Option Key) → (g < count Q) × (key_at Q lower g ≡ key) → MemberHolds P groups labels g key
+  held : (g : ℕ) (key : Option Key) → MemberHolds Q itself lower g key → MemberHolds P (group_of groups) labels g key
   held g key h =
-      let m = q.onto g h.0 in
-      record { member = m.0; inside = m.1; in_group = m.2; held = keys_at m.0 m.1 ∙ ap (key_at Q lower) m.2 ∙ h.1 }
+      let m = q.onto h.member h.inside in
+      record { member = m.0; inside = m.1; in_group = m.2 ∙ h.in_group; held = keys_at m.0 m.1 ∙ ap (key_at Q lower) m.2 ∙ h.held }
 
-  forwards : (g h : ℕ) → MemberForwards P groups labels g h → (g < count Q) × ForwardsTo Q lower g h
-  forwards g h m = (
-    subst (λ k. k < count Q) m.in_group (q.inside m.member m.inside),
-    subst (ForwardsTo Q lower g) m.next_in_group
-        (subst (λ k. ForwardsTo Q lower k (group_of groups m.next)) m.in_group (c.down m.member m.next m.inside m.forwards)),
-  )
+  forwards : (g h : ℕ) → MemberForwards P (group_of groups) labels g h → MemberForwards Q itself lower g h
+  forwards g h m = record {
+    member = group_of groups m.member;
+    inside = q.inside m.member m.inside;
+    in_group = m.in_group;
+    next = group_of groups m.next;
+    next_in_group = m.next_in_group;
+    forwards = c.down m.member m.next m.inside m.forwards;
+  }
 
-  forwarded : (g h : ℕ) → (g < count Q) × ForwardsTo Q lower g h → MemberForwards P groups labels g h
+  forwarded : (g h : ℕ) → MemberForwards Q itself lower g h → MemberForwards P (group_of groups) labels g h
   forwarded g h f =
-      let m = q.onto g f.0 in
-      let v = c.up m.0 h m.1 (subst (λ k. ForwardsTo Q lower k h) (sym m.2) f.1) in
-      record { member = m.0; inside = m.1; in_group = m.2; next = v.0; next_in_group = v.2; forwards = v.1 }
+      let m = q.onto f.member f.inside in
+      let v = c.up m.0 f.next m.1 (subst (λ k. ForwardsTo Q lower k f.next) (sym m.2) f.forwards) in
+      record { member = m.0; inside = m.1; in_group = m.2 ∙ f.in_group; next = v.0; next_in_group = v.2 ∙ f.next_in_group; forwards = v.1 }
 
-  pub show_same : ShowSame (of_routers P groups labels) (of_groups Q lower)
+  pub show_same : ShowSame (picture P (group_of groups) labels) (picture Q itself lower)
   show_same = record { holds = holds; held = held; forwards = forwards; forwarded = forwarded }
 
 turned : (a b : Picture) → ShowSame a b → ShowSame b a
 turned a b s = record { holds = s.held; held = s.holds; forwards = s.forwarded; forwarded = s.forwards }
-
-abbrev Down : Type 0
-Down = (problem small : Problem) (groups : List ℕ) (labels : List (Option Route)) → IsProblem problem → IsProblem small
-    → IsAdmissible problem groups → IsQuotient problem groups small → IsStable problem labels → Below problem small groups labels
-
-abbrev Up : Type 0
-Up = (problem small : Problem) (groups : List ℕ) (lower : List (Option Route)) → IsProblem problem → IsProblem small
-    → IsAdmissible problem groups → IsQuotient problem groups small → IsStable small lower → Above problem small groups lower
 
 pub pictures_agree : Down → Up → PicturesAgree
 pictures_agree down up P Q groups q = record {
@@ -67,20 +62,19 @@ pictures_agree down up P Q groups q = record {
   above = λ lower stable. (
       let a = up P Q groups lower q.rules q.small_rules q.admissible q.quotient stable in
       let same = show_same P Q groups q.quotient a.labels lower a.correspond in
-      record { labels = a.labels; stable = a.stable; holds = turned (of_routers P groups a.labels) (of_groups Q lower) same });
+      record { labels = a.labels; stable = a.stable; holds = turned (picture P (group_of groups) a.labels) (picture Q itself lower) same });
 }
 
--- ---- each question has one answer
-
-module _ (P Q : Problem) (groups : List ℕ) (same : HaveSamePictures P Q groups) (asks : Picture → Type 0) (is : IsQuestion asks) where
+-- whatever is asked of pictures has one answer
+module _ (P Q : Problem) (groups : List ℕ) (same : HaveSamePictures P Q groups) (asks : Picture → Type 0) (is : IsOfPictures asks) where
   abbrev above : List (Option Route) → Picture
-  above labels = of_routers P groups labels
+  above labels = picture P (group_of groups) labels
 
   abbrev below : List (Option Route) → Picture
-  below lower = of_groups Q lower
+  below lower = picture Q itself lower
 
-  pub question_carries : HasOneAnswer P Q groups asks
-  question_carries = record {
+  pub picture_question_carries : HasOneAnswer P Q groups (λ problem group labels. asks (picture problem group labels))
+  picture_question_carries = record {
     every_below = λ each lower stable. (
         let a = same.above lower stable in
         is (above a.labels) (below lower) (turned (below lower) (above a.labels) a.holds) (each a.labels a.stable));
@@ -94,31 +88,3 @@ module _ (P Q : Problem) (groups : List ℕ) (same : HaveSamePictures P Q groups
         let a = same.above some.labels some.stable in
         record { labels = a.labels; stable = a.stable; holds = is (below some.labels) (above a.labels) a.holds some.holds });
   }
-
--- ---- the three questions
-
-reaches_is : IsQuestion each_reaches
-reaches_is a b same asks g none = asks g (same.held g None none)
-
-chain_back : (a b : Picture) → ShowSame a b → (hops g h : ℕ) → HasChain b hops g h → HasChain a hops g h
-chain_back a b same zero g h chain = chain
-chain_back a b same (suc hops) g h chain = (chain.0, same.forwarded g chain.0 chain.1, chain_back a b same hops chain.0 h chain.2)
-
-length_is : (hops g : ℕ) → IsQuestion (has_no_chain_of hops g)
-length_is hops g a b same asks h chain = asks h (chain_back a b same hops g h chain)
-
-around_back : (a b : Picture) → ShowSame a b → (w hops g h : ℕ) → HasChainAround b w hops g h → HasChainAround a w hops g h
-around_back a b same w zero g h chain = chain
-around_back a b same w (suc hops) g h chain = (chain.0, (chain.1.0, same.forwarded g chain.1.0 chain.1.1, around_back a b same w hops chain.1.0 h chain.1.2))
-
-passes_is : (g h w : ℕ) → IsQuestion (passes g h w)
-passes_is g h w a b same asks hops chain = asks hops (around_back a b same w hops g h chain)
-
-pub questions_carry : Down → Up → QuestionsCarry
-questions_carry down up P Q groups q =
-    let same = pictures_agree down up P Q groups q in
-    record {
-      reachability = question_carries P Q groups same each_reaches reaches_is;
-      path_length = λ hops g. question_carries P Q groups same (has_no_chain_of hops g) (length_is hops g);
-      waypoint = λ g h w. question_carries P Q groups same (passes g h w) (passes_is g h w);
-    }

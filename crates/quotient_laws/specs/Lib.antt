@@ -1,2 +1,4 @@
 pub mod Laws
+pub mod Links
+pub mod Numbered
 pub mod Questions

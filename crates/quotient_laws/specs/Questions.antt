@@ -1,13 +1,50 @@
--- Questions about a labelling that are asked of groups: which keys they hold, and to which groups they forward. They
--- have one answer in a problem and in its quotient (Beckett, Gupta, Mahajan and Walker, Control Plane Compression,
--- SIGCOMM 2018, section 4).
-use Rattle.std.specs.Prelude.{◌≡◌, ℕ, ◌<◌, zero, suc, List, Option, None}
+-- Questions about a labelling, of which a problem and its quotient give one answer: those that are asked of the keys of
+-- groups and of the groups to which they forward, and three of the field, asked of routers (Beckett, Gupta, Mahajan and
+-- Walker, Control Plane Compression, SIGCOMM 2018, section 4).
+use Rattle.std.specs.Prelude.{◌≡◌, ◌≢◌, ℕ, ◌<◌, zero, suc, List, Option, None}
 use Rattle.std.specs.Option.{option_map}
 use Rattle.srp_core.specs.declared.route.Route.{Route}
 use Rattle.srp_core.specs.Routes.{Key}
 use Rattle.srp_core.specs.Problem.{Problem, count, key_of, IsProblem}
 use Rattle.srp_core.specs.Stability.{label, IsStable, ForwardsTo}
 use Rattle.srp_core.specs.Quotient.{group_of, IsAdmissible, IsQuotient}
+
+-- What is asked of a labelling of a problem whose routers stand in groups.
+abbrev pub Question : Type 1
+Question = Problem → (ℕ → ℕ) → List (Option Route) → Type 0
+
+-- each router of the quotient is the group that it stands for
+abbrev pub itself : ℕ → ℕ
+itself g = g
+
+-- ---- one answer
+
+-- a problem, and its quotient by an admissible partition
+pub record IsQuotiented (problem small : Problem) (groups : List ℕ) : Type 0 where
+  pub rules : IsProblem problem
+  pub small_rules : IsProblem small
+  pub admissible : IsAdmissible problem groups
+  pub quotient : IsQuotient problem groups small
+
+-- a stable solution of which holds what is asked
+pub record IsSolution (problem : Problem) (asks : List (Option Route) → Type 0) : Type 0 where
+  pub labels : List (Option Route)
+  pub stable : IsStable problem labels
+  pub holds : asks labels
+
+-- what is asked holds of every stable solution
+abbrev pub InEach : Problem → (List (Option Route) → Type 0) → Type 0
+InEach problem asks = (labels : List (Option Route)) → IsStable problem labels → asks labels
+
+-- What is asked holds of every stable solution of the one problem exactly where it holds of every one of the other, and of
+-- some exactly where of some.
+pub record HasOneAnswer (problem small : Problem) (groups : List ℕ) (asks : Question) : Type 0 where
+  pub every_below : InEach problem (asks problem (group_of groups)) → InEach small (asks small itself)
+  pub every_above : InEach small (asks small itself) → InEach problem (asks problem (group_of groups))
+  pub some_below : IsSolution problem (asks problem (group_of groups)) → IsSolution small (asks small itself)
+  pub some_above : IsSolution small (asks small itself) → IsSolution problem (asks problem (group_of groups))
+
+-- ---- what is asked of groups
 
 -- What a labelling shows of the groups: group g holds a route of that key, or none, and group g forwards to group h.
 pub record Picture : Type 1 where
@@ -19,31 +56,24 @@ abbrev pub key_at : Problem → List (Option Route) → ℕ → Option Key
 key_at problem labels u = option_map (key_of problem) (label labels u)
 
 -- a member of group g holds that key
-pub record MemberHolds (problem : Problem) (groups : List ℕ) (labels : List (Option Route)) (g : ℕ) (key : Option Key) : Type 0 where
+pub record MemberHolds (problem : Problem) (group : ℕ → ℕ) (labels : List (Option Route)) (g : ℕ) (key : Option Key) : Type 0 where
   pub member : ℕ
   pub inside : member < count problem
-  pub in_group : group_of groups member ≡ g
+  pub in_group : group member ≡ g
   pub held : key_at problem labels member ≡ key
 
 -- a member of group g forwards to one of group h
-pub record MemberForwards (problem : Problem) (groups : List ℕ) (labels : List (Option Route)) (g h : ℕ) : Type 0 where
+pub record MemberForwards (problem : Problem) (group : ℕ → ℕ) (labels : List (Option Route)) (g h : ℕ) : Type 0 where
   pub member : ℕ
   pub inside : member < count problem
-  pub in_group : group_of groups member ≡ g
+  pub in_group : group member ≡ g
   pub next : ℕ
-  pub next_in_group : group_of groups next ≡ h
+  pub next_in_group : group next ≡ h
   pub forwards : ForwardsTo problem labels member next
 
--- what a labelling of the routers shows of their groups
-abbrev pub of_routers : Problem → List ℕ → List (Option Route) → Picture
-of_routers problem groups labels = record { holds = MemberHolds problem groups labels; forwards = MemberForwards problem groups labels }
-
--- what a labelling of the groups themselves shows
-abbrev pub of_groups : Problem → List (Option Route) → Picture
-of_groups small lower = record {
-  holds = λ g key. (g < count small) × (key_at small lower g ≡ key);
-  forwards = λ g h. (g < count small) × ForwardsTo small lower g h;
-}
+-- what a labelling of routers shows of their groups
+abbrev pub picture : Problem → (ℕ → ℕ) → List (Option Route) → Picture
+picture problem group labels = record { holds = MemberHolds problem group labels; forwards = MemberForwards problem group labels }
 
 -- two pictures show the same
 pub record ShowSame (first second : Picture) : Type 0 where
@@ -52,72 +82,48 @@ pub record ShowSame (first second : Picture) : Type 0 where
   pub forwards : (g h : ℕ) → first.forwards g h → second.forwards g h
   pub forwarded : (g h : ℕ) → second.forwards g h → first.forwards g h
 
--- A question, whatever it says: pictures that show the same have the same answer. The lemma `question_carries` in proofs/ speaks of
--- each question; a contract has room for those that are named below.
-abbrev pub IsQuestion : (Picture → Type 0) → Type 1
-IsQuestion asks = (first second : Picture) → ShowSame first second → asks first → asks second
-
--- a problem, and its quotient by an admissible partition
-pub record IsQuotiented (problem small : Problem) (groups : List ℕ) : Type 0 where
-  pub rules : IsProblem problem
-  pub small_rules : IsProblem small
-  pub admissible : IsAdmissible problem groups
-  pub quotient : IsQuotient problem groups small
-
--- a stable solution in whose picture holds what is asked
-pub record IsSolution (problem : Problem) (picture_of : List (Option Route) → Picture) (asks : Picture → Type 0) : Type 0 where
-  pub labels : List (Option Route)
-  pub stable : IsStable problem labels
-  pub holds : asks (picture_of labels)
-
--- what is asked holds in every stable solution
-abbrev pub InEach : Problem → (List (Option Route) → Picture) → (Picture → Type 0) → Type 0
-InEach problem picture_of asks = (labels : List (Option Route)) → IsStable problem labels → asks (picture_of labels)
+-- What is asked of pictures, whatever it says: pictures that show the same have the same answer. The lemma
+-- `picture_question_carries` in proofs/ speaks of each such question; a contract has no room for a type of that size.
+abbrev pub IsOfPictures : (Picture → Type 0) → Type 1
+IsOfPictures asks = (first second : Picture) → ShowSame first second → asks first → asks second
 
 -- Each stable solution of either problem shows the same of the groups as some stable solution of the other one.
 pub record HaveSamePictures (problem small : Problem) (groups : List ℕ) : Type 0 where
-  pub below : InEach problem (of_routers problem groups) (λ picture. IsSolution small (of_groups small) (ShowSame picture))
-  pub above : InEach small (of_groups small) (λ picture. IsSolution problem (of_routers problem groups) (ShowSame picture))
+  pub below : InEach problem (λ labels. IsSolution small (λ lower. ShowSame (picture problem (group_of groups) labels) (picture small itself lower)))
+  pub above : InEach small (λ lower. IsSolution problem (λ labels. ShowSame (picture small itself lower) (picture problem (group_of groups) labels)))
 
 abbrev pub PicturesAgree : Type 0
 PicturesAgree = (problem small : Problem) (groups : List ℕ) → IsQuotiented problem small groups → HaveSamePictures problem small groups
 
--- A question holds in every stable solution of the one problem exactly where it holds in every one of the other, and in
--- some exactly where in some.
-pub record HasOneAnswer (problem small : Problem) (groups : List ℕ) (asks : Picture → Type 0) : Type 0 where
-  pub every_below : InEach problem (of_routers problem groups) asks → InEach small (of_groups small) asks
-  pub every_above : InEach small (of_groups small) asks → InEach problem (of_routers problem groups) asks
-  pub some_below : IsSolution problem (of_routers problem groups) asks → IsSolution small (of_groups small) asks
-  pub some_above : IsSolution small (of_groups small) asks → IsSolution problem (of_routers problem groups) asks
+-- ---- three questions that are asked of routers
 
--- ---- three questions
+-- Reachability: every router has a route.
+abbrev pub has_routes : Question
+has_routes problem group labels = (u : ℕ) → u < count problem → label labels u ≢ None
 
--- Reachability: each group holds a route.
-abbrev pub each_reaches : Picture → Type 0
-each_reaches p = (g : ℕ) → p.holds g None → ⊥
+-- so many hops lead from a router to another one: each router forwards to the next one
+abbrev pub HasHops : Problem → List (Option Route) → ℕ → ℕ → ℕ → Type 0
+HasHops problem labels zero u v = u ≡ v
+HasHops problem labels (suc hops) u v = (next : ℕ) × ForwardsTo problem labels u next × HasHops problem labels hops next v
 
--- a chain of so many hops from group g to group h
-abbrev pub HasChain : Picture → ℕ → ℕ → ℕ → Type 0
-HasChain p zero g h = g ≡ h
-HasChain p (suc hops) g h = (next : ℕ) × p.forwards g next × HasChain p hops next h
+-- Path length: no chain of forwarding that begins at a router of group g is longer than that.
+abbrev pub is_no_longer : ℕ → ℕ → Question
+is_no_longer most g problem group labels = (hops u v : ℕ) → most < hops → u < count problem → group u ≡ g → ¬ HasHops problem labels hops u v
 
--- Path length: no chain of forwarding from group g has that many hops.
-abbrev pub has_no_chain_of : ℕ → ℕ → Picture → Type 0
-has_no_chain_of hops g p = (h : ℕ) → HasChain p hops g h → ⊥
+-- the same hops, and no router on the way, nor the first or the last one, is of group w
+abbrev pub HasHopsAround : ℕ → Problem → (ℕ → ℕ) → List (Option Route) → ℕ → ℕ → ℕ → Type 0
+HasHopsAround w problem group labels zero u v = (u ≡ v) × (group u ≢ w)
+HasHopsAround w problem group labels (suc hops) u v =
+    (group u ≢ w) × ((next : ℕ) × ForwardsTo problem labels u next × HasHopsAround w problem group labels hops next v)
 
--- a chain that does not meet group w
-abbrev pub HasChainAround : Picture → ℕ → ℕ → ℕ → ℕ → Type 0
-HasChainAround p w zero g h = (g ≡ h) × (g ≡ w → ⊥)
-HasChainAround p w (suc hops) g h = (g ≡ w → ⊥) × ((next : ℕ) × p.forwards g next × HasChainAround p w hops next h)
-
--- Waypoint: no chain of forwarding leads from group g to group h, of whatever length, without meeting group w.
-abbrev pub passes : ℕ → ℕ → ℕ → Picture → Type 0
-passes g h w p = (hops : ℕ) → HasChainAround p w hops g h → ⊥
+-- Waypoint: traffic from group g to group h passes group w: no chain of forwarding from a router of g to one of h goes around w.
+abbrev pub passes : ℕ → ℕ → ℕ → Question
+passes g h w problem group labels = (hops u v : ℕ) → u < count problem → group u ≡ g → group v ≡ h → ¬ HasHopsAround w problem group labels hops u v
 
 -- the three have one answer in a problem and in its quotient
 pub record QuestionsAgree (problem small : Problem) (groups : List ℕ) : Type 0 where
-  pub reachability : HasOneAnswer problem small groups each_reaches
-  pub path_length : (hops g : ℕ) → HasOneAnswer problem small groups (has_no_chain_of hops g)
+  pub reachability : HasOneAnswer problem small groups has_routes
+  pub path_length : (most g : ℕ) → HasOneAnswer problem small groups (is_no_longer most g)
   pub waypoint : (g h w : ℕ) → HasOneAnswer problem small groups (passes g h w)
 
 abbrev pub QuestionsCarry : Type 0

@@ -3,14 +3,31 @@
 //!
 //! An admissible partition of the quotient, carried back along the groups, is one of the problem: members of one
 //! group have edges that act alike into the same other groups. So it is no coarser than the groups themselves, and
-//! puts no two of them together. And questions that are asked of groups have one answer in both. Each law is the
-//! contract of a function that does nothing.
+//! puts no two of them together. And questions that are asked of groups, or of routers and the groups that they are
+//! in, have one answer in both. Each law is the contract of a function that does nothing.
 #![tactic(auto)]
 
 ghost use Rattle.quotient_laws.specs.Laws.{QuotientIsSmallest};
+ghost use Rattle.quotient_laws.specs.Links.{GroupsHaveNoMoreLinks};
+ghost use Rattle.quotient_laws.specs.Numbered.{EachHasGroups};
 ghost use Rattle.quotient_laws.specs.Questions.{PicturesAgree, QuestionsCarry};
 
-use srp_core::laws::{from_quotient, to_quotient};
+use abstract_net::laws::no_more_links;
+use srp_core::laws::{from_quotient, joins, to_quotient};
+
+/// Each problem has a coarsest admissible partition, with its groups numbered by their least members.
+pub fn each_has_groups()
+    ensures { EachHasGroups }
+{
+    joins();
+}
+
+/// The links of the groups are no more than those of the network.
+pub fn groups_have_no_more_links()
+    ensures { GroupsHaveNoMoreLinks }
+{
+    no_more_links();
+}
 
 /// An admissible partition of the quotient by the coarsest partition puts no two routers together.
 pub fn quotient_is_smallest()
@@ -26,8 +43,8 @@ pub fn pictures_agree()
     from_quotient();
 }
 
-/// Reachability, path length and waypoints, asked of groups, hold in every stable solution of the one problem
-/// exactly where they hold in every one of the other, and in some exactly where in some.
+/// Reachability, path length and waypoints, asked of the routers of groups, hold of every stable solution of the one
+/// problem exactly where they hold of every one of the other, and of some exactly where of some.
 pub fn questions_carry()
     ensures { QuestionsCarry }
 {

@@ -1,4 +1,4 @@
-use Rattle.quotient_laws.proofs.Pictures.{questions_carry}
+use Rattle.quotient_laws.proofs.Chains.{questions_carry}
 use Rattle.quotient_laws.proofs.questions_carry.Goals as goal
 
 pub returns : goal.returns
