@@ -1,0 +1,9 @@
+mod Covered
+mod FewCommunities
+mod Imports
+mod Lines
+mod Numbers
+mod PathWords
+mod Places
+mod ShortLabels
+mod Short
