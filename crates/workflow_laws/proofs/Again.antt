@@ -14,7 +14,7 @@ use Rattle.config_emit.specs.Plan.{small}
 use Rattle.group_report.specs.GroupLines.{group_lines}
 use Rattle.quotient_laws.specs.Laws.{IsSingle, QuotientIsSmallest}
 use Rattle.reading_laws.specs.WellRead.{WhatIsReadIsWell}
-use Rattle.srp_core.specs.Problem.{count, Problem}
+use Rattle.srp_core.specs.Problem.{count}
 use Rattle.srp_core.specs.Quotient.{IsQuotient}
 use Rattle.srp_core.proofs.Alike.{same_coarsest}
 use Rattle.srp_core.proofs.AlikeOf.{one_problem as problems_alike}
@@ -29,7 +29,7 @@ use Rattle.bonsai_top.specs.declared.command.Command.TheVariants as command
 use Rattle.workflow_laws.specs.Again.{PutsEachAlone, CompressedAgain}
 use Rattle.workflow_laws.specs.Words.{groups}
 use Rattle.workflow_laws.proofs.Answers.{answer_of}
-use Rattle.workflow_laws.proofs.Kept.{has_class, IsSmall, small_network}
+use Rattle.workflow_laws.proofs.Kept.{has_class, short_small, IsSmall, small_network}
 use Rattle.workflow_laws.proofs.Named.{names_groups}
 
 -- ---- a partition that puts no two routers together
@@ -104,6 +104,6 @@ compressed_again well built has_problem is_quotient smallest contents F G N K c 
     let n = c.of_large.network in
     let m = c.of_small.network in
     let s = small_network well built has_problem contents F G N K c in
-    let answer = answer_of (groups G K) contents (command.Groups K) refl (names_groups G K c.short_small) c.small c.kept o m c.of_small.reads s.short x in
+    let answer = answer_of (groups G K) contents (command.Groups K) refl (names_groups G K (short_small well contents F G N K c)) c.small c.kept o m c.of_small.reads s.short x in
     again is_quotient smallest n m c.of_large.class c.of_small.class c.small (has_class n N c.of_large.class c.of_large.class_is) s c.prefixes o
     (subst (λ (found : Option DestClass). IsOfClass found K (IsGroupsOf m) o) c.of_small.class_is answer)

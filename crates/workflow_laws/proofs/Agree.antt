@@ -17,7 +17,7 @@ use Rattle.bonsai_top.specs.Commands.{command_of, is_read, reads_first}
 use Rattle.bonsai_top.specs.OneOutcome.{is_free, leaves_free, OutcomeIsOne}
 use Rattle.bonsai_top.specs.Outcomes.{IsOutcomeOfReading, IsOutcomeOfText, IsOutcomeOfFiles, IsOutcomeAt, IsOutcome}
 use Rattle.bonsai_top.specs.Words.{file_of, second_of}
-use Rattle.workflow_laws.specs.Existence.{OutcomesAgree, AreCertificates}
+use Rattle.workflow_laws.specs.Existence.{OutcomesAgree}
 use Rattle.workflow_laws.specs.Setting.{Contents}
 
 -- equal, or both done

@@ -1,5 +1,5 @@
 -- From an outcome of the words to the answer over the network that the first file gives.
-use Rattle.std.proofs.Common.{◌≡◌, ◌≤◌, ◌<◌, inl, inr, ℕ, Bool, true, List, refl, sym, ap, ◌∙◌, subst, arith, Option, Some, None, Result, Ok, Err, codes, length}
+use Rattle.std.proofs.Common.{◌≡◌, ◌≤◌, inl, inr, ℕ, Bool, true, List, refl, subst, arith, Option, Some, Result, Ok, Err, codes, length}
 use Rattle.cfg_ast.specs.declared.network.Network.{Network}
 use Rattle.cfg_ast.specs.declared.refusal.ReadRefusal.{ReadRefusal}
 use Rattle.cfg_ast.specs.declared.refusal.ReadRefusal.TheVariants as read_refusal
@@ -9,7 +9,7 @@ use Rattle.bonsai_top.specs.Commands.{command_of, reads_first}
 use Rattle.bonsai_top.specs.Outcomes.{IsAnswerTo, text_limit, IsOutcomeOfReading, IsOutcomeOfText, IsOutcomeOfFiles, IsOutcomeBy, IsOutcomeAt, IsOutcome}
 use Rattle.bonsai_top.specs.Words.{file_of, second_of}
 use Rattle.answer_kit.specs.Kinds.{line_reason}
-use Rattle.answer_kit.specs.Outcome.{Outcome, done, refused}
+use Rattle.answer_kit.specs.Outcome.{Outcome, done}
 use Rattle.carried_laws.proofs.Carried.{not_refused}
 use Rattle.workflow_laws.specs.Setting.{Contents}
 

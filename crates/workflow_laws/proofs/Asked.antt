@@ -8,9 +8,8 @@ use Rattle.reading_laws.specs.WellRead.{WhatIsReadIsWell}
 use Rattle.srp_core.specs.ProblemOf.{IsProblemOf}
 use Rattle.answer_kit.proofs.OneClass.{some_prefix}
 use Rattle.carried_laws.proofs.Carried.{plan_text}
-use Rattle.workflow_laws.specs.Questions.{SmallAnswersForLarge, AnswerAlike, HaveProblems}
+use Rattle.workflow_laws.specs.Questions.{SmallAnswersForLarge}
 use Rattle.workflow_laws.proofs.Kept.{has_class, done_compress, one_network}
-use Rattle.workflow_laws.specs.Setting.{IsCompressed}
 
 pub small_answers_for_large : WhatIsReadIsWell → PlanCompresses → PicturesAgree → QuestionsCarry → SmallAnswersForLarge
 small_answers_for_large well compresses agree carry contents F G N K c =
@@ -19,7 +18,7 @@ small_answers_for_large well compresses agree carry contents F G N K c =
     let m = c.of_small.network in
     let read = well c.large n c.of_large.reads in
     let has = has_class n N class c.of_large.class_is in
-    let t = plan_text n N class c.small c.of_large.class_is (done_compress contents F G N K c).answer in
+    let t = plan_text n N class c.small c.of_large.class_is (done_compress well contents F G N K c).answer in
     let k : Compresses n class c.small =
     subst (Compresses n class) (sym t.text) (compresses n class t.plan ∣ (c.large, read.given) ∣₁ read.faultless has t.is t.apart t.short) in
     let same : k.read ≡ m = one_network k.read m (sym k.reads ∙ c.of_small.reads) in

@@ -1,5 +1,5 @@
 -- Where `fold` has an outcome for one solution, `fold` and `lift` have one for each.
-use Rattle.std.proofs.Common.{◌≡◌, ℕ, List, refl, sym, subst, Option, Some}
+use Rattle.std.proofs.Common.{ℕ, List, refl, sym, subst, Option}
 use Rattle.std.specs.Prelude.{Contains, IsSome}
 use Rattle.cfg_ast.specs.declared.classes.DestClass.{DestClass}
 use Rattle.cfg_ast.specs.declared.network.Network.{Network}
@@ -15,13 +15,12 @@ use Rattle.solution_check.specs.Breaks.{Judges}
 use Rattle.solution_text.specs.Printed.{labels_text}
 use Rattle.answer_kit.specs.ClassNumbers.{class_at}
 use Rattle.answer_kit.specs.Outcome.{Outcome, done, not_stable}
-use Rattle.answer_kit.specs.SecondFiles.{IsOfSolution}
 use Rattle.answer_kit.proofs.OneClass.{some_prefix}
 use Rattle.answer_solutions.specs.declared.sides.Sides.{Sides}
 use Rattle.answer_solutions.specs.Carries.{AreSides, IsFolded, IsFoldOf, IsFoldOfLabels, IsLifted, IsLiftOf, IsLiftOfLabels, IsOfStable}
 use Rattle.answer_solutions.specs.Checks.{break_reason}
 use Rattle.bonsai_top.specs.declared.command.Command.TheVariants as command
-use Rattle.workflow_laws.specs.Existence.{HasOutcome, SolutionsAreCarried}
+use Rattle.workflow_laws.specs.Existence.{SolutionsAreCarried}
 use Rattle.workflow_laws.specs.Words.{fold, lift}
 use Rattle.workflow_laws.proofs.Answers.{of_text}
 use Rattle.workflow_laws.proofs.Carrying.{is_folded, is_lifted, HasCarrying, IsPair}
@@ -65,10 +64,10 @@ module _ (sound : IsSound) (complete : IsComplete) (laws : HasCarrying) (is_quot
       (done (labels_text s.problem.names l.0), record { labels = l.0; is = l.1; written = refl })))
 
   module _ (second : Option (List ℕ)) (told : IsSome second) where
-    some_fold : SomeOf (IsFoldOf n second class)
+    pub some_fold : SomeOf (IsFoldOf n second class)
     some_fold = (let o = of_solution s.problem rules (IsFoldOfLabels s) folded second told in (o.0, record { sides = s; are = are; solution = o.1 }))
 
-    some_lift : SomeOf (IsLiftOf n second class)
+    pub some_lift : SomeOf (IsLiftOf n second class)
     some_lift =
         let o = of_solution s.small are.small_rules (IsLiftOfLabels s) lifted second told in
         (o.0, record { sides = s; are = are; solution = o.1 })

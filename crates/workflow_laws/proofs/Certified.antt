@@ -20,7 +20,7 @@ use Rattle.answer_kit.proofs.OneClass.{some_prefix}
 use Rattle.bonsai_top.specs.declared.command.Command.TheVariants as command
 use Rattle.workflow_laws.specs.Certificates.{named_groups, names_in, PrintsGroups, WhatIsCertifiedIsVerified, WhatIsVerifiedNamesTheGroups}
 use Rattle.workflow_laws.specs.Words.{certify, groups, verify}
-use Rattle.workflow_laws.proofs.Answers.{answer_of, done_reading, IsDoneReading}
+use Rattle.workflow_laws.proofs.Answers.{answer_of, done_reading}
 use Rattle.workflow_laws.proofs.Kept.{has_class}
 use Rattle.workflow_laws.proofs.Named.{names_certify, names_groups, names_verify}
 use Rattle.workflow_laws.proofs.NamedGroups.{names_its_groups}

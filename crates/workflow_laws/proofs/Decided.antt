@@ -21,7 +21,7 @@ use Rattle.srp_core.specs.Routes.{preference_of, size_of, path_of, comms_of, com
 use Rattle.srp_core.specs.Stability.{label, AreLabels, IsCandidate}
 use Rattle.solution_check.specs.declared.judgement.Answer.{Answer}
 use Rattle.solution_check.specs.declared.judgement.Answer.TheVariants.{Stable, Not}
-use Rattle.solution_check.specs.Breaks.{BreaksBy, HasWrongOrigin, HoldsBest, IsFirstBreak, Judges, HasBetterCandidate, HasNoCandidate, LacksLabel}
+use Rattle.solution_check.specs.Breaks.{BreaksBy, HasWrongOrigin, HoldsBest, IsFirstBreak, Judges}
 use Rattle.solution_check.specs.Breaks.BreaksBy.{better_candidate, none_with_candidate, not_a_candidate, wrong_origin}
 
 abbrev pub Dec : Type 0 → Type 0

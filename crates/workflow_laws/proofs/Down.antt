@@ -1,5 +1,5 @@
 -- Carried down: what `fold` makes of a solution.
-use Rattle.std.proofs.Common.{◌≡◌, ◌≤◌, inl, inr, ℕ, List, length, refl, sym, ap, ◌∙◌, subst, arith, Option, Some, None, Result, Ok, Err, codes}
+use Rattle.std.proofs.Common.{◌≡◌, inl, inr, ℕ, List, refl, sym, ap, ◌∙◌, arith, Option, Some, None, Result, Ok, Err}
 use Rattle.std.specs.Prelude.{Contains, IsSome}
 use Rattle.cfg_ast.specs.declared.classes.DestClass.{DestClass}
 use Rattle.cfg_ast.specs.declared.network.Network.{Network}
@@ -11,8 +11,8 @@ use Rattle.srp_core.proofs.AlikeOf.{one_problem as problems_alike}
 use Rattle.answer_kit.specs.ClassNumbers.{class_at, IsOfClass}
 use Rattle.answer_kit.specs.Outcome.{Outcome}
 use Rattle.answer_kit.proofs.OneClass.{some_prefix}
-use Rattle.answer_solutions.specs.Carries.{IsFolded, IsFoldOf, IsFoldAnswer}
-use Rattle.answer_solutions.specs.Checks.{IsCheckOf, IsCheckAnswer}
+use Rattle.answer_solutions.specs.Carries.{IsFolded, IsFoldOf}
+use Rattle.answer_solutions.specs.Checks.{IsCheckOf}
 use Rattle.bonsai_top.specs.declared.command.Command.TheVariants as command
 use Rattle.bonsai_top.specs.Outcomes.{IsOutcomeOfReading, IsOutcomeOfText}
 use Rattle.workflow_laws.specs.CarriedDown.{CheckIsFold}

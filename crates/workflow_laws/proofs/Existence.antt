@@ -16,7 +16,7 @@ use Rattle.srp_core.specs.declared.route.Route.{Route}
 use Rattle.srp_core.specs.Problem.{Problem, IsProblem}
 use Rattle.route_run.specs.Orders.{IsOrderOf}
 use Rattle.answer_groups.specs.ClassLines.{classes_text}
-use Rattle.answer_groups.specs.CompressText.{compressed_text, pool_overlap, IsEmission, IsTextOr, IsUnlessPool, IsCompressOf, IsPlanOf}
+use Rattle.answer_groups.specs.CompressText.{compressed_text, pool_overlap, IsEmission, IsTextOr, IsUnlessPool, IsCompressOf}
 use Rattle.answer_groups.specs.GroupLines.{IsGroupsOf}
 use Rattle.answer_kit.specs.ClassNumbers.{class_at, no_class, IsOfClass}
 use Rattle.answer_kit.specs.Kinds.{line_reason}
@@ -42,7 +42,7 @@ use Rattle.workflow_laws.proofs.Named.{names_check, names_classes, names_compres
 
 -- ---- a class that has a plan
 
-abbrev HasOrder : Type 0
+abbrev pub HasOrder : Type 0
 HasOrder = (problem : Problem) (labels : List (Option Route)) → (run : List ℕ) × IsOrderOf problem labels run
 
 written : (b : Bool) (text : List ℕ) → SomeOf (IsTextOr b text)
@@ -50,7 +50,7 @@ written true text = (refused (codes "OutputTooLong"), refl)
 written false text = (done text, refl)
 
 module _ (n : Network) (number : ℕ) (class : DestClass) (r : Outcome) (is : IsReported report_text n number class r) where
-  groups_of_plan : SomeOf (IsGroupsOf n class)
+  pub groups_of_plan : SomeOf (IsGroupsOf n class)
   groups_of_plan =
       let e = is.plan in
       let bytes = group_lines e.problem e.groups e.count in (
@@ -70,11 +70,11 @@ module _ (n : Network) (number : ℕ) (class : DestClass) (r : Outcome) (is : Is
   emission : SomeOf (IsEmission n class)
   emission = (let w = written (is_too_long (compressed_text is.plan)) (compressed_text is.plan) in (w.0, record { plan = is.plan; is = is.is; written = w.1 }))
 
-  unless_pool : (line : Option ℕ) → SomeOf (IsUnlessPool line (IsEmission n class))
+  pub unless_pool : (line : Option ℕ) → SomeOf (IsUnlessPool line (IsEmission n class))
   unless_pool (Some line) = (refused (pool_overlap line), refl)
   unless_pool None = emission
 
-  json_of_plan : SomeOf (IsReported json_text n number class)
+  pub json_of_plan : SomeOf (IsReported json_text n number class)
   json_of_plan = (done (json_text (report_of n number is.plan)), record { plan = is.plan; is = is.is; written = refl })
 
   module _ (has : Contains (classes_of n) class) where
@@ -82,17 +82,17 @@ module _ (n : Network) (number : ℕ) (class : DestClass) (r : Outcome) (is : Is
     rules = (let p = some_prefix n class has in (is.is.built.of p.0 p.1).rules)
 
     module _ (sound : IsSound) (complete : IsComplete) (second : Option (List ℕ)) (told : IsSome second) where
-      check_of_plan : SomeOf (IsCheckOf n second class)
+      pub check_of_plan : SomeOf (IsCheckOf n second class)
       check_of_plan =
           let o = some_check sound complete is.plan.problem rules second told in
           (o.0, record { problem = is.plan.problem; of_class = is.is.built.of; judgement = o.1 })
 
-      reach_of_plan : HasOrder → SomeOf (IsReachOf n second class)
+      pub reach_of_plan : HasOrder → SomeOf (IsReachOf n second class)
       reach_of_plan has_order =
           let o = some_reach sound complete is.plan.problem rules has_order second told in
           (o.0, record { problem = is.plan.problem; of_class = is.is.built.of; reach = o.1 })
 
-    run_of_plan : RestIsStable → (second : Option (List ℕ)) → IsSome second → SomeOf (IsRunOf n second class)
+    pub run_of_plan : RestIsStable → (second : Option (List ℕ)) → IsSome second → SomeOf (IsRunOf n second class)
     run_of_plan rest second told =
         let o = some_run rest is.plan.problem rules second told in
         (o.0, record { problem = is.plan.problem; of_class = is.is.built.of; ran = o.1 })

@@ -20,8 +20,8 @@ use Rattle.route_run.specs.Orders.{IsOrderOf}
 use Rattle.route_run.specs.Schedules.{activation_of, before, or_unknown, run_of, schedule_of_text, schedule_of_words, words_of_text, LineWord}
 use Rattle.answer_kit.specs.Outcome.{Outcome, done, not_stable, refused}
 use Rattle.answer_kit.specs.SecondFiles.{long_solution, solution_limit, solution_reason, IsOfLabels, IsOfSecond, IsOfSolution}
-use Rattle.answer_runs.specs.Reaches.{name_lines, IsReach, IsToldOf, IsOrderTold}
-use Rattle.answer_runs.specs.Schedules.{long_schedule, rest_line, schedule_limit, schedule_reason, IsMoving, IsOfActivations, IsOfSchedule, IsRest}
+use Rattle.answer_runs.specs.Reaches.{name_lines, IsReach, IsToldOf}
+use Rattle.answer_runs.specs.Schedules.{long_schedule, rest_line, schedule_limit, schedule_reason, IsMoving, IsOfActivations, IsOfSchedule}
 use Rattle.answer_solutions.specs.Checks.{break_reason, told_of, IsJudgement}
 use Rattle.workflow_laws.proofs.Decided.{dec_label, is_judged, Dec, IsComplete, IsSound}
 use Rattle.workflow_laws.proofs.ReadLabels.{are_labels, no_memory}

@@ -5,8 +5,6 @@ use Rattle.std.specs.Option.{option_and_then}
 use Rattle.std.proofs.lemmas.Bool.Decides.{nat_tests}
 use Rattle.base_kit.specs.Numbers.{number_of}
 use Rattle.cfg_round_trip.proofs.WordsBack.{up_to_back}
-use Rattle.bonsai_top.specs.declared.command.Form.{Form}
-use Rattle.bonsai_top.specs.declared.command.Command.{Command}
 use Rattle.bonsai_top.specs.declared.command.Command.TheVariants as command
 use Rattle.bonsai_top.specs.Words.{short, short_number_of, form_on_class, form_on_second}
 use Rattle.bonsai_top.specs.Commands.{built, command_of}

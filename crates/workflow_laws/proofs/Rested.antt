@@ -2,17 +2,16 @@
 use Rattle.std.proofs.Common.{◌≡◌, ◌≤◌, inl, inr, ℕ, true, List, [], ◌∷◌, ◌++◌, length, refl, sym, ap, ◌∙◌, subst, arith, Option, Some, None, Result, Ok, Err, codes}
 use Rattle.std.specs.Prelude.{slice_index_or}
 use Rattle.std.specs.List.{AllByRecursion}
-use Rattle.base_kit.specs.Names.{AreApart}
-use Rattle.cfg_ast.specs.declared.classes.DestClass.{DestClass}
 use Rattle.cfg_ast.specs.meaning.Classes.{classes_of}
 use Rattle.cfg_ast.specs.text.Words.{is_router_name}
 use Rattle.given_laws.specs.Laws.{GivenIsWellFormed}
 use Rattle.reading_laws.specs.WellRead.{WhatIsReadIsWell}
 use Rattle.srp_core.specs.declared.route.Route.{Route}
-use Rattle.srp_core.specs.Problem.{Problem, count, IsProblem}
+use Rattle.srp_core.specs.Problem.{Problem, count}
 use Rattle.srp_core.specs.Stability.{IsStable}
 use Rattle.srp_core.proofs.AlikeOf.{one_problem as problems_alike}
-use Rattle.solution_round_trip.specs.Laws.{AreNames, IsLabelInRange, PrintedIsReadBack, StableIsInRange}
+use Rattle.solution_length.specs.Laws.{StableTextIsShort}
+use Rattle.solution_round_trip.specs.Laws.{AreNames, PrintedIsReadBack, StableIsInRange}
 use Rattle.solution_text.specs.Printed.{labels_text}
 use Rattle.solution_text.specs.Solutions.{labels_of_text}
 use Rattle.route_run.specs.declared.schedule.Activation.{Activation}
@@ -22,21 +21,21 @@ use Rattle.route_run.specs.Activations.{labels_after, no_labels}
 use Rattle.route_run.specs.Schedules.{run_of, schedule_of_text}
 use Rattle.answer_kit.specs.ClassNumbers.{class_at}
 use Rattle.answer_kit.specs.Outcome.{Outcome, done}
-use Rattle.answer_kit.specs.SecondFiles.{IsOfSecond}
+use Rattle.answer_kit.specs.SecondFiles.{solution_limit, IsOfSecond}
 use Rattle.answer_kit.proofs.NamesApart.{problem_apart}
 use Rattle.answer_kit.proofs.OneClass.{some_prefix}
 use Rattle.answer_runs.specs.Schedules.{long_schedule, rest_line, schedule_limit, schedule_reason}
-use Rattle.answer_runs.specs.Schedules.{IsMoving, IsOfActivations, IsOfSchedule, IsRest, IsRunOf, IsRunAnswer}
+use Rattle.answer_runs.specs.Schedules.{IsMoving, IsOfActivations, IsOfSchedule, IsRunOf, IsRunAnswer}
 use Rattle.answer_solutions.specs.Checks.{IsCheckAnswer}
 use Rattle.answer_solutions.proofs.GroupNames.{router_names}
 use Rattle.carried_laws.proofs.Carried.{not_refused}
 use Rattle.bonsai_top.specs.declared.command.Command.TheVariants as command
 use Rattle.workflow_laws.specs.Orders.{WhatRestsIsStable}
 use Rattle.workflow_laws.specs.Words.{check, run}
-use Rattle.workflow_laws.proofs.Answers.{answer_of, done_reading, IsDoneReading}
+use Rattle.workflow_laws.proofs.Answers.{answer_of, done_reading}
 use Rattle.workflow_laws.proofs.Kept.{has_class}
 use Rattle.workflow_laws.proofs.Named.{names_check, names_run}
-use Rattle.workflow_laws.proofs.Rests.{some_class, IsOfSome}
+use Rattle.workflow_laws.proofs.Rests.{some_class}
 use Rattle.workflow_laws.proofs.Told.{text_told_stable}
 use Rattle.workflow_laws.proofs.Up.{check_of}
 
@@ -44,10 +43,10 @@ abbrev rested : List ℕ → List ℕ
 rested written = codes "rest\n" ++ written
 
 -- stable labels were written
-record AreRested (P : Problem) (written : List ℕ) : Type 0 where
-  labels : List (Option Route)
-  stable : IsStable P labels
-  is : written ≡ labels_text P.names labels
+pub record AreRested (P : Problem) (written : List ℕ) : Type 0 where
+  pub labels : List (Option Route)
+  pub stable : IsStable P labels
+  pub is : written ≡ labels_text P.names labels
 
 same_end : (written other : List ℕ) → done (rested written) ≡ done (rested other) → written ≡ other
 same_end written other same = let out : rested written ≡ rested other = ap (λ (o : Outcome). o.out) same in cc
@@ -73,12 +72,12 @@ module _ (P : Problem) (written : List ℕ) where
   of_schedule (Err (schedule_refusal.UnknownRouter line)) is = absurd (not_refused (rested written) (schedule_reason line) is)
   of_schedule (Err schedule_refusal.Memory) is = absurd is
 
-  are_rested : (schedule : List ℕ) → IsOfSecond schedule_limit long_schedule (Some schedule) (IsOfSchedule P) (done (rested written)) → AreRested P written
+  pub are_rested : (schedule : List ℕ) → IsOfSecond schedule_limit long_schedule (Some schedule) (IsOfSchedule P) (done (rested written)) → AreRested P written
   are_rested schedule (inl long) = absurd (not_refused (rested written) long_schedule long.1)
   are_rested schedule (inr is) = of_schedule (schedule_of_text P.names schedule) is.1
 
-pub what_rests_is_stable : WhatIsReadIsWell → GivenIsWellFormed → PrintedIsReadBack → StableIsInRange → WhatRestsIsStable
-what_rests_is_stable well formed printed range contents F S T text schedule written N small holds told x short kept checked y =
+pub what_rests_is_stable : WhatIsReadIsWell → GivenIsWellFormed → PrintedIsReadBack → StableIsInRange → StableTextIsShort → WhatRestsIsStable
+what_rests_is_stable well formed printed range few contents F S T text schedule written N small holds told x kept checked y =
     let d = done_reading (run F N T) contents (command.Run N) refl (names_run F T N small) text holds (rested written) x in
     let n = d.network in
     let read = well text n d.read in
@@ -98,6 +97,7 @@ what_rests_is_stable well formed printed range contents F S T text schedule writ
     } in
     let a = are_rested P written schedule r.allowed.ran in
     let in_range = range n ∣ (text, read.given) ∣₁ p.0 P a.labels own a.stable in
+    let short : length written ≤ solution_limit = subst (λ (bs : List ℕ). length bs ≤ solution_limit) (sym a.is) (few n ∣ (text, read.given) ∣₁ read.faultless p.0 P a.labels own a.stable) in
     let as_many = a.stable.fitting.total ∙ sym own.rules.tables.names in
     let reads = ap (labels_of_text P.protocol P.names) a.is ∙ printed P.protocol P.names a.labels names as_many in_range in
     text_told_stable P k.problem alike own.rules a.labels a.stable written checked short reads k.judgement

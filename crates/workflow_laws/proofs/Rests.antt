@@ -28,8 +28,8 @@ use Rattle.solution_text.specs.Solutions.{labels_of_text}
 use Rattle.route_run.specs.declared.schedule.Activation.{Activation}
 use Rattle.route_run.specs.declared.schedule.Activation.TheVariants.{One}
 use Rattle.route_run.specs.declared.schedule.ScheduleRefusal.{ScheduleRefusal}
-use Rattle.route_run.specs.Activations.{labels_after, no_labels, IsFirstMoving}
-use Rattle.route_run.specs.Orders.{IsOrderOf, IsSolutionLike}
+use Rattle.route_run.specs.Activations.{labels_after, no_labels}
+use Rattle.route_run.specs.Orders.{IsOrderOf}
 use Rattle.route_run.specs.Schedules.{run_of, schedule_of_text}
 use Rattle.route_run.proofs.AlikeRuns.{rest_same}
 use Rattle.route_run.proofs.Reaching.{order_reaches}
@@ -41,7 +41,7 @@ use Rattle.answer_kit.specs.Outcome.{Outcome, done, not_stable}
 use Rattle.answer_kit.specs.SecondFiles.{long_solution, solution_reason, IsOfLabels, IsOfSolution, IsOfSecond}
 use Rattle.answer_kit.proofs.NamesApart.{problem_apart}
 use Rattle.answer_kit.proofs.OneClass.{some_prefix}
-use Rattle.answer_runs.specs.Reaches.{name_lines, IsToldOf, IsReach, IsReachOf, IsReachAnswer, IsOrderTold}
+use Rattle.answer_runs.specs.Reaches.{name_lines, IsToldOf, IsReach, IsReachOf, IsReachAnswer}
 use Rattle.answer_runs.specs.Schedules.{schedule_limit, long_schedule, IsMoving, rest_line, IsRest, IsOfActivations, IsOfSchedule, IsRunOf, IsRunAnswer}
 use Rattle.answer_solutions.specs.Checks.{break_reason}
 use Rattle.answer_solutions.proofs.GroupNames.{router_names}
@@ -51,7 +51,7 @@ use Rattle.bonsai_top.specs.declared.command.Command.TheVariants as command
 use Rattle.workflow_laws.specs.Orders.{RestsLike, WhatIsReachedRests}
 use Rattle.workflow_laws.specs.Setting.{HasClass}
 use Rattle.workflow_laws.specs.Words.{run, reach}
-use Rattle.workflow_laws.proofs.Answers.{answer_of, done_reading, IsDoneReading}
+use Rattle.workflow_laws.proofs.Answers.{answer_of, done_reading}
 use Rattle.workflow_laws.proofs.Kept.{has_class}
 use Rattle.workflow_laws.proofs.Named.{names_reach, names_run}
 use Rattle.workflow_laws.proofs.Schedules.{names_are_read, run_is}
@@ -60,19 +60,19 @@ use Rattle.workflow_laws.proofs.ShortOrders.{order_short}
 name_of : Router → List ℕ
 name_of r = r.name
 
-not_broken : (bytes reason : List ℕ) → done bytes ≡ not_stable reason → ⊥
+pub not_broken : (bytes reason : List ℕ) → done bytes ≡ not_stable reason → ⊥
 not_broken bytes reason same = let one : Done ≡ NotStable = ap (λ (o : Outcome). o.status) same in cc
 
 -- ---- what was reached
 
 -- the solution gives stable labels, and the order is theirs
-record IsReached (P : Problem) (solution order : List ℕ) : Type 0 where
-  labels : List (Option Route)
-  read : labels_of_text P.protocol P.names solution ≡ Ok labels
-  stable : IsStable P labels
-  run : List ℕ
-  is : IsOrderOf P labels run
-  text : order ≡ name_lines P run
+pub record IsReached (P : Problem) (solution order : List ℕ) : Type 0 where
+  pub labels : List (Option Route)
+  pub read : labels_of_text P.protocol P.names solution ≡ Ok labels
+  pub stable : IsStable P labels
+  pub run : List ℕ
+  pub is : IsOrderOf P labels run
+  pub text : order ≡ name_lines P run
 
 module _ (P : Problem) (solution order : List ℕ) where
   of_answer : (labels : List (Option Route)) → labels_of_text P.protocol P.names solution ≡ Ok labels → (a : Answer) → Judges P labels a → IsToldOf P labels a (done order) → IsReached P solution order
@@ -84,7 +84,7 @@ module _ (P : Problem) (solution order : List ℕ) where
   of_labels (Err (sol_refusal.At line kind)) reads is = absurd (not_refused order (solution_reason line kind) is)
   of_labels (Err sol_refusal.Memory) reads is = absurd is
 
-  reached : IsOfSolution P (Some solution) (IsReach P) (done order) → IsReached P solution order
+  pub reached : IsOfSolution P (Some solution) (IsReach P) (done order) → IsReached P solution order
   reached (inl long) = absurd (not_refused order long_solution long.1)
   reached (inr is) = of_labels (labels_of_text P.protocol P.names solution) refl is.1
 
@@ -100,7 +100,7 @@ some_class n number A written (Some class) at is = record { class = class; class
 
 -- ---- what is run
 
-from_all : (A : ℕ → Type 0) (xs : List ℕ) → All A xs → AllByRecursion A xs
+pub from_all : (A : ℕ → Type 0) (xs : List ℕ) → All A xs → AllByRecursion A xs
 from_all A [] all = tt
 from_all A (x ∷ xs) all = (all 0 x (omega arith), from_all A xs (λ k d h. all (suc k) d (omega arith)))
 

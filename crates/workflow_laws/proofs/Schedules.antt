@@ -1,7 +1,7 @@
 -- The names that `reach` writes are the schedule that `run` reads.
-use Rattle.std.proofs.Common.{◌≡◌, ◌≢◌, ◌≤◌, ◌<◌, ◌&&◌, ℕ, zero, suc, Bool, true, false, cond, List, [], ◌∷◌, ◌++◌, length, map, flat_map, refl, sym, ap, ◌∙◌, subst, arith, Option, Some, None, Result, Ok, Err, codes, true≢false}
-use Rattle.std.specs.Prelude.{bytes_eq, position, slice_index_or, All}
-use Rattle.std.specs.List.{AllByRecursion, list_all}
+use Rattle.std.proofs.Common.{◌≡◌, ◌<◌, ℕ, zero, suc, Bool, true, false, cond, List, [], ◌∷◌, ◌++◌, length, map, flat_map, refl, sym, ap, ◌∙◌, subst, arith, Option, Some, Ok, codes, true≢false}
+use Rattle.std.specs.Prelude.{bytes_eq, position, slice_index_or}
+use Rattle.std.specs.List.{AllByRecursion}
 use Rattle.std.specs.Option.{option_map}
 use Rattle.std.proofs.lemmas.Slice.Eq.{bytes_eq-Decides}
 use Rattle.base_kit.specs.Names.{AreApart}
@@ -17,8 +17,7 @@ use Rattle.certificate_round_trip.proofs.ReadBack.{router_back}
 use Rattle.srp_core.specs.Problem.{Problem}
 use Rattle.route_run.specs.declared.schedule.Activation.{Activation}
 use Rattle.route_run.specs.declared.schedule.Activation.TheVariants.{One, Round}
-use Rattle.route_run.specs.declared.schedule.ScheduleRefusal.{ScheduleRefusal}
-use Rattle.route_run.specs.Schedules.{activation_of, LineWord, line_word, words_at, words_on, before, or_unknown, schedule_of_words, words_of_text, schedule_of_text, routers_of, run_of}
+use Rattle.route_run.specs.Schedules.{activation_of, words_at, words_on, before, or_unknown, schedule_of_words, schedule_of_text, run_of}
 use Rattle.answer_runs.specs.Reaches.{name_lines}
 
 abbrev name_at : List (List ℕ) → ℕ → List ℕ

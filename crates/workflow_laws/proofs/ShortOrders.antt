@@ -1,9 +1,8 @@
 -- An order has each router at most once, so its text is short.
-use Rattle.std.proofs.Common.{◌≡◌, ◌≢◌, ◌≤◌, ◌<◌, ◌+◌, ◌*◌, inl, inr, ℕ, zero, suc, Bool, true, false, not, cond, List, [], ◌∷◌, ◌++◌, Option, length, filter, refl, sym, ap, ◌∙◌, subst, arith, codes, nat_eq, length-append}
+use Rattle.std.proofs.Common.{◌≡◌, ◌≢◌, ◌≤◌, ◌<◌, ◌+◌, ◌*◌, inl, inr, ℕ, zero, suc, Bool, true, false, cond, List, [], ◌∷◌, ◌++◌, Option, length, refl, sym, subst, arith, codes, nat_eq, length-append}
 use Rattle.std.specs.Prelude.{slice_index_or}
 use Rattle.std.specs.List.{AllByRecursion}
 use Rattle.base_kit.proofs.Elements.{In}
-use Rattle.base_kit.proofs.SetFacts.{same_number, other_number}
 use Rattle.cfg_ast.specs.text.Words.{is_router_name}
 use Rattle.cfg_round_trip.proofs.ShortWords.{router_name_short}
 use Rattle.srp_core.specs.declared.route.Route.{Route}

@@ -39,7 +39,7 @@ any_step : {X : Type 0} (f : X → Bool) (x : X) (xs : List X) (b : Bool) → f 
 any_step f x xs true is e more = (x, inl refl, is)
 any_step f x xs false is e more = (let r = more e in (r.0, inr r.1, r.2))
 
-any_some : {X : Type 0} (f : X → Bool) (xs : List X) → list_any f xs ≡ true → (x : X) × In xs x × (f x ≡ true)
+pub any_some : {X : Type 0} (f : X → Bool) (xs : List X) → list_any f xs ≡ true → (x : X) × In xs x × (f x ≡ true)
 any_some f [] e = absurd (true≢false (sym e))
 any_some f (x ∷ xs) e = any_step f x xs (f x) refl e (any_some f xs)
 

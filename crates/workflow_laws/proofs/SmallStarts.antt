@@ -3,12 +3,14 @@
 -- 1. No router of the network that is read back has a prefix list.
 -- 2. To each prefix of the class some group has an initial route, and so has its router there.
 -- 3. All prefixes of the class have one problem there, so equal initial routes: they are in one class.
+-- 4. In BGP there is no other class.
 use Rattle.std.proofs.Common.{◌≡◌, ℕ, zero, suc, ◌<◌, ◌≤◌, Bool, true, false, ◌||◌, List, [], ◌∷◌, ◌++◌, map, length, inl, inr}
 use Rattle.std.proofs.Common.{Option, Some, None, Ok, refl, sym, ap, ◌∙◌, subst, arith}
-use Rattle.std.specs.Prelude.{Contains, filter, filter_map, flat_map, is_some, nat_lt, slice_index_or}
+use Rattle.std.specs.Prelude.{Contains, filter_map, flat_map, is_some, nat_lt, slice_index_or}
 use Rattle.std.specs.List.{range_with_len}
 use Rattle.std.specs.Option.{option_map}
 use Rattle.std.proofs.lemmas.Bool.Decides.{nat_tests}
+use Rattle.base_kit.specs.declared.protocol.Protocol.TheVariants.{Bgp}
 use Rattle.base_kit.specs.Prefixes.{Prefix}
 use Rattle.base_kit.proofs.Elements.{In, contains_in, filter_in, flat_map_in, in_contains, in_map, map_in}
 use Rattle.cfg_ast.specs.declared.classes.DestClass.{DestClass}
@@ -26,7 +28,7 @@ use Rattle.config_emit.specs.Laws.{EmittedCanBePrinted}
 use Rattle.config_emit.specs.Plan.{Plan, small}
 use Rattle.reading_laws.specs.WellRead.{WhatIsReadIsWell}
 use Rattle.srp_core.specs.declared.route.Route.{Route}
-use Rattle.srp_core.specs.Problem.{count, initial, Problem}
+use Rattle.srp_core.specs.Problem.{count, Problem}
 use Rattle.srp_core.specs.ProblemOf.{route_from, start_route, IsProblemOf}
 use Rattle.srp_core.specs.Quotient.{group_of, IsQuotient}
 use Rattle.srp_quotient.specs.Groups.{quotient_problem}
@@ -38,12 +40,14 @@ use Rattle.answer_kit.proofs.OneClass.{some_prefix}
 use Rattle.bonsai_top.specs.declared.command.Command.TheVariants as command
 use Rattle.carried_laws.proofs.Carried.{plan_text}
 use Rattle.workflow_laws.specs.ClassKept.{ClassIsKept, HasClassOf}
-use Rattle.workflow_laws.specs.Setting.{HasPrefixesOf}
+use Rattle.workflow_laws.specs.Setting.{HasClass, HasPrefixesOf}
 use Rattle.workflow_laws.specs.Words.{compress}
-use Rattle.workflow_laws.proofs.Answers.{done_reading, IsDoneReading}
+use Rattle.workflow_laws.proofs.Answers.{done_reading}
+use Rattle.workflow_laws.proofs.FewClasses.{short_of_class}
 use Rattle.workflow_laws.proofs.Kept.{has_class, one_network}
 use Rattle.workflow_laws.proofs.Named.{names_compress}
-use Rattle.workflow_laws.proofs.Rests.{some_class, IsOfSome}
+use Rattle.workflow_laws.proofs.OneClass.{of_group, one_number, originates_class}
+use Rattle.workflow_laws.proofs.Rests.{some_class}
 use Rattle.workflow_laws.proofs.SmallClass.{among, has_number, joined, originated_here, same_class, set_in}
 
 -- ---- 1. no prefix lists
@@ -123,11 +127,11 @@ unfolding is_too_long
 few bs e = let f = second (nat_lt 16777216 (length bs)) (nat_lt 1000000 (count_newlines bs)) e in grind (arith, nat_tests)
 
 -- networks with one problem for all prefixes of a class, the one the quotient of the other
-keeps : (n m : Network) (class : DestClass) (P Q : Problem) (groups text : List ℕ) → Contains (classes_of n) class
+keeps : WhatIsReadIsWell → (n m : Network) (class : DestClass) (P Q : Problem) (groups text : List ℕ) → Contains (classes_of n) class
     → reading_of text ≡ Ok m → flat_map lists_on m.routers ≡ []
     → ((p : Prefix) → Contains class.prefixes p → IsProblemOf n p P) → ((p : Prefix) → Contains class.prefixes p → IsProblemOf m p Q)
     → IsQuotient P groups Q → HasClassOf class text
-keeps n m class P Q groups text has reads none of below quotient =
+keeps well n m class P Q groups text has reads none of below quotient =
     let inside : (p : Prefix) → Contains class.prefixes p → In (originated m) p = λ p i. (
     let c = class_is n class has in
     let listed : In (class_of n c.least).prefixes p = subst (λ (k : DestClass). In k.prefixes p) (sym c.is) (in_contains class.prefixes p i) in
@@ -138,7 +142,26 @@ keeps n m class P Q groups text has reads none of below quotient =
     let prefixes : HasPrefixesOf class (class_of m k.least) = λ p i. (
     let same = same_class m first.0 p none (sym (below first.0 first.1).init ∙ (below p i).init) in
     among m k.least p (joined m k.least first.0 p k.alike same) (inside p i)) in
-    record { number = k.number; of_text = record { network = m; reads = reads; class = class_of m k.least; class_is = k.at }; prefixes = prefixes }
+    let named : HasClass text k.number = record { network = m; reads = reads; class = class_of m k.least; class_is = k.at } in
+    record { number = k.number; short = short_of_class well text k.number named; of_text = named; prefixes = prefixes }
+
+-- ---- 4. no other class
+
+-- a router that originates the prefix
+originator : (m : Network) (p : Prefix) → In (originated m) p → (r : Router) × In m.routers r × (is_some (initial_route r p) ≡ true)
+unfolding originated
+originator m p at =
+    let r = flat_map_in originated_by m.routers p (set_in (flat_map originated_by m.routers) p at) in
+    (r.0, r.1, (filter_in (λ (q : Prefix). is_some (initial_route r.0 q)) (filter_map up_subnet r.0.interfaces) p r.2).1)
+
+only_one : (e : Plan) → e.problem.protocol ≡ Bgp → (m : Network) → bare m ≡ bare (emitted e) → flat_map lists_on m.routers ≡ []
+    → (Q : Problem) → ((p : Prefix) → Contains e.class.prefixes p → IsProblemOf m p Q) → (k : ℕ) (c : DestClass) → class_at (classes_of m) k ≡ Some c → k ≡ 1
+only_one e bgp m same none Q below k c at = one_number m (λ p q i j. same_class m p q none (sym (of p i).init ∙ (of q j).init)) k c at
+  where
+    of : (p : Prefix) → In (originated m) p → IsProblemOf m p Q
+    of p i =
+        let r = originator m p i in
+        below p (contains_in e.class.prefixes p (originates_class e bgp r.0 (of_group e m r.0 same r.1) p r.2))
 
 pub class_is_kept : WhatIsReadIsWell → TextHasProblemOfGroups → PlanFits → EmittedCanBePrinted → PrintedIsReadBack → QuotientIsQuotient → ClassIsKept
 class_is_kept well has_problem fits printed back is_quotient contents F large bytes N short holds x =
@@ -162,7 +185,14 @@ class_is_kept well has_problem fits printed back is_quotient contents F large by
     (is_quotient e.problem e.groups e.count (t.is.built.of first.0 first.1).rules t.is.coarsest.admissible t.is.numbered) in
     let below : (p : Prefix) → Contains class.prefixes p → IsProblemOf h.read p (small e) =
     λ p i. h.problem p (subst (λ (c : DestClass). Contains c.prefixes p) (sym t.is.class_is) i) in
+    let kept : HasClassOf class bytes = keeps well n h.read class e.problem (small e) e.groups bytes has (ap reading_of t.text ∙ h.reads) none t.is.built.of below quotient in
+    let other : h.read ≡ kept.of_text.network = one_network h.read kept.of_text.network (sym (ap reading_of t.text ∙ h.reads) ∙ kept.of_text.reads) in
     record {
       of_large = record { network = n; reads = d.read; class = class; class_is = r.class_is };
-      of_small = keeps n h.read class e.problem (small e) e.groups bytes has (ap reading_of t.text ∙ h.reads) none t.is.built.of below quotient;
+      of_small = kept;
+      in_bgp = λ over. (
+          let protocol : Some e.problem.protocol ≡ Some Bgp = sym (t.is.built.of first.0 first.1).protocol ∙ over in
+          let bgp : e.problem.protocol ≡ Bgp = cc in
+          subst (λ (m : Network). (k : ℕ) (c : DestClass) → class_at (classes_of m) k ≡ Some c → k ≡ 1) other
+          (only_one e bgp h.read (ap bare one ∙ again.same) none (small e) (λ p i. h.problem p i)));
     }

@@ -1,16 +1,16 @@
 -- What is told of stable labels.
-use Rattle.std.proofs.Common.{◌≡◌, ◌≤◌, inl, inr, ℕ, List, [], ◌∷◌, length, refl, sym, ap, ◌∙◌, subst, arith, Option, Some, None, Result, Ok, Err, codes}
+use Rattle.std.proofs.Common.{◌≡◌, ◌≤◌, inl, inr, ℕ, List, length, sym, ap, ◌∙◌, subst, arith, Option, Some, Result, Ok, codes}
 use Rattle.srp_core.specs.declared.route.Route.{Route}
 use Rattle.srp_core.specs.Alike.{ProblemsAlike}
 use Rattle.srp_core.specs.Problem.{Problem, IsProblem}
 use Rattle.srp_core.specs.Stability.{IsStable}
 use Rattle.solution_check.specs.declared.judgement.Answer.{Answer}
-use Rattle.solution_check.specs.declared.judgement.Answer.TheVariants.{Stable, Not}
+use Rattle.solution_check.specs.declared.judgement.Answer.TheVariants.{Stable}
 use Rattle.solution_check.proofs.OneAnswer.{one_answer}
 use Rattle.solution_text.specs.declared.refusal.SolRefusal.{SolRefusal}
 use Rattle.solution_text.specs.Solutions.{labels_of_text}
 use Rattle.answer_kit.specs.Outcome.{Outcome, done}
-use Rattle.answer_kit.specs.SecondFiles.{solution_limit, long_solution, IsOfLabels, IsOfLabelsIn, IsOfSolution}
+use Rattle.answer_kit.specs.SecondFiles.{solution_limit, IsOfLabels, IsOfSolution}
 use Rattle.answer_solutions.specs.Carries.{IsIfStable, IsOfStable}
 use Rattle.answer_solutions.specs.Checks.{told_of, IsJudgement}
 

@@ -1,5 +1,5 @@
 -- Asked below, carried up.
-use Rattle.std.proofs.Common.{◌≡◌, ℕ, List, refl, sym, ap, ◌∙◌, subst, Option, Some, None, Ok, codes}
+use Rattle.std.proofs.Common.{◌≡◌, ℕ, List, refl, ap, subst, Option, Some}
 use Rattle.std.specs.Prelude.{Contains, IsSome}
 use Rattle.cfg_ast.specs.declared.classes.DestClass.{DestClass}
 use Rattle.cfg_ast.specs.declared.network.Network.{Network}
@@ -9,18 +9,16 @@ use Rattle.compress_laws.specs.Laws.{TextHasProblemOfGroups}
 use Rattle.reading_laws.specs.WellRead.{WhatIsReadIsWell}
 use Rattle.srp_core.proofs.AlikeOf.{one_problem as problems_alike}
 use Rattle.answer_kit.specs.ClassNumbers.{class_at, IsOfClass}
-use Rattle.answer_kit.specs.declared.status.Status.TheVariants.{Done}
-use Rattle.answer_kit.specs.Outcome.{Outcome, done}
+use Rattle.answer_kit.specs.Outcome.{Outcome}
 use Rattle.answer_kit.proofs.OneClass.{some_prefix}
 use Rattle.answer_solutions.specs.Carries.{IsLifted, IsLiftOf, IsLiftAnswer}
 use Rattle.answer_solutions.specs.Checks.{IsCheckOf, IsCheckAnswer}
 use Rattle.bonsai_top.specs.declared.command.Command.TheVariants as command
-use Rattle.bonsai_top.specs.Outcomes.{IsOutcome}
 use Rattle.workflow_laws.specs.CarriedUp.{CheckBelowIsLift}
-use Rattle.workflow_laws.specs.Setting.{Contents, IsCompressed, verdict}
+use Rattle.workflow_laws.specs.Setting.{verdict}
 use Rattle.workflow_laws.specs.Words.{check, lift}
-use Rattle.workflow_laws.proofs.Answers.{answer_of, IsDoneOver}
-use Rattle.workflow_laws.proofs.Kept.{has_class, done_compress, IsSmall, small_network}
+use Rattle.workflow_laws.proofs.Answers.{answer_of}
+use Rattle.workflow_laws.proofs.Kept.{has_class, done_compress, short_large, short_small, IsSmall, small_network}
 use Rattle.workflow_laws.proofs.Named.{names_check, names_lift}
 use Rattle.workflow_laws.proofs.Verdicts.{says_so}
 
@@ -45,8 +43,8 @@ check_below_is_lift well built has_problem contents F G S N K c told lifted chec
     let n = c.of_large.network in
     let m = c.of_small.network in
     let small = small_network well built has_problem contents F G N K c in
-    let first = done_compress contents F G N K c in
-    let lifts = answer_of (lift F N S) contents (command.Lift N) refl (names_lift F S N c.short) c.large c.holds lifted n c.of_large.reads first.short x in
-    let checks = answer_of (check G K S) contents (command.Check K) refl (names_check G S K c.short_small) c.small c.kept checked m c.of_small.reads small.short y in
+    let first = done_compress well contents F G N K c in
+    let lifts = answer_of (lift F N S) contents (command.Lift N) refl (names_lift F S N (short_large well contents F G N K c)) c.large c.holds lifted n c.of_large.reads first.short x in
+    let checks = answer_of (check G K S) contents (command.Check K) refl (names_check G S K (short_small well contents F G N K c)) c.small c.kept checked m c.of_small.reads small.short y in
     below_is_lift n m c.of_large.class c.of_small.class c.small (has_class n N c.of_large.class c.of_large.class_is) small c.prefixes (contents S) told lifted checked
     (lift_of n N c.of_large.class (contents S) lifted c.of_large.class_is lifts) (check_of m K c.of_small.class (contents S) checked c.of_small.class_is checks)

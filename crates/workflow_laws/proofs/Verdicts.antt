@@ -1,5 +1,5 @@
 -- Where a command does its work on stable labels alone, its outcome tells what `check` says of them.
-use Rattle.std.proofs.Common.{◌≡◌, inl, inr, ℕ, List, [], ◌∷◌, refl, sym, ap, ◌∙◌, subst, Option, Some, None, Result, Ok, Err, codes}
+use Rattle.std.proofs.Common.{◌≡◌, inl, inr, ℕ, List, sym, ap, Option, Some, None, Result, Ok, Err, codes}
 use Rattle.std.specs.Prelude.{IsSome}
 use Rattle.srp_core.specs.declared.route.Route.{Route}
 use Rattle.srp_core.specs.Alike.{ProblemsAlike}
@@ -11,7 +11,7 @@ use Rattle.solution_text.specs.declared.refusal.SolRefusal.TheVariants as sol_re
 use Rattle.solution_text.specs.Solutions.{labels_of_text}
 use Rattle.answer_kit.specs.declared.status.Status.{Status}
 use Rattle.answer_kit.specs.declared.status.Status.TheVariants.{Done}
-use Rattle.answer_kit.specs.Outcome.{Outcome, done, not_stable}
+use Rattle.answer_kit.specs.Outcome.{Outcome, done}
 use Rattle.answer_kit.specs.SecondFiles.{IsOfLabels, IsOfSolution}
 use Rattle.answer_kit.proofs.OneText.{one_of_solution}
 use Rattle.answer_solutions.specs.Carries.{IsIfStable, IsOfStable}

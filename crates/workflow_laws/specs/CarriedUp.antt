@@ -1,8 +1,7 @@
 -- Asked below, carried up: what `check` says of a solution in the small network, and what `lift` makes of it in the
 -- large one.
-use Rattle.std.specs.Prelude.{◌≡◌, ◌≤◌, ℕ, List, Some, IsSome, codes, length}
+use Rattle.std.specs.Prelude.{◌≡◌, ℕ, List, Some, IsSome, codes}
 use Rattle.answer_kit.specs.Outcome.{Outcome, done}
-use Rattle.answer_kit.specs.SecondFiles.{solution_limit}
 use Rattle.bonsai_top.specs.Outcomes.{IsOutcome}
 use Rattle.workflow_laws.specs.Setting.{Contents, IsCompressed, IsShort, verdict}
 use Rattle.workflow_laws.specs.Words.{check, lift}
@@ -16,5 +15,5 @@ CheckBelowIsLift = (contents : Contents) (F G S : List ℕ) (N K : ℕ) → IsCo
 -- What `lift F N S` writes is stable under `check F N`.
 abbrev pub WhatIsLiftedIsStable : Type 0
 WhatIsLiftedIsStable = (contents : Contents) (F S T text solution written : List ℕ) (N : ℕ) → IsShort N → contents F ≡ Some text → contents S ≡ Some solution
-    → IsOutcome (lift F N S) contents (done written) → length written ≤ solution_limit → contents T ≡ Some written
+    → IsOutcome (lift F N S) contents (done written) → contents T ≡ Some written
     → (checked : Outcome) → IsOutcome (check F N T) contents checked → checked ≡ done (codes "stable\n")

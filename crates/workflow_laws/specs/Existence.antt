@@ -1,7 +1,15 @@
 -- There is an outcome, and no other one but for the choice of a certificate.
-use Rattle.std.specs.Prelude.{◌≡◌, ◌⊎◌, ℕ, List, Some, IsSome}
+use Rattle.std.specs.Prelude.{◌≡◌, ◌≢◌, ◌⊎◌, ℕ, Bool, true, false, List, Option, Some, None, IsSome, Ok, Err, Contains}
+use Rattle.cfg_ast.specs.declared.classes.DestClass.{DestClass}
+use Rattle.cfg_ast.specs.declared.network.Network.{Network}
+use Rattle.cfg_ast.specs.declared.refusal.ReadRefusal.TheVariants.{Memory}
+use Rattle.cfg_ast.specs.meaning.Classes.{classes_of}
+use Rattle.cfg_ast.specs.text.Reading.{reading_of}
+use Rattle.srp_build.specs.Built.{IsBuiltFor}
+use Rattle.srp_core.specs.Problem.{Problem}
 use Rattle.answer_kit.specs.declared.status.Status.TheVariants.{Done}
 use Rattle.answer_kit.specs.Outcome.{Outcome}
+use Rattle.bonsai_top.specs.declared.command.Command.{Command}
 use Rattle.bonsai_top.specs.declared.command.Command.TheVariants as command
 use Rattle.bonsai_top.specs.Commands.{command_of}
 use Rattle.bonsai_top.specs.OneOutcome.{AreTold}
@@ -52,3 +60,26 @@ pub record HaveCarried (contents : Contents) (F S : List ℕ) (N : ℕ) : Type 0
 abbrev pub SolutionsAreCarried : Type 0
 SolutionsAreCarried = (contents : Contents) (F S T text : List ℕ) (N : ℕ) → IsShort N → contents F ≡ Some text → IsSome (contents T)
     → HasOutcome (fold F N S) contents → HaveCarried contents F T N
+
+-- ---- there is an outcome
+
+-- Each text is read, or refused for a line and a kind.
+abbrev pub EachTextIsJudged : Type 0
+EachTextIsJudged = (text : List ℕ) → reading_of text ≢ Err Memory
+
+-- each class of a network that is read has a problem
+abbrev pub EachClassHasAProblem : Type 0
+EachClassHasAProblem = (text : List ℕ) (network : Network) → reading_of text ≡ Ok network → (class : DestClass) → Contains (classes_of network) class
+    → (problem : Problem) × IsBuiltFor network class problem
+
+-- the words ask for a certificate, or for the judgement of one
+abbrev pub on_certificates : Option Command → Bool
+on_certificates None = false
+on_certificates (Some (command.Certify class)) = true
+on_certificates (Some (command.Verify class)) = true
+on_certificates (Some other) = false
+
+-- Where each class has a problem, all words that are not about certificates have an outcome over files that are told.
+abbrev pub ThereIsAnOutcome : Type 0
+ThereIsAnOutcome = EachClassHasAProblem → (words : List (List ℕ)) (contents : Contents) → AreTold words contents
+    → on_certificates (command_of words) ≡ false → HasOutcome words contents

@@ -5,6 +5,7 @@ pub mod Certificates
 pub mod ClassKept
 pub mod Existence
 pub mod Orders
+pub mod PrintedShort
 pub mod Questions
 pub mod Setting
 pub mod Words

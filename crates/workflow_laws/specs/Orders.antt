@@ -1,6 +1,6 @@
 -- Orders: `run` of the order that `reach` writes rests in stable labels with the keys of the solution, and what rests
 -- under `run` is stable under `check`.
-use Rattle.std.specs.Prelude.{◌≡◌, ◌≤◌, ℕ, List, ◌++◌, Option, Some, Ok, codes, length}
+use Rattle.std.specs.Prelude.{◌≡◌, ℕ, List, ◌++◌, Option, Some, Ok, codes}
 use Rattle.srp_core.specs.declared.route.Route.{Route}
 use Rattle.srp_core.specs.Problem.{Problem}
 use Rattle.route_run.specs.Orders.{IsSolutionLike}
@@ -8,7 +8,6 @@ use Rattle.solution_text.specs.Printed.{labels_text}
 use Rattle.solution_text.specs.Solutions.{labels_of_text}
 use Rattle.answer_kit.specs.Groups.{IsProblemOfClass}
 use Rattle.answer_kit.specs.Outcome.{Outcome, done}
-use Rattle.answer_kit.specs.SecondFiles.{solution_limit}
 use Rattle.bonsai_top.specs.Outcomes.{IsOutcome}
 use Rattle.workflow_laws.specs.Setting.{Contents, HasClass, IsShort}
 use Rattle.workflow_laws.specs.Words.{check, run, reach}
@@ -34,5 +33,5 @@ WhatIsReachedRests = (contents : Contents) (F S T text solution order : List ℕ
 -- What `run F N T` writes behind the first line `rest` is stable under `check F N`, whatever the schedule T.
 abbrev pub WhatRestsIsStable : Type 0
 WhatRestsIsStable = (contents : Contents) (F S T text schedule written : List ℕ) (N : ℕ) → IsShort N → contents F ≡ Some text → contents T ≡ Some schedule
-    → IsOutcome (run F N T) contents (done (codes "rest\n" ++ written)) → length written ≤ solution_limit → contents S ≡ Some written
+    → IsOutcome (run F N T) contents (done (codes "rest\n" ++ written)) → contents S ≡ Some written
     → (checked : Outcome) → IsOutcome (check F N S) contents checked → checked ≡ done (codes "stable\n")

@@ -1,4 +1,4 @@
--- What may be concluded from the small network: questions that are asked of groups have one answer in both.
+-- What may be concluded from the small network: what its solutions show of groups, and three questions of the field.
 use Rattle.std.specs.Prelude.{ℕ, List, Contains}
 use Rattle.base_kit.specs.Prefixes.{Prefix}
 use Rattle.cfg_ast.specs.declared.classes.DestClass.{DestClass}
@@ -10,8 +10,8 @@ use Rattle.srp_core.specs.Quotient.{IsCoarsest, IsQuotient}
 use Rattle.workflow_laws.specs.Setting.{Contents, IsCompressed}
 
 -- A problem of the large network and one of the small, whose routers are the coarsest groups of the large one's: each
--- stable solution of either shows the same of the groups as some stable solution of the other. So reachability, path
--- lengths and waypoints have one answer.
+-- stable solution of either shows the same of the groups as some stable solution of the other. Reachability, path
+-- lengths and waypoints, asked of routers above and of groups below, have one answer.
 pub record AnswerAlike (problem small : Problem) (groups : List ℕ) : Type 0 where
   pub coarsest : IsCoarsest problem groups
   pub quotient : IsQuotient problem groups small

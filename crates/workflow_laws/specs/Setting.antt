@@ -39,8 +39,6 @@ pub record IsCompressed (contents : Contents) (F : List ℕ) (N : ℕ) (G : List
   pub small : List ℕ
   pub wrote : IsOutcome (compress F N) contents (done small)
   pub kept : contents G ≡ Some small
-  pub short : IsShort N
-  pub short_small : IsShort K
   pub of_large : HasClass large N
   pub of_small : HasClass small K
   pub prefixes : HasPrefixesOf of_large.class of_small.class

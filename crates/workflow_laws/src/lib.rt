@@ -10,8 +10,9 @@ ghost use Rattle.workflow_laws.specs.CarriedDown.{CheckIsFold, WhatIsFoldedIsLif
 ghost use Rattle.workflow_laws.specs.CarriedUp.{CheckBelowIsLift, WhatIsLiftedIsStable};
 ghost use Rattle.workflow_laws.specs.Certificates.{WhatIsCertifiedIsVerified, WhatIsVerifiedNamesTheGroups};
 ghost use Rattle.workflow_laws.specs.ClassKept.{ClassIsKept};
-ghost use Rattle.workflow_laws.specs.Existence.{OutcomesAgree, OutcomesComeTogether, SolutionsAreCarried};
+ghost use Rattle.workflow_laws.specs.Existence.{EachTextIsJudged, OutcomesAgree, OutcomesComeTogether, SolutionsAreCarried, ThereIsAnOutcome};
 ghost use Rattle.workflow_laws.specs.Orders.{WhatIsReachedRests, WhatRestsIsStable};
+ghost use Rattle.workflow_laws.specs.PrintedShort.{PrintedIsShort};
 ghost use Rattle.workflow_laws.specs.Questions.{SmallAnswersForLarge};
 
 use answer_certificates::laws::verify_answer_is_one;
@@ -21,16 +22,21 @@ use class_laws::built_problem_is_one;
 use compress_laws::laws::{plan_compresses, plan_fits, text_has_problem_of_groups};
 use emit_form_laws::laws::emitted_can_be_printed;
 use given_laws::given_is_well_formed;
-use quotient_laws::{pictures_agree, questions_carry, quotient_is_smallest};
-use reading_laws::what_is_read_is_well;
+use net_topology::laws::few_links;
+use quotient_laws::{
+    each_has_groups, groups_have_no_more_links, pictures_agree, questions_carry,
+    quotient_is_smallest,
+};
+use reading_laws::{text_fault_decides, what_is_read_is_well};
 use route_run::laws::{one_order, rest};
+use solution_length::{stable_text_is_short, text_of_groups_is_short};
 use solution_round_trip::{printed_is_read_back, stable_is_in_range};
 use srp_core::laws::{
     equal_keys, folds, lifts, lifts_and_folds_exist, listed_candidates, ospf_folds, ospf_lifts,
 };
-use srp_quotient::laws::quotient_is_quotient;
+use srp_quotient::laws::{quotient_is_problem, quotient_is_quotient};
 
-/// What `compress` writes has a class with the prefixes of the class that it was written for.
+/// What `compress` writes has a class with the prefixes of the class that it was written for, and in BGP no other.
 pub fn class_is_kept()
     ensures { ClassIsKept }
 {
@@ -52,12 +58,24 @@ pub fn check_below_is_lift()
     text_has_problem_of_groups();
 }
 
+/// What is written of stable labels is no longer than a solution may be, and an order no longer than a schedule.
+pub fn printed_is_short()
+    ensures { PrintedIsShort }
+{
+    what_is_read_is_well();
+    given_is_well_formed();
+    quotient_is_quotient();
+    stable_text_is_short();
+    text_of_groups_is_short();
+}
+
 /// What `lift` writes is stable in the large network.
 pub fn what_is_lifted_is_stable()
     ensures { WhatIsLiftedIsStable }
 {
     what_is_read_is_well();
     lift_is_read_back();
+    printed_is_short();
 }
 
 /// `check` and `fold` have one outcome, but for what is written where the work is done.
@@ -73,6 +91,7 @@ pub fn what_is_folded_is_stable_below()
     built_problem_is_one();
     text_has_problem_of_groups();
     fold_is_read_back();
+    printed_is_short();
 }
 
 /// `lift` takes what `fold` writes.
@@ -82,6 +101,7 @@ pub fn what_is_folded_is_lifted()
     what_is_read_is_well();
     built_problem_is_one();
     fold_is_read_back();
+    printed_is_short();
 }
 
 /// `verify` says yes to what `certify` writes.
@@ -116,6 +136,7 @@ pub fn what_rests_is_stable()
     given_is_well_formed();
     printed_is_read_back();
     stable_is_in_range();
+    stable_text_is_short();
 }
 
 /// The groups of the small network are its routers: compressed again it gets no smaller.
@@ -129,8 +150,8 @@ pub fn compressed_again()
     quotient_is_smallest();
 }
 
-/// Questions that are asked of groups, as reachability, path lengths and waypoints, have one answer in the
-/// large network and in the small one.
+/// Each stable solution of either network shows the same of the groups as some stable solution of the other one, and
+/// reachability, path lengths and waypoints have one answer in both.
 pub fn small_answers_for_large()
     ensures { SmallAnswersForLarge }
 {
@@ -168,4 +189,34 @@ pub fn solutions_are_carried()
     ospf_lifts();
     equal_keys();
     quotient_is_quotient();
+}
+
+/// Each text is read, or refused for a line and a kind.
+pub fn each_text_is_judged()
+    ensures { EachTextIsJudged }
+{
+    text_fault_decides();
+}
+
+/// Where each class has a problem, all words that are not about certificates have an outcome.
+pub fn there_is_an_outcome()
+    ensures { ThereIsAnOutcome }
+{
+    what_is_read_is_well();
+    each_text_is_judged();
+    given_is_well_formed();
+    each_has_groups();
+    few_links();
+    groups_have_no_more_links();
+    quotient_is_problem();
+    quotient_is_quotient();
+    listed_candidates();
+    lifts_and_folds_exist();
+    folds();
+    lifts();
+    ospf_folds();
+    ospf_lifts();
+    equal_keys();
+    one_order();
+    rest();
 }
