@@ -3,6 +3,7 @@ pub mod BgpParts
 pub mod ByEnds
 pub mod ClassSpots
 pub mod Emission
+pub mod FewLinks
 pub mod FirstUses
 pub mod KeyEq
 pub mod Known

@@ -1,5 +1,5 @@
 -- The plan of the arguments of `emit`, and what its parts keep.
-use Rattle.std.specs.Prelude.{◌≡◌, ℕ, List, map, Contains}
+use Rattle.std.specs.Prelude.{◌≡◌, ◌≤◌, ℕ, List, map, length, Contains}
 use Rattle.std.specs.List.{range_with_len}
 use Rattle.base_kit.specs.Partition.{IsNumbered}
 use Rattle.base_kit.specs.Prefixes.{Prefix}
@@ -14,10 +14,11 @@ use Rattle.config_emit.specs.declared.source.Source.{Source}
 abbrev pub plan_of : Source → Plan
 plan_of s = record { network = s.network.now; class = s.class.now; problem = s.srp.now; groups = s.groups.now; count = s.count; links = s.links.now }
 
--- the groups are numbered, and the problem is that of every prefix of the class
+-- the groups are numbered, the problem is that of every prefix of the class, and there are as few links as a text may give
 pub record IsSound (e : Plan) : Type 0 where
   pub numbered : IsNumbered e.groups e.count
   pub problem : (p : Prefix) → Contains e.class.prefixes p → IsProblemOf e.network p e.problem
+  pub few : length e.links ≤ 1048576
 
 abbrev pub IsSource : Source → Type 0
 IsSource s = IsSound (plan_of s)

@@ -7,7 +7,6 @@ ghost use Rattle.abstract_net.specs.Carried.{act_at, side_of};
 ghost use Rattle.srp_quotient.specs.Groups.{or_else};
 ghost use Rattle.config_emit.specs.ActLinks.{pair_of, own_sides, sides_or, sides_at, NotesSides, AreLastSides, FillsSides, drawn, act_link_by, act_links};
 
-use crate::number::place;
 use abstract_net::QLink;
 use base_kit::{Edge, NoMemory, Protocol};
 use srp_core::Srp;
@@ -17,7 +16,7 @@ use std::collections::HashMap;
 /// A link of the groups with its number, and the acts that stand at it for its ends, by their places.
 #[derive(Clone, Copy, Debug, PartialEq, Eq)]
 pub(crate) struct ActLink {
-    pub(crate) number: u32,
+    pub(crate) number: usize,
     pub(crate) low: u32,
     pub(crate) high: u32,
     pub(crate) to_low: Option<u32>,
@@ -144,7 +143,7 @@ fn some_act_at(edges: &[Edge], place: Option<u32>) -> Option<u32>
     }
 }
 
-fn drawn(edges: &[Edge], number: u32, link: &QLink, sides: Sides) -> ActLink
+fn drawn(edges: &[Edge], number: usize, link: &QLink, sides: Sides) -> ActLink
     ensures { result ≡ drawn edges.now number link.now sides }
 {
     ActLink {
@@ -181,9 +180,8 @@ fn links_filled_by(
 {
     let mut found = Vec::new(alloc);
     for i in 0..links.len() {
-        let number = place(i)?;
         let link = &links[i];
-        found.push(drawn(edges, number, link, filled_sides(fill, link)))?;
+        found.push(drawn(edges, i, link, filled_sides(fill, link)))?;
     }
     Ok(found)
 }

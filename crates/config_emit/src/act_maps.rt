@@ -19,8 +19,8 @@ use std::collections::HashMap;
 /// whether the exporter sends communities.
 #[derive(Clone, Copy, Debug, PartialEq, Eq)]
 pub(crate) struct ActMaps {
-    pub(crate) into: Option<u32>,
-    pub(crate) out: Option<u32>,
+    pub(crate) into: Option<usize>,
+    pub(crate) out: Option<usize>,
     pub(crate) sends: bool,
 }
 
@@ -31,12 +31,12 @@ pub(crate) struct Policies<'a> {
     pub(crate) acts: &'a [Act],
     pub(crate) closed: &'a Plain,
     pub(crate) maps: Vec<&'a Plain>,
-    pub(crate) closed_number: u32,
+    pub(crate) closed_number: usize,
     pub(crate) numbers: Vec<ActMaps>,
 }
 
 // The maps of a direction that carries nothing.
-fn closed_maps(closed: u32) -> ActMaps
+fn closed_maps(closed: usize) -> ActMaps
     ensures { result ≡ record { into = Some closed; out = None; sends = false } }
 {
     ActMaps {
@@ -50,7 +50,7 @@ fn map_number<'a>(
     alloc: Global,
     known: &mut MapNumbers<'a>,
     plain: &'a Plain,
-) -> Result<Option<u32>, NoMemory>
+) -> Result<Option<usize>, NoMemory>
     requires { AreNumbers known.old.numbers (maps_now known.old.maps.items) }
     ensures known { OnOk result (AreNumbers known.new.numbers (maps_now known.new.maps.items)) }
     ensures grown { OnOk result (IsGrown (maps_now known.old.maps.items) (maps_now known.new.maps.items)) }
@@ -84,7 +84,7 @@ fn import_maps<'a>(
 fn act_maps<'a>(
     alloc: Global,
     known: &mut MapNumbers<'a>,
-    closed: u32,
+    closed: usize,
     act: &'a Act,
 ) -> Result<ActMaps, NoMemory>
     requires known { AreNumbers known.old.numbers (maps_now known.old.maps.items) }
@@ -102,7 +102,7 @@ fn act_maps<'a>(
 fn maps_of_acts<'a>(
     alloc: Global,
     known: &mut MapNumbers<'a>,
-    closed: u32,
+    closed: usize,
     acts: &'a [Act],
 ) -> Result<Vec<ActMaps>, NoMemory>
     requires known { AreNumbers known.old.numbers (maps_now known.old.maps.items) }

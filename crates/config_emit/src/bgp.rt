@@ -1,6 +1,6 @@
 //! The BGP process of a group.
 
-ghost use Rattle.std.specs.Prelude.{◌≡◌, map, IfOk};
+ghost use Rattle.std.specs.Prelude.{◌≡◌, ◌<◌, All, map, IfOk};
 ghost use Rattle.config_emit.specs.BgpSteps.{announced, neighbor_of};
 ghost use Rattle.config_emit.specs.Emitted.{base_of};
 ghost use Rattle.config_emit.specs.MapNumbers.{maps_now, ArePolicies};
@@ -57,13 +57,14 @@ fn neighbor_of(
 ) -> Result<Neighbor, NoMemory>
     requires policies { ArePolicies policies.now }
     requires places { AreUses maps.now.places (map use_now maps.now.uses.items) }
+    requires few { link.now.number < 1048576 }
     ensures { IfOk result (λ n. n ≡ neighbor_of (maps_now policies.now.maps.items) policies.now.acts.now (map use_now maps.now.uses.items) numbers.now group link.now) }
 {
     let far = far_end(group, link);
     let here = maps_at(policies, link.act_to(group));
     let there = maps_at(policies, link.act_to(far));
     Ok(Neighbor {
-        addr: link_addr(link.number, 1 - side_on(group, link))?,
+        addr: link_addr(link.number, 1 - side_on(group, link)),
         remote: number_at(numbers, far),
         line: 0,
         shut: false,
@@ -86,6 +87,7 @@ pub(crate) fn neighbors_of(
 ) -> Result<List<Neighbor>, NoMemory>
     requires policies { ArePolicies policies.now }
     requires places { AreUses maps.now.places (map use_now maps.now.uses.items) }
+    requires few { All (λ l. l.number < 1048576) links.now }
     ensures { IfOk result (λ ns. ns ≡ map (neighbor_of (maps_now policies.now.maps.items) policies.now.acts.now (map use_now maps.now.uses.items) numbers.now group) links.now) }
 {
     let mut neighbors = List::new(alloc);

@@ -1,6 +1,6 @@
 //! Interfaces on the links of a group.
 
-ghost use Rattle.std.specs.Prelude.{◌≡◌, ◌++◌, map, IfOk, OnOk};
+ghost use Rattle.std.specs.Prelude.{◌≡◌, ◌<◌, ◌++◌, All, map, IfOk, OnOk};
 ghost use Rattle.std.specs.List.{enumerate_from};
 ghost use Rattle.std.specs.Option.{option_and_then, option_map};
 ghost use Rattle.config_emit.specs.Interfaces.{cost_by};
@@ -47,9 +47,10 @@ fn interface_of_link(
     number: usize,
     link: &ActLink,
 ) -> Result<Interface, NoMemory>
+    requires { link.now.number < 1048576 }
     ensures { IfOk result (λ x. x ≡ interface_of_link acts.now group (number, link.now)) }
 {
-    let addr = link_addr(link.number, side_on(group, link))?;
+    let addr = link_addr(link.number, side_on(group, link));
     Ok(Interface {
         name: numbered(alloc, "GigabitEthernet0/", number)?,
         line: 0,
@@ -67,6 +68,7 @@ pub(crate) fn push_link_interfaces(
     group: u32,
     links: &[ActLink],
 ) -> Result<(), NoMemory>
+    requires { All (λ l. l.number < 1048576) links.now }
     ensures { OnOk result (found.new ≡ found.old ++ map (interface_of_link acts.now group) (enumerate_from 1 links.now)) }
 {
     for i in 0..links.len() {

@@ -4,7 +4,6 @@ ghost use Rattle.std.specs.Prelude.{◌≡◌, map, IfOk, OnOk};
 ghost use Rattle.config_emit.specs.MapNumbers.{AreNumbers, with_map, number_of};
 
 use crate::map_keys::{EntryKey, map_key};
-use crate::number::place;
 use base_kit::NoMemory;
 use route_maps::Plain;
 use std::alloc::Global;
@@ -14,7 +13,7 @@ use std::collections::HashMap;
 #[derive(Drop)]
 pub(crate) struct MapNumbers<'a> {
     pub(crate) maps: Vec<&'a Plain>,
-    pub(crate) numbers: HashMap<Vec<EntryKey>, u32>,
+    pub(crate) numbers: HashMap<Vec<EntryKey>, usize>,
 }
 
 /// The number of a map, which is put last unless one that says the same is there.
@@ -22,7 +21,7 @@ pub(crate) fn number_map<'a>(
     alloc: Global,
     known: &mut MapNumbers<'a>,
     plain: &'a Plain,
-) -> Result<u32, NoMemory>
+) -> Result<usize, NoMemory>
     requires { AreNumbers known.old.numbers (map (λ m. m.now) known.old.maps.items) }
     ensures known { OnOk result (AreNumbers known.new.numbers (map (λ m. m.now) known.new.maps.items)) }
     ensures maps { OnOk result (map (λ m. m.now) known.new.maps.items ≡ with_map plain.now (map (λ m. m.now) known.old.maps.items)) }
@@ -32,7 +31,7 @@ pub(crate) fn number_map<'a>(
     if let Some(number) = known.numbers.get(&key) {
         return Ok(*number);
     }
-    let number = place(known.maps.len())?;
+    let number = known.maps.len();
     known.maps.push(plain)?;
     known.numbers.insert(key, number)?;
     Ok(number)

@@ -24,9 +24,12 @@ use crate::pool::pool_line;
 use crate::routers::ospf_routers;
 use crate::source::Source;
 use abstract_net::Quotient;
+use abstract_net::laws::no_more_links;
 use base_kit::{List, NoMemory, Protocol};
 use cfg_ast::{DestClass, Network, Notes, Router};
 use cfg_check::Checked;
+use given_laws::given_is_well_formed;
+use net_topology::laws::few_links;
 use refine_partition::Partition;
 use route_maps::Plain;
 use srp_core::Srp;
@@ -105,6 +108,9 @@ pub fn emit(
     requires links { (count : ℕ) → IsNumbered p.now count → q.now.links ≡ quotient_links srp.now.edges p.now count }
     ensures emits { (count : ℕ) → IsNumbered p.now count → Emits result (record { network = net.now.network; class = class.now; problem = srp.now; groups = p.now; count = count; links = q.now.links }) }
 {
+    given_is_well_formed();
+    few_links();
+    no_more_links();
     let network = net.network();
     if let Some(line) = pool_line(network, class) {
         return Err(EmitRefusal::PoolOverlap(line));

@@ -7,7 +7,6 @@ ghost use Rattle.config_emit.specs.RouterMaps.{use_now, with_use, with_uses, lis
 
 use crate::act_links::ActLink;
 use crate::act_maps::{Policies, into_map, maps_at, out_map};
-use crate::number::place;
 use crate::written::map_name;
 use base_kit::NoMemory;
 use cfg_ast::Named;
@@ -18,7 +17,7 @@ use std::collections::HashMap;
 /// A map that a router uses, with its number.
 #[derive(Clone, Copy)]
 pub(crate) struct MapUse<'a> {
-    pub(crate) number: u32,
+    pub(crate) number: usize,
     pub(crate) plain: &'a Plain,
 }
 
@@ -26,10 +25,10 @@ pub(crate) struct MapUse<'a> {
 #[derive(Drop)]
 pub(crate) struct RouterMaps<'a> {
     pub(crate) uses: Vec<MapUse<'a>>,
-    pub(crate) places: HashMap<u32, u32>,
+    pub(crate) places: HashMap<usize, usize>,
 }
 
-fn put_use<'a>(found: &mut RouterMaps<'a>, number: u32, plain: &'a Plain) -> Result<(), NoMemory>
+fn put_use<'a>(found: &mut RouterMaps<'a>, number: usize, plain: &'a Plain) -> Result<(), NoMemory>
     requires { AreUses found.old.places (map use_now found.old.uses.items) }
     ensures places { OnOk result (AreUses found.new.places (map use_now found.new.uses.items)) }
     ensures uses { OnOk result (map use_now found.new.uses.items ≡ with_use (number, plain.now) (map use_now found.old.uses.items)) }
@@ -38,14 +37,14 @@ fn put_use<'a>(found: &mut RouterMaps<'a>, number: u32, plain: &'a Plain) -> Res
         return Ok(());
     }
     found.uses.push(MapUse { number, plain })?;
-    let last = place(found.uses.as_slice().len())?;
+    let last = found.uses.as_slice().len();
     found.places.insert(number, last)?;
     Ok(())
 }
 
 fn put_some_use<'a>(
     found: &mut RouterMaps<'a>,
-    number: Option<u32>,
+    number: Option<usize>,
     plain: Option<&'a Plain>,
 ) -> Result<(), NoMemory>
     requires { AreUses found.old.places (map use_now found.old.uses.items) }
@@ -116,12 +115,12 @@ pub(crate) fn router_maps<'a>(
     Ok(found)
 }
 
-fn use_place(maps: &RouterMaps, number: u32) -> usize
+fn use_place(maps: &RouterMaps, number: usize) -> usize
     requires { AreUses maps.now.places (map use_now maps.now.uses.items) }
     ensures { result ≡ use_place (map use_now maps.now.uses.items) number }
 {
     match maps.places.get(&number) {
-        Some(place) => *place as usize,
+        Some(place) => *place,
         None => maps.uses.as_slice().len() + 1,
     }
 }
@@ -130,7 +129,7 @@ fn use_place(maps: &RouterMaps, number: u32) -> usize
 pub(crate) fn use_name(
     alloc: Global,
     maps: &RouterMaps,
-    number: Option<u32>,
+    number: Option<usize>,
 ) -> Result<Option<Named>, NoMemory>
     requires { AreUses maps.now.places (map use_now maps.now.uses.items) }
     ensures { IfOk result (λ name. name ≡ option_map (use_name (map use_now maps.now.uses.items)) number) }

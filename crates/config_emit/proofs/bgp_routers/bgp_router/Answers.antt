@@ -13,6 +13,7 @@ use Rattle.config_emit.specs.Plan.{small}
 use Rattle.config_emit.specs.Sources.{plan_of}
 use Rattle.config_emit.specs.declared.act_links.ActLink.{ActLink}
 use Rattle.config_emit.proofs.BgpParts.{numbers_are, plains_are, router_is}
+use Rattle.config_emit.proofs.FewLinks.{numbers_below}
 use Rattle.config_emit.proofs.OspfRouters.{links_are, link_interfaces_are, name_is}
 use Rattle.config_emit.proofs.bgp_routers.bgp_router.Goals as goal
 
@@ -21,6 +22,11 @@ maps_of_group-requires-clause-links c = record { are = c.links_of-links.ensures 
 
 pub process-requires-clause-links : goal.process-requires-clause-links
 process-requires-clause-links c = record { are = c.links_of-links.ensures ∙ links_are (plan_of c.args.source.now) c.args.group c.args.index.now c.requires.links }
+
+pub push_link_interfaces-requires : goal.push_link_interfaces-requires
+push_link_interfaces-requires c =
+    let e = plan_of c.args.source.now in
+    numbers_below e c.args.group c.links_of-links.result.now c.requires.source.few (c.links_of-links.ensures ∙ links_are e c.args.group c.args.index.now c.requires.links)
 
 pub returns : goal.returns
 returns c =

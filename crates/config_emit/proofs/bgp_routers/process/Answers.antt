@@ -10,6 +10,7 @@ use Rattle.config_emit.specs.RouterMaps.{use_now, use_of}
 use Rattle.config_emit.specs.Sources.{plan_of}
 use Rattle.config_emit.specs.declared.act_links.ActLink.{ActLink}
 use Rattle.config_emit.proofs.BgpParts.{numbers_are, neighbors_are, no_process, process_is}
+use Rattle.config_emit.proofs.FewLinks.{numbers_below}
 use Rattle.config_emit.proofs.bgp_routers.process.Goals as goal
 
 pub returns-then-number-eq0 : goal.returns-then-number-eq0
@@ -17,6 +18,9 @@ returns-then-number-eq0 c =
     let e = plan_of c.args.source.now in
     let numbered = c.number_at-number.ensures ∙ ap (λ (ns : List ℕ). slice_index ns c.args.group) (numbers_are e c.args.numbers.now c.requires.numbers) in
     no_process e c.args.group (sym numbered ∙ c.if-number-eq0.true)
+
+pub neighbors_of-requires-clause-few : goal.neighbors_of-requires-clause-few
+neighbors_of-requires-clause-few c = numbers_below (plan_of c.args.source.now) c.args.group c.args.links.now c.requires.source.few c.requires.links.are
 
 pub returns : goal.returns
 returns c =

@@ -23,9 +23,9 @@ returns-clause-known c =
     let key = c.in_ok-key.key in
     let before = map at_now c.args.known.now.maps.items in
     let more = ap (map at_now) c.in_ok-push.ensures.items ∙ map-append at_now c.args.known.now.maps.items (c.args.plain ∷ []) in
-    let at = c.in_ok-number.ensures ∙ c.len.ensures ∙ c.args.known.now.maps.ok.0 ∙ sym (length-map c.args.known.now.maps.items at_now) in
+    let at = c.len-number.ensures ∙ c.args.known.now.maps.ok.0 ∙ sym (length-map c.args.known.now.maps.items at_now) in
     subst (AreNumbers c.insert.new.self) (sym more)
-    (added c.args.known.now.numbers c.insert.new.self before c.args.plain.now key c.in_ok-number.number c.in_ok-key.ensures at (sym (c.requires.each key) ∙ sym c.in_default.ensures.value) c.in_ok-insert.ensures.updates.0 c.requires)
+    (added c.args.known.now.numbers c.insert.new.self before c.args.plain.now key c.len-number.result c.in_ok-key.ensures at (sym (c.requires.each key) ∙ sym c.in_default.ensures.value) c.in_ok-insert.ensures.updates.0 c.requires)
 
 pub returns-clause-maps : goal.returns-clause-maps
 returns-clause-maps c =
@@ -37,6 +37,6 @@ pub returns-clause-number : goal.returns-clause-number
 returns-clause-number c =
     let key = c.in_ok-key.key in
     let more = ap (map at_now) c.in_ok-push.ensures.items ∙ map-append at_now c.args.known.now.maps.items (c.args.plain ∷ []) in
-    c.in_ok-number.ensures ∙ c.len.ensures ∙ c.args.known.now.maps.ok.0 ∙ sym (length-map c.args.known.now.maps.items at_now)
+    c.len-number.ensures ∙ c.args.known.now.maps.ok.0 ∙ sym (length-map c.args.known.now.maps.items at_now)
     ∙ (unknown (map at_now c.args.known.now.maps.items) c.args.plain.now key c.in_ok-key.ensures (sym (c.requires.each key) ∙ sym c.in_default.ensures.value)).number
     ∙ ap (λ ms. number_of ms c.args.plain.now) (sym more)

@@ -13,9 +13,13 @@ returns-clause-places c =
     let uses = c.args.found.now.uses.items in
     let u : MapUse = record { number = c.args.number; plain = c.args.plain } in
     let more = ap (map use_now) c.in_ok-push.ensures.items ∙ map-append use_now uses (u ∷ []) in
-    let at = c.in_ok-last.ensures ∙ ap length c.as_slice.ensures.value ∙ ap length c.in_ok-push.ensures.items ∙ length-append uses (u ∷ []) ∙ ap (λ n. n + 1) (sym (length-map uses use_now)) in
+    let last = length c.as_slice-last.result.now in
+    let at = ap length c.as_slice-last.ensures.value ∙ ap length c.in_ok-push.ensures.items ∙ length-append uses (u ∷ [])
+    ∙ ap (λ n. n + 1) (sym (length-map uses use_now)) in
+    let new = sym (c.requires.each c.args.number) ∙ sym c.in_default.ensures.value in
     subst (AreUses c.insert.new.self) (sym more)
-    (use_added c.args.found.now.places c.insert.new.self (map use_now uses) c.args.number c.in_ok-last.last c.args.plain.now at (sym (c.requires.each c.args.number) ∙ sym c.in_default.ensures.value) c.in_ok-insert.ensures.updates.0 c.requires)
+    (use_added c.args.found.now.places c.insert.new.self (map use_now uses) c.args.number last c.args.plain.now at new
+    c.in_ok-insert.ensures.updates.0 c.requires)
 
 pub returns-clause-uses : goal.returns-clause-uses
 returns-clause-uses c =

@@ -9,8 +9,14 @@ use Rattle.config_emit.specs.Interfaces.{class_interfaces, link_interfaces}
 use Rattle.config_emit.specs.LinkSteps.{interface_of_link}
 use Rattle.config_emit.specs.Sources.{plan_of}
 use Rattle.config_emit.specs.declared.act_links.ActLink.{ActLink}
-use Rattle.config_emit.proofs.OspfRouters.{link_interfaces_are, name_is, router_is}
+use Rattle.config_emit.proofs.FewLinks.{numbers_below}
+use Rattle.config_emit.proofs.OspfRouters.{links_are, link_interfaces_are, name_is, router_is}
 use Rattle.config_emit.proofs.routers.ospf_router.Goals as goal
+
+pub push_link_interfaces-requires : goal.push_link_interfaces-requires
+push_link_interfaces-requires c =
+    let e = plan_of c.args.source.now in
+    numbers_below e c.args.group c.links_of-links.result.now c.requires.source.few (c.links_of-links.ensures ∙ links_are e c.args.group c.args.index.now c.requires.links)
 
 pub returns : goal.returns
 returns c =
