@@ -8,6 +8,7 @@ mod BgpMarks
 mod BgpParts
 mod BgpStarts
 mod Built
+mod ClassPrefixes
 mod CostPlaces
 mod DirectionsOf
 mod EdgeSteps
@@ -17,6 +18,7 @@ mod HopEdges
 mod HopNumbers
 mod KindMaps
 mod LineKinds
+mod LinesJoined
 mod LinkEnds
 mod LinkPlaces
 mod ListPlaces

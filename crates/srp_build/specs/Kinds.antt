@@ -1,5 +1,5 @@
 -- Kinds of neighbour lines: whatever the prefix, the maps of lines of one kind say the same.
-use Rattle.std.specs.Prelude.{◌≡◌, ◌⊎◌, ℕ, Bool, true, false, List, [], ◌∷◌, ◌++◌, length, Some, is_none, slice_get}
+use Rattle.std.specs.Prelude.{◌≡◌, ◌<◌, ◌⊎◌, ℕ, Bool, true, false, List, [], ◌∷◌, ◌++◌, length, Some, is_none, slice_get}
 use Rattle.std.specs.List.{list_all}
 use Rattle.std.specs.Option.{option_map_or}
 use Rattle.base_kit.specs.Prefixes.{Prefix}
@@ -63,6 +63,17 @@ HaveKinds all inbound firsts (router ∷ routers) (numbers ∷ table) = HasKinds
 pub record AreKinds (routers : List Router) (kinds : Kinds) : Type 0 where
   pub outs : HaveKinds routers false kinds.firsts.items routers kinds.outs
   pub ins : HaveKinds routers true kinds.firsts.items routers kinds.ins
+
+-- a neighbour line stands at the place of the router at a place
+pub record HasLine (routers : List Router) (place item : ℕ) : Type 0 where
+  pub router : Router
+  pub at : slice_get routers place ≡ Some router
+  pub inside : item < length (neighbors_of router)
+
+-- the direction leads from a neighbour line to a neighbour line
+pub record JoinsLines (routers : List Router) (hop : Hop) : Type 0 where
+  pub exporter : HasLine routers hop.exporter hop.exporter_item
+  pub importer : HasLine routers hop.importer hop.importer_item
 
 -- the sessions are those of the directions, by the numbers of the kinds of their lines
 pub record AreSessionsOf (routers : List Router) (kinds : Kinds) (hops : List Hop) (sessions : List Session) : Type 0 where

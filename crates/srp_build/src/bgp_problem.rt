@@ -1,6 +1,6 @@
 //! The problem of a class in BGP.
 
-ghost use Rattle.std.specs.Prelude.{◌≡◌, IfOk, Contains, slice_get};
+ghost use Rattle.std.specs.Prelude.{◌≡◌, ◌<◌, Some, IfOk, Contains, length, slice_get};
 ghost use Rattle.cfg_ast.specs.meaning.Classes.{classes_of};
 ghost use Rattle.cfg_ast.specs.meaning.PolicyFaults.{communities_of};
 ghost use Rattle.dd_core.specs.Sets.{Grows};
@@ -22,10 +22,11 @@ use specialize::laws::{in_maps_add_nothing, maps_stay_within, session_imports};
 use srp_core::Srp;
 use std::alloc::Global;
 
-fn first_prefix(class: &DestClass) -> Option<Prefix>
-    ensures { result ≡ slice_get class.now.prefixes 0 }
+fn first_prefix(class: &DestClass) -> Prefix
+    requires { 0 < length class.now.prefixes }
+    ensures { slice_get class.now.prefixes 0 ≡ Some result }
 {
-    class.prefixes.as_slice().first().copied()
+    class.prefixes.as_slice()[0]
 }
 
 /// The problem of a BGP network. Its maps are written out for the first prefix of the class, since they
@@ -49,9 +50,7 @@ pub fn bgp_problem(
     maps_stay_within();
     let routers = net.network().routers.as_slice();
     let places = directions.places.as_slice();
-    let Some(p) = first_prefix(class) else {
-        return Err(NoMemory);
-    };
+    let p = first_prefix(class);
     let names = names_of(alloc, routers)?;
     let numbers = numbers_of(alloc, routers)?;
     let init = starts_of(alloc, routers, class.origins.as_slice())?;

@@ -5,7 +5,6 @@ ghost use Rattle.cfg_ast.specs.meaning.Policy.{name_of};
 ghost use Rattle.srp_build.specs.Plains.{IsAsEarlier};
 
 use crate::lines::{list_named, map_named};
-use crate::plains::place;
 use crate::sums::sum_of_line;
 use base_kit::NoMemory;
 use buckets::{Index, items_at, push_at};
@@ -50,12 +49,12 @@ fn number_of_earlier(
     lines: &[Neighbor],
     numbers: &[u32],
     line: &Neighbor,
-    places: &[u32],
+    places: &[usize],
 ) -> Option<u32>
     ensures { IfSome result (IsAsEarlier inbound lines.now numbers.now line.now) }
 {
     for place in places {
-        if let Some(number) = number_if_same(inbound, lines, numbers, line, *place as usize) {
+        if let Some(number) = number_if_same(inbound, lines, numbers, line, *place) {
             return Some(number);
         }
     }
@@ -79,7 +78,7 @@ fn number_of_last(
 /// line may not be noted yet, so that a router whose lines all name the same needs no index.
 #[derive(Drop)]
 pub struct Seen {
-    by_sum: Index<u32>,
+    by_sum: Index<usize>,
     is_last_noted: bool,
 }
 
@@ -110,7 +109,7 @@ impl Seen {
             return Ok(());
         };
         let sum = sum_of_line(inbound, line);
-        push_at(alloc, &mut self.by_sum, sum, place(last)?)
+        push_at(alloc, &mut self.by_sum, sum, last)
     }
 
     /// The number of an earlier line that names the same map and the same list. Most often that is the

@@ -1,7 +1,7 @@
 //! The directions of sessions, with the kinds of their lines.
 
-ghost use Rattle.std.specs.Prelude.{IfOk};
-ghost use Rattle.srp_build.specs.Kinds.{AreSessionsOf};
+ghost use Rattle.std.specs.Prelude.{All, IfOk};
+ghost use Rattle.srp_build.specs.Kinds.{AreKinds, AreSessionsOf, JoinsLines};
 ghost use Rattle.srp_build.specs.Directions.{AreSessionHops};
 ghost use Rattle.srp_build.specs.ListPlaces.{HavePlaces};
 
@@ -40,6 +40,8 @@ fn sessions_of(
     kinds: &Kinds,
     hops: &[Hop],
 ) -> Result<Vec<Session>, NoMemory>
+    requires kinds { AreKinds routers.now kinds.now }
+    requires lines { All (JoinsLines routers.now) hops.now }
     ensures { IfOk result (λ sessions. AreSessionsOf routers.now kinds.now hops.now sessions.items) }
 {
     let outs = kinds.outs.as_slice();
@@ -47,19 +49,20 @@ fn sessions_of(
     let mut sessions = Vec::new(alloc);
     for hop in hops {
         let Some(session) = session_of(routers, outs, ins, hop) else {
-            return Err(NoMemory);
+            unreachable!();
         };
         sessions.push(session)?;
     }
     Ok(sessions)
 }
 
-/// These directions, with the kinds of the lines at their ends.
+/// These directions of sessions, with the kinds of the lines at their ends.
 pub fn session_hops(
     alloc: Global,
     routers: &[Router],
     hops: Vec<Hop>,
 ) -> Result<SessionHops, NoMemory>
+    requires { All (JoinsLines routers.now) hops.items }
     ensures { IfOk result (AreSessionHops routers.now hops.items) }
 {
     let places = places_by_router(alloc, routers)?;

@@ -21,6 +21,7 @@ use Rattle.srp_build.specs.Lone.{AreLone}
 use Rattle.srp_build.specs.Starts.{starts_from}
 use Rattle.srp_build.proofs.BgpCall.{IsCall, first_in, sorted_edges, importers_inside, acts_inside, rules_kept, is_built}
 use Rattle.srp_build.proofs.BgpChecked.{is_bgp, bgp_is}
+use Rattle.srp_build.proofs.ClassPrefixes.{has_prefix}
 use Rattle.srp_build.proofs.KindMaps.{line_maps_are, inside_are}
 use Rattle.srp_build.proofs.WithinMore.{maps_within}
 use Rattle.srp_build.proofs.bgp_problem.bgp_problem.Goals as goal
@@ -37,6 +38,9 @@ lines_are n p routers firsts found maps routers_are firsts_are are of_kinds =
 have_places : (n : Network) (routers : List Router) (places : List Places) (found : SessionHops) → routers ≡ n.routers → places ≡ found.places.items → AreSessionHops n.routers (directions_of n) found → HavePlaces routers places
 have_places n routers places found routers_are places_are are =
     subst (λ (r : List Router). HavePlaces r places) (sym routers_are) (subst (λ (l : List Places). HavePlaces n.routers l) (sym places_are) are.places)
+
+pub first_prefix-p-requires : goal.first_prefix-p-requires
+first_prefix-p-requires c = has_prefix c.args.net.now.network c.args.class.now c.requires.class
 
 pub kind_maps-requires : goal.kind_maps-requires
 kind_maps-requires c =
@@ -61,8 +65,8 @@ bgp_edges-requires-clause-inside c =
     let found = c.args.directions.now in
     let same = c.network.ensures.same in
     let routers_are = c.as_slice-routers.ensures ∙ ap (λ (m : Network). m.routers) same in
-    inside_are c.in-Some.p n.routers found.kinds c.in_ok-maps.maps found.hops.items found.sessions.items
-    (lines_are n c.in-Some.p c.as_slice-routers.result.now c.deref.result.now found c.in_ok-maps.maps routers_are c.deref.ensures.value c.requires.directions.hops c.in_ok-maps.ensures)
+    inside_are c.first_prefix-p.result n.routers found.kinds c.in_ok-maps.maps found.hops.items found.sessions.items
+    (lines_are n c.first_prefix-p.result c.as_slice-routers.result.now c.deref.result.now found c.in_ok-maps.maps routers_are c.deref.ensures.value c.requires.directions.hops c.in_ok-maps.ensures)
     (sessions_are n found c.requires.directions.hops)
 
 pub bgp_edges-requires-clause-within : goal.bgp_edges-requires-clause-within
@@ -71,8 +75,8 @@ bgp_edges-requires-clause-within c =
     let found = c.args.directions.now in
     let same = c.network.ensures.same in
     let routers_are = c.as_slice-routers.ensures ∙ ap (λ (m : Network). m.routers) same in
-    maps_within c.maps_stay_within.ensures n c.in-Some.p c.args.store.now.universe (line_maps found.kinds c.in_ok-maps.maps) c.requires.known
-    (lines_are n c.in-Some.p c.as_slice-routers.result.now c.deref.result.now found c.in_ok-maps.maps routers_are c.deref.ensures.value c.requires.directions.hops c.in_ok-maps.ensures)
+    maps_within c.maps_stay_within.ensures n c.first_prefix-p.result c.args.store.now.universe (line_maps found.kinds c.in_ok-maps.maps) c.requires.known
+    (lines_are n c.first_prefix-p.result c.as_slice-routers.result.now c.deref.result.now found c.in_ok-maps.maps routers_are c.deref.ensures.value c.requires.directions.hops c.in_ok-maps.ensures)
 
 pub lone_of-requires-clause-importers : goal.lone_of-requires-clause-importers
 lone_of-requires-clause-importers c =
@@ -102,21 +106,21 @@ new-problem-requires c =
     let few_hops = c.requires.directions.few in
     let marks = subst (λ (a : List BgpAct). AreLone c.bgp_edges.new.store a (length c.as_slice-routers.result.now) c.as_slice-edges.result.now c.in_ok-lone.lone) c.deref-2.ensures.value c.in_ok-lone.ensures in
     let marks_of_edges = subst (λ (l : List Edge). AreLone c.bgp_edges.new.store c.in_ok-found.found.acts.acts.items (length c.as_slice-routers.result.now) l c.in_ok-lone.lone) c.as_slice-edges.ensures marks in
-    let call : IsCall n c.args.class.now c.in-Some.p c.in_ok-names.names c.in_ok-numbers.numbers c.in_ok-init.init c.in_ok-lone.lone c.in_ok-acts.acts (line_maps c.args.directions.now.kinds c.in_ok-maps.maps) c.bgp_edges.new.store c.in_ok-found.found = record {
+    let call : IsCall n c.args.class.now c.first_prefix-p.result c.in_ok-names.names c.in_ok-numbers.numbers c.in_ok-init.init c.in_ok-lone.lone c.in_ok-acts.acts (line_maps c.args.directions.now.kinds c.in_ok-maps.maps) c.bgp_edges.new.store c.in_ok-found.found = record {
       bgp = is_bgp n form c.args.net.now.faultless few (bgp_is (protocol_of n) c.requires.directions.bgp);
       sessions_import = c.session_imports.ensures;
       add_nothing = c.in_maps_add_nothing.ensures;
       class_in = c.requires.class;
-      first_in = first_in c.args.class.now c.in-Some.p (sym c.first_prefix.ensures ∙ c.in-Some.is);
+      first_in = first_in c.args.class.now c.first_prefix-p.result c.first_prefix-p.ensures;
       init_is = c.in_ok-init.ensures ∙ (λ j. starts_from 0 (c.as_slice.ensures j) (routers_are j));
-      lines = lines_are n c.in-Some.p c.as_slice-routers.result.now c.deref.result.now c.args.directions.now c.in_ok-maps.maps routers_are c.deref.ensures.value c.requires.directions.hops c.in_ok-maps.ensures;
+      lines = lines_are n c.first_prefix-p.result c.as_slice-routers.result.now c.deref.result.now c.args.directions.now c.in_ok-maps.maps routers_are c.deref.ensures.value c.requires.directions.hops c.in_ok-maps.ensures;
       edges = sorted_edges n n.routers c.in_ok-init.init c.as_slice-2.result.now (line_maps c.args.directions.now.kinds c.in_ok-maps.maps) c.bgp_edges.new.store c.args.directions.now.hops.items c.in_ok-found.found refl c.as_slice-2.ensures c.requires.directions.hops.hops_are (c.in_ok-found.ensures.edges n.routers (sessions_are n c.args.directions.now c.requires.directions.hops));
       marks = subst (λ (r : List Router). AreLone c.bgp_edges.new.store c.in_ok-found.found.acts.acts.items (length r) c.in_ok-found.found.edges c.in_ok-lone.lone) routers_are marks_of_edges;
       names_are = c.in_ok-names.ensures ∙ ap (λ (r : List Router). map (λ (router : Router). router.name) r) routers_are;
       numbers_are = c.in_ok-numbers.ensures ∙ ap (λ (r : List Router). map as_number_of r) routers_are;
-      acts_are = c.in_ok-acts.ensures ∙ (λ j. map (λ (act : BgpAct). act_of_hop c.in-Some.p (routers_are j) act.first) (c.deref-3.ensures.value j));
+      acts_are = c.in_ok-acts.ensures ∙ (λ j. map (λ (act : BgpAct). act_of_hop c.first_prefix-p.result (routers_are j) act.first) (c.deref-3.ensures.value j));
     } in
-    λ keeps. rules_kept n c.args.class.now c.in-Some.p c.in_ok-names.names c.in_ok-numbers.numbers c.in_ok-init.init c.in_ok-lone.lone c.in_ok-acts.acts (line_maps c.args.directions.now.kinds c.in_ok-maps.maps) c.bgp_edges.new.store c.in_ok-found.found call few_hops keeps
+    λ keeps. rules_kept n c.args.class.now c.first_prefix-p.result c.in_ok-names.names c.in_ok-numbers.numbers c.in_ok-init.init c.in_ok-lone.lone c.in_ok-acts.acts (line_maps c.args.directions.now.kinds c.in_ok-maps.maps) c.bgp_edges.new.store c.in_ok-found.found call few_hops keeps
 
 pub returns-clause-built : goal.returns-clause-built
 returns-clause-built c =
@@ -128,18 +132,18 @@ returns-clause-built c =
     let few_hops = c.requires.directions.few in
     let marks = subst (λ (a : List BgpAct). AreLone c.bgp_edges.new.store a (length c.as_slice-routers.result.now) c.as_slice-edges.result.now c.in_ok-lone.lone) c.deref-2.ensures.value c.in_ok-lone.ensures in
     let marks_of_edges = subst (λ (l : List Edge). AreLone c.bgp_edges.new.store c.in_ok-found.found.acts.acts.items (length c.as_slice-routers.result.now) l c.in_ok-lone.lone) c.as_slice-edges.ensures marks in
-    let call : IsCall n c.args.class.now c.in-Some.p c.in_ok-names.names c.in_ok-numbers.numbers c.in_ok-init.init c.in_ok-lone.lone c.in_ok-acts.acts (line_maps c.args.directions.now.kinds c.in_ok-maps.maps) c.bgp_edges.new.store c.in_ok-found.found = record {
+    let call : IsCall n c.args.class.now c.first_prefix-p.result c.in_ok-names.names c.in_ok-numbers.numbers c.in_ok-init.init c.in_ok-lone.lone c.in_ok-acts.acts (line_maps c.args.directions.now.kinds c.in_ok-maps.maps) c.bgp_edges.new.store c.in_ok-found.found = record {
       bgp = is_bgp n form c.args.net.now.faultless few (bgp_is (protocol_of n) c.requires.directions.bgp);
       sessions_import = c.session_imports.ensures;
       add_nothing = c.in_maps_add_nothing.ensures;
       class_in = c.requires.class;
-      first_in = first_in c.args.class.now c.in-Some.p (sym c.first_prefix.ensures ∙ c.in-Some.is);
+      first_in = first_in c.args.class.now c.first_prefix-p.result c.first_prefix-p.ensures;
       init_is = c.in_ok-init.ensures ∙ (λ j. starts_from 0 (c.as_slice.ensures j) (routers_are j));
-      lines = lines_are n c.in-Some.p c.as_slice-routers.result.now c.deref.result.now c.args.directions.now c.in_ok-maps.maps routers_are c.deref.ensures.value c.requires.directions.hops c.in_ok-maps.ensures;
+      lines = lines_are n c.first_prefix-p.result c.as_slice-routers.result.now c.deref.result.now c.args.directions.now c.in_ok-maps.maps routers_are c.deref.ensures.value c.requires.directions.hops c.in_ok-maps.ensures;
       edges = sorted_edges n n.routers c.in_ok-init.init c.as_slice-2.result.now (line_maps c.args.directions.now.kinds c.in_ok-maps.maps) c.bgp_edges.new.store c.args.directions.now.hops.items c.in_ok-found.found refl c.as_slice-2.ensures c.requires.directions.hops.hops_are (c.in_ok-found.ensures.edges n.routers (sessions_are n c.args.directions.now c.requires.directions.hops));
       marks = subst (λ (r : List Router). AreLone c.bgp_edges.new.store c.in_ok-found.found.acts.acts.items (length r) c.in_ok-found.found.edges c.in_ok-lone.lone) routers_are marks_of_edges;
       names_are = c.in_ok-names.ensures ∙ ap (λ (r : List Router). map (λ (router : Router). router.name) r) routers_are;
       numbers_are = c.in_ok-numbers.ensures ∙ ap (λ (r : List Router). map as_number_of r) routers_are;
-      acts_are = c.in_ok-acts.ensures ∙ (λ j. map (λ (act : BgpAct). act_of_hop c.in-Some.p (routers_are j) act.first) (c.deref-3.ensures.value j));
+      acts_are = c.in_ok-acts.ensures ∙ (λ j. map (λ (act : BgpAct). act_of_hop c.first_prefix-p.result (routers_are j) act.first) (c.deref-3.ensures.value j));
     } in
-    is_built n c.args.class.now c.in-Some.p c.in_ok-names.names c.in_ok-numbers.numbers c.in_ok-init.init c.in_ok-lone.lone c.in_ok-acts.acts (line_maps c.args.directions.now.kinds c.in_ok-maps.maps) c.bgp_edges.new.store c.in_ok-found.found call few_hops c.new-problem.result c.new-problem.ensures c.count-kept.ensures.rules
+    is_built n c.args.class.now c.first_prefix-p.result c.in_ok-names.names c.in_ok-numbers.numbers c.in_ok-init.init c.in_ok-lone.lone c.in_ok-acts.acts (line_maps c.args.directions.now.kinds c.in_ok-maps.maps) c.bgp_edges.new.store c.in_ok-found.found call few_hops c.new-problem.result c.new-problem.ensures c.count-kept.ensures.rules

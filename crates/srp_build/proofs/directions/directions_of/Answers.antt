@@ -1,14 +1,20 @@
-use Rattle.std.proofs.Common.{◌∙◌, List, length, map, sym, ap, subst, arith}
+use Rattle.std.proofs.Common.{◌≡◌, ◌≤◌, ◌∙◌, true, List, length, map, sym, ap, subst, arith}
 use Rattle.std.proofs.lemmas.List.{length-map}
+use Rattle.std.specs.Prelude.{All}
 use Rattle.cfg_ast.specs.declared.network.Network.{Network}
 use Rattle.cfg_ast.specs.declared.network.Router.{Router}
 use Rattle.cfg_ast.specs.declared.topology.Link.{Link}
+use Rattle.cfg_ast.specs.meaning.RouterFaults.{protocol_of}
 use Rattle.srp_build.specs.declared.hops.Hop.{Hop}
 use Rattle.srp_build.specs.Costs.{NumbersHops}
 use Rattle.srp_build.specs.Directions.{AreSessionHops, directions_of}
 use Rattle.srp_build.specs.Hops.{hops_of, AreInside}
 use Rattle.srp_build.specs.HopNumbers.{hop_at}
+use Rattle.srp_build.specs.Kinds.{JoinsLines}
+use Rattle.srp_build.specs.Problem.{is_bgp as is_over_bgp}
+use Rattle.srp_build.proofs.BgpChecked.{is_bgp, bgp_is}
 use Rattle.srp_build.proofs.DirectionsOf.{sorted_are, few_directions}
+use Rattle.srp_build.proofs.LinesJoined.{all_join}
 use Rattle.srp_build.proofs.LinkPlaces.{all_inside}
 use Rattle.srp_build.proofs.SortedHops.{length-hops_of}
 use Rattle.srp_build.proofs.directions.directions_of.Goals as goal
@@ -19,6 +25,18 @@ sorted_hops-requires-clause-inside c =
     let routers_are = c.as_slice-routers.ensures ∙ ap (λ (m : Network). m.routers) c.network.ensures.same in
     subst (λ (r : List Router). AreInside (length r) (hops_of c.as_slice-links.result.now)) (sym routers_are)
     (subst (λ (l : List Link). AreInside (length n.routers) (hops_of l)) (sym (c.as_slice-links.ensures ∙ c.requires)) (all_inside n))
+
+pub session_hops-requires : goal.session_hops-requires
+session_hops-requires c =
+    let n = c.args.net.now.network in
+    let routers_are = c.as_slice-routers.ensures ∙ ap (λ (m : Network). m.routers) c.network.ensures.same in
+    let few = subst (λ (m : Network). length m.routers ≤ 4096) c.network.ensures.same c.network.ensures.few_routers in
+    let over : is_over_bgp (protocol_of n) ≡ true = sym c.runs_bgp.ensures ∙ c.if-runs_bgp.true in
+    let bgp = is_bgp n (c.given_is_well_formed.ensures n c.args.net.now.given) c.args.net.now.faultless few (bgp_is (protocol_of n) over) in
+    let hops = c.in_ok-hops.hops.items in
+    let links_are = c.as_slice-links.ensures ∙ c.requires in
+    let same = sorted_are n c.as_slice-routers.result.now c.as_slice-links.result.now hops routers_are links_are c.in_ok-hops.ensures.sorted in
+    subst (λ (r : List Router). All (JoinsLines r) hops) (sym routers_are) (subst (λ (h : List Hop). All (JoinsLines n.routers) h) (sym same) (all_join n bgp))
 
 pub returns-then-runs_bgp : goal.returns-then-runs_bgp
 returns-then-runs_bgp c =

@@ -1,4 +1,4 @@
-use Rattle.std.proofs.Common.{◌≡◌, ℕ, List, false, length, slice_get, ap, sym, ◌∙◌}
+use Rattle.std.proofs.Common.{ℕ, List, false, length, slice_get, ap, sym, ◌∙◌}
 use Rattle.route_maps.specs.declared.plain.Plain.{Plain}
 use Rattle.srp_build.proofs.LineKinds.{have_kept}
 use Rattle.srp_build.proofs.kinds.kinds_of.Goals as goal

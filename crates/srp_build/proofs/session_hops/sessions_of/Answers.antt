@@ -2,7 +2,16 @@ use Rattle.std.proofs.Common.{◌+◌, List, take, refl, sym, ◌∙◌, subst}
 use Rattle.srp_build.specs.declared.session.Session.{Session}
 use Rattle.srp_build.specs.Kinds.{AreSessionsOf}
 use Rattle.srp_build.proofs.KindMaps.{sessions_next}
+use Rattle.srp_build.proofs.LinesJoined.{no_session}
 use Rattle.srp_build.proofs.session_hops.sessions_of.Goals as goal
+
+pub unreachable-requires : goal.unreachable-requires
+unreachable-requires c =
+    let routers = c.args.routers.now in
+    let kinds = c.args.kinds.now in
+    let joins = c.requires.lines c.loop-hop.hop-index _ c.loop-hop-test.true in
+    no_session routers kinds c.as_slice-outs.result.now c.as_slice-ins.result.now _ c.as_slice-outs.ensures c.as_slice-ins.ensures c.requires.kinds joins
+    (sym c.session_of.ensures ∙ c.in_default.is)
 
 pub loop-hop-preserved : goal.loop-hop-preserved
 loop-hop-preserved c =

@@ -1,4 +1,4 @@
-use Rattle.std.proofs.Common.{◌≡◌, ℕ, Result, Ok, Err, IfOk}
+use Rattle.std.proofs.Common.{ℕ, Result, Ok, Err, IfOk}
 use Rattle.srp_build.specs.Kinds.{IsFixedKind, IsKindNumber, IsNewKind}
 use Rattle.srp_build.proofs.LineKinds.{new_kind, fixed_number}
 use Rattle.srp_build.proofs.kinds.KindTable.number.Goals as goal

@@ -1,0 +1,20 @@
+-- A class has a prefix, that of which it is the class.
+use Rattle.std.proofs.Common.{◌<◌, List, [], ◌∷◌, filter, length, refl, subst, arith}
+use Rattle.std.specs.Prelude.{Contains}
+use Rattle.base_kit.proofs.Elements.{In, in_contains, in_filter, filter_in, map_in}
+use Rattle.cfg_ast.specs.declared.classes.DestClass.{DestClass}
+use Rattle.cfg_ast.specs.declared.network.Network.{Network}
+use Rattle.cfg_ast.specs.meaning.Classes.{originated, is_same_class, is_least, class_of, classes_of}
+use Rattle.cfg_ast.proofs.ClassFacts.{is_one_class}
+
+some_in : {X : Type 0} (xs : List X) (x : X) → In xs x → 0 < length xs
+some_in [] x h = absurd h
+some_in (y ∷ xs) x h = omega arith
+
+pub has_prefix : (network : Network) (class : DestClass) → Contains (classes_of network) class → 0 < length class.prefixes
+unfolding classes_of
+has_prefix network class has =
+    let (p, least, is) = map_in (class_of network) (filter (is_least network) (originated network)) class (in_contains _ class has) in
+    let among = (filter_in (is_least network) (originated network) p least).0 in
+    let own = in_filter (is_same_class network p) (originated network) p among (is_one_class network p p (record { origins = refl; answers = refl })) in
+    subst (λ (c : DestClass). 0 < length c.prefixes) is (some_in (class_of network p).prefixes p own)
