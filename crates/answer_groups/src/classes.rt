@@ -10,8 +10,8 @@ use answer_kit::Reply;
 use base_kit::Prefix;
 use cfg_ast::{DestClass, Network, Origin};
 use cfg_check::Checked;
-use cfg_print::put_prefix;
 use dest_classes::classes;
+use printed_words::put_prefix;
 use std::alloc::{AllocError, Global};
 use std::fmt::Write;
 

@@ -10,7 +10,7 @@ use Rattle.cfg_ast.specs.meaning.RouterFaults.{router_line, repeats_after, same_
 use Rattle.cfg_check.specs.Faultless.{IsFaultless}
 use Rattle.srp_core.specs.Problem.{Problem}
 use Rattle.base_kit.specs.Names.{AreApart}
-use Rattle.solution_text.proofs.RouterNames.{bytes_eq-sym}
+use Rattle.numbered_names.proofs.Positions.{bytes_eq-sym}
 use Rattle.answer_kit.specs.Groups.{IsProblemOfClass}
 use Rattle.answer_kit.proofs.OneClass.{some_prefix}
 

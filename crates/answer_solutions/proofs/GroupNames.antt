@@ -13,7 +13,7 @@ use Rattle.cfg_ast.specs.text.Words.{is_router_name}
 use Rattle.srp_core.specs.Problem.{Problem}
 use Rattle.srp_quotient.specs.Groups.{first_member, quotient_problem, small_of}
 use Rattle.base_kit.specs.Names.{AreApart}
-use Rattle.solution_text.proofs.RouterNames.{bytes_eq-sym}
+use Rattle.numbered_names.proofs.Positions.{bytes_eq-sym}
 
 -- ---- first members
 

@@ -37,7 +37,7 @@ use Rattle.cut_certificate.specs.Texts.{Standing, opening, router_named, routers
 use Rattle.cut_certificate.proofs.Evened.{admissible_even, is_member}
 use Rattle.cut_certificate.proofs.Grouped.{members_in_range}
 use Rattle.cut_certificate.proofs.Reached.{first_reached, all_reached, and_first, and_second}
-use Rattle.cut_certificate.proofs.RouterNames.{moved, position_first, bytes_eq-sym}
+use Rattle.numbered_names.proofs.Positions.{moved, position_first, bytes_eq-sym}
 use Rattle.cut_certificate.proofs.Seen.{same_test, or_true, at_place, place_below, distinct_only}
 use Rattle.cut_certificate.proofs.StepsOf.{made, split_total}
 use Rattle.cut_certificate.proofs.Used.{first_used, split_used}

@@ -1,32 +1,18 @@
 //! Communities, one and several.
 
 ghost use Rattle.std.specs.Prelude.{◌≡◌, ◌≤◌, ◌∷◌, [], IfOk};
-ghost use Rattle.std.specs.List.{AllByRecursion, list_all, list_any, position_or_len, filter_map, cons_option};
+ghost use Rattle.std.specs.List.{AllByRecursion, list_all, list_any, filter_map, cons_option};
 ghost use Rattle.base_kit.specs.Sets.{with_numbers};
 ghost use Rattle.cfg_ast.specs.text.Answers.{Reads};
 ghost use Rattle.cfg_ast.specs.text.Lines.{IsWordIn, texts};
 ghost use Rattle.cfg_ast.specs.text.PolicyForms.{all_differ, community_words};
-ghost use Rattle.cfg_ast.specs.text.Words.{is_colon, community_word, is_reserved, is_some_reserved, is_well_known_name, is_community, is_well_known, same_value, same_community};
+ghost use Rattle.cfg_ast.specs.text.Words.{community_word, is_reserved, is_some_reserved, is_well_known_name, is_community, is_well_known, same_value, same_community};
 
-use crate::marks::{behind, has, place_of};
 use crate::word_groups::is_group;
 use base_kit::{NoMemory, NumSet};
 use cfg_ast::{FormFault, Span};
-use cfg_words::{read_between, text};
+use cfg_words::{read_community, text};
 use std::alloc::Global;
-
-#[tactic(auto, unfolding(cfg_ast::specs::text::Words::community_word))]
-fn read_community(word: &[u8]) -> Option<u32>
-    ensures { result ≡ community_word word.now }
-{
-    if !has(word, b':') {
-        return read_between(word, 1, u32::MAX);
-    }
-    let colon = place_of(word, b':');
-    let high = read_between(&word[..colon], 0, 65535)?;
-    let low = read_between(behind(word, colon), 0, 65535)?;
-    Some(65536 * high + low)
-}
 
 #[tactic(auto, unfolding(cfg_ast::specs::text::Words::is_well_known_name))]
 fn is_well_known_name(word: &[u8]) -> bool

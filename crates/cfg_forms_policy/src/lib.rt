@@ -12,7 +12,6 @@ mod community_line;
 mod entry;
 mod item;
 mod map_head;
-mod marks;
 mod name_list;
 mod prefix_entry;
 mod word_groups;

@@ -8,10 +8,10 @@ ghost use Rattle.cfg_ast.specs.text.PolicyForms.{bounds_of, prefix_entry_form};
 ghost use Rattle.cfg_ast.specs.text.Words.{number_between, prefix_of};
 
 use crate::act::is_permit;
-use crate::marks::{behind, place_of};
 use base_kit::Prefix;
 use cfg_ast::FormFault::BadForm;
 use cfg_ast::{FormFault, PolicyItem, PrefixEntry, Span};
+use cfg_words::marks::{behind, place_of};
 use cfg_words::{cut_to, list_name, read_address, read_between, text};
 use std::alloc::Global;
 

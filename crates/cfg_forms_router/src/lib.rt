@@ -10,13 +10,11 @@ mod bgp;
 mod interface;
 mod item;
 mod masks;
-mod names;
 mod ospf;
 mod top;
 
 pub use cfg_ast::{FormFault, RouterItem, Scope};
 pub use item::router_item;
-pub use names::is_router_name;
 
 #[cfg(test)]
 mod tests;

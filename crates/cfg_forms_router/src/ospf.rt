@@ -6,10 +6,9 @@ ghost use Rattle.cfg_ast.specs.text.Answers.{Reads};
 ghost use Rattle.cfg_ast.specs.text.Lines.{IsWordIn, texts};
 ghost use Rattle.cfg_ast.specs.text.RouterForms.{area_word, area_form, passive_form, not_passive_form};
 
-use crate::names::is_interface_name;
 use cfg_ast::FormFault::BadForm;
 use cfg_ast::{AreaLine, FormFault, RouterItem, Span};
-use cfg_words::{copy_of, read_address, read_number, text};
+use cfg_words::{copy_of, is_interface_name, read_address, read_number, text};
 use std::alloc::Global;
 
 #[tactic(auto, unfolding(cfg_ast::specs::text::RouterForms::area_word))]

@@ -6,10 +6,9 @@ ghost use Rattle.cfg_ast.specs.text.Answers.{Reads};
 ghost use Rattle.cfg_ast.specs.text.Lines.{IsWordIn, texts};
 ghost use Rattle.cfg_ast.specs.text.RouterForms.{hostname_form, interface_form, bgp_form, ospf_form, end_form};
 
-use crate::names::{is_interface_name, is_router_name};
 use cfg_ast::FormFault::BadForm;
 use cfg_ast::{FormFault, RouterItem, Span};
-use cfg_words::{copy_of, read_as_number, read_between, text};
+use cfg_words::{copy_of, is_interface_name, is_router_name, read_as_number, read_between, text};
 use std::alloc::Global;
 
 #[tactic(auto, unfolding(cfg_ast::specs::text::RouterForms::hostname_form))]

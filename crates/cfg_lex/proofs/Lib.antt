@@ -1,2 +1,4 @@
+pub mod LineWords
+pub mod LinesLeft
 pub mod Taken
 pub mod Odd

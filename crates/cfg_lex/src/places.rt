@@ -16,9 +16,9 @@ pub(crate) fn is_plain(b: u8) -> bool
     b == b'\t' || b >= b' ' && b <= b'~'
 }
 
-// The place of the first newline from `from` on, or the end.
+/// The place of the first newline from `from` on, or the end.
 #[tactic(auto, using(cfg_ast::proofs::Places::first_next, cfg_ast::proofs::Places::first_here, cfg_ast::proofs::Places::first_end))]
-pub(crate) fn newline_from(bytes: &[u8], from: usize) -> usize
+pub fn newline_from(bytes: &[u8], from: usize) -> usize
     requires { from ≤ length bytes.now }
     ensures place { result ≡ newline_from bytes.now from }
     ensures bounds { (from ≤ result) × (result ≤ length bytes.now) }
@@ -30,8 +30,8 @@ pub(crate) fn newline_from(bytes: &[u8], from: usize) -> usize
     i
 }
 
-// The end of a line without a carriage return.
-pub(crate) fn without_return(bytes: &[u8], from: usize, end: usize) -> usize
+/// The end of a line without a carriage return.
+pub fn without_return(bytes: &[u8], from: usize, end: usize) -> usize
     requires front { from ≤ end }
     requires end { end ≤ length bytes.now }
     ensures place { result ≡ without_return bytes.now from end }

@@ -10,9 +10,8 @@ ghost use Rattle.cfg_parse.specs.MemberSteps.{with_member, with_line};
 use crate::end_line::is_end_line;
 use base_kit::{List, NoMemory, Text};
 use cfg_ast::{Line, Span};
-use cfg_forms_router::is_router_name;
 use cfg_lex::every_line;
-use cfg_words::copy_of;
+use cfg_words::{copy_of, is_router_name};
 use std::alloc::Global;
 
 // The names of the routers that have ended, and those of the one that has not.

@@ -15,12 +15,9 @@ use Rattle.cfg_ast.specs.declared.policy.CommunityLine.{CommunityLine}
 use Rattle.cfg_ast.specs.declared.policy.PrefixEntry.{PrefixEntry}
 use Rattle.cfg_ast.specs.declared.policy.Change.TheVariants.{Clear, Replace, Append}
 use Rattle.cfg_ast.specs.printing.Printed.{line_text, lines_text, closing, closed, router_lines, routers_lines, match_prefixes_line, match_comms_line, change_line, prepend_line, lp_line, map_head_line, delete_line, peer_sends_line, address_text, community_text, community_list_name, community_list_line, act_text, bound_words, prefix_text, prefix_entry_line}
-use Rattle.cfg_print.specs.Spaced.{spaced, spaced_words, prefix_entry_head}
-
--- words with one blank between each two
-pub joined : (w : List ℕ) (ws : List (List ℕ)) → join_with_byte 32 (w ∷ ws) ≡ w ++ spaced_words ws
-joined w [] = sym (append-nil w)
-joined w (v ∷ ws) = ap (λ (xs : List ℕ). w ++ 32 ∷ xs) (joined v ws)
+use Rattle.printed_words.specs.Spaced.{spaced, spaced_words}
+use Rattle.printed_words.proofs.Joined.{joined, spaced_both}
+use Rattle.cfg_print.specs.Fronts.{prefix_entry_head}
 
 -- ---- lines with as many words as there are
 
@@ -35,7 +32,7 @@ pub match_comms_text : (exact : Bool) (l : NameLine) → line_text (match_comms_
 unfolding match_comms_line
 match_comms_text exact l =
     let mark : List (List ℕ) = if exact then codes "exact-match" ∷ [] else [] in
-    ap (λ (xs : List ℕ). codes " match " ++ xs ++ 10 ∷ []) (joined (codes "community") (l.names ++ mark)) ∙ ap (λ (xs : List ℕ). codes " match community" ++ xs ++ 10 ∷ []) (flat_map-append spaced l.names mark)
+    ap (λ (xs : List ℕ). codes " match " ++ xs ++ 10 ∷ []) (joined (codes "community") (l.names ++ mark)) ∙ ap (λ (xs : List ℕ). codes " match community" ++ xs ++ 10 ∷ []) (spaced_both l.names mark)
     ∙ ap (λ (xs : List ℕ). xs ++ 10 ∷ []) (sym (append_assoc (codes " match community") (spaced_words l.names) (spaced_words mark)))
 
 pub clear_text : line_text (change_line Clear) ≡ codes " set community none\n"
@@ -51,7 +48,7 @@ unfolding change_line
 append_text comms =
     let words = map community_text comms in
     let mark : List (List ℕ) = codes "additive" ∷ [] in
-    ap (λ (xs : List ℕ). codes " set " ++ xs ++ 10 ∷ []) (joined (codes "community") (words ++ mark)) ∙ ap (λ (xs : List ℕ). codes " set community" ++ xs ++ 10 ∷ []) (flat_map-append spaced words mark)
+    ap (λ (xs : List ℕ). codes " set " ++ xs ++ 10 ∷ []) (joined (codes "community") (words ++ mark)) ∙ ap (λ (xs : List ℕ). codes " set community" ++ xs ++ 10 ∷ []) (spaced_both words mark)
     ∙ ap (λ (xs : List ℕ). codes " set community" ++ xs) (append_assoc (spaced_words words) (codes " additive") (10 ∷ []))
 
 pub prepend_text : (p : Prepend) → line_text (prepend_line p) ≡ codes " set as-path prepend" ++ spaced_words (map decimal p.numbers) ++ 10 ∷ []
@@ -63,7 +60,7 @@ unfolding community_list_line
 community_line_text name c =
     let words = map community_text c.comms in
     let names = community_list_name name in
-    ap (λ (xs : List ℕ). codes "ip " ++ xs ++ 10 ∷ []) (joined (codes "community-list") (names ++ act_text c.permit ∷ words)) ∙ ap (λ (xs : List ℕ). codes "ip community-list" ++ xs ++ 10 ∷ []) (flat_map-append spaced names (act_text c.permit ∷ words))
+    ap (λ (xs : List ℕ). codes "ip " ++ xs ++ 10 ∷ []) (joined (codes "community-list") (names ++ act_text c.permit ∷ words)) ∙ ap (λ (xs : List ℕ). codes "ip community-list" ++ xs ++ 10 ∷ []) (spaced_both names (act_text c.permit ∷ words))
     ∙ ap (λ (xs : List ℕ). xs ++ 10 ∷ []) (sym (append_assoc (codes "ip community-list") (spaced_words names) (spaced (act_text c.permit) ++ spaced_words words)) ∙ sym (append_assoc (codes "ip community-list" ++ spaced_words names) (spaced (act_text c.permit)) (spaced_words words)))
 
 regroup : (n d a p g l : List ℕ)
@@ -75,7 +72,7 @@ unfolding prefix_entry_line prefix_entry_head
 prefix_entry_text name e =
     let ge = bound_words (codes "ge") e.ge in
     let le = bound_words (codes "le") e.le in
-    ap (λ (xs : List ℕ). codes "ip prefix-list " ++ (name ++ 32 ∷ (codes "seq" ++ 32 ∷ (decimal e.seq ++ 32 ∷ (act_text e.permit ++ 32 ∷ xs)))) ++ 10 ∷ []) (joined (prefix_text e.prefix) (ge ++ le) ∙ ap (λ (ys : List ℕ). prefix_text e.prefix ++ ys) (flat_map-append spaced ge le))
+    ap (λ (xs : List ℕ). codes "ip prefix-list " ++ (name ++ 32 ∷ (codes "seq" ++ 32 ∷ (decimal e.seq ++ 32 ∷ (act_text e.permit ++ 32 ∷ xs)))) ++ 10 ∷ []) (joined (prefix_text e.prefix) (ge ++ le) ∙ ap (λ (ys : List ℕ). prefix_text e.prefix ++ ys) (spaced_both ge le))
     ∙ regroup name (decimal e.seq) (act_text e.permit) (prefix_text e.prefix) (spaced_words ge) (spaced_words le)
 
 pub map_head_text : (name : List ℕ) (e : MapEntry) → lines_text (map_head_line name e ∷ []) ≡ codes "route-map" ++ spaced name ++ spaced (act_text e.permit) ++ spaced (decimal e.seq) ++ codes "\n"

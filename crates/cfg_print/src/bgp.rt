@@ -4,9 +4,10 @@ ghost use Rattle.std.specs.Prelude.{◌≡◌, ◌++◌, ◌∷◌, [], OnOk, st
 ghost use Rattle.std.specs.Fmt.{decimal};
 ghost use Rattle.cfg_ast.specs.printing.Printed.{line, line_text, lines_text, line_of_given, line_if, base_line, network_line, remote_line, peer_shut_line, peer_sends_line, applied_line, neighbor_lines, bgp_lines};
 
-use crate::words::{put, put_address, put_closing};
+use crate::words::{put, put_closing};
 use base_kit::List;
 use cfg_ast::{Base, BgpProcess, Named, Neighbor, NetLine, mask_of};
+use printed_words::put_address;
 use std::alloc::AllocError;
 use std::fmt::Write;
 

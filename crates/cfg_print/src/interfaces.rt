@@ -3,9 +3,9 @@
 ghost use Rattle.std.specs.Prelude.{◌≡◌, ◌++◌, OnOk, string_bytes, flat_map};
 ghost use Rattle.cfg_ast.specs.printing.Printed.{line_text, lines_text, line_of_given, line_if, ip_address_line, cost_line, shutdown_line, interface_lines};
 
-use crate::words::put_address;
 use base_kit::List;
 use cfg_ast::{Address, Interface, mask_of};
+use printed_words::put_address;
 use std::alloc::AllocError;
 use std::fmt::Write;
 

@@ -18,4 +18,3 @@ mod words;
 
 pub use print::text;
 pub use refusal::PrintRefusal;
-pub use words::{put_address, put_community, put_prefix};

@@ -3,11 +3,13 @@
 ghost use Rattle.std.specs.Prelude.{◌≡◌, ◌++◌, ◌∷◌, [], OnOk, string_bytes, flat_map, map, is_some};
 ghost use Rattle.cfg_ast.specs.text.Words.{number_between, number_word};
 ghost use Rattle.cfg_ast.specs.printing.Printed.{line_text, lines_text, closing, community_text, bound_words, prefix_entry_line, prefix_list_lines, community_list_name, community_list_line, community_list_lines};
-ghost use Rattle.cfg_print.specs.Spaced.{spaced_words, prefix_entry_head};
+ghost use Rattle.printed_words.specs.Spaced.{spaced_words};
+ghost use Rattle.cfg_print.specs.Fronts.{prefix_entry_head};
 
-use crate::words::{put, put_act, put_communities, put_number, put_prefix, put_word};
+use crate::words::{put, put_act};
 use base_kit::{List, read_number};
 use cfg_ast::{CommunityLine, CommunityList, PrefixEntry, PrefixList};
+use printed_words::{put_communities, put_number, put_prefix, put_word};
 use std::alloc::AllocError;
 use std::fmt::Write;
 

@@ -4,9 +4,10 @@ ghost use Rattle.std.specs.Prelude.{◌≡◌, ◌++◌, ◌∷◌, [], codes, O
 ghost use Rattle.std.specs.Fmt.{decimal};
 ghost use Rattle.cfg_ast.specs.printing.Printed.{line, line_text, lines_text, line_if, passive_default_line, passive_line, not_passive_line, network_area_line, ospf_lines};
 
-use crate::words::{put, put_address, put_closing, put_name};
+use crate::words::{put, put_closing};
 use base_kit::{List, Text};
 use cfg_ast::{AreaLine, OspfProcess};
+use printed_words::{put_address, put_name};
 use std::alloc::AllocError;
 use std::fmt::Write;
 

@@ -4,14 +4,12 @@ ghost use Rattle.std.specs.Prelude.{◌≡◌, ◌++◌, ◌∷◌, [], OnOk, st
 ghost use Rattle.std.specs.Fmt.{decimal};
 ghost use Rattle.cfg_ast.specs.declared.policy.Change.TheVariants.{Clear, Replace, Append};
 ghost use Rattle.cfg_ast.specs.printing.Printed.{line_text, lines_text, line_of_given, map_head_line, match_prefixes_line, match_comms_line, lp_line, change_line, delete_line, prepend_line, map_entry_lines, route_map_lines};
-ghost use Rattle.cfg_print.specs.Spaced.{spaced_words};
+ghost use Rattle.printed_words.specs.Spaced.{spaced_words};
 
-use crate::words::{
-    put, put_act, put_closing, put_communities, put_name, put_names, put_number, put_numbers,
-    put_word,
-};
+use crate::words::{put, put_act, put_closing};
 use base_kit::{List, NumSet};
 use cfg_ast::{Change, MapEntry, NameLine, Named, Prepend, RouteMap};
+use printed_words::{put_communities, put_name, put_names, put_number, put_numbers, put_word};
 use std::alloc::AllocError;
 
 fn put_map_head(text: &mut String, name: &str, entry: &MapEntry) -> Result<(), AllocError>

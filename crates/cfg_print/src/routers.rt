@@ -2,16 +2,17 @@
 
 ghost use Rattle.std.specs.Prelude.{◌≡◌, ◌++◌, ◌∷◌, [], OnOk, string_bytes, flat_map, map, get_or, codes};
 ghost use Rattle.cfg_ast.specs.printing.Printed.{line, lines_text, member_line, router_lines, routers_lines, lines_of_some, bgp_lines, ospf_lines};
-ghost use Rattle.cfg_print.specs.Spaced.{router_front};
+ghost use Rattle.cfg_print.specs.Fronts.{router_front};
 
 use crate::bgp::put_bgp;
 use crate::interfaces::put_interfaces;
 use crate::lists::{put_community_lists, put_prefix_lists};
 use crate::ospf::put_ospf;
 use crate::route_maps::put_route_maps;
-use crate::words::{put_closing, put_name};
+use crate::words::put_closing;
 use base_kit::{List, Text};
 use cfg_ast::{BgpProcess, OspfProcess, Router};
+use printed_words::put_name;
 use std::alloc::AllocError;
 use std::fmt::Write;
 

@@ -8,13 +8,18 @@
 //! The other calls read single words, exactly by their definitions.
 #![tactic(auto)]
 
+mod communities;
+mod device_names;
 mod heads;
+pub mod marks;
 mod names;
 mod numbers;
 mod prefixes;
 mod tables;
 mod words;
 
+pub use communities::read_community;
+pub use device_names::{is_interface_name, is_router_name};
 pub use heads::{policy_class, router_class};
 pub use names::{is_list_name, list_name, named};
 pub use numbers::{read_address, read_as_number, read_between, read_number};

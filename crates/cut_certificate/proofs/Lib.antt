@@ -4,7 +4,6 @@ pub mod Evened
 pub mod GroupLines
 pub mod Grouped
 pub mod Leaders
-pub mod LineWords
 pub mod LinesLeft
 pub mod Made
 pub mod NamesRead
@@ -12,7 +11,6 @@ pub mod NextNumber
 pub mod NotAdmissible
 pub mod PlacedEdges
 pub mod Reached
-pub mod RouterNames
 pub mod SameColors
 pub mod Scans
 pub mod Seen

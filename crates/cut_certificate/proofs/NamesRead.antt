@@ -1,7 +1,6 @@
 -- Routers of the names that are read one after the other.
-use Rattle.std.proofs.Common.{◌≡◌, ℕ, Bool, true, false, ◌&&◌, List, [], ◌∷◌, ◌++◌, refl, sym, ap, Option, Some, None, append_assoc, append-nil}
+use Rattle.std.proofs.Common.{◌≡◌, ℕ, List, [], ◌∷◌, ◌++◌, refl, sym, ap, Option, Some, None, append_assoc, append-nil}
 use Rattle.std.specs.Prelude.{option_map}
-use Rattle.std.specs.List.{list_all}
 use Rattle.cut_certificate.specs.Texts.{routers_named}
 
 -- what comes behind the routers so far
@@ -24,17 +23,3 @@ none_named routers first name words is = rw is refl
 
 pub all_named : (routers : List ℕ → Option ℕ) (first : List ℕ) (words : List (List ℕ)) → words ≡ [] → behind first (routers_named routers words) ≡ Some first
 all_named routers first words is = rw is (ap (λ (xs : List ℕ). Some xs) (append-nil first))
-
-pub first_passes : {X : Type 0} (test : X → Bool) (x : X) (xs : List X) → list_all test (x ∷ xs) ≡ true → test x ≡ true
-first_passes test x xs e = by (test x) e
-  where
-    by : (b : Bool) → (b && list_all test xs) ≡ true → b ≡ true
-    by true e = refl
-    by false e = e
-
-pub rest_passes : {X : Type 0} (test : X → Bool) (x : X) (xs : List X) → list_all test (x ∷ xs) ≡ true → list_all test xs ≡ true
-rest_passes test x xs e = by (test x) e
-  where
-    by : (b : Bool) → (b && list_all test xs) ≡ true → list_all test xs ≡ true
-    by true e = e
-    by false e = absurd cc

@@ -16,7 +16,7 @@ use Rattle.cut_certificate.specs.Blocks.{edge_act, leads_into, leads_from, reach
 use Rattle.cut_certificate.specs.Evenness.{is_matched, is_mirrored}
 use Rattle.cut_certificate.specs.Uneven.{IsUnmatched}
 use Rattle.cut_certificate.specs.Texts.{is_edge_over, edge_named}
-use Rattle.cut_certificate.proofs.RouterNames.{moved, position_first}
+use Rattle.numbered_names.proofs.Positions.{moved, position_first}
 use Rattle.cut_certificate.proofs.Seen.{same_test, other_test, test_same, or_true}
 
 abbrev at_place : ℕ → Edge → Placed

@@ -7,7 +7,6 @@ pub mod InUse
 pub mod Kept
 pub mod Laws
 pub mod Members
-pub mod Names
 pub mod Numbering
 pub mod Outgoing
 pub mod Printed

@@ -1,6 +1,6 @@
 //! What the words of a line say.
 
-ghost use Rattle.std.specs.Prelude.{◌≡◌, ◌∷◌, [], MatchOption, IfSome, Some, None, true};
+ghost use Rattle.std.specs.Prelude.{◌≡◌, MatchOption, Some, None};
 ghost use Rattle.std.specs.Option.{is_some};
 ghost use Rattle.std.specs.List.{list_all};
 ghost use Rattle.cfg_ast.specs.text.Lines.{words_of};
@@ -8,9 +8,9 @@ ghost use Rattle.cfg_ast.specs.text.Words.{is_router_name};
 ghost use Rattle.cut_certificate.specs.Forms.{closing_form, group_form, head_form, split_form};
 ghost use Rattle.cut_certificate.specs.Forms.CertificateLine.{Divide};
 
-use crate::router_names::is_router_name;
-use crate::words::next_word;
 use base_kit::read_number;
+use cfg_lex::next_word;
+use cfg_words::is_router_name;
 
 /// Whether the words are `certificate 1`.
 pub(crate) fn is_head(line: &[u8]) -> bool
@@ -30,8 +30,7 @@ pub(crate) fn is_head(line: &[u8]) -> bool
 
 /// The two blocks, the name and the link of a split.
 pub(crate) fn split_form(line: &[u8]) -> Option<(u32, u32, &[u8], u32)>
-    ensures form { MatchOption result (split_form (words_of line.now) ≡ None) (λ s. split_form (words_of line.now) ≡ Some (Divide s.0 s.1 s.2.now s.3)) }
-    ensures name { IfSome result (λ s. is_router_name s.2.now ≡ true) }
+    ensures { MatchOption result (split_form (words_of line.now) ≡ None) (λ s. split_form (words_of line.now) ≡ Some (Divide s.0 s.1 s.2.now s.3)) }
 {
     let (block, rest) = next_word(line)?;
     let (by, rest) = next_word(rest)?;

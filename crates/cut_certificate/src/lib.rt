@@ -15,15 +15,12 @@ mod groups;
 pub mod laws;
 mod lines;
 mod mirrors;
-mod names;
 mod numbering;
 mod outgoing;
 mod printing;
 mod reading;
 mod refusal;
-mod router_names;
 mod standing;
-mod words;
 
 pub use certificate::{Certificate, Split};
 pub use certifying::certify;

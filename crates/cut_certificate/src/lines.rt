@@ -1,25 +1,23 @@
 //! What a line says, after those before it.
 
-ghost use Rattle.std.specs.Prelude.{◌≡◌, ◌<◌, ◌^◌, ◌==◌, [], IfOk, None, true, length, option_map};
-ghost use Rattle.std.specs.List.{find, list_all};
+ghost use Rattle.std.specs.Prelude.{◌≡◌, ◌<◌, ◌^◌, ◌==◌, [], IfOk, None, length, option_map};
+ghost use Rattle.std.specs.List.{find};
 ghost use Rattle.cfg_ast.specs.text.Lines.{words_of};
-ghost use Rattle.cfg_ast.specs.text.Words.{is_router_name};
+ghost use Rattle.numbered_names.specs.NamePlaces.{AreBelow, place_in};
 ghost use Rattle.cut_certificate.specs.Answers.{Steps};
 ghost use Rattle.cut_certificate.specs.Forms.{closing_form, group_form, head_form, split_form};
-ghost use Rattle.cut_certificate.specs.Names.{ArePlacesAmong, place_at_name};
 ghost use Rattle.cut_certificate.specs.Outgoing.{AreIndexed};
 ghost use Rattle.cut_certificate.specs.Texts.{edge_named, routers_named, with_edge, with_line, with_members, with_saying};
 
 use crate::certificate::Split;
 use crate::forms::{is_end, is_group, is_head, split_form};
-use crate::names::place_of;
 use crate::outgoing::Placed;
 use crate::refusal::{CutKind, Stop};
 use crate::standing::{Stage, Standing};
-use crate::words::next_word;
 use base_kit::{ActGraph, NoMemory};
+use cfg_lex::next_word;
+use numbered_names::NamePlaces;
 use std::alloc::Global;
-use std::collections::HashMap;
 
 fn with_head(standing: Standing, line: &[u8]) -> Result<Standing, Stop>
     ensures { Steps result (with_saying [] (λ name. None) standing (head_form (words_of line.now))) }
@@ -75,14 +73,15 @@ fn with_split(
     alloc: Global,
     graph: &ActGraph,
     outgoing: &[Vec<Placed>],
-    places: &HashMap<String, u32>,
+    places: &NamePlaces,
     standing: Standing,
     line: &[u8],
 ) -> Result<Standing, Stop>
     requires index { AreIndexed graph.now outgoing.now }
-    requires within { ArePlacesAmong places.now graph.now.count }
+    requires within { AreBelow places.now graph.now.count }
     requires total { length standing.blocks.numbers ≡ graph.now.count }
-    ensures { Steps result (with_saying graph.now.edges (place_at_name places.now) standing (split_form (words_of line.now))) }
+    requires few { length standing.blocks.numbers < 2 ^ 32 }
+    ensures { Steps result (with_saying graph.now.edges (place_in places.now) standing (split_form (words_of line.now))) }
 {
     let Some((block, by, name, link)) = split_form(line) else {
         return Err(Stop::Fault(CutKind::BadForm));
@@ -93,7 +92,7 @@ fn with_split(
             return Err(Stop::Fault(CutKind::BadForm));
         }
     }
-    match place_of(places, name) {
+    match places.number_of_word(name) {
         Some(router) => with_edge(alloc, graph, outgoing, standing, block, by, router, link),
         None => Err(Stop::Fault(CutKind::UnknownRouter)),
     }
@@ -102,16 +101,16 @@ fn with_split(
 // The routers of these names, if each is one.
 fn routers_named(
     alloc: Global,
-    places: &HashMap<String, u32>,
+    places: &NamePlaces,
     line: &[u8],
 ) -> Result<Option<Vec<u32>>, NoMemory>
-    requires { list_all is_router_name (words_of line.now) ≡ true }
-    ensures { IfOk result (λ found. option_map (λ v. v.items) found ≡ routers_named (place_at_name places.now) (words_of line.now)) }
+    requires { AreBelow places.now (2 ^ 32) }
+    ensures { IfOk result (λ found. option_map (λ v. v.items) found ≡ routers_named (place_in places.now) (words_of line.now)) }
 {
     let mut routers = Vec::new(alloc);
     let mut rest = line;
     while let Some((name, more)) = next_word(rest) {
-        match place_of(places, name) {
+        match places.number_of_word(name) {
             Some(router) => routers.push(router)?,
             None => return Ok(None),
         }
@@ -122,13 +121,13 @@ fn routers_named(
 
 fn with_names(
     alloc: Global,
-    places: &HashMap<String, u32>,
+    places: &NamePlaces,
     standing: Standing,
     line: &[u8],
 ) -> Result<Standing, Stop>
-    requires names { list_all is_router_name (words_of line.now) ≡ true }
+    requires places { AreBelow places.now (2 ^ 32) }
     requires few { length standing.blocks.numbers < 2 ^ 32 }
-    ensures { Steps result (with_members standing (routers_named (place_at_name places.now) (words_of line.now))) }
+    ensures { Steps result (with_members standing (routers_named (place_in places.now) (words_of line.now))) }
 {
     match routers_named(alloc, places, line)? {
         Some(members) => standing.with_members(alloc, &members),
@@ -138,12 +137,13 @@ fn with_names(
 
 fn with_group(
     alloc: Global,
-    places: &HashMap<String, u32>,
+    places: &NamePlaces,
     standing: Standing,
     line: &[u8],
 ) -> Result<Standing, Stop>
-    requires { length standing.blocks.numbers < 2 ^ 32 }
-    ensures { Steps result (with_saying [] (place_at_name places.now) standing (group_form (words_of line.now))) }
+    requires places { AreBelow places.now (2 ^ 32) }
+    requires few { length standing.blocks.numbers < 2 ^ 32 }
+    ensures { Steps result (with_saying [] (place_in places.now) standing (group_form (words_of line.now))) }
 {
     if !is_group(line) {
         return Err(Stop::Fault(CutKind::BadForm));
@@ -181,15 +181,15 @@ pub(crate) fn with_line(
     alloc: Global,
     graph: &ActGraph,
     outgoing: &[Vec<Placed>],
-    places: &HashMap<String, u32>,
+    places: &NamePlaces,
     standing: Standing,
     line: &[u8],
 ) -> Result<Standing, Stop>
     requires index { AreIndexed graph.now outgoing.now }
-    requires within { ArePlacesAmong places.now graph.now.count }
+    requires within { AreBelow places.now graph.now.count }
     requires total { length standing.blocks.numbers ≡ graph.now.count }
     requires few { length standing.blocks.numbers < 2 ^ 32 }
-    ensures { Steps result (with_line graph.now.edges (place_at_name places.now) standing (words_of line.now)) }
+    ensures { Steps result (with_line graph.now.edges (place_in places.now) standing (words_of line.now)) }
 {
     let Some((word, rest)) = next_word(line) else {
         return Ok(standing);

@@ -3,22 +3,21 @@
 ghost use Rattle.std.specs.Prelude.{◌≡◌, ◌+◌, ◌≤◌, IfOk, length, map};
 ghost use Rattle.cfg_ast.specs.text.Members.{all_lines_of};
 ghost use Rattle.cfg_ast.specs.text.TextLines.{text_line};
+ghost use Rattle.numbered_names.specs.NamePlaces.{AreBelow, place_in};
 ghost use Rattle.cut_certificate.specs.Answers.{Verifies, refused_at};
 ghost use Rattle.cut_certificate.specs.Certificates.{AreCoarsest, IsAccepted};
-ghost use Rattle.cut_certificate.specs.Names.{ArePlacesAmong, place_at_name};
 ghost use Rattle.cut_certificate.specs.Outgoing.{AreIndexed};
 ghost use Rattle.cut_certificate.specs.Texts.{certificate_from, certificate_of_text, opening};
 
 use crate::certificate::Certificate;
 use crate::lines::with_line;
-use crate::names::places_of;
 use crate::outgoing::{Placed, by_importer};
 use crate::refusal::{CutRefusal, Stop};
 use crate::standing::Standing;
-use crate::words::{newline_from, without_return};
 use base_kit::{ActGraph, List, Text};
+use cfg_lex::{newline_from, without_return};
+use numbered_names::NamePlaces;
 use std::alloc::Global;
-use std::collections::HashMap;
 
 fn refused_at(line: u32, stop: Stop) -> CutRefusal
     ensures { result ≡ refused_at line stop }
@@ -34,13 +33,13 @@ fn read_lines(
     alloc: Global,
     graph: &ActGraph,
     outgoing: &[Vec<Placed>],
-    places: &HashMap<String, u32>,
+    places: &NamePlaces,
     bytes: &[u8],
 ) -> Result<Certificate, CutRefusal>
     requires short { length bytes.now ≤ 16777216 }
     requires index { AreIndexed graph.now outgoing.now }
-    requires within { ArePlacesAmong places.now graph.now.count }
-    ensures { Verifies result (certificate_from graph.now.edges (place_at_name places.now) (length (all_lines_of bytes.now) + 1) (map (text_line bytes.now) (all_lines_of bytes.now)) (opening graph.now)) }
+    requires within { AreBelow places.now graph.now.count }
+    ensures { Verifies result (certificate_from graph.now.edges (place_in places.now) (length (all_lines_of bytes.now) + 1) (map (text_line bytes.now) (all_lines_of bytes.now)) (opening graph.now)) }
 {
     let _count = graph.count;
     let mut standing = Standing::opening(alloc, graph)?;
@@ -82,7 +81,7 @@ pub fn verify(
     ensures coarsest { IfOk result (λ c. AreCoarsest graph.now c.groups) }
 {
     let _count = graph.count;
-    let places = places_of(alloc, names.as_slice())?;
+    let places = NamePlaces::of(alloc, names.as_slice())?;
     let outgoing = by_importer(alloc, graph)?;
     read_lines(alloc, graph, &outgoing, &places, bytes)
 }

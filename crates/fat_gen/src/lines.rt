@@ -5,7 +5,7 @@ ghost use Rattle.fat_gen.specs.SwitchLines.{name_text, as_number, host_network, 
 
 use crate::cable::Port;
 use crate::switch::Switch;
-use cfg_print::put_address;
+use printed_words::put_address;
 use std::alloc::AllocError;
 use std::fmt::Write;
 

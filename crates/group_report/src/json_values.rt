@@ -9,7 +9,7 @@ ghost use Rattle.group_report.specs.JsonText.{member_that_names};
 
 use crate::facts::{is_lone, name_at, originates};
 use cfg_ast::Unmatched;
-use cfg_print::put_address;
+use printed_words::put_address;
 use refine_partition::Partition;
 use serde_json::{Value, json};
 use srp_core::Srp;

@@ -10,7 +10,7 @@ use crate::groups::put_group_lines;
 use abstract_net::Quotient;
 use base_kit::{List, NoMemory};
 use cfg_ast::Unmatched;
-use cfg_print::put_address;
+use printed_words::put_address;
 use refine_partition::Partition;
 use srp_core::Srp;
 use std::alloc::{AllocError, Global};

@@ -1,7 +1,8 @@
 //! The places of names: that of a name is where it stands first among given items.
 //!
 //! `NamePlaces::of` goes over the items once and keeps a copy of each name. After that a name gives its
-//! place, and a word of a text too, whatever bytes it has; `item_named` gives the item itself.
+//! place, and a word of a text too, whatever bytes it has; `number_of_word` gives the place as a number
+//! of 32 bits, and `item_named` the item itself.
 #![tactic(auto)]
 
 mod ast;

@@ -1,6 +1,6 @@
 //! The places of names, found by a hash.
 
-ghost use Rattle.std.specs.Prelude.{◌≡◌, ◌∷◌, ◌++◌, [], ℕ, List, None, IfOk, OnOk, OnErr, bytes_eq, find, option_copied, slice_get};
+ghost use Rattle.std.specs.Prelude.{◌≡◌, ◌^◌, ◌∷◌, ◌++◌, [], ℕ, List, None, IfOk, OnOk, OnErr, bytes_eq, find, option_copied, slice_get};
 
 use crate::has_name::HasName;
 use base_kit::NoMemory;
@@ -20,7 +20,7 @@ fn item_at<T>(items: &[T], place: usize) -> Option<&T>
 }
 
 impl NamePlaces {
-    ghost use Rattle.numbered_names.specs.NamePlaces.{ArePlacesOf, place_in};
+    ghost use Rattle.numbered_names.specs.NamePlaces.{AreBelow, ArePlacesOf, place_in};
 
     /// The places of no names.
     pub fn new(alloc: Global) -> Self
@@ -76,6 +76,17 @@ impl NamePlaces {
         match std::str::from_utf8(word) {
             Ok(name) => self.place_of(name),
             Err(_) => None,
+        }
+    }
+
+    /// The place of the name that a word is, as a number of 32 bits, if it is one that has a place.
+    pub fn number_of_word(&self, word: &[u8]) -> Option<u32>
+        requires { AreBelow self.now (2 ^ 32) }
+        ensures { result ≡ place_in self.now word.now }
+    {
+        match self.place_of_word(word) {
+            Some(place) => Some(place as u32),
+            None => None,
         }
     }
 

@@ -11,7 +11,6 @@ pub mod OneOrder
 mod HasOrder
 pub mod AlikeRuns
 mod NoneLone
-mod NameTexts
 mod ScheduleRouters
 mod WordsLeft
 mod RankOrder

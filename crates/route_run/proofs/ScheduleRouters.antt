@@ -3,7 +3,7 @@ use Rattle.std.proofs.Common.{◌≡◌, ◌⊎◌, ℕ, ◌+◌, ◌<◌, Bool,
 use Rattle.std.specs.Prelude.{bytes_eq, codes}
 use Rattle.std.specs.List.{position}
 use Rattle.base_kit.proofs.Elements.{In, append_in, range_in}
-use Rattle.solution_text.proofs.Judging.{named_at}
+use Rattle.numbered_names.proofs.Positions.{position_below}
 use Rattle.route_run.specs.declared.schedule.Activation.{Activation}
 use Rattle.route_run.specs.declared.schedule.Activation.TheVariants.{One, Round}
 use Rattle.route_run.specs.declared.schedule.ScheduleRefusal.{ScheduleRefusal}
@@ -12,7 +12,7 @@ use Rattle.route_run.specs.Schedules.{LineWord, routers_of, run_of, activation_o
 named_by : (names : List (List ℕ)) (word : List ℕ) (k : ℕ) (b : Bool) (p : Option ℕ) → position (bytes_eq word) names ≡ p → cond b (Some Round) (option_map One p) ≡ Some (One k) → k < length names
 named_by names word k true p is e = absurd cc
 named_by names word k false None is e = absurd cc
-named_by names word k false (Some j) is e = let same : j ≡ k = cc in let n = named_at [] word names j is in let less = n.0 in omega arith
+named_by names word k false (Some j) is e = let same : j ≡ k = cc in let less = position_below (bytes_eq word) names j is in omega arith
 
 routers_within : (names : List (List ℕ)) (word : List ℕ) (a : Activation) (u : ℕ) → activation_of names word ≡ Some a → In (routers_of (length names) a) u → u < length names
 routers_within names word (One k) u e (inl same) = let less = named_by names word k (bytes_eq word (codes "*")) (position (bytes_eq word) names) refl e in omega arith

@@ -6,7 +6,7 @@ use Rattle.cfg_ast.specs.text.Lines.{newline_from, without_return, Piece, pieces
 use Rattle.cfg_ast.specs.text.TextLines.{text_line}
 use Rattle.cfg_ast.proofs.Pieces.{pieces_next, pieces_end}
 use Rattle.cfg_ast.proofs.SameWords.{same_words}
-use Rattle.solution_text.proofs.LinesLeft.{Cut}
+use Rattle.cfg_lex.proofs.LinesLeft.{Cut}
 use Rattle.route_run.specs.declared.schedule.Activation.{Activation}
 use Rattle.route_run.specs.declared.schedule.ScheduleRefusal.{ScheduleRefusal}
 use Rattle.route_run.specs.Schedules.{LineWord, words_at, words_on, activation_of, before, or_unknown, schedule_of_words, Reads}

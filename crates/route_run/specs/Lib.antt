@@ -1,6 +1,5 @@
 pub mod Activations
 pub mod Choices
-pub mod Names
 pub mod Orders
 pub mod Ranks
 pub mod Reading

@@ -11,7 +11,6 @@ mod activation;
 mod choosing;
 mod comparing;
 pub mod laws;
-mod names;
 mod order;
 mod reading;
 mod running;

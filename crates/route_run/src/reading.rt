@@ -2,26 +2,26 @@
 
 ghost use Rattle.std.specs.Prelude.{◌≡◌, ◌<◌, ◌≤◌, ◌^◌, All, List, [], IfOk, IfErr, length};
 ghost use Rattle.cfg_ast.specs.text.Lines.{words_of};
-ghost use Rattle.route_run.specs.Names.{ArePlaces};
+ghost use Rattle.numbered_names.specs.NamePlaces.{ArePlacesOf};
 ghost use Rattle.route_run.specs.Reading.{answer_with, RefusesLine};
 ghost use Rattle.route_run.specs.Schedules.{LineWord, activation_of, run_of, schedule_of_text, Reads};
 
-use crate::names::{place_of, places_of};
 use crate::schedule::{Activation, ScheduleRefusal};
 use base_kit::{List, Text};
-use solution_text::words::{newline_from, next_word, without_return};
+use cfg_lex::{newline_from, next_word, without_return};
+use numbered_names::NamePlaces;
 use std::alloc::Global;
-use std::collections::HashMap;
 
 // What a word activates.
-fn activation_of(places: &HashMap<String, u32>, names: &[Text], word: &[u8]) -> Option<Activation>
-    requires { ArePlaces places.now names.now }
+fn activation_of(places: &NamePlaces, names: &[Text], word: &[u8]) -> Option<Activation>
+    requires places { ArePlacesOf (λ text. text) places.now names.now }
+    requires few { length names.now < 2 ^ 32 }
     ensures { result ≡ activation_of names.now word.now }
 {
     if word == b"*".as_slice() {
         return Some(Activation::Round);
     }
-    match place_of(places, names, word) {
+    match places.number_of_word(word) {
         Some(router) => Some(Activation::One(router)),
         None => None,
     }
@@ -29,13 +29,14 @@ fn activation_of(places: &HashMap<String, u32>, names: &[Text], word: &[u8]) -> 
 
 // Puts the activations of a line last, or tells that a word of it is none.
 fn read_line(
-    places: &HashMap<String, u32>,
+    places: &NamePlaces,
     names: &[Text],
     line: u32,
     text: &[u8],
     schedule: &mut List<Activation>,
 ) -> Result<(), ScheduleRefusal>
-    requires { ArePlaces places.now names.now }
+    requires places { ArePlacesOf (λ text. text) places.now names.now }
+    requires few { length names.now < 2 ^ 32 }
     ensures read { IfOk result (λ _. (later : List LineWord) → answer_with names.now schedule.old line (words_of text.now) later ≡ answer_with names.now schedule.new line [] later) }
     ensures refused { IfErr result (RefusesLine names.now schedule.old line (words_of text.now)) }
 {
@@ -67,7 +68,7 @@ pub fn read_schedule(
     ensures within { IfOk result (λ schedule. All (λ u. u < length names.now) (run_of (length names.now) schedule)) }
 {
     let names = names.as_slice();
-    let places = places_of(alloc, names)?;
+    let places = NamePlaces::of(alloc, names)?;
     let mut schedule = List::new(alloc);
     let mut line = 0;
     let mut from = 0;

@@ -18,7 +18,7 @@ use Rattle.solution_text.specs.Printed.{label_words, label_lines, labels_text}
 use Rattle.solution_text.specs.Solutions.{are_some, has_words, solution_lines, named_labels, is_foreign, first_fault, said_of, labels_by, labels_of_text}
 use Rattle.base_kit.specs.Names.{AreApart}
 use Rattle.base_kit.specs.Options.{all_given}
-use Rattle.solution_text.proofs.RouterNames.{bytes_eq-sym}
+use Rattle.numbered_names.proofs.Positions.{bytes_eq-sym}
 use Rattle.solution_round_trip.specs.Laws.{IsLabelInRange, AreNames, PrintedIsReadBack}
 use Rattle.solution_round_trip.proofs.LabelsBack.{words_back}
 use Rattle.solution_round_trip.proofs.LinesBack.{lines_print}

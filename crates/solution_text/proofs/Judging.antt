@@ -17,7 +17,7 @@ use Rattle.solution_text.specs.Solutions.{has_words, are_some, named_labels, is_
 use Rattle.base_kit.specs.Names.{AreApart}
 use Rattle.base_kit.specs.Options.{all_given}
 use Rattle.solution_text.specs.Steps.{Standing, nothing_said, has_line, said_at, itself, all_labels, with_label, with_place, with_saying, with_words, go_on, ended, answer_from}
-use Rattle.solution_text.proofs.RouterNames.{bytes_eq-sym, moved, position_first}
+use Rattle.numbered_names.proofs.Positions.{bytes_eq-sym, moved, position_first}
 
 abbrev Labels : Type 0
 Labels = Result (List (Option Route)) SolRefusal

@@ -6,19 +6,12 @@ use Rattle.std.proofs.lemmas.Bool.{eqb-true, eq-eqb, ne_eqb}
 use Rattle.std.proofs.lemmas.List.{take_all}
 use Rattle.std.proofs.Math.Seq.{drop-drop}
 use Rattle.cfg_ast.specs.printing.Printed.{line_text}
-use Rattle.cfg_print.specs.Spaced.{spaced, spaced_words}
+use Rattle.printed_words.specs.Spaced.{spaced_words}
+use Rattle.printed_words.proofs.Joined.{joined, spaced_both}
 use Rattle.srp_core.specs.declared.route.Route.{Route}
 use Rattle.solution_text.specs.Printed.{with_run, runs_of, run_words, path_words, label_words, label_line, labels_text}
 
 -- ---- words
-
-pub spaced_both : (vs ws : List (List ℕ)) → spaced_words (vs ++ ws) ≡ spaced_words vs ++ spaced_words ws
-spaced_both [] ws = refl
-spaced_both (v ∷ vs) ws = ap (λ (xs : List ℕ). spaced v ++ xs) (spaced_both vs ws) ∙ sym (append_assoc (spaced v) (spaced_words vs) (spaced_words ws))
-
-pub joined : (w : List ℕ) (ws : List (List ℕ)) → join_with_byte 32 (w ∷ ws) ≡ w ++ spaced_words ws
-joined w [] = sym (append-nil w)
-joined w (v ∷ ws) = ap (λ (xs : List ℕ). w ++ 32 ∷ xs) (joined v ws)
 
 pub label_text : (name : List ℕ) (label : Option Route) → line_text (label_line (name, label)) ≡ name ++ spaced_words (label_words label) ++ 10 ∷ []
 label_text name label = ap (λ (xs : List ℕ). xs ++ 10 ∷ []) (joined name (label_words label))

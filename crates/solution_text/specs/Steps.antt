@@ -1,7 +1,6 @@
 -- The labels of a text line by line: what is said of each router so far.
-use Rattle.std.specs.Prelude.{◌≡◌, ℕ, ◌<◌, Bool, true, false, List, [], ◌∷◌, replicate, if◌then◌else◌, Option, Some, None, Result, Ok, Err, slice_index_or, slice_set, bytes_eq, String}
-use Rattle.std.specs.List.{list_all, position}
-use Rattle.std.specs.HashMap as hash
+use Rattle.std.specs.Prelude.{ℕ, Bool, true, false, List, [], ◌∷◌, replicate, if◌then◌else◌, Option, Some, None, Result, Ok, Err, slice_index_or, slice_set}
+use Rattle.std.specs.List.{list_all}
 use Rattle.base_kit.specs.declared.protocol.Protocol.{Protocol}
 use Rattle.cfg_ast.specs.text.TextLines.{TextLine}
 use Rattle.srp_core.specs.declared.route.Route.{Route}
@@ -31,20 +30,6 @@ itself b = b
 -- the labels, if each router has a line
 abbrev pub all_labels : Standing → Option (List (Option Route))
 all_labels s = if list_all itself s.seen then Some s.labels else None
-
--- ---- names
-
--- the place that stands at a name
-abbrev pub place_in : {Y S : Type 0} → hash.HashMap (String Y) ℕ S → List ℕ → Option ℕ
-place_in places name = hash.get_by_text places name
-
--- the place of the first such name
-abbrev pub HasPlaces : {Y S : Type 0} → hash.HashMap (String Y) ℕ S → List (List ℕ) → Type 0
-HasPlaces places names = (wanted : List ℕ) → place_in places wanted ≡ position (bytes_eq wanted) names
-
--- the places are among so many
-abbrev pub AreWithin : {Y S : Type 0} → hash.HashMap (String Y) ℕ S → ℕ → Type 0
-AreWithin places count = (wanted : List ℕ) (place : ℕ) → place_in places wanted ≡ Some place → place < count
 
 -- ---- one line more
 

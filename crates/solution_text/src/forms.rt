@@ -2,13 +2,14 @@
 
 ghost use Rattle.std.specs.Prelude.{◌≡◌, ◌≤◌, ◌<◌, ◌∷◌, ◌++◌, [], IfOk, IfSome, replicate, Some, option_map, option_and_then, MatchOption, OnOk};
 ghost use Rattle.cfg_ast.specs.text.Lines.{words_of};
-ghost use Rattle.cfg_ast.specs.text.Words.{is_colon, community_word};
+ghost use Rattle.cfg_ast.specs.text.Words.{community_word};
 ghost use Rattle.base_kit.specs.Sets.{IsAscending};
 ghost use Rattle.solution_text.specs.Forms.{is_star, piece_of, path_of_words, above, community_above, communities_above, bgp_route, bgp_label_form, ospf_label_form, none_form, label_form};
 
-use crate::words::{behind, has, next_word, place_of};
 use base_kit::{List, NoMemory, NumSet};
-use cfg_words::{read_as_number, read_between, read_number};
+use cfg_lex::next_word;
+use cfg_words::marks::{behind, has, place_of};
+use cfg_words::{read_as_number, read_between, read_community, read_number};
 use srp_core::Route;
 use std::alloc::Global;
 
@@ -64,19 +65,6 @@ fn read_path(alloc: Global, line: &[u8]) -> Result<Option<(Vec<u32>, &[u8])>, No
 }
 
 // ---- communities
-
-#[tactic(auto, unfolding(cfg_ast::specs::text::Words::community_word))]
-fn read_community(word: &[u8]) -> Option<u32>
-    ensures { result ≡ community_word word.now }
-{
-    if !has(word, b':') {
-        return read_between(word, 1, u32::MAX);
-    }
-    let colon = place_of(word, b':');
-    let high = read_between(&word[..colon], 0, 65535)?;
-    let low = read_between(behind(word, colon), 0, 65535)?;
-    Some(65536 * high + low)
-}
 
 // A community above the bound that is not well-known.
 #[tactic(auto, unfolding(crate::specs::Forms::community_above))]

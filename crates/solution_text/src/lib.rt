@@ -3,20 +3,17 @@
 //! `read_labels` reads the labels of a text for routers of given names, exactly by the definition
 //! `labels_of_text`: every label, or the first line at fault with its kind. `print_labels` writes
 //! labels as such a text, in the order of the names. Both take time by the length of the text, and
-//! no more memory than the labels and the names need. The module `words`
-//! cuts a text into its lines and their words.
+//! no more memory than the labels and the names need.
 #![tactic(auto)]
 
 mod forms;
 mod lines;
-mod names;
 mod printing;
 mod reading;
 mod refusal;
 mod said;
 #[cfg(test)]
 mod tests;
-pub mod words;
 
 pub use printing::print_labels;
 pub use reading::read_labels;

@@ -1,22 +1,22 @@
 //! A solution's text, line by line.
 
-ghost use Rattle.std.specs.Prelude.{◌≡◌, ◌<◌, ◌≤◌, ◌∷◌, length};
+ghost use Rattle.std.specs.Prelude.{◌≡◌, ◌<◌, ◌≤◌, ◌^◌, ◌∷◌, length};
 ghost use Rattle.cfg_ast.specs.text.Lines.{words_of};
+ghost use Rattle.numbered_names.specs.NamePlaces.{AreBelow, place_in};
 ghost use Rattle.solution_text.specs.Answers.{Reads};
 ghost use Rattle.solution_text.specs.Forms.{named_label_of};
 ghost use Rattle.solution_text.specs.Solutions.{is_foreign};
-ghost use Rattle.solution_text.specs.Steps.{AreWithin, place_in, with_label, with_saying, with_words};
+ghost use Rattle.solution_text.specs.Steps.{with_label, with_saying, with_words};
 
 use crate::forms::label_form;
-use crate::names::place_of;
 use crate::refusal::{SolKind, SolRefusal};
 use crate::said::Said;
-use crate::words::next_word;
 use base_kit::Protocol;
-use cfg_forms_router::is_router_name;
+use cfg_lex::next_word;
+use cfg_words::is_router_name;
+use numbered_names::NamePlaces;
 use srp_core::Route;
 use std::alloc::Global;
-use std::collections::HashMap;
 
 fn is_foreign(protocol: Protocol, label: &Option<Route>) -> bool
     ensures { result ≡ is_foreign protocol label.now }
@@ -58,17 +58,18 @@ fn with_label(
 }
 
 // The line that begins with this word, and goes on so.
-#[tactic(auto, unfolding(crate::specs::Forms::named_label_of), using(crate::proofs::RouterNames::router_name_is_ascii))]
+#[tactic(auto, unfolding(crate::specs::Forms::named_label_of))]
 fn with_saying(
     alloc: Global,
     protocol: Protocol,
-    places: &HashMap<String, u32>,
+    places: &NamePlaces,
     line: u32,
     said: Said,
     name: &[u8],
     text: &[u8],
 ) -> Result<Said, SolRefusal>
-    requires { AreWithin places.now (length said.seen) }
+    requires within { AreBelow places.now (length said.seen) }
+    requires few { AreBelow places.now (2 ^ 32) }
     ensures { Reads result (with_saying protocol (place_in places.now) line said (named_label_of (name.now ∷ words_of text.now))) }
 {
     let bad_form = SolRefusal::At {
@@ -84,7 +85,7 @@ fn with_saying(
     let Some(label) = label_form(alloc, word, text)? else {
         return Err(bad_form);
     };
-    match place_of(places, name) {
+    match places.number_of_word(name) {
         Some(router) => with_label(protocol, line, said, router, label),
         None => Err(SolRefusal::At {
             line,
@@ -97,12 +98,13 @@ fn with_saying(
 pub(crate) fn with_line(
     alloc: Global,
     protocol: Protocol,
-    places: &HashMap<String, u32>,
+    places: &NamePlaces,
     line: u32,
     said: Said,
     text: &[u8],
 ) -> Result<Said, SolRefusal>
-    requires { AreWithin places.now (length said.seen) }
+    requires within { AreBelow places.now (length said.seen) }
+    requires few { AreBelow places.now (2 ^ 32) }
     ensures { Reads result (with_words protocol (place_in places.now) line said (words_of text.now)) }
 {
     match next_word(text) {

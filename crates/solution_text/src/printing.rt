@@ -4,11 +4,11 @@ ghost use Rattle.std.specs.Prelude.{◌≡◌, ◌<◌, ◌≤◌, ◌==◌, ◌
 ghost use Rattle.std.specs.List.{position_or_len};
 ghost use Rattle.cfg_ast.specs.printing.Printed.{community_text, line_text};
 ghost use Rattle.srp_core.specs.declared.route.Route.TheVariants.{Bgp};
-ghost use Rattle.cfg_print.specs.Spaced.{spaced, spaced_words};
+ghost use Rattle.printed_words.specs.Spaced.{spaced, spaced_words};
 ghost use Rattle.solution_text.specs.Printed.{piece_word, run_words, path_words, label_words, label_line, labels_text};
 
 use base_kit::{List, NoMemory, NumSet, Text};
-use cfg_print::put_community;
+use printed_words::put_communities;
 use srp_core::{Labels, Route};
 use std::alloc::{AllocError, Global};
 use std::fmt::Write;
@@ -67,17 +67,6 @@ fn put_path(text: &mut String, path: &[u32]) -> Result<(), AllocError>
 }
 
 // ---- lines
-
-fn put_communities(text: &mut String, comms: &NumSet) -> Result<(), AllocError>
-    ensures { OnOk result (string_bytes text.new ≡ string_bytes text.old ++ spaced_words (map community_text comms.now)) }
-{
-    let items = comms.as_slice();
-    for community in items {
-        text.push_str(" ")?;
-        put_community(text, *community)?;
-    }
-    Ok(())
-}
 
 fn put_bgp(text: &mut String, lp: u32, path: &[u32], comms: &NumSet) -> Result<(), AllocError>
     ensures { OnOk result (string_bytes text.new ≡ string_bytes text.old ++ spaced_words (label_words (Some (Bgp lp path.now comms.now)))) }

@@ -9,28 +9,29 @@ ghost use Rattle.srp_core.specs.Stability.{label};
 ghost use Rattle.solution_text.specs.Answers.{Reads};
 ghost use Rattle.solution_text.specs.Solutions.{labels_of_text};
 ghost use Rattle.base_kit.specs.Names.{AreApart};
-ghost use Rattle.solution_text.specs.Steps.{AreWithin, place_in, nothing_said, answer_from};
+ghost use Rattle.numbered_names.specs.NamePlaces.{AreBelow, place_in};
+ghost use Rattle.solution_text.specs.Steps.{nothing_said, answer_from};
 
 use crate::lines::with_line;
-use crate::names::places_of;
 use crate::refusal::{SolKind, SolRefusal};
 use crate::said::Said;
-use crate::words::{newline_from, without_return};
 use base_kit::{List, Protocol, Text};
+use cfg_lex::{newline_from, without_return};
+use numbered_names::NamePlaces;
 use srp_core::Labels;
 use std::alloc::Global;
-use std::collections::HashMap;
 
 // The labels that the lines give to so many routers, whose names have these places.
 fn read_lines(
     alloc: Global,
     bytes: &[u8],
     protocol: Protocol,
-    places: &HashMap<String, u32>,
+    places: &NamePlaces,
     count: usize,
 ) -> Result<Labels, SolRefusal>
     requires short { length bytes.now ≤ 268435456 }
-    requires within { AreWithin places.now count }
+    requires within { AreBelow places.now count }
+    requires few { AreBelow places.now (2 ^ 32) }
     ensures { Reads result (answer_from protocol (place_in places.now) (length (all_lines_of bytes.now) + 1) (map (text_line bytes.now) (all_lines_of bytes.now)) (nothing_said count)) }
 {
     let mut said = Said::nothing(alloc, count)?;
@@ -79,7 +80,7 @@ pub fn read_labels(
     ensures total { IfOk result (λ labels. length labels ≡ length names.now) }
     ensures routes { IfOk result (λ labels. (u : ℕ) (r : Route) → label labels u ≡ Some r → IsRouteOf protocol r) }
 {
-    let places = places_of(alloc, names.as_slice())?;
+    let places = NamePlaces::of(alloc, names.as_slice())?;
     match read_lines(alloc, bytes, protocol, &places, names.len()) {
         Ok(labels) => {
             let _sets = labels.as_slice();

@@ -1,6 +1,6 @@
 use Rattle.std.proofs.Common.{◌++◌, map, codes, string_bytes}
 use Rattle.cfg_print.proofs.Grown.{grown, ends}
-use Rattle.cfg_print.specs.Spaced.{spaced, spaced_words}
+use Rattle.printed_words.specs.Spaced.{spaced, spaced_words}
 use Rattle.cfg_ast.specs.printing.Printed.{line_text, act_text, community_text, community_list_name, community_list_line}
 use Rattle.cfg_print.proofs.Joined.{community_line_text}
 use Rattle.cfg_print.proofs.lists.put_community_line.Goals as goal

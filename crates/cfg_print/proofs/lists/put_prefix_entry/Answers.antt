@@ -1,6 +1,7 @@
 use Rattle.std.proofs.Common.{◌++◌, codes, string_bytes}
 use Rattle.cfg_print.proofs.Grown.{grown, ends}
-use Rattle.cfg_print.specs.Spaced.{spaced_words, prefix_entry_head}
+use Rattle.printed_words.specs.Spaced.{spaced_words}
+use Rattle.cfg_print.specs.Fronts.{prefix_entry_head}
 use Rattle.cfg_ast.specs.printing.Printed.{line_text, bound_words, prefix_entry_line}
 use Rattle.cfg_print.proofs.Joined.{prefix_entry_text}
 use Rattle.cfg_print.proofs.lists.put_prefix_entry.Goals as goal

@@ -1,7 +1,8 @@
 use Rattle.std.proofs.Common.{◌++◌, codes, refl, string_bytes}
 use Rattle.std.specs.Fmt.{decimal}
 use Rattle.cfg_print.proofs.Grown.{grown, ends}
-use Rattle.cfg_print.specs.Spaced.{spaced, prefix_entry_head}
+use Rattle.printed_words.specs.Spaced.{spaced}
+use Rattle.cfg_print.specs.Fronts.{prefix_entry_head}
 use Rattle.cfg_ast.specs.printing.Printed.{act_text, prefix_text}
 use Rattle.cfg_print.proofs.lists.put_prefix_head.Goals as goal
 

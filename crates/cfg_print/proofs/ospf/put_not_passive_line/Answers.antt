@@ -1,6 +1,6 @@
 use Rattle.std.proofs.Common.{◌++◌, codes, refl, string_bytes}
 use Rattle.cfg_print.proofs.Grown.{grown, ends}
-use Rattle.cfg_print.specs.Spaced.{spaced}
+use Rattle.printed_words.specs.Spaced.{spaced}
 use Rattle.cfg_ast.specs.printing.Printed.{line_text, not_passive_line}
 use Rattle.cfg_print.proofs.ospf.put_not_passive_line.Goals as goal
 

@@ -1,6 +1,6 @@
 use Rattle.std.proofs.Common.{◌++◌, codes, string_bytes}
 use Rattle.cfg_print.proofs.Grown.{grown, ends}
-use Rattle.cfg_print.specs.Spaced.{spaced}
+use Rattle.printed_words.specs.Spaced.{spaced}
 use Rattle.cfg_ast.specs.printing.Printed.{line_text, delete_line}
 use Rattle.cfg_print.proofs.Joined.{delete_text}
 use Rattle.cfg_print.proofs.route_maps.put_delete.Goals as goal

@@ -1,7 +1,7 @@
 use Rattle.std.proofs.Common.{◌++◌, ◌∷◌, [], codes, string_bytes}
 use Rattle.std.specs.Fmt.{decimal}
 use Rattle.cfg_ast.specs.printing.Printed.{lines_text, act_text, map_head_line}
-use Rattle.cfg_print.specs.Spaced.{spaced}
+use Rattle.printed_words.specs.Spaced.{spaced}
 use Rattle.cfg_print.proofs.Grown.{grown, ends}
 use Rattle.cfg_print.proofs.Joined.{map_head_text}
 use Rattle.cfg_print.proofs.route_maps.put_map_head.Goals as goal

@@ -1,6 +1,6 @@
 use Rattle.std.proofs.Common.{◌++◌, codes, string_bytes}
 use Rattle.cfg_print.proofs.Grown.{grown, ends}
-use Rattle.cfg_print.specs.Spaced.{spaced_words}
+use Rattle.printed_words.specs.Spaced.{spaced_words}
 use Rattle.cfg_ast.specs.printing.Printed.{line_text, match_prefixes_line}
 use Rattle.cfg_print.proofs.Joined.{match_prefixes_text}
 use Rattle.cfg_print.proofs.route_maps.put_match_prefixes.Goals as goal

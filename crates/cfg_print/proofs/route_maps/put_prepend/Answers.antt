@@ -1,7 +1,7 @@
 use Rattle.std.proofs.Common.{◌++◌, map, codes, string_bytes}
 use Rattle.std.specs.Fmt.{decimal}
 use Rattle.cfg_print.proofs.Grown.{grown, ends}
-use Rattle.cfg_print.specs.Spaced.{spaced_words}
+use Rattle.printed_words.specs.Spaced.{spaced_words}
 use Rattle.cfg_ast.specs.printing.Printed.{line_text, prepend_line}
 use Rattle.cfg_print.proofs.Joined.{prepend_text}
 use Rattle.cfg_print.proofs.route_maps.put_prepend.Goals as goal

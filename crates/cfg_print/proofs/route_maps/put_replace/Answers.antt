@@ -1,6 +1,6 @@
 use Rattle.std.proofs.Common.{◌++◌, map, codes, string_bytes}
 use Rattle.cfg_print.proofs.Grown.{grown, ends}
-use Rattle.cfg_print.specs.Spaced.{spaced_words}
+use Rattle.printed_words.specs.Spaced.{spaced_words}
 use Rattle.cfg_ast.specs.declared.policy.Change.TheVariants.{Replace}
 use Rattle.cfg_ast.specs.printing.Printed.{line_text, community_text, change_line}
 use Rattle.cfg_print.proofs.Joined.{replace_text}

@@ -2,7 +2,7 @@ use Rattle.std.proofs.Common.{◌≡◌, ◌++◌, ◌∷◌, [], List, map, fla
 use Rattle.cfg_ast.specs.text.TextLines.{TextLine}
 use Rattle.cfg_print.proofs.Grown.{lines_grown, lines_end}
 use Rattle.cfg_ast.specs.printing.Printed.{lines_text, line, closing, member_line, interface_lines, lines_of_some, bgp_lines, ospf_lines}
-use Rattle.cfg_print.specs.Spaced.{router_front}
+use Rattle.cfg_print.specs.Fronts.{router_front}
 use Rattle.cfg_print.proofs.routers.put_front.Goals as goal
 
 pub returns : goal.returns

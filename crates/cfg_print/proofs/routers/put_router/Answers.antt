@@ -1,7 +1,7 @@
 use Rattle.std.proofs.Common.{◌++◌, ◌∷◌, [], flat_map, codes, string_bytes}
 use Rattle.cfg_print.proofs.Grown.{lines_grown, lines_end}
 use Rattle.cfg_ast.specs.printing.Printed.{line, prefix_list_lines, community_list_lines, route_map_lines, router_lines}
-use Rattle.cfg_print.specs.Spaced.{router_front}
+use Rattle.cfg_print.specs.Fronts.{router_front}
 use Rattle.cfg_print.proofs.routers.put_router.Goals as goal
 
 pub returns : goal.returns

@@ -1,5 +1,5 @@
-use Rattle.cut_certificate.proofs.RouterNames.{router_name_is_ascii}
+use Rattle.std.proofs.Common.{arith}
 use Rattle.cut_certificate.proofs.lines.with_split.Goals as goal
 
-pub place_of-requires : goal.place_of-requires
-place_of-requires c = router_name_is_ascii c.in-Some.name.now c.in-Some.ensures.name
+pub number_of_word-requires : goal.number_of_word-requires
+number_of_word-requires c = λ name place is. omega (arith, c.requires.within name place is, c.requires.total, c.requires.few)

@@ -3,12 +3,13 @@ use Rattle.cfg_ast.specs.text.TextLines.{text_line}
 use Rattle.cfg_ast.specs.text.Lines.{begins_line}
 use Rattle.cfg_ast.specs.text.Members.{all_lines_of}
 use Rattle.cfg_ast.proofs.Pieces.{begins_next}
-use Rattle.cut_certificate.specs.Names.{place_at_name}
+use Rattle.numbered_names.specs.NamePlaces.{place_in}
 use Rattle.cut_certificate.specs.Texts.{Standing, opening, ended, certificate_from}
 use Rattle.cut_certificate.specs.declared.certificate.Certificate.{Certificate}
 use Rattle.cut_certificate.specs.declared.refusal.CutRefusal.{CutRefusal}
 use Rattle.cut_certificate.specs.Answers.{Verifies}
-use Rattle.cut_certificate.proofs.LinesLeft.{Cut, count_left, left_next, left_fault, none_left, none_counted, lines_counted}
+use Rattle.cfg_lex.proofs.LinesLeft.{Cut, count_left, none_counted, lines_counted}
+use Rattle.cut_certificate.proofs.LinesLeft.{left_next, left_fault, none_left}
 use Rattle.cut_certificate.proofs.Reached.{first_reached}
 use Rattle.cut_certificate.proofs.StepsOf.{line_total}
 use Rattle.cut_certificate.proofs.Verified.{verifies_same, stopped}
@@ -24,7 +25,7 @@ loop-from-init c =
       begins = λ h. refl;
       left = omega (arith, lines_counted bs);
       total = ap (λ (s : Standing). length s.blocks.numbers) nothing ∙ (first_reached c.args.graph.now).total;
-      answer = ap (certificate_from c.args.graph.now.edges (place_at_name c.args.places.now) (length (all_lines_of bs) + 1) (map (text_line bs) (all_lines_of bs))) nothing;
+      answer = ap (certificate_from c.args.graph.now.edges (place_in c.args.places.now) (length (all_lines_of bs) + 1) (map (text_line bs) (all_lines_of bs))) nothing;
     }
 
 pub loop-from-preserved : goal.loop-from-preserved
@@ -40,7 +41,7 @@ loop-from-preserved c =
     } in
     let n = c.loop-from.line + 1 in
     let edges = c.args.graph.now.edges in
-    let routers = place_at_name c.args.places.now in
+    let routers = place_in c.args.places.now in
     record {
       few = omega arith;
       inside = omega arith;
@@ -63,7 +64,7 @@ returns-in-Err c =
     } in
     let n = c.loop-from.line + 1 in
     let edges = c.args.graph.now.edges in
-    let routers = place_at_name c.args.places.now in
+    let routers = place_in c.args.places.now in
     let P : CutRefusal → Type 0 = λ e. Verifies {X = Certificate} (Err e) (certificate_from edges routers (length (all_lines_of bs) + 1) (map (text_line bs) (all_lines_of bs)) (opening c.args.graph.now)) in
     subst P (sym c.refused_at.ensures)
     (stopped n c.in-Err.stop _ _
@@ -77,4 +78,4 @@ returns c =
     let at : last ≡ c.loop-from.line + 1 = omega (arith, c.loop-from.invariant.left, none_counted bs (c.loop-from.line + 1) c.loop-from.from c.loop-from-test.false) in
     let s = c.loop-from.standing in
     verifies_same c.ended.result _
-    (sym c.loop-from.invariant.answer ∙ none_left c.args.graph.now.edges (place_at_name c.args.places.now) last bs (c.loop-from.line + 1) c.loop-from.from s c.loop-from-test.false ∙ ap (λ (n : ℕ). ended n s s.stage) at ∙ sym c.ended.ensures)
+    (sym c.loop-from.invariant.answer ∙ none_left c.args.graph.now.edges (place_in c.args.places.now) last bs (c.loop-from.line + 1) c.loop-from.from s c.loop-from-test.false ∙ ap (λ (n : ℕ). ended n s s.stage) at ∙ sym c.ended.ensures)

@@ -1,7 +1,7 @@
 use Rattle.std.proofs.Common.{◌≡◌, ◌+◌, ◌<◌, List, ℕ, length, sym, ap, ◌∙◌, subst, arith, Ok, Err}
 use Rattle.cfg_ast.specs.text.Lines.{begins_line}
 use Rattle.cfg_ast.proofs.Pieces.{begins_next}
-use Rattle.solution_text.proofs.LinesLeft.{Cut}
+use Rattle.cfg_lex.proofs.LinesLeft.{Cut}
 use Rattle.route_run.specs.Reading.{preceded}
 use Rattle.route_run.specs.Schedules.{LineWord, run_of, schedule_of_words, schedule_of_text, Reads}
 use Rattle.route_run.proofs.Runs.{all_from}

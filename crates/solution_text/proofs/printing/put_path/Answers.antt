@@ -1,6 +1,6 @@
 use Rattle.std.proofs.Common.{◌++◌, ◌∙◌, append-nil, ap, sym, arith, get_or, List, ℕ, string_bytes}
 use Rattle.std.proofs.lemmas.List.{drop_all, get_or_default}
-use Rattle.cfg_print.specs.Spaced.{spaced_words}
+use Rattle.printed_words.specs.Spaced.{spaced_words}
 use Rattle.solution_text.specs.Printed.{path_words}
 use Rattle.solution_text.proofs.Written.{run_at, run_inside, written_run, no_path}
 use Rattle.solution_text.proofs.printing.put_path.Goals as goal

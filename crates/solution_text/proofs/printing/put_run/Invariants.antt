@@ -1,5 +1,5 @@
 use Rattle.std.proofs.Common.{◌≡◌, ◌++◌, replicate, string_bytes}
-use Rattle.cfg_print.specs.Spaced.{spaced_words}
+use Rattle.printed_words.specs.Spaced.{spaced_words}
 use Rattle.solution_text.specs.Printed.{piece_word}
 use Rattle.solution_text.proofs.printing.put_run.Given as goal
 

@@ -7,8 +7,10 @@ use Rattle.cfg_ast.proofs.Pieces.{begins_next}
 use Rattle.solution_text.specs.declared.refusal.SolKind.TheVariants.{Missing}
 use Rattle.solution_text.specs.declared.refusal.SolRefusal.TheVariants.{At}
 use Rattle.solution_text.specs.Solutions.{labels_unless}
-use Rattle.solution_text.specs.Steps.{Standing, place_in, answer_from}
-use Rattle.solution_text.proofs.LinesLeft.{Cut, count_left, left_next, left_fault, none_left, none_counted, lines_counted, words_count, refused_too}
+use Rattle.numbered_names.specs.NamePlaces.{place_in}
+use Rattle.solution_text.specs.Steps.{Standing, answer_from}
+use Rattle.cfg_lex.proofs.LinesLeft.{Cut, count_left, none_counted, lines_counted}
+use Rattle.solution_text.proofs.LinesLeft.{left_next, left_fault, none_left, words_count, refused_too}
 use Rattle.solution_text.proofs.reading.read_lines.Goals as goal
 
 pub loop-from-init : goal.loop-from-init

@@ -2,7 +2,8 @@ use Rattle.std.proofs.Common.{◌≡◌, ◌+◌, ◌-◌, ◌≤◌, ◌<◌, l
 use Rattle.cfg_ast.specs.text.Lines.{begins_line, line_of, pieces_from}
 use Rattle.cfg_ast.specs.text.Members.{all_lines_of}
 use Rattle.cfg_ast.specs.text.TextLines.{text_line}
-use Rattle.solution_text.specs.Steps.{AreWithin, place_in, nothing_said, answer_from}
+use Rattle.numbered_names.specs.NamePlaces.{AreBelow, place_in}
+use Rattle.solution_text.specs.Steps.{nothing_said, answer_from}
 use Rattle.solution_text.proofs.reading.read_lines.Given as goal
 
 -- the lines that are left give the answer
@@ -12,7 +13,7 @@ invariant-loop-from l = record {
   inside : l.from ≤ length l.bytes + 1;
   begins : l.from < length l.bytes → begins_line l.bytes l.from ≡ true;
   left : l.line + length (pieces_from l.bytes (l.line + 1) l.from) ≡ length (all_lines_of l.bytes);
-  within : AreWithin l.places (length l.said.seen);
+  within : AreBelow l.places (length l.said.seen);
   answer : answer_from l.protocol (place_in l.places) (length (all_lines_of l.bytes) + 1) (map (text_line l.bytes) (map (line_of l.bytes) (pieces_from l.bytes (l.line + 1) l.from))) l.said
       ≡ answer_from l.protocol (place_in l.places) (length (all_lines_of l.bytes) + 1) (map (text_line l.bytes) (all_lines_of l.bytes)) (nothing_said l.count);
 }

@@ -1,6 +1,0 @@
-use Rattle.std.proofs.Common.{◌≡◌, ◌++◌, drop, string_bytes}
-use Rattle.cfg_print.specs.Spaced.{spaced_words}
-use Rattle.cfg_print.proofs.words.put_names.Given as goal
-
-abbrev pub invariant-loop-name : goal.invariant-loop-name
-invariant-loop-name l = string_bytes l.text ++ spaced_words (drop l.name-index l.items) ≡ string_bytes l.fn.text ++ spaced_words l.items

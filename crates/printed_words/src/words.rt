@@ -1,0 +1,66 @@
+//! Words behind blanks.
+
+ghost use Rattle.std.specs.Prelude.{◌≡◌, ◌++◌, OnOk, string_bytes, map};
+ghost use Rattle.std.specs.Fmt.{decimal};
+ghost use Rattle.cfg_ast.specs.printing.Printed.{community_text};
+ghost use Rattle.printed_words.specs.Spaced.{spaced, spaced_words};
+
+use crate::values::put_community;
+use base_kit::{List, NumSet, Text};
+use std::alloc::AllocError;
+use std::fmt::Write;
+
+/// Appends a word behind a blank.
+pub fn put_word(text: &mut String, word: &str) -> Result<(), AllocError>
+    ensures { OnOk result (string_bytes text.new ≡ string_bytes text.old ++ spaced word.now) }
+{
+    write!(text, " {word}")
+}
+
+/// Appends a name behind a blank.
+pub fn put_name(text: &mut String, name: &Text) -> Result<(), AllocError>
+    ensures { OnOk result (string_bytes text.new ≡ string_bytes text.old ++ spaced name.now) }
+{
+    put_word(text, name.as_str())
+}
+
+/// Appends a number behind a blank.
+pub fn put_number(text: &mut String, number: u32) -> Result<(), AllocError>
+    ensures { OnOk result (string_bytes text.new ≡ string_bytes text.old ++ spaced (decimal number)) }
+{
+    write!(text, " {number}")
+}
+
+/// Appends each name behind a blank.
+pub fn put_names(text: &mut String, names: &List<Text>) -> Result<(), AllocError>
+    ensures { OnOk result (string_bytes text.new ≡ string_bytes text.old ++ spaced_words names.now) }
+{
+    let items = names.as_slice();
+    for name in items {
+        put_name(text, name)?;
+    }
+    Ok(())
+}
+
+/// Appends each number behind a blank.
+pub fn put_numbers(text: &mut String, numbers: &List<u32>) -> Result<(), AllocError>
+    ensures { OnOk result (string_bytes text.new ≡ string_bytes text.old ++ spaced_words (map decimal numbers.now)) }
+{
+    let items = numbers.as_slice();
+    for number in items {
+        put_number(text, *number)?;
+    }
+    Ok(())
+}
+
+/// Appends each community behind a blank.
+pub fn put_communities(text: &mut String, comms: &NumSet) -> Result<(), AllocError>
+    ensures { OnOk result (string_bytes text.new ≡ string_bytes text.old ++ spaced_words (map community_text comms.now)) }
+{
+    let items = comms.as_slice();
+    for community in items {
+        text.push_str(" ")?;
+        put_community(text, *community)?;
+    }
+    Ok(())
+}
