@@ -1,7 +1,6 @@
 pub mod AddNothing
 pub mod Entries
 pub mod Found
-pub mod NamedItems
 pub mod Printable
 pub mod Sessions
 pub mod Verdicts

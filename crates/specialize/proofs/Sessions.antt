@@ -12,7 +12,7 @@ use Rattle.route_maps.specs.Maps.{accepted, received}
 use Rattle.route_maps.specs.Sessions.{imported_as}
 use Rattle.specialize.specs.OnePrefix.{own_preference, verdict_with}
 use Rattle.specialize.specs.Sessions.{in_map, ImportAsSession}
-use Rattle.specialize.proofs.Verdicts.{verdict_kept}
+use Rattle.specialize.proofs.Verdicts.{verdict_kept, prepends_few}
 
 -- the default preference is 100 where it is not written into the map
 default_written : (default : ℕ) → unwrap_or (cond (not (nat_eq default 100)) (Some default) None) 100 ≡ default
@@ -32,11 +32,11 @@ accepted_as importer adds (Some permitted) = ap (λ lp. Some (record { lp = lp; 
 
 pub imports_as_session : (p : Prefix) (exporter : Router) (out : Neighbor) (importer : Router) (into : Neighbor) → IsWellFormedRouter exporter → IsWellFormedRouter importer → ImportAsSession p exporter out importer into
 imports_as_session p exporter out importer into well other comms =
-    ap (received out.sends (in_map p importer into).entries) (verdict_kept exporter (name_of out.map_out) (name_of out.list_out) p false well comms)
+    ap (received out.sends (in_map p importer into).entries) (verdict_kept exporter (name_of out.map_out) (name_of out.list_out) p false (prepends_few exporter (name_of out.map_out) well) comms)
     ∙ step (passed_by exporter p (name_of out.list_out) (name_of out.map_out) comms) where
       step : (passed : Option Permitted) → received out.sends (in_map p importer into).entries (verdict_with None passed) ≡ option_map imported_as (option_and_then (received_by importer into p out.sends) passed)
       step None = refl
       step (Some sent) =
           let arrived = cond out.sends sent.comms [] in
-          ap (accepted sent.adds) (verdict_kept importer (name_of into.map_in) (name_of into.list_in) p true other arrived)
+          ap (accepted sent.adds) (verdict_kept importer (name_of into.map_in) (name_of into.list_in) p true (prepends_few importer (name_of into.map_in) other) arrived)
           ∙ accepted_as importer sent.adds (passed_by importer p (name_of into.list_in) (name_of into.map_in) arrived)

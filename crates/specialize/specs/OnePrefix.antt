@@ -1,5 +1,6 @@
 -- What a route map of a router means for one prefix.
-use Rattle.std.specs.Prelude.{◌≡◌, ℕ, Bool, true, false, not, ◌&&◌, List, [], ◌∷◌, Option, Some, None, map, filter, filter_map, nat_eq, min, if◌then◌else◌}
+use Rattle.std.specs.Prelude.{◌≡◌, ◌≤◌, ℕ, IfSome, Bool, true, false, not, ◌&&◌, List, [], ◌∷◌, Option, Some, None, map, filter, filter_map, nat_eq, min, if◌then◌else◌}
+use Rattle.std.specs.List.{AllByRecursion}
 use Rattle.std.specs.Option.{option_map, option_map_or, option_or}
 use Rattle.base_kit.specs.Prefixes.{Prefix}
 use Rattle.cfg_ast.specs.declared.network.Router.{Router}
@@ -54,6 +55,14 @@ plain_of router map list p inbound = record { entries = if passes_list router p 
 abbrev pub verdict_with : Option ℕ → Option Permitted → Verdict
 verdict_with own None = Deny
 verdict_with own (Some permitted) = Permit (option_or permitted.lp own) permitted.comms permitted.adds
+
+-- an entry puts at most 255 numbers before a path, as many as a plain entry can say
+abbrev pub PrependsFew : MapEntry → Type 0
+PrependsFew entry = prepend_count entry.prepend ≤ 255
+
+-- so does each entry of the map that the router has under the name
+abbrev pub MapPrependsFew : Router → Option (List ℕ) → Type 0
+MapPrependsFew router map = IfSome map (λ name. IfSome (route_map_named router name) (λ m. AllByRecursion PrependsFew m.entries))
 
 -- For every set of communities the plain map's verdict is that of the router's prefix list followed by
 -- its map, where a permit without a preference gets the router's own.

@@ -4,10 +4,9 @@ ghost use Rattle.std.specs.Prelude.{◌≡◌, ℕ, [], ◌∷◌, IfOk, option_
 ghost use Rattle.std.specs.List.{list_any};
 ghost use Rattle.std.specs.Option.{option_or};
 ghost use Rattle.cfg_ast.specs.meaning.Policy.{community_list_named, prefixes_permitted_by, prefixes_match, deletion_list, prepend_count, passes_list};
-ghost use Rattle.cfg_ast.specs.printing.WellFormed.{IsWellFormedRouter};
 ghost use Rattle.route_maps.specs.Printable.{IsPrintable};
-ghost use Rattle.specialize.specs.OnePrefix.{own_preference, lists_named, plain_entry, whole_entry, plain_entries, entries_for, plain_of, KeepsVerdict};
-ghost use Rattle.specialize.specs.Places.{ArePlacesOf};
+ghost use Rattle.specialize.specs.OnePrefix.{MapPrependsFew, own_preference, lists_named, plain_entry, whole_entry, plain_entries, entries_for, plain_of, KeepsVerdict};
+ghost use Rattle.specialize.specs.Places.{ArePlacesOfRouter};
 ghost use Rattle.specialize.specs.Printable.{HasPrintableMaps};
 
 use crate::places::{Places, find_community_list, find_prefix_list, places_of, route_map_at};
@@ -18,7 +17,7 @@ use route_maps::{Plain, PlainEntry, change_copy, list_copy};
 use std::alloc::Global;
 
 fn list_permits(router: &Router, places: &Places, p: Prefix, name: &Text) -> bool
-    requires { ArePlacesOf router.now places.now }
+    requires { ArePlacesOfRouter router.now places.now }
     ensures { result ≡ prefixes_permitted_by router.now p name.now }
 {
     match find_prefix_list(router, places, name) {
@@ -28,7 +27,7 @@ fn list_permits(router: &Router, places: &Places, p: Prefix, name: &Text) -> boo
 }
 
 fn any_list_permits(router: &Router, places: &Places, p: Prefix, names: &[Text]) -> bool
-    requires { ArePlacesOf router.now places.now }
+    requires { ArePlacesOfRouter router.now places.now }
     ensures { result ≡ list_any (prefixes_permitted_by router.now p) names.now }
 {
     names
@@ -37,7 +36,7 @@ fn any_list_permits(router: &Router, places: &Places, p: Prefix, names: &[Text])
 }
 
 fn prefixes_match(router: &Router, places: &Places, p: Prefix, prefixes: &Option<NameLine>) -> bool
-    requires { ArePlacesOf router.now places.now }
+    requires { ArePlacesOfRouter router.now places.now }
     ensures { result ≡ prefixes_match router.now p prefixes.now }
 {
     match prefixes {
@@ -63,7 +62,7 @@ fn copies_named(
     places: &Places,
     names: &[Text],
 ) -> Result<List<CommunityList>, NoMemory>
-    requires { ArePlacesOf router.now places.now }
+    requires { ArePlacesOfRouter router.now places.now }
     ensures { IfOk result (λ lists. lists ≡ filter_map (community_list_named router.now) names.now) }
 {
     let mut lists = List::new(alloc);
@@ -81,7 +80,7 @@ fn lists_named(
     places: &Places,
     comms: &Option<NameLine>,
 ) -> Result<Option<List<CommunityList>>, NoMemory>
-    requires { ArePlacesOf router.now places.now }
+    requires { ArePlacesOfRouter router.now places.now }
     ensures { IfOk result (λ lists. lists ≡ lists_named router.now comms.now) }
 {
     match comms {
@@ -96,7 +95,7 @@ fn deletion_list(
     places: &Places,
     delete: &Option<Named>,
 ) -> Result<Option<CommunityList>, NoMemory>
-    requires { ArePlacesOf router.now places.now }
+    requires { ArePlacesOfRouter router.now places.now }
     ensures { IfOk result (λ list. list ≡ deletion_list router.now delete.now) }
 {
     match delete {
@@ -134,7 +133,7 @@ fn plain_entry(
     own: Option<u32>,
     entry: &MapEntry,
 ) -> Result<PlainEntry, NoMemory>
-    requires { ArePlacesOf router.now places.now }
+    requires { ArePlacesOfRouter router.now places.now }
     ensures { IfOk result (λ plain. plain ≡ plain_entry router.now own entry.now) }
 {
     Ok(PlainEntry {
@@ -157,7 +156,7 @@ fn plain_entries(
     p: Prefix,
     entries: &[MapEntry],
 ) -> Result<List<PlainEntry>, NoMemory>
-    requires { ArePlacesOf router.now places.now }
+    requires { ArePlacesOfRouter router.now places.now }
     ensures { IfOk result (λ plain. plain ≡ plain_entries router.now own p entries.now) }
 {
     let mut plain = List::new(alloc);
@@ -194,7 +193,7 @@ fn entries_for(
     p: Prefix,
     map: Option<&Text>,
 ) -> Result<List<PlainEntry>, NoMemory>
-    requires { ArePlacesOf router.now places.now }
+    requires { ArePlacesOfRouter router.now places.now }
     ensures { IfOk result (λ plain. plain ≡ entries_for router.now own p (option_copied map.entry)) }
 {
     match map {
@@ -207,7 +206,7 @@ fn entries_for(
 }
 
 fn passes_list(router: &Router, places: &Places, p: Prefix, list: Option<&Text>) -> bool
-    requires { ArePlacesOf router.now places.now }
+    requires { ArePlacesOfRouter router.now places.now }
     ensures { result ≡ passes_list router.now p (option_copied list.entry) }
 {
     match list {
@@ -225,7 +224,7 @@ fn map_for(
     p: Prefix,
     inbound: bool,
 ) -> Result<Plain, NoMemory>
-    requires { ArePlacesOf router.now places.now }
+    requires { ArePlacesOfRouter router.now places.now }
     ensures { IfOk result (λ plain. plain ≡ plain_of router.now (option_copied map.entry) (option_copied list.entry) p inbound) }
 {
     if !passes_list(router, places, p, list) {
@@ -241,7 +240,8 @@ fn map_for(
 /// The map of a router for one prefix, after a prefix list, inbound or outbound. Without a map all
 /// passes as it is; a map or list that the router does not define denies, and a deletion list that it
 /// does not define deletes nothing. Inbound, a permit without a preference gets the router's default
-/// one, if it is not 100.
+/// one, if it is not 100. The verdict is kept where each entry of the map prepends at most 255 numbers,
+/// which the grammar bounds by 10.
 pub fn policy(
     alloc: Global,
     router: &Router,
@@ -252,7 +252,7 @@ pub fn policy(
 ) -> Result<Plain, NoMemory>
     ensures plain { IfOk result (λ plain. plain ≡ plain_of router.now (option_copied map.entry) (option_copied list.entry) p inbound) }
     ensures printable { HasPrintableMaps router.now → IfOk result IsPrintable }
-    ensures verdict { IsWellFormedRouter router.now → IfOk result (KeepsVerdict router.now (option_copied map.entry) (option_copied list.entry) p inbound) }
+    ensures verdict { MapPrependsFew router.now (option_copied map.entry) → IfOk result (KeepsVerdict router.now (option_copied map.entry) (option_copied list.entry) p inbound) }
 {
     let places = places_of(alloc, router)?;
     policy_at(alloc, router, &places, map, list, p, inbound)
@@ -268,10 +268,10 @@ pub fn policy_at(
     p: Prefix,
     inbound: bool,
 ) -> Result<Plain, NoMemory>
-    requires { ArePlacesOf router.now places.now }
+    requires { ArePlacesOfRouter router.now places.now }
     ensures plain { IfOk result (λ plain. plain ≡ plain_of router.now (option_copied map.entry) (option_copied list.entry) p inbound) }
     ensures printable { HasPrintableMaps router.now → IfOk result IsPrintable }
-    ensures verdict { IsWellFormedRouter router.now → IfOk result (KeepsVerdict router.now (option_copied map.entry) (option_copied list.entry) p inbound) }
+    ensures verdict { MapPrependsFew router.now (option_copied map.entry) → IfOk result (KeepsVerdict router.now (option_copied map.entry) (option_copied list.entry) p inbound) }
 {
     let plain = map_for(alloc, router, places, map, list, p, inbound)?;
     Ok(plain)

@@ -3,7 +3,7 @@
 ghost use Rattle.std.specs.Prelude.{◌≡◌, true, is_none};
 ghost use Rattle.std.specs.List.{list_all};
 ghost use Rattle.cfg_ast.specs.declared.policy.MapEntry.{MapEntry};
-ghost use Rattle.specialize.specs.Places.{ArePlacesOf};
+ghost use Rattle.specialize.specs.Places.{ArePlacesOfRouter};
 ghost use Rattle.srp_build.specs.Kinds.{IsFixed, names_no_list};
 
 use crate::lines::{list_named, map_named};
@@ -18,7 +18,7 @@ fn match_no_list(entries: &[MapEntry]) -> bool
 }
 
 fn names_no_list(router: &Router, places: &Places, name: &Text) -> bool
-    requires { ArePlacesOf router.now places.now }
+    requires { ArePlacesOfRouter router.now places.now }
     ensures { result ≡ names_no_list router.now name.now }
 {
     match route_map_at(router, places, name) {
@@ -30,7 +30,7 @@ fn names_no_list(router: &Router, places: &Places, name: &Text) -> bool
 /// Whether the map of a line is the same for every prefix, as it is where neither the line nor its map
 /// names a prefix list.
 pub fn is_fixed(router: &Router, places: &Places, inbound: bool, line: &Neighbor) -> bool
-    requires { ArePlacesOf router.now places.now }
+    requires { ArePlacesOfRouter router.now places.now }
     ensures { result ≡ true → IsFixed router.now inbound line.now }
 {
     if list_named(inbound, line).is_some() {

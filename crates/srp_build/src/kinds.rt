@@ -2,7 +2,7 @@
 
 ghost use Rattle.std.specs.Prelude.{◌≡◌, ◌<◌, [], Some, IfOk, OnOk, length, slice_get};
 ghost use Rattle.cfg_ast.specs.declared.network.Router.{Router};
-ghost use Rattle.specialize.specs.Places.{ArePlacesOf};
+ghost use Rattle.specialize.specs.Places.{ArePlacesOfRouter};
 ghost use Rattle.srp_build.specs.Kinds.{AreFixed, AreKinds, HasKinds, HaveKinds, IsFixedKind, IsKindNumber, IsNewKind, IsSeenOrNumbered, KindsKept};
 ghost use Rattle.srp_build.specs.ListPlaces.{HavePlaces};
 
@@ -89,7 +89,7 @@ impl KindTable {
         places: &Places,
         line: &Neighbor,
     ) -> Result<u32, NoMemory>
-        requires { ArePlacesOf router.now places.now }
+        requires { ArePlacesOfRouter router.now places.now }
         ensures { IfOk result (IsKindNumber self.old self.new first router.now line.now) }
     {
         if is_fixed(router, places, first.inbound, line) {
@@ -118,7 +118,7 @@ fn kind_of_line(
     before: RouterLines,
     line: &Neighbor,
 ) -> Result<u32, NoMemory>
-    requires { ArePlacesOf before.router.now before.places.now }
+    requires { ArePlacesOfRouter before.router.now before.places.now }
     ensures { IfOk result (IsSeenOrNumbered table.old table.new first before.entry.router.now before.entry.numbers.now line.now) }
 {
     let lines = neighbors(before.router);

@@ -3,7 +3,7 @@
 ghost use Rattle.std.specs.Prelude.{◌≡◌, IfOk, option_copied};
 ghost use Rattle.cfg_ast.specs.meaning.Policy.{name_of};
 ghost use Rattle.cfg_ast.specs.meaning.Topology.{neighbors_of};
-ghost use Rattle.specialize.specs.Places.{ArePlacesOf};
+ghost use Rattle.specialize.specs.Places.{ArePlacesOfRouter};
 ghost use Rattle.srp_build.specs.Lines.{map_named, list_named, map_of_line, closed, map_at, sends_at, act_of_hop};
 ghost use Rattle.srp_build.specs.ListPlaces.{HavePlaces};
 
@@ -70,7 +70,7 @@ pub fn map_of_line(
     inbound: bool,
     line: &Neighbor,
 ) -> Result<Plain, NoMemory>
-    requires { ArePlacesOf router.now places.now }
+    requires { ArePlacesOfRouter router.now places.now }
     ensures { IfOk result (λ plain. plain ≡ map_of_line p router.now inbound line.now) }
 {
     let map = name_of(map_named(inbound, line));

@@ -12,6 +12,6 @@ returns-clause-printable c has =
     (printable_plain c.args.router.now (option_copied c.args.map) (option_copied c.args.list) c.args.p c.args.inbound has)
 
 pub returns-clause-verdict : goal.returns-clause-verdict
-returns-clause-verdict c form =
+returns-clause-verdict c few =
     subst (KeepsVerdict c.args.router.now (option_copied c.args.map) (option_copied c.args.list) c.args.p c.args.inbound) (sym c.in_ok-plain.ensures)
-    (verdict_kept c.args.router.now (option_copied c.args.map) (option_copied c.args.list) c.args.p c.args.inbound form)
+    (verdict_kept c.args.router.now (option_copied c.args.map) (option_copied c.args.list) c.args.p c.args.inbound few)
