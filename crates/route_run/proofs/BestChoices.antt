@@ -8,9 +8,11 @@ use Rattle.std.proofs.lemmas.List.MinMax.{IsFirstBest-from_best_of}
 use Rattle.base_kit.proofs.Elements.{In, contains_in, in_contains}
 use Rattle.srp_core.specs.declared.route.Route.{Route}
 use Rattle.srp_core.specs.declared.route.Candidate.{Candidate}
-use Rattle.route_run.specs.Activations.{beats, is_unbeaten, first_best, same_route, is_held, is_still_best, chosen_of}
+use Rattle.route_keys.specs.Same.{same_route}
+use Rattle.route_keys.proofs.Same.{same_self, same_true}
+use Rattle.route_run.specs.Activations.{beats, is_unbeaten, first_best, is_held, is_still_best, chosen_of}
 use Rattle.route_run.specs.Choices.{IsBestUpto}
-use Rattle.route_run.proofs.Routes.{same_itself, same_is, candidates_rank, beats_too}
+use Rattle.route_run.proofs.Routes.{candidates_rank, beats_too}
 
 -- ---- tests of all and of some
 
@@ -102,7 +104,7 @@ module _ (test : ℕ → Bool) (all : List Candidate) (place : ℕ) (best : IsBe
   pub best_kept : is_still_best test all (Some (get_or all place d).route) ≡ true
   best_kept =
       and_from (is_held all (get_or all place d).route) (is_unbeaten test all (get_or all place d).route)
-      (passes_some (λ (c : Candidate). same_route c.route (get_or all place d).route) all (get_or all place d) (at_place all place d best.0) (same_itself (get_or all place d).route))
+      (passes_some (λ (c : Candidate). same_route c.route (get_or all place d).route) all (get_or all place d) (at_place all place d best.0) (same_self (get_or all place d).route))
       (unbeaten_by test all (get_or all place d).route best_unbeaten)
 
 -- where there is a candidate, there is a first best one
@@ -140,7 +142,7 @@ kept_best : (test : ℕ → Bool) (all : List Candidate) (r : Route) → is_stil
 kept_best test all r e =
     let parts = and_parts (is_held all r) (is_unbeaten test all r) e in
     let held = some_passes (λ (c : Candidate). same_route c.route r) all parts.0 in
-    record { candidate = held.0; inside = held.1; same = same_is held.0.route r held.2; unbeaten = by_unbeaten test all r parts.1 }
+    record { candidate = held.0; inside = held.1; same = same_true held.0.route r held.2; unbeaten = by_unbeaten test all r parts.1 }
 
 first_by : (test : ℕ → Bool) (all : List Candidate) (o : Option Candidate) (r : Route) → find (λ (c : Candidate). is_unbeaten test all c.route) all ≡ o → option_map (λ (c : Candidate). c.route) o ≡ Some r → IsBestCandidate test all r
 first_by test all None r is e = absurd cc
@@ -166,7 +168,7 @@ chosen_nothing test all label e c i = elim (cases_Bool (is_still_best test all l
 pub best_chosen : (test : ℕ → Bool) (all : List Candidate) (r : Route) → IsBestCandidate test all r → chosen_of test all (Some r) ≡ Some r
 best_chosen test all r best =
     chosen_kept test all (Some r)
-    (and_from (is_held all r) (is_unbeaten test all r) (passes_some (λ (c : Candidate). same_route c.route r) all best.candidate best.inside (ap (λ (x : Route). same_route x r) best.same ∙ same_itself r)) (unbeaten_by test all r best.unbeaten))
+    (and_from (is_held all r) (is_unbeaten test all r) (passes_some (λ (c : Candidate). same_route c.route r) all best.candidate best.inside (ap (λ (x : Route). same_route x r) best.same ∙ same_self r)) (unbeaten_by test all r best.unbeaten))
 
 -- ---- as code tests it
 

@@ -1,16 +1,16 @@
 -- One router after the other chooses its label anew from the labels as they stand (Beckett, Gupta,
 -- Mahajan and Walker, Control Plane Compression, SIGCOMM 2018, section 3; RFC 4271 section 9.1.2 for a
 -- router that keeps the route it has where no other is better).
-use Rattle.std.specs.Prelude.{◌≡◌, ◌≢◌, ℕ, ◌<◌, Bool, false, not, ◌&&◌, List, fold, find, replicate, Option, Some, None, option_map, nat_eq, bytes_eq, slice_set, if◌then◌else◌}
+use Rattle.std.specs.Prelude.{◌≡◌, ◌≢◌, ℕ, ◌<◌, Bool, false, not, ◌&&◌, List, fold, find, replicate, Option, Some, None, option_map, slice_set, if◌then◌else◌}
 use Rattle.std.specs.List.{list_any, list_all}
 use Rattle.std.specs.Ordering.{is_lt}
 use Rattle.srp_core.specs.declared.route.Route.{Route}
-use Rattle.srp_core.specs.declared.route.Route.TheVariants.{Bgp, Ospf}
 use Rattle.srp_core.specs.declared.route.Candidate.{Candidate}
 use Rattle.srp_core.specs.Routes.{key_by, compare_keys}
 use Rattle.srp_core.specs.Problem.{Problem, count, is_lone_number}
 use Rattle.srp_core.specs.Stability.{label}
 use Rattle.srp_core.specs.Candidates.{candidates}
+use Rattle.route_keys.specs.Same.{same_route}
 
 -- whether the first route has the better key, where the test tells the numbers of lone routers
 abbrev pub beats : (ℕ → Bool) → Route → Route → Bool
@@ -23,13 +23,6 @@ is_unbeaten is_lone all route = list_all (λ other. not (beats is_lone other.rou
 -- the first candidate of best key
 abbrev pub first_best : (ℕ → Bool) → List Candidate → Option Route
 first_best is_lone all = option_map (λ candidate. candidate.route) (find (λ candidate. is_unbeaten is_lone all candidate.route) all)
-
--- whether two routes are equal
-abbrev pub same_route : Route → Route → Bool
-same_route (Bgp lp path comms) (Bgp lp' path' comms') = nat_eq lp lp' && (bytes_eq path path' && bytes_eq comms comms')
-same_route (Bgp lp path comms) (Ospf cost) = false
-same_route (Ospf cost) (Bgp lp path comms) = false
-same_route (Ospf cost) (Ospf cost') = nat_eq cost cost'
 
 -- whether the route is a candidate
 abbrev pub is_held : List Candidate → Route → Bool

@@ -8,7 +8,7 @@ ghost use Rattle.route_run.specs.Choices.{IsChoice};
 
 use crate::choosing::{Choice, choose};
 use base_kit::NoMemory;
-use solution_check::lone_numbers;
+use route_keys::lone_numbers;
 use srp_core::{Labels, Srp};
 use std::alloc::Global;
 use std::collections::HashSet;
@@ -26,13 +26,13 @@ pub struct Runner<'a> {
 
 impl<'a> Model for Runner<'a> {
     ghost use Rattle.srp_core.specs.Problem.{Problem};
-    ghost use Rattle.solution_check.specs.Lone.{HasNumbers};
+    ghost use Rattle.route_keys.specs.Lone.{HasLoneNumbers};
 
     ghost Value = { Problem };
 
     ghost view = { λ r. r.srp.now };
 
-    ghost invariant = { λ r. HasNumbers r.srp.now r.lone };
+    ghost invariant = { λ r. HasLoneNumbers r.srp.now r.lone };
 }
 
 impl<'a> Runner<'a> {

@@ -5,8 +5,9 @@ ghost use Rattle.std.specs.HashSet.{contains};
 ghost use Rattle.route_run.specs.Activations.{is_held, is_still_best, chosen_of};
 ghost use Rattle.route_run.specs.Choices.{IsBestUpto, IsChoice};
 
-use crate::comparing::{beats, same_route};
+use crate::comparing::beats;
 use base_kit::{List, NoMemory};
+use route_keys::same_route;
 use srp_core::{Candidate, Route};
 use std::alloc::Global;
 use std::collections::HashSet;

@@ -4,51 +4,15 @@ ghost use Rattle.std.specs.Prelude.{◌≡◌, IfOk, nat_eq};
 ghost use Rattle.std.specs.HashSet.{contains};
 ghost use Rattle.std.specs.Ordering.{nat_cmp};
 ghost use Rattle.std.specs.Cmp.Lexicographic.{slice_cmp};
-ghost use Rattle.srp_core.specs.Routes.{preference_of, size_of, path_of, comms_of, chosen};
-ghost use Rattle.route_run.specs.Activations.{beats, same_route};
+ghost use Rattle.srp_core.specs.Routes.{path_of, chosen};
+ghost use Rattle.route_run.specs.Activations.{beats};
 
 use base_kit::NoMemory;
-use solution_check::lone_on;
+use route_keys::{comms_of, lone_on, path_of, preference_of, size_of};
 use srp_core::Route;
 use std::alloc::Global;
 use std::cmp::Ordering;
 use std::collections::HashSet;
-
-fn preference_of(route: &Route) -> u32
-    ensures { result ≡ preference_of route.now }
-{
-    match route {
-        Route::Bgp { lp, .. } => *lp,
-        Route::Ospf { .. } => 0,
-    }
-}
-
-fn size_of(route: &Route) -> u64
-    ensures { result ≡ size_of route.now }
-{
-    match route {
-        Route::Bgp { path, .. } => path.len() as u64,
-        Route::Ospf { cost } => u64::from(*cost),
-    }
-}
-
-fn path_of(route: &Route) -> &[u32]
-    ensures { result.now ≡ path_of route.now }
-{
-    match route {
-        Route::Bgp { path, .. } => path.as_slice(),
-        Route::Ospf { .. } => &[],
-    }
-}
-
-fn comms_of(route: &Route) -> &[u32]
-    ensures { result.now ≡ comms_of route.now }
-{
-    match route {
-        Route::Bgp { comms, .. } => comms.as_slice(),
-        Route::Ospf { .. } => &[],
-    }
-}
 
 // How the numbers of lone routers on two paths compare. They are not sought where there are none, nor on
 // equal paths.
@@ -96,28 +60,5 @@ pub(crate) fn beats(
             let order = compare_lone(alloc, lone, route, other)?;
             Ok(order == Ordering::Less)
         }
-    }
-}
-
-/// Whether two routes are equal.
-pub(crate) fn same_route(a: &Route, b: &Route) -> bool
-    ensures { result ≡ same_route a.now b.now }
-{
-    match (a, b) {
-        (
-            Route::Bgp { lp, path, comms },
-            Route::Bgp {
-                lp: other_lp,
-                path: other_path,
-                comms: other_comms,
-            },
-        ) => {
-            *lp == *other_lp
-                && path.as_slice() == other_path.as_slice()
-                && comms.as_slice() == other_comms.as_slice()
-        }
-        (Route::Ospf { cost }, Route::Ospf { cost: other }) => *cost == *other,
-        (Route::Bgp { .. }, Route::Ospf { .. }) => false,
-        (Route::Ospf { .. }, Route::Bgp { .. }) => false,
     }
 }

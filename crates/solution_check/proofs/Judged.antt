@@ -1,44 +1,23 @@
 -- What the weights of candidates say of a router.
-use Rattle.std.proofs.Common.{◌≡◌, ◌≢◌, ◌⊎◌, ℕ, ◌<◌, Bool, true, false, cond, not, ◌&&◌, ◌||◌, List, [], ◌∷◌, length, refl, sym, ap, ◌∙◌, subst, arith, nat_eq, get_or, Option, Some, None, option_and_then, inl, inr, true≢false}
-use Rattle.std.specs.Prelude.{bytes_eq}
+use Rattle.std.proofs.Common.{◌≡◌, ◌≢◌, ◌⊎◌, ℕ, ◌<◌, Bool, true, false, cond, not, ◌||◌, List, [], ◌∷◌, length, refl, sym, ap, ◌∙◌, subst, arith, get_or, Option, Some, None, option_and_then, inl, inr, true≢false}
 use Rattle.std.specs.List.{list_any, filter_map, cons_option}
 use Rattle.std.specs.Ordering.{is_lt}
 use Rattle.std.specs.declared.cmp.Ordering.{Ordering}
 use Rattle.std.specs.declared.cmp.Ordering.TheVariants.{Less, Equal, Greater}
-use Rattle.std.proofs.lemmas.Bool.{eqb-true, eq-eqb}
 use Rattle.std.proofs.lemmas.List.{get_or_default}
-use Rattle.std.proofs.lemmas.Slice.Eq.{bytes_eq-Decides}
 use Rattle.base_kit.specs.declared.act_graph.Edge.{Edge}
 use Rattle.base_kit.specs.declared.protocol.Protocol.{Protocol}
 use Rattle.base_kit.specs.declared.protocol.Protocol.TheVariants.{Bgp as OverBgp, Ospf as OverOspf}
 use Rattle.base_kit.proofs.Elements.{In, contains_in, in_contains, in_filter_map, filter_map_in}
 use Rattle.srp_core.specs.declared.route.Route.{Route}
-use Rattle.srp_core.specs.declared.route.Route.TheVariants.{Bgp, Ospf}
 use Rattle.srp_core.specs.Routes.{path_of, is_on, compare_keys}
 use Rattle.srp_core.specs.Problem.{Problem, number, initial, step_over, key_of}
 use Rattle.srp_core.specs.Stability.{label, IsCandidateOver, IsCandidate, of_init, of_edge}
 use Rattle.srp_core.specs.Candidates.{passed, over}
+use Rattle.route_keys.specs.Same.{same_route}
+use Rattle.route_keys.proofs.Same.{same_true, same_self}
 use Rattle.solution_check.specs.Breaks.{HasWrongOrigin, HasNoCandidate, HasBetterCandidate, LacksLabel, HoldsBest}
-use Rattle.solution_check.specs.Offers.{AreOwn, routes_of, same_route, is_label, beats, always, is_wrong_origin}
-
--- ---- equal routes
-
-and_parts : (a b : Bool) → (a && b) ≡ true → (a ≡ true) × (b ≡ true)
-and_parts true b e = (refl, e)
-and_parts false b e = absurd (true≢false (sym e))
-
-pub same_true : (a b : Route) → same_route a b ≡ true → a ≡ b
-same_true (Bgp lp path comms) (Bgp lp' path' comms') e =
-    let first = and_parts (nat_eq lp lp') (bytes_eq path path' && bytes_eq comms comms') e in
-    let rest = and_parts (bytes_eq path path') (bytes_eq comms comms') first.1 in
-    ap (λ (n : ℕ). Bgp n path comms) (eqb-true lp lp' first.0) ∙ ap (λ (p : List ℕ). Bgp lp' p comms) ((bytes_eq-Decides path path').0 rest.0) ∙ ap (λ (c : List ℕ). Bgp lp' path' c) ((bytes_eq-Decides comms comms').0 rest.1)
-same_true (Bgp lp path comms) (Ospf cost) e = absurd (true≢false (sym e))
-same_true (Ospf cost) (Bgp lp path comms) e = absurd (true≢false (sym e))
-same_true (Ospf cost) (Ospf cost') e = ap (λ (n : ℕ). Ospf n) (eqb-true cost cost' e)
-
-pub same_self : (a : Route) → same_route a a ≡ true
-same_self (Bgp lp path comms) = rw (eq-eqb lp lp refl, (bytes_eq-Decides path path).1 refl, (bytes_eq-Decides comms comms).1 refl) refl
-same_self (Ospf cost) = eq-eqb cost cost refl
+use Rattle.solution_check.specs.Offers.{AreOwn, routes_of, is_label, beats, always, is_wrong_origin}
 
 pub is_less : (o : Ordering) → is_lt o ≡ true → o ≡ Less
 is_less Less e = refl

@@ -13,10 +13,11 @@ use Rattle.srp_core.specs.Acts.{prepended, arrived}
 use Rattle.srp_core.specs.Routes.{Key, path_of, chosen, compare_keys}
 use Rattle.srp_core.specs.Problem.{Problem, is_lone_number, key_of}
 use Rattle.srp_core.specs.Stability.{label}
+use Rattle.route_keys.specs.Keys.{key, key_with}
 use Rattle.solution_check.specs.Lone.{lone_of}
 use Rattle.solution_check.specs.declared.weights.Weight.{Weight}
-use Rattle.solution_check.specs.Offers.{is_label, beats, with_lone, key, key_with, one, WeighsAs}
-use Rattle.solution_check.proofs.LonePaths.{chosen_ascends}
+use Rattle.solution_check.specs.Offers.{is_label, beats, with_lone, one, WeighsAs}
+use Rattle.route_keys.proofs.LonePaths.{chosen_ascends}
 
 pub if_ok : {X E : Type 0} {P Q : X → Type 0} (r : Result X E) → ((x : X) → P x → Q x) → IfOk r P → IfOk r Q
 if_ok (Ok x) more is = more x is

@@ -1,5 +1,5 @@
 -- What the edges of a router offer it, as against its label.
-use Rattle.std.specs.Prelude.{◌≡◌, ℕ, Bool, true, false, not, ◌&&◌, ◌||◌, List, Option, Some, None, [], nat_eq, bytes_eq, Contains, filter_map, if◌then◌else◌}
+use Rattle.std.specs.Prelude.{◌≡◌, ℕ, Bool, true, false, not, ◌||◌, List, Option, Some, None, [], Contains, filter_map, if◌then◌else◌}
 use Rattle.std.specs.List.{list_any, cons_option}
 use Rattle.std.specs.Ordering.{is_lt}
 use Rattle.base_kit.specs.Sets.{with_number}
@@ -9,9 +9,10 @@ use Rattle.base_kit.specs.declared.protocol.Protocol.TheVariants.{Bgp as OverBgp
 use Rattle.srp_core.specs.declared.route.Route.{Route}
 use Rattle.srp_core.specs.declared.route.Route.TheVariants.{Bgp, Ospf}
 use Rattle.srp_core.specs.Acts.{arrived}
-use Rattle.srp_core.specs.Routes.{Key, preference_of, size_of, comms_of, compare_keys}
+use Rattle.srp_core.specs.Routes.{compare_keys}
 use Rattle.srp_core.specs.Problem.{Problem, initial, key_of}
 use Rattle.srp_core.specs.Candidates.{over}
+use Rattle.route_keys.specs.Same.{same_route}
 use Rattle.solution_check.specs.declared.offers.Offer.{Offer}
 use Rattle.solution_check.specs.declared.weights.Weight.{Weight}
 use Rattle.solution_check.specs.declared.offers.Offer.TheVariants.{Nothing, Import, Cost}
@@ -33,13 +34,6 @@ offered (Import imported) None number = None
 offered (Import imported) (Some (Ospf cost)) number = None
 offered (Import imported) (Some (Bgp lp path comms)) number = Some (arrived number path imported)
 
--- whether two routes are equal
-abbrev pub same_route : Route → Route → Bool
-same_route (Bgp lp path comms) (Bgp lp' path' comms') = nat_eq lp lp' && (bytes_eq path path' && bytes_eq comms comms')
-same_route (Bgp lp path comms) (Ospf cost) = false
-same_route (Ospf cost) (Bgp lp path comms) = false
-same_route (Ospf cost) (Ospf cost') = nat_eq cost cost'
-
 -- whether a route is the label, and whether it beats the label
 abbrev pub is_label : Route → Route → Bool
 is_label route candidate = same_route candidate route
@@ -58,14 +52,6 @@ gives (Cost cost) = true
 -- the lone numbers behind a number that is a lone router's or not
 abbrev pub with_lone : Bool → ℕ → List ℕ → List ℕ
 with_lone is_lone number rest = if is_lone then with_number number rest else rest
-
--- a key by its parts
-abbrev pub key : ℕ → ℕ → List ℕ → List ℕ → Key
-key preference size comms lone = record { preference = preference; size = size; comms = comms; lone = lone }
-
--- the key of a route with these lone numbers
-abbrev pub key_with : Route → List ℕ → Key
-key_with route lone = key (preference_of route) (size_of route) (comms_of route) lone
 
 -- ---- what candidates weigh
 

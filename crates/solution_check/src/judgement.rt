@@ -10,9 +10,9 @@ ghost use Rattle.solution_check.specs.Lone.{IsLoneOf};
 ghost use Rattle.solution_check.specs.Offers.{AreOwn, is_wrong_origin};
 
 use crate::lone::{Lone, lone_of_labels};
-use crate::offers::same_route;
 use crate::weights::{has_candidate, weigh};
 use base_kit::{Edge, NoMemory, Protocol};
+use route_keys::same_route;
 use srp_core::{Labels, Route, Srp};
 use std::alloc::Global;
 

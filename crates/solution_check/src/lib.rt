@@ -2,8 +2,7 @@
 //!
 //! `check` answers `Stable` exactly where the labels are stable, and else names the first router, in
 //! order, that breaks it, with the first of four reasons that fits. It goes over the edges of each
-//! router once, and makes no path anew: what a neighbour gives is compared in pieces. `lone_numbers` and
-//! `lone_on` tell the lone routers on a path, for others who compare keys.
+//! router once, and makes no path anew: what a neighbour gives is compared in pieces.
 #![tactic(auto)]
 
 mod judgement;
@@ -13,4 +12,3 @@ mod offers;
 mod weights;
 
 pub use judgement::{Answer, check};
-pub use lone::{lone_numbers, lone_on};

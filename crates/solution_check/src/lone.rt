@@ -1,14 +1,11 @@
-//! The lone routers on paths.
+//! The lone routers on the paths of labels.
 
-ghost use Rattle.std.specs.Prelude.{◌≡◌, ◌&&◌, ◌||◌, ℕ, IfOk, Some, length, map, nat_eq, not};
-ghost use Rattle.std.specs.Option.{option_eq};
-ghost use Rattle.base_kit.specs.Sets.{has, IsAscending};
+ghost use Rattle.std.specs.Prelude.{◌≡◌, IfOk, map, nat_eq};
 ghost use Rattle.std.specs.HashSet.{contains};
-ghost use Rattle.srp_core.specs.Problem.{has_marked_number};
-ghost use Rattle.srp_core.specs.Routes.{chosen, is_on, path_of};
-ghost use Rattle.solution_check.specs.Lone.{chosen_of, HasNumbers, IsLoneOf};
+ghost use Rattle.solution_check.specs.Lone.{chosen_of, IsLoneOf};
 
 use base_kit::{List, NoMemory, NumSet};
+use route_keys::{lone_numbers, lone_on};
 use srp_core::{Labels, Route, Srp};
 use std::alloc::Global;
 use std::collections::HashSet;
@@ -18,85 +15,6 @@ use std::collections::HashSet;
 pub(crate) struct Lone {
     pub(crate) numbers: HashSet<u32>,
     pub(crate) paths: List<NumSet>,
-}
-
-fn with_marked(numbers: HashSet<u32>, mark: bool, number: u32) -> Result<HashSet<u32>, NoMemory>
-    ensures { IfOk result (λ more. (n : ℕ) → contains nat_eq more n ≡ (mark && nat_eq number n) || contains nat_eq numbers n) }
-{
-    if !mark {
-        return Ok(numbers);
-    }
-    let mut numbers = numbers;
-    numbers.insert(number)?;
-    Ok(numbers)
-}
-
-// The numbers of the marked routers.
-fn marked(alloc: Global, marks: &[bool], numbers: &[u32]) -> Result<HashSet<u32>, NoMemory>
-    requires { length marks.now ≡ length numbers.now }
-    ensures { IfOk result (λ set. (n : ℕ) → contains nat_eq set n ≡ has_marked_number marks.now numbers.now n) }
-{
-    let mut set: HashSet<u32> = HashSet::new(alloc);
-    let mut place = marks.len();
-    while place > 0 {
-        place -= 1;
-        set = with_marked(set, marks[place], numbers[place])?;
-    }
-    Ok(set)
-}
-
-fn differs(last: Option<u32>, number: u32) -> bool
-    ensures { result ≡ not (option_eq nat_eq last (Some number)) }
-{
-    match last {
-        Some(other) => other != number,
-        None => true,
-    }
-}
-
-// The numbers of a path that are in the set. Runs of one number give it once.
-fn met(alloc: Global, numbers: &HashSet<u32>, path: &[u32]) -> Result<Vec<u32>, NoMemory>
-    ensures { IfOk result (λ found. (n : ℕ) → has found.items n ≡ contains nat_eq numbers.now n && is_on n path.now) }
-{
-    let mut found = Vec::new(alloc);
-    let mut last = None;
-    for number in path {
-        if differs(last, *number) && numbers.contains(number) {
-            found.push(*number)?;
-            last = Some(*number);
-        }
-    }
-    Ok(found)
-}
-
-// The set of some numbers.
-fn as_set(alloc: Global, numbers: Vec<u32>) -> NumSet
-    ensures members { (n : ℕ) → has result n ≡ has numbers.items n }
-    ensures ascending { IsAscending result }
-{
-    let mut numbers = numbers;
-    numbers.sort_unstable();
-    numbers.dedup();
-    NumSet::from_ascending(alloc, numbers)
-}
-
-// The numbers of a path that are in the set, ascending.
-fn chosen(alloc: Global, numbers: &HashSet<u32>, path: &[u32]) -> Result<NumSet, NoMemory>
-    ensures { IfOk result (λ set. set ≡ chosen (contains nat_eq numbers.now) path.now) }
-{
-    let found = met(alloc, numbers, path)?;
-    Ok(as_set(alloc, found))
-}
-
-/// The numbers on the path of a route that are in the set, ascending. With `lone_numbers` they are those
-/// of lone routers, by which keys of routes differ.
-pub fn lone_on(alloc: Global, numbers: &HashSet<u32>, route: &Route) -> Result<NumSet, NoMemory>
-    ensures { IfOk result (λ set. set ≡ chosen (contains nat_eq numbers.now) (path_of route.now)) }
-{
-    match route {
-        Route::Bgp { path, .. } => chosen(alloc, numbers, path.as_slice()),
-        Route::Ospf { .. } => Ok(NumSet::new(alloc)),
-    }
 }
 
 fn lone_of(alloc: Global, numbers: &HashSet<u32>, label: &Option<Route>) -> Result<NumSet, NoMemory>
@@ -120,14 +38,6 @@ fn lone_paths(
         paths.push(lone_of(alloc, numbers, label)?)?;
     }
     Ok(paths)
-}
-
-/// The numbers of the lone routers of a problem, looked up in constant time.
-pub fn lone_numbers(alloc: Global, srp: &Srp) -> Result<HashSet<u32>, NoMemory>
-    ensures { IfOk result (HasNumbers srp.now) }
-{
-    let _routers = srp.count();
-    marked(alloc, srp.lone(), srp.numbers())
 }
 
 /// The lone numbers of a problem and its labels.

@@ -8,7 +8,7 @@ ghost use Rattle.srp_core.specs.Acts.{step_by, prepended};
 ghost use Rattle.srp_core.specs.Candidates.{over, passed};
 ghost use Rattle.srp_core.specs.Problem.{number, IsEdgeOf};
 ghost use Rattle.srp_core.specs.Stability.{label, AreLabels};
-ghost use Rattle.solution_check.specs.Offers.{offered, gives, same_route};
+ghost use Rattle.solution_check.specs.Offers.{offered, gives};
 
 use base_kit::{Edge, NoMemory};
 use route_maps::{Imported, import};
@@ -101,29 +101,6 @@ impl Offer {
             Offer::Import(_) => true,
             Offer::Cost(_) => true,
         }
-    }
-}
-
-/// Whether two routes are equal.
-pub(crate) fn same_route(a: &Route, b: &Route) -> bool
-    ensures { result ≡ same_route a.now b.now }
-{
-    match (a, b) {
-        (
-            Route::Bgp { lp, path, comms },
-            Route::Bgp {
-                lp: other_lp,
-                path: other_path,
-                comms: other_comms,
-            },
-        ) => {
-            *lp == *other_lp
-                && path.as_slice() == other_path.as_slice()
-                && comms.as_slice() == other_comms.as_slice()
-        }
-        (Route::Ospf { cost }, Route::Ospf { cost: other }) => *cost == *other,
-        (Route::Bgp { .. }, Route::Ospf { .. }) => false,
-        (Route::Ospf { .. }, Route::Bgp { .. }) => false,
     }
 }
 

@@ -8,16 +8,18 @@ ghost use Rattle.std.specs.Cmp.Lexicographic.{slice_cmp};
 ghost use Rattle.base_kit.specs.Sets.{with_number};
 ghost use Rattle.srp_core.specs.Acts.{arrived};
 ghost use Rattle.srp_core.specs.Problem.{count, number, initial, is_lone_number, IsEdgeOf};
-ghost use Rattle.srp_core.specs.Routes.{preference_of, size_of, comms_of, path_of, chosen, compare_keys, IsRouteOf};
+ghost use Rattle.srp_core.specs.Routes.{path_of, chosen, compare_keys};
 ghost use Rattle.srp_core.specs.Stability.{label, AreLabels};
 ghost use Rattle.srp_core.specs.Candidates.{over};
+ghost use Rattle.route_keys.specs.Keys.{key, key_with};
 ghost use Rattle.solution_check.specs.declared.offers.Offer.TheVariants.{Import};
 ghost use Rattle.solution_check.specs.Lone.{IsLoneOf};
-ghost use Rattle.solution_check.specs.Offers.{AreOwn, routes_of, offered, same_route, is_label, beats, with_lone, key, key_with, one, WeighsAs, both_weighed, always};
+ghost use Rattle.solution_check.specs.Offers.{AreOwn, routes_of, offered, is_label, beats, with_lone, one, WeighsAs, both_weighed, always};
 
 use crate::lone::Lone;
-use crate::offers::{Offer, is_lengthened, offer_over, same_route};
+use crate::offers::{Offer, is_lengthened, offer_over};
 use base_kit::{Edge, NoMemory, NumSet};
+use route_keys::{comms_of, preference_of, same_route, size_of};
 use route_maps::Imported;
 use srp_core::{Labels, Route, Srp};
 use std::alloc::Global;
@@ -28,33 +30,6 @@ use std::cmp::Ordering;
 pub(crate) struct Weight {
     pub(crate) held: bool,
     pub(crate) beaten: bool,
-}
-
-fn preference_of(route: &Route) -> u32
-    ensures { result ≡ preference_of route.now }
-{
-    match route {
-        Route::Bgp { lp, .. } => *lp,
-        Route::Ospf { .. } => 0,
-    }
-}
-
-fn size_of(route: &Route) -> u128
-    ensures value { result ≡ size_of route.now }
-{
-    match route {
-        Route::Bgp { path, .. } => path.as_slice().len() as u128,
-        Route::Ospf { cost } => u128::from(*cost),
-    }
-}
-
-fn comms_of(route: &Route) -> &[u32]
-    ensures { result.now ≡ comms_of route.now }
-{
-    match route {
-        Route::Bgp { comms, .. } => comms.as_slice(),
-        Route::Ospf { .. } => &[],
-    }
 }
 
 // How the lone numbers of a path compare with others, where its first number is a lone router's or not.
@@ -93,7 +68,7 @@ fn is_better(
     if lp != preference {
         return Ok(preference < lp);
     }
-    let other_size = size_of(route);
+    let other_size = u128::from(size_of(route));
     if size != other_size {
         return Ok(size < other_size);
     }
@@ -167,7 +142,7 @@ fn weigh_bare(
     let rest = NumSet::new(alloc);
     let beaten = is_better(
         preference_of(candidate),
-        size_of(candidate),
+        u128::from(size_of(candidate)),
         comms_of(candidate),
         false,
         0,

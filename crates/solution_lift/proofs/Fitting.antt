@@ -9,7 +9,7 @@ use Rattle.base_kit.specs.declared.protocol.Protocol.TheVariants.{Bgp as OverBgp
 use Rattle.srp_core.specs.declared.route.Route.{Route}
 use Rattle.srp_core.specs.declared.route.Route.TheVariants.{Bgp, Ospf}
 use Rattle.srp_core.specs.Routes.{Key, path_of, chosen, key_by, IsRouteOf}
-use Rattle.solution_check.specs.Offers.{key, key_with}
+use Rattle.route_keys.specs.Keys.{key, key_with}
 use Rattle.solution_lift.specs.Sides.{are_alike}
 
 both_true : (a b : Bool) → a && b ≡ true → (a ≡ true) × (b ≡ true)

@@ -17,7 +17,7 @@ use crate::tables::{first_member, first_members, route_copy};
 use crate::tasks::tasks_of;
 use base_kit::{NoMemory, Protocol};
 use refine_partition::Partition;
-use solution_check::lone_numbers;
+use route_keys::lone_numbers;
 use srp_core::laws::filling::fold_steps;
 use srp_core::laws::keys::across_quotients;
 use srp_core::laws::{equal_keys, folds, ospf_folds};

@@ -18,7 +18,7 @@ use crate::tasks::tasks_of;
 use abstract_net::Quotient;
 use base_kit::{NoMemory, Protocol};
 use refine_partition::Partition;
-use solution_check::lone_numbers;
+use route_keys::lone_numbers;
 use srp_core::laws::filling::lift_steps;
 use srp_core::laws::keys::across_quotients;
 use srp_core::laws::{lifts, ospf_lifts};

@@ -2,7 +2,7 @@
 
 ghost use Rattle.std.specs.Prelude.{◌≡◌, ℕ, ◌<◌, ◌&&◌, Some, IfOk, bytes_eq, length, nat_eq, slice_index};
 ghost use Rattle.std.specs.HashSet.{contains};
-ghost use Rattle.solution_check.specs.Lone.{HasNumbers};
+ghost use Rattle.route_keys.specs.Lone.{HasLoneNumbers};
 ghost use Rattle.srp_core.specs.Problem.{count, key_of};
 ghost use Rattle.srp_core.specs.Routes.{path_of, chosen, IsRouteOf};
 ghost use Rattle.srp_core.specs.Stability.{label, AreLabels};
@@ -10,7 +10,7 @@ ghost use Rattle.solution_lift.specs.Carrying.{IsTaken, IsNext, source_of};
 ghost use Rattle.solution_lift.specs.Sides.{is_from, are_alike};
 
 use base_kit::{Edge, NoMemory, NumSet};
-use solution_check::lone_on;
+use route_keys::lone_on;
 use srp_core::{Candidate, Labels, Route, Srp};
 use std::alloc::Global;
 use std::collections::{HashMap, HashSet};
@@ -89,7 +89,7 @@ fn taken(
     requires router { router < count target.now }
     requires labels { AreLabels target.now labels.now }
     requires asked { IsRouteOf target.now.protocol asked.now }
-    requires lone { HasNumbers target.now lone.now }
+    requires lone { HasLoneNumbers target.now lone.now }
     ensures { IfOk result (IsTaken target.now sides.now labels.now router source (key_of target.now asked.now)) }
 {
     let _routers = target.count();
@@ -135,7 +135,7 @@ pub fn next(
     requires router { router < count target.now }
     requires place { router < length at.now }
     requires labels { AreLabels target.now labels.now }
-    requires lone { HasNumbers target.now lone.now }
+    requires lone { HasLoneNumbers target.now lone.now }
     requires asked { (u : ℕ) (r : Route) → label asked.now u ≡ Some r → IsRouteOf target.now.protocol r }
     ensures { IfOk result (IsNext target.now asked.now at.now sides.now sources.now labels.now router) }
 {

@@ -1,10 +1,13 @@
-use Rattle.std.proofs.Common.{length, ap, ◌∙◌}
-use Rattle.solution_check.proofs.Weighed.{if_ok}
+use Rattle.std.proofs.Common.{length, ap, ◌∙◌, Result, Ok, Err, IfOk}
 use Rattle.srp_core.specs.Problem.{count}
 use Rattle.route_run.specs.Schedules.{run_of}
 use Rattle.route_run.proofs.RankOrder.{order_is, order_by, all_single}
 use Rattle.route_run.proofs.Reaching.{order_reaches}
 use Rattle.route_run.proofs.order.reach.Goals as goal
+
+if_ok : {X E : Type 0} {P Q : X → Type 0} (r : Result X E) → ((x : X) → P x → Q x) → IfOk r P → IfOk r Q
+if_ok (Ok x) more is = more x is
+if_ok (Err e) more is = tt
 
 pub returns : goal.returns
 returns c =

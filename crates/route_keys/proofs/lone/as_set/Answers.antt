@@ -4,8 +4,8 @@ use Rattle.std.proofs.lemmas.List.Kept.{Contains-dedup_nat, Contains-from_dedup}
 use Rattle.std.proofs.lemmas.List.Sorted.{Contains-permutation, IsPermutation-sym}
 use Rattle.std.proofs.lemmas.Map.Keys.{IsStrictlyIncreasing-dedup}
 use Rattle.base_kit.specs.Sets.{has}
-use Rattle.solution_check.proofs.Members.{ascends, same_members}
-use Rattle.solution_check.proofs.lone.as_set.Goals as goal
+use Rattle.route_keys.proofs.Members.{ascends, same_members}
+use Rattle.route_keys.proofs.lone.as_set.Goals as goal
 
 pub from_ascending-requires : goal.from_ascending-requires
 from_ascending-requires c =

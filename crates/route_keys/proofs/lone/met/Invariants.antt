@@ -2,7 +2,7 @@ use Rattle.std.proofs.Common.{◌≡◌, ◌&&◌, ℕ, take, nat_eq, true, IfSo
 use Rattle.std.specs.HashSet.{contains}
 use Rattle.base_kit.specs.Sets.{has}
 use Rattle.srp_core.specs.Routes.{is_on}
-use Rattle.solution_check.proofs.lone.met.Given as goal
+use Rattle.route_keys.proofs.lone.met.Given as goal
 
 abbrev pub invariant-loop-number : goal.invariant-loop-number
 invariant-loop-number l = record {

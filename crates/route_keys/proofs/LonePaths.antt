@@ -1,5 +1,6 @@
 -- The lone numbers on a path, by their members.
-use Rattle.std.proofs.Common.{◌≡◌, ℕ, suc, ◌+◌, ◌<◌, ◌≤◌, Bool, true, false, cond, ◌&&◌, ◌||◌, List, [], ◌∷◌, ◌++◌, length, take, drop, drop-cons, get_or, refl, sym, ap, ◌∙◌, arith, nat_eq, true≢false, add-one}
+use Rattle.std.proofs.Common.{◌≡◌, ℕ, suc, ◌+◌, ◌<◌, ◌≤◌, Bool, true, false, cond, ◌&&◌, ◌||◌, List, [], ◌∷◌, ◌++◌, length, take, drop, drop-cons, get_or, refl}
+use Rattle.std.proofs.Common.{sym, ap, ◌∙◌, arith, nat_eq, true≢false, add-one}
 use Rattle.std.proofs.lemmas.Bool.{eqb-true, eq-eqb}
 use Rattle.std.proofs.lemmas.List.{drop_all}
 use Rattle.std.proofs.Math.Seq.{take-suc}
@@ -31,8 +32,10 @@ out_by : (test : ℕ → Bool) (number n : ℕ) (on same : Bool) → nat_eq numb
 out_by test number n on true e t = rw (equal_by test number n e false t) refl
 out_by test number n on false e t = refl
 
-member_by : (test : ℕ → Bool) (number n : ℕ) (rest : List ℕ) (on : Bool) (b : Bool) → test number ≡ b → has rest n ≡ test n && on → has (cond b (with_number number rest) rest) n ≡ test n && (nat_eq number n || on)
-member_by test number n rest on true e h = has-with_number number rest n ∙ ap (λ (v : Bool). nat_eq number n || v) h ∙ in_by test number n on (nat_eq number n) refl e
+member_by : (test : ℕ → Bool) (number n : ℕ) (rest : List ℕ) (on : Bool) (b : Bool) → test number ≡ b → has rest n ≡ test n && on
+    → has (cond b (with_number number rest) rest) n ≡ test n && (nat_eq number n || on)
+member_by test number n rest on true e h =
+    has-with_number number rest n ∙ ap (λ (v : Bool). nat_eq number n || v) h ∙ in_by test number n on (nat_eq number n) refl e
 member_by test number n rest on false e h = h ∙ out_by test number n on (nat_eq number n) refl e
 
 nothing_on : (b : Bool) → false ≡ b && false
@@ -75,7 +78,9 @@ module _ (test : ℕ → Bool) (path found : List ℕ) (i number : ℕ) (inside 
   put_by false on false h = refl
 
   pub found_more : test number ≡ true → (n : ℕ) → has (found ++ number ∷ []) n ≡ test n && is_on n (take (i + 1) path)
-  found_more t n = has_push found number n ∙ ap (λ (b : Bool). b || nat_eq number n) (so_far n) ∙ put_by (test n) (is_on n (take i path)) (nat_eq number n) (λ e. equal_by test number n e true t) ∙ ap (λ (b : Bool). test n && b) (sym (on_more n))
+  found_more t n =
+      has_push found number n ∙ ap (λ (b : Bool). b || nat_eq number n) (so_far n)
+      ∙ put_by (test n) (is_on n (take i path)) (nat_eq number n) (λ e. equal_by test number n e true t) ∙ ap (λ (b : Bool). test n && b) (sym (on_more n))
 
   leave_by : (t on same : Bool) → (same ≡ true → t && on ≡ t && true) → t && on ≡ t && (on || same)
   leave_by true true same h = refl
@@ -85,7 +90,9 @@ module _ (test : ℕ → Bool) (path found : List ℕ) (i number : ℕ) (inside 
 
   -- the number is there, or does not pass
   pub found_same : (test number ≡ true → has found number ≡ true) → (n : ℕ) → has found n ≡ test n && is_on n (take (i + 1) path)
-  found_same h n = so_far n ∙ leave_by (test n) (is_on n (take i path)) (nat_eq number n) (λ e. at n (eqb-true number n e) (test n) refl) ∙ ap (λ (b : Bool). test n && b) (sym (on_more n))
+  found_same h n =
+      so_far n ∙ leave_by (test n) (is_on n (take i path)) (nat_eq number n) (λ e. at n (eqb-true number n e) (test n) refl)
+      ∙ ap (λ (b : Bool). test n && b) (sym (on_more n))
     where
       at : (n : ℕ) → number ≡ n → (t : Bool) → test n ≡ t → t && is_on n (take i path) ≡ t && true
       at n same false e = refl
@@ -104,10 +111,14 @@ pub marked_none : (n : ℕ) (marks : List Bool) (numbers : List ℕ) (i : ℕ) �
 unfolding has_marked_number
 marked_none n marks numbers i le = ap (λ (ms : List Bool). has_marked_number ms (drop i numbers) n) (drop_all i marks le)
 
-pub marked_first : (n : ℕ) (marks : List Bool) (numbers : List ℕ) (i number : ℕ) (mark : Bool) → i < length marks → length marks ≡ length numbers → mark ≡ get_or marks i mark → number ≡ get_or numbers i number
+pub marked_first : (n : ℕ) (marks : List Bool) (numbers : List ℕ) (i number : ℕ) (mark : Bool) → i < length marks → length marks ≡ length numbers
+    → mark ≡ get_or marks i mark → number ≡ get_or numbers i number
     → has_marked_number (drop i marks) (drop i numbers) n ≡ (mark && nat_eq number n) || has_marked_number (drop (i + 1) marks) (drop (i + 1) numbers) n
 unfolding has_marked_number
 marked_first n marks numbers i number mark lt same is_mark is_number =
-    let first : drop i marks ≡ mark ∷ drop (i + 1) marks = drop-cons marks i mark lt ∙ ap (λ (m : Bool). m ∷ drop (suc i) marks) (sym is_mark) ∙ ap (λ (k : ℕ). mark ∷ drop k marks) (sym (add-one i)) in
-    let second : drop i numbers ≡ number ∷ drop (i + 1) numbers = drop-cons numbers i number (omega arith) ∙ ap (λ (m : ℕ). m ∷ drop (suc i) numbers) (sym is_number) ∙ ap (λ (k : ℕ). number ∷ drop k numbers) (sym (add-one i)) in
+    let first : drop i marks ≡ mark ∷ drop (i + 1) marks =
+    drop-cons marks i mark lt ∙ ap (λ (m : Bool). m ∷ drop (suc i) marks) (sym is_mark) ∙ ap (λ (k : ℕ). mark ∷ drop k marks) (sym (add-one i)) in
+    let second : drop i numbers ≡ number ∷ drop (i + 1) numbers =
+    drop-cons numbers i number (omega arith) ∙ ap (λ (m : ℕ). m ∷ drop (suc i) numbers) (sym is_number)
+    ∙ ap (λ (k : ℕ). number ∷ drop k numbers) (sym (add-one i)) in
     ap (λ (ms : List Bool). has_marked_number ms (drop i numbers) n) first ∙ ap (λ (ns : List ℕ). has_marked_number (mark ∷ drop (i + 1) marks) ns n) second

@@ -2,8 +2,8 @@ use Rattle.std.proofs.Common.{◌≡◌, ◌+◌, ◌-◌, ◌<◌, ◌&&◌, �
 use Rattle.std.specs.HashSet.{contains}
 use Rattle.std.proofs.lemmas.List.{get_or_default}
 use Rattle.srp_core.specs.Problem.{has_marked_number}
-use Rattle.solution_check.proofs.LonePaths.{marked_none, marked_first}
-use Rattle.solution_check.proofs.lone.marked.Goals as goal
+use Rattle.route_keys.proofs.LonePaths.{marked_none, marked_first}
+use Rattle.route_keys.proofs.lone.marked.Goals as goal
 
 pub loop-place-init : goal.loop-place-init
 loop-place-init c = record {

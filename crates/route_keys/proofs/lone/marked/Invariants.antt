@@ -1,7 +1,7 @@
 use Rattle.std.proofs.Common.{◌≡◌, ◌≤◌, ℕ, length, drop, nat_eq}
 use Rattle.std.specs.HashSet.{contains}
 use Rattle.srp_core.specs.Problem.{has_marked_number}
-use Rattle.solution_check.proofs.lone.marked.Given as goal
+use Rattle.route_keys.proofs.lone.marked.Given as goal
 
 -- the numbers of the marked routers from here on
 abbrev pub invariant-loop-place : goal.invariant-loop-place

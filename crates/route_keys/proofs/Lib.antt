@@ -1,0 +1,3 @@
+pub mod LonePaths
+mod Members
+pub mod Same

@@ -1,0 +1,3 @@
+pub mod Keys
+pub mod Lone
+pub mod Same
