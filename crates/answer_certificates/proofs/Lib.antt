@@ -1,4 +1,3 @@
 mod Agreement
-mod Carried
 mod Named
 mod OneVerify

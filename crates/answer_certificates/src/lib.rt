@@ -8,5 +8,4 @@
 
 pub mod certify;
 pub mod laws;
-mod problem;
 pub mod verify;

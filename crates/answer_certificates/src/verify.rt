@@ -1,25 +1,24 @@
 //! The command `verify`.
 
-ghost use Rattle.std.specs.Prelude.{◌≡◌, ◌≤◌, ℕ, List, codes, Contains, IfOk, length};
+ghost use Rattle.std.specs.Prelude.{◌≡◌, ◌≤◌, ℕ, List, codes, Contains, length};
 ghost use Rattle.cfg_ast.specs.meaning.Classes.{classes_of};
 ghost use Rattle.io_kit.specs.Ends.{Rose};
 ghost use Rattle.srp_core.specs.Problem.{count};
 ghost use Rattle.srp_core.specs.Starts.{IsGraphOf};
-ghost use Rattle.answer_certificates.specs.Verified.{certificate_limit, certificate_reason, long_certificate, name_of_cut_kind, IsVerdictOn, IsVerifyAnswer, IsVerifyOf};
+ghost use Rattle.answer_certificates.specs.Verified.{certificate_limit, certificate_reason, long_certificate, name_of_cut_kind, IsVerdictOn, IsVerifyOf};
 ghost use Rattle.answer_kit.specs.Outcome.{done, refused};
 ghost use Rattle.answer_kit.specs.Replies.{Answers, Only};
 ghost use Rattle.answer_kit.specs.SecondFiles.{IsOfSecond};
 
-use crate::problem::problem_for;
-use answer_kit::{Reply, class_at, no_class, read_second};
+use answer_kit::{Reply, read_second, refuse};
 use base_kit::{ActGraph, NoMemory};
 use cfg_ast::DestClass;
 use cfg_check::Checked;
 use cut_certificate::{CutKind, CutRefusal, verify};
-use dest_classes::classes;
+use driver::problem_of_class;
 use io_kit::Source;
 use srp_core::Srp;
-use std::alloc::{AllocError, Global};
+use std::alloc::Global;
 
 // A certificate has at most this many bytes.
 const CERTIFICATE_LIMIT: usize = 16_777_216;
@@ -40,22 +39,12 @@ fn name_of_kind(kind: CutKind) -> &'static str
     }
 }
 
-fn reason(alloc: Global, line: u32, kind: CutKind) -> Result<Vec<u8>, AllocError>
-    ensures { IfOk result (λ bytes. bytes.items ≡ certificate_reason line kind) }
-{
-    let name = name_of_kind(kind);
-    let text = format!(in alloc; "certificate line {line}: {name}")?;
-    Ok(text.into_bytes())
-}
-
 // The refusal of a certificate, by its line and kind.
 fn certificate_refusal(alloc: Global, line: u32, kind: CutKind) -> Reply
     ensures { Answers result (Only (refused (certificate_reason line kind))) ⊥ ⊥ }
 {
-    match reason(alloc, line, kind) {
-        Ok(bytes) => Reply::Refusal(bytes),
-        Err(_) => Reply::NoMemory,
-    }
+    let name = name_of_kind(kind);
+    refuse(format!(in alloc; "certificate line {line}: {name}"))
 }
 
 fn yes(alloc: Global) -> Reply
@@ -106,8 +95,8 @@ fn answer_of_graph<S: Source>(
     }
 }
 
-// Judges the certificate of a class.
-fn answer_of_class<S: Source>(
+/// Judges the certificate in the second file, for a class.
+pub fn answer<S: Source>(
     alloc: Global,
     checked: &Checked,
     class: &DestClass,
@@ -119,32 +108,11 @@ fn answer_of_class<S: Source>(
     ensures contents { S.contents files.new ≡ S.contents files.old }
     ensures later { (n : List ℕ) → S.faults files.old n ≤ S.faults files.new n }
 {
-    let Ok(problem) = problem_for(alloc, checked, class) else {
+    let Ok(problem) = problem_of_class(alloc, checked, class) else {
         return Reply::NoMemory;
     };
     match problem.graph() {
         Ok(graph) => answer_of_graph(alloc, &problem, &graph, second, files),
         Err(NoMemory) => Reply::NoMemory,
-    }
-}
-
-/// Judges the certificate in the second file, for the class of this number.
-pub fn answer<S: Source>(
-    alloc: Global,
-    checked: &Checked,
-    number: u32,
-    second: &str,
-    files: &mut S,
-) -> Reply
-    ensures answers { Answers result (IsVerifyAnswer checked.now.network number (S.contents files.old second.now)) ⊥ (Rose (S.faults files.old second.now) (S.faults files.new second.now)) }
-    ensures contents { S.contents files.new ≡ S.contents files.old }
-    ensures later { (n : List ℕ) → S.faults files.old n ≤ S.faults files.new n }
-{
-    let Ok(classes) = classes(alloc, checked) else {
-        return Reply::NoMemory;
-    };
-    match class_at(classes.as_slice(), number) {
-        Some(class) => answer_of_class(alloc, checked, class, second, files),
-        None => no_class(alloc, number),
     }
 }

@@ -1,4 +1,4 @@
-mod Compressing
+pub mod Compressing
 mod OneAnswer
 mod OneGrouping
 mod OnePlan

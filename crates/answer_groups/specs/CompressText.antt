@@ -12,16 +12,23 @@ pub use Rattle.compress_laws.specs.Laws.{compressed_text}
 use Rattle.answer_kit.specs.Outcome.{Outcome, done, refused}
 use Rattle.answer_kit.specs.ClassNumbers.{class_at, IsOfClass}
 
+abbrev pub long_output : List ℕ
+long_output = codes "OutputTooLong"
+
 -- the text, or its refusal where it is too long
 abbrev pub IsTextOr : Bool → List ℕ → Outcome → Type 0
-IsTextOr true text o = o ≡ refused (codes "OutputTooLong")
+IsTextOr true text o = o ≡ refused long_output
 IsTextOr false text o = o ≡ done text
 
--- the text of the plan of a class
-pub record IsEmission (network : Network) (class : DestClass) (o : Outcome) : Type 0 where
+-- the text of an allowed plan
+pub record IsTextOfPlan (IsAllowed : Plan → Type 0) (o : Outcome) : Type 0 where
   pub plan : Plan
-  pub is : IsPlanOf network class plan
+  pub is : IsAllowed plan
   pub written : IsTextOr (is_too_long (compressed_text plan)) (compressed_text plan) o
+
+-- the text of the plan of a class
+abbrev pub IsEmission : Network → DestClass → Outcome → Type 0
+IsEmission network class = IsTextOfPlan (IsPlanOf network class)
 
 -- a refusal, where a prefix of the class meets the addresses of the links
 abbrev pub pool_overlap : ℕ → List ℕ

@@ -2,14 +2,14 @@
 
 ghost use Rattle.std.specs.Prelude.{◌≡◌, IfOk, Contains};
 ghost use Rattle.cfg_ast.specs.meaning.Classes.{classes_of};
-ghost use Rattle.answer_groups.specs.GroupLines.{AreGroupLines, IsGroupsOf, IsGroupsAnswer};
+ghost use Rattle.answer_groups.specs.GroupLines.{AreGroupLines, IsGroupsOf};
 ghost use Rattle.answer_kit.specs.Replies.{Answers};
 
-use answer_kit::{Reply, class_at, coarsest_of, no_class, problem_of_class};
+use answer_kit::Reply;
 use base_kit::NoMemory;
 use cfg_ast::DestClass;
 use cfg_check::Checked;
-use dest_classes::classes;
+use driver::{coarsest_of, problem_of_class};
 use group_report::group_lines;
 use std::alloc::Global;
 
@@ -24,26 +24,13 @@ fn lines_of_class(alloc: Global, checked: &Checked, class: &DestClass) -> Result
     Ok(bytes)
 }
 
-// The groups of a class.
-fn answer_of_class(alloc: Global, checked: &Checked, class: &DestClass) -> Reply
+/// The groups of a class.
+pub fn answer(alloc: Global, checked: &Checked, class: &DestClass) -> Reply
     requires { Contains (classes_of checked.now.network) class.now }
     ensures { Answers result (IsGroupsOf checked.now.network class.now) ⊥ ⊥ }
 {
     match lines_of_class(alloc, checked, class) {
         Ok(bytes) => Reply::Output(bytes),
         Err(NoMemory) => Reply::NoMemory,
-    }
-}
-
-/// The groups of the class of this number.
-pub fn answer(alloc: Global, checked: &Checked, number: u32) -> Reply
-    ensures { Answers result (IsGroupsAnswer checked.now.network number) ⊥ ⊥ }
-{
-    let Ok(classes) = classes(alloc, checked) else {
-        return Reply::NoMemory;
-    };
-    match class_at(classes.as_slice(), number) {
-        Some(class) => answer_of_class(alloc, checked, class),
-        None => no_class(alloc, number),
     }
 }

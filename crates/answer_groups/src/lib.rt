@@ -6,5 +6,6 @@
 
 pub mod classes;
 pub mod compress;
+mod emission;
 pub mod groups;
 pub mod laws;

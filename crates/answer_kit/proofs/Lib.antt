@@ -1,7 +1,8 @@
+pub mod Classes
 pub mod NamesApart
+pub mod Networks
 pub mod NumberedOnce
 pub mod OneClass
 pub mod OneText
 pub mod Replies
 pub mod SecondFiles
-mod Universe

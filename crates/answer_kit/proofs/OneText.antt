@@ -1,11 +1,16 @@
--- Public: a text, and the solution that it gives, allow one outcome where their contents do.
+-- Public: a text, and the network or the solution that it gives, allow one outcome where their contents do.
 use Rattle.std.proofs.Common.{◌≡◌, inl, inr, ℕ, List, sym, ◌∙◌, subst, arith, Option, Some, None, Result, Ok, Err}
 use Rattle.std.specs.Prelude.{IsSome}
+use Rattle.cfg_ast.specs.declared.network.Network.{Network}
+use Rattle.cfg_ast.specs.declared.refusal.ReadRefusal.{ReadRefusal}
+use Rattle.cfg_ast.specs.declared.refusal.ReadRefusal.TheVariants as read_refusal
+use Rattle.cfg_ast.specs.text.Reading.{reading_of}
 use Rattle.srp_core.specs.declared.route.Route.{Route}
 use Rattle.srp_core.specs.Problem.{Problem}
 use Rattle.solution_text.specs.declared.refusal.SolRefusal.{SolRefusal}
 use Rattle.solution_text.specs.declared.refusal.SolRefusal.TheVariants as sol_refusal
 use Rattle.solution_text.specs.Solutions.{labels_of_text}
+use Rattle.answer_kit.specs.Networks.{text_limit, long_text, IsOfReading, IsOfNetworkIn}
 use Rattle.answer_kit.specs.Outcome.{Outcome}
 use Rattle.answer_kit.specs.SecondFiles.{IsOfText, IsOfSecond, solution_limit, long_solution, IsOfLabels, IsOfLabelsIn, IsOfSolution}
 
@@ -21,6 +26,19 @@ pub one_of_second : (limit : ℕ) (long : List ℕ) (A B : List ℕ → Outcome 
     → IsOfSecond limit long second A o → IsOfSecond limit long second B p → o ≡ p
 one_of_second limit long A B None told o p one x y = cc
 one_of_second limit long A B (Some text) told o p one x y = one_of_text limit long A B text o p (one text) x y
+
+-- and of the network that a text gives
+one_of_reading : (A : Network → Outcome → Type 0) → ((n : Network) (o p : Outcome) → A n o → A n p → o ≡ p) → (r : Result Network ReadRefusal) (o p : Outcome)
+    → IsOfReading A r o → IsOfReading A r p → o ≡ p
+one_of_reading A one (Ok n) o p x y = one n o p x y
+one_of_reading A one (Err (read_refusal.At line kind)) o p x y = x ∙ sym y
+one_of_reading A one (Err read_refusal.Memory) o p x y = absurd x
+
+pub one_of_network : (A : Network → Outcome → Type 0) → ((n : Network) (o p : Outcome) → A n o → A n p → o ≡ p) → (text : List ℕ) (o p : Outcome)
+    → IsOfNetworkIn A text o → IsOfNetworkIn A text p → o ≡ p
+one_of_network A one text o p x y =
+    one_of_text text_limit long_text (λ t q. IsOfReading A (reading_of t) q) (λ t q. IsOfReading A (reading_of t) q) text o p
+    (one_of_reading A one (reading_of text) o p) x y
 
 -- of the labels of a solution one outcome is allowed, where that is so of all labels
 module _ (P Q : Problem) (protocols : P.protocol ≡ Q.protocol) (names : P.names ≡ Q.names) (A B : List (Option Route) → Outcome → Type 0) (one : (labels : List (Option Route)) (o p : Outcome) → A labels o → B labels p → o ≡ p) where

@@ -15,3 +15,7 @@ no_class number = codes "NoClass " ++ decimal number
 abbrev pub IsOfClass : Option DestClass → ℕ → (DestClass → Outcome → Type 0) → Outcome → Type 0
 IsOfClass None number IsAllowed o = o ≡ refused (no_class number)
 IsOfClass (Some class) number IsAllowed o = IsAllowed class o
+
+-- no class is allowed
+abbrev pub AllowsNoClass : DestClass → Outcome → Type 0
+AllowsNoClass class o = ⊥

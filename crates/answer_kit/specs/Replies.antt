@@ -1,11 +1,10 @@
 -- What a command has come to, and what is to be told of it.
-use Rattle.std.specs.Prelude.{◌≡◌, ℕ, List}
-use Rattle.cfg_ast.specs.declared.refusal.ReadRefusal.{ReadRefusal}
-use Rattle.cfg_ast.specs.declared.refusal.ReadRefusal.TheVariants as read_refusal
+use Rattle.std.specs.Prelude.{◌≡◌, ℕ, List, String, string_bytes, Result, Ok, Err}
+use Rattle.std.specs.declared.alloc.AllocError.{AllocError}
+use Rattle.std.specs.declared.alloc.Global.{Global}
 use Rattle.answer_kit.specs.declared.reply.Reply.{Reply}
 use Rattle.answer_kit.specs.declared.reply.Reply.TheVariants.{Output, Refusal, NotStable, Misuse, ReadFailed, SecondFailed, NoMemory}
 use Rattle.answer_kit.specs.Outcome.{Outcome, done, refused, not_stable, usage, read_fault, out_of_memory}
-use Rattle.answer_kit.specs.Kinds.{line_reason}
 
 -- the outcome that a reply stands for, with the names of the files
 abbrev pub told_by : Reply → List ℕ → List ℕ → Outcome
@@ -31,7 +30,7 @@ Answers ReadFailed IsAllowed first_rose second_rose = first_rose
 Answers SecondFailed IsAllowed first_rose second_rose = second_rose
 Answers NoMemory IsAllowed first_rose second_rose = Unit {0}
 
--- A refusal of the text is answered by its line and kind, and want of memory as such.
-abbrev pub Refuses : Reply → ReadRefusal → Type 0
-Refuses reply (read_refusal.At line kind) = Answers reply (Only (refused (line_reason line kind))) ⊥ ⊥
-Refuses reply read_refusal.Memory = reply ≡ NoMemory
+-- the refusal for a reason, where there was memory to write it
+abbrev pub IsRefusalFor : Result (String Global) AllocError → Outcome → Type 0
+IsRefusalFor (Ok text) o = o ≡ refused (string_bytes text)
+IsRefusalFor (Err e) o = ⊥

@@ -1,10 +1,9 @@
-//! How a fault of the text is told: its line and its kind.
+//! The names of the kinds of faults.
 
-ghost use Rattle.std.specs.Prelude.{◌≡◌, IfOk};
-ghost use Rattle.answer_kit.specs.Kinds.{name_of_kind, line_reason};
+ghost use Rattle.std.specs.Prelude.{◌≡◌};
+ghost use Rattle.answer_kit.specs.Kinds.{name_of_kind};
 
 use cfg_ast::Kind;
-use std::alloc::{AllocError, Global};
 
 /// The name of a kind of fault.
 pub fn name_of_kind(kind: Kind) -> &'static str
@@ -41,13 +40,4 @@ pub fn name_of_kind(kind: Kind) -> &'static str
         Kind::PrependForm => "PrependForm",
         Kind::PrependIn => "PrependIn",
     }
-}
-
-/// A line and a kind as the reason of a refusal.
-pub fn line_reason(alloc: Global, line: u32, kind: Kind) -> Result<Vec<u8>, AllocError>
-    ensures { IfOk result (λ bytes. bytes.items ≡ line_reason line kind) }
-{
-    let name = name_of_kind(kind);
-    let text = format!(in alloc; "line {line}: {name}")?;
-    Ok(text.into_bytes())
 }

@@ -1,9 +1,8 @@
 //! What a command has come to, before it is told.
 
-ghost use Rattle.answer_kit.specs.Outcome.{refused};
-ghost use Rattle.answer_kit.specs.Replies.{Answers, Only};
+ghost use Rattle.answer_kit.specs.Replies.{Answers, IsRefusalFor};
 
-use std::alloc::Global;
+use std::alloc::AllocError;
 
 /// What a command has come to, before it is told.
 #[derive(Drop)]
@@ -24,12 +23,12 @@ pub enum Reply {
     NoMemory,
 }
 
-/// A refusal for this reason.
-pub fn refusal(alloc: Global, reason: &str) -> Reply
-    ensures { Answers result (Only (refused reason.now)) ⊥ ⊥ }
+/// The refusal for this reason, or want of memory where there was none to write it.
+pub fn refuse(reason: Result<String, AllocError>) -> Reply
+    ensures { Answers result (IsRefusalFor reason) ⊥ ⊥ }
 {
-    match Vec::from_slice(alloc, reason.as_bytes()) {
-        Ok(bytes) => Reply::Refusal(bytes),
+    match reason {
+        Ok(text) => Reply::Refusal(text.into_bytes()),
         Err(_) => Reply::NoMemory,
     }
 }

@@ -5,7 +5,7 @@ ghost use Rattle.io_kit.specs.Ends.{Rose};
 ghost use Rattle.answer_kit.specs.Replies.{Answers};
 ghost use Rattle.answer_kit.specs.SecondFiles.{IsOfSecond, AllowsNoText};
 
-use crate::reply::{Reply, refusal};
+use crate::reply::{Reply, refuse};
 use io_kit::{InFault, Source, read_all};
 use std::alloc::Global;
 
@@ -25,7 +25,7 @@ pub fn read_second<S: Source>(
 {
     match read_all(alloc, files, name, limit) {
         Ok(bytes) => Ok(bytes),
-        Err(InFault::TooLong) => Err(refusal(alloc, long)),
+        Err(InFault::TooLong) => Err(refuse(format!(in alloc; "{long}"))),
         Err(InFault::Failed) => Err(Reply::SecondFailed),
         Err(InFault::Memory) => Err(Reply::NoMemory),
     }

@@ -1,6 +1,6 @@
 //! The labels that a second file gives, or their refusal.
 
-ghost use Rattle.std.specs.Prelude.{◌≡◌, ◌≤◌, ◌<◌, ◌^◌, ℕ, List, length, IfOk, IfErr, IfSome};
+ghost use Rattle.std.specs.Prelude.{◌≡◌, ◌≤◌, ◌<◌, ℕ, List, length, IfOk, IfErr, IfSome};
 ghost use Rattle.io_kit.specs.Ends.{Rose};
 ghost use Rattle.srp_core.specs.Stability.{AreLabels};
 ghost use Rattle.solution_text.specs.Solutions.{labels_of_text};
@@ -9,12 +9,12 @@ ghost use Rattle.answer_kit.specs.Outcome.{refused};
 ghost use Rattle.answer_kit.specs.Replies.{Answers, Only};
 ghost use Rattle.answer_kit.specs.SecondFiles.{name_of_solution_kind, solution_reason, solution_limit, IsOfLabelsIn, IsOfSolution, AllowsNoLabels, GivesLabels};
 
-use crate::reply::Reply;
+use crate::reply::{Reply, refuse};
 use crate::second::read_second;
 use io_kit::Source;
 use solution_text::{SolKind, SolRefusal, read_labels};
 use srp_core::{Labels, Srp};
-use std::alloc::{AllocError, Global};
+use std::alloc::Global;
 
 // A solution has at most this many bytes.
 const SOLUTION_LIMIT: usize = 268_435_456;
@@ -31,22 +31,12 @@ fn name_of_kind(kind: SolKind) -> &'static str
     }
 }
 
-fn reason(alloc: Global, line: u32, kind: SolKind) -> Result<Vec<u8>, AllocError>
-    ensures { IfOk result (λ bytes. bytes.items ≡ solution_reason line kind) }
-{
-    let name = name_of_kind(kind);
-    let text = format!(in alloc; "solution line {line}: {name}")?;
-    Ok(text.into_bytes())
-}
-
 // The refusal of a solution, by its line and kind.
 fn solution_refusal(alloc: Global, line: u32, kind: SolKind) -> Reply
     ensures { Answers result (Only (refused (solution_reason line kind))) ⊥ ⊥ }
 {
-    match reason(alloc, line, kind) {
-        Ok(bytes) => Reply::Refusal(bytes),
-        Err(_) => Reply::NoMemory,
-    }
+    let name = name_of_kind(kind);
+    refuse(format!(in alloc; "solution line {line}: {name}"))
 }
 
 // The labels of a text.

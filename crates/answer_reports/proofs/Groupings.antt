@@ -1,47 +1,48 @@
 -- The report on a grouping is that on the plan of its class.
-use Rattle.std.proofs.Common.{◌≡◌, ℕ, List, ◌++◌, length, refl, ap, ◌∙◌}
+use Rattle.std.proofs.Common.{◌≡◌, ℕ, List, ◌++◌, length, refl, sym, ap, ◌∙◌, subst}
 use Rattle.base_kit.specs.Partition.{IsNumbered}
 use Rattle.cfg_ast.specs.declared.network.Network.{Network}
 use Rattle.cfg_ast.specs.declared.classes.DestClass.{DestClass}
 use Rattle.cfg_ast.specs.meaning.Topology.{links_of, unmatched_of}
 use Rattle.cfg_ast.specs.declared.topology.Unmatched.{Unmatched}
-use Rattle.config_emit.specs.Plan.{Plan}
 use Rattle.compress_laws.specs.Built.{IsPlanOf}
-use Rattle.srp_core.specs.Problem.{count}
+use Rattle.srp_build.specs.Built.{IsBuiltFor}
+use Rattle.srp_core.specs.Problem.{Problem, count}
+use Rattle.driver.specs.declared.grouping.Grouping.{Grouping}
+use Rattle.driver.specs.Steps.{IsGroupingOf}
+use Rattle.driver.proofs.Emitting.{plan_by}
 use Rattle.group_report.specs.Reports.{Report, HasReport, count_line}
 use Rattle.answer_kit.specs.Outcome.{done}
-use Rattle.answer_reports.specs.declared.grouping.Grouping.{Grouping}
-use Rattle.answer_reports.specs.Groupings.{IsGroupingOf}
 use Rattle.answer_reports.specs.ReportAnswers.{IsReported}
 use Rattle.answer_reports.specs.Summaries.{HasLineOf}
 
--- the plan of a grouping with so many groups
-abbrev pub plan_by : Network → DestClass → Grouping → ℕ → Plan
-plan_by network class g count = record { network = network; class = class; problem = g.problem; groups = g.groups; count = count; links = g.quotient.links }
-
-pub is_plan : (network : Network) (class : DestClass) (g : Grouping) (count : ℕ) → IsGroupingOf network class g → IsNumbered g.groups count → IsPlanOf network class (plan_by network class g count)
-is_plan network class g count is numbered = record {
+is_plan : (network : Network) (class : DestClass) (problem : Problem) (g : Grouping) (count : ℕ) → IsBuiltFor network class problem → IsGroupingOf problem g
+    → IsNumbered g.groups count → IsPlanOf network class (plan_by network class g count)
+is_plan network class problem g count built is numbered = record {
   network_is = refl;
   class_is = refl;
-  built = is.built;
+  built = subst (IsBuiltFor network class) (sym is.problem_is) built;
   coarsest = is.coarsest;
   numbered = numbered;
   links = is.links count numbered;
 }
 
-pub reported : (text : Report → List ℕ) (network : Network) (number : ℕ) (class : DestClass) (g : Grouping) (before : ℕ) (neighbors : List Unmatched) (bytes : List ℕ) → IsGroupingOf network class g
+pub reported : (text : Report → List ℕ) (network : Network) (number : ℕ) (class : DestClass) (problem : Problem) (g : Grouping)
+    (before : ℕ) (neighbors : List Unmatched) (bytes : List ℕ)
+    → IsBuiltFor network class problem → IsGroupingOf problem g
     → before ≡ length (links_of network) → neighbors ≡ unmatched_of network → HasReport (λ r. bytes ≡ text r) number g.problem before g.groups g.quotient.links neighbors → IsReported text network number class (done bytes)
-reported text network number class g before neighbors bytes is links those has = record {
+reported text network number class problem g before neighbors bytes built is links those has = record {
   plan = plan_by network class g has.group_count;
-  is = is_plan network class g has.group_count is has.numbered;
+  is = is_plan network class problem g has.group_count built is has.numbered;
   written = ap done (has.said ∙ (λ j. text (record { class_number = number; problem = g.problem; links_before = links j; groups = g.groups; group_count = has.group_count; links = g.quotient.links; unmatched = those j })));
 }
 
 -- the line of the counts of a grouping is that of the plan of its class
-pub counted : (network : Network) (number : ℕ) (class : DestClass) (g : Grouping) (routers before groups after : ℕ) (old new : List ℕ) → IsGroupingOf network class g → IsNumbered g.groups groups
+pub counted : (network : Network) (number : ℕ) (class : DestClass) (problem : Problem) (g : Grouping) (routers before groups after : ℕ) (old new : List ℕ)
+    → IsBuiltFor network class problem → IsGroupingOf problem g → IsNumbered g.groups groups
     → routers ≡ count g.problem → before ≡ length (links_of network) → after ≡ length g.quotient.links → new ≡ old ++ count_line number routers before groups after → HasLineOf network number class old new
-counted network number class g routers before groups after old new is numbered same_routers same_before same_after line = record {
+counted network number class problem g routers before groups after old new built is numbered same_routers same_before same_after line = record {
   plan = plan_by network class g groups;
-  is = is_plan network class g groups is numbered;
+  is = is_plan network class problem g groups built is numbered;
   line = line ∙ (λ j. old ++ count_line number (same_routers j) (same_before j) groups (same_after j));
 }

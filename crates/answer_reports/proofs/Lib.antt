@@ -1,6 +1,5 @@
 mod Groupings
 mod OneAnswer
 mod OnePlan
-mod Readings
 mod Summaries
 mod Trials

@@ -1,13 +1,10 @@
 -- A command has one answer.
-use Rattle.std.proofs.Common.{◌≡◌, inl, inr, ℕ, Bool, true, false, List, [], ◌∷◌, refl, sym, ap, ◌∙◌, arith, Result, Ok, Err}
+use Rattle.std.proofs.Common.{◌≡◌, inl, inr, ℕ, Bool, true, false, List, [], ◌∷◌, refl, sym, ap, ◌∙◌}
 use Rattle.std.specs.Prelude.{Contains}
 use Rattle.base_kit.proofs.Elements.{In, contains_in}
 use Rattle.cfg_ast.specs.declared.network.Network.{Network}
 use Rattle.cfg_ast.specs.declared.classes.DestClass.{DestClass}
-use Rattle.cfg_ast.specs.declared.refusal.ReadRefusal.{ReadRefusal}
-use Rattle.cfg_ast.specs.declared.refusal.ReadRefusal.TheVariants as read_refusal
 use Rattle.cfg_ast.specs.meaning.Classes.{classes_of}
-use Rattle.cfg_ast.specs.text.Reading.{reading_of}
 use Rattle.config_emit.specs.Plan.{Plan}
 use Rattle.fat_gen.specs.FatTrees.{is_size, fat_tree_text}
 use Rattle.group_report.specs.Reports.{Report, report_text}
@@ -15,12 +12,13 @@ use Rattle.group_report.specs.JsonText.{json_text}
 use Rattle.answer_kit.specs.ClassNumbers.{class_at}
 use Rattle.answer_kit.specs.Outcome.{Outcome, done}
 use Rattle.answer_kit.proofs.OneClass.{IsOneOfEach, one_of_class}
+use Rattle.answer_kit.proofs.OneText.{one_of_network}
 use Rattle.class_laws.specs.Laws.{BuiltProblemIsOne}
 use Rattle.answer_reports.proofs.OnePlan.{one_plan}
 use Rattle.answer_reports.specs.OneAnswer.{ReportAnswerIsOne, JsonAnswerIsOne, SummaryAnswerIsOne, TrialAnswerIsOne}
 use Rattle.answer_reports.specs.ReportAnswers.{report_of, IsReported}
-use Rattle.answer_reports.specs.Summaries.{ArePlansOf, summary_lines}
-use Rattle.answer_reports.specs.Trials.{IsSummaryOfReading, IsSummaryOfText, IsTrialBy}
+use Rattle.answer_reports.specs.Summaries.{ArePlansOf, summary_lines, IsSummaryAnswer}
+use Rattle.answer_reports.specs.Trials.{IsTrialBy}
 
 one_report : BuiltProblemIsOne → (text : Report → List ℕ) (n : Network) (number : ℕ) → IsOneOfEach n (IsReported text n number)
 one_report law text n number class has o p x y =
@@ -49,19 +47,8 @@ summary_answer_is_one law n o p x y =
     let plans = one_list law n (classes_of n) x.lines.plans y.lines.plans (λ class there. contains_in (classes_of n) class there) x.lines.are y.lines.are in
     x.written ∙ ap done (x.lines.lines ∙ ap (summary_lines n 1) plans ∙ sym y.lines.lines) ∙ sym y.written
 
-one_of_reading : BuiltProblemIsOne → (r : Result Network ReadRefusal) (o p : Outcome) → IsSummaryOfReading r o → IsSummaryOfReading r p → o ≡ p
-one_of_reading law (Ok n) o p x y = summary_answer_is_one law n o p x y
-one_of_reading law (Err (read_refusal.At line kind)) o p x y = x ∙ sym y
-one_of_reading law (Err read_refusal.Memory) o p x y = absurd x
-
-one_of_text : BuiltProblemIsOne → (text : List ℕ) (o p : Outcome) → IsSummaryOfText text o → IsSummaryOfText text p → o ≡ p
-one_of_text law text o p (inl x) (inl y) = x.1 ∙ sym y.1
-one_of_text law text o p (inl x) (inr y) = absurd (omega (arith, x.0, y.0))
-one_of_text law text o p (inr x) (inl y) = absurd (omega (arith, x.0, y.0))
-one_of_text law text o p (inr x) (inr y) = one_of_reading law (reading_of text) o p x.1 y.1
-
 one_trial : BuiltProblemIsOne → (is : Bool) (size : ℕ) (o p : Outcome) → IsTrialBy is size o → IsTrialBy is size p → o ≡ p
-one_trial law true size o p x y = one_of_text law (fat_tree_text size) o p x y
+one_trial law true size o p x y = one_of_network IsSummaryAnswer (summary_answer_is_one law) (fat_tree_text size) o p x y
 one_trial law false size o p x y = x ∙ sym y
 
 pub trial_answer_is_one : BuiltProblemIsOne → TrialAnswerIsOne

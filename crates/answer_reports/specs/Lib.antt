@@ -1,4 +1,3 @@
-pub mod Groupings
 pub mod OneAnswer
 pub mod ReportAnswers
 pub mod Summaries

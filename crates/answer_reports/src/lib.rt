@@ -5,9 +5,7 @@
 //! says that there is one such outcome.
 #![tactic(auto)]
 
-mod grouping;
 pub mod laws;
-mod links;
 pub mod report;
 pub mod summary;
 pub mod trial;

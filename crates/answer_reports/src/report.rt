@@ -3,20 +3,17 @@
 ghost use Rattle.std.specs.Prelude.{◌≡◌, IfOk, Contains};
 ghost use Rattle.cfg_ast.specs.meaning.Classes.{classes_of};
 ghost use Rattle.group_report.specs.Reports.{HasReport};
-ghost use Rattle.answer_kit.specs.ClassNumbers.{class_at, IsOfClass};
 ghost use Rattle.answer_kit.specs.Outcome.{done};
 ghost use Rattle.answer_kit.specs.Replies.{Answers};
-ghost use Rattle.answer_reports.specs.ReportAnswers.{text_in, IsReported, IsReportAnswer, IsJsonAnswer};
+ghost use Rattle.answer_reports.specs.ReportAnswers.{text_in, IsReported};
 
-use crate::grouping::{Grouping, grouping_alone};
-use crate::links::count_of;
-use answer_kit::{Reply, class_at, no_class};
+use answer_kit::Reply;
 use base_kit::{List, NoMemory};
 use cfg_ast::{DestClass, Unmatched};
 use cfg_check::Checked;
-use dest_classes::classes;
+use driver::{Grouping, Shared, grouped};
 use group_report::{json, report};
-use net_topology::{links, unmatched};
+use net_topology::unmatched;
 use std::alloc::Global;
 
 /// How a report is written: as lines of text, or as one line of JSON.
@@ -59,21 +56,17 @@ fn text_of_class(
     requires { Contains (classes_of checked.now.network) class.now }
     ensures { IfOk result (λ bytes. IsReported (text_in form) checked.now.network number class.now (done bytes.items)) }
 {
-    let links = links(alloc, checked)?;
     let unmatched = unmatched(alloc, checked)?;
-    let grouping = grouping_alone(alloc, checked, &links, class)?;
-    let before = count_of(checked, &links);
+    let mut shared = Shared::of(alloc, checked)?;
+    let before = shared.link_count(checked);
+    let problem = shared.problem(alloc, checked, class)?;
+    let grouping = grouped(alloc, problem)?;
     let bytes = written(alloc, form, number, before, &grouping, &unmatched)?;
     Ok(bytes)
 }
 
-fn answer_of_class(
-    alloc: Global,
-    form: Form,
-    checked: &Checked,
-    number: u32,
-    class: &DestClass,
-) -> Reply
+/// The report on the groups of a class, which has this number.
+pub fn answer(alloc: Global, form: Form, checked: &Checked, number: u32, class: &DestClass) -> Reply
     requires { Contains (classes_of checked.now.network) class.now }
     ensures { Answers result (IsReported (text_in form) checked.now.network number class.now) ⊥ ⊥ }
 {
@@ -81,30 +74,4 @@ fn answer_of_class(
         Ok(bytes) => Reply::Output(bytes),
         Err(NoMemory) => Reply::NoMemory,
     }
-}
-
-fn answer_in(alloc: Global, form: Form, checked: &Checked, number: u32) -> Reply
-    ensures { Answers result (IsOfClass (class_at (classes_of checked.now.network) number) number (IsReported (text_in form) checked.now.network number)) ⊥ ⊥ }
-{
-    let Ok(classes) = classes(alloc, checked) else {
-        return Reply::NoMemory;
-    };
-    match class_at(classes.as_slice(), number) {
-        Some(class) => answer_of_class(alloc, form, checked, number, class),
-        None => no_class(alloc, number),
-    }
-}
-
-/// The report on the groups of the class of this number, as lines of text.
-pub fn answer(alloc: Global, checked: &Checked, number: u32) -> Reply
-    ensures { Answers result (IsReportAnswer checked.now.network number) ⊥ ⊥ }
-{
-    answer_in(alloc, Form::Lines, checked, number)
-}
-
-/// The report on the groups of the class of this number, as one line of JSON.
-pub fn json_answer(alloc: Global, checked: &Checked, number: u32) -> Reply
-    ensures { Answers result (IsJsonAnswer checked.now.network number) ⊥ ⊥ }
-{
-    answer_in(alloc, Form::Json, checked, number)
 }

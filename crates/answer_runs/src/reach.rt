@@ -10,15 +10,15 @@ ghost use Rattle.route_run.specs.Schedules.{routers_of, run_of, IsSingle};
 ghost use Rattle.answer_kit.specs.Outcome.{done};
 ghost use Rattle.answer_kit.specs.Replies.{Answers};
 ghost use Rattle.answer_kit.specs.SecondFiles.{IsOfSolution};
-ghost use Rattle.answer_runs.specs.Reaches.{name_lines, IsOrderTold, IsReach, IsReachOf, IsReachAnswer};
+ghost use Rattle.answer_runs.specs.Reaches.{name_lines, IsOrderTold, IsReach, IsReachOf};
 
 use crate::name::name_of;
-use answer_kit::{Reply, class_at, no_class, problem_of_class, solution_of};
+use answer_kit::{Reply, solution_of};
 use answer_solutions::breaks::broken;
 use base_kit::NoMemory;
 use cfg_ast::DestClass;
 use cfg_check::Checked;
-use dest_classes::classes;
+use driver::problem_of_class;
 use io_kit::Source;
 use route_run::{Activation, reach};
 use solution_check::{Answer, check};
@@ -97,8 +97,9 @@ fn answer_of_problem<S: Source>(alloc: Global, problem: &Srp, second: &str, file
     }
 }
 
-// The order of the solution of a class.
-fn answer_of_class<S: Source>(
+/// The order of the solution in the second file, of a class, a name a line. Run from no labels it leads to
+/// a solution in which each router has the same key.
+pub fn answer<S: Source>(
     alloc: Global,
     checked: &Checked,
     class: &DestClass,
@@ -113,27 +114,5 @@ fn answer_of_class<S: Source>(
     match problem_of_class(alloc, checked, class) {
         Ok(problem) => answer_of_problem(alloc, &problem, second, files),
         Err(NoMemory) => Reply::NoMemory,
-    }
-}
-
-/// The order of the solution in the second file, of the class of this number, a name a line. Run from no
-/// labels it leads to a solution in which each router has the same key.
-pub fn answer<S: Source>(
-    alloc: Global,
-    checked: &Checked,
-    number: u32,
-    second: &str,
-    files: &mut S,
-) -> Reply
-    ensures answers { Answers result (IsReachAnswer checked.now.network number (S.contents files.old second.now)) ⊥ (Rose (S.faults files.old second.now) (S.faults files.new second.now)) }
-    ensures contents { S.contents files.new ≡ S.contents files.old }
-    ensures later { (n : List ℕ) → S.faults files.old n ≤ S.faults files.new n }
-{
-    let Ok(classes) = classes(alloc, checked) else {
-        return Reply::NoMemory;
-    };
-    match class_at(classes.as_slice(), number) {
-        Some(class) => answer_of_class(alloc, checked, class, second, files),
-        None => no_class(alloc, number),
     }
 }

@@ -10,14 +10,14 @@ ghost use Rattle.route_run.specs.Schedules.{run_of};
 ghost use Rattle.answer_kit.specs.Outcome.{done, refused};
 ghost use Rattle.answer_kit.specs.Replies.{Answers, Only};
 ghost use Rattle.answer_kit.specs.SecondFiles.{IsOfSecond};
-ghost use Rattle.answer_runs.specs.Schedules.{schedule_limit, long_schedule, schedule_reason, rest_line, IsRest, IsOfSchedule, IsRunOf, IsRunAnswer};
+ghost use Rattle.answer_runs.specs.Schedules.{schedule_limit, long_schedule, schedule_reason, rest_line, IsRest, IsOfSchedule, IsRunOf};
 
 use crate::name::name_of;
-use answer_kit::{Reply, class_at, no_class, problem_of_class, read_second};
+use answer_kit::{Reply, read_second, refuse};
 use base_kit::{List, NoMemory};
 use cfg_ast::DestClass;
 use cfg_check::Checked;
-use dest_classes::classes;
+use driver::problem_of_class;
 use io_kit::Source;
 use route_run::{Activation, ScheduleRefusal, moving, read_schedule, run_schedule};
 use solution_text::print_labels;
@@ -68,21 +68,11 @@ fn ran(alloc: Global, problem: &Srp, schedule: &List<Activation>) -> Reply
     }
 }
 
-fn reason(alloc: Global, line: u32) -> Result<Vec<u8>, AllocError>
-    ensures { IfOk result (λ bytes. bytes.items ≡ schedule_reason line) }
-{
-    let text = format!(in alloc; "schedule line {line}: UnknownRouter")?;
-    Ok(text.into_bytes())
-}
-
 // The refusal of a schedule, by its line.
 fn schedule_refusal(alloc: Global, line: u32) -> Reply
     ensures { Answers result (Only (refused (schedule_reason line))) ⊥ ⊥ }
 {
-    match reason(alloc, line) {
-        Ok(bytes) => Reply::Refusal(bytes),
-        Err(_) => Reply::NoMemory,
-    }
+    refuse(format!(in alloc; "schedule line {line}: UnknownRouter"))
 }
 
 // Runs the schedule of a text.
@@ -110,8 +100,9 @@ fn answer_of_problem<S: Source>(alloc: Global, problem: &Srp, second: &str, file
     }
 }
 
-// Runs the schedule on a class.
-fn answer_of_class<S: Source>(
+/// Runs the schedule in the second file on a class, from no labels: whether the labels are at rest behind
+/// it, and the labels.
+pub fn answer<S: Source>(
     alloc: Global,
     checked: &Checked,
     class: &DestClass,
@@ -126,27 +117,5 @@ fn answer_of_class<S: Source>(
     match problem_of_class(alloc, checked, class) {
         Ok(problem) => answer_of_problem(alloc, &problem, second, files),
         Err(NoMemory) => Reply::NoMemory,
-    }
-}
-
-/// Runs the schedule in the second file on the class of this number, from no labels: whether the labels
-/// are at rest behind it, and the labels.
-pub fn answer<S: Source>(
-    alloc: Global,
-    checked: &Checked,
-    number: u32,
-    second: &str,
-    files: &mut S,
-) -> Reply
-    ensures answers { Answers result (IsRunAnswer checked.now.network number (S.contents files.old second.now)) ⊥ (Rose (S.faults files.old second.now) (S.faults files.new second.now)) }
-    ensures contents { S.contents files.new ≡ S.contents files.old }
-    ensures later { (n : List ℕ) → S.faults files.old n ≤ S.faults files.new n }
-{
-    let Ok(classes) = classes(alloc, checked) else {
-        return Reply::NoMemory;
-    };
-    match class_at(classes.as_slice(), number) {
-        Some(class) => answer_of_class(alloc, checked, class, second, files),
-        None => no_class(alloc, number),
     }
 }

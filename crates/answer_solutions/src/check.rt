@@ -5,18 +5,18 @@ ghost use Rattle.cfg_ast.specs.meaning.Classes.{classes_of};
 ghost use Rattle.io_kit.specs.Ends.{Rose};
 ghost use Rattle.srp_core.specs.Stability.{AreLabels};
 ghost use Rattle.base_kit.specs.Names.{AreApart};
-ghost use Rattle.answer_solutions.specs.Checks.{IsJudgement, IsCheckOf, IsCheckAnswer};
+ghost use Rattle.answer_solutions.specs.Checks.{IsJudgement, IsCheckOf};
 ghost use Rattle.answer_kit.specs.Groups.{IsProblemOfClass};
 ghost use Rattle.answer_kit.specs.Outcome.{done};
 ghost use Rattle.answer_kit.specs.Replies.{Answers, Only};
 ghost use Rattle.answer_kit.specs.SecondFiles.{IsOfSolution};
 
 use crate::breaks::broken;
-use answer_kit::{Reply, class_at, no_class, problem_of_class, solution_of};
+use answer_kit::{Reply, solution_of};
 use base_kit::NoMemory;
 use cfg_ast::DestClass;
 use cfg_check::Checked;
-use dest_classes::classes;
+use driver::problem_of_class;
 use io_kit::Source;
 use solution_check::{Answer, check};
 use srp_core::{Labels, Srp};
@@ -56,8 +56,8 @@ fn answer_of_problem<S: Source>(alloc: Global, problem: &Srp, second: &str, file
     }
 }
 
-// Judges the solution of a class.
-fn answer_of_class<S: Source>(
+/// Judges the solution in the second file, of a class.
+pub fn answer<S: Source>(
     alloc: Global,
     checked: &Checked,
     class: &DestClass,
@@ -72,26 +72,5 @@ fn answer_of_class<S: Source>(
     match problem_of_class(alloc, checked, class) {
         Ok(problem) => answer_of_problem(alloc, &problem, second, files),
         Err(NoMemory) => Reply::NoMemory,
-    }
-}
-
-/// Judges the solution of the class of this number.
-pub fn answer<S: Source>(
-    alloc: Global,
-    checked: &Checked,
-    number: u32,
-    second: &str,
-    files: &mut S,
-) -> Reply
-    ensures answers { Answers result (IsCheckAnswer checked.now.network number (S.contents files.old second.now)) ⊥ (Rose (S.faults files.old second.now) (S.faults files.new second.now)) }
-    ensures contents { S.contents files.new ≡ S.contents files.old }
-    ensures later { (n : List ℕ) → S.faults files.old n ≤ S.faults files.new n }
-{
-    let Ok(classes) = classes(alloc, checked) else {
-        return Reply::NoMemory;
-    };
-    match class_at(classes.as_slice(), number) {
-        Some(class) => answer_of_class(alloc, checked, class, second, files),
-        None => no_class(alloc, number),
     }
 }

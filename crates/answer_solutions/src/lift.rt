@@ -8,16 +8,15 @@ ghost use Rattle.srp_core.specs.Stability.{AreLabels, IsStable};
 ghost use Rattle.base_kit.specs.Names.{AreApart};
 ghost use Rattle.answer_kit.specs.Replies.{Answers};
 ghost use Rattle.answer_kit.specs.SecondFiles.{IsOfSolution};
-ghost use Rattle.answer_solutions.specs.Carries.{AreSides, IsLifted, IsLiftOfLabels, IsLiftOf, IsLiftAnswer};
+ghost use Rattle.answer_solutions.specs.Carries.{AreSides, IsLifted, IsLiftOfLabels, IsLiftOf};
 
 use crate::breaks::broken;
 use crate::printing::printed;
 use crate::sides::{Sides, sides_of};
-use answer_kit::{Reply, class_at, no_class, solution_of};
+use answer_kit::{Reply, solution_of};
 use base_kit::NoMemory;
 use cfg_ast::DestClass;
 use cfg_check::Checked;
-use dest_classes::classes;
 use io_kit::Source;
 use solution_check::{Answer, check};
 use solution_lift::lift_from;
@@ -67,8 +66,9 @@ fn answer_of_sides<S: Source>(alloc: Global, sides: &Sides, second: &str, files:
     }
 }
 
-// The labels of the routers of a class.
-fn answer_of_class<S: Source>(
+/// Labels of the routers for the solution of the groups in the second file, of a class, in the order of the
+/// routers.
+pub fn answer<S: Source>(
     alloc: Global,
     checked: &Checked,
     class: &DestClass,
@@ -84,27 +84,5 @@ fn answer_of_class<S: Source>(
     match sides_of(alloc, checked, class) {
         Ok(sides) => answer_of_sides(alloc, &sides, second, files),
         Err(NoMemory) => Reply::NoMemory,
-    }
-}
-
-/// Writes labels of the routers for a solution of the groups of the class of this number, in the order of
-/// the routers.
-pub fn answer<S: Source>(
-    alloc: Global,
-    checked: &Checked,
-    number: u32,
-    second: &str,
-    files: &mut S,
-) -> Reply
-    ensures answers { Answers result (IsLiftAnswer checked.now.network number (S.contents files.old second.now)) ⊥ (Rose (S.faults files.old second.now) (S.faults files.new second.now)) }
-    ensures contents { S.contents files.new ≡ S.contents files.old }
-    ensures later { (n : List ℕ) → S.faults files.old n ≤ S.faults files.new n }
-{
-    let Ok(classes) = classes(alloc, checked) else {
-        return Reply::NoMemory;
-    };
-    match class_at(classes.as_slice(), number) {
-        Some(class) => answer_of_class(alloc, checked, class, second, files),
-        None => no_class(alloc, number),
     }
 }

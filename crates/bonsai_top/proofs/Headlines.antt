@@ -16,6 +16,8 @@ use Rattle.compress_laws.specs.Laws.{compressed_text, PlanCompresses}
 use Rattle.io_kit.specs.Ends.{with_end}
 use Rattle.reading_laws.specs.WellRead.{IsRead}
 use Rattle.reading_laws.proofs.WellRead.{reads_well}
+use Rattle.bonsai_top.specs.declared.command.ClassCommand.TheVariants as on_class
+use Rattle.bonsai_top.specs.declared.command.SecondCommand.TheVariants as on_second
 use Rattle.bonsai_top.specs.declared.command.Command.{Command}
 use Rattle.bonsai_top.specs.declared.command.Command.TheVariants as command
 use Rattle.answer_kit.specs.declared.status.Status.{Status}
@@ -130,25 +132,30 @@ module _ (words : List (List ℕ)) (contents : List ℕ → Option (List ℕ)) (
 
   -- ---- compress
 
-  pub headline : PlanCompresses → (number : ℕ) → command_of words ≡ Some (command.Compress number) → (text before : List ℕ) → contents (file_of words) ≡ Some text → out_old ≡ Some before → IsHeadline text number before out_new
+  pub headline : PlanCompresses → (number : ℕ) → command_of words ≡ Some (command.OnClass on_class.Compress number) → (text before : List ℕ)
+      → contents (file_of words) ≡ Some text → out_old ≡ Some before → IsHeadline text number before out_new
   headline compresses number names text before told taken =
-      let h = has_told (command.Compress number) refl names text before told taken in
+      let h = has_told (command.OnClass on_class.Compress number) refl names text before told taken in
       let n = h.answer.network in
       let b = has_bytes compresses text n h.answer.read number h.outcome h.status (class_at (classes_of n) number) refl h.answer.answer in
       record { network = n; reads = h.answer.reads; class = b.class; class_is = b.class_is; bytes = h.outcome.out; took = h.took; compresses = b.compresses }
 
   -- ---- fold and lift
 
-  pub folded : FoldIsReadBack → (number : ℕ) → command_of words ≡ Some (command.Fold number) → (text solution before : List ℕ) → contents (file_of words) ≡ Some text → contents (second_of words) ≡ Some solution → out_old ≡ Some before → IsCarriedDown text solution number before out_new
+  pub folded : FoldIsReadBack → (number : ℕ) → command_of words ≡ Some (command.OnSecond on_second.Fold number) → (text solution before : List ℕ)
+      → contents (file_of words) ≡ Some text → contents (second_of words) ≡ Some solution → out_old ≡ Some before
+      → IsCarriedDown text solution number before out_new
   folded reads number names text solution before told also taken =
-      let h = has_told (command.Fold number) refl names text before told taken in
+      let h = has_told (command.OnSecond on_second.Fold number) refl names text before told taken in
       let n = h.answer.network in
       let answer = subst (λ (c : Option (List ℕ)). IsFoldAnswer n number c h.outcome) also h.answer.answer in
       record { network = n; reads = h.answer.reads; bytes = h.outcome.out; took = h.took; carried = reads n ∣ (text, h.answer.read.given) ∣₁ h.answer.read.faultless number solution h.outcome.out (subst (IsFoldAnswer n number (Some solution)) (fold_is_done n number solution h.outcome h.status answer) answer) }
 
-  pub lifted : LiftIsReadBack → (number : ℕ) → command_of words ≡ Some (command.Lift number) → (text solution before : List ℕ) → contents (file_of words) ≡ Some text → contents (second_of words) ≡ Some solution → out_old ≡ Some before → IsCarriedUp text solution number before out_new
+  pub lifted : LiftIsReadBack → (number : ℕ) → command_of words ≡ Some (command.OnSecond on_second.Lift number) → (text solution before : List ℕ)
+      → contents (file_of words) ≡ Some text → contents (second_of words) ≡ Some solution → out_old ≡ Some before
+      → IsCarriedUp text solution number before out_new
   lifted reads number names text solution before told also taken =
-      let h = has_told (command.Lift number) refl names text before told taken in
+      let h = has_told (command.OnSecond on_second.Lift number) refl names text before told taken in
       let n = h.answer.network in
       let answer = subst (λ (c : Option (List ℕ)). IsLiftAnswer n number c h.outcome) also h.answer.answer in
       record { network = n; reads = h.answer.reads; bytes = h.outcome.out; took = h.took; carried = reads n ∣ (text, h.answer.read.given) ∣₁ h.answer.read.faultless number solution h.outcome.out (subst (IsLiftAnswer n number (Some solution)) (lift_is_done n number solution h.outcome h.status answer) answer) }

@@ -4,7 +4,5 @@ mod Headlines
 mod Lines
 mod Named
 mod OneOutcome
-mod Readings
-mod Refusals
 mod Runs
 mod Texts

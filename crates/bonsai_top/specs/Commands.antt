@@ -1,67 +1,75 @@
--- The commands, and which of the files that the words name each of them reads.
-use Rattle.std.specs.Prelude.{◌≡◌, ℕ, Bool, true, false, List, Option, Some, None}
-use Rattle.std.specs.Option.{option_and_then}
+-- The commands, by the words that name them, and which of the files that the words name each of them reads.
+use Rattle.std.specs.Prelude.{◌≡◌, ℕ, Bool, true, false, List, [], ◌∷◌, codes, Option, Some, None, if◌then◌else◌}
+use Rattle.std.specs.Str.{bytes_eq}
+use Rattle.std.specs.Option.{option_map, option_and_then}
 use Rattle.io_kit.specs.Ends.{Rose}
-use Rattle.bonsai_top.specs.declared.command.Form.{Form}
-use Rattle.bonsai_top.specs.declared.command.Form.TheVariants as form
+use Rattle.bonsai_top.specs.declared.command.NetworkCommand.{NetworkCommand}
+use Rattle.bonsai_top.specs.declared.command.NetworkCommand.TheVariants as on_network
+use Rattle.bonsai_top.specs.declared.command.ClassCommand.{ClassCommand}
+use Rattle.bonsai_top.specs.declared.command.ClassCommand.TheVariants as on_class
+use Rattle.bonsai_top.specs.declared.command.SecondCommand.{SecondCommand}
+use Rattle.bonsai_top.specs.declared.command.SecondCommand.TheVariants as on_second
 use Rattle.bonsai_top.specs.declared.command.Command.{Command}
 use Rattle.bonsai_top.specs.declared.command.Command.TheVariants as command
-use Rattle.bonsai_top.specs.Words.{form_of}
+use Rattle.bonsai_top.specs.Words.{short_number_of}
 
--- The command of a form. A form whose command is not built yet names none.
-abbrev pub built : Form → Option Command
-built form.Classes = Some command.Classes
-built (form.Groups class) = Some (command.Groups class)
-built (form.Compress class) = Some (command.Compress class)
-built (form.Check class) = Some (command.Check class)
-built (form.Fold class) = Some (command.Fold class)
-built (form.Lift class) = Some (command.Lift class)
-built (form.Report class) = Some (command.Report class)
-built (form.Json class) = Some (command.Json class)
-built form.Summary = Some command.Summary
-built (form.Trial size) = Some (command.Trial size)
-built (form.Run class) = Some (command.Run class)
-built (form.Reach class) = Some (command.Reach class)
-built (form.Certify class) = Some (command.Certify class)
-built (form.Verify class) = Some (command.Verify class)
-built other = None
+-- the commands on a network
+abbrev pub network_command : List ℕ → Option NetworkCommand
+network_command name =
+    if bytes_eq name (codes "classes") then Some on_network.Classes else
+    (if bytes_eq name (codes "summary") then Some on_network.Summary else None)
+
+-- the commands on a class
+abbrev pub class_command : List ℕ → Option ClassCommand
+class_command name =
+    if bytes_eq name (codes "groups") then Some on_class.Groups else
+    (if bytes_eq name (codes "compress") then Some on_class.Compress else
+    (if bytes_eq name (codes "report") then Some on_class.Report else
+    (if bytes_eq name (codes "json") then Some on_class.Json else
+    (if bytes_eq name (codes "certify") then Some on_class.Certify else None))))
+
+-- the commands on a class and a second file
+abbrev pub second_command : List ℕ → Option SecondCommand
+second_command name =
+    if bytes_eq name (codes "check") then Some on_second.Check else
+    (if bytes_eq name (codes "fold") then Some on_second.Fold else
+    (if bytes_eq name (codes "lift") then Some on_second.Lift else
+    (if bytes_eq name (codes "run") then Some on_second.Run else
+    (if bytes_eq name (codes "reach") then Some on_second.Reach else
+    (if bytes_eq name (codes "verify") then Some on_second.Verify else None)))))
+
+-- a command and one word: a file, or the size of a fat tree
+abbrev pub command_on_word : List ℕ → List ℕ → Option Command
+command_on_word name word =
+    if bytes_eq name (codes "trial") then option_map command.Trial (short_number_of word) else option_map command.OnNetwork (network_command name)
+
+-- a command, a file and the number of a class
+abbrev pub command_on_class : List ℕ → List ℕ → Option Command
+command_on_class name class = option_and_then (λ of. option_map (command.OnClass of) (short_number_of class)) (class_command name)
+
+-- a command, a file, the number of a class and a second file
+abbrev pub command_on_second : List ℕ → List ℕ → Option Command
+command_on_second name class = option_and_then (λ of. option_map (command.OnSecond of) (short_number_of class)) (second_command name)
 
 -- the command that the words name
 unfoldable pub command_of : List (List ℕ) → Option Command
-command_of words = option_and_then built (form_of words)
+command_of (name ∷ word ∷ []) = command_on_word name word
+command_of (name ∷ file ∷ class ∷ []) = command_on_class name class
+command_of (name ∷ file ∷ class ∷ second ∷ []) = command_on_second name class
+command_of words = None
 
 -- whether a command reads the first file
 abbrev pub reads_first : Command → Bool
-reads_first command.Classes = true
-reads_first (command.Groups class) = true
-reads_first (command.Compress class) = true
-reads_first (command.Check class) = true
-reads_first (command.Fold class) = true
-reads_first (command.Lift class) = true
-reads_first (command.Certify class) = true
-reads_first (command.Verify class) = true
-reads_first (command.Run class) = true
-reads_first (command.Reach class) = true
-reads_first (command.Report class) = true
-reads_first (command.Json class) = true
-reads_first command.Summary = true
+reads_first (command.OnNetwork of) = true
+reads_first (command.OnClass of number) = true
+reads_first (command.OnSecond of number) = true
 reads_first (command.Trial size) = false
 
 -- whether it reads the second one
 abbrev pub reads_second : Command → Bool
-reads_second command.Classes = false
-reads_second (command.Groups class) = false
-reads_second (command.Compress class) = false
-reads_second (command.Check class) = true
-reads_second (command.Fold class) = true
-reads_second (command.Lift class) = true
-reads_second (command.Certify class) = false
-reads_second (command.Verify class) = true
-reads_second (command.Run class) = true
-reads_second (command.Reach class) = true
-reads_second (command.Report class) = false
-reads_second (command.Json class) = false
-reads_second command.Summary = false
+reads_second (command.OnNetwork of) = false
+reads_second (command.OnClass of number) = false
+reads_second (command.OnSecond of number) = true
 reads_second (command.Trial size) = false
 
 abbrev pub is_read : (Command → Bool) → Option Command → Bool

@@ -1,5 +1,6 @@
 -- There is one outcome, where the files that decide it are told.
 use Rattle.std.specs.Prelude.{◌≡◌, ℕ, Bool, true, false, List, Option, Some, None, IsSome}
+use Rattle.bonsai_top.specs.declared.command.ClassCommand.TheVariants as on_class
 use Rattle.bonsai_top.specs.declared.command.Command.{Command}
 use Rattle.bonsai_top.specs.declared.command.Command.TheVariants as command
 use Rattle.bonsai_top.specs.Words.{file_of, second_of}
@@ -14,7 +15,7 @@ pub record AreTold (words : List (List ℕ)) (contents : List ℕ → Option (Li
 
 -- whether a command may choose what it writes: which certificate `certify` gives is free
 abbrev pub is_free : Command → Bool
-is_free (command.Certify class) = true
+is_free (command.OnClass on_class.Certify number) = true
 is_free other = false
 
 abbrev pub leaves_free : Option Command → Bool

@@ -1,59 +1,74 @@
 -- The outcomes that the words allow over the contents of the files.
-use Rattle.std.specs.Prelude.{◌≡◌, ◌≤◌, ◌<◌, ◌⊎◌, ℕ, Bool, true, false, List, length, codes, Option, Some, None, IfSome, Result, Ok, Err}
+use Rattle.std.specs.Prelude.{◌≡◌, ℕ, Bool, true, false, List, Option, Some, None, IfSome, Result}
+use Rattle.cfg_ast.specs.declared.classes.DestClass.{DestClass}
 use Rattle.cfg_ast.specs.declared.network.Network.{Network}
 use Rattle.cfg_ast.specs.declared.refusal.ReadRefusal.{ReadRefusal}
-use Rattle.cfg_ast.specs.declared.refusal.ReadRefusal.TheVariants as read_refusal
-use Rattle.cfg_ast.specs.text.Reading.{reading_of}
+use Rattle.cfg_ast.specs.meaning.Classes.{classes_of}
+use Rattle.bonsai_top.specs.declared.command.NetworkCommand.{NetworkCommand}
+use Rattle.bonsai_top.specs.declared.command.NetworkCommand.TheVariants as on_network
+use Rattle.bonsai_top.specs.declared.command.ClassCommand.{ClassCommand}
+use Rattle.bonsai_top.specs.declared.command.ClassCommand.TheVariants as on_class
+use Rattle.bonsai_top.specs.declared.command.SecondCommand.{SecondCommand}
+use Rattle.bonsai_top.specs.declared.command.SecondCommand.TheVariants as on_second
 use Rattle.bonsai_top.specs.declared.command.Command.{Command}
 use Rattle.bonsai_top.specs.declared.command.Command.TheVariants as command
 use Rattle.bonsai_top.specs.Words.{file_of, second_of}
 use Rattle.bonsai_top.specs.Commands.{command_of, reads_first}
-use Rattle.answer_kit.specs.Outcome.{Outcome, done, refused, usage}
-use Rattle.answer_kit.specs.Kinds.{line_reason}
-use Rattle.answer_certificates.specs.Certified.{IsCertifyAnswer}
-use Rattle.answer_certificates.specs.Verified.{IsVerifyAnswer}
+use Rattle.answer_kit.specs.ClassNumbers.{class_at, IsOfClass}
+pub use Rattle.answer_kit.specs.Networks.{text_limit}
+use Rattle.answer_kit.specs.Networks.{IsOfReading, IsOfNetworkIn}
+use Rattle.answer_kit.specs.Outcome.{Outcome, done, usage}
+use Rattle.answer_certificates.specs.Certified.{IsCertifyOf}
+use Rattle.answer_certificates.specs.Verified.{IsVerifyOf}
 use Rattle.answer_groups.specs.ClassLines.{classes_text}
-use Rattle.answer_groups.specs.CompressText.{IsCompressAnswer}
-use Rattle.answer_groups.specs.GroupLines.{IsGroupsAnswer}
-use Rattle.answer_reports.specs.ReportAnswers.{IsReportAnswer, IsJsonAnswer}
+use Rattle.answer_groups.specs.CompressText.{IsCompressOf}
+use Rattle.answer_groups.specs.GroupLines.{IsGroupsOf}
+use Rattle.answer_reports.specs.ReportAnswers.{IsReported}
 use Rattle.answer_reports.specs.Summaries.{IsSummaryAnswer}
 use Rattle.answer_reports.specs.Trials.{IsTrialAnswer}
-use Rattle.answer_runs.specs.Reaches.{IsReachAnswer}
-use Rattle.answer_runs.specs.Schedules.{IsRunAnswer}
-use Rattle.answer_solutions.specs.Carries.{IsFoldAnswer, IsLiftAnswer}
-use Rattle.answer_solutions.specs.Checks.{IsCheckAnswer}
+use Rattle.answer_runs.specs.Reaches.{IsReachOf}
+use Rattle.answer_runs.specs.Schedules.{IsRunOf}
+use Rattle.answer_solutions.specs.Carries.{IsFoldOf, IsLiftOf}
+use Rattle.answer_solutions.specs.Checks.{IsCheckOf}
+use Rattle.group_report.specs.Reports.{report_text}
+use Rattle.group_report.specs.JsonText.{json_text}
+
+-- what a command is to write of a network
+abbrev pub IsOnNetwork : NetworkCommand → Network → Outcome → Type 0
+IsOnNetwork on_network.Classes network o = o ≡ done (classes_text network)
+IsOnNetwork on_network.Summary network o = IsSummaryAnswer network o
+
+-- what a command is to write of a class, which has this number
+abbrev pub IsOnClass : ClassCommand → Network → ℕ → DestClass → Outcome → Type 0
+IsOnClass on_class.Groups network number = IsGroupsOf network
+IsOnClass on_class.Compress network number = IsCompressOf network
+IsOnClass on_class.Report network number = IsReported report_text network number
+IsOnClass on_class.Json network number = IsReported json_text network number
+IsOnClass on_class.Certify network number = IsCertifyOf network
+
+-- what a command is to write of a class, with the second file where it is told
+abbrev pub IsOnSecond : SecondCommand → Network → Option (List ℕ) → DestClass → Outcome → Type 0
+IsOnSecond on_second.Check network second = IsCheckOf network second
+IsOnSecond on_second.Fold network second = IsFoldOf network second
+IsOnSecond on_second.Lift network second = IsLiftOf network second
+IsOnSecond on_second.Run network second = IsRunOf network second
+IsOnSecond on_second.Reach network second = IsReachOf network second
+IsOnSecond on_second.Verify network second = IsVerifyOf network second
 
 -- what a command is to write of a network, with the second file where it is told
 abbrev pub IsAnswerTo : Command → Network → Option (List ℕ) → Outcome → Type 0
-IsAnswerTo command.Classes network second o = o ≡ done (classes_text network)
-IsAnswerTo (command.Groups class) network second o = IsGroupsAnswer network class o
-IsAnswerTo (command.Compress class) network second o = IsCompressAnswer network class o
-IsAnswerTo (command.Check class) network second o = IsCheckAnswer network class second o
-IsAnswerTo (command.Fold class) network second o = IsFoldAnswer network class second o
-IsAnswerTo (command.Lift class) network second o = IsLiftAnswer network class second o
-IsAnswerTo (command.Certify class) network second o = IsCertifyAnswer network class o
-IsAnswerTo (command.Verify class) network second o = IsVerifyAnswer network class second o
-IsAnswerTo (command.Run class) network second o = IsRunAnswer network class second o
-IsAnswerTo (command.Reach class) network second o = IsReachAnswer network class second o
-IsAnswerTo (command.Report class) network second o = IsReportAnswer network class o
-IsAnswerTo (command.Json class) network second o = IsJsonAnswer network class o
-IsAnswerTo command.Summary network second o = IsSummaryAnswer network o
+IsAnswerTo (command.OnNetwork of) network second o = IsOnNetwork of network o
+IsAnswerTo (command.OnClass of number) network second o = IsOfClass (class_at (classes_of network) number) number (IsOnClass of network number) o
+IsAnswerTo (command.OnSecond of number) network second o = IsOfClass (class_at (classes_of network) number) number (IsOnSecond of network second) o
 IsAnswerTo (command.Trial size) network second o = IsTrialAnswer size o
 
 -- the answer of a network, or the line and kind that refuse the text
 abbrev pub IsOutcomeOfReading : Command → Option (List ℕ) → Result Network ReadRefusal → Outcome → Type 0
-IsOutcomeOfReading command second (Ok network) o = IsAnswerTo command network second o
-IsOutcomeOfReading command second (Err (read_refusal.At line kind)) o = o ≡ refused (line_reason line kind)
-IsOutcomeOfReading command second (Err read_refusal.Memory) o = ⊥
-
--- a text has at most this many bytes
-abbrev pub text_limit : ℕ
-text_limit = 16777216
+IsOutcomeOfReading command second = IsOfReading (λ network o. IsAnswerTo command network second o)
 
 -- a command over the text of its first file
 abbrev pub IsOutcomeOfText : Command → Option (List ℕ) → List ℕ → Outcome → Type 0
-IsOutcomeOfText command second text o =
-    ((text_limit < length text) × (o ≡ refused (codes "FileTooLong"))) ⊎ ((length text ≤ text_limit) × IsOutcomeOfReading command second (reading_of text) o)
+IsOutcomeOfText command second = IsOfNetworkIn (λ network o. IsAnswerTo command network second o)
 
 -- a command over its files; one that decides and is not told allows any outcome
 abbrev pub IsOutcomeOfFiles : Command → Option (List ℕ) → Option (List ℕ) → Outcome → Type 0

@@ -1,48 +1,50 @@
 //! The words of a call, and the command that they name.
 
 ghost use Rattle.std.specs.Prelude.{◌≡◌};
-ghost use Rattle.bonsai_top.specs.Words.{words_of, short_number_of, form_on_file, form_on_class, form_on_second, form_of, file_of, second_of};
-ghost use Rattle.bonsai_top.specs.Commands.{built, command_of};
+ghost use Rattle.bonsai_top.specs.Words.{words_of, short_number_of, file_of, second_of};
+ghost use Rattle.bonsai_top.specs.Commands.{network_command, class_command, second_command, command_on_word, command_on_class, command_on_second, command_of};
 
 use base_kit::read_number;
 
-/// The forms of words that are listed. A number is that of a class, or the size of a fat tree.
+/// The commands on a network.
 #[derive(Clone, Copy, Debug, PartialEq, Eq)]
-pub enum Form {
+pub enum NetworkCommand {
     Classes,
-    Groups(u32),
-    Compress(u32),
-    Report(u32),
-    Json(u32),
-    Check(u32),
-    Fold(u32),
-    Lift(u32),
     Summary,
-    Trial(u32),
-    Run(u32),
-    Reach(u32),
-    Canon(u32),
-    Certify(u32),
-    Verify(u32),
 }
 
-/// The commands that `run` does.
+/// The commands on a class.
+#[derive(Clone, Copy, Debug, PartialEq, Eq)]
+pub enum ClassCommand {
+    Groups,
+    Compress,
+    Report,
+    Json,
+    Certify,
+}
+
+/// The commands on a class and a second file.
+#[derive(Clone, Copy, Debug, PartialEq, Eq)]
+pub enum SecondCommand {
+    Check,
+    Fold,
+    Lift,
+    Run,
+    Reach,
+    Verify,
+}
+
+/// A command by what it is over.
 #[derive(Clone, Copy, Debug, PartialEq, Eq)]
 pub enum Command {
-    Classes,
-    Groups(u32),
-    Compress(u32),
-    Check(u32),
-    Fold(u32),
-    Lift(u32),
-    Report(u32),
-    Json(u32),
-    Summary,
+    /// The network of the first file.
+    OnNetwork(NetworkCommand),
+    /// The class of a number there.
+    OnClass(ClassCommand, u32),
+    /// The class of a number there, and the second file.
+    OnSecond(SecondCommand, u32),
+    /// No file: the fat tree of a size.
     Trial(u32),
-    Run(u32),
-    Reach(u32),
-    Certify(u32),
-    Verify(u32),
 }
 
 // A number of at most nine digits.
@@ -53,111 +55,91 @@ fn short_number(word: &str) -> Option<u32>
     if n <= 999_999_999 { Some(n) } else { None }
 }
 
-// A command and one word.
-fn on_file(name: &str, word: &str) -> Option<Form>
-    ensures { result ≡ form_on_file name.now word.now }
+fn network_command(name: &str) -> Option<NetworkCommand>
+    ensures { result ≡ network_command name.now }
 {
     if name == "classes" {
-        return Some(Form::Classes);
+        return Some(NetworkCommand::Classes);
     }
     if name == "summary" {
-        return Some(Form::Summary);
-    }
-    if name == "trial" {
-        let size = short_number(word)?;
-        return Some(Form::Trial(size));
+        return Some(NetworkCommand::Summary);
     }
     None
 }
 
-// A command, a file and the number of a class.
-fn on_class(name: &str, class: u32) -> Option<Form>
-    ensures { result ≡ form_on_class name.now class }
+fn class_command(name: &str) -> Option<ClassCommand>
+    ensures { result ≡ class_command name.now }
 {
     if name == "groups" {
-        return Some(Form::Groups(class));
+        return Some(ClassCommand::Groups);
     }
     if name == "compress" {
-        return Some(Form::Compress(class));
+        return Some(ClassCommand::Compress);
     }
     if name == "report" {
-        return Some(Form::Report(class));
+        return Some(ClassCommand::Report);
     }
     if name == "json" {
-        return Some(Form::Json(class));
-    }
-    if name == "canon" {
-        return Some(Form::Canon(class));
+        return Some(ClassCommand::Json);
     }
     if name == "certify" {
-        return Some(Form::Certify(class));
+        return Some(ClassCommand::Certify);
     }
     None
 }
 
-// A command, a file, the number of a class and a second file.
-fn on_second(name: &str, class: u32) -> Option<Form>
-    ensures { result ≡ form_on_second name.now class }
+fn second_command(name: &str) -> Option<SecondCommand>
+    ensures { result ≡ second_command name.now }
 {
     if name == "check" {
-        return Some(Form::Check(class));
+        return Some(SecondCommand::Check);
     }
     if name == "fold" {
-        return Some(Form::Fold(class));
+        return Some(SecondCommand::Fold);
     }
     if name == "lift" {
-        return Some(Form::Lift(class));
+        return Some(SecondCommand::Lift);
     }
     if name == "run" {
-        return Some(Form::Run(class));
+        return Some(SecondCommand::Run);
     }
     if name == "reach" {
-        return Some(Form::Reach(class));
+        return Some(SecondCommand::Reach);
     }
     if name == "verify" {
-        return Some(Form::Verify(class));
+        return Some(SecondCommand::Verify);
     }
     None
 }
 
-fn read_form(words: &[String]) -> Option<Form>
-    ensures { result ≡ form_of (words_of words.now) }
+// A command and one word: a file, or the size of a fat tree.
+fn on_word(name: &str, word: &str) -> Option<Command>
+    ensures { result ≡ command_on_word name.now word.now }
 {
-    match words {
-        [name, word] => on_file(name.as_str(), word.as_str()),
-        [name, _file, class] => {
-            let class = short_number(class.as_str())?;
-            on_class(name.as_str(), class)
-        }
-        [name, _file, class, _second] => {
-            let class = short_number(class.as_str())?;
-            on_second(name.as_str(), class)
-        }
-        _ => None,
+    if name == "trial" {
+        let size = short_number(word)?;
+        return Some(Command::Trial(size));
     }
+    let command = network_command(name)?;
+    Some(Command::OnNetwork(command))
 }
 
-// The command of a form, where it is built.
-fn built(form: Form) -> Option<Command>
-    ensures { result ≡ built form }
+// A command on a file and the number of a class.
+fn on_class(name: &str, class: &str) -> Option<Command>
+    ensures { result ≡ command_on_class name.now class.now }
 {
-    match form {
-        Form::Classes => Some(Command::Classes),
-        Form::Groups(class) => Some(Command::Groups(class)),
-        Form::Compress(class) => Some(Command::Compress(class)),
-        Form::Check(class) => Some(Command::Check(class)),
-        Form::Fold(class) => Some(Command::Fold(class)),
-        Form::Lift(class) => Some(Command::Lift(class)),
-        Form::Report(class) => Some(Command::Report(class)),
-        Form::Json(class) => Some(Command::Json(class)),
-        Form::Summary => Some(Command::Summary),
-        Form::Trial(size) => Some(Command::Trial(size)),
-        Form::Run(class) => Some(Command::Run(class)),
-        Form::Reach(class) => Some(Command::Reach(class)),
-        Form::Certify(class) => Some(Command::Certify(class)),
-        Form::Verify(class) => Some(Command::Verify(class)),
-        _ => None,
-    }
+    let command = class_command(name)?;
+    let number = short_number(class)?;
+    Some(Command::OnClass(command, number))
+}
+
+// A command on a file, the number of a class and a second file.
+fn on_second(name: &str, class: &str) -> Option<Command>
+    ensures { result ≡ command_on_second name.now class.now }
+{
+    let command = second_command(name)?;
+    let number = short_number(class)?;
+    Some(Command::OnSecond(command, number))
 }
 
 /// The command that the words name.
@@ -165,8 +147,12 @@ fn built(form: Form) -> Option<Command>
 pub fn read_words(words: &[String]) -> Option<Command>
     ensures { result ≡ command_of (words_of words.now) }
 {
-    let form = read_form(words)?;
-    built(form)
+    match words {
+        [name, word] => on_word(name.as_str(), word.as_str()),
+        [name, _file, class] => on_class(name.as_str(), class.as_str()),
+        [name, _file, class, _second] => on_second(name.as_str(), class.as_str()),
+        _ => None,
+    }
 }
 
 /// The file that the words name first.

@@ -7,6 +7,8 @@ ghost use Rattle.bonsai_top.specs.Commands.{command_of, is_read, reads_first, Fi
 ghost use Rattle.bonsai_top.specs.Outcomes.{IsOutcome};
 ghost use Rattle.bonsai_top.specs.Meets.{RunMeets};
 ghost use Rattle.bonsai_top.specs.Headline.{IsHeadline, IsCarriedDown, IsCarriedUp};
+ghost use Rattle.bonsai_top.specs.declared.command.ClassCommand.TheVariants as on_class;
+ghost use Rattle.bonsai_top.specs.declared.command.SecondCommand.TheVariants as on_second;
 ghost use Rattle.bonsai_top.specs.declared.command.Command.TheVariants as command;
 
 use crate::command::{file_word, read_words, second_word};
@@ -40,15 +42,15 @@ pub fn run<S: Source, O: Sink, E: Sink>(
 
     // The headline: where `compress` is done over a file that is told, what was written is read as the
     // compressed network.
-    ensures headline { result ≡ Status.Done → (number : ℕ) → command_of (words_of words.now) ≡ Some (command.Compress number) → (text before : List ℕ)
+    ensures headline { result ≡ Status.Done → (number : ℕ) → command_of (words_of words.now) ≡ Some (command.OnClass on_class.Compress number) → (text before : List ℕ)
         → S.contents files.old (file_of (words_of words.now)) ≡ Some text → O.taken out.old ≡ Some before → IsHeadline text number before (O.taken out.new) }
 
     // Where `fold` or `lift` is done over files that are told, what was written is read as stable labels of
     // the other problem that correspond to the solution.
-    ensures folded { result ≡ Status.Done → (number : ℕ) → command_of (words_of words.now) ≡ Some (command.Fold number) → (text solution before : List ℕ)
+    ensures folded { result ≡ Status.Done → (number : ℕ) → command_of (words_of words.now) ≡ Some (command.OnSecond on_second.Fold number) → (text solution before : List ℕ)
         → S.contents files.old (file_of (words_of words.now)) ≡ Some text → S.contents files.old (second_of (words_of words.now)) ≡ Some solution → O.taken out.old ≡ Some before
         → IsCarriedDown text solution number before (O.taken out.new) }
-    ensures lifted { result ≡ Status.Done → (number : ℕ) → command_of (words_of words.now) ≡ Some (command.Lift number) → (text solution before : List ℕ)
+    ensures lifted { result ≡ Status.Done → (number : ℕ) → command_of (words_of words.now) ≡ Some (command.OnSecond on_second.Lift number) → (text solution before : List ℕ)
         → S.contents files.old (file_of (words_of words.now)) ≡ Some text → S.contents files.old (second_of (words_of words.now)) ≡ Some solution → O.taken out.old ≡ Some before
         → IsCarriedUp text solution number before (O.taken out.new) }
 

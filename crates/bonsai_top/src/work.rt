@@ -1,39 +1,81 @@
 //! The work of a command, up to its reply.
 
-ghost use Rattle.std.specs.Prelude.{◌≡◌, ◌≤◌, ℕ, List, length, codes, Some, false};
+ghost use Rattle.std.specs.Prelude.{◌≡◌, ◌≤◌, ℕ, List, length, Some, Contains, false};
+ghost use Rattle.cfg_ast.specs.meaning.Classes.{classes_of};
 ghost use Rattle.cfg_ast.specs.text.Reading.{reading_of};
 ghost use Rattle.io_kit.specs.Ends.{Rose};
 ghost use Rattle.bonsai_top.specs.Commands.{reads_first, FirstRose, SecondRose};
+ghost use Rattle.answer_kit.specs.Networks.{text_limit, long_text};
 ghost use Rattle.answer_kit.specs.Outcome.{refused};
-ghost use Rattle.bonsai_top.specs.Outcomes.{IsAnswerTo, IsOutcomeOfReading, IsOutcomeOfFiles, IsOutcomeWithoutFiles, IsOutcomeOf, text_limit};
-ghost use Rattle.answer_kit.specs.Replies.{Answers, Only, Refuses};
+ghost use Rattle.bonsai_top.specs.Outcomes.{IsOnNetwork, IsOnClass, IsOnSecond, IsAnswerTo, IsOutcomeOfReading, IsOutcomeOfFiles, IsOutcomeOf};
+ghost use Rattle.answer_kit.specs.Replies.{Answers, Only};
 
-use crate::command::Command;
+use crate::command::{ClassCommand, Command, NetworkCommand, SecondCommand};
 use answer_certificates::{certify, verify};
 use answer_groups::{classes, compress, groups};
-use answer_kit::{Reply, line_reason, refusal};
+use answer_kit::{Reply, class_of_number, refuse};
+use answer_reports::report::Form;
 use answer_reports::{report, summary, trial};
 use answer_runs::{reach, run};
 use answer_solutions::{check, fold, lift};
-use cfg_ast::ReadRefusal;
-use cfg_check::{Checked, check_network};
-use cfg_parse::read_network;
+use answer_texts::network_in;
+use cfg_ast::DestClass;
+use cfg_check::Checked;
 use io_kit::{InFault, Source, read_all};
 use std::alloc::Global;
 
 // A text has at most this many bytes.
 const TEXT_LIMIT: usize = 16_777_216;
 
-// A refusal of the text, by its line and kind.
-fn text_refusal(alloc: Global, refusal: ReadRefusal) -> Reply
-    ensures { Refuses result refusal }
+fn on_network(alloc: Global, command: NetworkCommand, checked: &Checked) -> Reply
+    ensures { Answers result (IsOnNetwork command checked.now.network) ⊥ ⊥ }
 {
-    match refusal {
-        ReadRefusal::At { line, kind } => match line_reason(alloc, line, kind) {
-            Ok(reason) => Reply::Refusal(reason),
-            Err(_) => Reply::NoMemory,
-        },
-        ReadRefusal::Memory => Reply::NoMemory,
+    match command {
+        NetworkCommand::Classes => classes::answer(alloc, checked),
+        NetworkCommand::Summary => summary::answer(alloc, checked),
+    }
+}
+
+fn on_class(
+    alloc: Global,
+    command: ClassCommand,
+    checked: &Checked,
+    number: u32,
+    class: &DestClass,
+) -> Reply
+    requires { Contains (classes_of checked.now.network) class.now }
+    ensures { Answers result (IsOnClass command checked.now.network number class.now) ⊥ ⊥ }
+{
+    match command {
+        ClassCommand::Groups => groups::answer(alloc, checked, class),
+        ClassCommand::Compress => compress::answer(alloc, checked, class),
+        ClassCommand::Report => report::answer(alloc, Form::Lines, checked, number, class),
+        ClassCommand::Json => report::answer(alloc, Form::Json, checked, number, class),
+        ClassCommand::Certify => certify::answer(alloc, checked, class),
+    }
+}
+
+fn on_second<S: Source>(
+    alloc: Global,
+    command: SecondCommand,
+    checked: &Checked,
+    class: &DestClass,
+    second: &str,
+    files: &mut S,
+) -> Reply
+    requires { Contains (classes_of checked.now.network) class.now }
+    ensures answers { Answers result (IsOnSecond command checked.now.network (S.contents files.old second.now) class.now) ⊥
+        (Rose (S.faults files.old second.now) (S.faults files.new second.now)) }
+    ensures contents { S.contents files.new ≡ S.contents files.old }
+    ensures later { (n : List ℕ) → S.faults files.old n ≤ S.faults files.new n }
+{
+    match command {
+        SecondCommand::Check => check::answer(alloc, checked, class, second, files),
+        SecondCommand::Fold => fold::answer(alloc, checked, class, second, files),
+        SecondCommand::Lift => lift::answer(alloc, checked, class, second, files),
+        SecondCommand::Run => run::answer(alloc, checked, class, second, files),
+        SecondCommand::Reach => reach::answer(alloc, checked, class, second, files),
+        SecondCommand::Verify => verify::answer(alloc, checked, class, second, files),
     }
 }
 
@@ -51,19 +93,15 @@ fn answer<S: Source>(
     ensures later { (n : List ℕ) → S.faults files.old n ≤ S.faults files.new n }
 {
     match command {
-        Command::Classes => classes::answer(alloc, checked),
-        Command::Groups(class) => groups::answer(alloc, checked, class),
-        Command::Compress(class) => compress::answer(alloc, checked, class),
-        Command::Check(class) => check::answer(alloc, checked, class, second, files),
-        Command::Fold(class) => fold::answer(alloc, checked, class, second, files),
-        Command::Lift(class) => lift::answer(alloc, checked, class, second, files),
-        Command::Certify(class) => certify::answer(alloc, checked, class),
-        Command::Verify(class) => verify::answer(alloc, checked, class, second, files),
-        Command::Run(class) => run::answer(alloc, checked, class, second, files),
-        Command::Reach(class) => reach::answer(alloc, checked, class, second, files),
-        Command::Report(class) => report::answer(alloc, checked, class),
-        Command::Json(class) => report::json_answer(alloc, checked, class),
-        Command::Summary => summary::answer(alloc, checked),
+        Command::OnNetwork(command) => on_network(alloc, command, checked),
+        Command::OnClass(command, number) => match class_of_number(alloc, checked, number) {
+            Ok(class) => on_class(alloc, command, checked, number, &class),
+            Err(reply) => reply,
+        },
+        Command::OnSecond(command, number) => match class_of_number(alloc, checked, number) {
+            Ok(class) => on_second(alloc, command, checked, &class, second, files),
+            Err(reply) => reply,
+        },
         Command::Trial(size) => trial::answer(alloc, size),
     }
 }
@@ -82,14 +120,16 @@ fn over_text<S: Source>(
     ensures contents { S.contents files.new ≡ S.contents files.old }
     ensures later { (n : List ℕ) → S.faults files.old n ≤ S.faults files.new n }
 {
-    let network = match read_network(alloc, text) {
-        Ok(network) => network,
-        Err(refusal) => return text_refusal(alloc, refusal),
-    };
-    match check_network(alloc, network) {
+    match network_in(alloc, text) {
         Ok(checked) => answer(alloc, command, &checked, second, files),
-        Err(refusal) => text_refusal(alloc, refusal),
+        Err(reply) => reply,
     }
+}
+
+fn long_text(alloc: Global) -> Reply
+    ensures { Answers result (Only (refused long_text)) ⊥ ⊥ }
+{
+    refuse(format!(in alloc; "FileTooLong"))
 }
 
 // Reads the first file, and does the command's work.
@@ -108,27 +148,10 @@ fn over_files<S: Source>(
 {
     match read_all(alloc, files, first, TEXT_LIMIT) {
         Ok(text) => over_text(alloc, command, &text, second, files),
-        Err(InFault::TooLong) => refusal(alloc, "FileTooLong"),
+        Err(InFault::TooLong) => long_text(alloc),
         Err(InFault::Failed) => Reply::ReadFailed,
         Err(InFault::Memory) => Reply::NoMemory,
     }
-}
-
-// A command that reads no file.
-fn without_files(alloc: Global, command: Command) -> Reply
-    requires { reads_first command ≡ false }
-    ensures { Answers result (IsOutcomeWithoutFiles command) ⊥ ⊥ }
-{
-    match command {
-        Command::Trial(size) => trial::answer(alloc, size),
-        _ => unreachable!(),
-    }
-}
-
-fn reads_file(command: Command) -> bool
-    ensures { result ≡ reads_first command }
-{
-    !matches!(command, Command::Trial(_))
 }
 
 /// Does the command's work, over the files where it reads one.
@@ -146,9 +169,8 @@ pub fn work<S: Source>(
     ensures later { (n : List ℕ) → S.faults files.old n ≤ S.faults files.new n }
     ensures unread { reads_first command ≡ false → files.new ≡ files.old }
 {
-    if reads_file(command) {
-        over_files(alloc, command, first, second, files)
-    } else {
-        without_files(alloc, command)
+    match command {
+        Command::Trial(size) => trial::answer(alloc, size),
+        _ => over_files(alloc, command, first, second, files),
     }
 }

@@ -25,7 +25,7 @@ use Rattle.answer_kit.specs.ClassNumbers.{IsOfClass}
 use Rattle.answer_kit.specs.Outcome.{Outcome, done}
 use Rattle.answer_kit.proofs.NumberedOnce.{one_numbering, one_count_of_groups}
 use Rattle.answer_kit.proofs.OneClass.{some_prefix}
-use Rattle.bonsai_top.specs.declared.command.Command.TheVariants as command
+use Rattle.workflow_laws.specs.Commands as command
 use Rattle.workflow_laws.specs.Again.{PutsEachAlone, CompressedAgain}
 use Rattle.workflow_laws.specs.Words.{groups}
 use Rattle.workflow_laws.proofs.Answers.{answer_of}

@@ -11,8 +11,10 @@ use Rattle.answer_certificates.specs.Certified.{IsCertifyOf}
 use Rattle.answer_kit.specs.ClassNumbers.{class_at, IsOfClass}
 use Rattle.answer_kit.specs.declared.status.Status.TheVariants.{Done}
 use Rattle.answer_kit.specs.Outcome.{Outcome}
+use Rattle.bonsai_top.specs.declared.command.ClassCommand.TheVariants as on_class
 use Rattle.bonsai_top.specs.declared.command.Command.{Command}
-use Rattle.bonsai_top.specs.declared.command.Command.TheVariants as command
+use Rattle.bonsai_top.specs.declared.command.Command.TheVariants.{OnNetwork, OnClass, OnSecond, Trial}
+use Rattle.workflow_laws.specs.Commands as command
 use Rattle.bonsai_top.specs.Commands.{command_of, is_read, reads_first}
 use Rattle.bonsai_top.specs.OneOutcome.{is_free, leaves_free, OutcomeIsOne}
 use Rattle.bonsai_top.specs.Outcomes.{IsOutcomeOfReading, IsOutcomeOfText, IsOutcomeOfFiles, IsOutcomeAt, IsOutcome}
@@ -53,20 +55,14 @@ module _ (number : ℕ) (second : Option (List ℕ)) (o p : Outcome) where
 
 -- a command asks for a certificate, or leaves nothing free
 certifies : (c : Command) → (is_free c ≡ false) ⊎ ((number : ℕ) × (c ≡ command.Certify number))
-certifies command.Classes = inl refl
-certifies (command.Groups number) = inl refl
-certifies (command.Compress number) = inl refl
-certifies (command.Check number) = inl refl
-certifies (command.Fold number) = inl refl
-certifies (command.Lift number) = inl refl
-certifies (command.Certify number) = inr (number, refl)
-certifies (command.Verify number) = inl refl
-certifies (command.Run number) = inl refl
-certifies (command.Reach number) = inl refl
-certifies (command.Report number) = inl refl
-certifies (command.Json number) = inl refl
-certifies command.Summary = inl refl
-certifies (command.Trial size) = inl refl
+certifies (OnNetwork of) = inl refl
+certifies (OnClass on_class.Groups number) = inl refl
+certifies (OnClass on_class.Compress number) = inl refl
+certifies (OnClass on_class.Report number) = inl refl
+certifies (OnClass on_class.Json number) = inl refl
+certifies (OnClass on_class.Certify number) = inr (number, refl)
+certifies (OnSecond of number) = inl refl
+certifies (Trial size) = inl refl
 
 named_by : (words : List (List ℕ)) → (c : Option Command) → command_of words ≡ c
     → (leaves_free (command_of words) ≡ false) ⊎ ((number : ℕ) × (command_of words ≡ Some (command.Certify number)))

@@ -19,7 +19,7 @@ use Rattle.answer_kit.proofs.OneClass.{some_prefix}
 use Rattle.answer_solutions.specs.declared.sides.Sides.{Sides}
 use Rattle.answer_solutions.specs.Carries.{AreSides, IsFolded, IsFoldOf, IsFoldOfLabels, IsLifted, IsLiftOf, IsLiftOfLabels, IsOfStable}
 use Rattle.answer_solutions.specs.Checks.{break_reason}
-use Rattle.bonsai_top.specs.declared.command.Command.TheVariants as command
+use Rattle.workflow_laws.specs.Commands as command
 use Rattle.workflow_laws.specs.Existence.{SolutionsAreCarried}
 use Rattle.workflow_laws.specs.Words.{fold, lift}
 use Rattle.workflow_laws.proofs.Answers.{of_text}

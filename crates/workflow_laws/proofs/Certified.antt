@@ -17,7 +17,7 @@ use Rattle.answer_groups.specs.GroupLines.{IsGroupsOf}
 use Rattle.answer_kit.specs.ClassNumbers.{IsOfClass}
 use Rattle.answer_kit.specs.Outcome.{Outcome, done}
 use Rattle.answer_kit.proofs.OneClass.{some_prefix}
-use Rattle.bonsai_top.specs.declared.command.Command.TheVariants as command
+use Rattle.workflow_laws.specs.Commands as command
 use Rattle.workflow_laws.specs.Certificates.{named_groups, names_in, PrintsGroups, WhatIsCertifiedIsVerified, WhatIsVerifiedNamesTheGroups}
 use Rattle.workflow_laws.specs.Words.{certify, groups, verify}
 use Rattle.workflow_laws.proofs.Answers.{answer_of, done_reading}

@@ -13,7 +13,7 @@ use Rattle.answer_kit.specs.Outcome.{Outcome}
 use Rattle.answer_kit.proofs.OneClass.{some_prefix}
 use Rattle.answer_solutions.specs.Carries.{IsFolded, IsFoldOf}
 use Rattle.answer_solutions.specs.Checks.{IsCheckOf}
-use Rattle.bonsai_top.specs.declared.command.Command.TheVariants as command
+use Rattle.workflow_laws.specs.Commands as command
 use Rattle.bonsai_top.specs.Outcomes.{IsOutcomeOfReading, IsOutcomeOfText}
 use Rattle.workflow_laws.specs.CarriedDown.{CheckIsFold}
 use Rattle.workflow_laws.specs.Setting.{verdict}

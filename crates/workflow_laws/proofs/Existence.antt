@@ -27,7 +27,7 @@ use Rattle.answer_runs.specs.Reaches.{IsReachOf}
 use Rattle.answer_runs.specs.Schedules.{IsRunOf}
 use Rattle.answer_solutions.specs.Checks.{IsCheckOf}
 use Rattle.bonsai_top.specs.declared.command.Command.{Command}
-use Rattle.bonsai_top.specs.declared.command.Command.TheVariants as command
+use Rattle.workflow_laws.specs.Commands as command
 use Rattle.bonsai_top.specs.Commands.{command_of, reads_first}
 use Rattle.bonsai_top.specs.Outcomes.{IsAnswerTo, IsOutcomeOfReading, IsOutcomeOfText, IsOutcomeOfFiles, IsOutcomeBy, IsOutcomeAt, IsOutcome}
 use Rattle.bonsai_top.specs.Words.{file_of, second_of}

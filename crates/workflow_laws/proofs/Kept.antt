@@ -19,7 +19,7 @@ use Rattle.answer_kit.proofs.OneClass.{found_in}
 use Rattle.answer_solutions.specs.declared.sides.Sides.{Sides}
 use Rattle.answer_solutions.specs.Carries.{AreSides}
 use Rattle.bonsai_top.specs.Outcomes.{text_limit}
-use Rattle.bonsai_top.specs.declared.command.Command.TheVariants as command
+use Rattle.workflow_laws.specs.Commands as command
 use Rattle.carried_laws.proofs.Carried.{plan_text, one_small}
 use Rattle.workflow_laws.specs.Setting.{Contents, IsCompressed, IsShort}
 use Rattle.workflow_laws.specs.Words.{compress}

@@ -1,13 +1,18 @@
 -- The typed words name their commands.
 use Rattle.std.proofs.Common.{◌≡◌, ◌≤◌, ℕ, true, List, [], ◌∷◌, refl, ap, ◌∙◌, arith, Option, Some, None, codes, if◌then◌else◌}
 use Rattle.std.specs.Prelude.{decimal, nat_le}
-use Rattle.std.specs.Option.{option_and_then}
+use Rattle.std.specs.Option.{option_map, option_and_then}
 use Rattle.std.proofs.lemmas.Bool.Decides.{nat_tests}
 use Rattle.base_kit.specs.Numbers.{number_of}
 use Rattle.cfg_round_trip.proofs.WordsBack.{up_to_back}
-use Rattle.bonsai_top.specs.declared.command.Command.TheVariants as command
-use Rattle.bonsai_top.specs.Words.{short, short_number_of, form_on_class, form_on_second}
-use Rattle.bonsai_top.specs.Commands.{built, command_of}
+use Rattle.bonsai_top.specs.declared.command.ClassCommand.{ClassCommand}
+use Rattle.bonsai_top.specs.declared.command.ClassCommand.TheVariants as on_class
+use Rattle.bonsai_top.specs.declared.command.SecondCommand.{SecondCommand}
+use Rattle.bonsai_top.specs.declared.command.SecondCommand.TheVariants as on_second
+use Rattle.bonsai_top.specs.declared.command.Command.TheVariants.{OnClass, OnSecond}
+use Rattle.bonsai_top.specs.Words.{short, short_number_of}
+use Rattle.bonsai_top.specs.Commands.{class_command, second_command, command_of}
+use Rattle.workflow_laws.specs.Commands as command
 use Rattle.workflow_laws.specs.Setting.{IsShort}
 use Rattle.workflow_laws.specs.Words.{classes, groups, compress, report, json, certify, check, fold, lift, run, reach, verify}
 
@@ -20,14 +25,19 @@ short_read n small =
     ap (option_and_then short) (number_read n (omega arith)) ∙ ap (λ b. if b then Some n else None) within
 
 -- a command on a file and a class
-of_class : (name file : List ℕ) (n : ℕ) → IsShort n → command_of (name ∷ file ∷ decimal n ∷ []) ≡ option_and_then built (form_on_class name n)
+of_class : (name file : List ℕ) (n : ℕ) → IsShort n → (of : ClassCommand) → class_command name ≡ Some of
+    → command_of (name ∷ file ∷ decimal n ∷ []) ≡ Some (OnClass of n)
 unfolding command_of
-of_class name file n small = ap (λ (found : Option ℕ). option_and_then built (option_and_then (form_on_class name) found)) (short_read n small)
+of_class name file n small of named =
+    ap (option_and_then (λ (c : ClassCommand). option_map (OnClass c) (short_number_of (decimal n)))) named ∙ ap (option_map (OnClass of)) (short_read n small)
 
 -- a command on a file, a class and a second file
-of_second : (name file second : List ℕ) (n : ℕ) → IsShort n → command_of (name ∷ file ∷ decimal n ∷ second ∷ []) ≡ option_and_then built (form_on_second name n)
+of_second : (name file second : List ℕ) (n : ℕ) → IsShort n → (of : SecondCommand) → second_command name ≡ Some of
+    → command_of (name ∷ file ∷ decimal n ∷ second ∷ []) ≡ Some (OnSecond of n)
 unfolding command_of
-of_second name file second n small = ap (λ (found : Option ℕ). option_and_then built (option_and_then (form_on_second name) found)) (short_read n small)
+of_second name file second n small of named =
+    ap (option_and_then (λ (c : SecondCommand). option_map (OnSecond c) (short_number_of (decimal n)))) named ∙ ap (option_map (OnSecond of))
+    (short_read n small)
 
 pub names_classes : (F : List ℕ) → command_of (classes F) ≡ Some command.Classes
 unfolding command_of
@@ -35,35 +45,35 @@ names_classes F = refl
 
 module _ (F : List ℕ) (N : ℕ) (small : IsShort N) where
   pub names_groups : command_of (groups F N) ≡ Some (command.Groups N)
-  names_groups = of_class (codes "groups") F N small
+  names_groups = of_class (codes "groups") F N small on_class.Groups refl
 
   pub names_compress : command_of (compress F N) ≡ Some (command.Compress N)
-  names_compress = of_class (codes "compress") F N small
+  names_compress = of_class (codes "compress") F N small on_class.Compress refl
 
   pub names_report : command_of (report F N) ≡ Some (command.Report N)
-  names_report = of_class (codes "report") F N small
+  names_report = of_class (codes "report") F N small on_class.Report refl
 
   pub names_json : command_of (json F N) ≡ Some (command.Json N)
-  names_json = of_class (codes "json") F N small
+  names_json = of_class (codes "json") F N small on_class.Json refl
 
   pub names_certify : command_of (certify F N) ≡ Some (command.Certify N)
-  names_certify = of_class (codes "certify") F N small
+  names_certify = of_class (codes "certify") F N small on_class.Certify refl
 
 module _ (F S : List ℕ) (N : ℕ) (small : IsShort N) where
   pub names_check : command_of (check F N S) ≡ Some (command.Check N)
-  names_check = of_second (codes "check") F S N small
+  names_check = of_second (codes "check") F S N small on_second.Check refl
 
   pub names_fold : command_of (fold F N S) ≡ Some (command.Fold N)
-  names_fold = of_second (codes "fold") F S N small
+  names_fold = of_second (codes "fold") F S N small on_second.Fold refl
 
   pub names_lift : command_of (lift F N S) ≡ Some (command.Lift N)
-  names_lift = of_second (codes "lift") F S N small
+  names_lift = of_second (codes "lift") F S N small on_second.Lift refl
 
   pub names_run : command_of (run F N S) ≡ Some (command.Run N)
-  names_run = of_second (codes "run") F S N small
+  names_run = of_second (codes "run") F S N small on_second.Run refl
 
   pub names_reach : command_of (reach F N S) ≡ Some (command.Reach N)
-  names_reach = of_second (codes "reach") F S N small
+  names_reach = of_second (codes "reach") F S N small on_second.Reach refl
 
   pub names_verify : command_of (verify F N S) ≡ Some (command.Verify N)
-  names_verify = of_second (codes "verify") F S N small
+  names_verify = of_second (codes "verify") F S N small on_second.Verify refl

@@ -29,7 +29,7 @@ use Rattle.answer_runs.specs.Schedules.{IsMoving, IsOfActivations, IsOfSchedule,
 use Rattle.answer_solutions.specs.Checks.{IsCheckAnswer}
 use Rattle.answer_solutions.proofs.GroupNames.{router_names}
 use Rattle.carried_laws.proofs.Carried.{not_refused}
-use Rattle.bonsai_top.specs.declared.command.Command.TheVariants as command
+use Rattle.workflow_laws.specs.Commands as command
 use Rattle.workflow_laws.specs.Orders.{WhatRestsIsStable}
 use Rattle.workflow_laws.specs.Words.{check, run}
 use Rattle.workflow_laws.proofs.Answers.{answer_of, done_reading}

@@ -47,7 +47,7 @@ use Rattle.answer_solutions.specs.Checks.{break_reason}
 use Rattle.answer_solutions.proofs.GroupNames.{router_names}
 use Rattle.answer_solutions.proofs.OneCarry.{problem_self}
 use Rattle.carried_laws.proofs.Carried.{not_refused}
-use Rattle.bonsai_top.specs.declared.command.Command.TheVariants as command
+use Rattle.workflow_laws.specs.Commands as command
 use Rattle.workflow_laws.specs.Orders.{RestsLike, WhatIsReachedRests}
 use Rattle.workflow_laws.specs.Setting.{HasClass}
 use Rattle.workflow_laws.specs.Words.{run, reach}

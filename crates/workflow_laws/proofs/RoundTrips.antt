@@ -18,7 +18,7 @@ use Rattle.answer_solutions.specs.Carries.{AreSides, IsLifted, IsLiftOfLabels, I
 use Rattle.answer_solutions.specs.Checks.{IsCheckAnswer}
 use Rattle.answer_solutions.specs.ReadBack.{FoldIsReadBack, LiftIsReadBack}
 use Rattle.answer_solutions.proofs.OneCarry.{one_sides, problem_self}
-use Rattle.bonsai_top.specs.declared.command.Command.TheVariants as command
+use Rattle.workflow_laws.specs.Commands as command
 use Rattle.workflow_laws.specs.CarriedUp.{WhatIsLiftedIsStable}
 use Rattle.workflow_laws.specs.CarriedDown.{WhatIsFoldedIsStableBelow, WhatIsFoldedIsLifted}
 use Rattle.workflow_laws.specs.PrintedShort.{PrintedIsShort}

@@ -37,7 +37,7 @@ use Rattle.emit_form_laws.proofs.Origins.{class_is}
 use Rattle.answer_groups.specs.CompressText.{IsCompressOf}
 use Rattle.answer_kit.specs.ClassNumbers.{class_at}
 use Rattle.answer_kit.proofs.OneClass.{some_prefix}
-use Rattle.bonsai_top.specs.declared.command.Command.TheVariants as command
+use Rattle.workflow_laws.specs.Commands as command
 use Rattle.carried_laws.proofs.Carried.{plan_text}
 use Rattle.workflow_laws.specs.ClassKept.{ClassIsKept, HasClassOf}
 use Rattle.workflow_laws.specs.Setting.{HasClass, HasPrefixesOf}

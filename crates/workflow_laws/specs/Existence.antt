@@ -10,7 +10,7 @@ use Rattle.srp_core.specs.Problem.{Problem}
 use Rattle.answer_kit.specs.declared.status.Status.TheVariants.{Done}
 use Rattle.answer_kit.specs.Outcome.{Outcome}
 use Rattle.bonsai_top.specs.declared.command.Command.{Command}
-use Rattle.bonsai_top.specs.declared.command.Command.TheVariants as command
+use Rattle.workflow_laws.specs.Commands as command
 use Rattle.bonsai_top.specs.Commands.{command_of}
 use Rattle.bonsai_top.specs.OneOutcome.{AreTold}
 use Rattle.bonsai_top.specs.Outcomes.{IsOutcome}

@@ -3,6 +3,7 @@ pub mod CarriedDown
 pub mod CarriedUp
 pub mod Certificates
 pub mod ClassKept
+pub mod Commands
 pub mod Existence
 pub mod Orders
 pub mod PrintedShort

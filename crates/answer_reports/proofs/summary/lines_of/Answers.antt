@@ -1,6 +1,4 @@
-use Rattle.std.proofs.Common.{List, ℕ, Vec, Global, sym, ap, subst, arith, string_bytes, ◌≤◌, length}
-use Rattle.cfg_ast.specs.meaning.PolicyFaults.{communities_of}
-use Rattle.route_maps.specs.Within.{AreWithin}
+use Rattle.std.proofs.Common.{ℕ, Vec, Global, ap, arith, string_bytes, ◌≤◌, length}
 use Rattle.answer_reports.proofs.Summaries.{next_line, all_lines}
 use Rattle.answer_reports.proofs.summary.lines_of.Goals as goal
 
@@ -8,8 +6,7 @@ pub loop-i-preserved : goal.loop-i-preserved
 loop-i-preserved c =
     let n = c.args.checked.now.network in
     record {
-      directions = c.loop-i.invariant.directions;
-      known = subst (λ (set : List ℕ). AreWithin set (communities_of n)) (sym c.in_ok-put_line.ensures.universe) c.loop-i.invariant.known;
+      shared = c.in_ok-put_line.ensures.shared;
       lines = next_line n c.args.classes.now c.loop-i.i c.index-classes-i.result (string_bytes c.loop-i.text) (string_bytes c.put_line.new.text) c.loop-i-test.true c.index-classes-i.is c.in_ok-put_line.ensures.line c.loop-i.invariant.lines;
     }
 
@@ -17,6 +14,3 @@ pub returns : goal.returns
 returns c =
     let past : length c.args.classes.now ≤ c.loop-i.i = omega (arith, c.loop-i-test.false) in
     all_lines c.args.checked.now.network c.args.classes.now c.loop-i.i (string_bytes c.loop-i.text) c.into_bytes.result.items past (ap (λ (v : Vec ℕ Global). v.items) c.into_bytes.ensures.value) c.loop-i.invariant.lines
-
-pub put_line-requires-clause-directions : goal.put_line-requires-clause-directions
-put_line-requires-clause-directions c = c.loop-i.invariant.directions

@@ -1,12 +1,17 @@
+use Rattle.std.proofs.Common.{sym, subst}
+use Rattle.srp_build.specs.Built.{IsBuiltFor}
 use Rattle.answer_solutions.proofs.sides.sides_of.Goals as goal
 
-pub small_problem-requires : goal.small_problem-requires
-small_problem-requires c = c.in_ok-groups.ensures.admissible
+pub quotient_srp-requires-clause-groups : goal.quotient_srp-requires-clause-groups
+quotient_srp-requires-clause-groups c = c.in_ok-grouped.ensures.coarsest.admissible
+
+pub quotient_srp-requires-clause-links : goal.quotient_srp-requires-clause-links
+quotient_srp-requires-clause-links c = c.in_ok-grouped.ensures.links
 
 pub returns : goal.returns
 returns c = record {
-  built = c.in_ok-problem.ensures;
-  coarsest = c.in_ok-groups.ensures;
+  built = subst (IsBuiltFor c.args.checked.now.network c.args.class.now) (sym c.in_ok-grouped.ensures.problem_is) c.in_ok-problem.ensures;
+  coarsest = c.in_ok-grouped.ensures.coarsest;
   count = c.groups-count.result;
   numbered = c.groups-count.ensures;
   small_is = c.in_ok-small.ensures c.groups-count.result c.groups-count.ensures;

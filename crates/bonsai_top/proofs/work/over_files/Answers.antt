@@ -24,4 +24,4 @@ returns-in-Ok-clause-answers g c =
 
 pub returns-in-Err-TooLong-clause-answers : goal.returns-in-Err-TooLong-clause-answers
 returns-in-Err-TooLong-clause-answers g c =
-    answers_long c.refusal.result c.args.command _ _ _ _ (c.in-Err-TooLong.ensures.too_long (cc)) c.refusal.ensures
+    answers_long c.long_text.result c.args.command _ _ _ _ (c.in-Err-TooLong.ensures.too_long (cc)) c.long_text.ensures

@@ -1,35 +1,23 @@
-use Rattle.std.proofs.Common.{sym, ap, ◌∙◌, subst, Result, Ok}
+use Rattle.std.proofs.Common.{Some}
 use Rattle.cfg_ast.specs.declared.network.Network.{Network}
-use Rattle.cfg_ast.specs.declared.refusal.ReadRefusal.{ReadRefusal}
-use Rattle.cfg_ast.specs.meaning.Meaning.{judged}
-use Rattle.cfg_ast.specs.text.Reading.{network_of_text}
-use Rattle.bonsai_top.specs.Outcomes.{IsOutcomeOfReading}
-use Rattle.bonsai_top.proofs.Readings.{reading_judged, reading_refused}
-use Rattle.bonsai_top.proofs.Refusals.{answers_refused}
-use Rattle.answer_kit.proofs.Replies.{answers_as}
+use Rattle.cfg_ast.specs.text.Reading.{reading_of}
+use Rattle.bonsai_top.specs.Commands.{SecondRose}
+use Rattle.bonsai_top.specs.Outcomes.{IsAnswerTo}
+use Rattle.answer_kit.specs.Outcome.{Outcome}
+use Rattle.answer_kit.proofs.Networks.{answers_read, answers_not_read}
 use Rattle.bonsai_top.proofs.work.over_text.Goals as goal
 
--- the text is no network
+pub returns-in-Ok-clause-answers : goal.returns-in-Ok-clause-answers
+returns-in-Ok-clause-answers g c =
+    let second = c.args.second.now in
+    let told = g.S.Source.contents c.args.files.now second in
+    answers_read c.answer.result (reading_of c.args.text.now) c.in-Ok.checked.network (λ (n : Network) (o : Outcome). IsAnswerTo c.args.command n told o) ⊥
+    (SecondRose (Some c.args.command) (g.S.Source.faults c.args.files.now second) (g.S.Source.faults c.answer.new.files second)) c.in-Ok.ensures
+    c.answer.ensures.answers
+
 pub returns-in-Err-clause-answers : goal.returns-in-Err-clause-answers
 returns-in-Err-clause-answers g c =
-    let text = c.args.text.now in
-    answers_refused c.text_refusal.result c.args.command _ text c.in-Err.refusal (network_of_text text) _ (reading_refused text c.in-Err.refusal) c.in-Err.ensures c.text_refusal.ensures
-
-abbrev accepted_as : Network → Result Network ReadRefusal
-accepted_as n = Ok n
-
--- the network has no fault
-pub returns-in-Ok-check_network-clause-answers : goal.returns-in-Ok-check_network-clause-answers
-returns-in-Ok-check_network-clause-answers g c =
-    let text = c.args.text.now in
-    let second = g.S.Source.contents c.args.files.now c.args.second.now in
-    let checked = c.in-Ok-check_network.ensures in
-    let read = reading_judged text c.in-Ok.network _ c.in-Ok.ensures (checked.accepted ∙ ap accepted_as (sym checked.ok)) in
-    answers_as c.answer.result _ _ ⊥ ⊥ _ _ (λ o is. subst (λ (r : Result Network ReadRefusal). IsOutcomeOfReading c.args.command second r o) (sym read) is) (λ e. e) (λ e. e) c.answer.ensures.answers
-
--- the network has a fault
-pub returns-in-Err-check_network-clause-answers : goal.returns-in-Err-check_network-clause-answers
-returns-in-Err-check_network-clause-answers g c =
-    let text = c.args.text.now in
-    answers_refused c.text_refusal-in-Err-check_network.result c.args.command _ text c.in-Err-check_network.refusal (judged c.in-Ok.network) _ (λ e. reading_judged text c.in-Ok.network _ c.in-Ok.ensures e)
-    c.in-Err-check_network.ensures.refused c.text_refusal-in-Err-check_network.ensures
+    let second = c.args.second.now in
+    let told = g.S.Source.contents c.args.files.now second in
+    answers_not_read c.in-Err.reply (reading_of c.args.text.now) (λ (n : Network) (o : Outcome). IsAnswerTo c.args.command n told o) ⊥
+    (SecondRose (Some c.args.command) (g.S.Source.faults c.args.files.now second) (g.S.Source.faults c.args.files.now second)) c.in-Err.ensures
