@@ -87,7 +87,8 @@ first_in es seen (j ∷ ks) k h = elim (if_in (list_any (nat_eq (act_at es j)) s
   | inr b ↦ elim b [ inl e ↦ inl e | inr a ↦ inr (first_in es (act_at es j ∷ seen) ks k a) ]
 ]
 
-any_step : (x y : ℕ) (ys : List ℕ) (b : Bool) → nat_eq x y ≡ b → (b || list_any (nat_eq x) ys) ≡ true → (list_any (nat_eq x) ys ≡ true → In ys x) → In (y ∷ ys) x
+any_step : (x y : ℕ) (ys : List ℕ) (b : Bool) → nat_eq x y ≡ b → (b || list_any (nat_eq x) ys) ≡ true → (list_any (nat_eq x) ys ≡ true → In ys x) →
+    In (y ∷ ys) x
 any_step x y ys true e h i = inl (sym (eq_from_test x y e))
 any_step x y ys false e h i = inr (i h)
 
@@ -100,7 +101,10 @@ pub record HasAct (es : List Edge) (ks : List ℕ) (act : ℕ) : Type 0 where
   pub has : In ks place
   pub does : act_at es place ≡ act
 
-has_step : (es : List Edge) (seen ks : List ℕ) (j k : ℕ) (b : Bool) → list_any (nat_eq (act_at es j)) seen ≡ b → (j ≡ k) ⊎ In ks k → (In ks k → In seen (act_at es k) ⊎ HasAct es (first_acts es seen ks) (act_at es k)) → (In ks k → In (act_at es j ∷ seen) (act_at es k) ⊎ HasAct es (first_acts es (act_at es j ∷ seen) ks) (act_at es k)) → In seen (act_at es k) ⊎ HasAct es (if b then first_acts es seen ks else j ∷ first_acts es (act_at es j ∷ seen) ks) (act_at es k)
+has_step : (es : List Edge) (seen ks : List ℕ) (j k : ℕ) (b : Bool) → list_any (nat_eq (act_at es j)) seen ≡ b → (j ≡ k) ⊎ In ks k →
+    (In ks k → In seen (act_at es k) ⊎ HasAct es (first_acts es seen ks) (act_at es k)) →
+    (In ks k → In (act_at es j ∷ seen) (act_at es k) ⊎ HasAct es (first_acts es (act_at es j ∷ seen) ks) (act_at es k)) → In seen (act_at es k)
+    ⊎ HasAct es (if b then first_acts es seen ks else j ∷ first_acts es (act_at es j ∷ seen) ks) (act_at es k)
 has_step es seen ks j k true e (inl same) x y = inl (let P : ℕ → Type 0 = λ a. In seen a in subst P (ap (act_at es) same) (any_in (act_at es j) seen e))
 has_step es seen ks j k true e (inr h) x y = x h
 has_step es seen ks j k false e (inl same) x y = inr (record { place = j; has = inl refl; does = ap (act_at es) same })
@@ -111,7 +115,8 @@ has_step es seen ks j k false e (inr h) x y = elim (y h) [
 
 has_first : (es : List Edge) (seen ks : List ℕ) (k : ℕ) → In ks k → In seen (act_at es k) ⊎ HasAct es (first_acts es seen ks) (act_at es k)
 has_first es seen [] k h = absurd h
-has_first es seen (j ∷ ks) k h = has_step es seen ks j k (list_any (nat_eq (act_at es j)) seen) refl h (has_first es seen ks k) (has_first es (act_at es j ∷ seen) ks k)
+has_first es seen (j ∷ ks) k h = has_step es seen ks j k (list_any (nat_eq (act_at es j)) seen) refl h (has_first es seen ks k)
+    (has_first es (act_at es j ∷ seen) ks k)
 
 -- ---- the acts of one direction
 pub record Goes (es : List Edge) (groups : List ℕ) (g h k : ℕ) : Type 0 where
@@ -137,7 +142,8 @@ has_act es groups g h act d =
     let p = at_place es groups k.0 d.edge k.1 in
     let test : goes es groups g h k.0 ≡ true = both_true _ _ (eq-eqb _ _ (p.importer ∙ d.importer)) (eq-eqb _ _ (p.exporter ∙ d.exporter)) in
     let P : ℕ → Type 0 = λ a. HasAct es (first_acts es [] (filter (goes es groups g h) (by_link es))) a in
-    subst P (p.does ∙ d.does) (elim (has_first es [] (filter (goes es groups g h) (by_link es)) k.0 (in_filter (goes es groups g h) (by_link es) k.0 (in_by_link es k.0 d.edge k.1) test)) [ inl x ↦ absurd x | inr x ↦ x ])
+    subst P (p.does ∙ d.does) (elim (has_first es [] (filter (goes es groups g h) (by_link es)) k.0
+    (in_filter (goes es groups g h) (by_link es) k.0 (in_by_link es k.0 d.edge k.1) test)) [ inl x ↦ absurd x | inr x ↦ x ])
 
 -- ---- the links
 pub record IsListed (es : List Edge) (groups : List ℕ) (count : ℕ) (l : QLink) : Type 0 where
@@ -155,25 +161,30 @@ range_above a (suc n) m (inl e) = omega arith
 range_above a (suc n) m (inr h) = let r = range_above (a + 1) n m h in omega arith
 
 in_range_from : (a n m : ℕ) → a ≤ m → m < a + n → In (range_with_len a n) m
-in_range_from a n m x y = let P : ℕ → Type 0 = λ k. In (range_with_len a n) k in let same : a + (m - a) ≡ m = omega arith in subst P same (in_range a n (m - a) (omega arith))
+in_range_from a n m x y = let P : ℕ → Type 0 = λ k. In (range_with_len a n) k in let same : a + (m - a) ≡ m = omega arith in
+    subst P same (in_range a n (m - a) (omega arith))
 
 is_listed : (es : List Edge) (groups : List ℕ) (count : ℕ) (l : QLink) → In (quotient_links es groups count) l → IsListed es groups count l
 unfolding quotient_links
 is_listed es groups count l at =
     let g = flat_map_in (group_links_from es groups count) (range_with_len 0 count) l at in
     let h = flat_map_in (links_of_pair es groups g.0) (range_with_len (g.0 + 1) (count - (g.0 + 1))) l g.2 in
-    let i = map_in (group_link g.0 h.0 (acts_into es groups g.0 h.0) (acts_into es groups h.0 g.0)) (range_with_len 0 (max (length (acts_into es groups g.0 h.0)) (length (acts_into es groups h.0 g.0)))) l h.2 in
+    let i = map_in (group_link g.0 h.0 (acts_into es groups g.0 h.0) (acts_into es groups h.0 g.0))
+    (range_with_len 0 (max (length (acts_into es groups g.0 h.0)) (length (acts_into es groups h.0 g.0)))) l h.2 in
     let a = range_above (g.0 + 1) (count - (g.0 + 1)) h.0 h.1 in
     let b = range_in (g.0 + 1) (count - (g.0 + 1)) h.0 h.1 in
     let c = range_in 0 (max (length (acts_into es groups g.0 h.0)) (length (acts_into es groups h.0 g.0))) i.0 i.1 in
     let d = range_in 0 count g.0 g.1 in
     record { g = g.0; h = h.0; i = i.0; ordered = omega arith; inside = omega arith; few = omega arith; is = i.2 }
 
-listed : (es : List Edge) (groups : List ℕ) (count g h i : ℕ) → g < h → h < count → i < max (length (acts_into es groups g h)) (length (acts_into es groups h g)) → In (quotient_links es groups count) (group_link g h (acts_into es groups g h) (acts_into es groups h g) i)
+listed : (es : List Edge) (groups : List ℕ) (count g h i : ℕ) → g < h → h < count →
+    i < max (length (acts_into es groups g h)) (length (acts_into es groups h g)) →
+    In (quotient_links es groups count) (group_link g h (acts_into es groups g h) (acts_into es groups h g) i)
 unfolding quotient_links
 listed es groups count g h i x y z =
     in_flat_map (group_links_from es groups count) (range_with_len 0 count) g _ (in_range_from 0 count g (omega arith) (omega arith))
-    (in_flat_map (links_of_pair es groups g) (range_with_len (g + 1) (count - (g + 1))) h _ (in_range_from (g + 1) (count - (g + 1)) h (omega arith) (omega arith))
+    (in_flat_map (links_of_pair es groups g) (range_with_len (g + 1) (count - (g + 1))) h _
+    (in_range_from (g + 1) (count - (g + 1)) h (omega arith) (omega arith))
     (in_map (group_link g h (acts_into es groups g h) (acts_into es groups h g)) _ i (in_range_from 0 _ i (omega arith) (omega arith))))
 
 test_false : (a b : ℕ) → a ≢ b → nat_eq a b ≡ false
@@ -185,15 +196,20 @@ low_side g h i xs ys = ap (λ (b : Bool). if b then slice_get xs i else slice_ge
 high_side : (g h i : ℕ) (xs ys : List ℕ) → g < h → side_of h (group_link g h xs ys i) ≡ slice_get ys i
 high_side g h i xs ys less = ap (λ (b : Bool). if b then slice_get xs i else slice_get ys i) (test_false g h (λ e. absurd (omega arith)))
 
-real_at : (es : List Edge) (groups : List ℕ) (a b i g h k : ℕ) → a < b → IsJoined (group_link a b (acts_into es groups a b) (acts_into es groups b a) i) g h → side_of g (group_link a b (acts_into es groups a b) (acts_into es groups b a) i) ≡ Some k → IsEdgeAt es groups k g h
+real_at : (es : List Edge) (groups : List ℕ) (a b i g h k : ℕ) → a < b → IsJoined (group_link a b (acts_into es groups a b) (acts_into es groups b a) i) g h →
+    side_of g (group_link a b (acts_into es groups a b) (acts_into es groups b a) i) ≡ Some k → IsEdgeAt es groups k g h
 real_at es groups a b i g h k less (inl j) s =
     let P : ℕ → ℕ → Type 0 = λ x y. IsEdgeAt es groups k x y in
-    let t : side_of a (group_link a b (acts_into es groups a b) (acts_into es groups b a) i) ≡ Some k = ap (λ (x : ℕ). side_of x (group_link a b (acts_into es groups a b) (acts_into es groups b a) i)) j.0 ∙ s in
-    subst (P g) j.1 (subst (λ (x : ℕ). P x b) j.0 (act_place es groups a b k (get_in (acts_into es groups a b) i k (sym (low_side a b i (acts_into es groups a b) (acts_into es groups b a)) ∙ t))))
+    let t : side_of a (group_link a b (acts_into es groups a b) (acts_into es groups b a) i) ≡ Some k =
+    ap (λ (x : ℕ). side_of x (group_link a b (acts_into es groups a b) (acts_into es groups b a) i)) j.0 ∙ s in
+    subst (P g) j.1 (subst (λ (x : ℕ). P x b) j.0
+    (act_place es groups a b k (get_in (acts_into es groups a b) i k (sym (low_side a b i (acts_into es groups a b) (acts_into es groups b a)) ∙ t))))
 real_at es groups a b i g h k less (inr j) s =
     let P : ℕ → ℕ → Type 0 = λ x y. IsEdgeAt es groups k x y in
-    let t : side_of b (group_link a b (acts_into es groups a b) (acts_into es groups b a) i) ≡ Some k = ap (λ (x : ℕ). side_of x (group_link a b (acts_into es groups a b) (acts_into es groups b a) i)) j.0 ∙ s in
-    subst (P g) j.1 (subst (λ (x : ℕ). P x a) j.0 (act_place es groups b a k (get_in (acts_into es groups b a) i k (sym (high_side a b i (acts_into es groups a b) (acts_into es groups b a) less) ∙ t))))
+    let t : side_of b (group_link a b (acts_into es groups a b) (acts_into es groups b a) i) ≡ Some k =
+    ap (λ (x : ℕ). side_of x (group_link a b (acts_into es groups a b) (acts_into es groups b a) i)) j.0 ∙ s in
+    subst (P g) j.1 (subst (λ (x : ℕ). P x a) j.0
+    (act_place es groups b a k (get_in (acts_into es groups b a) i k (sym (high_side a b i (acts_into es groups a b) (acts_into es groups b a) less) ∙ t))))
 
 -- a side that is not there leaves the other one
 get_none : {X : Type 0} (xs : List X) (i : ℕ) → slice_get xs i ≡ None → length xs ≤ i
@@ -201,7 +217,10 @@ get_none [] i h = omega arith
 get_none (x ∷ xs) zero h = cc
 get_none (x ∷ xs) (suc i) h = let r = get_none xs i h in omega arith
 
-used_at : (es : List Edge) (groups : List ℕ) (a b i g h : ℕ) → a < b → i < max (length (acts_into es groups a b)) (length (acts_into es groups b a)) → IsJoined (group_link a b (acts_into es groups a b) (acts_into es groups b a) i) g h → side_of g (group_link a b (acts_into es groups a b) (acts_into es groups b a) i) ≡ None → (k : ℕ) × (side_of h (group_link a b (acts_into es groups a b) (acts_into es groups b a) i) ≡ Some k)
+used_at : (es : List Edge) (groups : List ℕ) (a b i g h : ℕ) → a < b → i < max (length (acts_into es groups a b)) (length (acts_into es groups b a)) →
+    IsJoined (group_link a b (acts_into es groups a b) (acts_into es groups b a) i) g h →
+    side_of g (group_link a b (acts_into es groups a b) (acts_into es groups b a) i) ≡ None →
+    (k : ℕ) × (side_of h (group_link a b (acts_into es groups a b) (acts_into es groups b a) i) ≡ Some k)
 used_at es groups a b i g h less few (inl j) s =
     let xs = acts_into es groups a b in
     let ys = acts_into es groups b a in
@@ -229,14 +248,35 @@ module _ (es : List Edge) (groups : List ℕ) (count : ℕ) (inside : (e : Edge)
       let i = in_get (acts_into es groups g h) a.place a.has in
       let few = slice_get_within (acts_into es groups g h) i.0 a.place i.1 in
       elim (in_order g h apart) [
-        | inl less ↦ record { link = group_link g h (acts_into es groups g h) (acts_into es groups h g) i.0; has = contains_in _ _ (listed es groups count g h i.0 less (omega arith) (omega arith)); joined = inl (refl, refl); edge = a.place; side = low_side g h i.0 (acts_into es groups g h) (acts_into es groups h g) ∙ i.1; does = a.does }
-        | inr less ↦ record { link = group_link h g (acts_into es groups h g) (acts_into es groups g h) i.0; has = contains_in _ _ (listed es groups count h g i.0 less (omega arith) (omega arith)); joined = inr (refl, refl); edge = a.place; side = high_side h g i.0 (acts_into es groups h g) (acts_into es groups g h) less ∙ i.1; does = a.does }
+        | inl less ↦ record {
+          link = group_link g h (acts_into es groups g h) (acts_into es groups h g) i.0;
+          has =
+              contains_in _ _ (listed es groups count g h i.0 less (omega arith) (omega arith));
+          joined = inl (refl, refl);
+          edge = a.place;
+          side =
+              low_side g h i.0 (acts_into es groups g h) (acts_into es groups h g) ∙ i.1;
+          does = a.does;
+        }
+        | inr less ↦ record {
+          link = group_link h g (acts_into es groups h g) (acts_into es groups g h) i.0;
+          has =
+              contains_in _ _ (listed es groups count h g i.0 less (omega arith) (omega arith));
+          joined = inr (refl, refl);
+          edge = a.place;
+          side =
+              high_side h g i.0 (acts_into es groups h g) (acts_into es groups g h) less ∙ i.1;
+          does = a.does;
+        }
       ]
 
 pub quotient_carries : QuotientCarries
 quotient_carries es groups count inside = record {
-  below = (λ l has. (let at = is_listed es groups count l (in_contains _ l has) in let P : QLink → Type 0 = λ (l : QLink). IsBelow count l in subst P at.is (record { ordered = at.ordered; inside = at.inside })));
-  real = (λ l g h k has. (let at = is_listed es groups count l (in_contains _ l has) in let P : QLink → Type 0 = λ (l : QLink). IsJoined l g h → side_of g l ≡ Some k → IsEdgeAt es groups k g h in subst P at.is (real_at es groups at.g at.h at.i g h k at.ordered)));
+  below = (λ l has. (let at = is_listed es groups count l (in_contains _ l has) in let P : QLink → Type 0 = λ (l : QLink). IsBelow count l in
+      subst P at.is (record { ordered = at.ordered; inside = at.inside })));
+  real = (λ l g h k has. (let at = is_listed es groups count l (in_contains _ l has) in let P : QLink → Type 0 = λ (l : QLink). IsJoined l g h →
+      side_of g l ≡ Some k → IsEdgeAt es groups k g h in subst P at.is (real_at es groups at.g at.h at.i g h k at.ordered)));
   kept = kept_at es groups count inside;
-  used = (λ l g h has. (let at = is_listed es groups count l (in_contains _ l has) in let P : QLink → Type 0 = λ (l : QLink). IsJoined l g h → side_of g l ≡ None → (k : ℕ) × (side_of h l ≡ Some k) in subst P at.is (used_at es groups at.g at.h at.i g h at.ordered at.few)));
+  used = (λ l g h has. (let at = is_listed es groups count l (in_contains _ l has) in let P : QLink → Type 0 = λ (l : QLink). IsJoined l g h →
+      side_of g l ≡ None → (k : ℕ) × (side_of h l ≡ Some k) in subst P at.is (used_at es groups at.g at.h at.i g h at.ordered at.few)));
 }

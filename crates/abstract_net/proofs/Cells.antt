@@ -38,14 +38,17 @@ high_differs : (x y : Step) → x.high ≢ y.high → same_ends x y ≡ false
 high_differs x y e = grind (arith, nat_tests)
 
 -- a range from a later place on, where nothing comes before
-from_later : {X : Type 0} (f g : ℕ → List X) (a n m : ℕ) → a ≤ m → m ≤ a + n → ((k : ℕ) → k < m → f k ≡ []) → ((k : ℕ) → m ≤ k → f k ≡ g k) → flat_map f (range_with_len a n) ≡ flat_map g (range_with_len m (a + n - m))
+from_later : {X : Type 0} (f g : ℕ → List X) (a n m : ℕ) → a ≤ m → m ≤ a + n → ((k : ℕ) → k < m → f k ≡ []) → ((k : ℕ) → m ≤ k → f k ≡ g k) →
+    flat_map f (range_with_len a n) ≡ flat_map g (range_with_len m (a + n - m))
 from_later f g a zero m low high before after = ap (λ (k : ℕ). flat_map g (range_with_len m k)) (let z : 0 ≡ a + 0 - m = omega arith in z)
 from_later f g a (suc n) m low high before after = elim (cases_lt a m) [
-  | inl less ↦ ap (λ xs. xs ++ flat_map f (range_with_len (a + 1) n)) (before a less) ∙ from_later f g (a + 1) n m (omega arith) (omega arith) before after ∙ ap (λ (k : ℕ). flat_map g (range_with_len m k)) (let z : a + 1 + n - m ≡ a + suc n - m = omega arith in z)
+  | inl less ↦ ap (λ xs. xs ++ flat_map f (range_with_len (a + 1) n)) (before a less) ∙ from_later f g (a + 1) n m (omega arith) (omega arith) before after
+      ∙ ap (λ (k : ℕ). flat_map g (range_with_len m k)) (let z : a + 1 + n - m ≡ a + suc n - m = omega arith in z)
   | inr more ↦
       let same : a ≡ m = omega arith in
       let count : suc n ≡ a + suc n - m = omega arith in
-      all_alike f g a (suc n) (λ k from. after k (omega arith)) ∙ ap (λ (k : ℕ). flat_map g (range_with_len k (suc n))) same ∙ ap (λ (k : ℕ). flat_map g (range_with_len m k)) count
+      all_alike f g a (suc n) (λ k from. after k (omega arith)) ∙ ap (λ (k : ℕ). flat_map g (range_with_len k (suc n))) same
+      ∙ ap (λ (k : ℕ). flat_map g (range_with_len m k)) count
 ]
   where
     all_alike : {X : Type 0} (p q : ℕ → List X) (b k : ℕ) → ((j : ℕ) → b ≤ j → p j ≡ q j) → flat_map p (range_with_len b k) ≡ flat_map q (range_with_len b k)
@@ -79,7 +82,8 @@ module _ (es : List Edge) (groups : List ℕ) (count : ℕ) where
       let u = key_is high_of steps h x l.0 in
       record { low = l.1; high = u.1; ordered = low_before_high es groups (by_link es) x (first_kinds_in none_met crossings x u.0) }
 
-  run_of : (g h : ℕ) (xs : List Step) (ins outs : List ℕ) → edges_into true xs ≡ ins → edges_into false xs ≡ outs → ((x : Step) → In xs x → InCell g h x) → links_of_run xs ≡ joined_sides g h ins outs
+  run_of : (g h : ℕ) (xs : List Step) (ins outs : List ℕ) → edges_into true xs ≡ ins → edges_into false xs ≡ outs → ((x : Step) → In xs x → InCell g h x) →
+      links_of_run xs ≡ joined_sides g h ins outs
   run_of g h [] ins outs a b all = λ i. joined_sides g h (a i) (b i)
   run_of g h (x ∷ xs) ins outs a b all = let c = all x (inl refl) in λ i. joined_sides (c.low i) (c.high i) (a i) (b i)
 
@@ -88,21 +92,28 @@ module _ (es : List Edge) (groups : List ℕ) (count : ℕ) where
 
   cell_links : (g h : ℕ) → g < h → links_of_steps (cell es groups steps g h) ≡ links_of_pair es groups g h
   cell_links g h less =
-      links_one (cell es groups steps g h) (λ x y i j. (let a = in_cell g h x i in let b = in_cell g h y j in same_from x y (a.low ∙ sym b.low) (a.high ∙ sym b.high)))
-      ∙ run_of g h (cell es groups steps g h) (acts_into es groups g h) (acts_into es groups h g) (edges_of_cell true g h ∙ into_low es groups g h less) (edges_of_cell false g h ∙ into_high es groups g h less) (in_cell g h)
+      links_one (cell es groups steps g h) (λ x y i j.
+      (let a = in_cell g h x i in let b = in_cell g h y j in same_from x y (a.low ∙ sym b.low) (a.high ∙ sym b.high)))
+      ∙ run_of g h (cell es groups steps g h) (acts_into es groups g h) (acts_into es groups h g) (edges_of_cell true g h ∙ into_low es groups g h less)
+      (edges_of_cell false g h ∙ into_high es groups g h less) (in_cell g h)
 
   no_cell : (g h : ℕ) → h ≤ g → links_of_steps (cell es groups steps g h) ≡ []
   unfolding links_of_steps
-  no_cell g h le = ap links_of_steps (none_in (cell es groups steps g h) (λ x at. (let a = in_cell g h x at in let l = a.low in let u = a.high in let o = a.ordered in omega arith)))
+  no_cell g h le = ap links_of_steps (none_in (cell es groups steps g h)
+      (λ x at. (let a = in_cell g h x at in let l = a.low in let u = a.high in let o = a.ordered in omega arith)))
 
   row_links : (g : ℕ) → g < count → links_of_steps (row g) ≡ group_links_from es groups count g
   row_links g inside =
       ap links_of_steps (row_cells g)
-      ∙ links_parts (cell es groups steps g) 0 count (λ i j x y less a b. (let p = in_cell g i x a in let q = in_cell g j y b in let u = p.high in let v = q.high in high_differs x y (λ e. absurd (omega arith))))
-      ∙ from_later (λ h. links_of_steps (cell es groups steps g h)) (links_of_pair es groups g) 0 count (g + 1) (omega arith) (omega arith) (λ h less. no_cell g h (omega arith)) (λ h from. cell_links g h (omega arith))
+      ∙ links_parts (cell es groups steps g) 0 count
+      (λ i j x y less a b. (let p = in_cell g i x a in let q = in_cell g j y b in let u = p.high in let v = q.high in
+      high_differs x y (λ e. absurd (omega arith))))
+      ∙ from_later (λ h. links_of_steps (cell es groups steps g h)) (links_of_pair es groups g) 0 count (g + 1) (omega arith) (omega arith)
+      (λ h less. no_cell g h (omega arith)) (λ h from. cell_links g h (omega arith))
       ∙ ap (λ (k : ℕ). flat_map (links_of_pair es groups g) (range_with_len (g + 1) k)) (let z : 0 + count - (g + 1) ≡ count - (g + 1) = omega arith in z)
 
-  all_rows : (a n : ℕ) → a + n ≤ count → flat_map (λ g. links_of_steps (row g)) (range_with_len a n) ≡ flat_map (group_links_from es groups count) (range_with_len a n)
+  all_rows : (a n : ℕ) → a + n ≤ count → flat_map (λ g. links_of_steps (row g)) (range_with_len a n) ≡ flat_map (group_links_from es groups count)
+      (range_with_len a n)
   all_rows a zero h = refl
   all_rows a (suc n) h = λ i. row_links a (omega arith) i ++ all_rows (a + 1) n (omega arith) i
 

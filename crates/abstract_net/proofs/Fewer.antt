@@ -20,7 +20,8 @@ if_length false x n xs ys a b = omega arith
 
 first_length : (es : List Edge) (seen ks : List ℕ) → length (first_acts es seen ks) ≤ length ks
 first_length es seen [] = omega arith
-first_length es seen (k ∷ ks) = if_length (list_any (nat_eq (act_at es k)) seen) k (length ks) (first_acts es seen ks) (first_acts es (act_at es k ∷ seen) ks) (first_length es seen ks) (first_length es (act_at es k ∷ seen) ks)
+first_length es seen (k ∷ ks) = if_length (list_any (nat_eq (act_at es k)) seen) k (length ks) (first_acts es seen ks) (first_acts es (act_at es k ∷ seen) ks)
+    (first_length es seen ks) (first_length es (act_at es k ∷ seen) ks)
 
 total_below : {X : Type 0} (f g : X → ℕ) (xs : List X) → ((x : X) → In xs x → f x ≤ g x) → total f xs ≤ total g xs
 total_below f g [] h = omega arith
@@ -32,7 +33,8 @@ length_append (x ∷ xs) ys = let a = length_append xs ys in omega arith
 
 filter_flat : {X : Type 0} (p : X → Bool) (f : ℕ → List X) (ls : List ℕ) → length (filter p (flat_map f ls)) ≡ total (λ l. length (filter p (f l))) ls
 filter_flat p f [] = refl
-filter_flat p f (l ∷ ls) = let a = filter-append p (f l) (flat_map f ls) in let b = filter_flat p f ls in let c = ap length a in let d = length_append (filter p (f l)) (filter p (flat_map f ls)) in omega arith
+filter_flat p f (l ∷ ls) = let a = filter-append p (f l) (flat_map f ls) in let b = filter_flat p f ls in let c = ap length a in let d =
+    length_append (filter p (f l)) (filter p (flat_map f ls)) in omega arith
 
 more_range : (f : ℕ → ℕ) (a n m : ℕ) → n ≤ m → total f (range_with_len a n) ≤ total f (range_with_len a m)
 more_range f a zero m h = omega arith
@@ -71,8 +73,10 @@ split_one false f m n h = zero_all m n
 
 one_pair : (x y count : ℕ) → total (λ g. total (λ h. one (is_pair x y g h)) (range_with_len (g + 1) (count - (g + 1)))) (range_with_len 0 count) ≤ 1
 one_pair x y count =
-    let a = total_below (λ g. total (λ h. one (is_pair x y g h)) (range_with_len (g + 1) (count - (g + 1)))) (λ g. one (nat_eq (min x y) g)) (range_with_len 0 count)
-    (λ g at. (let b = total_below (λ h. one (is_pair x y g h)) (λ h. one (nat_eq (min x y) g && nat_eq (max x y) h)) (range_with_len (g + 1) (count - (g + 1))) (λ h in'. pair_ends x y g h (let c = range_above (g + 1) (count - (g + 1)) h in' in omega arith)) in
+    let a = total_below (λ g. total (λ h. one (is_pair x y g h)) (range_with_len (g + 1) (count - (g + 1)))) (λ g. one (nat_eq (min x y) g))
+    (range_with_len 0 count)
+    (λ g at. (let b = total_below (λ h. one (is_pair x y g h)) (λ h. one (nat_eq (min x y) g && nat_eq (max x y) h)) (range_with_len (g + 1) (count - (g + 1)))
+    (λ h in'. pair_ends x y g h (let c = range_above (g + 1) (count - (g + 1)) h in' in omega arith)) in
     let d = split_one (nat_eq (min x y) g) (nat_eq (max x y)) (g + 1) (count - (g + 1)) (at_most_one (g + 1) (count - (g + 1)) (max x y)) in omega arith)) in
     let e = at_most_one 0 count (min x y) in omega arith
 
@@ -82,11 +86,13 @@ module _ (es : List Edge) (groups : List ℕ) (count bound : ℕ) (low high : �
   acts_few g h apart =
       let a = first_length es [] (filter (goes es groups g h) (by_link es)) in
       let b = filter_flat (goes es groups g h) (on_link es) (range_with_len 0 (link_bound es)) in
-      let c = total_below (λ l. length (filter (goes es groups g h) (on_link es l))) (λ l. one (is_pair (low l) (high l) g h)) (range_with_len 0 (link_bound es)) (λ l at. w.once g h l apart) in
+      let c = total_below (λ l. length (filter (goes es groups g h) (on_link es l))) (λ l. one (is_pair (low l) (high l) g h))
+      (range_with_len 0 (link_bound es)) (λ l at. w.once g h l apart) in
       let d = more_range (λ l. one (is_pair (low l) (high l) g h)) 0 (link_bound es) bound w.bounded in
       omega arith
 
-  turned : (g h : ℕ) → total (λ l. one (is_pair (low l) (high l) h g)) (range_with_len 0 bound) ≤ total (λ l. one (is_pair (low l) (high l) g h)) (range_with_len 0 bound)
+  turned : (g h : ℕ) → total (λ l. one (is_pair (low l) (high l) h g)) (range_with_len 0 bound) ≤ total (λ l. one (is_pair (low l) (high l) g h))
+      (range_with_len 0 bound)
   turned g h = total_below _ _ (range_with_len 0 bound) (λ l at. turned_pair (low l) (high l) g h)
 
   pair_few : (g h : ℕ) → g < h → length (links_of_pair es groups g h) ≤ total (λ l. one (is_pair (low l) (high l) g h)) (range_with_len 0 bound)
@@ -94,14 +100,17 @@ module _ (es : List Edge) (groups : List ℕ) (count bound : ℕ) (low high : �
       let a = acts_few g h (λ e. absurd (omega arith)) in
       let b = acts_few h g (λ e. absurd (omega arith)) in
       let c = turned g h in
-      let d = length_mapped (group_link g h (acts_into es groups g h) (acts_into es groups h g)) (range_with_len 0 (max (length (acts_into es groups g h)) (length (acts_into es groups h g)))) in
+      let d = length_mapped (group_link g h (acts_into es groups g h) (acts_into es groups h g))
+      (range_with_len 0 (max (length (acts_into es groups g h)) (length (acts_into es groups h g)))) in
       let e = length-range_with_len 0 (max (length (acts_into es groups g h)) (length (acts_into es groups h g))) in
       omega arith
 
-  from_few : (g : ℕ) → length (group_links_from es groups count g) ≤ total (λ l. total (λ h. one (is_pair (low l) (high l) g h)) (range_with_len (g + 1) (count - (g + 1)))) (range_with_len 0 bound)
+  from_few : (g : ℕ) → length (group_links_from es groups count g) ≤ total
+      (λ l. total (λ h. one (is_pair (low l) (high l) g h)) (range_with_len (g + 1) (count - (g + 1)))) (range_with_len 0 bound)
   from_few g =
       let a = length_total (links_of_pair es groups g) (range_with_len (g + 1) (count - (g + 1))) in
-      let b = total_below (λ h. length (links_of_pair es groups g h)) (λ h. total (λ l. one (is_pair (low l) (high l) g h)) (range_with_len 0 bound)) (range_with_len (g + 1) (count - (g + 1))) (λ h at. pair_few g h (let c = range_above (g + 1) (count - (g + 1)) h at in omega arith)) in
+      let b = total_below (λ h. length (links_of_pair es groups g h)) (λ h. total (λ l. one (is_pair (low l) (high l) g h)) (range_with_len 0 bound))
+      (range_with_len (g + 1) (count - (g + 1))) (λ h at. pair_few g h (let c = range_above (g + 1) (count - (g + 1)) h at in omega arith)) in
       let d = total_swap (λ h l. one (is_pair (low l) (high l) g h)) (range_with_len (g + 1) (count - (g + 1))) (range_with_len 0 bound) in
       omega arith
 
@@ -109,9 +118,13 @@ module _ (es : List Edge) (groups : List ℕ) (count bound : ℕ) (low high : �
   unfolding quotient_links
   fewer =
       let a = length_total (group_links_from es groups count) (range_with_len 0 count) in
-      let b = total_below (λ g. length (group_links_from es groups count g)) (λ g. total (λ l. total (λ h. one (is_pair (low l) (high l) g h)) (range_with_len (g + 1) (count - (g + 1)))) (range_with_len 0 bound)) (range_with_len 0 count) (λ g at. from_few g) in
-      let c = total_swap (λ g l. total (λ h. one (is_pair (low l) (high l) g h)) (range_with_len (g + 1) (count - (g + 1)))) (range_with_len 0 count) (range_with_len 0 bound) in
-      let d = total_below (λ l. total (λ g. total (λ h. one (is_pair (low l) (high l) g h)) (range_with_len (g + 1) (count - (g + 1)))) (range_with_len 0 count)) (λ _. 1) (range_with_len 0 bound) (λ l at. one_pair (low l) (high l) count) in
+      let b = total_below (λ g. length (group_links_from es groups count g))
+      (λ g. total (λ l. total (λ h. one (is_pair (low l) (high l) g h)) (range_with_len (g + 1) (count - (g + 1)))) (range_with_len 0 bound))
+      (range_with_len 0 count) (λ g at. from_few g) in
+      let c = total_swap (λ g l. total (λ h. one (is_pair (low l) (high l) g h)) (range_with_len (g + 1) (count - (g + 1)))) (range_with_len 0 count)
+      (range_with_len 0 bound) in
+      let d = total_below (λ l. total (λ g. total (λ h. one (is_pair (low l) (high l) g h)) (range_with_len (g + 1) (count - (g + 1))))
+      (range_with_len 0 count)) (λ _. 1) (range_with_len 0 bound) (λ l at. one_pair (low l) (high l) count) in
       let e = all_ones 0 bound in
       omega arith
 

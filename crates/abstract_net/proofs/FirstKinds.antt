@@ -47,7 +47,8 @@ kinds_are x y e =
 pub first_kinds_in : (met : Step → Bool) (xs : List Step) (y : Step) → In (first_kinds met xs) y → In xs y
 first_kinds_in met [] y at = absurd at
 first_kinds_in met (x ∷ xs) y at = by (met x) (λ m there. first_kinds_in m xs y there) at where
-  by : (b : Bool) → ((m : Step → Bool) → In (first_kinds m xs) y → In xs y) → In (cond b (first_kinds met xs) (x ∷ first_kinds (met_too x met) xs)) y → In (x ∷ xs) y
+  by : (b : Bool) → ((m : Step → Bool) → In (first_kinds m xs) y → In xs y) → In (cond b (first_kinds met xs) (x ∷ first_kinds (met_too x met) xs)) y →
+      In (x ∷ xs) y
   by true rest there = inr (rest met there)
   by false rest (inl e) = inl e
   by false rest (inr there) = inr (rest (met_too x met) there)
@@ -56,7 +57,8 @@ first_kinds_in met (x ∷ xs) y at = by (met x) (λ m there. first_kinds_in m xs
 abbrev IsOfKinds : (Step → Bool) → Type 0
 IsOfKinds p = (x y : Step) → same_kind x y ≡ true → p x ≡ p y
 
-filter_kinds : (p : Step → Bool) → IsOfKinds p → (met met' : Step → Bool) → ((y : Step) → p y ≡ true → met y ≡ met' y) → (xs : List Step) → filter p (first_kinds met xs) ≡ first_kinds met' (filter p xs)
+filter_kinds : (p : Step → Bool) → IsOfKinds p → (met met' : Step → Bool) → ((y : Step) → p y ≡ true → met y ≡ met' y) → (xs : List Step) →
+    filter p (first_kinds met xs) ≡ first_kinds met' (filter p xs)
 filter_kinds p of met met' agree [] = refl
 filter_kinds p of met met' agree (x ∷ xs) = by (λ m m' a. filter_kinds p of m m' a xs) (p x) refl (met x) refl where
   both : p x ≡ true → (y : Step) → p y ≡ true → met_too x met y ≡ met_too x met' y
@@ -68,7 +70,8 @@ filter_kinds p of met met' agree (x ∷ xs) = by (λ m m' a. filter_kinds p of m
     apart true e = let same = of x y e in absurd cc
     apart false e = ap (λ b. cond b true (met y)) e
 
-  by : ((m m' : Step → Bool) → ((y : Step) → p y ≡ true → m y ≡ m' y) → filter p (first_kinds m xs) ≡ first_kinds m' (filter p xs)) → (b : Bool) → p x ≡ b → (c : Bool) → met x ≡ c → filter p (first_kinds met (x ∷ xs)) ≡ first_kinds met' (filter p (x ∷ xs))
+  by : ((m m' : Step → Bool) → ((y : Step) → p y ≡ true → m y ≡ m' y) → filter p (first_kinds m xs) ≡ first_kinds m' (filter p xs)) → (b : Bool) → p x ≡ b →
+      (c : Bool) → met x ≡ c → filter p (first_kinds met (x ∷ xs)) ≡ first_kinds met' (filter p (x ∷ xs))
   by rest true passes true seen =
       ap (λ c. filter p (cond c (first_kinds met xs) (x ∷ first_kinds (met_too x met) xs))) seen
       ∙ rest met met' agree
@@ -91,7 +94,8 @@ filter_kinds p of met met' agree (x ∷ xs) = by (λ m m' a. filter_kinds p of m
       ∙ sym (ap (λ b. first_kinds met' (cond b (x ∷ filter p xs) (filter p xs))) fails)
 
 -- what the first steps of new acts leave out are steps of kinds that were met
-new_of_kinds : (acts : ℕ → Bool) (met : Step → Bool) (xs : List Step) → ((y : Step) → met y ≡ true → acts y.act ≡ true) → first_new acts (first_kinds met xs) ≡ first_new acts xs
+new_of_kinds : (acts : ℕ → Bool) (met : Step → Bool) (xs : List Step) → ((y : Step) → met y ≡ true → acts y.act ≡ true) →
+    first_new acts (first_kinds met xs) ≡ first_new acts xs
 new_of_kinds acts met [] seen = refl
 new_of_kinds acts met (x ∷ xs) seen = by (λ a m s. new_of_kinds a m xs s) (met x) refl (acts x.act) refl where
   known : acts x.act ≡ true → (y : Step) → met_too x met y ≡ true → acts y.act ≡ true
@@ -107,22 +111,26 @@ new_of_kinds acts met (x ∷ xs) seen = by (λ a m s. new_of_kinds a m xs s) (me
   more : (y : Step) → met_too x met y ≡ true → cond (nat_eq x.act y.act) true (acts y.act) ≡ true
   more y e = of (same_kind x y) refl e where
     of : (b : Bool) → same_kind x y ≡ b → cond b true (met y) ≡ true → cond (nat_eq x.act y.act) true (acts y.act) ≡ true
-    of true same e' = ap (λ b. cond b true (acts y.act)) (let is = (kinds_are x y same).act in let t : nat_eq x.act y.act ≡ true = grind (arith, nat_tests) in t)
+    of true same e' = ap (λ b. cond b true (acts y.act)) (let is = (kinds_are x y same).act in let t : nat_eq x.act y.act ≡ true = grind (arith, nat_tests) in
+        t)
     of false differ e' = ap (λ b. cond (nat_eq x.act y.act) true b) (seen y e') ∙ or_true (nat_eq x.act y.act)
 
-  by : ((a : ℕ → Bool) (m : Step → Bool) → ((y : Step) → m y ≡ true → a y.act ≡ true) → first_new a (first_kinds m xs) ≡ first_new a xs) → (b : Bool) → met x ≡ b → (c : Bool) → acts x.act ≡ c → first_new acts (first_kinds met (x ∷ xs)) ≡ first_new acts (x ∷ xs)
+  by : ((a : ℕ → Bool) (m : Step → Bool) → ((y : Step) → m y ≡ true → a y.act ≡ true) → first_new a (first_kinds m xs) ≡ first_new a xs) → (b : Bool) →
+      met x ≡ b → (c : Bool) → acts x.act ≡ c → first_new acts (first_kinds met (x ∷ xs)) ≡ first_new acts (x ∷ xs)
   by rest true there c is =
       ap (λ b. first_new acts (cond b (first_kinds met xs) (x ∷ first_kinds (met_too x met) xs))) there
       ∙ rest acts met seen
       ∙ sym (ap (λ b. cond b (first_new acts xs) (x.edge ∷ first_new (λ act. cond (nat_eq x.act act) true (acts act)) xs)) (seen x there))
   by rest false new true is =
       ap (λ b. first_new acts (cond b (first_kinds met xs) (x ∷ first_kinds (met_too x met) xs))) new
-      ∙ ap (λ b. cond b (first_new acts (first_kinds (met_too x met) xs)) (x.edge ∷ first_new (λ act. cond (nat_eq x.act act) true (acts act)) (first_kinds (met_too x met) xs))) is
+      ∙ ap (λ b. cond b (first_new acts (first_kinds (met_too x met) xs))
+      (x.edge ∷ first_new (λ act. cond (nat_eq x.act act) true (acts act)) (first_kinds (met_too x met) xs))) is
       ∙ rest acts (met_too x met) (known is)
       ∙ sym (ap (λ b. cond b (first_new acts xs) (x.edge ∷ first_new (λ act. cond (nat_eq x.act act) true (acts act)) xs)) is)
   by rest false new false is =
       ap (λ b. first_new acts (cond b (first_kinds met xs) (x ∷ first_kinds (met_too x met) xs))) new
-      ∙ ap (λ b. cond b (first_new acts (first_kinds (met_too x met) xs)) (x.edge ∷ first_new (λ act. cond (nat_eq x.act act) true (acts act)) (first_kinds (met_too x met) xs))) is
+      ∙ ap (λ b. cond b (first_new acts (first_kinds (met_too x met) xs))
+      (x.edge ∷ first_new (λ act. cond (nat_eq x.act act) true (acts act)) (first_kinds (met_too x met) xs))) is
       ∙ ap (λ (ks : List ℕ). x.edge ∷ ks) (rest (λ act. cond (nat_eq x.act act) true (acts act)) (met_too x met) more)
       ∙ sym (ap (λ b. cond b (first_new acts xs) (x.edge ∷ first_new (λ act. cond (nat_eq x.act act) true (acts act)) xs)) is)
 
@@ -132,9 +140,11 @@ edges_of_kinds b xs =
     ap (first_new (λ act. false)) (filter_kinds (goes_into b) (λ x y e. ap (λ side. beq side b) (kinds_are x y e).into_low) none_met none_met (λ y e. refl) xs)
     ∙ new_of_kinds (λ act. false) none_met (filter (goes_into b) xs) (λ y e. e)
 
-pub cell_of_kinds : (xs : List Step) (g h : ℕ) → with_key low_of (with_key high_of (first_kinds none_met xs) h) g ≡ first_kinds none_met (with_key low_of (with_key high_of xs h) g)
+pub cell_of_kinds : (xs : List Step) (g h : ℕ) →
+    with_key low_of (with_key high_of (first_kinds none_met xs) h) g ≡ first_kinds none_met (with_key low_of (with_key high_of xs h) g)
 cell_of_kinds xs g h =
-    ap (λ (ys : List Step). with_key low_of ys g) (filter_kinds (λ x. nat_eq x.high h) (λ x y e. ap (λ n. nat_eq n h) (kinds_are x y e).high) none_met none_met (λ y e. refl) xs)
+    ap (λ (ys : List Step). with_key low_of ys g)
+    (filter_kinds (λ x. nat_eq x.high h) (λ x y e. ap (λ n. nat_eq n h) (kinds_are x y e).high) none_met none_met (λ y e. refl) xs)
     ∙ filter_kinds (λ x. nat_eq x.low g) (λ x y e. ap (λ n. nat_eq n g) (kinds_are x y e).low) none_met none_met (λ y e. refl) (with_key high_of xs h)
 
 not_true : (b : Bool) → not b ≡ true → b ≡ false
@@ -142,7 +152,8 @@ not_true true e = absurd cc
 not_true false e = refl
 
 -- a step of a new kind was put last
-pub new_kind : (met met' : Step → Bool) (old new : List Step) (step : Step) (o : Option Step) (later : List Step) → o ≡ Some step → not (met step) ≡ true → ((y : Step) → met' y ≡ met_too step met y) → new ≡ old ++ step ∷ [] → new ++ first_kinds met' later ≡ old ++ first_kinds met (cons_option o later)
+pub new_kind : (met met' : Step → Bool) (old new : List Step) (step : Step) (o : Option Step) (later : List Step) → o ≡ Some step → not (met step) ≡ true →
+    ((y : Step) → met' y ≡ met_too step met y) → new ≡ old ++ step ∷ [] → new ++ first_kinds met' later ≡ old ++ first_kinds met (cons_option o later)
 new_kind met met' old new step o later is fresh more pushed =
     ap (λ (xs : List Step). xs ++ first_kinds met' later) pushed
     ∙ append_assoc old (step ∷ []) (first_kinds met' later)

@@ -25,12 +25,14 @@ pub step_is : (es : List Edge) (groups : List ℕ) (k : ℕ) (e : Edge) → slic
 step_is es groups k e at = let p = at_place es groups k e at in sym (λ i. step_between (p.importer i) (p.exporter i) (p.does i) (p.link i) k)
 
 -- the steps of the places that are left
-pub left_more : (es : List Edge) (groups places : List ℕ) (k place : ℕ) (o : Option Step) → k < length places → place ≡ slice_index places k → o ≡ step_at es groups place → cons_option o (filter_map (step_at es groups) (drop (k + 1) places)) ≡ filter_map (step_at es groups) (drop k places)
+pub left_more : (es : List Edge) (groups places : List ℕ) (k place : ℕ) (o : Option Step) → k < length places → place ≡ slice_index places k →
+    o ≡ step_at es groups place → cons_option o (filter_map (step_at es groups) (drop (k + 1) places)) ≡ filter_map (step_at es groups) (drop k places)
 left_more es groups places k place o inside at is =
     ap (λ (x : Option Step). cons_option x (filter_map (step_at es groups) (drop (k + 1) places))) (is ∙ ap (step_at es groups) at)
     ∙ sym (ap (filter_map (step_at es groups)) (drop_more places k 0 inside))
 
-module _ (es : List Edge) (groups : List ℕ) (count : ℕ) (numbered : IsNumbered groups count) (importers : All (λ (e : Edge). e.importer < length groups) es) (exporters : All (λ (e : Edge). e.exporter < length groups) es) where
+module _ (es : List Edge) (groups : List ℕ) (count : ℕ) (numbered : IsNumbered groups count) (importers : All (λ (e : Edge). e.importer < length groups) es)
+    (exporters : All (λ (e : Edge). e.exporter < length groups) es) where
   record IsWithin (x : Step) : Type 0 where
     low : x.low < count
     high : x.high < count
@@ -55,11 +57,15 @@ module _ (es : List Edge) (groups : List ℕ) (count : ℕ) (numbered : IsNumber
   highs_within = all_from (λ (x : Step). x.high < count) (first_steps es groups) (λ x at. (within x at).high)
 
   lows_within : All (λ (x : Step). x.low < count) (by_key high_of count (first_steps es groups))
-  lows_within = all_from (λ (x : Step). x.low < count) (by_key high_of count (first_steps es groups)) (λ x at. (within x (by_key_in high_of count (first_steps es groups) x at)).low)
+  lows_within = all_from (λ (x : Step). x.low < count) (by_key high_of count (first_steps es groups))
+      (λ x at. (within x (by_key_in high_of count (first_steps es groups) x at)).low)
 
   -- what two stable sorts make of the steps
-  pub sorted_are : (first by_highs by_lows : List Step) → first ≡ first_steps es groups → ((n : ℕ) → All (λ (x : Step). x.high < n) first → by_highs ≡ by_key high_of n first) → ((n : ℕ) → All (λ (x : Step). x.low < n) by_highs → by_lows ≡ by_key low_of n by_highs) → by_lows ≡ sorted_steps es groups count
+  pub sorted_are : (first by_highs by_lows : List Step) → first ≡ first_steps es groups →
+      ((n : ℕ) → All (λ (x : Step). x.high < n) first → by_highs ≡ by_key high_of n first) →
+      ((n : ℕ) → All (λ (x : Step). x.low < n) by_highs → by_lows ≡ by_key low_of n by_highs) → by_lows ≡ sorted_steps es groups count
   unfolding sorted_steps
   sorted_are first by_highs by_lows is sort_highs sort_lows =
-      let highs : by_highs ≡ by_key high_of count (first_steps es groups) = sort_highs count (subst (All (λ (x : Step). x.high < count)) (sym is) highs_within) ∙ ap (by_key high_of count) is in
+      let highs : by_highs ≡ by_key high_of count (first_steps es groups) = sort_highs count (subst (All (λ (x : Step). x.high < count)) (sym is) highs_within)
+      ∙ ap (by_key high_of count) is in
       sort_lows count (subst (All (λ (x : Step). x.low < count)) (sym highs) lows_within) ∙ ap (by_key low_of count) highs

@@ -42,7 +42,8 @@ pub length_total : {X Y : Type 0} (g : X → List Y) (xs : List X) → length (f
 length_total g [] = refl
 length_total g (x ∷ xs) = let a = length_append (g x) (flat_map g xs) in let b = length_total g xs in omega arith
 
-filter_total_step : {X : Type 0} (p : X → Bool) (x : X) (xs : List X) (b : Bool) → length (filter p xs) ≡ total (λ x. one (p x)) xs → length (cond b (x ∷ filter p xs) (filter p xs)) ≡ one b + total (λ x. one (p x)) xs
+filter_total_step : {X : Type 0} (p : X → Bool) (x : X) (xs : List X) (b : Bool) → length (filter p xs) ≡ total (λ x. one (p x)) xs →
+    length (cond b (x ∷ filter p xs) (filter p xs)) ≡ one b + total (λ x. one (p x)) xs
 filter_total_step p x xs true h = omega arith
 filter_total_step p x xs false h = omega arith
 

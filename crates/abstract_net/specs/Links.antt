@@ -60,7 +60,8 @@ pub record IsInside (groups : List ℕ) (count : ℕ) (e : Edge) : Type 0 where
 
 -- the links carry the acts between groups
 abbrev pub QuotientCarries : Type 0
-QuotientCarries = (es : List Edge) (groups : List ℕ) (count : ℕ) → ((e : Edge) → Contains es e → IsInside groups count e) → CarriesActs es groups count (quotient_links es groups count)
+QuotientCarries = (es : List Edge) (groups : List ℕ) (count : ℕ) → ((e : Edge) → Contains es e → IsInside groups count e) →
+    CarriesActs es groups count (quotient_links es groups count)
 
 abbrev pub is_pair : ℕ → ℕ → ℕ → ℕ → Bool
 is_pair x y g h = (nat_eq x g && nat_eq y h) || (nat_eq x h && nat_eq y g)
@@ -75,4 +76,5 @@ pub record HasEnds (es : List Edge) (groups : List ℕ) (bound : ℕ) (low high 
 
 -- no more links than before
 abbrev pub NoMoreLinks : Type 0
-NoMoreLinks = (es : List Edge) (groups : List ℕ) (count bound : ℕ) (low high : ℕ → ℕ) → HasEnds es groups bound low high → length (quotient_links es groups count) ≤ bound
+NoMoreLinks = (es : List Edge) (groups : List ℕ) (count bound : ℕ) (low high : ℕ → ℕ) → HasEnds es groups bound low high →
+    length (quotient_links es groups count) ≤ bound

@@ -40,10 +40,12 @@ kept_in false y ys e = cc
 
 pub in_filter : {X : Type 0} (p : X → Bool) (xs : List X) (x : X) → In xs x → p x ≡ true → In (filter p xs) x
 in_filter p [] x h e = h
-in_filter {X} p (y ∷ ys) x (inl same) e = let P : X → Type 0 = λ z. In (cond (p y) (y ∷ filter p ys) (filter p ys)) z in subst P same (kept_in (p y) y (filter p ys) (ap p same ∙ e))
+in_filter {X} p (y ∷ ys) x (inl same) e = let P : X → Type 0 = λ z. In (cond (p y) (y ∷ filter p ys) (filter p ys)) z in
+    subst P same (kept_in (p y) y (filter p ys) (ap p same ∙ e))
 in_filter p (y ∷ ys) x (inr h) e = keep_in (p y) y (filter p ys) x (in_filter p ys x h e)
 
-filter_in_step : {X : Type 0} (p : X → Bool) (y : X) (ys : List X) (x : X) (b : Bool) → p y ≡ b → (In (filter p ys) x → In ys x × (p x ≡ true)) → In (cond b (y ∷ filter p ys) (filter p ys)) x → In (y ∷ ys) x × (p x ≡ true)
+filter_in_step : {X : Type 0} (p : X → Bool) (y : X) (ys : List X) (x : X) (b : Bool) → p y ≡ b → (In (filter p ys) x → In ys x × (p x ≡ true)) →
+    In (cond b (y ∷ filter p ys) (filter p ys)) x → In (y ∷ ys) x × (p x ≡ true)
 filter_in_step p y ys x true e ih (inl same) = (inl same, sym (ap p same) ∙ e)
 filter_in_step p y ys x true e ih (inr h) = (inr (ih h).0, (ih h).1)
 filter_in_step p y ys x false e ih h = (inr (ih h).0, (ih h).1)
@@ -73,7 +75,8 @@ in_flat_map f (z ∷ zs) x y (inr h) k = in_right (f z) (flat_map f zs) y (in_fl
 
 pub flat_map_in : {X Y : Type 0} (f : X → List Y) (xs : List X) (y : Y) → In (flat_map f xs) y → (x : X) × In xs x × In (f x) y
 flat_map_in f [] y h = absurd h
-flat_map_in f (z ∷ zs) y h = elim (append_in (f z) (flat_map f zs) y h) [ inl a ↦ (z, inl refl, a) | inr b ↦ (let r = flat_map_in f zs y b in (r.0, inr r.1, r.2)) ]
+flat_map_in f (z ∷ zs) y h = elim (append_in (f z) (flat_map f zs) y h)
+    [ inl a ↦ (z, inl refl, a) | inr b ↦ (let r = flat_map_in f zs y b in (r.0, inr r.1, r.2)) ]
 
 in_cons_option : {X : Type 0} (o : Option X) (ys : List X) (y : X) → In ys y → In (cons_option o ys) y
 in_cons_option None ys y h = h
@@ -88,7 +91,8 @@ in_filter_map f [] x y h e = h
 in_filter_map f (z ∷ zs) x y (inl same) e = in_cons_some (f z) (filter_map f zs) y (ap f same ∙ e)
 in_filter_map f (z ∷ zs) x y (inr h) e = in_cons_option (f z) (filter_map f zs) y (in_filter_map f zs x y h e)
 
-filter_map_in_step : {X Y : Type 0} (f : X → Option Y) (z : X) (zs : List X) (y : Y) (o : Option Y) → f z ≡ o → (In (filter_map f zs) y → (x : X) × In zs x × (f x ≡ Some y)) → In (cons_option o (filter_map f zs)) y → (x : X) × In (z ∷ zs) x × (f x ≡ Some y)
+filter_map_in_step : {X Y : Type 0} (f : X → Option Y) (z : X) (zs : List X) (y : Y) (o : Option Y) → f z ≡ o →
+    (In (filter_map f zs) y → (x : X) × In zs x × (f x ≡ Some y)) → In (cons_option o (filter_map f zs)) y → (x : X) × In (z ∷ zs) x × (f x ≡ Some y)
 filter_map_in_step f z zs y None e ih h = let r = ih h in (r.0, inr r.1, r.2)
 filter_map_in_step f z zs y (Some x) e ih (inl same) = (z, inl refl, e ∙ ap Some same)
 filter_map_in_step f z zs y (Some x) e ih (inr h) = let r = ih h in (r.0, inr r.1, r.2)
@@ -101,7 +105,9 @@ filter_map_in f (z ∷ zs) y h = filter_map_in_step f z zs y (f z) refl (filter_
 pub in_enumerate : {X : Type 0} (xs : List X) (n k : ℕ) (x : X) → slice_get xs k ≡ Some x → In (enumerate_from n xs) (n + k, x)
 in_enumerate [] n k x e = cc
 in_enumerate {X} (y ∷ ys) n zero x e = inl (let same : y ≡ x = cc in let P : X → Type 0 = λ z. ◌≡◌ {A = ℕ × X} (n, y) (n + 0, z) in subst P same (rw add-zero))
-in_enumerate {X} (y ∷ ys) n (suc k) x e = inr (let P : ℕ → Type 0 = λ m. In (enumerate_from (n + 1) ys) (m, x) in let same : n + 1 + k ≡ n + suc k = omega arith in subst P same (in_enumerate ys (n + 1) k x e))
+in_enumerate {X} (y ∷ ys) n (suc k) x e =
+    inr (let P : ℕ → Type 0 = λ m. In (enumerate_from (n + 1) ys) (m, x) in let same : n + 1 + k ≡ n + suc k = omega arith in
+    subst P same (in_enumerate ys (n + 1) k x e))
 
 pub enumerate_in : {X : Type 0} (xs : List X) (n m : ℕ) (x : X) → In (enumerate_from n xs) (m, x) → (k : ℕ) × (m ≡ n + k) × (slice_get xs k ≡ Some x)
 enumerate_in [] n m x h = absurd h
@@ -111,7 +117,8 @@ enumerate_in (y ∷ ys) n m x (inr h) = let r = enumerate_in ys (n + 1) m x h in
 pub in_range : (a n k : ℕ) → k < n → In (range_with_len a n) (a + k)
 in_range a zero k h = absurd (omega arith)
 in_range a (suc n) zero h = inl (omega arith)
-in_range a (suc n) (suc k) h = inr (let P : ℕ → Type 0 = λ m. In (range_with_len (a + 1) n) m in let same : a + 1 + k ≡ a + suc k = omega arith in subst P same (in_range (a + 1) n k (omega arith)))
+in_range a (suc n) (suc k) h = inr (let P : ℕ → Type 0 = λ m. In (range_with_len (a + 1) n) m in let same : a + 1 + k ≡ a + suc k = omega arith in
+    subst P same (in_range (a + 1) n k (omega arith)))
 
 pub range_in : (a n m : ℕ) → In (range_with_len a n) m → m < a + n
 range_in a zero m h = absurd h

@@ -9,10 +9,12 @@ use Rattle.base_kit.specs.Join.{IsChain, IsJoinByChains}
 
 pub mirrored_refl : (edges : List Edge) (groups : List ℕ) (u : ℕ) → IsMirroredAt edges groups u u
 unfolding IsMirroredAt
-mirrored_refl edges groups u k d inside = record { twin = λ imports leaves. (k, slice_index_or edges k d, inside, grind (arith, common_steps), (imports, refl, refl)) }
+mirrored_refl edges groups u k d inside =
+    record { twin = λ imports leaves. (k, slice_index_or edges k d, inside, grind (arith, common_steps), (imports, refl, refl)) }
 
 -- a twin of a twin is a twin
-twin_trans : (edges : List Edge) (groups : List ℕ) (u v w : ℕ) → slice_index groups u ≡ slice_index groups v → IsMirroredAt edges groups v w → (edge : Edge) → HasTwinIfOutgoing edges groups u v edge → HasTwinIfOutgoing edges groups u w edge
+twin_trans : (edges : List Edge) (groups : List ℕ) (u v w : ℕ) → slice_index groups u ≡ slice_index groups v → IsMirroredAt edges groups v w → (edge : Edge) →
+    HasTwinIfOutgoing edges groups u v edge → HasTwinIfOutgoing edges groups u w edge
 unfolding IsMirroredAt
 twin_trans edges groups u v w same second edge first = record {
   twin = λ imports leaves.
@@ -22,12 +24,14 @@ twin_trans edges groups u v w same second edge first = record {
       (k', other', inside', at', (importer', act' ∙ act, into' ∙ into));
 }
 
-pub mirrored_trans : (edges : List Edge) (groups : List ℕ) (u v w : ℕ) → slice_index groups u ≡ slice_index groups v → IsMirroredAt edges groups u v → IsMirroredAt edges groups v w → IsMirroredAt edges groups u w
+pub mirrored_trans : (edges : List Edge) (groups : List ℕ) (u v w : ℕ) → slice_index groups u ≡ slice_index groups v → IsMirroredAt edges groups u v →
+    IsMirroredAt edges groups v w → IsMirroredAt edges groups u w
 unfolding IsMirroredAt
 mirrored_trans edges groups u v w same first second k d inside = twin_trans edges groups u v w same second _ (first k d inside)
 
 -- what is mirrored in a partition is mirrored in a coarser one
-pub mirrored_coarser : (edges : List Edge) (finer coarser : List ℕ) (count u v : ℕ) → All (λ e. e.exporter < count) edges → Refines count finer coarser → u < count → IsMirroredAt edges finer u v → IsMirroredAt edges coarser u v
+pub mirrored_coarser : (edges : List Edge) (finer coarser : List ℕ) (count u v : ℕ) → All (λ e. e.exporter < count) edges → Refines count finer coarser →
+    u < count → IsMirroredAt edges finer u v → IsMirroredAt edges coarser u v
 unfolding IsMirroredAt
 mirrored_coarser edges finer coarser count u v exporters refines hu mirrored k d inside = record {
   twin = λ imports leaves.
@@ -38,22 +42,28 @@ mirrored_coarser edges finer coarser count u v exporters refines hu mirrored k d
 }
 
 -- along a chain colors are equal
-chain_colors : (graph : ActGraph) (first second : List ℕ) → IsAdmissibleOn graph first → IsAdmissibleOn graph second → (chain : List ℕ) (u w : ℕ) → u < graph.count → IsChain graph.count first second u chain w → color graph u ≡ color graph w
+chain_colors : (graph : ActGraph) (first second : List ℕ) → IsAdmissibleOn graph first → IsAdmissibleOn graph second → (chain : List ℕ) (u w : ℕ) →
+    u < graph.count → IsChain graph.count first second u chain w → color graph u ≡ color graph w
 chain_colors graph first second a b [] u w hu e = ap (color graph) e
 chain_colors graph first second a b (v ∷ vs) u w hu (hv, step, rest) =
     elim step [ inl same ↦ a.colors u v hu hv same | inr same ↦ b.colors u v hu hv same ] ∙ chain_colors graph first second a b vs v w hv rest
 
 -- along a chain edges are mirrored in the join
-chain_mirrors : (graph : ActGraph) (first second join : List ℕ) → IsAdmissibleOn graph first → IsAdmissibleOn graph second → IsJoinByChains graph.count first second join → (chain : List ℕ) (u w : ℕ) → u < graph.count → IsChain graph.count first second u chain w → IsMirroredAt graph.edges join u w
+chain_mirrors : (graph : ActGraph) (first second join : List ℕ) → IsAdmissibleOn graph first → IsAdmissibleOn graph second →
+    IsJoinByChains graph.count first second join → (chain : List ℕ) (u w : ℕ) → u < graph.count → IsChain graph.count first second u chain w →
+    IsMirroredAt graph.edges join u w
 chain_mirrors graph first second join a b joined [] u w hu e = subst (IsMirroredAt graph.edges join u) e (mirrored_refl graph.edges join u)
 chain_mirrors graph first second join a b joined (v ∷ vs) u w hu (hv, step, rest) =
     let later = chain_mirrors graph first second join a b joined vs v w hv rest in
     elim step [
-      | inl same ↦ mirrored_trans graph.edges join u v w (joined.first_refines u v hu hv same) (mirrored_coarser graph.edges first join graph.count u v graph.exporters_in_range joined.first_refines hu (a.edges u v hu hv same)) later
-      | inr same ↦ mirrored_trans graph.edges join u v w (joined.second_refines u v hu hv same) (mirrored_coarser graph.edges second join graph.count u v graph.exporters_in_range joined.second_refines hu (b.edges u v hu hv same)) later
+      | inl same ↦ mirrored_trans graph.edges join u v w (joined.first_refines u v hu hv same)
+          (mirrored_coarser graph.edges first join graph.count u v graph.exporters_in_range joined.first_refines hu (a.edges u v hu hv same)) later
+      | inr same ↦ mirrored_trans graph.edges join u v w (joined.second_refines u v hu hv same)
+          (mirrored_coarser graph.edges second join graph.count u v graph.exporters_in_range joined.second_refines hu (b.edges u v hu hv same)) later
     ]
 
-pub join_admissible : (graph : ActGraph) (first second join : List ℕ) → IsAdmissibleOn graph first → IsAdmissibleOn graph second → IsJoinByChains graph.count first second join → IsAdmissibleOn graph join
+pub join_admissible : (graph : ActGraph) (first second join : List ℕ) → IsAdmissibleOn graph first → IsAdmissibleOn graph second →
+    IsJoinByChains graph.count first second join → IsAdmissibleOn graph join
 join_admissible graph first second join a b joined = record {
   total = joined.total;
   colors = λ u w hu hw same. let (chain, is) = joined.chained u w hu hw same in chain_colors graph first second a b chain u w hu is;

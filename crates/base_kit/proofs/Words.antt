@@ -31,10 +31,12 @@ skip : (b : ℕ) (word : List ℕ) → b ≢ 46 → parts_at_points (b ∷ word)
 skip b word other = grind (arith, nat_tests)
 
 -- the first point
-cut : (word : List ℕ) (i : ℕ) → i < length word → ((k : ℕ) → k < i → get_or word k 0 ≢ 46) → get_or word i 0 ≡ 46 → parts_at_points word ≡ take i word ∷ parts_at_points (drop (suc i) word)
+cut : (word : List ℕ) (i : ℕ) → i < length word → ((k : ℕ) → k < i → get_or word k 0 ≢ 46) → get_or word i 0 ≡ 46 →
+    parts_at_points word ≡ take i word ∷ parts_at_points (drop (suc i) word)
 cut [] i below none here = absurd (omega arith)
 cut (b ∷ word) zero below none here = rw here refl
-cut (b ∷ word) (suc i) below none here = skip b word (none 0 (omega arith)) ∙ ap (λ parts. before_first b parts) (cut word i (omega arith) (λ k le. none (suc k) (omega arith)) here)
+cut (b ∷ word) (suc i) below none here = skip b word (none 0 (omega arith))
+    ∙ ap (λ parts. before_first b parts) (cut word i (omega arith) (λ k le. none (suc k) (omega arith)) here)
 
 pub parts_cut : (word : List ℕ) (i : ℕ) → i < length word → ((k : ℕ) → k < i → get_or word k 0 ≢ 46) → get_or word i 0 ≡ 46
     → parts_at_points word ≡ take i word ∷ parts_at_points (take (length word - (i + 1)) (drop (i + 1) word))
@@ -48,9 +50,11 @@ parts_none [] none = refl
 parts_none (b ∷ word) none = skip b word (none 0 (omega arith)) ∙ ap (λ parts. before_first b parts) (parts_none word (λ k le. none (suc k) (omega arith)))
 
 -- a digit more makes it too large
-pub large_step : (most value i : ℕ) (word : List ℕ) → i < length word → value_from value (drop i word) ≡ value_from 0 word → most < value * 10 + (get_or word i 0 - 48) → most < value_from 0 word
+pub large_step : (most value i : ℕ) (word : List ℕ) → i < length word → value_from value (drop i word) ≡ value_from 0 word →
+    most < value * 10 + (get_or word i 0 - 48) → most < value_from 0 word
 large_step most value i word below same large =
-    let here : value_from value (drop i word) ≡ value_from (value * 10 + (get_or word i 0 - 48)) (drop (suc i) word) = ap (λ (w : List ℕ). value_from value w) (drop-cons word i 0 below) in
+    let here : value_from value (drop i word) ≡ value_from (value * 10 + (get_or word i 0 - 48)) (drop (suc i) word) =
+    ap (λ (w : List ℕ). value_from value w) (drop-cons word i 0 below) in
     omega (arith, value_from-le (value * 10 + (get_or word i 0 - 48)) (drop (suc i) word), here, same)
 
 -- there is always a part

@@ -11,7 +11,8 @@ use Rattle.buckets.specs.Buckets.{same_pair, is_at, Index, bucket, PushesAt, IsI
 items_of : {T : Type 0} → Option (Vec T Global) → List T
 items_of {T} o = option_map_or (λ (v : Vec T Global). v.items) o []
 
-pushed_step : {T : Type 0} (old mid new : Option (Vec T Global)) (same : List T) (b : Bool) (v : Vec T Global) (x : T) → mid ≡ cond b None old → new ≡ cond b (Some v) mid → v.items ≡ same ++ x ∷ [] → (b ≡ true → same ≡ items_of old) → items_of new ≡ cond b (items_of old ++ x ∷ []) (items_of old)
+pushed_step : {T : Type 0} (old mid new : Option (Vec T Global)) (same : List T) (b : Bool) (v : Vec T Global) (x : T) → mid ≡ cond b None old →
+    new ≡ cond b (Some v) mid → v.items ≡ same ++ x ∷ [] → (b ≡ true → same ≡ items_of old) → items_of new ≡ cond b (items_of old ++ x ∷ []) (items_of old)
 unfolding items_of
 pushed_step {T} old mid new same true v x e f g h = ap items_of f ∙ g ∙ ap (λ (l : List T). l ++ x ∷ []) (h refl)
 pushed_step old mid new same false v x e f g h = ap items_of f ∙ ap items_of e
@@ -38,10 +39,12 @@ pub pushed : {T : Type 0} (old mid new : Index T) (pair : ℕ × ℕ) (v : Vec T
     → same ≡ bucket old pair → v.items ≡ same ++ x ∷ [] → PushesAt old new pair x
 unfolding items_of
 pushed old mid new pair v same x taken put is items = record {
-  each = λ q. pushed_step (get same_pair old q) (get same_pair mid q) (get same_pair new q) same (same_pair pair q) v x (taken q) (put q) items (λ e. is ∙ ap (λ p. bucket old p) (same_pairs pair q e));
+  each = λ q. pushed_step (get same_pair old q) (get same_pair mid q) (get same_pair new q) same (same_pair pair q) v x (taken q) (put q) items
+      (λ e. is ∙ ap (λ p. bucket old p) (same_pairs pair q e));
 }
 
-pub unwrapped : {T : Type 0} (o : Option (Vec T Global)) (d : Vec T Global) → d.items ≡ [] → (unwrap_or o d).items ≡ option_map_or (λ (v : Vec T Global). v.items) o []
+pub unwrapped : {T : Type 0} (o : Option (Vec T Global)) (d : Vec T Global) → d.items ≡ [] →
+    (unwrap_or o d).items ≡ option_map_or (λ (v : Vec T Global). v.items) o []
 unwrapped None d e = e
 unwrapped (Some v) d e = refl
 
@@ -60,17 +63,21 @@ cond_last true l x = refl
 cond_last false l x = sym (no_more l)
 
 -- what stands at a pair, after an item was put in
-at_pair : {T : Type 0} (pair_of : T → ℕ × ℕ) (old new : Index T) (x : T) (q : ℕ × ℕ) → PushesAt old new (pair_of x) x → bucket new q ≡ bucket old q ++ filter (is_at pair_of q) (x ∷ [])
+at_pair : {T : Type 0} (pair_of : T → ℕ × ℕ) (old new : Index T) (x : T) (q : ℕ × ℕ) → PushesAt old new (pair_of x) x → bucket new q ≡ bucket old q
+    ++ filter (is_at pair_of q) (x ∷ [])
 at_pair pair_of old new x q adds =
     adds.each q
     ∙ ap (λ b. cond b (bucket old q ++ x ∷ []) (bucket old q)) (same_turned (pair_of x) q)
     ∙ cond_last (is_at pair_of q x) (bucket old q) x
 
-one_more : {T : Type 0} (test : T → Bool) (xs : List T) (i : ℕ) (x : T) → i < length xs → x ≡ get_or xs i x → filter test (take i xs) ++ filter test (x ∷ []) ≡ filter test (take (i + 1) xs)
-one_more {T} test xs i x below here = sym (ap (λ (l : List T). filter test l) (take_more xs i x below ∙ ap (λ (y : T). take i xs ++ y ∷ []) (sym here)) ∙ filter-append test (take i xs) (x ∷ []))
+one_more : {T : Type 0} (test : T → Bool) (xs : List T) (i : ℕ) (x : T) → i < length xs → x ≡ get_or xs i x → filter test (take i xs)
+    ++ filter test (x ∷ []) ≡ filter test (take (i + 1) xs)
+one_more {T} test xs i x below here = sym (ap (λ (l : List T). filter test l) (take_more xs i x below ∙ ap (λ (y : T). take i xs ++ y ∷ []) (sym here))
+    ∙ filter-append test (take i xs) (x ∷ []))
 
 -- an index of some items, with one item more
-pub index_turn : {T : Type 0} (pair_of : T → ℕ × ℕ) (old new : Index T) (xs : List T) (i : ℕ) (x : T) → i < length xs → x ≡ get_or xs i x → PushesAt old new (pair_of x) x → IsIndex pair_of old (take i xs) → IsIndex pair_of new (take (i + 1) xs)
+pub index_turn : {T : Type 0} (pair_of : T → ℕ × ℕ) (old new : Index T) (xs : List T) (i : ℕ) (x : T) → i < length xs → x ≡ get_or xs i x →
+    PushesAt old new (pair_of x) x → IsIndex pair_of old (take i xs) → IsIndex pair_of new (take (i + 1) xs)
 index_turn {T} pair_of old new xs i x below here adds so_far = record {
   each = λ q.
       let test = is_at pair_of q in
@@ -78,7 +85,8 @@ index_turn {T} pair_of old new xs i x below here adds so_far = record {
 }
 
 -- the same of one pair, behind what stood there before
-pub bucket_turn : {T : Type 0} (pair_of : T → ℕ × ℕ) (first old new : Index T) (xs : List T) (i : ℕ) (x : T) (q : ℕ × ℕ) → i < length xs → x ≡ get_or xs i x → PushesAt old new (pair_of x) x
+pub bucket_turn : {T : Type 0} (pair_of : T → ℕ × ℕ) (first old new : Index T) (xs : List T) (i : ℕ) (x : T) (q : ℕ × ℕ) → i < length xs → x ≡ get_or xs i x →
+    PushesAt old new (pair_of x) x
     → bucket old q ≡ bucket first q ++ filter (is_at pair_of q) (take i xs) → bucket new q ≡ bucket first q ++ filter (is_at pair_of q) (take (i + 1) xs)
 bucket_turn {T} pair_of first old new xs i x q below here adds so_far =
     let test = is_at pair_of q in

@@ -33,7 +33,8 @@ items_one same tells [] [] e = refl
 items_one same tells [] (y ∷ ys) e = absurd (true≢false (sym e))
 items_one same tells (x ∷ xs) [] e = absurd (true≢false (sym e))
 items_one same tells (x ∷ xs) (y ∷ ys) e =
-    ap (λ z. z ∷ xs) (tells.one x y (both_first (same x y) (same_items same xs ys) e)) ∙ ap (λ zs. y ∷ zs) (items_one same tells xs ys (both_second (same x y) (same_items same xs ys) e))
+    ap (λ z. z ∷ xs) (tells.one x y (both_first (same x y) (same_items same xs ys) e))
+    ∙ ap (λ zs. y ∷ zs) (items_one same tells xs ys (both_second (same x y) (same_items same xs ys) e))
 
 items_self : {X : Type 0} (same : X → X → Bool) → Tells same → (xs : List X) → same_items same xs xs ≡ true
 items_self same tells [] = refl
@@ -74,7 +75,8 @@ origins_tell = record { one = one; self = self } where
       ap (λ r. let o : Origin = record { router = r; cost = x.cost } in o) router ∙ ap (λ c. let o : Origin = record { router = y.router; cost = c } in o) cost
 
   self : (x : Origin) → same_origin x x ≡ true
-  self x = both_are (nat_eq x.router x.router) (option_eq nat_eq x.cost x.cost) (let t : nat_eq x.router x.router ≡ true = grind (arith, nat_tests) in t) (cost_self x.cost)
+  self x = both_are (nat_eq x.router x.router) (option_eq nat_eq x.cost x.cost) (let t : nat_eq x.router x.router ≡ true = grind (arith, nat_tests) in t)
+      (cost_self x.cost)
 
 pub one_class : (network : Network) (p q : Prefix) → is_same_class network p q ≡ true → IsSameClass network p q
 unfolding is_same_class
@@ -90,11 +92,13 @@ is_one_class network p q same = both_are _ _
     (ap (same_items beq (answers_of network p)) (sym same.answers) ∙ (items_tell beq beq_tells).self (answers_of network p))
 
 -- members of one class are in one class with the same prefixes
-alike_tests : (network : Network) (p q : Prefix) → IsSameClass network p q → (ps : List Prefix) → filter (is_same_class network p) ps ≡ filter (is_same_class network q) ps
+alike_tests : (network : Network) (p q : Prefix) → IsSameClass network p q → (ps : List Prefix) →
+    filter (is_same_class network p) ps ≡ filter (is_same_class network q) ps
 unfolding is_same_class
 alike_tests network p q same ps =
     ap (λ os. filter (λ r. same_items same_origin os (origins_of network r) && same_items beq (answers_of network p) (answers_of network r)) ps) same.origins
-    ∙ ap (λ all. filter (λ r. same_items same_origin (origins_of network q) (origins_of network r) && same_items beq all (answers_of network r)) ps) same.answers
+    ∙ ap (λ all. filter (λ r. same_items same_origin (origins_of network q) (origins_of network r) && same_items beq all (answers_of network r)) ps)
+    same.answers
 
 pub class_of_each : (network : Network) (p q : Prefix) → IsSameClass network p q → class_of network p ≡ class_of network q
 class_of_each network p q same =

@@ -19,7 +19,9 @@ inside_line bs i k lt gt le =
     rw (ne_eqb k 0 (omega arith), first_fails (newline_at bs) i (length bs) (k - 1) (omega arith) (omega arith) (omega arith)) refl
 
 -- where the lines after this one begin
-others : (bs : List ℕ) (i : ℕ) → i < length bs → filter (begins_line bs) (range_with_len (i + 1) (length bs - (i + 1))) ≡ filter (begins_line bs) (range_with_len (newline_from bs i + 1) (length bs - (newline_from bs i + 1)))
+others : (bs : List ℕ) (i : ℕ) → i < length bs →
+    filter (begins_line bs) (range_with_len (i + 1) (length bs - (i + 1))) ≡ filter (begins_line bs)
+    (range_with_len (newline_from bs i + 1) (length bs - (newline_from bs i + 1)))
 others bs i lt =
     let end = newline_from bs i in
     let past : i ≤ end = first_from (newline_at bs) i (length bs) in
@@ -29,14 +31,19 @@ others bs i lt =
       | inl short ↦
           let n : length bs - (i + 1) ≡ (end - i) + (length bs - (end + 1)) = omega arith in
           let m : (i + 1) + (end - i) ≡ end + 1 = omega arith in
-          let none : filter p (range_with_len (i + 1) (end - i)) ≡ [] = filter_none p (i + 1) (end - i) (λ k l h. inside_line bs i k lt (omega arith) (omega arith)) in
-          ap (λ (k : ℕ). filter p (range_with_len (i + 1) k)) n ∙ ap (filter p) (range_split (i + 1) (end - i) (length bs - (end + 1))) ∙ filter-append p (range_with_len (i + 1) (end - i)) (range_with_len ((i + 1) + (end - i)) (length bs - (end + 1)))
-          ∙ ap (λ (xs : List ℕ). xs ++ filter p (range_with_len ((i + 1) + (end - i)) (length bs - (end + 1)))) none ∙ ap (λ (k : ℕ). filter p (range_with_len k (length bs - (end + 1)))) m
+          let none : filter p (range_with_len (i + 1) (end - i)) ≡ [] =
+          filter_none p (i + 1) (end - i) (λ k l h. inside_line bs i k lt (omega arith) (omega arith)) in
+          ap (λ (k : ℕ). filter p (range_with_len (i + 1) k)) n ∙ ap (filter p) (range_split (i + 1) (end - i) (length bs - (end + 1)))
+          ∙ filter-append p (range_with_len (i + 1) (end - i)) (range_with_len ((i + 1) + (end - i)) (length bs - (end + 1)))
+          ∙ ap (λ (xs : List ℕ). xs ++ filter p (range_with_len ((i + 1) + (end - i)) (length bs - (end + 1)))) none
+          ∙ ap (λ (k : ℕ). filter p (range_with_len k (length bs - (end + 1)))) m
       | inr all ↦
-          filter_none p (i + 1) (length bs - (i + 1)) (λ k l h. inside_line bs i k lt (omega arith) (omega arith)) ∙ sym (ap (filter p) (range_end (end + 1) (length bs) (omega arith)))
+          filter_none p (i + 1) (length bs - (i + 1)) (λ k l h. inside_line bs i k lt (omega arith) (omega arith))
+          ∙ sym (ap (filter p) (range_end (end + 1) (length bs) (omega arith)))
     ]
 
-pub pieces_next : (bs : List ℕ) (n i : ℕ) → i < length bs → begins_line bs i ≡ true → pieces_from bs n i ≡ piece_at bs (n, i) ∷ pieces_from bs (n + 1) (newline_from bs i + 1)
+pub pieces_next : (bs : List ℕ) (n i : ℕ) → i < length bs → begins_line bs i ≡ true →
+    pieces_from bs n i ≡ piece_at bs (n, i) ∷ pieces_from bs (n + 1) (newline_from bs i + 1)
 unfolding pieces_from
 pieces_next bs n i lt begins =
     let p = begins_line bs in
@@ -50,7 +57,8 @@ pieces_end bs n i le = rw (range_end i (length bs) le) refl
 
 pub begins_next : (bs : List ℕ) (i : ℕ) → i < length bs → newline_from bs i + 1 < length bs → begins_line bs (newline_from bs i + 1) ≡ true
 begins_next bs i lt short =
-    let here : newline_at bs (newline_from bs i + 1 - 1) ≡ true = ap (newline_at bs) (let e : newline_from bs i + 1 - 1 ≡ newline_from bs i = omega arith in e) ∙ first_passes (newline_at bs) i (length bs) (omega arith) (omega arith) in
+    let here : newline_at bs (newline_from bs i + 1 - 1) ≡ true = ap (newline_at bs) (let e : newline_from bs i + 1 - 1 ≡ newline_from bs i = omega arith in e)
+    ∙ first_passes (newline_at bs) i (length bs) (omega arith) (omega arith) in
     rw (ne_eqb (newline_from bs i + 1) 0 (omega arith), here) refl
 
 -- ---- what is read of them
@@ -59,7 +67,8 @@ abbrev pub with_front : {X : Type 0} → List X → Result (List X) ReadRefusal 
 with_front front (Ok xs) = Ok (front ++ xs)
 with_front front (Err e) = Err e
 
-pub with_front-push : {X : Type 0} (front : List X) (x : X) (r : Result (List X) ReadRefusal) → with_front (front ++ x ∷ []) r ≡ with_front front (with_front (x ∷ []) r)
+pub with_front-push : {X : Type 0} (front : List X) (x : X) (r : Result (List X) ReadRefusal) →
+    with_front (front ++ x ∷ []) r ≡ with_front front (with_front (x ∷ []) r)
 with_front-push front x (Ok xs) = ap (λ v. Ok v) (append_assoc front (x ∷ []) xs)
 with_front-push front x (Err e) = refl
 
@@ -71,7 +80,8 @@ unless_front : {X : Type 0} (fs : List ReadRefusal) (x : X) (xs : List X) → un
 unless_front [] x xs = refl
 unless_front (f ∷ fs) x xs = refl
 
-pub lines_kept : (bs : List ℕ) (p : Piece) (ps : List Piece) → kind_at bs p ≡ None → is_kept bs p ≡ true → lines_in bs (p ∷ ps) ≡ with_front (line_of bs p ∷ []) (lines_in bs ps)
+pub lines_kept : (bs : List ℕ) (p : Piece) (ps : List Piece) → kind_at bs p ≡ None → is_kept bs p ≡ true →
+    lines_in bs (p ∷ ps) ≡ with_front (line_of bs p ∷ []) (lines_in bs ps)
 unfolding lines_in
 lines_kept bs p ps e k = rw (e, k) (unless_front (line_faults bs ps) (line_of bs p) (map (line_of bs) (filter (is_kept bs) ps)))
 
@@ -100,26 +110,37 @@ mk n from upto = record { number = n; from = from; upto = upto }
 is_piece : (bs : List ℕ) (n from end upto : ℕ) → end ≡ newline_from bs from → upto ≡ without_return bs from end → mk n from upto ≡ piece_at bs (n, from)
 is_piece bs n from end upto e f = ap (mk n from) (f ∙ ap (without_return bs from) e)
 
-cut_front : (bs : List ℕ) (n from end upto : ℕ) (ws : List Span) → Cut bs n from end upto ws → lines_in bs (pieces_from bs n from) ≡ lines_in bs (mk n from upto ∷ pieces_from bs (n + 1) (end + 1))
+cut_front : (bs : List ℕ) (n from end upto : ℕ) (ws : List Span) → Cut bs n from end upto ws →
+    lines_in bs (pieces_from bs n from) ≡ lines_in bs (mk n from upto ∷ pieces_from bs (n + 1) (end + 1))
 cut_front bs n from end upto ws cut =
-    ap (lines_in bs) (pieces_next bs n from cut.inside cut.begins ∙ ap (λ (p : Piece). p ∷ pieces_from bs (n + 1) (newline_from bs from + 1)) (sym (is_piece bs n from end upto cut.to_newline cut.less_return)) ∙ ap (λ (e : ℕ). mk n from upto ∷ pieces_from bs (n + 1) (e + 1)) (sym cut.to_newline))
+    ap (lines_in bs) (pieces_next bs n from cut.inside cut.begins
+    ∙ ap (λ (p : Piece). p ∷ pieces_from bs (n + 1) (newline_from bs from + 1)) (sym (is_piece bs n from end upto cut.to_newline cut.less_return))
+    ∙ ap (λ (e : ℕ). mk n from upto ∷ pieces_from bs (n + 1) (e + 1)) (sym cut.to_newline))
 
-pub line_taken : (bs : List ℕ) (n from end upto dent : ℕ) (ws : List Span) (found found' : List Line) (all : Result (List Line) ReadRefusal) → Cut bs n from end upto ws → are_kept bs ws ≡ true → dent ≡ indent_between bs from upto → found' ≡ found ++ record { number = n; indent = dent; words = ws } ∷ [] → with_front found (lines_in bs (pieces_from bs n from)) ≡ all → with_front found' (lines_in bs (pieces_from bs (n + 1) (end + 1))) ≡ all
+pub line_taken : (bs : List ℕ) (n from end upto dent : ℕ) (ws : List Span) (found found' : List Line) (all : Result (List Line) ReadRefusal) →
+    Cut bs n from end upto ws → are_kept bs ws ≡ true → dent ≡ indent_between bs from upto →
+    found' ≡ found ++ record { number = n; indent = dent; words = ws } ∷ [] → with_front found (lines_in bs (pieces_from bs n from)) ≡ all →
+    with_front found' (lines_in bs (pieces_from bs (n + 1) (end + 1))) ≡ all
 line_taken bs n from end upto dent ws found found' all cut keep dented grown given =
     let rest = lines_in bs (pieces_from bs (n + 1) (end + 1)) in
     let is_line : line_of bs (mk n from upto) ≡ record { number = n; indent = dent; words = ws } = rw (cut.has_words, dented) refl in
     let kept_here : is_kept bs (mk n from upto) ≡ true = ap (are_kept bs) (sym cut.has_words) ∙ keep in
     ap (λ (f : List Line). with_front f rest) grown ∙ with_front-push found (record { number = n; indent = dent; words = ws }) rest
     ∙ ap (λ (x : Line). with_front found (with_front (x ∷ []) rest)) (sym is_line)
-    ∙ ap (with_front found) (sym (cut_front bs n from end upto ws cut ∙ lines_kept bs (mk n from upto) (pieces_from bs (n + 1) (end + 1)) cut.no_fault kept_here)) ∙ given
+    ∙ ap (with_front found) (sym (cut_front bs n from end upto ws cut
+    ∙ lines_kept bs (mk n from upto) (pieces_from bs (n + 1) (end + 1)) cut.no_fault kept_here)) ∙ given
 
-pub line_passed : (bs : List ℕ) (n from end upto : ℕ) (ws : List Span) (found : List Line) (all : Result (List Line) ReadRefusal) → Cut bs n from end upto ws → are_kept bs ws ≡ false → with_front found (lines_in bs (pieces_from bs n from)) ≡ all → with_front found (lines_in bs (pieces_from bs (n + 1) (end + 1))) ≡ all
+pub line_passed : (bs : List ℕ) (n from end upto : ℕ) (ws : List Span) (found : List Line) (all : Result (List Line) ReadRefusal) → Cut bs n from end upto ws →
+    are_kept bs ws ≡ false → with_front found (lines_in bs (pieces_from bs n from)) ≡ all →
+    with_front found (lines_in bs (pieces_from bs (n + 1) (end + 1))) ≡ all
 line_passed bs n from end upto ws found all cut skip given =
     let skipped : is_kept bs (mk n from upto) ≡ false = ap (are_kept bs) (sym cut.has_words) ∙ skip in
-    ap (with_front found) (sym (cut_front bs n from end upto ws cut ∙ lines_skipped bs (mk n from upto) (pieces_from bs (n + 1) (end + 1)) cut.no_fault skipped)) ∙ given
+    ap (with_front found) (sym (cut_front bs n from end upto ws cut
+    ∙ lines_skipped bs (mk n from upto) (pieces_from bs (n + 1) (end + 1)) cut.no_fault skipped)) ∙ given
 
 -- a line is put to those before it, unless it is skipped
-pub line_read : (bs : List ℕ) (n from end upto dent : ℕ) (ws : List Span) (found found' : List Line) (all : Result (List Line) ReadRefusal) → Cut bs n from end upto ws → dent ≡ indent_between bs from upto
+pub line_read : (bs : List ℕ) (n from end upto dent : ℕ) (ws : List Span) (found found' : List Line) (all : Result (List Line) ReadRefusal) →
+    Cut bs n from end upto ws → dent ≡ indent_between bs from upto
     → found' ≡ cond (are_kept bs ws) (found ++ record { number = n; indent = dent; words = ws } ∷ []) found
     → with_front found (lines_in bs (pieces_from bs n from)) ≡ all → with_front found' (lines_in bs (pieces_from bs (n + 1) (end + 1))) ≡ all
 line_read bs n from end upto dent ws found found' all cut dented grown given = by (are_kept bs ws) refl
@@ -131,10 +152,15 @@ line_read bs n from end upto dent ws found found' all cut dented grown given = b
     by true keep = line_taken bs n from end upto dent ws found found' all cut keep dented (grown ∙ ap (λ b. cond b longer found) keep) given
     by false skip = rw (grown ∙ ap (λ b. cond b longer found) skip) (line_passed bs n from end upto ws found all cut skip given)
 
-pub line_faulty : (bs : List ℕ) (n from end upto : ℕ) (k : Kind) (found : List Line) (all : Result (List Line) ReadRefusal) → from < length bs → begins_line bs from ≡ true → end ≡ newline_from bs from → upto ≡ without_return bs from end → kind_at bs (record { number = n; from = from; upto = upto }) ≡ Some k → with_front found (lines_in bs (pieces_from bs n from)) ≡ all → all ≡ Err (At n k)
+pub line_faulty : (bs : List ℕ) (n from end upto : ℕ) (k : Kind) (found : List Line) (all : Result (List Line) ReadRefusal) → from < length bs →
+    begins_line bs from ≡ true → end ≡ newline_from bs from → upto ≡ without_return bs from end →
+    kind_at bs (record { number = n; from = from; upto = upto }) ≡ Some k → with_front found (lines_in bs (pieces_from bs n from)) ≡ all → all ≡ Err (At n k)
 line_faulty bs n from end upto k found all inside begins e f fault given =
     let faulty : kind_at bs (piece_at bs (n, from)) ≡ Some k = ap (kind_at bs) (sym (is_piece bs n from end upto e f)) ∙ fault in
-    sym given ∙ ap (with_front found) (ap (lines_in bs) (pieces_next bs n from inside begins) ∙ lines_fault bs (piece_at bs (n, from)) (pieces_from bs (n + 1) (newline_from bs from + 1)) k faulty)
+    sym given ∙ ap (with_front found) (ap (lines_in bs) (pieces_next bs n from inside begins)
+    ∙ lines_fault bs (piece_at bs (n, from)) (pieces_from bs (n + 1) (newline_from bs from + 1)) k faulty)
 
-pub lines_done : (bs : List ℕ) (n from : ℕ) (found : List Line) (all : Result (List Line) ReadRefusal) → length bs ≤ from → with_front found (lines_in bs (pieces_from bs n from)) ≡ all → all ≡ Ok found
-lines_done bs n from found all le given = sym given ∙ ap (λ (ps : List Piece). with_front found (lines_in bs ps)) (pieces_end bs n from le) ∙ ap (with_front found) (lines_none bs) ∙ ap (λ v. Ok v) (append-nil found)
+pub lines_done : (bs : List ℕ) (n from : ℕ) (found : List Line) (all : Result (List Line) ReadRefusal) → length bs ≤ from →
+    with_front found (lines_in bs (pieces_from bs n from)) ≡ all → all ≡ Ok found
+lines_done bs n from found all le given = sym given ∙ ap (λ (ps : List Piece). with_front found (lines_in bs ps)) (pieces_end bs n from le)
+    ∙ ap (with_front found) (lines_none bs) ∙ ap (λ v. Ok v) (append-nil found)

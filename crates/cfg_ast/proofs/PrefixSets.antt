@@ -48,7 +48,8 @@ AllAfter-trans p q (r ∷ rs) first all = (before_trans p q r first all.0, AllAf
 AllAfter-with : (r p : Prefix) (ps : List Prefix) → is_before r p ≡ true → AllAfter r ps → AllAfter r (with_prefix p ps)
 AllAfter-with r p [] first all = (first, tt)
 AllAfter-with r p (q ∷ qs) first all = step (is_before p q) (same_prefix p q) first all (AllAfter-with r p qs first all.1) where
-  step : (b s : Bool) → is_before r p ≡ true → AllAfter r (q ∷ qs) → AllAfter r (with_prefix p qs) → AllAfter r (cond b (p ∷ q ∷ qs) (cond s (q ∷ qs) (q ∷ with_prefix p qs)))
+  step : (b s : Bool) → is_before r p ≡ true → AllAfter r (q ∷ qs) → AllAfter r (with_prefix p qs) →
+      AllAfter r (cond b (p ∷ q ∷ qs) (cond s (q ∷ qs) (q ∷ with_prefix p qs)))
   step true s first all more = (first, all)
   step false true first all more = all
   step false false first all more = (all.0, more)
@@ -56,7 +57,8 @@ AllAfter-with r p (q ∷ qs) first all = step (is_before p q) (same_prefix p q) 
 pub ascending_with_prefix : (p : Prefix) (ps : List Prefix) → AreAscending ps → AreAscending (with_prefix p ps)
 ascending_with_prefix p [] up = (tt, tt)
 ascending_with_prefix p (q ∷ qs) up = step (is_before p q) (same_prefix p q) refl refl up (ascending_with_prefix p qs up.1) where
-  step : (b s : Bool) → is_before p q ≡ b → same_prefix p q ≡ s → AreAscending (q ∷ qs) → AreAscending (with_prefix p qs) → AreAscending (cond b (p ∷ q ∷ qs) (cond s (q ∷ qs) (q ∷ with_prefix p qs)))
+  step : (b s : Bool) → is_before p q ≡ b → same_prefix p q ≡ s → AreAscending (q ∷ qs) → AreAscending (with_prefix p qs) →
+      AreAscending (cond b (p ∷ q ∷ qs) (cond s (q ∷ qs) (q ∷ with_prefix p qs)))
   step true s before same up more = ((before, AllAfter-trans p q qs before up.0), up)
   step false true before same up more = up
   step false false before same up more = (AllAfter-with q p qs (before_if_not p q before same) up.0, more)
@@ -85,7 +87,8 @@ or_apart false false c = refl
 pub has-with_prefix : (q : Prefix) (ps : List Prefix) (p : Prefix) → has_prefix (with_prefix q ps) p ≡ (same_prefix p q || has_prefix ps p)
 has-with_prefix q [] p = refl
 has-with_prefix q (r ∷ rs) p = step (is_before q r) (same_prefix q r) (λ same. ap (same_prefix p) (one_prefix q r same)) (has-with_prefix q rs p) where
-  step : (b s : Bool) → (s ≡ true → same_prefix p q ≡ same_prefix p r) → has_prefix (with_prefix q rs) p ≡ (same_prefix p q || has_prefix rs p) → has_prefix (cond b (q ∷ r ∷ rs) (cond s (r ∷ rs) (r ∷ with_prefix q rs))) p ≡ (same_prefix p q || (same_prefix p r || has_prefix rs p))
+  step : (b s : Bool) → (s ≡ true → same_prefix p q ≡ same_prefix p r) → has_prefix (with_prefix q rs) p ≡ (same_prefix p q || has_prefix rs p) →
+      has_prefix (cond b (q ∷ r ∷ rs) (cond s (r ∷ rs) (r ∷ with_prefix q rs))) p ≡ (same_prefix p q || (same_prefix p r || has_prefix rs p))
   step true s one more = refl
   step false true one more = or_same (same_prefix p q) (same_prefix p r) (has_prefix rs p) (one refl)
   step false false one more = ap (λ b. same_prefix p r || b) more ∙ or_swap (same_prefix p q) (same_prefix p r) (has_prefix rs p)
@@ -93,7 +96,8 @@ has-with_prefix q (r ∷ rs) p = step (is_before q r) (same_prefix q r) (λ same
 pub has-with_prefixes : (more ps : List Prefix) (p : Prefix) → has_prefix (with_prefixes more ps) p ≡ (has_prefix more p || has_prefix ps p)
 has-with_prefixes [] ps p = refl
 has-with_prefixes (q ∷ more) ps p =
-    has-with_prefixes more (with_prefix q ps) p ∙ ap (λ b. has_prefix more p || b) (has-with_prefix q ps p) ∙ or_apart (has_prefix more p) (same_prefix p q) (has_prefix ps p)
+    has-with_prefixes more (with_prefix q ps) p ∙ ap (λ b. has_prefix more p || b) (has-with_prefix q ps p)
+    ∙ or_apart (has_prefix more p) (same_prefix p q) (has_prefix ps p)
 
 -- a prefix before all of a list is not in it
 pub has_not_before : (q : Prefix) (ps : List Prefix) (p : Prefix) → AllAfter q ps → same_prefix p q ≡ true → has_prefix ps p ≡ false

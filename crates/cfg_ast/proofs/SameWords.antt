@@ -23,13 +23,16 @@ range_none bs i = let e : i - i ≡ 0 = omega arith in rw e refl
 cut : (n : ℕ) (bs : List ℕ) (i e upto : ℕ) → e ≡ i + n → e ≤ upto → upto ≤ length bs → slice_range bs i upto ≡ slice_range bs i e ++ slice_range bs e upto
 cut zero bs i e upto h le in_text = let s : e ≡ i = omega arith in rw (s, range_none bs i) refl
 cut (suc n) bs i e upto h le in_text =
-    rw (range_more bs i upto (omega arith) in_text, range_more bs i e (omega arith) (omega arith)) (ap (λ (xs : List ℕ). get_or bs i 0 ∷ xs) (cut n bs (i + 1) e upto (omega arith) le in_text))
+    rw (range_more bs i upto (omega arith) in_text, range_more bs i e (omega arith) (omega arith))
+    (ap (λ (xs : List ℕ). get_or bs i 0 ∷ xs) (cut n bs (i + 1) e upto (omega arith) le in_text))
 
 -- a test that each byte of a range passes
-pub range_all : (n : ℕ) (P : ℕ → Type 0) (bs : List ℕ) (i e : ℕ) → e ≡ i + n → e ≤ length bs → ((k : ℕ) → i ≤ k → k < e → P (get_or bs k 0)) → All P (slice_range bs i e)
+pub range_all : (n : ℕ) (P : ℕ → Type 0) (bs : List ℕ) (i e : ℕ) → e ≡ i + n → e ≤ length bs → ((k : ℕ) → i ≤ k → k < e → P (get_or bs k 0)) →
+    All P (slice_range bs i e)
 range_all zero P bs i e h le each = let s : e ≡ i = omega arith in rw (s, range_none bs i) (λ k d lt. absurd (omega arith))
 range_all (suc n) P bs i e h le each =
-    rw (range_more bs i e (omega arith) le) (All-cons P (get_or bs i 0) (slice_range bs (i + 1) e) (each i (omega arith) (omega arith)) (range_all n P bs (i + 1) e (omega arith) le (λ k l m. each k (omega arith) m)))
+    rw (range_more bs i e (omega arith) le) (All-cons P (get_or bs i 0) (slice_range bs (i + 1) e) (each i (omega arith) (omega arith))
+    (range_all n P bs (i + 1) e (omega arith) le (λ k l m. each k (omega arith) m)))
 
 abbrev of_range : List ℕ → ℕ → ℕ → List (List ℕ)
 of_range bs i upto = words_of (slice_range bs i upto)
@@ -42,14 +45,16 @@ some_range : (bs : List ℕ) (i e : ℕ) → i < e → e ≤ length bs → is_so
 some_range bs i e lt le = rw (range_more bs i e lt le) refl
 
 -- a word at the front, and what stands behind it
-of_word : (bs : List ℕ) (i upto : ℕ) → i < upto → upto ≤ length bs → blank_at bs i ≡ false → of_range bs i upto ≡ slice_range bs i (word_end bs i upto) ∷ of_range bs (word_end bs i upto) upto
+of_word : (bs : List ℕ) (i upto : ℕ) → i < upto → upto ≤ length bs → blank_at bs i ≡ false →
+    of_range bs i upto ≡ slice_range bs i (word_end bs i upto) ∷ of_range bs (word_end bs i upto) upto
 unfolding words_of
 of_word bs i upto lt le full =
     let e = word_end bs i upto in
     let past : i < e = word_past bs i upto lt full in
     let below : e ≤ upto = first_below (blank_at bs) i upto (omega arith) in
     let w = slice_range bs i e in
-    let clean : All (λ b. is_blank b ≡ false) w = range_all (e - i) (λ b. is_blank b ≡ false) bs i e (omega arith) (omega arith) (λ k l m. first_fails (blank_at bs) i upto k (omega arith) l m) in
+    let clean : All (λ b. is_blank b ≡ false) w =
+    range_all (e - i) (λ b. is_blank b ≡ false) bs i e (omega arith) (omega arith) (λ k l m. first_fails (blank_at bs) i upto k (omega arith) l m) in
     let some : is_some_word w ≡ true = some_range bs i e past (omega arith) in
     let parts : slice_range bs i upto ≡ w ++ slice_range bs e upto = cut (e - i) bs i e upto (omega arith) below le in
     elim (cases_lt e upto) [
@@ -87,7 +92,9 @@ same (suc n) bs i upto h iu le =
             | inr e ↦
                 let past : i < word_end bs i upto = word_past bs i upto lt e in
                 let below : word_end bs i upto ≤ upto = first_below (blank_at bs) i upto (omega arith) in
-                ap (texts bs) (words_word bs i upto lt e) ∙ ap (λ (ws : List (List ℕ)). slice_range bs i (word_end bs i upto) ∷ ws) (same n bs (word_end bs i upto) upto (omega arith) below le) ∙ sym (of_word bs i upto lt le e)
+                ap (texts bs) (words_word bs i upto lt e)
+                ∙ ap (λ (ws : List (List ℕ)). slice_range bs i (word_end bs i upto) ∷ ws) (same n bs (word_end bs i upto) upto (omega arith) below le)
+                ∙ sym (of_word bs i upto lt le e)
           ]
     ]
 

@@ -39,16 +39,22 @@ pub words_blank : (bs : List ℕ) (i upto : ℕ) → i < upto → blank_at bs i 
 unfolding words_between
 words_blank bs i upto lt blank =
     let here : begins_word bs i i ≡ false = rw blank refl in
-    let first : filter (begins_word bs i) (range_with_len i (upto - i)) ≡ filter (begins_word bs i) (range_with_len (i + 1) (upto - (i + 1))) = ap (filter (begins_word bs i)) (range_step i upto lt) ∙ rw here refl in
+    let first : filter (begins_word bs i) (range_with_len i (upto - i)) ≡ filter (begins_word bs i) (range_with_len (i + 1) (upto - (i + 1))) =
+    ap (filter (begins_word bs i)) (range_step i upto lt) ∙ rw here refl in
     let rest = filter_same (begins_word bs i) (begins_word bs (i + 1)) (i + 1) (upto - (i + 1)) (λ k l h. behind_blank bs i k blank (omega arith)) in
     ap (map (word_at bs upto)) (first ∙ rest)
 
 -- the bytes of a word begin none behind its first
 inside_word : (bs : List ℕ) (i upto k : ℕ) → i < upto → i < k → k < word_end bs i upto → begins_word bs i k ≡ false
 inside_word bs i upto k lt gt in_word =
-    rw (first_fails (blank_at bs) i upto k (omega arith) (omega arith) in_word, ne_eqb k i (omega arith), first_fails (blank_at bs) i upto (k - 1) (omega arith) (omega arith) (omega arith)) refl
+    rw (
+      first_fails (blank_at bs) i upto k (omega arith) (omega arith) in_word,
+      ne_eqb k i (omega arith),
+      first_fails (blank_at bs) i upto (k - 1) (omega arith) (omega arith) (omega arith),
+    ) refl
 
-behind_word : (bs : List ℕ) (i upto k : ℕ) → i < upto → i < word_end bs i upto → word_end bs i upto ≤ k → k < upto → begins_word bs i k ≡ begins_word bs (word_end bs i upto) k
+behind_word : (bs : List ℕ) (i upto k : ℕ) → i < upto → i < word_end bs i upto → word_end bs i upto ≤ k → k < upto →
+    begins_word bs i k ≡ begins_word bs (word_end bs i upto) k
 behind_word bs i upto k lt past le inside =
     elim (cases_lt (word_end bs i upto) k) [
       | inl gt ↦ same_behind bs i (word_end bs i upto) k past gt
@@ -58,7 +64,8 @@ behind_word bs i upto k lt past le inside =
           rw blank refl
     ]
 
-pub words_word : (bs : List ℕ) (i upto : ℕ) → i < upto → blank_at bs i ≡ false → words_between bs i upto ≡ word_at bs upto i ∷ words_between bs (word_end bs i upto) upto
+pub words_word : (bs : List ℕ) (i upto : ℕ) → i < upto → blank_at bs i ≡ false →
+    words_between bs i upto ≡ word_at bs upto i ∷ words_between bs (word_end bs i upto) upto
 unfolding words_between
 words_word bs i upto lt full =
     let end = word_end bs i upto in
@@ -69,12 +76,16 @@ words_word bs i upto lt full =
     let n : upto - (i + 1) ≡ (end - (i + 1)) + (upto - end) = omega arith in
     let m : (i + 1) + (end - (i + 1)) ≡ end = omega arith in
     let split : range_with_len (i + 1) (upto - (i + 1)) ≡ range_with_len (i + 1) (end - (i + 1)) ++ range_with_len end (upto - end) =
-    ap (range_with_len (i + 1)) n ∙ range_split (i + 1) (end - (i + 1)) (upto - end) ∙ ap (λ (a : ℕ). range_with_len (i + 1) (end - (i + 1)) ++ range_with_len a (upto - end)) m in
-    let none : filter p (range_with_len (i + 1) (end - (i + 1))) ≡ [] = filter_none p (i + 1) (end - (i + 1)) (λ k l h. inside_word bs i upto k lt (omega arith) (omega arith)) in
+    ap (range_with_len (i + 1)) n ∙ range_split (i + 1) (end - (i + 1)) (upto - end)
+    ∙ ap (λ (a : ℕ). range_with_len (i + 1) (end - (i + 1)) ++ range_with_len a (upto - end)) m in
+    let none : filter p (range_with_len (i + 1) (end - (i + 1))) ≡ [] =
+    filter_none p (i + 1) (end - (i + 1)) (λ k l h. inside_word bs i upto k lt (omega arith) (omega arith)) in
     let rest = filter_same p (begins_word bs end) end (upto - end) (λ k l h. behind_word bs i upto k lt past l (omega arith)) in
-    let first : filter p (range_with_len i (upto - i)) ≡ i ∷ filter p (range_with_len (i + 1) (upto - (i + 1))) = ap (filter p) (range_step i upto lt) ∙ rw here refl in
+    let first : filter p (range_with_len i (upto - i)) ≡ i ∷ filter p (range_with_len (i + 1) (upto - (i + 1))) = ap (filter p) (range_step i upto lt)
+    ∙ rw here refl in
     let second : filter p (range_with_len (i + 1) (upto - (i + 1))) ≡ filter (begins_word bs end) (range_with_len end (upto - end)) =
-    ap (filter p) split ∙ filter-append p (range_with_len (i + 1) (end - (i + 1))) (range_with_len end (upto - end)) ∙ ap (λ (xs : List ℕ). xs ++ filter p (range_with_len end (upto - end))) none ∙ rest in
+    ap (filter p) split ∙ filter-append p (range_with_len (i + 1) (end - (i + 1))) (range_with_len end (upto - end))
+    ∙ ap (λ (xs : List ℕ). xs ++ filter p (range_with_len end (upto - end))) none ∙ rest in
     ap (map (word_at bs upto)) (first ∙ ap (λ (xs : List ℕ). i ∷ xs) second)
 
 pub words_end : (bs : List ℕ) (i upto : ℕ) → upto ≤ i → words_between bs i upto ≡ []

@@ -9,7 +9,26 @@ use Rattle.cfg_check.specs.Laws.{FaultlessIsAccepted}
 no_faults : (n : Network) → IsFaultless n → meaning_faults n ≡ []
 unfolding meaning_faults
 no_faults n is =
-    rw (is.shared_name, is.shared_as, is.internal_peer, is.mixed_protocols, is.other_area, is.undefined_map, is.undefined_list, is.delete_list, is.shared_address, is.overlapping, is.loopback_mask, is.no_cost, is.too_many_routers, is.too_many_communities, is.too_many_neighbors, is.too_many_links, is.prepend_form, is.prepend_in) refl
+    rw (
+      is.shared_name,
+      is.shared_as,
+      is.internal_peer,
+      is.mixed_protocols,
+      is.other_area,
+      is.undefined_map,
+      is.undefined_list,
+      is.delete_list,
+      is.shared_address,
+      is.overlapping,
+      is.loopback_mask,
+      is.no_cost,
+      is.too_many_routers,
+      is.too_many_communities,
+      is.too_many_neighbors,
+      is.too_many_links,
+      is.prepend_form,
+      is.prepend_in,
+    ) refl
 
 pub faultless_is_accepted : FaultlessIsAccepted
 unfolding judged

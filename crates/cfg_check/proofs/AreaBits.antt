@@ -21,12 +21,15 @@ one_bit v w true false = and_block 1 v w 1 0 (omega arith) (omega arith)
 one_bit v w false true = and_block 1 v w 0 1 (omega arith) (omega arith)
 one_bit v w false false = and_block 1 v w 0 0 (omega arith) (omega arith)
 
-both_tests : (p q : AreaLine → Bool) (v w : ℕ) (lines : List AreaLine) → bit_and (bits_after p v lines) (bits_after q w lines) ≡ bits_after (λ line. p line && q line) (bit_and v w) lines
+both_tests : (p q : AreaLine → Bool) (v w : ℕ) (lines : List AreaLine) →
+    bit_and (bits_after p v lines) (bits_after q w lines) ≡ bits_after (λ line. p line && q line) (bit_and v w) lines
 both_tests p q v w [] = refl
-both_tests p q v w (line ∷ lines) = both_tests p q (with_bit v (p line)) (with_bit w (q line)) lines ∙ ap (λ (word : ℕ). bits_after (λ l. p l && q l) word lines) (one_bit v w (p line) (q line))
+both_tests p q v w (line ∷ lines) = both_tests p q (with_bit v (p line)) (with_bit w (q line)) lines
+    ∙ ap (λ (word : ℕ). bits_after (λ l. p l && q l) word lines) (one_bit v w (p line) (q line))
 
 -- one place more
-pub next_place : (place addr : ℕ) (lines : List AreaLine) (chunk before word : ℕ) → before ≡ bits_of (agrees_below place addr) lines chunk → word ≡ bits_of (agrees_at place (digit_at place addr)) lines chunk
+pub next_place : (place addr : ℕ) (lines : List AreaLine) (chunk before word : ℕ) → before ≡ bits_of (agrees_below place addr) lines chunk →
+    word ≡ bits_of (agrees_at place (digit_at place addr)) lines chunk
     → bit_and before word ≡ bits_of (agrees_below (suc place) addr) lines chunk
 next_place place addr lines chunk before word so_far here =
     ap (λ (n : ℕ). bit_and n word) so_far ∙ ap (bit_and (bits_of (agrees_below place addr) lines chunk)) here
@@ -52,11 +55,13 @@ bit_more : (word : ℕ) (bit rest : Bool) → (not (nat_eq (with_bit word bit) 0
 bit_more word true rest = ap (λ b. not b || rest) (a_bit word) ∙ sym (or_yes (not (nat_eq word 0)))
 bit_more word false rest = ap (λ b. not b || rest) (no_bit word)
 
-some_after : (test : AreaLine → Bool) (word : ℕ) (lines : List AreaLine) → not (nat_eq (bits_after test word lines) 0) ≡ (not (nat_eq word 0) || list_any test lines)
+some_after : (test : AreaLine → Bool) (word : ℕ) (lines : List AreaLine) →
+    not (nat_eq (bits_after test word lines) 0) ≡ (not (nat_eq word 0) || list_any test lines)
 some_after test word [] = sym (or_no (not (nat_eq word 0)))
 some_after test word (line ∷ lines) = some_after test (with_bit word (test line)) lines ∙ bit_more word (test line) (list_any test lines)
 
-some_bit : (test : AreaLine → Bool) (lines : List AreaLine) (chunk word : ℕ) → word ≡ bits_of test lines chunk → not (nat_eq word 0) ≡ list_any test (slice_chunk lines 64 chunk)
+some_bit : (test : AreaLine → Bool) (lines : List AreaLine) (chunk word : ℕ) → word ≡ bits_of test lines chunk →
+    not (nat_eq word 0) ≡ list_any test (slice_chunk lines 64 chunk)
 some_bit test lines chunk word is = ap (λ (n : ℕ). not (nat_eq n 0)) is ∙ some_after test 0 (slice_chunk lines 64 chunk)
 
 -- One chunk more.
@@ -67,13 +72,15 @@ take-more {X} n m xs =
     ∙ ap (λ (front : List X). front ++ drop n (take (n + m) xs)) (take-take n (n + m) xs (omega arith))
     ∙ ap (λ (back : List X). take n xs ++ back) (drop-take n m xs)
 
-chunk_more : (test : AreaLine → Bool) (lines : List AreaLine) (chunk : ℕ) → list_any test (take ((chunk + 1) * 64) lines) ≡ (list_any test (take (chunk * 64) lines) || list_any test (slice_chunk lines 64 chunk))
+chunk_more : (test : AreaLine → Bool) (lines : List AreaLine) (chunk : ℕ) →
+    list_any test (take ((chunk + 1) * 64) lines) ≡ (list_any test (take (chunk * 64) lines) || list_any test (slice_chunk lines 64 chunk))
 chunk_more test lines chunk =
     ap (λ (n : ℕ). list_any test (take n lines)) (let e : (chunk + 1) * 64 ≡ chunk * 64 + 64 = omega arith in e)
     ∙ ap (λ (l : List AreaLine). list_any test l) (take-more (chunk * 64) 64 lines)
     ∙ list_any-append test (take (chunk * 64) lines) (slice_chunk lines 64 chunk)
 
-pub none_in_chunk : (test : AreaLine → Bool) (lines : List AreaLine) (chunk word : ℕ) → word ≡ bits_of test lines chunk → word ≡ 0 → list_any test (take (chunk * 64) lines) ≡ false → list_any test (take ((chunk + 1) * 64) lines) ≡ false
+pub none_in_chunk : (test : AreaLine → Bool) (lines : List AreaLine) (chunk word : ℕ) → word ≡ bits_of test lines chunk → word ≡ 0 →
+    list_any test (take (chunk * 64) lines) ≡ false → list_any test (take ((chunk + 1) * 64) lines) ≡ false
 none_in_chunk test lines chunk word is nothing so_far =
     chunk_more test lines chunk ∙ ap (λ b. b || list_any test (slice_chunk lines 64 chunk)) so_far
     ∙ sym (some_bit test lines chunk word is) ∙ ap (λ (n : ℕ). not (nat_eq n 0)) nothing
@@ -85,11 +92,13 @@ pub one_in_chunk : (test : AreaLine → Bool) (lines : List AreaLine) (chunk wor
 one_in_chunk test lines chunk word is ne =
     let n = (chunk + 1) * 64 in
     let front : list_any test (take n lines) ≡ true =
-    chunk_more test lines chunk ∙ ap (λ b. list_any test (take (chunk * 64) lines) || b) (sym (some_bit test lines chunk word is) ∙ not_zero word ne) ∙ or_yes (list_any test (take (chunk * 64) lines)) in
+    chunk_more test lines chunk ∙ ap (λ b. list_any test (take (chunk * 64) lines) || b) (sym (some_bit test lines chunk word is) ∙ not_zero word ne)
+    ∙ or_yes (list_any test (take (chunk * 64) lines)) in
     ap (λ (l : List AreaLine). list_any test l) (sym (take-append-drop n lines))
     ∙ list_any-append test (take n lines) (drop n lines) ∙ ap (λ b. b || list_any test (drop n lines)) front
 
-pub none_in_all : (test : AreaLine → Bool) (lines : List AreaLine) (n : ℕ) → length lines ≤ n → list_any test (take n lines) ≡ false → list_any test lines ≡ false
+pub none_in_all : (test : AreaLine → Bool) (lines : List AreaLine) (n : ℕ) → length lines ≤ n → list_any test (take n lines) ≡ false →
+    list_any test lines ≡ false
 none_in_all test lines n covers none = ap (λ (l : List AreaLine). list_any test l) (sym (take_all n lines covers)) ∙ none
 
 -- To agree in each digit is to agree.
@@ -115,14 +124,16 @@ first_digit k x y =
     ∙ ap (λ (n : ℕ). nat_eq n (y / 2 ^ k * 2 ^ k + y % 2 ^ k)) (div-add-mod' x (2 ^ k))
     ∙ ap (nat_eq x) (div-add-mod' y (2 ^ k))
 
-digits_or : (k a l w : ℕ) → nat_eq (bit_or (a / 2 ^ k % 16) (w / 2 ^ k % 16)) (bit_or (l / 2 ^ k % 16) (w / 2 ^ k % 16)) ≡ nat_eq (bit_or a w / 2 ^ k % 16) (bit_or l w / 2 ^ k % 16)
+digits_or : (k a l w : ℕ) → nat_eq (bit_or (a / 2 ^ k % 16) (w / 2 ^ k % 16)) (bit_or (l / 2 ^ k % 16) (w / 2 ^ k % 16)) ≡ nat_eq (bit_or a w / 2 ^ k % 16)
+    (bit_or l w / 2 ^ k % 16)
 digits_or k a l w =
     ap (λ (n : ℕ). nat_eq n (bit_or (l / 2 ^ k % 16) (w / 2 ^ k % 16))) (digit_or k a w)
     ∙ ap (nat_eq (bit_or a w / 2 ^ k % 16)) (digit_or k l w)
 
 -- one digit more
 low_agree : (k a l w : ℕ) (before : Bool) → before ≡ nat_eq (bit_or a w % 2 ^ k) (bit_or l w % 2 ^ k)
-    → (before && nat_eq (bit_or (a / 2 ^ k % 16) (w / 2 ^ k % 16)) (bit_or (l / 2 ^ k % 16) (w / 2 ^ k % 16))) ≡ nat_eq (bit_or a w % 2 ^ (4 + k)) (bit_or l w % 2 ^ (4 + k))
+    → (before && nat_eq (bit_or (a / 2 ^ k % 16) (w / 2 ^ k % 16)) (bit_or (l / 2 ^ k % 16) (w / 2 ^ k % 16))) ≡ nat_eq (bit_or a w % 2 ^ (4 + k))
+    (bit_or l w % 2 ^ (4 + k))
 low_agree k a l w before so_far =
     ap (λ (b : Bool). b && nat_eq (bit_or (a / 2 ^ k % 16) (w / 2 ^ k % 16)) (bit_or (l / 2 ^ k % 16) (w / 2 ^ k % 16))) so_far
     ∙ ap (λ (b : Bool). nat_eq (bit_or a w % 2 ^ k) (bit_or l w % 2 ^ k) && b) (digits_or k a l w)
@@ -163,17 +174,22 @@ pub take_first : {X : Type 0} (n : ℕ) (xs : List X) → take (min (length xs) 
 take_first {X} n xs = ap (λ (k : ℕ). take k xs) (let e : min (length xs) n ≡ min n (length xs) = omega arith in e) ∙ take_min n xs
 
 -- one row more
-pub row_more : (old new : List ℕ) (lines : List AreaLine) (chunks row : ℕ) → HasRows old lines chunks row → AddsRow old new (agrees_in row) lines chunks → HasRows new lines chunks (row + 1)
+pub row_more : (old new : List ℕ) (lines : List AreaLine) (chunks row : ℕ) → HasRows old lines chunks row → AddsRow old new (agrees_in row) lines chunks →
+    HasRows new lines chunks (row + 1)
 row_more old new lines chunks row has adds = record {
   len = adds.len ∙ ap (λ (n : ℕ). n + chunks) has.len ∙ (let e : row * chunks + chunks ≡ (row + 1) * chunks = omega arith in e);
   each = λ q chunk below within. elim (cases_lt q row) [
-    | inl less ↦ (let inside : q * chunks + chunk < length old = (let place = mul-add-lt q chunks chunk row less within in grind (arith, place, has.len)) in adds.before (q * chunks + chunk) inside ∙ has.each q chunk less within)
-    | inr more ↦ (let same : q ≡ row = omega arith in subst (λ (r : ℕ). get_or new (r * chunks + chunk) 0 ≡ bits_of (agrees_in r) lines chunk) (sym same) (ap (λ (n : ℕ). get_or new (n + chunk) 0) (sym has.len) ∙ adds.each chunk within))
+    | inl less ↦ (let inside : q * chunks + chunk < length old = (let place = mul-add-lt q chunks chunk row less within in grind (arith, place, has.len)) in
+        adds.before (q * chunks + chunk) inside ∙ has.each q chunk less within)
+    | inr more ↦ (let same : q ≡ row = omega arith in
+        subst (λ (r : ℕ). get_or new (r * chunks + chunk) 0 ≡ bits_of (agrees_in r) lines chunk) (sym same)
+        (ap (λ (n : ℕ). get_or new (n + chunk) 0) (sym has.len) ∙ adds.each chunk within))
   ];
 }
 
 -- the word that stands in the row of a digit at a place
-pub word_at : (words : List ℕ) (lines : List AreaLine) (chunks place digit chunk word : ℕ) → HasRows words lines chunks 128 → place < 8 → digit < 16 → chunk < chunks
+pub word_at : (words : List ℕ) (lines : List AreaLine) (chunks place digit chunk word : ℕ) → HasRows words lines chunks 128 → place < 8 → digit < 16 →
+    chunk < chunks
     → word ≡ get_or words ((16 * place + digit) * chunks + chunk) word → word ≡ bits_of (agrees_at place digit) lines chunk
 word_at words lines chunks place digit chunk word has in_places in_digits within is =
     let row = 16 * place + digit in

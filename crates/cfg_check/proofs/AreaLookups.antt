@@ -9,7 +9,8 @@ use Rattle.cfg_check.proofs.BlockLemmas.{any_same}
 use Rattle.cfg_check.proofs.Seen.{bytes_eq-sym}
 
 -- what a set of the listed names says of an interface
-pub passive_by : (process : OspfProcess) (name : List ℕ) (is_default is_listed : Bool) → process.passive_default ≡ is_default → is_listed ≡ list_any (bytes_eq name) (listed_of (Some process)) → is_passive_in (Some process) name ≡ cond is_default (not is_listed) is_listed
+pub passive_by : (process : OspfProcess) (name : List ℕ) (is_default is_listed : Bool) → process.passive_default ≡ is_default →
+    is_listed ≡ list_any (bytes_eq name) (listed_of (Some process)) → is_passive_in (Some process) name ≡ cond is_default (not is_listed) is_listed
 passive_by process name true is_listed is listed =
     ap (λ b. cond b (not (names process.not_passive name)) (names process.passive name)) is
     ∙ ap not (same_names process.not_passive ∙ ap (λ b. list_any (bytes_eq name) (cond b process.not_passive process.passive)) (sym is) ∙ sym listed)

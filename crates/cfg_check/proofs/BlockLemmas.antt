@@ -19,7 +19,8 @@ cond_or true b = refl
 cond_or false b = refl
 
 -- a set of pairs, after a pair was put in
-pub pair_added : (old new : Pairs) (k b : ℕ) → Updates same_pair old new (k, b) true → (len number : ℕ) → contains same_pair new (len, number) ≡ ((nat_eq len k && nat_eq number b) || contains same_pair old (len, number))
+pub pair_added : (old new : Pairs) (k b : ℕ) → Updates same_pair old new (k, b) true → (len number : ℕ) →
+    contains same_pair new (len, number) ≡ ((nat_eq len k && nat_eq number b) || contains same_pair old (len, number))
 pair_added old new k b step len number =
     step.0 (len, number) ∙ cond_or (nat_eq k len && nat_eq b number) (contains same_pair old (len, number))
     ∙ ap (λ (t : Bool). (t && nat_eq b number) || contains same_pair old (len, number)) (same_either_way k len)
@@ -31,13 +32,17 @@ or_cond : (a b : Bool) → (a || b) ≡ cond a true b
 or_cond true b = refl
 or_cond false b = refl
 
-pub lens_turn : (lens : List ℕ) (xs : List Address) (i : ℕ) (x : Address) → i < length xs → x ≡ get_or xs i x → HasLens lens (take i xs) → HasLens (with_number x.len lens) (take (i + 1) xs)
+pub lens_turn : (lens : List ℕ) (xs : List Address) (i : ℕ) (x : Address) → i < length xs → x ≡ get_or xs i x → HasLens lens (take i xs) →
+    HasLens (with_number x.len lens) (take (i + 1) xs)
 lens_turn lens xs i x below here so_far = record {
-  each = λ len. has-with_number x.len lens len ∙ ap (λ (t : Bool). nat_eq x.len len || t) (so_far.each len) ∙ or_cond (nat_eq x.len len) (list_any (λ (a : Address). nat_eq a.len len) (take i xs)) ∙ any_more (λ (a : Address). nat_eq a.len len) xs i x below here;
+  each = λ len. has-with_number x.len lens len ∙ ap (λ (t : Bool). nat_eq x.len len || t) (so_far.each len)
+      ∙ or_cond (nat_eq x.len len) (list_any (λ (a : Address). nat_eq a.len len) (take i xs)) ∙ any_more (λ (a : Address). nat_eq a.len len) xs i x below here;
 }
 
 pub has_own_len : (lens : List ℕ) (xs : List Address) (i : ℕ) (x : Address) → i < length xs → x ≡ get_or xs i x → HasLens lens xs → has lens x.len ≡ true
-has_own_len lens xs i x below here all = all.each x.len ∙ list_any_at (λ (a : Address). nat_eq a.len x.len) xs i x below (same_number (get_or xs i x).len x.len (ap (λ (a : Address). a.len) (sym here)))
+has_own_len lens xs i x below here all =
+    all.each x.len ∙ list_any_at (λ (a : Address). nat_eq a.len x.len) xs i x below
+    (same_number (get_or xs i x).len x.len (ap (λ (a : Address). a.len) (sym here)))
 
 or_true : (a b : Bool) → b ≡ true → (a || b) ≡ true
 or_true true b e = refl
@@ -53,14 +58,16 @@ any_taken {X} p (x ∷ xs) (suc i) e = by (p x) (any_taken p xs i) e
     by true rest f = refl
     by false rest f = rest f
 
-pub has_past_lens : (lens : List ℕ) (xs : List Address) (i : ℕ) → HasLens lens xs → (len : ℕ) → list_any (λ (a : Address). nat_eq a.len len) (take i xs) ≡ true → has lens len ≡ true
+pub has_past_lens : (lens : List ℕ) (xs : List Address) (i : ℕ) → HasLens lens xs → (len : ℕ) →
+    list_any (λ (a : Address). nat_eq a.len len) (take i xs) ≡ true → has lens len ≡ true
 has_past_lens lens xs i all len e = all.each len ∙ any_taken (λ (a : Address). nat_eq a.len len) xs i e
 
 -- the blocks around a subnet, after one more
 
 at_length : (k number : ℕ) (a : Address) → k ≤ a.len → (len : ℕ) → (nat_eq len k && nat_eq number (block_of k a)) ≡ (nat_eq k len && is_around len number a)
 at_length k number a within len = elim (cases_eq k len) [
-  | inl e ↦ let P : ℕ → Type 0 = λ m. (nat_eq m k && nat_eq number (block_of k a)) ≡ (nat_eq k m && (nat_le m a.len && nat_eq number (block_of m a))) in subst P e (here (nat_eq number (block_of k a)) a.len within)
+  | inl e ↦ let P : ℕ → Type 0 = λ m. (nat_eq m k && nat_eq number (block_of k a)) ≡ (nat_eq k m && (nat_le m a.len && nat_eq number (block_of m a))) in
+      subst P e (here (nat_eq number (block_of k a)) a.len within)
   | inr ne ↦ other (nat_eq number (block_of k a)) (is_around len number a) ne
 ]
   where
@@ -72,7 +79,8 @@ at_length k number a within len = elim (cases_eq k len) [
 
 pub block_added : (old new : Pairs) (k : ℕ) (a : Address) → k ≤ a.len → Updates same_pair old new (k, block_of k a) true → AddsBlock old new k a
 block_added old new k a within step = record {
-  each = λ len number. pair_added old new k (block_of k a) step len number ∙ ap (λ (t : Bool). t || contains same_pair old (len, number)) (at_length k number a within len);
+  each = λ len number. pair_added old new k (block_of k a) step len number
+      ∙ ap (λ (t : Bool). t || contains same_pair old (len, number)) (at_length k number a within len);
 }
 
 pub no_block : (old : Pairs) (k : ℕ) (a : Address) → a.len < k → AddsBlock old old k a
@@ -93,13 +101,15 @@ joined false false a f = refl
 -- one length more
 pub around_turn : (first old new : Pairs) (a : Address) (lens : List ℕ) (i : ℕ) → i < length lens → AddsBlock old new (get_or lens i 0) a
     → ((len number : ℕ) → contains same_pair old (len, number) ≡ ((has (take i lens) len && is_around len number a) || contains same_pair first (len, number)))
-    → (len number : ℕ) → contains same_pair new (len, number) ≡ ((has (take (i + 1) lens) len && is_around len number a) || contains same_pair first (len, number))
+    → (len number : ℕ) → contains same_pair new (len, number) ≡ ((has (take (i + 1) lens) len && is_around len number a)
+    || contains same_pair first (len, number))
 around_turn first old new a lens i below step so_far len number =
     let k = get_or lens i 0 in
     step.each len number
     ∙ ap (λ (t : Bool). (nat_eq k len && is_around len number a) || t) (so_far len number)
     ∙ joined (nat_eq k len) (has (take i lens) len) (is_around len number a) (contains same_pair first (len, number))
-    ∙ ap (λ (t : Bool). (t && is_around len number a) || contains same_pair first (len, number)) (sym (list_any_more (λ other. nat_eq other len) lens i 0 below))
+    ∙ ap (λ (t : Bool). (t && is_around len number a) || contains same_pair first (len, number))
+    (sym (list_any_more (λ other. nat_eq other len) lens i 0 below))
 
 -- tests that answer alike find alike
 pub any_same : {X : Type 0} (p q : X → Bool) → ((x : X) → p x ≡ q x) → (xs : List X) → list_any p xs ≡ list_any q xs
@@ -128,7 +138,8 @@ none {X} f (x ∷ xs) = by (f x) ∙ none f xs
 at_one : (f : ℕ → Bool) (n m : ℕ) (ks : List ℕ) → list_any (λ k. nat_le k n && (nat_eq k m && f k)) ks ≡ (has ks m && (nat_le m n && f m))
 at_one f n m [] = refl
 at_one f n m (k ∷ ks) = ap (λ (t : Bool). (nat_le k n && (nat_eq k m && f k)) || t) (at_one f n m ks) ∙ elim (cases_eq m k) [
-  | inl e ↦ let P : ℕ → Type 0 = λ r. ((nat_le r n && (nat_eq r m && f r)) || (has ks m && (nat_le m n && f m))) ≡ ((nat_eq r m || has ks m) && (nat_le m n && f m)) in subst P e (here (has ks m) (f m))
+  | inl e ↦ let P : ℕ → Type 0 = λ r. ((nat_le r n && (nat_eq r m && f r)) || (has ks m && (nat_le m n && f m))) ≡ ((nat_eq r m || has ks m)
+      && (nat_le m n && f m)) in subst P e (here (has ks m) (f m))
   | inr ne ↦ other (has ks m) (f k) (f m) ne
 ]
   where
@@ -149,10 +160,13 @@ under_each a lens (b ∷ past) all =
     let is_one : ℕ → Bool = λ k. nat_le k a.len && is_block k (block_of k a) b in
     let is_other : ℕ → Bool = λ k. nat_le k a.len && list_any (is_block k (block_of k a)) past in
     let own : has lens b.len ≡ true = all b.len (ap (λ (t : Bool). t || list_any (λ (c : Address). nat_eq c.len b.len) past) (same_number b.len b.len refl)) in
-    any_same (λ k. nat_le k a.len && (is_block k (block_of k a) b || list_any (is_block k (block_of k a)) past)) (λ k. is_one k || is_other k) (λ k. shared_out (nat_le k a.len) (is_block k (block_of k a) b) (list_any (is_block k (block_of k a)) past)) lens
+    any_same (λ k. nat_le k a.len && (is_block k (block_of k a) b || list_any (is_block k (block_of k a)) past)) (λ k. is_one k || is_other k)
+    (λ k. shared_out (nat_le k a.len) (is_block k (block_of k a) b) (list_any (is_block k (block_of k a)) past)) lens
     ∙ any_or is_one is_other lens
-    ∙ ap (λ (t : Bool). t || list_any is_other lens) (at_one (λ k. nat_eq (block_of k a) (block_of b.len b)) a.len b.len lens ∙ ap (λ (t : Bool). t && is_under a b) own)
-    ∙ ap (λ (t : Bool). is_under a b || t) (under_each a lens past (λ len e. all len (or_true (nat_eq b.len len) (list_any (λ (c : Address). nat_eq c.len len) past) e)))
+    ∙ ap (λ (t : Bool). t || list_any is_other lens) (at_one (λ k. nat_eq (block_of k a) (block_of b.len b)) a.len b.len lens
+    ∙ ap (λ (t : Bool). t && is_under a b) own)
+    ∙ ap (λ (t : Bool). is_under a b || t) (under_each a lens past
+    (λ len e. all len (or_true (nat_eq b.len len) (list_any (λ (c : Address). nat_eq c.len len) past) e)))
 
 at_lesser : (f : ℕ → Bool) (m n : ℕ) → f (min m n) ≡ ((nat_le n m && f n) || (nat_le m n && f m))
 at_lesser f m n = elim (cases_order m n) [
@@ -177,11 +191,15 @@ and_true : (t h : Bool) → h ≡ true → (t && h) ≡ t
 and_true true h e = e
 and_true false h e = refl
 
-pub meets_past : (blocks : Blocks) (lens : List ℕ) (past : List Address) (a : Address) → IsKept blocks lens past → has lens a.len ≡ true → ((len : ℕ) → list_any (λ (b : Address). nat_eq b.len len) past ≡ true → has lens len ≡ true)
+pub meets_past : (blocks : Blocks) (lens : List ℕ) (past : List Address) (a : Address) → IsKept blocks lens past → has lens a.len ≡ true →
+    ((len : ℕ) → list_any (λ (b : Address). nat_eq b.len len) past ≡ true → has lens len ≡ true)
     → meets blocks lens a ≡ list_any (overlap a) past
 meets_past blocks lens past a kept own all =
-    let around : contains same_pair blocks.around (a.len, block_of a.len a) ≡ list_any (is_around a.len (block_of a.len a)) past = kept.around a.len (block_of a.len a) ∙ and_true (list_any (is_around a.len (block_of a.len a)) past) (has lens a.len) own in
-    ap (λ (t : Bool). t || contains same_pair blocks.around (a.len, block_of a.len a)) (any_same (is_kept_at blocks.subnets a) (λ k. nat_le k a.len && list_any (is_block k (block_of k a)) past) (λ k. ap (λ (t : Bool). nat_le k a.len && t) (kept.subnets k (block_of k a))) lens ∙ under_each a lens past all)
+    let around : contains same_pair blocks.around (a.len, block_of a.len a) ≡ list_any (is_around a.len (block_of a.len a)) past =
+    kept.around a.len (block_of a.len a) ∙ and_true (list_any (is_around a.len (block_of a.len a)) past) (has lens a.len) own in
+    ap (λ (t : Bool). t || contains same_pair blocks.around (a.len, block_of a.len a))
+    (any_same (is_kept_at blocks.subnets a) (λ k. nat_le k a.len && list_any (is_block k (block_of k a)) past)
+    (λ k. ap (λ (t : Bool). nat_le k a.len && t) (kept.subnets k (block_of k a))) lens ∙ under_each a lens past all)
     ∙ ap (λ (t : Bool). list_any (is_under a) past || t) around
     ∙ sym (any_or (is_under a) (is_around a.len (block_of a.len a)) past)
     ∙ any_same (λ b. is_under a b || is_around a.len (block_of a.len a) b) (overlap a) (λ b. sym (one_way a b)) past
@@ -194,9 +212,12 @@ gathered false true false = refl
 gathered false false true = refl
 gathered false false false = refl
 
-pub kept_turn : (blocks : Blocks) (subnets around : Pairs) (lens : List ℕ) (xs : List Address) (i : ℕ) (x : Address) → i < length xs → x ≡ get_or xs i x → IsKept blocks lens (take i xs) → AddsSubnet blocks.subnets subnets x → AddsAround blocks.around around lens x → IsKept (record { subnets = subnets; around = around }) lens (take (i + 1) xs)
+pub kept_turn : (blocks : Blocks) (subnets around : Pairs) (lens : List ℕ) (xs : List Address) (i : ℕ) (x : Address) → i < length xs → x ≡ get_or xs i x →
+    IsKept blocks lens (take i xs) → AddsSubnet blocks.subnets subnets x → AddsAround blocks.around around lens x →
+    IsKept (record { subnets = subnets; around = around }) lens (take (i + 1) xs)
 kept_turn blocks subnets around lens xs i x below here kept adds_subnet adds_around = record {
-  subnets = λ len number. adds_subnet.each len number ∙ ap (λ (t : Bool). is_block len number x || t) (kept.subnets len number) ∙ sym (cond_or (is_block len number x) (list_any (is_block len number) (take i xs))) ∙ any_more (is_block len number) xs i x below here;
+  subnets = λ len number. adds_subnet.each len number ∙ ap (λ (t : Bool). is_block len number x || t) (kept.subnets len number)
+      ∙ sym (cond_or (is_block len number x) (list_any (is_block len number) (take i xs))) ∙ any_more (is_block len number) xs i x below here;
   around = λ len number.
       adds_around.each len number
       ∙ ap (λ (t : Bool). (has lens len && is_around len number x) || t) (kept.around len number)

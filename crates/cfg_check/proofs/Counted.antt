@@ -16,8 +16,12 @@ get_rest (y ∷ ys) zs (suc k) past = get_rest ys zs k (omega arith) ∙ ap (sli
 dropped : {X : Type 0} (xs : List X) (i : ℕ) (x : X) → i < length xs → x ≡ get_or xs i x → drop i xs ≡ x ∷ drop (i + 1) xs
 dropped {X} xs i x below here = drop_more xs i x below ∙ ap (λ (y : X). y ∷ drop (i + 1) xs) (sym here)
 
-pub get_within : {X Y : Type 0} (f : X → List Y) (xs : List X) (i : ℕ) (x : X) (k : ℕ) → i < length xs → x ≡ get_or xs i x → k < length (f x) → slice_get (flat_map f (drop i xs)) k ≡ slice_get (f x) k
-get_within {X} f xs i x k below here within = ap (λ (l : List X). slice_get (flat_map f l) k) (dropped xs i x below here) ∙ get_front (f x) (flat_map f (drop (i + 1) xs)) k within
+pub get_within : {X Y : Type 0} (f : X → List Y) (xs : List X) (i : ℕ) (x : X) (k : ℕ) → i < length xs → x ≡ get_or xs i x → k < length (f x) →
+    slice_get (flat_map f (drop i xs)) k ≡ slice_get (f x) k
+get_within {X} f xs i x k below here within = ap (λ (l : List X). slice_get (flat_map f l) k) (dropped xs i x below here)
+    ∙ get_front (f x) (flat_map f (drop (i + 1) xs)) k within
 
-pub get_behind : {X Y : Type 0} (f : X → List Y) (xs : List X) (i : ℕ) (x : X) (k : ℕ) → i < length xs → x ≡ get_or xs i x → length (f x) ≤ k → slice_get (flat_map f (drop i xs)) k ≡ slice_get (flat_map f (drop (i + 1) xs)) (k - length (f x))
-get_behind {X} f xs i x k below here past = ap (λ (l : List X). slice_get (flat_map f l) k) (dropped xs i x below here) ∙ get_rest (f x) (flat_map f (drop (i + 1) xs)) k past
+pub get_behind : {X Y : Type 0} (f : X → List Y) (xs : List X) (i : ℕ) (x : X) (k : ℕ) → i < length xs → x ≡ get_or xs i x → length (f x) ≤ k →
+    slice_get (flat_map f (drop i xs)) k ≡ slice_get (flat_map f (drop (i + 1) xs)) (k - length (f x))
+get_behind {X} f xs i x k below here past = ap (λ (l : List X). slice_get (flat_map f l) k) (dropped xs i x below here)
+    ∙ get_rest (f x) (flat_map f (drop (i + 1) xs)) k past

@@ -56,7 +56,8 @@ chosen what x y false = refl
 
 two_lines : (what : Kind) (x y : ℕ) → lesser_fault (fault_at what (Some x)) (fault_at what (Some y)) ≡ fault_at what (lesser_line (Some x) (Some y))
 unfolding before
-two_lines what x y = ap (λ (b : Bool). cond b (fault_at what (Some y)) (fault_at what (Some x))) (same_kind x y (number_of_kind what)) ∙ chosen what x y (nat_lt y x)
+two_lines what x y = ap (λ (b : Bool). cond b (fault_at what (Some y)) (fault_at what (Some x))) (same_kind x y (number_of_kind what))
+    ∙ chosen what x y (nat_lt y x)
 
 line_more : (what : Kind) (x : ℕ) (o : Option ℕ) → lesser_fault (fault_at what (Some x)) (fault_at what o) ≡ fault_at what (lesser_line (Some x) o)
 line_more what x None = refl
@@ -68,7 +69,8 @@ least_of_kind what [] = refl
 least_of_kind what (x ∷ lines) = ap (lesser_fault (fault_at what (Some x))) (least_of_kind what lines) ∙ line_more what x (least_line lines)
 
 -- one kind more
-pub kind_step : (fs : List Fault) (what : Kind) (lines : List ℕ) (o result : Option Fault) (line : Option ℕ) → o ≡ least_fault fs → line ≡ least_line lines → result ≡ lesser_fault o (fault_at what line) → result ≡ least_fault (fs ++ faults_at what lines)
+pub kind_step : (fs : List Fault) (what : Kind) (lines : List ℕ) (o result : Option Fault) (line : Option ℕ) → o ≡ least_fault fs → line ≡ least_line lines →
+    result ≡ lesser_fault o (fault_at what line) → result ≡ least_fault (fs ++ faults_at what lines)
 kind_step fs what lines o result line so_far is step =
     step ∙ ap (λ p. lesser_fault p (fault_at what line)) so_far ∙ ap (λ l. lesser_fault (least_fault fs) (fault_at what l)) is
     ∙ ap (lesser_fault (least_fault fs)) (sym (least_of_kind what lines)) ∙ sym (least_fault-append fs (faults_at what lines))

@@ -12,7 +12,8 @@ or_cond true b = refl
 or_cond false b = refl
 
 -- a name was put in
-pub name_added : (old new : Names) (key : Bor (List ℕ)) (name : List ℕ) → key.now ≡ name → Updates (λ x y. bytes_eq x.now y.now) old new key true → AddsNames old new (λ q. bytes_eq q name)
+pub name_added : (old new : Names) (key : Bor (List ℕ)) (name : List ℕ) → key.now ≡ name → Updates (λ x y. bytes_eq x.now y.now) old new key true →
+    AddsNames old new (λ q. bytes_eq q name)
 name_added old new key name is step = record {
   each = λ q.
       let at : Bor (List ℕ) = record { ref_ptr = (0, 0); now = q } in
@@ -31,7 +32,8 @@ more_names test xs i x b q below here =
 
 -- the names of one item more
 pub adds_turn : {X : Type 0} (test : X → List ℕ → Bool) (xs : List X) (i : ℕ) (x : X) (old mid new : Names) → i < length xs → x ≡ get_or xs i x
-    → AddsNames old mid (λ q. list_any (λ y. test y q) (take i xs)) → AddsNames mid new (test x) → AddsNames old new (λ q. list_any (λ y. test y q) (take (i + 1) xs))
+    → AddsNames old mid (λ q. list_any (λ y. test y q) (take i xs)) → AddsNames mid new (test x) →
+    AddsNames old new (λ q. list_any (λ y. test y q) (take (i + 1) xs))
 adds_turn test xs i x old mid new below here so_far step = record {
   each = λ q. step.each q ∙ ap (λ b. test x q || b) (so_far.each q) ∙ more_names test xs i x (has_name old q) q below here;
 }
@@ -39,7 +41,8 @@ adds_turn test xs i x old mid new below here so_far step = record {
 pub has_turn : {X : Type 0} (test : X → List ℕ → Bool) (xs : List X) (i : ℕ) (x : X) (mid new : Names) → i < length xs → x ≡ get_or xs i x
     → HasNames mid (λ q. list_any (λ y. test y q) (take i xs)) → AddsNames mid new (test x) → HasNames new (λ q. list_any (λ y. test y q) (take (i + 1) xs))
 has_turn test xs i x mid new below here so_far step = record {
-  each = λ q. step.each q ∙ ap (λ b. test x q || b) (so_far.each q) ∙ or_cond (test x q) (list_any (λ y. test y q) (take i xs)) ∙ any_more (λ y. test y q) xs i x below here;
+  each = λ q. step.each q ∙ ap (λ b. test x q || b) (so_far.each q) ∙ or_cond (test x q) (list_any (λ y. test y q) (take i xs))
+      ∙ any_more (λ y. test y q) xs i x below here;
 }
 
 -- a set of names lacks what fails the test

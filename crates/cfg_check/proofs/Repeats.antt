@@ -28,7 +28,8 @@ kept : {X : Type 0} (b : Bool) (y : X) (xs ys zs : List X) → xs ≡ ys ++ zs �
 kept true y xs ys zs e = ap (λ (l : List _). y ∷ l) e
 kept false y xs ys zs e = e
 
-repeats_push_after : {X : Type 0} (alike : X → X → Bool) (past xs : List X) (x : X) → repeats_after alike past (xs ++ x ∷ []) ≡ repeats_after alike past xs ++ item_if (list_any (alike x) xs || list_any (alike x) past) x
+repeats_push_after : {X : Type 0} (alike : X → X → Bool) (past xs : List X) (x : X) → repeats_after alike past (xs ++ x ∷ []) ≡ repeats_after alike past xs
+    ++ item_if (list_any (alike x) xs || list_any (alike x) past) x
 repeats_push_after alike past [] x = item_last alike past x
 repeats_push_after {X} alike past (y ∷ xs) x =
     let ih = repeats_push_after alike (y ∷ past) xs x in
@@ -36,7 +37,8 @@ repeats_push_after {X} alike past (y ∷ xs) x =
     kept (list_any (alike y) past) y _ _ _ (ih ∙ order)
 
 -- one item more
-pub repeats-push : {X : Type 0} (alike : X → X → Bool) (xs : List X) (x : X) → repeats alike (xs ++ x ∷ []) ≡ repeats alike xs ++ cond (list_any (alike x) xs) (x ∷ []) []
+pub repeats-push : {X : Type 0} (alike : X → X → Bool) (xs : List X) (x : X) → repeats alike (xs ++ x ∷ []) ≡ repeats alike xs
+    ++ cond (list_any (alike x) xs) (x ∷ []) []
 unfolding item_if
 repeats-push alike xs x = repeats_push_after alike [] xs x ∙ ap (λ b. repeats alike xs ++ item_if b x) (or_false (list_any (alike x) xs))
 
@@ -44,7 +46,8 @@ least_if : {X : Type 0} (line : X → ℕ) (b : Bool) (x : X) → least_line (ma
 least_if line true x = refl
 least_if line false x = refl
 
-pub least_repeat-push : {X : Type 0} (alike : X → X → Bool) (line : X → ℕ) (xs : List X) (x : X) → least_line (map line (repeats alike (xs ++ x ∷ []))) ≡ lesser_line (least_line (map line (repeats alike xs))) (line_if (list_any (alike x) xs) (line x))
+pub least_repeat-push : {X : Type 0} (alike : X → X → Bool) (line : X → ℕ) (xs : List X) (x : X) →
+    least_line (map line (repeats alike (xs ++ x ∷ []))) ≡ lesser_line (least_line (map line (repeats alike xs))) (line_if (list_any (alike x) xs) (line x))
 least_repeat-push alike line xs x =
     let last = cond (list_any (alike x) xs) (x ∷ []) [] in
     ap (λ l. least_line (map line l)) (repeats-push alike xs x)
@@ -53,7 +56,8 @@ least_repeat-push alike line xs x =
     ∙ ap (lesser_line (least_line (map line (repeats alike xs)))) (least_if line (list_any (alike x) xs) x)
 
 -- a turn of a loop that keeps the least line of a repeated item
-pub least_repeat_turn : {X : Type 0} (alike : X → X → Bool) (line : X → ℕ) (xs : List X) (i : ℕ) (x : X) (least : Option ℕ) (again : Bool) → i < length xs → x ≡ get_or xs i x
+pub least_repeat_turn : {X : Type 0} (alike : X → X → Bool) (line : X → ℕ) (xs : List X) (i : ℕ) (x : X) (least : Option ℕ) (again : Bool) → i < length xs →
+    x ≡ get_or xs i x
     → least ≡ least_line (map line (repeats alike (take i xs))) → again ≡ list_any (alike x) (take i xs)
     → lesser_line least (line_if again (line x)) ≡ least_line (map line (repeats alike (take (i + 1) xs)))
 least_repeat_turn {X} alike line xs i x least again below here so_far is =
@@ -62,7 +66,8 @@ least_repeat_turn {X} alike line xs i x least again below here so_far is =
     ∙ sym (least_repeat-push alike line (take i xs) x)
     ∙ ap (λ (l : List X). least_line (map line (repeats alike l))) (sym (take_more xs i x below ∙ ap (λ (y : X). take i xs ++ y ∷ []) (sym here)))
 
-any_mapped : {X Y : Type 0} (f : X → Y) (alike : X → X → Bool) (like : Y → Y → Bool) → ((x y : X) → like (f x) (f y) ≡ alike x y) → (x : X) (past : List X) → list_any (like (f x)) (map f past) ≡ list_any (alike x) past
+any_mapped : {X Y : Type 0} (f : X → Y) (alike : X → X → Bool) (like : Y → Y → Bool) → ((x y : X) → like (f x) (f y) ≡ alike x y) → (x : X) (past : List X) →
+    list_any (like (f x)) (map f past) ≡ list_any (alike x) past
 any_mapped f alike like same x [] = refl
 any_mapped f alike like same x (y ∷ past) = rw (same x y, any_mapped f alike like same x past) refl
 
@@ -70,11 +75,14 @@ cond_mapped : {X Y : Type 0} (f : X → Y) (b : Bool) (x : X) (xs : List X) (ys 
 cond_mapped f true x xs ys e = ap (λ l. f x ∷ l) e
 cond_mapped f false x xs ys e = e
 
-repeats_mapped : {X Y : Type 0} (f : X → Y) (alike : X → X → Bool) (like : Y → Y → Bool) → ((x y : X) → like (f x) (f y) ≡ alike x y) → (past xs : List X) → repeats_after like (map f past) (map f xs) ≡ map f (repeats_after alike past xs)
+repeats_mapped : {X Y : Type 0} (f : X → Y) (alike : X → X → Bool) (like : Y → Y → Bool) → ((x y : X) → like (f x) (f y) ≡ alike x y) → (past xs : List X) →
+    repeats_after like (map f past) (map f xs) ≡ map f (repeats_after alike past xs)
 repeats_mapped f alike like same past [] = refl
 repeats_mapped {X} {Y} f alike like same past (x ∷ xs) =
-    ap (λ b. cond b (f x ∷ repeats_after like (map f (x ∷ past)) (map f xs)) (repeats_after like (map f (x ∷ past)) (map f xs))) (any_mapped f alike like same x past)
-    ∙ cond_mapped f (list_any (alike x) past) x (repeats_after alike (x ∷ past) xs) (repeats_after like (map f (x ∷ past)) (map f xs)) (repeats_mapped f alike like same (x ∷ past) xs)
+    ap (λ b. cond b (f x ∷ repeats_after like (map f (x ∷ past)) (map f xs)) (repeats_after like (map f (x ∷ past)) (map f xs)))
+    (any_mapped f alike like same x past)
+    ∙ cond_mapped f (list_any (alike x) past) x (repeats_after alike (x ∷ past) xs) (repeats_after like (map f (x ∷ past)) (map f xs))
+    (repeats_mapped f alike like same (x ∷ past) xs)
 
 map_twice : {X Y Z : Type 0} (f : X → Y) (g : Y → Z) (xs : List X) → map g (map f xs) ≡ map (λ x. g (f x)) xs
 map_twice f g [] = refl
@@ -89,7 +97,8 @@ picked_mapped g f [] = refl
 picked_mapped g f (w ∷ ws) = picked_one f (g w) (filter_map g ws) (filter_map (λ w. option_map f (g w)) ws) (picked_mapped g f ws)
 
 -- the least line of a repeated item, from the keys and lines of the items
-pub least_repeat-keys : {W X Y : Type 0} (g : W → Option X) (f : X → Y) (alike : X → X → Bool) (like : Y → Y → Bool) (line : Y → ℕ) → ((x y : X) → like (f x) (f y) ≡ alike x y) → (ws : List W)
+pub least_repeat-keys : {W X Y : Type 0} (g : W → Option X) (f : X → Y) (alike : X → X → Bool) (like : Y → Y → Bool) (line : Y → ℕ) →
+    ((x y : X) → like (f x) (f y) ≡ alike x y) → (ws : List W)
     → least_line (map line (repeats like (filter_map (λ w. option_map f (g w)) ws))) ≡ least_line (map (λ x. line (f x)) (repeats alike (filter_map g ws)))
 least_repeat-keys {W} {X} {Y} g f alike like line same ws =
     ap (λ (ys : List Y). least_line (map line (repeats like ys))) (picked_mapped g f ws)

@@ -23,14 +23,16 @@ or_last false true = refl
 or_last false false = refl
 
 -- one item more
-pub any_more : {X : Type 0} (p : X → Bool) (xs : List X) (i : ℕ) (x : X) → i < length xs → x ≡ get_or xs i x → cond (p x) true (list_any p (take i xs)) ≡ list_any p (take (i + 1) xs)
+pub any_more : {X : Type 0} (p : X → Bool) (xs : List X) (i : ℕ) (x : X) → i < length xs → x ≡ get_or xs i x →
+    cond (p x) true (list_any p (take i xs)) ≡ list_any p (take (i + 1) xs)
 any_more {X} p xs i x below here =
     or_last (p x) (list_any p (take i xs))
     ∙ sym (list_any-append p (take i xs) (x ∷ []))
     ∙ ap (λ (l : List X). list_any p l) (sym (take_more xs i x below ∙ ap (λ (y : X). take i xs ++ y ∷ []) (sym here)))
 
 -- a set of texts, after a text was put in
-pub text_turn : {X S : Type 0} (name : X → List ℕ) (xs : List X) (i : ℕ) (x : X) (old new : HashSet (Bor (List ℕ)) S) (key : Bor (List ℕ)) → i < length xs → x ≡ get_or xs i x → key.now ≡ name x
+pub text_turn : {X S : Type 0} (name : X → List ℕ) (xs : List X) (i : ℕ) (x : X) (old new : HashSet (Bor (List ℕ)) S) (key : Bor (List ℕ)) → i < length xs →
+    x ≡ get_or xs i x → key.now ≡ name x
     → Updates (λ x y. bytes_eq x.now y.now) old new key true
     → ((q : List ℕ) → contains_by (λ k. bytes_eq q k.now) old ≡ list_any (λ y. bytes_eq q (name y)) (take i xs))
     → (q : List ℕ) → contains_by (λ k. bytes_eq q k.now) new ≡ list_any (λ y. bytes_eq q (name y)) (take (i + 1) xs)
@@ -42,7 +44,8 @@ text_turn name xs i x old new key below here is step so_far q =
     ∙ any_more (λ y. bytes_eq q (name y)) xs i x below here
 
 -- a set of numbers, after a number was put in
-pub number_turn : {X S : Type 0} (key : X → ℕ) (xs : List X) (i : ℕ) (x : X) (old new : HashSet ℕ S) → i < length xs → x ≡ get_or xs i x → Updates nat_eq old new (key x) true
+pub number_turn : {X S : Type 0} (key : X → ℕ) (xs : List X) (i : ℕ) (x : X) (old new : HashSet ℕ S) → i < length xs → x ≡ get_or xs i x →
+    Updates nat_eq old new (key x) true
     → ((q : ℕ) → contains nat_eq old q ≡ list_any (λ y. nat_eq q (key y)) (take i xs))
     → (q : ℕ) → contains nat_eq new q ≡ list_any (λ y. nat_eq q (key y)) (take (i + 1) xs)
 number_turn key xs i x old new below here step so_far q =

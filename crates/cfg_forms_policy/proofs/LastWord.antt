@@ -11,11 +11,13 @@ length_texts : (bs : List ℕ) (ws : List Span) → length (texts bs ws) ≡ len
 length_texts bs [] = refl
 length_texts bs (w ∷ ws) = omega (arith, length_texts bs ws)
 
-marked_from : (mark bs : List ℕ) (w : Span) (ws : List Span) (d : Span) → has_mark mark (texts bs (w ∷ ws)) ≡ bytes_eq (text_of bs (get_or (w ∷ ws) (length ws) d)) mark
+marked_from : (mark bs : List ℕ) (w : Span) (ws : List Span) (d : Span) →
+    has_mark mark (texts bs (w ∷ ws)) ≡ bytes_eq (text_of bs (get_or (w ∷ ws) (length ws) d)) mark
 marked_from mark bs w [] d = refl
 marked_from mark bs w (v ∷ ws) d = marked_from mark bs v ws d
 
-pub is_marked_last : (mark bs : List ℕ) (ws : List Span) (d : Span) → 0 < length ws → has_mark mark (texts bs ws) ≡ bytes_eq (text_of bs (get_or ws (length ws - 1) d)) mark
+pub is_marked_last : (mark bs : List ℕ) (ws : List Span) (d : Span) → 0 < length ws →
+    has_mark mark (texts bs ws) ≡ bytes_eq (text_of bs (get_or ws (length ws - 1) d)) mark
 is_marked_last mark bs [] d some = absurd (omega (arith, some))
 is_marked_last mark bs (w ∷ ws) d some = let last : suc (length ws) - 1 ≡ length ws = omega arith in rw last (marked_from mark bs w ws d)
 

@@ -21,7 +21,8 @@ pub first_is : (test : ℕ → Bool) (i upto k : ℕ) → IsFirstAt test i upto 
 first_is test i upto k is =
     let inside : i ≤ upto = omega (arith, is.from, is.below) in
     elim (cases_lt (first_at test i upto) k) [
-      | inl before ↦ absurd (true≢false (sym (first_passes test i upto inside (omega (arith, is.below))) ∙ is.fails (first_at test i upto) (first_from test i upto) before))
+      | inl before ↦ absurd (true≢false (sym (first_passes test i upto inside (omega (arith, is.below)))
+          ∙ is.fails (first_at test i upto) (first_from test i upto) before))
       | inr le ↦ elim (cases_lt k (first_at test i upto)) [
         | inl behind ↦ absurd (true≢false (sym (is.passes (omega (arith, first_below test i upto inside))) ∙ first_fails test i upto k inside is.from behind))
         | inr ge ↦ omega arith
@@ -148,15 +149,18 @@ odd_up_to bs from upto inside odd = first_is (odd_at bs) from upto upto (record 
   passes = λ lt. absurd (omega arith);
 })
 
-pub closed_kind : (bs : List ℕ) (number from upto end : ℕ) → Ends bs from upto end → IsClosed bs end → kind_from bs number from ≡ kind_at bs (record { number = number; from = from; upto = upto })
+pub closed_kind : (bs : List ℕ) (number from upto end : ℕ) → Ends bs from upto end → IsClosed bs end →
+    kind_from bs number from ≡ kind_at bs (record { number = number; from = from; upto = upto })
 closed_kind bs number from upto end ends closed =
-    let e : without_return bs from (newline_from bs from) ≡ upto = ap (without_return bs from) (closed_newline bs from upto end ends closed) ∙ closed_return bs from upto end ends in
+    let e : without_return bs from (newline_from bs from) ≡ upto = ap (without_return bs from) (closed_newline bs from upto end ends closed)
+    ∙ closed_return bs from upto end ends in
     ap (λ (u : ℕ). kind_at bs (record { number = number; from = from; upto = u })) e
 
 pub closed_plain : (bs : List ℕ) (from upto end : ℕ) → Ends bs from upto end → nat_lt (odd_from bs from upto) upto ≡ false
 closed_plain bs from upto end ends = let e = odd_up_to bs from upto ends.inside ends.odd in rw e (grind (arith, nat_tests))
 
-pub closed_is : (bs : List ℕ) (number from upto end : ℕ) → Ends bs from upto end → IsClosed bs end → kind_from bs number from ≡ (if nat_lt 1024 (upto - from) then Some LineTooLong else (if nat_lt 1000000 number then Some TooManyLines else None))
+pub closed_is : (bs : List ℕ) (number from upto end : ℕ) → Ends bs from upto end → IsClosed bs end →
+    kind_from bs number from ≡ (if nat_lt 1024 (upto - from) then Some LineTooLong else (if nat_lt 1000000 number then Some TooManyLines else None))
 closed_is bs number from upto end ends closed = closed_kind bs number from upto end ends closed ∙ rw (closed_plain bs from upto end ends) refl
 
 -- ---- a line that goes on
@@ -174,7 +178,8 @@ not_before : (bs : List ℕ) (from upto end : ℕ) → Ends bs from upto end →
 not_before bs from upto end ends =
     let bounds = end_bounds bs from upto end ends in
     elim (cases_lt (newline_from bs from) upto) [
-      | inl lt ↦ absurd (true≢false (sym (first_passes (newline_at bs) from (length bs) ends.inside (omega (arith, bounds))) ∙ no_newline_before bs from upto end (newline_from bs from) ends (first_from (newline_at bs) from (length bs)) (omega (arith, bounds))))
+      | inl lt ↦ absurd (true≢false (sym (first_passes (newline_at bs) from (length bs) ends.inside (omega (arith, bounds)))
+          ∙ no_newline_before bs from upto end (newline_from bs from) ends (first_from (newline_at bs) from (length bs)) (omega (arith, bounds))))
       | inr ge ↦ ge
     ]
 
@@ -192,7 +197,8 @@ returns bs from end = by (nat_lt from end && nat_eq (slice_index bs (end - 1)) 1
     by true t = inr (record { is = rw t refl; one = grind (arith, nat_tests) })
     by false t = inl (record { is = rw t refl })
 
-goes_past : (bs : List ℕ) (from upto end : ℕ) → Ends bs from upto end → end < length bs → newline_at bs end ≡ false → upto < without_return bs from (newline_from bs from)
+goes_past : (bs : List ℕ) (from upto end : ℕ) → Ends bs from upto end → end < length bs → newline_at bs end ≡ false →
+    upto < without_return bs from (newline_from bs from)
 goes_past bs from upto end ends short none =
     let bounds = end_bounds bs from upto end ends in
     let front = not_before bs from upto end ends in
@@ -205,7 +211,8 @@ goes_past bs from upto end ends short none =
             | inl all ↦ omega (arith, all.is)
             | inr less ↦ elim (cases_lt upto (q - 1)) [
               | inl lt ↦ omega (arith, less.is)
-              | inr ge ↦ let e : q - 1 ≡ upto = omega arith in absurd (true≢false (sym less.one ∙ ap (λ (k : ℕ). nat_eq (slice_index bs k) 13) e ∙ same.none (omega (arith, bounds))))
+              | inr ge ↦ let e : q - 1 ≡ upto = omega arith in
+                  absurd (true≢false (sym less.one ∙ ap (λ (k : ℕ). nat_eq (slice_index bs k) 13) e ∙ same.none (omega (arith, bounds))))
             ]
           ]
       | inr one ↦
@@ -217,14 +224,16 @@ goes_past bs from upto end ends short none =
           ]
     ]
 
-pub open_kind : (bs : List ℕ) (number from upto end : ℕ) → Ends bs from upto end → end < length bs → newline_at bs end ≡ false → kind_from bs number from ≡ Some NotAscii
+pub open_kind : (bs : List ℕ) (number from upto end : ℕ) → Ends bs from upto end → end < length bs → newline_at bs end ≡ false →
+    kind_from bs number from ≡ Some NotAscii
 open_kind bs number from upto end ends short none =
     let u = without_return bs from (newline_from bs from) in
     let past : upto < u = goes_past bs from upto end ends short none in
     let bounds = end_bounds bs from upto end ends in
     let odd : not (is_plain (slice_index bs upto)) ≡ true = ap (odd_at bs) ends.odd ∙ odd_there bs from ends.inside (omega (arith, ends.odd, bounds)) in
     let early : odd_from bs from u ≤ upto = elim (cases_lt upto (odd_from bs from u)) [
-      | inl lt ↦ absurd (true≢false (sym odd ∙ first_fails (odd_at bs) from u upto (omega (arith, ends.odd, odd_bounds bs from ends.inside)) (omega (arith, ends.odd, odd_bounds bs from ends.inside)) lt))
+      | inl lt ↦ absurd (true≢false (sym odd ∙ first_fails (odd_at bs) from u upto (omega (arith, ends.odd, odd_bounds bs from ends.inside))
+          (omega (arith, ends.odd, odd_bounds bs from ends.inside)) lt))
       | inr le ↦ le
     ] in
     let faulty : nat_lt (odd_from bs from u) u ≡ true = grind (arith, nat_tests) in
@@ -247,14 +256,16 @@ word_ends bs from i inside le lt =
     let letter = λ (j : ℕ). not (is_letter (slice_index bs j)) in
     let short : i ≤ length bs = omega (arith, odd_bounds bs from inside) in
     let below : e ≤ p = elim (cases_lt p e) [
-      | inl behind ↦ absurd (true≢false (sym (odd_no_letter (slice_index bs p) (odd_there bs from inside (omega (arith, first_below letter i (length bs) short)))) ∙ first_fails letter i (length bs) p short (omega arith) behind))
+      | inl behind ↦ absurd (true≢false (sym (odd_no_letter (slice_index bs p)
+          (odd_there bs from inside (omega (arith, first_below letter i (length bs) short)))) ∙ first_fails letter i (length bs) p short (omega arith) behind))
       | inr ok ↦ ok
     ] in
     first_is (blank_at bs) i p e (record {
       from = first_from letter i (length bs);
       below = below;
       fails = λ j l h. letter_no_blank (slice_index bs j) (first_fails letter i (length bs) j short l h);
-      passes = λ h. no_letter_blank (slice_index bs e) (first_passes letter i (length bs) short (omega (arith, odd_bounds bs from inside))) (plain_before bs from e inside (omega (arith, first_from letter i (length bs))) h);
+      passes = λ h. no_letter_blank (slice_index bs e) (first_passes letter i (length bs) short (omega (arith, odd_bounds bs from inside)))
+          (plain_before bs from e inside (omega (arith, first_from letter i (length bs))) h);
     })
 
 pub still_plain : (bs : List ℕ) (from i : ℕ) → from ≤ length bs → i ≤ odd_end bs from → i < length bs → is_plain (slice_index bs i) ≡ true → i < odd_end bs from
@@ -266,7 +277,8 @@ still_plain bs from i inside le short plain =
           absurd (true≢false (sym (odd_there bs from inside (omega arith)) ∙ ap (odd_at bs) e ∙ ap not plain))
     ]
 
-pub plain_ends : (bs : List ℕ) (from i : ℕ) → from ≤ length bs → from ≤ i → i ≤ odd_end bs from → (i < length bs → is_plain (slice_index bs i) ≡ false) → i ≡ odd_end bs from
+pub plain_ends : (bs : List ℕ) (from i : ℕ) → from ≤ length bs → from ≤ i → i ≤ odd_end bs from → (i < length bs → is_plain (slice_index bs i) ≡ false) →
+    i ≡ odd_end bs from
 plain_ends bs from i inside front le stops =
     elim (cases_lt i (odd_end bs from)) [
       | inl lt ↦

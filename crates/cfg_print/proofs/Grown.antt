@@ -22,16 +22,21 @@ written (Ok x) old a new line first whole = first ∙ ap (λ (xs : List ℕ). ol
 written (Err e) old a new line first whole = tt
 
 -- lines more
-pub lines_grown : (old : List ℕ) (xs : List TextLine) (t : List ℕ) (ys : List TextLine) (new : List ℕ) → t ≡ old ++ lines_text xs → new ≡ t ++ lines_text ys → new ≡ old ++ lines_text (xs ++ ys)
-lines_grown old xs t ys new first second = grown old (lines_text xs) t (lines_text ys) new first second ∙ ap (λ (zs : List ℕ). old ++ zs) (sym (flat_map-append line_text xs ys))
+pub lines_grown : (old : List ℕ) (xs : List TextLine) (t : List ℕ) (ys : List TextLine) (new : List ℕ) → t ≡ old ++ lines_text xs → new ≡ t ++ lines_text ys →
+    new ≡ old ++ lines_text (xs ++ ys)
+lines_grown old xs t ys new first second = grown old (lines_text xs) t (lines_text ys) new first second
+    ∙ ap (λ (zs : List ℕ). old ++ zs) (sym (flat_map-append line_text xs ys))
 
-pub lines_end : (r : Result (Unit {0}) AllocError) (old : List ℕ) (xs : List TextLine) (t : List ℕ) (ys : List TextLine) (new : List ℕ) → t ≡ old ++ lines_text xs → OnOk r (new ≡ t ++ lines_text ys) → OnOk r (new ≡ old ++ lines_text (xs ++ ys))
+pub lines_end : (r : Result (Unit {0}) AllocError) (old : List ℕ) (xs : List TextLine) (t : List ℕ) (ys : List TextLine) (new : List ℕ) →
+    t ≡ old ++ lines_text xs → OnOk r (new ≡ t ++ lines_text ys) → OnOk r (new ≡ old ++ lines_text (xs ++ ys))
 lines_end (Ok x) old xs t ys new first second = lines_grown old xs t ys new first second
 lines_end (Err e) old xs t ys new first second = tt
 
 -- a line for one item more
-pub item_grown : {X : Type 0} (write : X → TextLine) (xs : List X) (i : ℕ) (x : X) (t new all : List ℕ) → i < length xs → x ≡ get_or xs i x → t ++ lines_text (map write (drop i xs)) ≡ all → new ≡ t ++ line_text (write x) → new ++ lines_text (map write (drop (i + 1) xs)) ≡ all
+pub item_grown : {X : Type 0} (write : X → TextLine) (xs : List X) (i : ℕ) (x : X) (t new all : List ℕ) → i < length xs → x ≡ get_or xs i x →
+    t ++ lines_text (map write (drop i xs)) ≡ all → new ≡ t ++ line_text (write x) → new ++ lines_text (map write (drop (i + 1) xs)) ≡ all
 item_grown {X} write xs i x t new all lt is whole second =
     let rest = lines_text (map write (drop (i + 1) xs)) in
     let front : drop i xs ≡ x ∷ drop (i + 1) xs = drop_more xs i x lt ∙ ap (λ (y : X). y ∷ drop (i + 1) xs) (sym is) in
-    ap (λ (ys : List ℕ). ys ++ rest) second ∙ append_assoc t (line_text (write x)) rest ∙ ap (λ (ys : List X). t ++ lines_text (map write ys)) (sym front) ∙ whole
+    ap (λ (ys : List ℕ). ys ++ rest) second ∙ append_assoc t (line_text (write x)) rest ∙ ap (λ (ys : List X). t ++ lines_text (map write ys)) (sym front)
+    ∙ whole

@@ -122,12 +122,19 @@ head_of (m ∷ ms) (suc i) =
     let next : suc (i + 1) ≡ suc i + 1 = omega arith in
     (rest.0, rest.1 ∙ ap (λ (k : ℕ). drop k (m ∷ ms)) next)
 
-first_case : (r : Router) (rs : List Router) (ms others : List (List (List ℕ))) (names : List (List ℕ)) → (first_names ms ≡ names) × (other_names ms ≡ others) → lines_text (routers_lines (r ∷ rs) ms) ≡ lines_text (router_lines r names) ++ lines_text (routers_lines rs others)
-first_case r rs [] others names is = flat_map-append line_text (router_lines r []) (routers_lines rs []) ∙ ap (λ (ns : List (List ℕ)). lines_text (router_lines r ns) ++ lines_text (routers_lines rs [])) is.0 ∙ ap (λ (os : List (List (List ℕ))). lines_text (router_lines r names) ++ lines_text (routers_lines rs os)) is.1
-first_case r rs (m ∷ ms) others names is = flat_map-append line_text (router_lines r m) (routers_lines rs ms) ∙ ap (λ (ns : List (List ℕ)). lines_text (router_lines r ns) ++ lines_text (routers_lines rs ms)) is.0 ∙ ap (λ (os : List (List (List ℕ))). lines_text (router_lines r names) ++ lines_text (routers_lines rs os)) is.1
+first_case : (r : Router) (rs : List Router) (ms others : List (List (List ℕ))) (names : List (List ℕ)) → (first_names ms ≡ names) × (other_names ms ≡ others) →
+    lines_text (routers_lines (r ∷ rs) ms) ≡ lines_text (router_lines r names) ++ lines_text (routers_lines rs others)
+first_case r rs [] others names is = flat_map-append line_text (router_lines r []) (routers_lines rs [])
+    ∙ ap (λ (ns : List (List ℕ)). lines_text (router_lines r ns) ++ lines_text (routers_lines rs [])) is.0
+    ∙ ap (λ (os : List (List (List ℕ))). lines_text (router_lines r names) ++ lines_text (routers_lines rs os)) is.1
+first_case r rs (m ∷ ms) others names is = flat_map-append line_text (router_lines r m) (routers_lines rs ms)
+    ∙ ap (λ (ns : List (List ℕ)). lines_text (router_lines r ns) ++ lines_text (routers_lines rs ms)) is.0
+    ∙ ap (λ (os : List (List (List ℕ))). lines_text (router_lines r names) ++ lines_text (routers_lines rs os)) is.1
 
 -- the first of the routers that are left, and the others
 pub routers_next : (rs : List Router) (ms : List (List (List ℕ))) (i : ℕ) (r : Router) → i < length rs → r ≡ get_or rs i r
-    → lines_text (routers_lines (drop i rs) (drop i ms)) ≡ lines_text (router_lines r (get_or ms i [])) ++ lines_text (routers_lines (drop (i + 1) rs) (drop (i + 1) ms))
+    → lines_text (routers_lines (drop i rs) (drop i ms)) ≡ lines_text (router_lines r (get_or ms i []))
+    ++ lines_text (routers_lines (drop (i + 1) rs) (drop (i + 1) ms))
 routers_next rs ms i r lt e =
-    ap (λ (xs : List Router). lines_text (routers_lines xs (drop i ms))) (drop_more rs i r lt ∙ ap (λ (s : Router). s ∷ drop (i + 1) rs) (sym e)) ∙ first_case r (drop (i + 1) rs) (drop i ms) (drop (i + 1) ms) (get_or ms i []) (head_of ms i)
+    ap (λ (xs : List Router). lines_text (routers_lines xs (drop i ms))) (drop_more rs i r lt ∙ ap (λ (s : Router). s ∷ drop (i + 1) rs) (sym e))
+    ∙ first_case r (drop (i + 1) rs) (drop i ms) (drop (i + 1) ms) (get_or ms i []) (head_of ms i)

@@ -81,41 +81,49 @@ on_result h (Err fault) = Err (bare_refusal fault)
 
 -- ---- parts of forms
 
-pub given_same : {A B C : Type 0} (h : B → C) (o : Option A) (f : A → Result C FormFault) (g : A → Result B FormFault) → ((x : A) → f x ≡ on_ok h (g x)) → (or_bad o >>= f) ≡ on_ok h (or_bad o >>= g)
+pub given_same : {A B C : Type 0} (h : B → C) (o : Option A) (f : A → Result C FormFault) (g : A → Result B FormFault) → ((x : A) → f x ≡ on_ok h (g x)) →
+    (or_bad o >>= f) ≡ on_ok h (or_bad o >>= g)
 given_same h (Some x) f g same = same x
 given_same h None f g same = refl
 
-pub after_same : {A B C : Type 0} (h : B → C) (r : Result A FormFault) (f : A → Result C FormFault) (g : A → Result B FormFault) → ((x : A) → f x ≡ on_ok h (g x)) → (r >>= f) ≡ on_ok h (r >>= g)
+pub after_same : {A B C : Type 0} (h : B → C) (r : Result A FormFault) (f : A → Result C FormFault) (g : A → Result B FormFault) →
+    ((x : A) → f x ≡ on_ok h (g x)) → (r >>= f) ≡ on_ok h (r >>= g)
 after_same h (Ok x) f g same = same x
 after_same h (Err fault) f g same = refl
 
 -- where the part itself has a number
-pub after_bare : {A B C D : Type 0} (h : B → C) (k : A → D) (q : Result D FormFault) (r : Result A FormFault) (f : D → Result C FormFault) (g : A → Result B FormFault) → q ≡ on_ok k r → ((x : A) → f (k x) ≡ on_ok h (g x)) → (q >>= f) ≡ on_ok h (r >>= g)
+pub after_bare : {A B C D : Type 0} (h : B → C) (k : A → D) (q : Result D FormFault) (r : Result A FormFault) (f : D → Result C FormFault)
+    (g : A → Result B FormFault) → q ≡ on_ok k r → ((x : A) → f (k x) ≡ on_ok h (g x)) → (q >>= f) ≡ on_ok h (r >>= g)
 after_bare h k q (Ok x) f g first same = ap (λ (p : Result _ FormFault). p >>= f) first ∙ same x
 after_bare h k q (Err fault) f g first same = ap (λ (p : Result _ FormFault). p >>= f) first
 
-pub fits_same : {B C : Type 0} (h : B → C) (b : Bool) (q : Result C FormFault) (r : Result B FormFault) → q ≡ on_ok h r → bad_unless b q ≡ on_ok h (bad_unless b r)
+pub fits_same : {B C : Type 0} (h : B → C) (b : Bool) (q : Result C FormFault) (r : Result B FormFault) → q ≡ on_ok h r →
+    bad_unless b q ≡ on_ok h (bad_unless b r)
 fits_same h true q r same = same
 fits_same h false q r same = refl
 
-pub either_same : {B C : Type 0} (h : B → C) (b : Bool) (q s : Result C FormFault) (r t : Result B FormFault) → q ≡ on_ok h r → s ≡ on_ok h t → (if b then q else s) ≡ on_ok h (if b then r else t)
+pub either_same : {B C : Type 0} (h : B → C) (b : Bool) (q s : Result C FormFault) (r t : Result B FormFault) → q ≡ on_ok h r → s ≡ on_ok h t →
+    (if b then q else s) ≡ on_ok h (if b then r else t)
 either_same h true q s r t first second = first
 either_same h false q s r t first second = second
 
 -- ---- parts of steps
 
-pub then_same : {A B C D : Type 0} (k : A → D) (h : B → C) (q : Result D ReadRefusal) (r : Result A ReadRefusal) (f : D → Result C ReadRefusal) (g : A → Result B ReadRefusal) → q ≡ on_result k r → ((x : A) → f (k x) ≡ on_result h (g x)) → (q >>= f) ≡ on_result h (r >>= g)
+pub then_same : {A B C D : Type 0} (k : A → D) (h : B → C) (q : Result D ReadRefusal) (r : Result A ReadRefusal) (f : D → Result C ReadRefusal)
+    (g : A → Result B ReadRefusal) → q ≡ on_result k r → ((x : A) → f (k x) ≡ on_result h (g x)) → (q >>= f) ≡ on_result h (r >>= g)
 then_same k h q (Ok x) f g first same = ap (λ (p : Result _ ReadRefusal). p >>= f) first ∙ same x
 then_same k h q (Err fault) f g first same = ap (λ (p : Result _ ReadRefusal). p >>= f) first
 
-bare_fault : {B C : Type 0} (h : B → C) (n : ℕ) (fault : FormFault) → ◌≡◌ {A = Result C ReadRefusal} (Err (refusal_of 0 fault)) (on_result h (Err (refusal_of n fault)))
+bare_fault : {B C : Type 0} (h : B → C) (n : ℕ) (fault : FormFault) →
+    ◌≡◌ {A = Result C ReadRefusal} (Err (refusal_of 0 fault)) (on_result h (Err (refusal_of n fault)))
 bare_fault h n form_fault.UnknownLine = refl
 bare_fault h n form_fault.Unsupported = refl
 bare_fault h n form_fault.BadForm = refl
 bare_fault h n form_fault.WellKnown = refl
 bare_fault h n form_fault.Memory = refl
 
-pub said_same : {A B C D : Type 0} (k : A → D) (h : B → C) (n : ℕ) (q : Result D FormFault) (r : Result A FormFault) (f : D → Result C ReadRefusal) (g : A → Result B ReadRefusal) → q ≡ on_ok k r → ((x : A) → f (k x) ≡ on_result h (g x)) → (said_at 0 q >>= f) ≡ on_result h (said_at n r >>= g)
+pub said_same : {A B C D : Type 0} (k : A → D) (h : B → C) (n : ℕ) (q : Result D FormFault) (r : Result A FormFault) (f : D → Result C ReadRefusal)
+    (g : A → Result B ReadRefusal) → q ≡ on_ok k r → ((x : A) → f (k x) ≡ on_result h (g x)) → (said_at 0 q >>= f) ≡ on_result h (said_at n r >>= g)
 said_same k h n q (Ok x) f g first same = ap (λ (p : Result _ FormFault). said_at 0 p >>= f) first ∙ same x
 said_same k h n q (Err fault) f g first same = ap (λ (p : Result _ FormFault). said_at 0 p >>= f) first ∙ bare_fault h n fault
 

@@ -52,7 +52,8 @@ end_same _ = refl
 
 ip_address_same : (line : ℕ) (words : List (List ℕ)) → ip_address_form 0 words ≡ on_ok bare_item (ip_address_form line words)
 unfolding ip_address_form
-ip_address_same line (_ ∷ _ ∷ address ∷ mask ∷ []) = given_same bare_item (address_word address) _ _ (λ addr. given_same bare_item (mask_len_of mask) _ _ (λ len. refl))
+ip_address_same line (_ ∷ _ ∷ address ∷ mask ∷ []) =
+    given_same bare_item (address_word address) _ _ (λ addr. given_same bare_item (mask_len_of mask) _ _ (λ len. refl))
 ip_address_same line _ = refl
 
 cost_same : (words : List (List ℕ)) → cost_form words ≡ on_ok bare_item (cost_form words)
@@ -76,14 +77,16 @@ net_same line addr len = given_same bare_item (exact_prefix addr len) _ _ (λ pr
 
 network_same : (line : ℕ) (words : List (List ℕ)) → network_form 0 words ≡ on_ok bare_item (network_form line words)
 unfolding network_form
-network_same line (_ ∷ address ∷ []) = given_same bare_item (address_word address) _ _ (λ addr. given_same bare_item (classful_len_of addr) _ _ (λ len. net_same line addr len))
+network_same line (_ ∷ address ∷ []) = given_same bare_item (address_word address) _ _
+    (λ addr. given_same bare_item (classful_len_of addr) _ _ (λ len. net_same line addr len))
 network_same line (_ ∷ address ∷ word ∷ mask ∷ []) =
     fits_same bare_item (bytes_eq word (codes "mask")) _ _ (given_same bare_item (address_word address) _ _ (λ addr. given_same bare_item (mask_len_of mask) _ _ (λ len. net_same line addr len)))
 network_same line _ = refl
 
 remote_as_same : (words : List (List ℕ)) → remote_as_form words ≡ on_ok bare_item (remote_as_form words)
 unfolding remote_as_form
-remote_as_same (_ ∷ address ∷ _ ∷ number ∷ []) = given_same bare_item (address_word address) _ _ (λ addr. given_same bare_item (as_number_word number) _ _ (λ n. refl))
+remote_as_same (_ ∷ address ∷ _ ∷ number ∷ []) =
+    given_same bare_item (address_word address) _ _ (λ addr. given_same bare_item (as_number_word number) _ _ (λ n. refl))
 remote_as_same _ = refl
 
 peer_shut_same : (words : List (List ℕ)) → peer_shut_form words ≡ on_ok bare_item (peer_shut_form words)
@@ -100,13 +103,17 @@ peer_sends_same _ = refl
 peer_list_same : (line : ℕ) (words : List (List ℕ)) → peer_list_form 0 words ≡ on_ok bare_item (peer_list_form line words)
 unfolding peer_list_form
 peer_list_same line (_ ∷ address ∷ _ ∷ name ∷ way ∷ []) =
-    given_same bare_item (address_word address) _ _ (λ addr. given_same bare_item (is_inward way) _ _ (λ inward. after_bare bare_item bare_named (named_of 0 name) (named_of line name) _ _ (named_same line name) (λ list. refl)))
+    given_same bare_item (address_word address) _ _
+    (λ addr. given_same bare_item (is_inward way) _ _
+    (λ inward. after_bare bare_item bare_named (named_of 0 name) (named_of line name) _ _ (named_same line name) (λ list. refl)))
 peer_list_same line _ = refl
 
 peer_map_same : (line : ℕ) (words : List (List ℕ)) → peer_map_form 0 words ≡ on_ok bare_item (peer_map_form line words)
 unfolding peer_map_form
 peer_map_same line (_ ∷ address ∷ _ ∷ name ∷ way ∷ []) =
-    given_same bare_item (address_word address) _ _ (λ addr. given_same bare_item (is_inward way) _ _ (λ inward. after_bare bare_item bare_named (named_of 0 name) (named_of line name) _ _ (named_same line name) (λ list. refl)))
+    given_same bare_item (address_word address) _ _
+    (λ addr. given_same bare_item (is_inward way) _ _
+    (λ inward. after_bare bare_item bare_named (named_of 0 name) (named_of line name) _ _ (named_same line name) (λ list. refl)))
 peer_map_same line _ = refl
 
 area_same : (line : ℕ) (words : List (List ℕ)) → area_form 0 words ≡ on_ok bare_item (area_form line words)
@@ -170,12 +177,15 @@ prefix_entry_same line (_ ∷ _ ∷ name ∷ word ∷ number ∷ act ∷ prefix 
     after_same bare_policy (list_name_of name) _ _ (λ list. refl))))))
 prefix_entry_same line _ = refl
 
-community_line_same : (line : ℕ) (name act : List ℕ) (communities : List (List ℕ)) → community_line 0 name act communities ≡ on_ok bare_policy (community_line line name act communities)
+community_line_same : (line : ℕ) (name act : List ℕ) (communities : List (List ℕ)) →
+    community_line 0 name act communities ≡ on_ok bare_policy (community_line line name act communities)
 unfolding community_line
 community_line_same line name act communities =
-    given_same bare_policy (is_permit act) _ _ (λ permit. after_same bare_policy (list_name_of name) _ _ (λ list. after_same bare_policy (community_words communities) _ _ (λ comms. refl)))
+    given_same bare_policy (is_permit act) _ _
+    (λ permit. after_same bare_policy (list_name_of name) _ _ (λ list. after_same bare_policy (community_words communities) _ _ (λ comms. refl)))
 
-numbered_same : (line : ℕ) (number act : List ℕ) (communities : List (List ℕ)) → numbered_line 0 number act communities ≡ on_ok bare_policy (numbered_line line number act communities)
+numbered_same : (line : ℕ) (number act : List ℕ) (communities : List (List ℕ)) →
+    numbered_line 0 number act communities ≡ on_ok bare_policy (numbered_line line number act communities)
 unfolding numbered_line
 numbered_same line number act communities = fits_same bare_policy (is_some (number_between 1 99 number)) _ _ (community_line_same line number act communities)
 
@@ -190,7 +200,8 @@ list_line_same line _ = refl
 map_head_same : (line : ℕ) (words : List (List ℕ)) → map_head_form 0 words ≡ on_ok bare_policy (map_head_form line words)
 unfolding map_head_form
 map_head_same line (_ ∷ name ∷ act ∷ number ∷ []) =
-    given_same bare_policy (is_permit act) _ _ (λ permit. given_same bare_policy (number_between 0 65535 number) _ _ (λ seq. after_same bare_policy (list_name_of name) _ _ (λ map. refl)))
+    given_same bare_policy (is_permit act) _ _
+    (λ permit. given_same bare_policy (number_between 0 65535 number) _ _ (λ seq. after_same bare_policy (list_name_of name) _ _ (λ map. refl)))
 map_head_same line _ = refl
 
 match_prefixes_same : (line : ℕ) (words : List (List ℕ)) → match_prefixes_form 0 words ≡ on_ok bare_policy (match_prefixes_form line words)
@@ -251,5 +262,6 @@ policy_class_same (Some class.Ignored) line words = refl
 policy_class_same (Some (class.Router f)) line words = refl
 policy_class_same (Some (class.Policy f)) line words = policy_form_same f line words
 
-pub policy_item_same : (scope : PolicyScope) (line : ℕ) (words : List (List ℕ)) → policy_item_of scope 0 words ≡ on_ok bare_policy (policy_item_of scope line words)
+pub policy_item_same : (scope : PolicyScope) (line : ℕ) (words : List (List ℕ)) →
+    policy_item_of scope 0 words ≡ on_ok bare_policy (policy_item_of scope line words)
 policy_item_same scope line words = policy_class_same (class_in (policy_heads_of scope) words) line words

@@ -27,7 +27,8 @@ use Rattle.cfg_ast.specs.printing.WellFormed.{IsBetween, IsNumber, IsInterfaceNa
 use Rattle.cfg_round_trip.proofs.WordsBack.{number_back, between_back, as_number_back, address_back, mask_back}
 use Rattle.cfg_round_trip.proofs.HeadsBack.{IsHeadOf, hostname_head, interface_head, bgp_head, ospf_head, end_head, address_head, cost_head, shutdown_head, base_head, network_head, remote_as_head, peer_shut_head, peer_sends_head, peer_list_head, peer_map_head, area_head, passive_head, not_passive_head}
 
-of_head : (s : Scope) (f : RouterForm) (words : List (List ℕ)) (r : Result RouterItem FormFault) → IsHeadOf s f words → router_form f 0 words ≡ r → router_item_of s 0 words ≡ r
+of_head : (s : Scope) (f : RouterForm) (words : List (List ℕ)) (r : Result RouterItem FormFault) → IsHeadOf s f words → router_form f 0 words ≡ r →
+    router_item_of s 0 words ≡ r
 unfolding router_item_by
 of_head s f words r head said = ap (λ (o : Option HeadClass). router_item_by o 0 words) head ∙ said
 
@@ -60,7 +61,8 @@ end_item = of_head scope.Top form.End _ _ end_head refl
 
 pub address_item : (a : Address) → IsWellFormedAddress a → router_item_of scope.Interface 0 (ip_address_line a).words ≡ Ok (item.IpAddress (bare_address a))
 unfolding ip_address_line router_form ip_address_form
-address_item a is = of_head scope.Interface form.IpAddress _ _ (address_head (address_text a.addr ∷ address_text (mask_of a.len) ∷ [])) (rw (address_back a.addr is.addr, mask_back a.len is.len) refl)
+address_item a is = of_head scope.Interface form.IpAddress _ _ (address_head (address_text a.addr ∷ address_text (mask_of a.len) ∷ []))
+    (rw (address_back a.addr is.addr, mask_back a.len is.len) refl)
 
 pub cost_item : (n : ℕ) → IsBetween 1 65535 n → router_item_of scope.Interface 0 (cost_line n).words ≡ Ok (item.Cost n)
 unfolding cost_line router_form cost_form
@@ -88,7 +90,8 @@ network_item net is =
 
 pub remote_item : (addr n : ℕ) → IsNumber addr → IsBetween 1 4294967295 n → router_item_of scope.Bgp 0 (remote_line addr n).words ≡ Ok (item.RemoteAs addr n)
 unfolding remote_line router_form remote_as_form
-remote_item addr n is range = of_head scope.Bgp form.RemoteAs _ _ (remote_as_head (address_text addr) (decimal n ∷ [])) (rw (address_back addr is, as_number_back n range) refl)
+remote_item addr n is range = of_head scope.Bgp form.RemoteAs _ _ (remote_as_head (address_text addr) (decimal n ∷ []))
+    (rw (address_back addr is, as_number_back n range) refl)
 
 pub peer_shut_item : (addr : ℕ) → IsNumber addr → router_item_of scope.Bgp 0 (peer_shut_line addr).words ≡ Ok (item.PeerShut addr)
 unfolding peer_shut_line router_form peer_shut_form
@@ -114,12 +117,14 @@ way_back false = refl
 pub peer_list_item : (addr : ℕ) (inward : Bool) (list : Named) → IsNumber addr → IsWellFormedNamed list → router_item_of scope.Bgp 0 (applied_line addr (codes "prefix-list") (way_text inward) list).words ≡ Ok (item.PeerList addr (bare_named list) inward)
 unfolding applied_line router_form peer_list_form
 peer_list_item addr inward list is named =
-    of_head scope.Bgp form.PeerList _ _ (peer_list_head (address_text addr) (list.name ∷ way_text inward ∷ [])) (rw (address_back addr is, way_back inward, named_back list named) refl)
+    of_head scope.Bgp form.PeerList _ _ (peer_list_head (address_text addr) (list.name ∷ way_text inward ∷ []))
+    (rw (address_back addr is, way_back inward, named_back list named) refl)
 
 pub peer_map_item : (addr : ℕ) (inward : Bool) (map : Named) → IsNumber addr → IsWellFormedNamed map → router_item_of scope.Bgp 0 (applied_line addr (codes "route-map") (way_text inward) map).words ≡ Ok (item.PeerMap addr (bare_named map) inward)
 unfolding applied_line router_form peer_map_form
 peer_map_item addr inward map is named =
-    of_head scope.Bgp form.PeerMap _ _ (peer_map_head (address_text addr) (map.name ∷ way_text inward ∷ [])) (rw (address_back addr is, way_back inward, named_back map named) refl)
+    of_head scope.Bgp form.PeerMap _ _ (peer_map_head (address_text addr) (map.name ∷ way_text inward ∷ []))
+    (rw (address_back addr is, way_back inward, named_back map named) refl)
 
 -- ---- lines of an OSPF process
 

@@ -37,7 +37,8 @@ word_prints (b ∷ w) each = let low = each.0.0 in ((omega arith, each.0.1), wor
 words_print : (ws : List (List ℕ)) → AllByRecursion IsPrintedWord ws → AllByRecursion (IsBetween 32 126) (join_with_byte 32 ws)
 words_print [] each = tt
 words_print (w ∷ []) each = word_prints w each.0.1
-words_print (w ∷ v ∷ ws) each = each_append (IsBetween 32 126) w (32 ∷ join_with_byte 32 (v ∷ ws)) (word_prints w each.0.1) ((omega arith, omega arith), words_print (v ∷ ws) each.1)
+words_print (w ∷ v ∷ ws) each = each_append (IsBetween 32 126) w (32 ∷ join_with_byte 32 (v ∷ ws)) (word_prints w each.0.1)
+    ((omega arith, omega arith), words_print (v ∷ ws) each.1)
 
 pub body_prints : (l : TextLine) → IsPrintedLine l → AllByRecursion (IsBetween 32 126) (line_body l)
 body_prints l is = each_append (IsBetween 32 126) (replicate l.indent 32) (join_with_byte 32 l.words) (blanks_print l.indent) (words_print l.words is.words)
@@ -67,9 +68,11 @@ words_joined : (ws : List (List ℕ)) → 1 ≤ length ws → AllByRecursion IsP
 unfolding words_of
 words_joined [] some each = absurd (omega arith)
 words_joined (w ∷ []) some each =
-    ap (filter is_some_word) (slice_split_none is_blank w (All-from_recursion (λ b. is_blank b ≡ false) w (no_blanks w each.0.1))) ∙ rw (some_word w each.0.0) refl
+    ap (filter is_some_word) (slice_split_none is_blank w (All-from_recursion (λ b. is_blank b ≡ false) w (no_blanks w each.0.1)))
+    ∙ rw (some_word w each.0.0) refl
 words_joined (w ∷ v ∷ ws) some each =
-    ap (filter is_some_word) (slice_split_at is_blank w 32 (join_with_byte 32 (v ∷ ws)) (All-from_recursion (λ b. is_blank b ≡ false) w (no_blanks w each.0.1)) refl)
+    ap (filter is_some_word) (slice_split_at is_blank w 32 (join_with_byte 32 (v ∷ ws)) (All-from_recursion (λ b. is_blank b ≡ false) w (no_blanks w each.0.1))
+    refl)
     ∙ rw (some_word w each.0.0) (ap (λ (us : List (List ℕ)). w ∷ us) (words_joined (v ∷ ws) (omega arith) each.1))
 
 pub body_words : (l : TextLine) → IsPrintedLine l → words_of (line_body l) ≡ l.words
@@ -77,7 +80,8 @@ body_words l is = blanks_passed l.indent (join_with_byte 32 l.words) ∙ words_j
 
 -- ---- its first byte that is no blank
 
-first_byte : (ws : List (List ℕ)) → 1 ≤ length ws → AllByRecursion IsPrintedWord ws → (b : ℕ) × (more : List ℕ) × (join_with_byte 32 ws ≡ b ∷ more) × IsBetween 33 126 b
+first_byte : (ws : List (List ℕ)) → 1 ≤ length ws → AllByRecursion IsPrintedWord ws → (b : ℕ) × (more : List ℕ) × (join_with_byte 32 ws ≡ b ∷ more)
+    × IsBetween 33 126 b
 first_byte [] some each = absurd (omega arith)
 first_byte ([] ∷ ws) some each = let long = each.0.0 in absurd (omega arith)
 first_byte ((b ∷ w) ∷ []) some each = (b, w, refl, each.0.1.0)
@@ -98,6 +102,7 @@ body_dented l is =
     let body : line_body l ≡ replicate l.indent 32 ++ first.0 ∷ first.1 = ap (λ (xs : List ℕ). replicate l.indent 32 ++ xs) first.2 in
     record {
       inside = rw body (omega (arith, length-append (replicate l.indent 32) (first.0 ∷ first.1), length-replicate {A = ℕ} l.indent 32));
-      blank = λ k lt. get_or-append (replicate l.indent 32) (join_with_byte 32 l.words) 0 k (omega (arith, length-replicate {A = ℕ} l.indent 32)) ∙ get_or-replicate l.indent k 32 0 lt;
+      blank = λ k lt. get_or-append (replicate l.indent 32) (join_with_byte 32 l.words) 0 k (omega (arith, length-replicate {A = ℕ} l.indent 32))
+          ∙ get_or-replicate l.indent k 32 0 lt;
       full = ap (λ (xs : List ℕ). is_blank (get_or xs l.indent 0)) body ∙ ap is_blank (at_seam l.indent first.0 first.1) ∙ no_blank_byte first.0 first.3;
     }

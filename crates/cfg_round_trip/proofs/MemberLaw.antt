@@ -25,7 +25,8 @@ bare_front : (l : TextLine) (parts : List (List TextLine)) → onto_first (bare_
 bare_front l [] = refl
 bare_front l (p ∷ ps) = refl
 
-bare_case : (b : Bool) (l : TextLine) (ls : List TextLine) → is_end_line l ≡ b → slice_split is_end_line (bares ls) ≡ map bares (slice_split is_end_line ls) → slice_split is_end_line (bares (l ∷ ls)) ≡ map bares (slice_split is_end_line (l ∷ ls))
+bare_case : (b : Bool) (l : TextLine) (ls : List TextLine) → is_end_line l ≡ b → slice_split is_end_line (bares ls) ≡ map bares (slice_split is_end_line ls) →
+    slice_split is_end_line (bares (l ∷ ls)) ≡ map bares (slice_split is_end_line (l ∷ ls))
 bare_case true l ls e rest = rw e (ap (λ (ps : List (List TextLine)). [] ∷ ps) rest)
 bare_case false l ls e rest = rw e (ap (onto_first (bare_line l)) rest ∙ bare_front l (slice_split is_end_line ls))
 
@@ -44,10 +45,12 @@ bare_names (l ∷ ls) = ap (cons_option (member_on l.words)) (bare_names ls)
 
 bare_all : (ps : List (List TextLine)) → map members_on (map bares ps) ≡ map members_on ps
 bare_all [] = refl
-bare_all (p ∷ ps) = ap (λ (ns : List (List ℕ)). ns ∷ map members_on (map bares ps)) (bare_names p) ∙ ap (λ (xs : List (List (List ℕ))). members_on p ∷ xs) (bare_all ps)
+bare_all (p ∷ ps) = ap (λ (ns : List (List ℕ)). ns ∷ map members_on (map bares ps)) (bare_names p)
+    ∙ ap (λ (xs : List (List (List ℕ))). members_on p ∷ xs) (bare_all ps)
 
 bare_members : (ls : List TextLine) → members_in (bares ls) ≡ members_in ls
-bare_members ls = ap (λ (ps : List (List TextLine)). map members_on (before_last ps)) (bare_parts ls) ∙ ap (map members_on) (bare_ended (slice_split is_end_line ls)) ∙ bare_all (before_last (slice_split is_end_line ls))
+bare_members ls = ap (λ (ps : List (List TextLine)). map members_on (before_last ps)) (bare_parts ls)
+    ∙ ap (map members_on) (bare_ended (slice_split is_end_line ls)) ∙ bare_all (before_last (slice_split is_end_line ls))
 
 -- ---- the lines of a router before its end
 
@@ -70,7 +73,8 @@ others_name_none (l ∷ ls) each = rw each.0.names_none (others_name_none ls eac
 with_others : (names : List (List ℕ)) (xs ys : List TextLine) → Body names xs → AreOthers ys → Body names (xs ++ ys)
 with_others names xs ys body others = record {
   ends_none = each_append IsNoEnd xs ys body.ends_none (others_end_none ys others);
-  members = filter_map-append (λ (l : TextLine). member_on l.words) xs ys ∙ ap (λ (ns : List (List ℕ)). members_on xs ++ ns) (others_name_none ys others) ∙ append-nil (members_on xs) ∙ body.members;
+  members = filter_map-append (λ (l : TextLine). member_on l.words) xs ys ∙ ap (λ (ns : List (List ℕ)). members_on xs ++ ns) (others_name_none ys others)
+      ∙ append-nil (members_on xs) ∙ body.members;
 }
 
 member_found : (name : List ℕ) → IsRouterName name → member_on (codes "!" ∷ codes "member" ∷ name ∷ []) ≡ Some name
@@ -121,7 +125,8 @@ body_is r names are =
     let four = with_others names (a ++ closing ∷ b ++ c) d three (some_others ospf_lines ospf_others r.ospf) in
     let five = with_others names (a ++ closing ∷ b ++ c ++ d) e four (prefix_list_others r.prefix_lists) in
     let six = with_others names (a ++ closing ∷ b ++ c ++ d ++ e) f five (community_list_others r.community_lists) in
-    with_others names (a ++ closing ∷ b ++ c ++ d ++ e ++ f) (flat_map route_map_lines r.route_maps) six (all_flat_map route_map_lines route_map_others r.route_maps)
+    with_others names (a ++ closing ∷ b ++ c ++ d ++ e ++ f) (flat_map route_map_lines r.route_maps) six
+    (all_flat_map route_map_lines route_map_others r.route_maps)
 
 -- ---- all routers
 
@@ -133,7 +138,8 @@ ended_first p (q ∷ parts) n e = refl
 router_first : (names : List (List ℕ)) (body rest : List TextLine) → Body names body → members_in (body ++ end_line ∷ rest) ≡ names ∷ members_in rest
 router_first names body rest is =
     let parts = slice_split is_end_line rest in
-    ap (λ (ps : List (List TextLine)). map members_on (before_last ps)) (slice_split_at is_end_line body end_line rest (All-from_recursion IsNoEnd body is.ends_none) refl)
+    ap (λ (ps : List (List TextLine)). map members_on (before_last ps))
+    (slice_split_at is_end_line body end_line rest (All-from_recursion IsNoEnd body is.ends_none) refl)
     ∙ ap (map members_on) (ended_first body parts (count_by is_end_line rest) (length-slice_split is_end_line rest))
     ∙ ap (λ (ns : List (List ℕ)). ns ∷ members_in rest) is.members
 
@@ -141,16 +147,19 @@ router_ends : (r : Router) (names : List (List ℕ)) (rest : List TextLine) → 
 unfolding router_lines
 router_ends r names rest = append_assoc (router_body r names) (end_line ∷ []) rest
 
-routers_back : (rs : List Router) (members : List (List (List ℕ))) → length members ≡ length rs → AllByRecursion (AllByRecursion IsRouterName) members → members_in (routers_lines rs members) ≡ members
+routers_back : (rs : List Router) (members : List (List (List ℕ))) → length members ≡ length rs → AllByRecursion (AllByRecursion IsRouterName) members →
+    members_in (routers_lines rs members) ≡ members
 routers_back [] [] e are = refl
 routers_back [] (m ∷ ms) e are = absurd (omega arith)
 routers_back (r ∷ rs) [] e are = absurd (omega arith)
 routers_back (r ∷ rs) (m ∷ ms) e are =
-    ap members_in (router_ends r m (routers_lines rs ms)) ∙ router_first m (router_body r m) (routers_lines rs ms) (body_is r m are.0) ∙ ap (λ (ns : List (List (List ℕ))). m ∷ ns) (routers_back rs ms (omega arith) are.1)
+    ap members_in (router_ends r m (routers_lines rs ms)) ∙ router_first m (router_body r m) (routers_lines rs ms) (body_is r m are.0)
+    ∙ ap (λ (ns : List (List (List ℕ))). m ∷ ns) (routers_back rs ms (omega arith) are.1)
 
 pub members_back : MembersAreReadBack
 unfolding members_of_text printed
 members_back network notes is are =
     let ls = printed_lines network notes in
     let bs = lines_text ls in
-    sym (bare_members (map (text_line bs) (all_lines_of bs))) ∙ ap members_in (all_lines_back ls (printed_lines_are_lines network notes is are)) ∙ bare_members ls ∙ routers_back network.routers notes.members are.total are.names
+    sym (bare_members (map (text_line bs) (all_lines_of bs))) ∙ ap members_in (all_lines_back ls (printed_lines_are_lines network notes is are))
+    ∙ bare_members ls ∙ routers_back network.routers notes.members are.total are.names

@@ -29,15 +29,20 @@ use Rattle.cfg_round_trip.proofs.Twice.{bare_twice}
 
 -- ---- all routers
 
-all_routers : (rs done : List Router) (members : List (List (List ℕ))) → AllByRecursion IsWellFormedRouter rs → steps (at_draft done no_draft) (filter is_read (routers_lines rs members)) ≡ Ok (at_draft (done ++ map bare_router rs) no_draft)
+all_routers : (rs done : List Router) (members : List (List (List ℕ))) → AllByRecursion IsWellFormedRouter rs →
+    steps (at_draft done no_draft) (filter is_read (routers_lines rs members)) ≡ Ok (at_draft (done ++ map bare_router rs) no_draft)
 unfolding steps
 all_routers [] done members are = ap (λ (rs : List Router). Ok (at_draft rs no_draft)) (sym (append-nil done))
 all_routers (r ∷ rs) done [] are =
-    then_steps (router_lines r []) (routers_lines rs []) (at_draft done no_draft) (at_draft (done ++ bare_router r ∷ []) no_draft) (Ok (at_draft (done ++ map bare_router (r ∷ rs)) no_draft)) (router_back r [] done are.0)
-    (all_routers rs (done ++ bare_router r ∷ []) [] are.1 ∙ ap (λ (ts : List Router). Ok (at_draft ts no_draft)) (append_assoc done (bare_router r ∷ []) (map bare_router rs)))
+    then_steps (router_lines r []) (routers_lines rs []) (at_draft done no_draft) (at_draft (done ++ bare_router r ∷ []) no_draft)
+    (Ok (at_draft (done ++ map bare_router (r ∷ rs)) no_draft)) (router_back r [] done are.0)
+    (all_routers rs (done ++ bare_router r ∷ []) [] are.1
+    ∙ ap (λ (ts : List Router). Ok (at_draft ts no_draft)) (append_assoc done (bare_router r ∷ []) (map bare_router rs)))
 all_routers (r ∷ rs) done (names ∷ members) are =
-    then_steps (router_lines r names) (routers_lines rs members) (at_draft done no_draft) (at_draft (done ++ bare_router r ∷ []) no_draft) (Ok (at_draft (done ++ map bare_router (r ∷ rs)) no_draft)) (router_back r names done are.0)
-    (all_routers rs (done ++ bare_router r ∷ []) members are.1 ∙ ap (λ (ts : List Router). Ok (at_draft ts no_draft)) (append_assoc done (bare_router r ∷ []) (map bare_router rs)))
+    then_steps (router_lines r names) (routers_lines rs members) (at_draft done no_draft) (at_draft (done ++ bare_router r ∷ []) no_draft)
+    (Ok (at_draft (done ++ map bare_router (r ∷ rs)) no_draft)) (router_back r names done are.0)
+    (all_routers rs (done ++ bare_router r ∷ []) members are.1
+    ∙ ap (λ (ts : List Router). Ok (at_draft ts no_draft)) (append_assoc done (bare_router r ∷ []) (map bare_router rs)))
 
 -- ---- the last line
 
@@ -54,7 +59,8 @@ unfolding router_lines
 router_ends r names = (router_front r names, refl)
 
 -- lines that end with the line `end`, and then none or others that do
-ends_more : (xs ls : List TextLine) → ((front : List TextLine) × (xs ≡ front ++ end_line ∷ [])) → EndsWell ls → (front : List TextLine) × (xs ++ ls ≡ front ++ end_line ∷ [])
+ends_more : (xs ls : List TextLine) → ((front : List TextLine) × (xs ≡ front ++ end_line ∷ [])) → EndsWell ls → (front : List TextLine)
+    × (xs ++ ls ≡ front ++ end_line ∷ [])
 ends_more xs [] first rest = (first.0, append-nil xs ∙ first.1)
 ends_more xs (l ∷ ls) first rest = ends_after xs rest.0 (l ∷ ls) rest.1
 
@@ -64,8 +70,11 @@ well (l ∷ ls) e = e
 
 routers_end : (rs : List Router) (members : List (List (List ℕ))) → EndsWell (routers_lines rs members)
 routers_end [] members = tt
-routers_end (r ∷ rs) [] = well (router_lines r [] ++ routers_lines rs []) (ends_more (router_lines r []) (routers_lines rs []) (router_ends r []) (routers_end rs []))
-routers_end (r ∷ rs) (names ∷ members) = well (router_lines r names ++ routers_lines rs members) (ends_more (router_lines r names) (routers_lines rs members) (router_ends r names) (routers_end rs members))
+routers_end (r ∷ rs) [] = well (router_lines r [] ++ routers_lines rs [])
+    (ends_more (router_lines r []) (routers_lines rs []) (router_ends r []) (routers_end rs []))
+routers_end (r ∷ rs) (names ∷ members) =
+    well (router_lines r names ++ routers_lines rs members)
+    (ends_more (router_lines r names) (routers_lines rs members) (router_ends r names) (routers_end rs members))
 
 last_of : (front : List TextLine) (l : TextLine) → slice_get (front ++ l ∷ []) (length front) ≡ Some l
 last_of [] l = refl
@@ -80,19 +89,25 @@ ending_of front =
 ending_read : (ls : List TextLine) → EndsWell ls → ending (filter is_read ls) ≡ Ok tt
 unfolding ending
 ending_read [] e = refl
-ending_read (l ∷ ls) e = ap (λ (xs : List TextLine). ending (filter is_read xs)) e.1 ∙ ap ending (filter-append is_read e.0 (end_line ∷ [])) ∙ ending_of (filter is_read e.0)
+ending_read (l ∷ ls) e = ap (λ (xs : List TextLine). ending (filter is_read xs)) e.1 ∙ ap ending (filter-append is_read e.0 (end_line ∷ []))
+    ∙ ending_of (filter is_read e.0)
 
 -- ---- the network
 
 lines_network : (network : Network) (notes : Notes) → IsWellFormed network → network_of_lines (filter is_read (printed_lines network notes)) ≡ Ok (bare network)
 unfolding network_of_lines
-lines_network network notes is = rw (all_routers network.routers [] notes.members is.routers, ending_read (routers_lines network.routers notes.members) (routers_end network.routers notes.members)) refl
+lines_network network notes is = rw (
+  all_routers network.routers [] notes.members is.routers,
+  ending_read (routers_lines network.routers notes.members) (routers_end network.routers notes.members),
+) refl
 
 read_bare : (ls : List TextLine) → filter is_read (map bare_line ls) ≡ map bare_line (filter is_read ls)
 read_bare [] = refl
 read_bare (l ∷ ls) = by (is_read l) (read_bare ls)
   where
-    by : (b : Bool) → filter is_read (map bare_line ls) ≡ map bare_line (filter is_read ls) → cond b (bare_line l ∷ filter is_read (map bare_line ls)) (filter is_read (map bare_line ls)) ≡ map bare_line (cond b (l ∷ filter is_read ls) (filter is_read ls))
+    by : (b : Bool) → filter is_read (map bare_line ls) ≡ map bare_line (filter is_read ls) →
+        cond b (bare_line l ∷ filter is_read (map bare_line ls)) (filter is_read (map bare_line ls)) ≡ map bare_line
+        (cond b (l ∷ filter is_read ls) (filter is_read ls))
     by true rest = ap (λ (xs : List TextLine). bare_line l ∷ xs) rest
     by false rest = rest
 
@@ -107,7 +122,8 @@ some_newline front = let e = newlines_more front (10 ∷ []) in omega (arith, e)
 
 lines_counted : (ls : List TextLine) → length ls ≤ length (filter (λ b. b == 10) (lines_text ls))
 lines_counted [] = omega arith
-lines_counted (l ∷ ls) = let e = newlines_more (line_text l) (lines_text ls) in omega (arith, e, some_newline (replicate l.indent 32 ++ join_with_byte 32 l.words), lines_counted ls)
+lines_counted (l ∷ ls) = let e = newlines_more (line_text l) (lines_text ls) in
+    omega (arith, e, some_newline (replicate l.indent 32 ++ join_with_byte 32 l.words), lines_counted ls)
 
 pub printed_is_read_back : PrintedIsReadBack
 unfolding network_of_text printed
@@ -123,7 +139,9 @@ printed_is_read_back network notes is are few short =
 
 pub given_lines_are_short : GivenLinesAreShort
 given_lines_are_short network notes known are =
-    ∥∥₁_elim known (AllByRecursion-prop (λ (l : TextLine). length (line_text l) ≤ 1025) (λ l. hlevel props) (printed_lines network notes)) (λ given. lines_are_short network notes (given_is_well_formed network known) (given_is_short network given) are)
+    ∥∥₁_elim known (AllByRecursion-prop (λ (l : TextLine). length (line_text l) ≤ 1025) (λ l. hlevel props) (printed_lines network notes))
+    (λ given. lines_are_short network notes (given_is_well_formed network known) (given_is_short network given) are)
 
 pub given_is_read_back : GivenIsReadBack
-given_is_read_back network notes known are few = printed_is_read_back network notes (given_is_well_formed network known) are few (given_lines_are_short network notes known are)
+given_is_read_back network notes known are few =
+    printed_is_read_back network notes (given_is_well_formed network known) are few (given_lines_are_short network notes known are)

@@ -22,7 +22,8 @@ end_same : (o : Option TextLine) → end_at (option_map bare_line o) ≡ on_resu
 end_same None = refl
 end_same (Some l) = by (l.indent == 0 && is_end l.words)
   where
-    by : (b : Bool) → ◌≡◌ {A = Result (Unit {0}) ReadRefusal} (if b then Ok tt else Err (refusal.At 0 kind.NoEnd)) (on_result itself (if b then Ok tt else Err (refusal.At l.number kind.NoEnd)))
+    by : (b : Bool) → ◌≡◌ {A = Result (Unit {0}) ReadRefusal} (if b then Ok tt else Err (refusal.At 0 kind.NoEnd))
+        (on_result itself (if b then Ok tt else Err (refusal.At l.number kind.NoEnd)))
     by true = refl
     by false = refl
 

@@ -187,7 +187,9 @@ prefix_entry_other name e = top_other (codes "ip") (codes "prefix-list") _ refl
 
 pub prefix_list_others : (lists : List PrefixList) → AreOthers (prefix_list_lines lists)
 prefix_list_others lists =
-    closed_others (flat_map (λ (l : PrefixList). map (prefix_entry_line l.name) l.entries) lists) (all_flat_map (λ (l : PrefixList). map (prefix_entry_line l.name) l.entries) (λ (l : PrefixList). all_map (prefix_entry_line l.name) (prefix_entry_other l.name) l.entries) lists)
+    closed_others (flat_map (λ (l : PrefixList). map (prefix_entry_line l.name) l.entries) lists)
+    (all_flat_map (λ (l : PrefixList). map (prefix_entry_line l.name) l.entries)
+    (λ (l : PrefixList). all_map (prefix_entry_line l.name) (prefix_entry_other l.name) l.entries) lists)
 
 community_line_other : (name : List ℕ) (c : CommunityLine) → IsOther (community_list_line name c)
 unfolding community_list_line
@@ -195,7 +197,9 @@ community_line_other name c = top_other (codes "ip") (codes "community-list") _ 
 
 pub community_list_others : (lists : List CommunityList) → AreOthers (community_list_lines lists)
 community_list_others lists =
-    closed_others (flat_map (λ (l : CommunityList). map (community_list_line l.name) l.lines) lists) (all_flat_map (λ (l : CommunityList). map (community_list_line l.name) l.lines) (λ (l : CommunityList). all_map (community_list_line l.name) (community_line_other l.name) l.lines) lists)
+    closed_others (flat_map (λ (l : CommunityList). map (community_list_line l.name) l.lines) lists)
+    (all_flat_map (λ (l : CommunityList). map (community_list_line l.name) l.lines)
+    (λ (l : CommunityList). all_map (community_list_line l.name) (community_line_other l.name) l.lines) lists)
 
 -- ---- route maps
 
@@ -238,7 +242,8 @@ entry_others name e =
     let d = line_of_given change_line e.change in
     let f = line_of_given delete_line e.delete in
     let g = line_of_given prepend_line e.prepend in
-    let two = more a b (some_other match_prefixes_line match_prefixes_other e.prefixes) (some_other (match_comms_line e.exact) (match_comms_other e.exact) e.comms) in
+    let two = more a b (some_other match_prefixes_line match_prefixes_other e.prefixes)
+    (some_other (match_comms_line e.exact) (match_comms_other e.exact) e.comms) in
     let three = more (a ++ b) c two (some_other lp_line lp_other e.lp) in
     let four = more (a ++ b ++ c) d three (some_other change_line change_other e.change) in
     let five = more (a ++ b ++ c ++ d) f four (some_other delete_line delete_other e.delete) in

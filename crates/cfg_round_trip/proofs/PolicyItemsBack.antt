@@ -38,7 +38,8 @@ use Rattle.cfg_round_trip.proofs.WordsBack.{IsDigit, decimal_digits, number_back
 use Rattle.cfg_round_trip.proofs.HeadsBack.{IsPolicyHeadOf, prefix_list_head, standard_head, numbered_head, map_head, match_prefixes_head, match_comms_head, lp_head, comms_head, delete_head, prepend_head}
 use Rattle.cfg_round_trip.proofs.ItemsBack.{named_back}
 
-of_head : (s : PolicyScope) (f : PolicyForm) (words : List (List ℕ)) (r : Result PolicyItem FormFault) → IsPolicyHeadOf s f words → policy_form f 0 words ≡ r → policy_item_of s 0 words ≡ r
+of_head : (s : PolicyScope) (f : PolicyForm) (words : List (List ℕ)) (r : Result PolicyItem FormFault) → IsPolicyHeadOf s f words → policy_form f 0 words ≡ r →
+    policy_item_of s 0 words ≡ r
 unfolding policy_item_by
 of_head s f words r head said = ap (λ (o : Option HeadClass). policy_item_by o 0 words) head ∙ said
 
@@ -68,7 +69,8 @@ differ_back : (same : List ℕ → List ℕ → Bool) (words : List (List ℕ)) 
 unfolding IsDistinct
 differ_back same [] all = refl
 differ_back same (word ∷ words) all =
-    and_from (not (list_any (same word) words)) (all_differ same words) (not_from_false (list_any (same word) words) (pass_none (same word) words all.0)) (differ_back same words all.1)
+    and_from (not (list_any (same word) words)) (all_differ same words) (not_from_false (list_any (same word) words) (pass_none (same word) words all.0))
+    (differ_back same words all.1)
 
 names_back : (l : NameLine) → IsWellFormedNameLine l → list_names_of l.names ≡ Ok l.names
 unfolding list_names_of
@@ -87,7 +89,8 @@ texts comms = map community_text comms
 abbrev IsCommunity : ℕ → Type 0
 IsCommunity c = IsBetween 1 4294901759 c
 
-all_texts : (P : List ℕ → Type 0) (comms : List ℕ) → ((c : ℕ) → IsCommunity c → P (community_text c)) → AllByRecursion IsCommunity comms → AllByRecursion P (texts comms)
+all_texts : (P : List ℕ → Type 0) (comms : List ℕ) → ((c : ℕ) → IsCommunity c → P (community_text c)) → AllByRecursion IsCommunity comms →
+    AllByRecursion P (texts comms)
 all_texts P [] each all = tt
 all_texts P (c ∷ comms) each all = (each c all.0, all_texts P comms each all.1)
 
@@ -102,7 +105,8 @@ text_is_community c is = rw (community_back c is) (or_true (is_well_known_name (
 -- a text begins with a digit
 first_of_text : (c : ℕ) → IsCommunity c → get_or (community_text c) 0 0 ≤ 57
 unfolding community_text
-first_of_text c is = first (decimal (c / 65536)) (58 ∷ decimal (c % 65536)) (decimal_digits (c / 65536) (let high = is.1 in omega arith)).some (decimal_digits (c / 65536) (let high = is.1 in omega arith)).digits
+first_of_text c is = first (decimal (c / 65536)) (58 ∷ decimal (c % 65536)) (decimal_digits (c / 65536) (let high = is.1 in omega arith)).some
+    (decimal_digits (c / 65536) (let high = is.1 in omega arith)).digits
   where
     first : (xs ys : List ℕ) → 1 ≤ length xs → AllByRecursion IsDigit xs → get_or (xs ++ ys) 0 0 ≤ 57
     first [] ys some all = absurd (omega arith)
@@ -128,22 +132,30 @@ no_name word digit =
 
 text_is_plain : (c : ℕ) → IsCommunity c → is_well_known (community_text c) ≡ false
 unfolding is_well_known
-text_is_plain c is = rw (no_name (community_text c) (first_of_text c is), community_back c is, ne_eqb c 0 (λ e. let low = is.0 in omega arith), lt-leb 4294901760 c (let high = is.1 in omega arith)) refl
+text_is_plain c is = rw (
+  no_name (community_text c) (first_of_text c is),
+  community_back c is,
+  ne_eqb c 0 (λ e. let low = is.0 in omega arith),
+  lt-leb 4294901760 c (let high = is.1 in omega arith),
+) refl
 
 texts_differ : (c d : ℕ) → IsCommunity c → IsCommunity d → c < d → same_community (community_text c) (community_text d) ≡ false
 unfolding same_community
-texts_differ c d is other less = or_from (bytes_eq (community_text c) (community_text d)) _ apart (rw (community_back c is, community_back d other) (ne_eqb c d (λ e. omega arith)))
+texts_differ c d is other less = or_from (bytes_eq (community_text c) (community_text d)) _ apart
+    (rw (community_back c is, community_back d other) (ne_eqb c d (λ e. omega arith)))
   where
     apart : bytes_eq (community_text c) (community_text d) ≡ false
     apart = elim (cases_Bool (bytes_eq (community_text c) (community_text d))) [
       | inl same ↦
-          let e : ◌≡◌ {A = Option ℕ} (Some c) (Some d) = sym (community_back c is) ∙ ap community_word ((bytes_eq-Decides (community_text c) (community_text d)).0 same) ∙ community_back d other in
+          let e : ◌≡◌ {A = Option ℕ} (Some c) (Some d) = sym (community_back c is)
+          ∙ ap community_word ((bytes_eq-Decides (community_text c) (community_text d)).0 same) ∙ community_back d other in
           let f : c ≡ d = cc in
           absurd (omega arith)
       | inr differ ↦ differ
     ]
 
-above_differ : (c : ℕ) (comms : List ℕ) → IsCommunity c → AllByRecursion IsCommunity comms → AllAbove c comms → AllByRecursion (λ word. same_community (community_text c) word ≡ false) (texts comms)
+above_differ : (c : ℕ) (comms : List ℕ) → IsCommunity c → AllByRecursion IsCommunity comms → AllAbove c comms →
+    AllByRecursion (λ word. same_community (community_text c) word ≡ false) (texts comms)
 above_differ c [] is all above = tt
 above_differ c (d ∷ comms) is all above = (texts_differ c d is all.0 above.0, above_differ c comms is all.1 above.1)
 
@@ -151,7 +163,8 @@ all_texts_differ : (comms : List ℕ) → AllByRecursion IsCommunity comms → I
 all_texts_differ [] all up = refl
 all_texts_differ (c ∷ comms) all up =
     and_from (not (list_any (same_community (community_text c)) (texts comms))) (all_differ same_community (texts comms))
-    (not_from_false (list_any (same_community (community_text c)) (texts comms)) (pass_none (same_community (community_text c)) (texts comms) (above_differ c comms all.0 all.1 up.0)))
+    (not_from_false (list_any (same_community (community_text c)) (texts comms))
+    (pass_none (same_community (community_text c)) (texts comms) (above_differ c comms all.0 all.1 up.0)))
     (all_texts_differ comms all.1 up.1)
 
 values_back : (comms : List ℕ) → AllByRecursion IsCommunity comms → filter_map community_word (texts comms) ≡ comms
@@ -184,15 +197,24 @@ unfolding bounds_of bound_words
 bounds_back len None None is = refl
 bounds_back len (Some ge) None is = rw (between_back len 32 ge (let high = is.1 in omega arith) is) refl
 bounds_back len None (Some le) is = rw (between_back len 32 le (let high = is.1 in omega arith) is) refl
-bounds_back len (Some ge) (Some le) is = rw (between_back len 32 ge (let high = is.0.1 in omega arith) is.0, between_back ge 32 le (let high = is.1.1 in omega arith) is.1) refl
+bounds_back len (Some ge) (Some le) is =
+    rw (between_back len 32 ge (let high = is.0.1 in omega arith) is.0, between_back ge 32 le (let high = is.1.1 in omega arith) is.1) refl
 
-pub prefix_entry_item : (name : List ℕ) (e : PrefixEntry) → IsListName name → IsWellFormedPrefixEntry e → policy_item_of scope.Top 0 (prefix_entry_line name e).words ≡ Ok (item.PrefixEntry name (bare_prefix_entry e))
+pub prefix_entry_item : (name : List ℕ) (e : PrefixEntry) → IsListName name → IsWellFormedPrefixEntry e →
+    policy_item_of scope.Top 0 (prefix_entry_line name e).words ≡ Ok (item.PrefixEntry name (bare_prefix_entry e))
 unfolding prefix_entry_line policy_form prefix_entry_form
 prefix_entry_item name e named is =
     of_head scope.Top form.PrefixEntry _ _ (prefix_list_head name (decimal e.seq ∷ act_text e.permit ∷ prefix_text e.prefix ∷ bound_words (codes "ge") e.ge ++ bound_words (codes "le") e.le))
-    (rw (between_back 1 4294967295 e.seq is.seq.1 is.seq, permit_back e.permit, prefix_back e.prefix is.prefix, bounds_back e.prefix.len e.ge e.le is.bounds, list_name_back name named) refl)
+    (rw (
+      between_back 1 4294967295 e.seq is.seq.1 is.seq,
+      permit_back e.permit,
+      prefix_back e.prefix is.prefix,
+      bounds_back e.prefix.len e.ge e.le is.bounds,
+      list_name_back name named,
+    ) refl)
 
-community_line_back : (name : List ℕ) (c : CommunityLine) → IsListName name → IsCommunitySet c.comms → community_line 0 name (act_text c.permit) (texts c.comms) ≡ Ok (item.CommunityLine name (bare_community_line c))
+community_line_back : (name : List ℕ) (c : CommunityLine) → IsListName name → IsCommunitySet c.comms →
+    community_line 0 name (act_text c.permit) (texts c.comms) ≡ Ok (item.CommunityLine name (bare_community_line c))
 unfolding community_line
 community_line_back name c named is = rw (permit_back c.permit, list_name_back name named, communities_back c.comms is) refl
 
@@ -204,7 +226,8 @@ digit_first (b ∷ c ∷ word) e =
     let digits = (and_parts (not (b == 48)) (is_digit b && (is_digit c && list_all is_digit word)) e).1 in
     leb-true b 57 (and_parts (nat_le 48 b) (nat_le b 57) (and_parts (is_digit b) (is_digit c && list_all is_digit word) digits).0).1
 
-numeral_if : (numeral : Bool) (small : Bool) (v : ℕ) (low high : ℕ) → is_some (option_and_then (if_between low high) (if numeral && small then Some v else None)) ≡ true → numeral ≡ true
+numeral_if : (numeral : Bool) (small : Bool) (v : ℕ) (low high : ℕ) →
+    is_some (option_and_then (if_between low high) (if numeral && small then Some v else None)) ≡ true → numeral ≡ true
 numeral_if true small v low high e = refl
 numeral_if false small v low high e = absurd cc
 
@@ -232,7 +255,8 @@ other_swap word name digit letter = elim (cases_Bool (bytes_eq name word)) [
   | inr other ↦ other
 ]
 
-numbered_item : (name : List ℕ) (c : CommunityLine) → IsListName name → IsCommunitySet c.comms → is_some (number_between 1 99 name) ≡ true → (d : ℕ) (comms : List ℕ) → c.comms ≡ d ∷ comms
+numbered_item : (name : List ℕ) (c : CommunityLine) → IsListName name → IsCommunitySet c.comms → is_some (number_between 1 99 name) ≡ true →
+    (d : ℕ) (comms : List ℕ) → c.comms ≡ d ∷ comms
     → policy_item_of scope.Top 0 (codes "ip" ∷ codes "community-list" ∷ name ∷ act_text c.permit ∷ texts c.comms) ≡ Ok (item.CommunityLine name (bare_community_line c))
 unfolding policy_form community_line_form numbered_line
 numbered_item name c named is number d comms some =
@@ -243,14 +267,17 @@ numbered_item name c named is number d comms some =
 
 standard_item : (name : List ℕ) (c : CommunityLine) → IsListName name → IsCommunitySet c.comms → policy_item_of scope.Top 0 (codes "ip" ∷ codes "community-list" ∷ codes "standard" ∷ name ∷ act_text c.permit ∷ texts c.comms) ≡ Ok (item.CommunityLine name (bare_community_line c))
 unfolding policy_form community_line_form
-standard_item name c named is = of_head scope.Top form.CommunityLine _ _ (standard_head (name ∷ act_text c.permit ∷ texts c.comms)) (community_line_back name c named is)
+standard_item name c named is = of_head scope.Top form.CommunityLine _ _ (standard_head (name ∷ act_text c.permit ∷ texts c.comms))
+    (community_line_back name c named is)
 
-some_community : (name : List ℕ) (c : CommunityLine) → IsListName name → IsCommunitySet c.comms → is_some (number_between 1 99 name) ≡ true → (comms : List ℕ) → c.comms ≡ comms
+some_community : (name : List ℕ) (c : CommunityLine) → IsListName name → IsCommunitySet c.comms → is_some (number_between 1 99 name) ≡ true → (comms : List ℕ) →
+    c.comms ≡ comms
     → policy_item_of scope.Top 0 (codes "ip" ∷ codes "community-list" ∷ name ∷ act_text c.permit ∷ texts c.comms) ≡ Ok (item.CommunityLine name (bare_community_line c))
 some_community name c named is number [] none = let low = is.count.0 in absurd (omega (arith, ap (λ (cs : List ℕ). length cs) none))
 some_community name c named is number (d ∷ comms) some = numbered_item name c named is number d comms some
 
-pub community_item : (name : List ℕ) (c : CommunityLine) → IsListName name → IsCommunitySet c.comms → policy_item_of scope.Top 0 (printed_community_line name c).words ≡ Ok (item.CommunityLine name (bare_community_line c))
+pub community_item : (name : List ℕ) (c : CommunityLine) → IsListName name → IsCommunitySet c.comms →
+    policy_item_of scope.Top 0 (printed_community_line name c).words ≡ Ok (item.CommunityLine name (bare_community_line c))
 unfolding printed_community_line
 community_item name c named is = by (is_some (number_between 1 99 name)) refl
   where
@@ -260,12 +287,15 @@ community_item name c named is = by (is_some (number_between 1 99 name)) refl
 
 -- ---- route maps
 
-pub map_head_item : (name : List ℕ) (e : MapEntry) → IsListName name → e.seq ≤ 65535 → policy_item_of scope.Top 0 (map_head_line name e).words ≡ Ok (item.MapHead name (empty_entry e.seq e.permit 0))
+pub map_head_item : (name : List ℕ) (e : MapEntry) → IsListName name → e.seq ≤ 65535 →
+    policy_item_of scope.Top 0 (map_head_line name e).words ≡ Ok (item.MapHead name (empty_entry e.seq e.permit 0))
 unfolding map_head_line policy_form map_head_form
 map_head_item name e named short =
-    of_head scope.Top form.MapHead _ _ (map_head (name ∷ act_text e.permit ∷ decimal e.seq ∷ [])) (rw (permit_back e.permit, between_back 0 65535 e.seq (omega arith) (omega arith, short), list_name_back name named) refl)
+    of_head scope.Top form.MapHead _ _ (map_head (name ∷ act_text e.permit ∷ decimal e.seq ∷ []))
+    (rw (permit_back e.permit, between_back 0 65535 e.seq (omega arith) (omega arith, short), list_name_back name named) refl)
 
-pub match_prefixes_item : (l : NameLine) → IsWellFormedNameLine l → policy_item_of scope.Entry 0 (match_prefixes_line l).words ≡ Ok (item.MatchPrefixes (bare_name_line l))
+pub match_prefixes_item : (l : NameLine) → IsWellFormedNameLine l →
+    policy_item_of scope.Entry 0 (match_prefixes_line l).words ≡ Ok (item.MatchPrefixes (bare_name_line l))
 unfolding match_prefixes_line policy_form match_prefixes_form
 match_prefixes_item l is = of_head scope.Entry form.MatchPrefixes _ _ (match_prefixes_head l.names) (rw (names_back l is) refl)
 
@@ -292,7 +322,8 @@ unfolding marked_match
 marked_match_back true l is right = rw (marked_back (codes "exact-match") l.names, but_last_back l.names (codes "exact-match")) (comms_match_back true l is)
 marked_match_back false l is right = ap (marked_match 0) (append-nil l.names) ∙ rw right (comms_match_back false l is)
 
-pub match_comms_item : (exact : Bool) (l : NameLine) → IsWellFormedNameLine l → IsMarkRight (Some l) exact → policy_item_of scope.Entry 0 (match_comms_line exact l).words ≡ Ok (item.MatchComms (bare_name_line l) exact)
+pub match_comms_item : (exact : Bool) (l : NameLine) → IsWellFormedNameLine l → IsMarkRight (Some l) exact →
+    policy_item_of scope.Entry 0 (match_comms_line exact l).words ≡ Ok (item.MatchComms (bare_name_line l) exact)
 unfolding match_comms_line policy_form match_comms_form
 match_comms_item exact l is right = of_head scope.Entry form.MatchComms _ _ (match_comms_head (l.names ++ (if exact then codes "exact-match" ∷ [] else []))) (marked_match_back exact l is right)
 
@@ -351,4 +382,9 @@ unfolding prepend_line policy_form prepend_form
 prepend_item p is =
     let count : IsBetween 1 10 (length (map decimal p.numbers)) = rw (length-map p.numbers decimal) is.count in
     of_head scope.Entry form.Prepend _ _ (prepend_head (map decimal p.numbers))
-    (rw (le-leb 1 (length (map decimal p.numbers)) count.0, le-leb (length (map decimal p.numbers)) 10 count.1, as_numbers_pass p.numbers is.each, as_numbers_back p.numbers is.each) refl)
+    (rw (
+      le-leb 1 (length (map decimal p.numbers)) count.0,
+      le-leb (length (map decimal p.numbers)) 10 count.1,
+      as_numbers_pass p.numbers is.each,
+      as_numbers_back p.numbers is.each,
+    ) refl)

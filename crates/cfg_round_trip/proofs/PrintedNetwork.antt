@@ -36,11 +36,13 @@ use Rattle.cfg_round_trip.proofs.PrintedWords.{word_as_tested, decimal_prints, a
 
 -- ---- lists of lines and of words
 
-pub each_map : {X Y : Type 0} (P : X → Type 0) (Q : Y → Type 0) (f : X → Y) → ((x : X) → P x → Q (f x)) → (xs : List X) → AllByRecursion P xs → AllByRecursion Q (map f xs)
+pub each_map : {X Y : Type 0} (P : X → Type 0) (Q : Y → Type 0) (f : X → Y) → ((x : X) → P x → Q (f x)) → (xs : List X) → AllByRecursion P xs →
+    AllByRecursion Q (map f xs)
 each_map P Q f one [] each = tt
 each_map P Q f one (x ∷ xs) each = (one x each.0, each_map P Q f one xs each.1)
 
-pub each_flat_map : {X Y : Type 0} (P : X → Type 0) (Q : Y → Type 0) (f : X → List Y) → ((x : X) → P x → AllByRecursion Q (f x)) → (xs : List X) → AllByRecursion P xs → AllByRecursion Q (flat_map f xs)
+pub each_flat_map : {X Y : Type 0} (P : X → Type 0) (Q : Y → Type 0) (f : X → List Y) → ((x : X) → P x → AllByRecursion Q (f x)) → (xs : List X) →
+    AllByRecursion P xs → AllByRecursion Q (flat_map f xs)
 each_flat_map P Q f one [] each = tt
 each_flat_map P Q f one (x ∷ xs) each = each_append Q (f x) (flat_map f xs) (one x each.0) (each_flat_map P Q f one xs each.1)
 
@@ -50,11 +52,13 @@ AreLines ls = AllByRecursion IsPrintedLine ls
 abbrev AreWords : List (List ℕ) → Type 0
 AreWords ws = AllByRecursion IsPrintedWord ws
 
-some_line : {X : Type 0} (P : X → Type 0) (write : X → TextLine) → ((x : X) → P x → IsPrintedLine (write x)) → (o : Option X) → IfSome o P → AreLines (line_of_given write o)
+some_line : {X : Type 0} (P : X → Type 0) (write : X → TextLine) → ((x : X) → P x → IsPrintedLine (write x)) → (o : Option X) → IfSome o P →
+    AreLines (line_of_given write o)
 some_line P write one None is = tt
 some_line P write one (Some x) is = (one x is, tt)
 
-some_lines : {X : Type 0} (P : X → Type 0) (write : X → List TextLine) → ((x : X) → P x → AreLines (write x)) → (o : Option X) → IfSome o P → AreLines (lines_of_some write o)
+some_lines : {X : Type 0} (P : X → Type 0) (write : X → List TextLine) → ((x : X) → P x → AreLines (write x)) → (o : Option X) → IfSome o P →
+    AreLines (lines_of_some write o)
 some_lines P write one None is = tt
 some_lines P write one (Some x) is = one x is
 
@@ -100,8 +104,11 @@ interface_is i is =
     let shut = chosen_line i.shut shutdown_line shutdown_is in
     let a = line_of_given ip_address_line i.address in
     let c = line_of_given cost_line i.cost in
-    let s = line_if i.shut shutdown_line in
-    (head, each_append IsPrintedLine (a ++ c ++ s) (closing ∷ []) (each_append IsPrintedLine (a ++ c) s (each_append IsPrintedLine a c address cost) shut) last_closing)
+    let s = line_if i.shut shutdown_line in (
+      head,
+      each_append IsPrintedLine (a ++ c ++ s) (closing ∷ []) (each_append IsPrintedLine (a ++ c) s (each_append IsPrintedLine a c address cost) shut)
+          last_closing,
+    )
 
 -- ---- BGP
 
@@ -130,7 +137,8 @@ peer_sends_is : (addr : ℕ) → IsNumber addr → IsPrintedLine (peer_sends_lin
 unfolding peer_sends_line
 peer_sends_is addr is = neighbor_is addr (codes "send-community" ∷ []) is (word_as_tested (codes "send-community") refl, tt)
 
-applied_is : (addr : ℕ) (what way : List ℕ) → IsNumber addr → IsPrintedWord what → IsPrintedWord way → (named : Named) → IsWellFormedNamed named → IsPrintedLine (applied_line addr what way named)
+applied_is : (addr : ℕ) (what way : List ℕ) → IsNumber addr → IsPrintedWord what → IsPrintedWord way → (named : Named) → IsWellFormedNamed named →
+    IsPrintedLine (applied_line addr what way named)
 unfolding applied_line
 applied_is addr what way is says goes named name = neighbor_is addr (what ∷ named.name ∷ way ∷ []) is (says, (list_name_prints named.name name, (goes, tt)))
 
@@ -151,7 +159,8 @@ peer_is p is =
     let is_d = some_line IsWellFormedNamed (applied_line p.addr (codes "prefix-list") (codes "out")) (applied_is p.addr (codes "prefix-list") (codes "out") is.addr list outward) p.list_out is.list_out in
     let is_e = some_line IsWellFormedNamed (applied_line p.addr (codes "route-map") (codes "in")) (applied_is p.addr (codes "route-map") (codes "in") is.addr map inward) p.map_in is.map_in in
     let is_f = some_line IsWellFormedNamed (applied_line p.addr (codes "route-map") (codes "out")) (applied_is p.addr (codes "route-map") (codes "out") is.addr map outward) p.map_out is.map_out in
-    let two = each_append IsPrintedLine a b (chosen_line p.shut (peer_shut_line p.addr) (peer_shut_is p.addr is.addr)) (chosen_line p.sends (peer_sends_line p.addr) (peer_sends_is p.addr is.addr)) in
+    let two = each_append IsPrintedLine a b (chosen_line p.shut (peer_shut_line p.addr) (peer_shut_is p.addr is.addr))
+    (chosen_line p.sends (peer_sends_line p.addr) (peer_sends_is p.addr is.addr)) in
     let three = each_append IsPrintedLine (a ++ b) c two is_c in
     let four = each_append IsPrintedLine (a ++ b ++ c) d three is_d in
     let five = each_append IsPrintedLine (a ++ b ++ c ++ d) e four is_e in
@@ -166,8 +175,11 @@ bgp_is b is =
     let z = flat_map neighbor_lines b.neighbors in
     let base = some_line IsWellFormedBase base_line base_is b.base is.base in
     let nets = each_map IsWellFormedNetLine IsPrintedLine network_line network_is b.networks is.networks in
-    let peers = each_flat_map IsWellFormedNeighbor IsPrintedLine neighbor_lines peer_is b.neighbors is.neighbors in
-    (head, each_append IsPrintedLine (x ++ y ++ z) (closing ∷ []) (each_append IsPrintedLine (x ++ y) z (each_append IsPrintedLine x y base nets) peers) last_closing)
+    let peers = each_flat_map IsWellFormedNeighbor IsPrintedLine neighbor_lines peer_is b.neighbors is.neighbors in (
+      head,
+      each_append IsPrintedLine (x ++ y ++ z) (closing ∷ []) (each_append IsPrintedLine (x ++ y) z (each_append IsPrintedLine x y base nets) peers)
+          last_closing,
+    )
 
 -- ---- OSPF
 
@@ -305,7 +317,8 @@ entry_is name named e is =
     let d = line_of_given change_line e.change in
     let f = line_of_given delete_line e.delete in
     let g = line_of_given prepend_line e.prepend in
-    let two = each_append IsPrintedLine a b (some_line IsWellFormedNameLine match_prefixes_line match_prefixes_is e.prefixes is.prefixes) (some_line IsWellFormedNameLine (match_comms_line e.exact) (match_comms_is e.exact) e.comms is.comms) in
+    let two = each_append IsPrintedLine a b (some_line IsWellFormedNameLine match_prefixes_line match_prefixes_is e.prefixes is.prefixes)
+    (some_line IsWellFormedNameLine (match_comms_line e.exact) (match_comms_is e.exact) e.comms is.comms) in
     let three = each_append IsPrintedLine (a ++ b) c two (some_line IsNumber lp_line lp_is e.lp is.lp) in
     let four = each_append IsPrintedLine (a ++ b ++ c) d three (some_line IsWellFormedChange change_line change_is e.change is.change) in
     let five = each_append IsPrintedLine (a ++ b ++ c ++ d) f four (some_line IsWellFormedNamed delete_line delete_is e.delete is.delete) in
@@ -340,8 +353,12 @@ router_is r names is are =
     let is_b = each_flat_map IsWellFormedInterface IsPrintedLine interface_lines interface_is r.interfaces is.interfaces in
     let is_c = some_lines IsWellFormedBgp bgp_lines bgp_is r.bgp is.bgp in
     let is_d = some_lines IsWellFormedOspf ospf_lines ospf_is r.ospf is.ospf in
-    let is_e = closed_lines (flat_map (λ (l : PrefixList). map (prefix_entry_line l.name) l.entries) r.prefix_lists) (each_flat_map IsWellFormedPrefixList IsPrintedLine (λ (l : PrefixList). map (prefix_entry_line l.name) l.entries) prefix_list_is r.prefix_lists is.prefix_lists) in
-    let is_f = closed_lines (flat_map (λ (l : CommunityList). map (community_list_line l.name) l.lines) r.community_lists) (each_flat_map IsWellFormedCommunityList IsPrintedLine (λ (l : CommunityList). map (community_list_line l.name) l.lines) community_list_is r.community_lists is.community_lists) in
+    let is_e = closed_lines (flat_map (λ (l : PrefixList). map (prefix_entry_line l.name) l.entries) r.prefix_lists)
+    (each_flat_map IsWellFormedPrefixList IsPrintedLine (λ (l : PrefixList). map (prefix_entry_line l.name) l.entries) prefix_list_is r.prefix_lists
+    is.prefix_lists) in
+    let is_f = closed_lines (flat_map (λ (l : CommunityList). map (community_list_line l.name) l.lines) r.community_lists)
+    (each_flat_map IsWellFormedCommunityList IsPrintedLine (λ (l : CommunityList). map (community_list_line l.name) l.lines) community_list_is
+    r.community_lists is.community_lists) in
     let is_g = each_flat_map IsWellFormedRouteMap IsPrintedLine route_map_lines route_map_is r.route_maps is.route_maps in
     let two = each_append IsPrintedLine a (closing ∷ b) front (closing_line, is_b) in
     let three = each_append IsPrintedLine (a ++ closing ∷ b) c two is_c in
@@ -351,10 +368,13 @@ router_is r names is are =
     let seven = each_append IsPrintedLine (a ++ closing ∷ b ++ c ++ d ++ e ++ f) g six is_g in
     each_append IsPrintedLine (a ++ closing ∷ b ++ c ++ d ++ e ++ f ++ g) (line 0 (codes "end" ∷ []) ∷ []) seven (end_is, tt)
 
-routers_are : (rs : List Router) (members : List (List (List ℕ))) → AllByRecursion IsWellFormedRouter rs → AllByRecursion (AllByRecursion IsRouterName) members → AreLines (routers_lines rs members)
+routers_are : (rs : List Router) (members : List (List (List ℕ))) → AllByRecursion IsWellFormedRouter rs →
+    AllByRecursion (AllByRecursion IsRouterName) members → AreLines (routers_lines rs members)
 routers_are [] members are names = tt
 routers_are (r ∷ rs) [] are names = each_append IsPrintedLine (router_lines r []) (routers_lines rs []) (router_is r [] are.0 tt) (routers_are rs [] are.1 tt)
-routers_are (r ∷ rs) (m ∷ ms) are names = each_append IsPrintedLine (router_lines r m) (routers_lines rs ms) (router_is r m are.0 names.0) (routers_are rs ms are.1 names.1)
+routers_are (r ∷ rs) (m ∷ ms) are names =
+    each_append IsPrintedLine (router_lines r m) (routers_lines rs ms) (router_is r m are.0 names.0) (routers_are rs ms are.1 names.1)
 
-pub printed_lines_are_lines : (network : Network) (notes : Notes) → IsWellFormed network → AreNotes network notes → AllByRecursion IsPrintedLine (printed_lines network notes)
+pub printed_lines_are_lines : (network : Network) (notes : Notes) → IsWellFormed network → AreNotes network notes →
+    AllByRecursion IsPrintedLine (printed_lines network notes)
 printed_lines_are_lines network notes is are = routers_are network.routers notes.members is.routers are.names

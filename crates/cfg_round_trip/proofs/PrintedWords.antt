@@ -42,8 +42,10 @@ some_long n e = grind (arith, nat_tests)
 
 -- a word of which a test says so
 pub word_as_tested : (w : List ℕ) → is_some_printed w ≡ true → IsPrintedWord w
-word_as_tested w e =
-    (some_long (length w) (and_first (nat_le 1 (length w)) (list_all is_printed_byte w) e), bytes_print is_printed_byte byte_prints w (and_second (nat_le 1 (length w)) (list_all is_printed_byte w) e))
+word_as_tested w e = (
+  some_long (length w) (and_first (nat_le 1 (length w)) (list_all is_printed_byte w) e),
+  bytes_print is_printed_byte byte_prints w (and_second (nat_le 1 (length w)) (list_all is_printed_byte w) e),
+)
 
 -- ---- numbers
 
@@ -53,7 +55,8 @@ last_digit m = (omega arith, omega arith)
 pub decimal_prints : (n : ℕ) → n ≤ 4294967295 → IsPrintedWord (decimal n)
 decimal_prints n small =
     decimal_by_steps (λ m ds. IsPrintedWord ds) (λ m l. (omega arith, ((omega arith, omega arith), tt)))
-    (λ m ds l h. (omega (arith, length-append ds ((48 + m % 10) ∷ [])), each_append (IsBetween 33 126) ds ((48 + m % 10) ∷ []) h.1 (last_digit m, tt))) n (omega arith)
+    (λ m ds l h. (omega (arith, length-append ds ((48 + m % 10) ∷ [])), each_append (IsBetween 33 126) ds ((48 + m % 10) ∷ []) h.1 (last_digit m, tt))) n
+    (omega arith)
 
 -- two words with a byte between them
 pub glued : (a b : List ℕ) (c : ℕ) → IsBetween 33 126 c → IsPrintedWord a → IsPrintedWord b → IsPrintedWord (a ++ c ∷ b)
@@ -67,22 +70,27 @@ address_prints addr small =
     let second : addr / 65536 % 256 ≤ 4294967295 = omega arith in
     let third : addr / 256 % 256 ≤ 4294967295 = omega arith in
     let fourth : addr % 256 ≤ 4294967295 = omega arith in
-    let low = glued (decimal (addr / 256 % 256)) (decimal (addr % 256)) 46 point (decimal_prints (addr / 256 % 256) third) (decimal_prints (addr % 256) fourth) in
-    let lower = glued (decimal (addr / 65536 % 256)) (decimal (addr / 256 % 256) ++ 46 ∷ decimal (addr % 256)) 46 point (decimal_prints (addr / 65536 % 256) second) low in
-    glued (decimal (addr / 16777216)) (decimal (addr / 65536 % 256) ++ 46 ∷ (decimal (addr / 256 % 256) ++ 46 ∷ decimal (addr % 256))) 46 point (decimal_prints (addr / 16777216) first) lower
+    let low = glued (decimal (addr / 256 % 256)) (decimal (addr % 256)) 46 point (decimal_prints (addr / 256 % 256) third) (decimal_prints (addr % 256) fourth)
+    in
+    let lower = glued (decimal (addr / 65536 % 256)) (decimal (addr / 256 % 256) ++ 46 ∷ decimal (addr % 256)) 46 point
+    (decimal_prints (addr / 65536 % 256) second) low in
+    glued (decimal (addr / 16777216)) (decimal (addr / 65536 % 256) ++ 46 ∷ (decimal (addr / 256 % 256) ++ 46 ∷ decimal (addr % 256))) 46 point
+    (decimal_prints (addr / 16777216) first) lower
 
 pub mask_prints : (len : ℕ) → IsPrintedWord (address_text (mask_of len))
 mask_prints len = address_prints (mask_of len) (omega (arith, pow_pos (32 - len)))
 
 pub prefix_prints : (p : Prefix) → p.addr ≤ 4294967295 → p.len ≤ 32 → IsPrintedWord (prefix_text p)
 unfolding prefix_text
-prefix_prints p addr len = glued (address_text p.addr) (decimal p.len) 47 (omega arith, omega arith) (address_prints p.addr addr) (decimal_prints p.len (omega arith))
+prefix_prints p addr len = glued (address_text p.addr) (decimal p.len) 47 (omega arith, omega arith) (address_prints p.addr addr)
+    (decimal_prints p.len (omega arith))
 
 pub community_prints : (community : ℕ) → IsBetween 1 4294901759 community → IsPrintedWord (community_text community)
 unfolding community_text
 community_prints community is =
     let small = is.1 in
-    glued (decimal (community / 65536)) (decimal (community % 65536)) 58 (omega arith, omega arith) (decimal_prints (community / 65536) (omega arith)) (decimal_prints (community % 65536) (omega arith))
+    glued (decimal (community / 65536)) (decimal (community % 65536)) 58 (omega arith, omega arith) (decimal_prints (community / 65536) (omega arith))
+    (decimal_prints (community % 65536) (omega arith))
 
 pub act_prints : (permit : Bool) → IsPrintedWord (act_text permit)
 act_prints true = word_as_tested (codes "permit") refl
@@ -103,8 +111,10 @@ pub router_name_prints : (name : List ℕ) → is_router_name name ≡ true → 
 unfolding is_router_name
 router_name_prints name e =
     let front = is_name_long name && begins_with is_letter_or_digit name in
-    let first : front ≡ true = and_first front (list_all is_router_byte name) e in
-    (long_name name (and_first (is_name_long name) (begins_with is_letter_or_digit name) first), bytes_print is_router_byte router_byte name (and_second front (list_all is_router_byte name) e))
+    let first : front ≡ true = and_first front (list_all is_router_byte name) e in (
+      long_name name (and_first (is_name_long name) (begins_with is_letter_or_digit name) first),
+      bytes_print is_router_byte router_byte name (and_second front (list_all is_router_byte name) e),
+    )
 
 pub interface_name_prints : (name : List ℕ) → is_interface_name name ≡ true → IsPrintedWord name
 unfolding is_interface_name
@@ -113,8 +123,10 @@ interface_name_prints name e =
     let begins = begins_with is_ascii_alphabetic name in
     let front = is_name_long name && begins && digits in
     let first : front ≡ true = and_first front (list_all is_interface_byte name) e in
-    let second : (is_name_long name && begins) ≡ true = and_first (is_name_long name && begins) digits first in
-    (long_name name (and_first (is_name_long name) begins second), bytes_print is_interface_byte interface_byte name (and_second front (list_all is_interface_byte name) e))
+    let second : (is_name_long name && begins) ≡ true = and_first (is_name_long name && begins) digits first in (
+      long_name name (and_first (is_name_long name) begins second),
+      bytes_print is_interface_byte interface_byte name (and_second front (list_all is_interface_byte name) e),
+    )
 
 list_long : (w : List ℕ) → is_list_name w ≡ true → 1 ≤ length w
 unfolding is_list_name

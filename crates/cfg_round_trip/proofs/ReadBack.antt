@@ -23,14 +23,17 @@ unfolding steps
 steps_more [] ys s = refl
 steps_more (x ∷ xs) ys s = by (step s x) (λ t. steps_more xs ys t)
   where
-    by : (r : Result State ReadRefusal) → ((t : State) → steps t (xs ++ ys) ≡ (steps t xs >>= (λ (u : State). steps u ys))) → (r >>= (λ (t : State). steps t (xs ++ ys))) ≡ ((r >>= (λ (t : State). steps t xs)) >>= (λ (u : State). steps u ys))
+    by : (r : Result State ReadRefusal) → ((t : State) → steps t (xs ++ ys) ≡ (steps t xs >>= (λ (u : State). steps u ys))) →
+        (r >>= (λ (t : State). steps t (xs ++ ys))) ≡ ((r >>= (λ (t : State). steps t xs)) >>= (λ (u : State). steps u ys))
     by (Ok t) rest = rest t
     by (Err fault) rest = refl
 
 -- some lines and then others
-pub then_steps : (xs ys : List TextLine) (s t : State) (r : Result State ReadRefusal) → steps s (filter is_read xs) ≡ Ok t → steps t (filter is_read ys) ≡ r → steps s (filter is_read (xs ++ ys)) ≡ r
+pub then_steps : (xs ys : List TextLine) (s t : State) (r : Result State ReadRefusal) → steps s (filter is_read xs) ≡ Ok t → steps t (filter is_read ys) ≡ r →
+    steps s (filter is_read (xs ++ ys)) ≡ r
 then_steps xs ys s t r first second =
-    ap (steps s) (filter-append is_read xs ys) ∙ steps_more (filter is_read xs) (filter is_read ys) s ∙ ap (λ (q : Result State ReadRefusal). q >>= (λ (u : State). steps u (filter is_read ys))) first ∙ second
+    ap (steps s) (filter-append is_read xs ys) ∙ steps_more (filter is_read xs) (filter is_read ys) s
+    ∙ ap (λ (q : Result State ReadRefusal). q >>= (λ (u : State). steps u (filter is_read ys))) first ∙ second
 
 -- a line that is read
 pub one_step : (l : TextLine) (s t : State) → is_read l ≡ true → step s l ≡ Ok t → steps s (filter is_read (l ∷ [])) ≡ Ok t
@@ -53,7 +56,8 @@ inner_none st rs d = refl
 pub inner_then : (xs ys : List TextLine) (a b c : Stanza) → Inner xs a b → Inner ys b c → Inner (xs ++ ys) a c
 inner_then xs ys a b c first second rs d = then_steps xs ys (at_stanza rs d a) (at_stanza rs d b) (Ok (at_stanza rs d c)) (first rs d) (second rs d)
 
-inner_stepped : (l : TextLine) (st out : Stanza) (rs : List Router) (d : Draft) → l.indent ≡ 1 → take_inner l st ≡ Ok out → step (at_stanza rs d st) l ≡ Ok (at_stanza rs d out)
+inner_stepped : (l : TextLine) (st out : Stanza) (rs : List Router) (d : Draft) → l.indent ≡ 1 → take_inner l st ≡ Ok out →
+    step (at_stanza rs d st) l ≡ Ok (at_stanza rs d out)
 unfolding step
 inner_stepped l st out rs d indent taken = rw (taken, indent) refl
 
@@ -74,12 +78,14 @@ at_draft rs d = record { routers = rs; draft = d }
 abbrev pub Top : TextLine → Draft → Draft → Type 0
 Top l d out = (rs : List Router) (now : Draft) → with_closed now ≡ d → step (at_draft rs now) l ≡ Ok (at_draft rs out)
 
-pub router_top : (l : TextLine) (said : RouterItem) (d out : Draft) → l.indent ≡ 0 → is_policy_line l.words ≡ false → router_item_of scope.Top l.number l.words ≡ Ok said
+pub router_top : (l : TextLine) (said : RouterItem) (d out : Draft) → l.indent ≡ 0 → is_policy_line l.words ≡ false →
+    router_item_of scope.Top l.number l.words ≡ Ok said
     → ((rs : List Router) → take_top l.number said (at_draft rs d) ≡ Ok (at_draft rs out)) → Top l d out
 unfolding step step_router
 router_top l said d out indent plain read taken rs now same = rw (indent, plain, read, same) (taken rs)
 
-pub policy_top : (l : TextLine) (said : PolicyItem) (d out : Draft) → l.indent ≡ 0 → is_policy_line l.words ≡ true → policy_item_of policy_scope.Top l.number l.words ≡ Ok said
+pub policy_top : (l : TextLine) (said : PolicyItem) (d out : Draft) → l.indent ≡ 0 → is_policy_line l.words ≡ true →
+    policy_item_of policy_scope.Top l.number l.words ≡ Ok said
     → take_policy l.number said d ≡ Ok out → Top l d out
 unfolding step step_policy
 policy_top l said d out indent listed read taken rs now same = rw (indent, listed, read, same, taken) refl
@@ -88,7 +94,8 @@ policy_top l said d out indent listed read taken rs now same = rw (indent, liste
 
 -- The lines take a draft to another, both with their stanza closed: it may still be open in fact.
 abbrev pub Reads : List TextLine → Draft → Draft → Type 0
-Reads ls d out = (rs : List Router) (now : Draft) → with_closed now ≡ d → (next : Draft) × (steps (at_draft rs now) (filter is_read ls) ≡ Ok (at_draft rs next)) × (with_closed next ≡ out)
+Reads ls d out = (rs : List Router) (now : Draft) → with_closed now ≡ d → (next : Draft) × (steps (at_draft rs now) (filter is_read ls) ≡ Ok (at_draft rs next))
+    × (with_closed next ≡ out)
 
 pub reads_none : (d : Draft) → Reads [] d d
 unfolding steps
@@ -105,9 +112,14 @@ pub reads_line : (l : TextLine) (d out : Draft) → is_read l ≡ true → Top l
 reads_line l d out read top closed rs now same = (out, one_step l (at_draft rs now) (at_draft rs out) read (top rs now same), closed)
 
 -- a line that opens a stanza, and the lines of the stanza
-pub reads_stanza : (l : TextLine) (ls : List TextLine) (d : Draft) (st out : Stanza) → is_read l ≡ true → Top l d (record d { stanza = st }) → Inner ls st out → Reads (l ∷ ls) d (with_closed (record d { stanza = out }))
-reads_stanza l ls d st out read top inner rs now same =
-    (record d { stanza = out }, then_steps (l ∷ []) ls (at_draft rs now) (at_stanza rs d st) (Ok (at_stanza rs d out)) (one_step l (at_draft rs now) (at_stanza rs d st) read (top rs now same)) (inner rs d), refl)
+pub reads_stanza : (l : TextLine) (ls : List TextLine) (d : Draft) (st out : Stanza) → is_read l ≡ true → Top l d (record d { stanza = st }) → Inner ls st out →
+    Reads (l ∷ ls) d (with_closed (record d { stanza = out }))
+reads_stanza l ls d st out read top inner rs now same = (
+  record d { stanza = out },
+  then_steps (l ∷ []) ls (at_draft rs now) (at_stanza rs d st) (Ok (at_stanza rs d out))
+      (one_step l (at_draft rs now) (at_stanza rs d st) read (top rs now same)) (inner rs d),
+  refl,
+)
 
 -- lines that are not read
 pub reads_skipped : (ls : List TextLine) (d : Draft) → AllByRecursion (λ (l : TextLine). is_read l ≡ false) ls → Reads ls d d
@@ -132,7 +144,8 @@ any_push test (y ∷ ys) x none here =
     rw both.0 (any_push test ys x both.1 here)
 
 -- and they stay so where one is added that differs from all
-pub new_to_more : {X : Type 0} (same : X → X → Bool) (done : List X) (x : X) (ys : List X) → AreNew same done ys → AllByRecursion (λ (y : X). same x y ≡ false) ys → AreNew same (done ++ x ∷ []) ys
+pub new_to_more : {X : Type 0} (same : X → X → Bool) (done : List X) (x : X) (ys : List X) → AreNew same done ys →
+    AllByRecursion (λ (y : X). same x y ≡ false) ys → AreNew same (done ++ x ∷ []) ys
 new_to_more same done x [] new differ = tt
 new_to_more {X} same done x (y ∷ ys) new differ = (any_push (λ (z : X). same z y) done x new.0 differ.0, new_to_more same done x ys new.1 differ.1)
 

@@ -49,17 +49,21 @@ members_skipped (name ∷ names) = (refl, members_skipped names)
 abbrev with_interfaces : List ℕ → List Interface → Draft
 with_interfaces name interfaces = draft_of (host name) interfaces None None [] [] []
 
-interface_block : (name : List ℕ) (done : List Interface) (i : Interface) → IsWellFormedInterface i → list_any (λ (x : Interface). same_interface x i) done ≡ false → Reads (interface_lines i) (with_interfaces name done) (with_interfaces name (done ++ bare_interface i ∷ []))
+interface_block : (name : List ℕ) (done : List Interface) (i : Interface) → IsWellFormedInterface i →
+    list_any (λ (x : Interface). same_interface x i) done ≡ false →
+    Reads (interface_lines i) (with_interfaces name done) (with_interfaces name (done ++ bare_interface i ∷ []))
 unfolding interface_lines take_top take_line is_policy_line with_closed has_interface
 interface_block name done i is new =
     reads_stanza (line 0 (codes "interface" ∷ i.name ∷ [])) (interface_rest i) (with_interfaces name done) (in_interface (new_interface 0 i.name)) (in_interface (bare_interface i)) refl
     (router_top (line 0 (codes "interface" ∷ i.name ∷ [])) (item.Interface i.name) (with_interfaces name done) (record (with_interfaces name done) { stanza = in_interface (new_interface 0 i.name) }) refl refl (interface_item i.name is.name) (λ rs. rw new refl))
     (interface_inner i is)
 
-interfaces_stage : (name : List ℕ) (done is : List Interface) → AllByRecursion IsWellFormedInterface is → IsDistinct same_interface is → AreNew same_interface done is
+interfaces_stage : (name : List ℕ) (done is : List Interface) → AllByRecursion IsWellFormedInterface is → IsDistinct same_interface is →
+    AreNew same_interface done is
     → Reads (flat_map interface_lines is) (with_interfaces name done) (with_interfaces name (done ++ map bare_interface is))
 unfolding IsDistinct
-interfaces_stage name done [] are once new rs now same = let whole = reads_none (with_interfaces name done) rs now same in (whole.0, whole.1, whole.2 ∙ ap (with_interfaces name) (sym (append-nil done)))
+interfaces_stage name done [] are once new rs now same = let whole = reads_none (with_interfaces name done) rs now same in
+    (whole.0, whole.1, whole.2 ∙ ap (with_interfaces name) (sym (append-nil done)))
 interfaces_stage name done (i ∷ is) are once new rs now same =
     let first = interface_block name done i are.0 new.0 in
     let rest = interfaces_stage name (done ++ bare_interface i ∷ []) is are.1 once.1 (new_to_more same_interface done (bare_interface i) is new.1 once.0) in
@@ -68,7 +72,9 @@ interfaces_stage name done (i ∷ is) are once new rs now same =
 
 -- ---- processes
 
-bgp_back : (name : List ℕ) (interfaces : List Interface) (o : Option BgpProcess) → IfSome o IsWellFormedBgp → Reads (lines_of_some bgp_lines o) (draft_of (host name) interfaces None None [] [] []) (draft_of (host name) interfaces (option_map bare_bgp o) None [] [] [])
+bgp_back : (name : List ℕ) (interfaces : List Interface) (o : Option BgpProcess) → IfSome o IsWellFormedBgp →
+    Reads (lines_of_some bgp_lines o) (draft_of (host name) interfaces None None [] [] [])
+    (draft_of (host name) interfaces (option_map bare_bgp o) None [] [] [])
 unfolding bgp_lines take_top take_line is_policy_line with_closed
 bgp_back name interfaces None is = reads_none _
 bgp_back name interfaces (Some b) is =
@@ -77,7 +83,9 @@ bgp_back name interfaces (Some b) is =
     (router_top (line 0 (codes "router" ∷ codes "bgp" ∷ decimal b.number ∷ [])) (item.Bgp b.number) d (record d { stanza = in_bgp (new_bgp 0 b.number) }) refl refl (bgp_item b.number is.number) (λ rs. refl))
     (bgp_inner b is)
 
-ospf_back : (name : List ℕ) (interfaces : List Interface) (bgp : Option BgpProcess) (o : Option OspfProcess) → IfSome o IsWellFormedOspf → Reads (lines_of_some ospf_lines o) (draft_of (host name) interfaces bgp None [] [] []) (draft_of (host name) interfaces bgp (option_map bare_ospf o) [] [] [])
+ospf_back : (name : List ℕ) (interfaces : List Interface) (bgp : Option BgpProcess) (o : Option OspfProcess) → IfSome o IsWellFormedOspf →
+    Reads (lines_of_some ospf_lines o) (draft_of (host name) interfaces bgp None [] [] [])
+    (draft_of (host name) interfaces bgp (option_map bare_ospf o) [] [] [])
 unfolding ospf_lines take_top take_line is_policy_line with_closed
 ospf_back name interfaces bgp None is = reads_none _
 ospf_back name interfaces bgp (Some o) is =
@@ -108,7 +116,8 @@ router_front r names =
     ++ flat_map route_map_lines r.route_maps
 
 abbrev bare_draft_of : Router → Draft
-bare_draft_of r = draft_of (host r.name) (map bare_interface r.interfaces) (option_map bare_bgp r.bgp) (option_map bare_ospf r.ospf) (map bare_prefix_list r.prefix_lists) (map bare_community_list r.community_lists) (map bare_route_map r.route_maps)
+bare_draft_of r = draft_of (host r.name) (map bare_interface r.interfaces) (option_map bare_bgp r.bgp) (option_map bare_ospf r.ospf)
+    (map bare_prefix_list r.prefix_lists) (map bare_community_list r.community_lists) (map bare_route_map r.route_maps)
 
 front_back : (r : Router) (names : List (List ℕ)) → IsWellFormedRouter r → Reads (router_front r names) no_draft (bare_draft_of r)
 front_back r names is =
@@ -131,14 +140,17 @@ front_back r names is =
     (reads_then (zero ++ one) two _ _ _
     (reads_then zero one _ (draft_of (host r.name) [] None None [] [] []) _
     (reads_then (line 0 (codes "hostname" ∷ r.name ∷ []) ∷ []) (map member_line names) _ _ _ (hostname_back r.name is.name) (reads_skipped (map member_line names) (draft_of (host r.name) [] None None [] [] []) (members_skipped names)))
-    (reads_then (closing ∷ []) (flat_map interface_lines r.interfaces) _ _ _ (reads_skipped (closing ∷ []) (draft_of (host r.name) [] None None [] [] []) (refl, tt)) (interfaces_stage r.name [] r.interfaces is.interfaces is.interfaces_once (new_to_none same_interface r.interfaces))))
+    (reads_then (closing ∷ []) (flat_map interface_lines r.interfaces) _ _ _
+    (reads_skipped (closing ∷ []) (draft_of (host r.name) [] None None [] [] []) (refl, tt))
+    (interfaces_stage r.name [] r.interfaces is.interfaces is.interfaces_once (new_to_none same_interface r.interfaces))))
     (bgp_back r.name interfaces r.bgp is.bgp))
     (ospf_back r.name interfaces bgp r.ospf is.ospf))
     (prefix_lists_back (host r.name) interfaces bgp ospf r.prefix_lists is.prefix_lists is.prefix_lists_once))
     (community_lists_back (host r.name) interfaces bgp ospf prefix_lists r.community_lists is.community_lists is.community_lists_once))
     (route_maps_back (host r.name) interfaces bgp ospf prefix_lists community_lists r.route_maps is.route_maps is.route_maps_once)
 
-pub router_back : (r : Router) (names : List (List ℕ)) (rs : List Router) → IsWellFormedRouter r → steps (at_draft rs no_draft) (filter is_read (router_lines r names)) ≡ Ok (at_draft (rs ++ bare_router r ∷ []) no_draft)
+pub router_back : (r : Router) (names : List (List ℕ)) (rs : List Router) → IsWellFormedRouter r →
+    steps (at_draft rs no_draft) (filter is_read (router_lines r names)) ≡ Ok (at_draft (rs ++ bare_router r ∷ []) no_draft)
 unfolding router_lines with_closed
 router_back r names rs is =
     let front = front_back r names is rs no_draft refl in

@@ -45,11 +45,13 @@ AreShort ls = AllByRecursion IsShortLine ls
 closing_short : IsShortLine closing
 closing_short = omega arith
 
-some_line : {X : Type 0} (P : X → Type 0) (write : X → TextLine) → ((x : X) → P x → IsShortLine (write x)) → (o : Option X) → IfSome o P → AreShort (line_of_given write o)
+some_line : {X : Type 0} (P : X → Type 0) (write : X → TextLine) → ((x : X) → P x → IsShortLine (write x)) → (o : Option X) → IfSome o P →
+    AreShort (line_of_given write o)
 some_line P write one None is = tt
 some_line P write one (Some x) is = (one x is, tt)
 
-some_lines : {X : Type 0} (P : X → Type 0) (write : X → List TextLine) → ((x : X) → P x → AreShort (write x)) → (o : Option X) → IfSome o P → AreShort (lines_of_some write o)
+some_lines : {X : Type 0} (P : X → Type 0) (write : X → List TextLine) → ((x : X) → P x → AreShort (write x)) → (o : Option X) → IfSome o P →
+    AreShort (lines_of_some write o)
 some_lines P write one None is = tt
 some_lines P write one (Some x) is = one x is
 
@@ -108,7 +110,8 @@ peer_sends_short : (addr : ℕ) → IsNumber addr → IsShortLine (peer_sends_li
 unfolding peer_sends_line
 peer_sends_short addr is = light_line 1 (codes "neighbor" ∷ address_text addr ∷ codes "send-community" ∷ []) (omega (arith, address_short addr is))
 
-applied_short : (addr : ℕ) (what way : List ℕ) → IsNumber addr → length what ≤ 20 → length way ≤ 20 → (named : Named) → IsWellFormedNamed named → IsShortLine (applied_line addr what way named)
+applied_short : (addr : ℕ) (what way : List ℕ) → IsNumber addr → length what ≤ 20 → length way ≤ 20 → (named : Named) → IsWellFormedNamed named →
+    IsShortLine (applied_line addr what way named)
 unfolding applied_line
 applied_short addr what way is first last named name = light_line 1 (codes "neighbor" ∷ address_text addr ∷ what ∷ named.name ∷ way ∷ []) (omega (arith, address_short addr is, list_name_short named.name name))
 
@@ -143,7 +146,10 @@ bgp_short b is =
     let two = map network_line b.networks in
     let three = flat_map neighbor_lines b.neighbors in (
       light_line 0 (codes "router" ∷ codes "bgp" ∷ decimal b.number ∷ []) (omega (arith, number_short b.number high)),
-      pieces (one ++ two ++ three) (closing ∷ []) (pieces (one ++ two) three (pieces one two (some_line IsWellFormedBase base_line base_line_short b.base is.base) (each_map IsWellFormedNetLine IsShortLine network_line network_line_short b.networks is.networks)) (each_flat_map IsWellFormedNeighbor IsShortLine neighbor_lines neighbor_short b.neighbors is.neighbors)) (closing_short, tt),
+      pieces (one ++ two ++ three) (closing ∷ [])
+          (pieces (one ++ two) three (pieces one two (some_line IsWellFormedBase base_line base_line_short b.base is.base)
+          (each_map IsWellFormedNetLine IsShortLine network_line network_line_short b.networks is.networks))
+          (each_flat_map IsWellFormedNeighbor IsShortLine neighbor_lines neighbor_short b.neighbors is.neighbors)) (closing_short, tt),
     )
 
 -- ---- OSPF
@@ -278,7 +284,8 @@ entry_short name named e is =
           (pieces (one ++ two ++ three ++ four) five
           (pieces (one ++ two ++ three) four
           (pieces (one ++ two) three
-          (pieces one two (some_line (λ l. IsShortLine (match_prefixes_line l)) match_prefixes_line (λ l short. short) e.prefixes is.short.0) (some_line (λ l. IsShortLine (match_comms_line e.exact l)) (match_comms_line e.exact) (λ l short. short) e.comms is.short.1))
+          (pieces one two (some_line (λ l. IsShortLine (match_prefixes_line l)) match_prefixes_line (λ l short. short) e.prefixes is.short.0)
+          (some_line (λ l. IsShortLine (match_comms_line e.exact l)) (match_comms_line e.exact) (λ l short. short) e.comms is.short.1))
           (some_line IsNumber lp_line lp_short e.lp is.formed.lp))
           (some_line IsWellFormedChange change_line change_short e.change is.formed.change))
           (some_line IsWellFormedNamed delete_line delete_short e.delete is.formed.delete))
@@ -301,7 +308,8 @@ member_short : (name : List ℕ) → IsRouterName name → IsShortLine (member_l
 unfolding member_line
 member_short name is = light_line 0 (codes "!" ∷ codes "member" ∷ name ∷ []) (omega (arith, router_name_short name is))
 
-router_short : (r : Router) (names : List (List ℕ)) → IsWellFormedRouter r → HasShortMaps r → AllByRecursion IsRouterName names → AreShort (router_lines r names)
+router_short : (r : Router) (names : List (List ℕ)) → IsWellFormedRouter r → HasShortMaps r → AllByRecursion IsRouterName names →
+    AreShort (router_lines r names)
 unfolding router_lines
 router_short r names is maps are =
     let zero = line 0 (codes "hostname" ∷ r.name ∷ []) ∷ map member_line names in
@@ -322,15 +330,24 @@ router_short r names is maps are =
     (closing_short, each_flat_map IsWellFormedInterface IsShortLine interface_lines interface_short r.interfaces is.interfaces))
     (some_lines IsWellFormedBgp bgp_lines bgp_short r.bgp is.bgp))
     (some_lines IsWellFormedOspf ospf_lines ospf_short r.ospf is.ospf))
-    (closed_short (flat_map (λ (l : PrefixList). map (prefix_entry_line l.name) l.entries) r.prefix_lists) (each_flat_map IsWellFormedPrefixList IsShortLine (λ (l : PrefixList). map (prefix_entry_line l.name) l.entries) prefix_list_short r.prefix_lists is.prefix_lists)))
-    (closed_short (flat_map (λ (l : CommunityList). map (community_list_line l.name) l.lines) r.community_lists) (each_flat_map IsWellFormedCommunityList IsShortLine (λ (l : CommunityList). map (community_list_line l.name) l.lines) community_list_short r.community_lists is.community_lists)))
-    (each_flat_map IsGoodMap IsShortLine route_map_lines route_map_short r.route_maps (all_both IsWellFormedRouteMap IsShortMap IsGoodMap (λ m formed short. record { formed = formed; short = short }) r.route_maps is.route_maps maps)))
+    (closed_short (flat_map (λ (l : PrefixList). map (prefix_entry_line l.name) l.entries) r.prefix_lists)
+    (each_flat_map IsWellFormedPrefixList IsShortLine (λ (l : PrefixList). map (prefix_entry_line l.name) l.entries) prefix_list_short r.prefix_lists
+    is.prefix_lists)))
+    (closed_short (flat_map (λ (l : CommunityList). map (community_list_line l.name) l.lines) r.community_lists)
+    (each_flat_map IsWellFormedCommunityList IsShortLine (λ (l : CommunityList). map (community_list_line l.name) l.lines) community_list_short
+    r.community_lists is.community_lists)))
+    (each_flat_map IsGoodMap IsShortLine route_map_lines route_map_short r.route_maps
+    (all_both IsWellFormedRouteMap IsShortMap IsGoodMap (λ m formed short. record { formed = formed; short = short }) r.route_maps is.route_maps maps)))
     (light_line 0 (codes "end" ∷ []) (omega arith), tt)
 
-routers_short : (rs : List Router) (members : List (List (List ℕ))) → AllByRecursion IsWellFormedRouter rs → AllByRecursion HasShortMaps rs → AllByRecursion (AllByRecursion IsRouterName) members → AreShort (routers_lines rs members)
+routers_short : (rs : List Router) (members : List (List (List ℕ))) → AllByRecursion IsWellFormedRouter rs → AllByRecursion HasShortMaps rs →
+    AllByRecursion (AllByRecursion IsRouterName) members → AreShort (routers_lines rs members)
 routers_short [] members are maps names = tt
-routers_short (r ∷ rs) [] are maps names = pieces (router_lines r []) (routers_lines rs []) (router_short r [] are.0 maps.0 tt) (routers_short rs [] are.1 maps.1 tt)
-routers_short (r ∷ rs) (m ∷ ms) are maps names = pieces (router_lines r m) (routers_lines rs ms) (router_short r m are.0 maps.0 names.0) (routers_short rs ms are.1 maps.1 names.1)
+routers_short (r ∷ rs) [] are maps names =
+    pieces (router_lines r []) (routers_lines rs []) (router_short r [] are.0 maps.0 tt) (routers_short rs [] are.1 maps.1 tt)
+routers_short (r ∷ rs) (m ∷ ms) are maps names =
+    pieces (router_lines r m) (routers_lines rs ms) (router_short r m are.0 maps.0 names.0) (routers_short rs ms are.1 maps.1 names.1)
 
-pub lines_are_short : (network : Network) (notes : Notes) → IsWellFormed network → AllByRecursion HasShortMaps network.routers → AreNotes network notes → AllByRecursion IsShortLine (printed_lines network notes)
+pub lines_are_short : (network : Network) (notes : Notes) → IsWellFormed network → AllByRecursion HasShortMaps network.routers → AreNotes network notes →
+    AllByRecursion IsShortLine (printed_lines network notes)
 lines_are_short network notes is maps are = routers_short network.routers notes.members is.routers maps are.names

@@ -30,7 +30,12 @@ use Rattle.cfg_round_trip.proofs.ShortTexts.{joined}
 
 pub line_length : (l : TextLine) → length (line_text l) ≡ l.indent + joined l.words + 1
 line_length l =
-    omega (arith, length-append (replicate l.indent 32 ++ join_with_byte 32 l.words) (10 ∷ []), length-append (replicate l.indent 32) (join_with_byte 32 l.words), length_replicate l.indent)
+    omega (
+      arith,
+      length-append (replicate l.indent 32 ++ join_with_byte 32 l.words) (10 ∷ []),
+      length-append (replicate l.indent 32) (join_with_byte 32 l.words),
+      length_replicate l.indent,
+    )
   where
     length_replicate : (n : ℕ) → length {A = ℕ} (replicate n 32) ≡ n
     length_replicate zero = refl
@@ -58,14 +63,16 @@ all_in P [] x all here = absurd here
 all_in P (y ∷ ys) x all (inl same) = rw (← same) all.0
 all_in P (y ∷ ys) x all (inr rest) = all_in P ys x all.1 rest
 
-of_row : (row r : Row) (rows : List Row) (words : List (List ℕ)) (b : Bool) → begins row.words words ≡ b → ◌≡◌ {A = Option Row} (if b then Some row else None) (Some r) → IsFound (row ∷ rows) words r
+of_row : (row r : Row) (rows : List Row) (words : List (List ℕ)) (b : Bool) → begins row.words words ≡ b →
+    ◌≡◌ {A = Option Row} (if b then Some row else None) (Some r) → IsFound (row ∷ rows) words r
 of_row row r rows words true e is = let same : row ≡ r = cc in record { begins = ap (λ (x : Row). begins x.words words) (sym same) ∙ e; inside = inl same }
 of_row row r rows words false e is = absurd cc
 
 of_rest : (row r : Row) (rows : List Row) (words : List (List ℕ)) → IsFound rows words r → IsFound (row ∷ rows) words r
 of_rest row r rows words found = record { begins = found.begins; inside = inr found.inside }
 
-longer_case : (row r : Row) (rows : List Row) (words : List (List ℕ)) (a b : Option Row) → (a ≡ Some r → IsFound (row ∷ rows) words r) → (b ≡ Some r → IsFound rows words r) → longer a b ≡ Some r → IsFound (row ∷ rows) words r
+longer_case : (row r : Row) (rows : List Row) (words : List (List ℕ)) (a b : Option Row) → (a ≡ Some r → IsFound (row ∷ rows) words r) →
+    (b ≡ Some r → IsFound rows words r) → longer a b ≡ Some r → IsFound (row ∷ rows) words r
 longer_case row r rows words None b first rest e = of_rest row r rows words (rest e)
 longer_case row r rows words (Some x) None first rest e = first e
 longer_case row r rows words (Some x) (Some y) first rest e = by (nat_lt (length x.words) (length y.words)) e
@@ -76,10 +83,12 @@ longer_case row r rows words (Some x) (Some y) first rest e = by (nat_lt (length
 
 found : (rows : List Row) (words : List (List ℕ)) (r : Row) → longest rows words ≡ Some r → IsFound rows words r
 found [] words r e = absurd cc
-found (row ∷ rows) words r e = longer_case row r rows words (if_begins row words) (longest rows words) (λ is. of_row row r rows words (begins row.words words) refl is) (found rows words r) e
+found (row ∷ rows) words r e = longer_case row r rows words (if_begins row words) (longest rows words)
+    (λ is. of_row row r rows words (begins row.words words) refl is) (found rows words r) e
 
 -- a line of that class begins with the head of the class's only row
-begins_head : (rows : List Row) (words head : List (List ℕ)) (c : HeadClass) (o : Option Row) → longest rows words ≡ o → AllByRecursion (IsRowFor c head) rows → option_map (λ (r : Row). r.class) o ≡ Some c → begins head words ≡ true
+begins_head : (rows : List Row) (words head : List (List ℕ)) (c : HeadClass) (o : Option Row) → longest rows words ≡ o → AllByRecursion (IsRowFor c head) rows →
+    option_map (λ (r : Row). r.class) o ≡ Some c → begins head words ≡ true
 begins_head rows words head c None e all is = absurd cc
 begins_head rows words head c (Some r) e all is =
     let there = found rows words r e in
@@ -94,11 +103,23 @@ comms_words = codes "match" ∷ codes "community" ∷ []
 
 prefixes_rows : AllByRecursion (IsRowFor (class.Policy form.MatchPrefixes) prefixes_words) entry_heads
 unfolding known_in_entry refused_in_entry ignored_in_entry
-prefixes_rows = (λ e. refl, (λ e. absurd cc, (λ e. absurd cc, (λ e. absurd cc, (λ e. absurd cc, (λ e. absurd cc, (λ e. absurd cc, (λ e. absurd cc, (λ e. absurd cc, (λ e. absurd cc, tt))))))))))
+prefixes_rows = (
+  λ e. refl,
+  (
+    λ e. absurd cc,
+    (λ e. absurd cc, (λ e. absurd cc, (λ e. absurd cc, (λ e. absurd cc, (λ e. absurd cc, (λ e. absurd cc, (λ e. absurd cc, (λ e. absurd cc, tt)))))))),
+  ),
+)
 
 comms_rows : AllByRecursion (IsRowFor (class.Policy form.MatchComms) comms_words) entry_heads
 unfolding known_in_entry refused_in_entry ignored_in_entry
-comms_rows = (λ e. absurd cc, (λ e. refl, (λ e. absurd cc, (λ e. absurd cc, (λ e. absurd cc, (λ e. absurd cc, (λ e. absurd cc, (λ e. absurd cc, (λ e. absurd cc, (λ e. absurd cc, tt))))))))))
+comms_rows = (
+  λ e. absurd cc,
+  (
+    λ e. refl,
+    (λ e. absurd cc, (λ e. absurd cc, (λ e. absurd cc, (λ e. absurd cc, (λ e. absurd cc, (λ e. absurd cc, (λ e. absurd cc, (λ e. absurd cc, tt)))))))),
+  ),
+)
 
 -- ---- the forms
 
@@ -116,7 +137,8 @@ same_word head word e = (bytes_eq-Decides head word).0 e
 two_words : (a b x y : List ℕ) (rest : List (List ℕ)) → x ≡ a → y ≡ b → x ∷ y ∷ rest ≡ a ∷ b ∷ rest
 two_words a b x y rest e f = rw (e, f) refl
 
-prefixes_short : (line : ℕ) (words : List (List ℕ)) → begins prefixes_words words ≡ true → 1 + joined words ≤ 1024 → IfOk (match_prefixes_form line words) (IsShortItem true)
+prefixes_short : (line : ℕ) (words : List (List ℕ)) → begins prefixes_words words ≡ true → 1 + joined words ≤ 1024 →
+    IfOk (match_prefixes_form line words) (IsShortItem true)
 unfolding match_prefixes_form match_prefixes_line
 prefixes_short line (a ∷ b ∷ c ∷ d ∷ words) head short =
     let one = and_parts (bytes_eq (codes "match") a) _ head in
@@ -137,7 +159,8 @@ marked_is mark (word ∷ next ∷ words) e =
     let n : suc (suc (length words)) - 1 ≡ suc (suc (length words) - 1) = omega arith in
     ap (λ k. take k (word ∷ next ∷ words) ++ mark ∷ []) n ∙ ap (λ (ws : List (List ℕ)). word ∷ ws) (marked_is mark (next ∷ words) e)
 
-comms_short : (line : ℕ) (words : List (List ℕ)) → begins comms_words words ≡ true → 1 + joined words ≤ 1024 → IfOk (match_comms_form line words) (IsShortItem true)
+comms_short : (line : ℕ) (words : List (List ℕ)) → begins comms_words words ≡ true → 1 + joined words ≤ 1024 →
+    IfOk (match_comms_form line words) (IsShortItem true)
 unfolding match_comms_form marked_match comms_match match_comms_line
 comms_short line (a ∷ b ∷ words) head short =
     let one = and_parts (bytes_eq (codes "match") a) _ head in
@@ -164,7 +187,8 @@ prefix_entry_quiet inside line (_ ∷ _ ∷ name ∷ word ∷ number ∷ act ∷
     after IsAny (IsShortItem inside) _ _ (any_result (list_name_of name)) (λ list any. tt))))))
 prefix_entry_quiet inside line _ = tt
 
-community_line_quiet : (inside : Bool) (line : ℕ) (name act : List ℕ) (communities : List (List ℕ)) → IfOk (community_line line name act communities) (IsShortItem inside)
+community_line_quiet : (inside : Bool) (line : ℕ) (name act : List ℕ) (communities : List (List ℕ)) →
+    IfOk (community_line line name act communities) (IsShortItem inside)
 unfolding community_line
 community_line_quiet inside line name act communities =
     given IsAny (IsShortItem inside) _ _ (anything (is_permit act)) (λ permit any.
@@ -205,7 +229,8 @@ delete_quiet inside line _ = tt
 
 prepend_quiet : (inside : Bool) (line : ℕ) (words : List (List ℕ)) → IfOk (prepend_form line words) (IsShortItem inside)
 unfolding prepend_form
-prepend_quiet inside line (_ ∷ _ ∷ _ ∷ words) = fits (IsShortItem inside) (nat_le 1 (length words) && nat_le (length words) 10 && list_all is_as_number words) _ (λ e. tt)
+prepend_quiet inside line (_ ∷ _ ∷ _ ∷ words) =
+    fits (IsShortItem inside) (nat_le 1 (length words) && nat_le (length words) 10 && list_all is_as_number words) _ (λ e. tt)
 prepend_quiet inside line _ = tt
 
 -- outside an entry nothing is asked of a match line
@@ -224,7 +249,8 @@ comms_outside line _ = tt
 
 -- ---- a line by its head
 
-quiet_form : (inside : Bool) (f : PolicyForm) (line : ℕ) (words : List (List ℕ)) → IfOk (match_prefixes_form line words) (IsShortItem inside) → IfOk (match_comms_form line words) (IsShortItem inside) → IfOk (policy_form f line words) (IsShortItem inside)
+quiet_form : (inside : Bool) (f : PolicyForm) (line : ℕ) (words : List (List ℕ)) → IfOk (match_prefixes_form line words) (IsShortItem inside) →
+    IfOk (match_comms_form line words) (IsShortItem inside) → IfOk (policy_form f line words) (IsShortItem inside)
 unfolding policy_form
 quiet_form inside form.PrefixEntry line words p c = prefix_entry_quiet inside line words
 quiet_form inside form.CommunityLine line words p c = list_line_quiet inside line words
@@ -247,14 +273,18 @@ outside_class (Some (class.Policy f)) line words = quiet_form false f line words
 pub outside_item : (s : PolicyScope) (line : ℕ) (words : List (List ℕ)) → IfOk (policy_item_of s line words) (IsShortItem false)
 outside_item s line words = outside_class (class_in (policy_heads_of s) words) line words
 
-inside_class : (o : Option HeadClass) (line : ℕ) (words : List (List ℕ)) → class_in (policy_heads_of scope.Entry) words ≡ o → 1 + joined words ≤ 1024 → IfOk (policy_item_by o line words) (IsShortItem true)
+inside_class : (o : Option HeadClass) (line : ℕ) (words : List (List ℕ)) → class_in (policy_heads_of scope.Entry) words ≡ o → 1 + joined words ≤ 1024 →
+    IfOk (policy_item_by o line words) (IsShortItem true)
 unfolding policy_item_by policy_form policy_heads_of
 inside_class None line words e short = tt
 inside_class (Some class.Refused) line words e short = tt
 inside_class (Some class.Ignored) line words e short = tt
 inside_class (Some (class.Router f)) line words e short = tt
-inside_class (Some (class.Policy form.MatchPrefixes)) line words e short = prefixes_short line words (begins_head entry_heads words prefixes_words (class.Policy form.MatchPrefixes) (longest entry_heads words) refl prefixes_rows e) short
-inside_class (Some (class.Policy form.MatchComms)) line words e short = comms_short line words (begins_head entry_heads words comms_words (class.Policy form.MatchComms) (longest entry_heads words) refl comms_rows e) short
+inside_class (Some (class.Policy form.MatchPrefixes)) line words e short =
+    prefixes_short line words (begins_head entry_heads words prefixes_words (class.Policy form.MatchPrefixes) (longest entry_heads words) refl prefixes_rows e)
+    short
+inside_class (Some (class.Policy form.MatchComms)) line words e short =
+    comms_short line words (begins_head entry_heads words comms_words (class.Policy form.MatchComms) (longest entry_heads words) refl comms_rows e) short
 inside_class (Some (class.Policy form.PrefixEntry)) line words e short = prefix_entry_quiet true line words
 inside_class (Some (class.Policy form.CommunityLine)) line words e short = list_line_quiet true line words
 inside_class (Some (class.Policy form.MapHead)) line words e short = map_head_quiet true line words

@@ -44,9 +44,11 @@ record IsShortState (s : State) : Type 0 where
 
 -- ---- top lines
 
-maps_step : (name : List ℕ) (e : MapEntry) (maps : List RouteMap) → IsShortEntry e → AllByRecursion IsShortMap maps → AllByRecursion IsShortMap (with_map_entry name e maps)
+maps_step : (name : List ℕ) (e : MapEntry) (maps : List RouteMap) → IsShortEntry e → AllByRecursion IsShortMap maps →
+    AllByRecursion IsShortMap (with_map_entry name e maps)
 maps_step name e maps is all =
-    changed_all IsShortMap IsShortMap (is_route_map name) (put_map_entry e) _ maps (λ m short. short) (λ m here short. put_all IsShortEntry (λ (x : MapEntry). nat_lt e.seq x.seq) e m.entries is short) (is, tt) all
+    changed_all IsShortMap IsShortMap (is_route_map name) (put_map_entry e) _ maps (λ m short. short)
+    (λ m here short. put_all IsShortEntry (λ (x : MapEntry). nat_lt e.seq x.seq) e m.entries is short) (is, tt) all
 
 closing_step : (st : Stanza) (d : Draft) → AllByRecursion IsShortMap d.route_maps → IsShortStanza st → d.stanza ≡ st → IsShortDraft (closing_stanza st d)
 closing_step closed d maps is same = (maps, rw same tt)
@@ -82,8 +84,10 @@ top_step : (n : ℕ) (said : RouterItem) (s : State) → IsShortState s → IfOk
 unfolding take_top
 top_step n said s is =
     either IsShortState (ends_router said) _ _
-    (λ e. then_step HasShortMaps IsShortState (router_of n s.draft) _ (router_step n s.draft.name s.draft is.draft.0) (λ r short. record { routers = all_push HasShortMaps s.routers r is.routers short; draft = (tt, tt) }))
-    (λ e. then_step IsShortDraft IsShortState (take_line n said s.draft) _ (line_step n said s.draft is.draft) (λ d short. record { routers = is.routers; draft = short }))
+    (λ e. then_step HasShortMaps IsShortState (router_of n s.draft) _ (router_step n s.draft.name s.draft is.draft.0)
+    (λ r short. record { routers = all_push HasShortMaps s.routers r is.routers short; draft = (tt, tt) }))
+    (λ e. then_step IsShortDraft IsShortState (take_line n said s.draft) _ (line_step n said s.draft is.draft)
+    (λ d short. record { routers = is.routers; draft = short }))
 
 -- ---- lines of stanzas
 
@@ -102,14 +106,17 @@ unfolding take_inner
 inner_step l closed short is = tt
 inner_step l ignored short is = tt
 inner_step l (in_interface i) short is =
-    then_said IsAny IsShortStanza l.number (router_item_of scope.Interface l.number l.words) _ (any_result (router_item_of scope.Interface l.number l.words)) (λ said any.
+    then_said IsAny IsShortStanza l.number (router_item_of scope.Interface l.number l.words) _ (any_result (router_item_of scope.Interface l.number l.words))
+    (λ said any.
     then_step IsAny IsShortStanza (set_interface l.number said i) _ (any_result (set_interface l.number said i)) (λ j any. tt))
 inner_step l (in_bgp b) short is =
     then_said IsAny IsShortStanza l.number (router_item_of scope.Bgp l.number l.words) _ (any_result (router_item_of scope.Bgp l.number l.words)) (λ said any.
     then_step IsAny IsShortStanza (set_bgp l.number said b) _ (any_result (set_bgp l.number said b)) (λ c any. tt))
-inner_step l (in_ospf o) short is = then_said IsAny IsShortStanza l.number (router_item_of scope.Ospf l.number l.words) _ (any_result (router_item_of scope.Ospf l.number l.words)) (λ said any. tt)
+inner_step l (in_ospf o) short is = then_said IsAny IsShortStanza l.number (router_item_of scope.Ospf l.number l.words) _
+    (any_result (router_item_of scope.Ospf l.number l.words)) (λ said any. tt)
 inner_step l (in_entry name e) short is =
-    then_said (IsShortItem true) IsShortStanza l.number (policy_item_of policy_scope.Entry l.number l.words) _ (inside_item l.number l.words short) (λ said item.
+    then_said (IsShortItem true) IsShortStanza l.number (policy_item_of policy_scope.Entry l.number l.words) _ (inside_item l.number l.words short)
+    (λ said item.
     then_step IsShortEntry IsShortStanza (set_entry l.number said e) _ (entry_step l.number said e item is) (λ f whole. whole))
 
 -- ---- all lines
@@ -119,11 +126,15 @@ unfolding step step_policy step_router
 one_step s l text is =
     either IsShortState (l.indent == 0) _ _
     (λ top. either IsShortState (is_policy_line l.words) _ _
-    (λ listed. then_said (IsShortItem false) IsShortState l.number (policy_item_of policy_scope.Top l.number l.words) _ (outside_item policy_scope.Top l.number l.words) (λ said item.
-    then_step IsShortDraft IsShortState (take_policy l.number said (with_closed s.draft)) _ (policy_step l.number said (with_closed s.draft) item (closed_step s.draft is.draft)) (λ d short. record { routers = is.routers; draft = short })))
-    (λ other. then_said IsAny IsShortState l.number (router_item_of scope.Top l.number l.words) _ (any_result (router_item_of scope.Top l.number l.words)) (λ said any.
+    (λ listed. then_said (IsShortItem false) IsShortState l.number (policy_item_of policy_scope.Top l.number l.words) _
+    (outside_item policy_scope.Top l.number l.words) (λ said item.
+    then_step IsShortDraft IsShortState (take_policy l.number said (with_closed s.draft)) _
+    (policy_step l.number said (with_closed s.draft) item (closed_step s.draft is.draft)) (λ d short. record { routers = is.routers; draft = short })))
+    (λ other. then_said IsAny IsShortState l.number (router_item_of scope.Top l.number l.words) _ (any_result (router_item_of scope.Top l.number l.words))
+    (λ said any.
     top_step l.number said (record s { draft = with_closed s.draft }) (record { routers = is.routers; draft = closed_step s.draft is.draft }))))
-    (λ inner. then_step IsShortStanza IsShortState (take_inner l s.draft.stanza) _ (inner_step l s.draft.stanza (let short = text.short in let some = eqb-false l.indent 0 inner in omega arith) is.draft.1) (λ st short.
+    (λ inner. then_step IsShortStanza IsShortState (take_inner l s.draft.stanza) _
+    (inner_step l s.draft.stanza (let short = text.short in let some = eqb-false l.indent 0 inner in omega arith) is.draft.1) (λ st short.
     record { routers = is.routers; draft = (is.draft.0, short) }))
 
 all_steps : (ls : List TextLine) (s : State) → AllByRecursion IsShortText ls → IsShortState s → IfOk (steps s ls) IsShortState
@@ -139,10 +150,12 @@ AreShortRouters network = AllByRecursion HasShortMaps network.routers
 of_lines : (ls : List TextLine) → AllByRecursion IsShortText ls → IfOk (network_of_lines ls) AreShortRouters
 unfolding network_of_lines
 of_lines ls texts =
-    then_step IsShortState AreShortRouters (steps at_start ls) _ (all_steps ls at_start texts (record { routers = tt; draft = (tt, tt) })) (λ s is. then_step IsAny AreShortRouters (ending ls) _ (any_result (ending ls)) (λ x any.
+    then_step IsShortState AreShortRouters (steps at_start ls) _ (all_steps ls at_start texts (record { routers = tt; draft = (tt, tt) }))
+    (λ s is. then_step IsAny AreShortRouters (ending ls) _ (any_result (ending ls)) (λ x any.
     let routers : AreShortRouters (record { routers = s.routers }) = is.routers in routers))
 
-of_result : (bs : List ℕ) (r : Result (List Line) ReadRefusal) → lines_of bs ≡ r → IfOk (r >>= (λ (ls : List Line). network_of_lines (texts_of bs ls))) AreShortRouters
+of_result : (bs : List ℕ) (r : Result (List Line) ReadRefusal) → lines_of bs ≡ r →
+    IfOk (r >>= (λ (ls : List Line). network_of_lines (texts_of bs ls))) AreShortRouters
 of_result bs (Err fault) e = tt
 of_result bs (Ok ls) e = of_lines (texts_of bs ls) (lines_short bs ls e)
 

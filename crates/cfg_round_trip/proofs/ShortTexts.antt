@@ -53,7 +53,8 @@ words_fit (suc n) bs i upto few = elim (cases_lt i upto) [
           | inl more ↦ (
               let blank : blank_at bs e ≡ true = first_passes (blank_at bs) i upto (omega arith) more in
               let fits = words_fit n bs (e + 1) upto (omega arith) in
-              let same : joined (texts bs rest) ≡ joined (texts bs (words_between bs (e + 1) upto)) = ap (λ (ws : List Span). joined (texts bs ws)) (words_blank bs e upto more blank) in
+              let same : joined (texts bs rest) ≡ joined (texts bs (words_between bs (e + 1) upto)) =
+              ap (λ (ws : List Span). joined (texts bs ws)) (words_blank bs e upto more blank) in
               omega (arith, joined_more word (texts bs rest), size, fits, same))
         ])
         )
@@ -61,10 +62,12 @@ words_fit (suc n) bs i upto few = elim (cases_lt i upto) [
 ]
 
 -- blanks in front bear on no word
-skip_blanks : (n : ℕ) (bs : List ℕ) (from first upto : ℕ) → first ≡ from + n → first ≤ upto → ((k : ℕ) → from ≤ k → k < first → blank_at bs k ≡ true) → words_between bs from upto ≡ words_between bs first upto
+skip_blanks : (n : ℕ) (bs : List ℕ) (from first upto : ℕ) → first ≡ from + n → first ≤ upto → ((k : ℕ) → from ≤ k → k < first → blank_at bs k ≡ true) →
+    words_between bs from upto ≡ words_between bs first upto
 skip_blanks zero bs from first upto e le blank = ap (λ (i : ℕ). words_between bs i upto) (let same : from ≡ first = omega arith in same)
 skip_blanks (suc n) bs from first upto e le blank =
-    words_blank bs from upto (omega arith) (blank from (omega arith) (omega arith)) ∙ skip_blanks n bs (from + 1) first upto (omega arith) le (λ k low high. blank k (omega arith) high)
+    words_blank bs from upto (omega arith) (blank from (omega arith) (omega arith))
+    ∙ skip_blanks n bs (from + 1) first upto (omega arith) le (λ k low high. blank k (omega arith) high)
 
 not_false : (b : Bool) → not b ≡ false → b ≡ true
 not_false true e = refl
@@ -76,14 +79,16 @@ line_fits bs p le short =
     let first = first_at test p.from p.upto in
     let low : p.from ≤ first = first_from test p.from p.upto in
     let high : first ≤ p.upto = first_below test p.from p.upto le in
-    let same = skip_blanks (first - p.from) bs p.from first p.upto (omega arith) high (λ k from below. not_false (blank_at bs k) (first_fails test p.from p.upto k le from below)) in
+    let same = skip_blanks (first - p.from) bs p.from first p.upto (omega arith) high
+    (λ k from below. not_false (blank_at bs k) (first_fails test p.from p.upto k le from below)) in
     let fits = words_fit (p.upto - first) bs first p.upto (omega arith) in
     record { short = omega (arith, fits, ap (λ (ws : List Span). joined (texts bs ws)) same) }
 
 piece_short : (bs : List ℕ) (p : Piece) → kind_at bs p ≡ None → p.upto - p.from ≤ 1024
 piece_short bs p none = grind (arith, nat_tests)
 
-pieces_short : (bs : List ℕ) (ps : List Piece) → AllByRecursion (λ (p : Piece). IsShortText (text_line bs (line_of bs p))) ps → AllByRecursion IsShortText (texts_of bs (map (line_of bs) ps))
+pieces_short : (bs : List ℕ) (ps : List Piece) → AllByRecursion (λ (p : Piece). IsShortText (text_line bs (line_of bs p))) ps →
+    AllByRecursion IsShortText (texts_of bs (map (line_of bs) ps))
 pieces_short bs [] all = tt
 pieces_short bs (p ∷ ps) all = (all.0, pieces_short bs ps all.1)
 
@@ -93,5 +98,6 @@ lines_short bs ls e =
     let free = lines_faultless bs ps ls e in
     let lie : AllByRecursion (Lies bs) ps = recursion_from_All (Lies bs) ps (pieces_lie bs 1 0) in
     let none : AllByRecursion (λ p. kind_at bs p ≡ None) ps = recursion_from_All (λ p. kind_at bs p ≡ None) ps free.each in
-    let fit = all_both (Lies bs) (λ p. kind_at bs p ≡ None) (λ (p : Piece). IsShortText (text_line bs (line_of bs p))) (λ p lies no. line_fits bs p lies.front (piece_short bs p no)) ps lie none in
+    let fit = all_both (Lies bs) (λ p. kind_at bs p ≡ None) (λ (p : Piece). IsShortText (text_line bs (line_of bs p)))
+    (λ p lies no. line_fits bs p lies.front (piece_short bs p no)) ps lie none in
     rw free.are (pieces_short bs (filter (is_kept bs) ps) (all_filter (λ (p : Piece). IsShortText (text_line bs (line_of bs p))) (is_kept bs) ps fit))

@@ -38,12 +38,20 @@ pub byte_short : (n : ℕ) → n ≤ 255 → length (decimal n) ≤ 3
 byte_short n is = length-decimal-le 3 n (omega arith) (omega arith) (omega arith)
 
 pub four_short : (a b c d : List ℕ) → length a ≤ 3 → length b ≤ 3 → length c ≤ 3 → length d ≤ 3 → length (join_with_byte 46 (a ∷ b ∷ c ∷ d ∷ [])) ≤ 15
-four_short a b c d ha hb hc hd = omega (arith, length-append a (46 ∷ b ++ 46 ∷ c ++ 46 ∷ d), length-append a (46 ∷ (b ++ (46 ∷ (c ++ (46 ∷ d))))), length-append b (46 ∷ (c ++ (46 ∷ d))), length-append c (46 ∷ d))
+four_short a b c d ha hb hc hd = omega (
+  arith,
+  length-append a (46 ∷ b ++ 46 ∷ c ++ 46 ∷ d),
+  length-append a (46 ∷ (b ++ (46 ∷ (c ++ (46 ∷ d))))),
+  length-append b (46 ∷ (c ++ (46 ∷ d))),
+  length-append c (46 ∷ d),
+)
 
 pub address_short : (addr : ℕ) → IsNumber addr → length (address_text addr) ≤ 15
 unfolding address_text
 address_short addr is =
-    four_short (decimal (addr / 16777216)) (decimal (addr / 65536 % 256)) (decimal (addr / 256 % 256)) (decimal (addr % 256)) (byte_short (addr / 16777216) (omega arith)) (byte_short (addr / 65536 % 256) (omega arith)) (byte_short (addr / 256 % 256) (omega arith)) (byte_short (addr % 256) (omega arith))
+    four_short (decimal (addr / 16777216)) (decimal (addr / 65536 % 256)) (decimal (addr / 256 % 256)) (decimal (addr % 256))
+    (byte_short (addr / 16777216) (omega arith)) (byte_short (addr / 65536 % 256) (omega arith)) (byte_short (addr / 256 % 256) (omega arith))
+    (byte_short (addr % 256) (omega arith))
 
 pub mask_short : (len : ℕ) → length (address_text (mask_of len)) ≤ 15
 mask_short len = address_short (mask_of len) (small (2 ^ (32 - len)) (positive (32 - len)))
@@ -59,13 +67,23 @@ pub prefix_short : (p : Prefix) → IsPrefix p → length (prefix_text p) ≤ 18
 unfolding prefix_text
 prefix_short p is =
     let len = is.len in
-    omega (arith, length-append (address_text p.addr) (47 ∷ decimal p.len), address_short p.addr is.addr, length-decimal-le 2 p.len (omega arith) (omega arith) (omega arith))
+    omega (
+      arith,
+      length-append (address_text p.addr) (47 ∷ decimal p.len),
+      address_short p.addr is.addr,
+      length-decimal-le 2 p.len (omega arith) (omega arith) (omega arith),
+    )
 
 pub community_short : (c : ℕ) → IsBetween 1 4294901759 c → length (community_text c) ≤ 11
 unfolding community_text
 community_short c is =
     let high = is.1 in
-    omega (arith, length-append (decimal (c / 65536)) (58 ∷ decimal (c % 65536)), length-decimal-le 5 (c / 65536) (omega arith) (omega arith) (omega arith), length-decimal-le 5 (c % 65536) (omega arith) (omega arith) (omega arith))
+    omega (
+      arith,
+      length-append (decimal (c / 65536)) (58 ∷ decimal (c % 65536)),
+      length-decimal-le 5 (c / 65536) (omega arith) (omega arith) (omega arith),
+      length-decimal-le 5 (c % 65536) (omega arith) (omega arith) (omega arith),
+    )
 
 pub act_short : (permit : Bool) → length (act_text permit) ≤ 6
 act_short true = omega arith
@@ -84,4 +102,6 @@ router_name_short name e = long_name name (and_parts (is_name_long name) _ (and_
 
 pub interface_name_short : (name : List ℕ) → IsInterfaceName name → length name ≤ 63
 unfolding is_interface_name
-interface_name_short name e = long_name name (and_parts (is_name_long name) _ (and_parts (is_name_long name && begins_with is_ascii_alphabetic name) _ (and_parts (is_name_long name && begins_with is_ascii_alphabetic name && list_any is_ascii_digit name) _ e).0).0).0
+interface_name_short name e = long_name name
+    (and_parts (is_name_long name) _ (and_parts (is_name_long name && begins_with is_ascii_alphabetic name) _
+    (and_parts (is_name_long name && begins_with is_ascii_alphabetic name && list_any is_ascii_digit name) _ e).0).0).0

@@ -19,10 +19,16 @@ interface_twice : IsDone bare_interface
 interface_twice i = rw (twice_option bare_address (λ a. refl) i.address) refl
 
 neighbor_twice : IsDone bare_neighbor
-neighbor_twice p = rw (twice_option bare_named (λ a. refl) p.list_in, twice_option bare_named (λ a. refl) p.list_out, twice_option bare_named (λ a. refl) p.map_in, twice_option bare_named (λ a. refl) p.map_out) refl
+neighbor_twice p = rw (
+  twice_option bare_named (λ a. refl) p.list_in,
+  twice_option bare_named (λ a. refl) p.list_out,
+  twice_option bare_named (λ a. refl) p.map_in,
+  twice_option bare_named (λ a. refl) p.map_out,
+) refl
 
 bgp_twice : IsDone bare_bgp
-bgp_twice b = rw (twice_option bare_base (λ a. refl) b.base, twice_list bare_net (λ a. refl) b.networks, twice_list bare_neighbor neighbor_twice b.neighbors) refl
+bgp_twice b = rw (twice_option bare_base (λ a. refl) b.base, twice_list bare_net (λ a. refl) b.networks, twice_list bare_neighbor neighbor_twice b.neighbors)
+    refl
 
 ospf_twice : IsDone bare_ospf
 ospf_twice o = rw (twice_list bare_area (λ a. refl) o.areas) refl
@@ -34,7 +40,12 @@ community_list_twice : IsDone bare_community_list
 community_list_twice l = rw (twice_list bare_community_line (λ a. refl) l.lines) refl
 
 map_entry_twice : IsDone bare_map_entry
-map_entry_twice e = rw (twice_option bare_name_line (λ a. refl) e.prefixes, twice_option bare_name_line (λ a. refl) e.comms, twice_option bare_named (λ a. refl) e.delete, twice_option bare_prepend (λ a. refl) e.prepend) refl
+map_entry_twice e = rw (
+  twice_option bare_name_line (λ a. refl) e.prefixes,
+  twice_option bare_name_line (λ a. refl) e.comms,
+  twice_option bare_named (λ a. refl) e.delete,
+  twice_option bare_prepend (λ a. refl) e.prepend,
+) refl
 
 route_map_twice : IsDone bare_route_map
 route_map_twice m = rw (twice_list bare_map_entry map_entry_twice m.entries) refl

@@ -62,7 +62,8 @@ decimal_digits n small = decimal_by_steps (λ m word. AreDigits m word) one_digi
 
 digits_pass : (word : List ℕ) → AllByRecursion IsDigit word → list_all is_digit word ≡ true
 digits_pass [] all = refl
-digits_pass (b ∷ word) all = and_from (is_digit b) (list_all is_digit word) (and_from (nat_le 48 b) (nat_le b 57) (le-leb 48 b all.0.0) (le-leb b 57 all.0.1)) (digits_pass word all.1)
+digits_pass (b ∷ word) all = and_from (is_digit b) (list_all is_digit word) (and_from (nat_le 48 b) (nat_le b 57) (le-leb 48 b all.0.0) (le-leb b 57 all.0.1))
+    (digits_pass word all.1)
 
 no_zero : (n : ℕ) (word : List ℕ) → AreDigits n word → 1 < length word → get_or word 0 0 ≢ 48
 no_zero n word are long = elim (cases_lt n 10) [ inl small ↦ absurd (omega (arith, are.one small)) | inr large ↦ are.head (omega arith) ]
@@ -107,14 +108,20 @@ parts_more (b ∷ word) rest none = point b (word ++ 46 ∷ rest) none.0 ∙ ap 
 no_points : (n : ℕ) → n < 2 ^ 64 → AllByRecursion IsNoPoint (decimal n)
 no_points n small = all_weaker IsDigit IsNoPoint (λ b is e. let low = is.0 in omega arith) (decimal n) (decimal_digits n small).digits
 
-four_parts : (a b c d : ℕ) → a ≤ 255 → b ≤ 255 → c ≤ 255 → d ≤ 255 → address_of (join_with_byte 46 (decimal a ∷ decimal b ∷ decimal c ∷ decimal d ∷ [])) ≡ Some (((a * 256 + b) * 256 + c) * 256 + d)
+four_parts : (a b c d : ℕ) → a ≤ 255 → b ≤ 255 → c ≤ 255 → d ≤ 255 →
+    address_of (join_with_byte 46 (decimal a ∷ decimal b ∷ decimal c ∷ decimal d ∷ [])) ≡ Some (((a * 256 + b) * 256 + c) * 256 + d)
 four_parts a b c d ha hb hc hd =
     let parts : parts_at_points (join_with_byte 46 (decimal a ∷ decimal b ∷ decimal c ∷ decimal d ∷ [])) ≡ decimal a ∷ decimal b ∷ decimal c ∷ decimal d ∷ [] =
     parts_more (decimal a) _ (no_points a (omega arith))
     ∙ ap (λ (rest : List (List ℕ)). decimal a ∷ rest) (parts_more (decimal b) _ (no_points b (omega arith))
     ∙ ap (λ (rest : List (List ℕ)). decimal b ∷ rest) (parts_more (decimal c) _ (no_points c (omega arith))
     ∙ ap (λ (rest : List (List ℕ)). decimal c ∷ rest) (parts_last (decimal d) (no_points d (omega arith))))) in
-    ap address_of_parts parts ∙ rw (up_to_back 255 a ha (omega arith), up_to_back 255 b hb (omega arith), up_to_back 255 c hc (omega arith), up_to_back 255 d hd (omega arith)) refl
+    ap address_of_parts parts ∙ rw (
+      up_to_back 255 a ha (omega arith),
+      up_to_back 255 b hb (omega arith),
+      up_to_back 255 c hc (omega arith),
+      up_to_back 255 d hd (omega arith),
+    ) refl
 
 -- the four numbers of an address give it
 four_numbers : (addr : ℕ) → ((addr / 16777216 * 256 + addr / 65536 % 256) * 256 + addr / 256 % 256) * 256 + addr % 256 ≡ addr
@@ -125,7 +132,8 @@ four_numbers addr =
 
 pub address_back : (addr : ℕ) → IsNumber addr → address_word (address_text addr) ≡ Some addr
 unfolding address_word address_text
-address_back addr le = four_parts (addr / 16777216) (addr / 65536 % 256) (addr / 256 % 256) (addr % 256) (omega arith) (omega arith) (omega arith) (omega arith) ∙ ap (λ v. Some v) (four_numbers addr)
+address_back addr le = four_parts (addr / 16777216) (addr / 65536 % 256) (addr / 256 % 256) (addr % 256) (omega arith) (omega arith) (omega arith) (omega arith)
+    ∙ ap (λ v. Some v) (four_numbers addr)
 
 -- ---- masks
 
@@ -159,19 +167,23 @@ pub mask_back : (len : ℕ) → IsBetween 1 32 len → mask_len_of (address_text
 unfolding mask_len_of
 mask_back len range =
     rw (address_back (mask_of len) (mask_small len))
-    (same_some (len_of_mask (mask_of len)) len (range_has (λ k. mask_reads k ≡ true) 1 32 len (all_pass mask_reads (range_with_len 1 32) masks_read) range.0 (let high = range.1 in omega arith)))
+    (same_some (len_of_mask (mask_of len)) len
+    (range_has (λ k. mask_reads k ≡ true) 1 32 len (all_pass mask_reads (range_with_len 1 32) masks_read) range.0 (let high = range.1 in omega arith)))
 
 -- ---- prefixes and communities
 
 -- the first place where a test holds, behind places where it fails
-first_place : (test : ℕ → Bool) (xs : List ℕ) (y : ℕ) (ys : List ℕ) → AllByRecursion (λ x. test x ≡ false) xs → test y ≡ true → position_or_len test (xs ++ y ∷ ys) ≡ length xs
+first_place : (test : ℕ → Bool) (xs : List ℕ) (y : ℕ) (ys : List ℕ) → AllByRecursion (λ x. test x ≡ false) xs → test y ≡ true →
+    position_or_len test (xs ++ y ∷ ys) ≡ length xs
 first_place test [] y ys none here = rw here refl
 first_place test (x ∷ xs) y ys none here = rw (none.0) (ap (λ n. 1 + n) (first_place test xs y ys none.1 here) ∙ omega arith)
 
-before_back : (test : ℕ → Bool) (xs : List ℕ) (y : ℕ) (ys : List ℕ) → AllByRecursion (λ x. test x ≡ false) xs → test y ≡ true → before_first test (xs ++ y ∷ ys) ≡ xs
+before_back : (test : ℕ → Bool) (xs : List ℕ) (y : ℕ) (ys : List ℕ) → AllByRecursion (λ x. test x ≡ false) xs → test y ≡ true →
+    before_first test (xs ++ y ∷ ys) ≡ xs
 before_back test xs y ys none here = ap (λ n. take n (xs ++ y ∷ ys)) (first_place test xs y ys none here) ∙ take-append_seam xs (y ∷ ys)
 
-after_back : (test : ℕ → Bool) (xs : List ℕ) (y : ℕ) (ys : List ℕ) → AllByRecursion (λ x. test x ≡ false) xs → test y ≡ true → after_first test (xs ++ y ∷ ys) ≡ ys
+after_back : (test : ℕ → Bool) (xs : List ℕ) (y : ℕ) (ys : List ℕ) → AllByRecursion (λ x. test x ≡ false) xs → test y ≡ true →
+    after_first test (xs ++ y ∷ ys) ≡ ys
 after_back test xs y ys none here = ap (λ n. drop (n + 1) (xs ++ y ∷ ys)) (first_place test xs y ys none here) ∙ drop-append-add xs (y ∷ ys) 1
 
 all_append : (P : ℕ → Type 0) (xs ys : List ℕ) → AllByRecursion P xs → AllByRecursion P ys → AllByRecursion P (xs ++ ys)
@@ -183,12 +195,14 @@ abbrev pub IsAddressByte : ℕ → Type 0
 IsAddressByte b = (46 ≤ b) × (b ≤ 57) × (b ≢ 47)
 
 digits_bytes : (n : ℕ) → n < 2 ^ 64 → AllByRecursion IsAddressByte (decimal n)
-digits_bytes n small = all_weaker IsDigit IsAddressByte (λ b is. let low = is.0 in let high = is.1 in (omega arith, omega arith, λ e. omega arith)) (decimal n) (decimal_digits n small).digits
+digits_bytes n small = all_weaker IsDigit IsAddressByte (λ b is. let low = is.0 in let high = is.1 in (omega arith, omega arith, λ e. omega arith)) (decimal n)
+    (decimal_digits n small).digits
 
 is_point : IsAddressByte 46
 is_point = (omega arith, omega arith, λ e. omega arith)
 
-four_bytes : (a b c d : ℕ) → a < 2 ^ 64 → b < 2 ^ 64 → c < 2 ^ 64 → d < 2 ^ 64 → AllByRecursion IsAddressByte (join_with_byte 46 (decimal a ∷ decimal b ∷ decimal c ∷ decimal d ∷ []))
+four_bytes : (a b c d : ℕ) → a < 2 ^ 64 → b < 2 ^ 64 → c < 2 ^ 64 → d < 2 ^ 64 →
+    AllByRecursion IsAddressByte (join_with_byte 46 (decimal a ∷ decimal b ∷ decimal c ∷ decimal d ∷ []))
 four_bytes a b c d ha hb hc hd =
     all_append IsAddressByte (decimal a) _ (digits_bytes a ha) (
       is_point,
@@ -200,7 +214,8 @@ four_bytes a b c d ha hb hc hd =
 
 pub address_bytes : (addr : ℕ) → IsNumber addr → AllByRecursion IsAddressByte (address_text addr)
 unfolding address_text
-address_bytes addr le = four_bytes (addr / 16777216) (addr / 65536 % 256) (addr / 256 % 256) (addr % 256) (omega arith) (omega arith) (omega arith) (omega arith)
+address_bytes addr le = four_bytes (addr / 16777216) (addr / 65536 % 256) (addr / 256 % 256) (addr % 256) (omega arith) (omega arith) (omega arith)
+    (omega arith)
 
 no_slash : (addr : ℕ) → IsNumber addr → AllByRecursion (λ b. is_slash b ≡ false) (address_text addr)
 no_slash addr le = all_weaker IsAddressByte (λ b. is_slash b ≡ false) (λ b is. ne_eqb b 47 is.2) (address_text addr) (address_bytes addr le)
@@ -222,7 +237,8 @@ prefix_back p is =
     (ap (λ q. Some q) (whole_prefix p is.exact))
 
 no_colon : (n : ℕ) → n < 2 ^ 64 → AllByRecursion (λ b. is_colon b ≡ false) (decimal n)
-no_colon n small = all_weaker IsDigit (λ b. is_colon b ≡ false) (λ b is. ne_eqb b 58 (λ e. let high = is.1 in omega arith)) (decimal n) (decimal_digits n small).digits
+no_colon n small = all_weaker IsDigit (λ b. is_colon b ≡ false) (λ b is. ne_eqb b 58 (λ e. let high = is.1 in omega arith)) (decimal n)
+    (decimal_digits n small).digits
 
 has_colon : (xs ys : List ℕ) → list_any is_colon (xs ++ 58 ∷ ys) ≡ true
 has_colon [] ys = refl

@@ -13,7 +13,8 @@ use Rattle.cfg_round_trip.specs.ShortMaps.{HasShortMaps}
 
 -- Lines that are the same but for their numbers give networks that are.
 abbrev pub NumbersAreAside : Type 0
-NumbersAreAside = (ls ms : List TextLine) → map bare_line ls ≡ map bare_line ms → (n : Network) → network_of_lines ls ≡ Ok n → (m : Network) × (network_of_lines ms ≡ Ok m) × (bare m ≡ bare n)
+NumbersAreAside = (ls ms : List TextLine) → map bare_line ls ≡ map bare_line ms → (n : Network) → network_of_lines ls ≡ Ok n →
+    (m : Network) × (network_of_lines ms ≡ Ok m) × (bare m ≡ bare n)
 
 -- a text of at most 1,000,000 lines
 abbrev pub HasFewLines : Network → Notes → Type 0
@@ -32,11 +33,13 @@ pub record IsReadBack (network : Network) (notes : Notes) : Type 0 where
 -- What is printed of a well-formed network is read back, where the text keeps the limits of a text that
 -- is read.
 abbrev pub PrintedIsReadBack : Type 0
-PrintedIsReadBack = (network : Network) (notes : Notes) → IsWellFormed network → AreNotes network notes → HasFewLines network notes → HasShortLines network notes → IsReadBack network notes
+PrintedIsReadBack = (network : Network) (notes : Notes) → IsWellFormed network → AreNotes network notes → HasFewLines network notes →
+    HasShortLines network notes → IsReadBack network notes
 
 -- The lines that are printed of a well-formed network are short if the match lines of its route maps are.
 abbrev pub ShortNamesGiveShortLines : Type 0
-ShortNamesGiveShortLines = (network : Network) (notes : Notes) → IsWellFormed network → AllByRecursion HasShortMaps network.routers → AreNotes network notes → HasShortLines network notes
+ShortNamesGiveShortLines = (network : Network) (notes : Notes) → IsWellFormed network → AllByRecursion HasShortMaps network.routers → AreNotes network notes →
+    HasShortLines network notes
 
 -- The lines that are printed of a network that some text gives are short.
 abbrev pub GivenLinesAreShort : Type 0

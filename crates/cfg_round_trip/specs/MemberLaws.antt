@@ -9,4 +9,5 @@ use Rattle.cfg_round_trip.specs.Notes.{AreNotes}
 
 -- The names that are printed for each router are its members in the text.
 abbrev pub MembersAreReadBack : Type 0
-MembersAreReadBack = (network : Network) (notes : Notes) → IsWellFormed network → AreNotes network notes → members_of_text (printed network notes) ≡ notes.members
+MembersAreReadBack = (network : Network) (notes : Notes) → IsWellFormed network → AreNotes network notes →
+    members_of_text (printed network notes) ≡ notes.members

@@ -53,7 +53,8 @@ none_begun first bytes (row ∷ rows) all none =
     let parts = and_parts (begins_with_one bytes row.words) (all_begin_with bytes rows) all in
     rw (not_begun first bytes row.words parts.0 none) (none_begun first bytes rows parts.1 none)
 
-pub none_narrowed : (letter place first later : ℕ) (bytes : List ℕ) (rows : List Row) → all_begin_with bytes rows ≡ true → IsNone first bytes → narrowed letter place first later rows ≡ []
+pub none_narrowed : (letter place first later : ℕ) (bytes : List ℕ) (rows : List Row) → all_begin_with bytes rows ≡ true → IsNone first bytes →
+    narrowed letter place first later rows ≡ []
 none_narrowed letter place first later bytes rows all none = rw (none_begun first bytes rows all none) (by_cases (first == letter))
   where
     by_cases : (b : Bool) → (if b then going_on place later [] else []) ≡ []
@@ -74,12 +75,14 @@ all_known_at place bytes (row ∷ rows) = (has_no_word (drop place row.words) ||
 abbrev pub short_rows : ℕ → List Row → List Row
 short_rows place rows = filter (λ (r : Row). has_no_word (drop place r.words)) rows
 
-not_going_on : (later : ℕ) (bytes : List ℕ) (head : List (List ℕ)) → (has_no_word head || begins_with_one bytes head) ≡ true → IsNone later bytes → can_begin later head ≡ has_no_word head
+not_going_on : (later : ℕ) (bytes : List ℕ) (head : List (List ℕ)) → (has_no_word head || begins_with_one bytes head) ≡ true → IsNone later bytes →
+    can_begin later head ≡ has_no_word head
 not_going_on later bytes [] known none = refl
 not_going_on later bytes (word ∷ head) known none = not_begun later bytes (word ∷ head) known none
 
 -- a byte that is none of these leaves the rows that have no word at the place
-pub none_going_on : (place later : ℕ) (bytes : List ℕ) (rows : List Row) → all_known_at place bytes rows ≡ true → IsNone later bytes → going_on place later rows ≡ short_rows place rows
+pub none_going_on : (place later : ℕ) (bytes : List ℕ) (rows : List Row) → all_known_at place bytes rows ≡ true → IsNone later bytes →
+    going_on place later rows ≡ short_rows place rows
 none_going_on place later bytes [] all none = refl
 none_going_on place later bytes (row ∷ rows) all none =
     let parts = and_parts (has_no_word (drop place row.words) || begins_with_one bytes (drop place row.words)) (all_known_at place bytes rows) all in

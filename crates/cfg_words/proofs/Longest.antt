@@ -26,7 +26,8 @@ no_word false true number between none = absurd cc
 no_word false false true between none = absurd cc
 no_word false false false between none = refl
 
-other_word : (same any number between rest : Bool) → (same || any || number) ≡ false → (if any then true else (if number then between else same && rest)) ≡ false
+other_word : (same any number between rest : Bool) → (same || any || number) ≡ false →
+    (if any then true else (if number then between else same && rest)) ≡ false
 other_word true any number between rest none = absurd cc
 other_word false true number between rest none = absurd cc
 other_word false false true between rest none = absurd cc
@@ -44,13 +45,15 @@ begins_none [] words none = absurd cc
 begins_none (head_word ∷ head) [] none = refl
 begins_none (head_word ∷ head) (word ∷ words) none = rw (unfit head_word word none) refl
 
-longest_by : (row : Row) (rows : List Row) (words : List (List ℕ)) (keeps : Row → Bool) (b : Bool) → keeps row ≡ b → (keeps row ≡ false → begins row.words words ≡ false)
+longest_by : (row : Row) (rows : List Row) (words : List (List ℕ)) (keeps : Row → Bool) (b : Bool) → keeps row ≡ b →
+    (keeps row ≡ false → begins row.words words ≡ false)
     → longest (filter keeps rows) words ≡ longest rows words → longest (filter keeps (row ∷ rows)) words ≡ longest (row ∷ rows) words
 longest_by row rows words keeps true can none same = rw can (rw same refl)
 longest_by row rows words keeps false can none same = rw (can, none can) same
 
 -- rows that do not begin the line may be left out
-longest_kept : (rows : List Row) (words : List (List ℕ)) (keeps : Row → Bool) → ((r : Row) → keeps r ≡ false → begins r.words words ≡ false) → longest (filter keeps rows) words ≡ longest rows words
+longest_kept : (rows : List Row) (words : List (List ℕ)) (keeps : Row → Bool) → ((r : Row) → keeps r ≡ false → begins r.words words ≡ false) →
+    longest (filter keeps rows) words ≡ longest rows words
 longest_kept [] words keeps none = refl
 longest_kept (row ∷ rows) words keeps none = longest_by row rows words keeps (keeps row) refl (none row) (longest_kept rows words keeps none)
 
@@ -70,17 +73,23 @@ goes_on_none : (place : ℕ) (head words : List (List ℕ)) → can_begin (first
 goes_on_none zero head words none = begins_none head words none
 goes_on_none (suc place) [] words none = absurd cc
 goes_on_none (suc place) (head_word ∷ head) [] none = refl
-goes_on_none (suc place) (head_word ∷ head) (word ∷ words) none = both_none (is_word_for head_word word) (begins head words) (goes_on_none place head words none)
+goes_on_none (suc place) (head_word ∷ head) (word ∷ words) none =
+    both_none (is_word_for head_word word) (begins head words) (goes_on_none place head words none)
 
-longest_going_on : (place : ℕ) (rows : List Row) (words : List (List ℕ)) → longest (going_on place (first_byte (drop place words)) rows) words ≡ longest rows words
-longest_going_on place rows words = longest_kept rows words (λ (r : Row). can_begin (first_byte (drop place words)) (drop place r.words)) (λ r none. goes_on_none place r.words words none)
+longest_going_on : (place : ℕ) (rows : List Row) (words : List (List ℕ)) →
+    longest (going_on place (first_byte (drop place words)) rows) words ≡ longest rows words
+longest_going_on place rows words = longest_kept rows words (λ (r : Row). can_begin (first_byte (drop place words)) (drop place r.words))
+    (λ r none. goes_on_none place r.words words none)
 
 longest_narrowed : (place : ℕ) (b : Bool) (rows : List Row) (words : List (List ℕ))
-    → longest (if b then going_on place (first_byte (drop place words)) (begun_by (first_byte words) rows) else begun_by (first_byte words) rows) words ≡ longest rows words
+    → longest (if b then going_on place (first_byte (drop place words)) (begun_by (first_byte words) rows) else begun_by (first_byte words) rows)
+    words ≡ longest rows words
 longest_narrowed place true rows words = longest_going_on place (begun_by (first_byte words) rows) words ∙ longest_begun rows words
 longest_narrowed place false rows words = longest_begun rows words
 
 -- a class that was found among the rows of a table for the bytes of the line
-pub class_narrowed : (letter place first later : ℕ) (all rows : List Row) (words : List (List ℕ)) (class : Option HeadClass) → class ≡ class_in rows words → rows ≡ narrowed letter place first later all
+pub class_narrowed : (letter place first later : ℕ) (all rows : List Row) (words : List (List ℕ)) (class : Option HeadClass) → class ≡ class_in rows words →
+    rows ≡ narrowed letter place first later all
     → first ≡ first_byte words → later ≡ first_byte (drop place words) → class ≡ class_in all words
-class_narrowed letter place first later all rows words class found narrow one other = rw (found, narrow, one, other, longest_narrowed place (first_byte words == letter) all words) refl
+class_narrowed letter place first later all rows words class found narrow one other =
+    rw (found, narrow, one, other, longest_narrowed place (first_byte words == letter) all words) refl

@@ -25,7 +25,8 @@ none_at : (g n : ℕ) (ls : List QLink) → not (nat_eq (length (filter (is_at g
 none_at g n [] = refl
 none_at g n (l ∷ ls) = step (none_at g (n + 1) ls) (touches g l) where
   step : not (nat_eq (length (filter (is_at g) (enumerate_from (n + 1) ls))) 0) ≡ list_any (touches g) ls → (b : Bool)
-      → not (nat_eq (length (cond b ((n, l) ∷ filter (is_at g) (enumerate_from (n + 1) ls)) (filter (is_at g) (enumerate_from (n + 1) ls)))) 0) ≡ (b || list_any (touches g) ls)
+      → not (nat_eq (length (cond b ((n, l) ∷ filter (is_at g) (enumerate_from (n + 1) ls)) (filter (is_at g) (enumerate_from (n + 1) ls)))) 0) ≡ (b
+      || list_any (touches g) ls)
   step later true = some_more (length (filter (is_at g) (enumerate_from (n + 1) ls)))
   step later false = later
 
@@ -49,9 +50,10 @@ pub first_is_among : (numbers groups : List ℕ) (g : ℕ) → first_among numbe
 unfolding first_number
 first_is_among [] groups g = all_zero (members_of groups g)
 first_is_among (n ∷ ns) [] g = refl
-first_is_among (n ∷ ns) (x ∷ xs) g = ap (first_among (n ∷ ns)) (members_cons x xs g) ∙ step (shifted n ns (members_of xs g) ∙ first_is_among ns xs g) (nat_eq x g) (nat_eq n 0) refl where
-  step : first_among (n ∷ ns) (map suc (members_of xs g)) ≡ first_number ns xs g → (b c : Bool) → nat_eq n 0 ≡ c
-      → first_among (n ∷ ns) (cond b (0 ∷ map suc (members_of xs g)) (map suc (members_of xs g))) ≡ cond (b && not c) n (first_number ns xs g)
-  step later false c e = later
-  step later true true e = ap (λ d. cond d (first_among (n ∷ ns) (map suc (members_of xs g))) n) e ∙ later
-  step later true false e = ap (λ d. cond d (first_among (n ∷ ns) (map suc (members_of xs g))) n) e
+first_is_among (n ∷ ns) (x ∷ xs) g = ap (first_among (n ∷ ns)) (members_cons x xs g)
+    ∙ step (shifted n ns (members_of xs g) ∙ first_is_among ns xs g) (nat_eq x g) (nat_eq n 0) refl where
+      step : first_among (n ∷ ns) (map suc (members_of xs g)) ≡ first_number ns xs g → (b c : Bool) → nat_eq n 0 ≡ c
+          → first_among (n ∷ ns) (cond b (0 ∷ map suc (members_of xs g)) (map suc (members_of xs g))) ≡ cond (b && not c) n (first_number ns xs g)
+      step later false c e = later
+      step later true true e = ap (λ d. cond d (first_among (n ∷ ns) (map suc (members_of xs g))) n) e ∙ later
+      step later true false e = ap (λ d. cond d (first_among (n ∷ ns) (map suc (members_of xs g))) n) e

@@ -35,7 +35,8 @@ number_self n = grind (arith, nat_tests)
 position_ext : (p q : Plain → Bool) (xs : List Plain) → ((x : Plain) → p x ≡ q x) → position_or_len p xs ≡ position_or_len q xs
 position_ext p q [] same = refl
 position_ext p q (x ∷ xs) same =
-    position_cons p x xs ∙ ap (λ b. cond b 0 (suc (position_or_len p xs))) (same x) ∙ ap (λ n. cond (q x) 0 (suc n)) (position_ext p q xs same) ∙ sym (position_cons q x xs)
+    position_cons p x xs ∙ ap (λ b. cond b 0 (suc (position_or_len p xs))) (same x) ∙ ap (λ n. cond (q x) 0 (suc n)) (position_ext p q xs same)
+    ∙ sym (position_cons q x xs)
 
 record Stands (p : Plain → Bool) (xs : List Plain) : Type 0 where
   item : Plain
@@ -46,13 +47,26 @@ stands : (p : Plain → Bool) (xs : List Plain) → list_any p xs ≡ true → S
 stands p [] e = absurd cc
 stands p (x ∷ xs) e = step (stands p xs) (p x) refl e where
   step : (list_any p xs ≡ true → Stands p xs) → (b : Bool) → p x ≡ b → (b || list_any p xs) ≡ true → Stands p (x ∷ xs)
-  step later true is any = record { item = x; at = ap (slice_get (x ∷ xs)) (position_cons p x xs ∙ ap (λ b. cond b 0 (suc (position_or_len p xs))) is); passes = is }
-  step later false is any = let s = later any in record { item = s.item; at = ap (slice_get (x ∷ xs)) (position_cons p x xs ∙ ap (λ b. cond b 0 (suc (position_or_len p xs))) is) ∙ s.at; passes = s.passes }
+  step later true is any = record {
+    item = x;
+    at = ap (slice_get (x ∷ xs)) (position_cons p x xs ∙ ap (λ b. cond b 0 (suc (position_or_len p xs))) is);
+    passes =
+        is;
+  }
+  step later false is any = let s = later any in
+      record {
+        item = s.item;
+        at = ap (slice_get (x ∷ xs)) (position_cons p x xs ∙ ap (λ b. cond b 0 (suc (position_or_len p xs))) is) ∙ s.at;
+        passes =
+            s.passes;
+      }
 
-numbers_tell : (known : List Plain) (m n : Plain) → list_any (same_map m) known ≡ true → list_any (same_map n) known ≡ true → nat_eq (number_of known m) (number_of known n) ≡ same_map m n
+numbers_tell : (known : List Plain) (m n : Plain) → list_any (same_map m) known ≡ true → list_any (same_map n) known ≡ true →
+    nat_eq (number_of known m) (number_of known n) ≡ same_map m n
 numbers_tell known m n has_m has_n = step (same_map m n) (nat_eq (number_of known m) (number_of known n)) refl refl where
   step : (a b : Bool) → same_map m n ≡ a → nat_eq (number_of known m) (number_of known n) ≡ b → b ≡ a
-  step true b e f = sym f ∙ ap (nat_eq (number_of known m)) (sym (position_ext (same_map m) (same_map n) known (λ k. same_as m n k e))) ∙ number_self (number_of known m)
+  step true b e f = sym f ∙ ap (nat_eq (number_of known m)) (sym (position_ext (same_map m) (same_map n) known (λ k. same_as m n k e)))
+      ∙ number_self (number_of known m)
   step false false e f = refl
   step false true e f =
       let x = stands (same_map m) known has_m in
@@ -83,14 +97,18 @@ or_false : (a : Bool) → (a || false) ≡ a
 or_false true = refl
 or_false false = refl
 
-firsts_used : (known us seen ms : List Plain) → ((k : Plain) → list_any (same_map k) seen ≡ list_any (same_map k) us) → ((u : Plain) → In us u → list_any (same_map u) known ≡ true) → ((m : Plain) → In ms m → list_any (same_map m) known ≡ true)
+firsts_used : (known us seen ms : List Plain) → ((k : Plain) → list_any (same_map k) seen ≡ list_any (same_map k) us) →
+    ((u : Plain) → In us u → list_any (same_map u) known ≡ true) → ((m : Plain) → In ms m → list_any (same_map m) known ≡ true)
     → with_uses (map (use_of known) ms) (map (use_of known) us) ≡ map (use_of known) (us ++ firsts seen ms)
 firsts_used known us seen [] same old new = ap (map (use_of known)) (sym (no_more us))
 firsts_used known us seen (m ∷ ms) same old new =
-    ap (λ b. with_uses (map (use_of known) ms) (cond b (map (use_of known) us) (map (use_of known) us ++ use_of known m ∷ []))) (any_uses known us m (new m (inl refl)) old ∙ sym (same m))
-    ∙ step (firsts_used known us seen ms same old (λ k at. new k (inr at))) (firsts_used known (us ++ m ∷ []) (m ∷ seen) ms same_more old_more (λ k at. new k (inr at))) (list_any (same_map m) seen) where
+    ap (λ b. with_uses (map (use_of known) ms) (cond b (map (use_of known) us) (map (use_of known) us ++ use_of known m ∷ [])))
+    (any_uses known us m (new m (inl refl)) old ∙ sym (same m))
+    ∙ step (firsts_used known us seen ms same old (λ k at. new k (inr at)))
+    (firsts_used known (us ++ m ∷ []) (m ∷ seen) ms same_more old_more (λ k at. new k (inr at))) (list_any (same_map m) seen) where
       same_more : (k : Plain) → list_any (same_map k) (m ∷ seen) ≡ list_any (same_map k) (us ++ m ∷ [])
-      same_more k = ap (λ b. same_map k m || b) (same k) ∙ or_turned (same_map k m) (list_any (same_map k) us) ∙ ap (λ b. list_any (same_map k) us || b) (sym (or_false (same_map k m))) ∙ sym (list_any-append (same_map k) us (m ∷ []))
+      same_more k = ap (λ b. same_map k m || b) (same k) ∙ or_turned (same_map k m) (list_any (same_map k) us)
+          ∙ ap (λ b. list_any (same_map k) us || b) (sym (or_false (same_map k m))) ∙ sym (list_any-append (same_map k) us (m ∷ []))
 
       old_more : (u : Plain) → In (us ++ m ∷ []) u → list_any (same_map u) known ≡ true
       old_more u at = elim (append_in us (m ∷ []) u at) [
@@ -101,17 +119,21 @@ firsts_used known us seen (m ∷ ms) same old new =
 
       step : with_uses (map (use_of known) ms) (map (use_of known) us) ≡ map (use_of known) (us ++ firsts seen ms)
           → with_uses (map (use_of known) ms) (map (use_of known) (us ++ m ∷ [])) ≡ map (use_of known) ((us ++ m ∷ []) ++ firsts (m ∷ seen) ms)
-          → (b : Bool) → with_uses (map (use_of known) ms) (cond b (map (use_of known) us) (map (use_of known) us ++ use_of known m ∷ [])) ≡ map (use_of known) (us ++ cond b (firsts seen ms) (m ∷ firsts (m ∷ seen) ms))
+          → (b : Bool) → with_uses (map (use_of known) ms) (cond b (map (use_of known) us) (map (use_of known) us ++ use_of known m ∷ [])) ≡ map (use_of known)
+          (us ++ cond b (firsts seen ms) (m ∷ firsts (m ∷ seen) ms))
       step one two true = one
-      step one two false = ap (with_uses (map (use_of known) ms)) (sym (map-append (use_of known) us (m ∷ []))) ∙ two ∙ ap (map (use_of known)) (append_assoc us (m ∷ []) (firsts (m ∷ seen) ms))
+      step one two false = ap (with_uses (map (use_of known) ms)) (sym (map-append (use_of known) us (m ∷ []))) ∙ two
+          ∙ ap (map (use_of known)) (append_assoc us (m ∷ []) (firsts (m ∷ seen) ms))
 
-pub uses_by_first : (known ms : List Plain) → ((m : Plain) → In ms m → list_any (same_map m) known ≡ true) → with_uses (map (use_of known) ms) [] ≡ map (use_of known) (firsts [] ms)
+pub uses_by_first : (known ms : List Plain) → ((m : Plain) → In ms m → list_any (same_map m) known ≡ true) →
+    with_uses (map (use_of known) ms) [] ≡ map (use_of known) (firsts [] ms)
 uses_by_first known ms all = firsts_used known [] [] ms (λ k. refl) (λ u at. absurd at) all
 
 pub firsts_in : (seen ms : List Plain) (m : Plain) → In (firsts seen ms) m → In ms m
 firsts_in seen [] m at = at
 firsts_in seen (x ∷ ms) m at = step (firsts_in seen ms m) (firsts_in (x ∷ seen) ms m) (list_any (same_map x) seen) at where
-  step : (In (firsts seen ms) m → In ms m) → (In (firsts (x ∷ seen) ms) m → In ms m) → (b : Bool) → In (cond b (firsts seen ms) (x ∷ firsts (x ∷ seen) ms)) m → In (x ∷ ms) m
+  step : (In (firsts seen ms) m → In ms m) → (In (firsts (x ∷ seen) ms) m → In ms m) → (b : Bool) → In (cond b (firsts seen ms) (x ∷ firsts (x ∷ seen) ms)) m →
+      In (x ∷ ms) m
   step one two true here = inr (one here)
   step one two false (inl here) = inl here
   step one two false (inr later) = inr (two later)
@@ -122,13 +144,15 @@ place_used : (known us : List Plain) (m : Plain) (n : ℕ) → list_any (same_ma
     → place_from (has_number (number_of known m)) n (map (use_of known) us) ≡ place_from (same_map m) n us
 place_used known [] m n has all = refl
 place_used known (u ∷ us) m n has all =
-    ap (λ b. cond b (Some n) (place_from (has_number (number_of known m)) (n + 1) (map (use_of known) us))) (numbers_tell known u m (all u (inl refl)) has ∙ same_turned u m)
+    ap (λ b. cond b (Some n) (place_from (has_number (number_of known m)) (n + 1) (map (use_of known) us)))
+    (numbers_tell known u m (all u (inl refl)) has ∙ same_turned u m)
     ∙ ap (cond (same_map m u) (Some n)) (place_used known us m (n + 1) has (λ v at. all v (inr at)))
 
 position_none : (p : Plain → Bool) (xs : List Plain) → list_any p xs ≡ false → position_or_len p xs ≡ length xs
 position_none p [] e = refl
 position_none p (x ∷ xs) e = position_cons p x xs ∙ step (position_none p xs) (p x) e where
-  step : (list_any p xs ≡ false → position_or_len p xs ≡ length xs) → (b : Bool) → (b || list_any p xs) ≡ false → cond b 0 (suc (position_or_len p xs)) ≡ suc (length xs)
+  step : (list_any p xs ≡ false → position_or_len p xs ≡ length xs) → (b : Bool) → (b || list_any p xs) ≡ false →
+      cond b 0 (suc (position_or_len p xs)) ≡ suc (length xs)
   step later true any = absurd cc
   step later false any = ap suc (later any)
 
@@ -145,13 +169,16 @@ use_name_is known us m has all = ap (λ k. named (map_name k)) (
     ∙ ap (λ n. unwrap_or (place_from (same_map m) 1 us) (n + 1)) (length-map us (use_of known))
     ∙ place_is (same_map m) us)
 
-pub name_is_used : (known us : List Plain) (m : Plain) → IsKnown known m → ((u : Plain) → In us u → list_any (same_map u) known ≡ true) → option_map (use_name (map (use_of known) us)) (map_number known m) ≡ name_of_map us (Some m)
+pub name_is_used : (known us : List Plain) (m : Plain) → IsKnown known m → ((u : Plain) → In us u → list_any (same_map u) known ≡ true) →
+    option_map (use_name (map (use_of known) us)) (map_number known m) ≡ name_of_map us (Some m)
 name_is_used known us m is all = step (is_whole m.entries) refl where
-  step : (b : Bool) → is_whole m.entries ≡ b → option_map (use_name (map (use_of known) us)) (cond b None (Some (number_of known m))) ≡ cond b None (Some (named (map_name (number_of_map us m))))
+  step : (b : Bool) → is_whole m.entries ≡ b →
+      option_map (use_name (map (use_of known) us)) (cond b None (Some (number_of known m))) ≡ cond b None (Some (named (map_name (number_of_map us m))))
   step true e = refl
   step false e = ap (λ n. Some n) (use_name_is known us m (is.known e) all)
 
-pub out_name_is_used : (known us : List Plain) (o : Option Plain) → ((m : Plain) → o ≡ Some m → IsKnown known m) → ((u : Plain) → In us u → list_any (same_map u) known ≡ true)
+pub out_name_is_used : (known us : List Plain) (o : Option Plain) → ((m : Plain) → o ≡ Some m → IsKnown known m) →
+    ((u : Plain) → In us u → list_any (same_map u) known ≡ true)
     → option_map (use_name (map (use_of known) us)) (option_and_then (map_number known) o) ≡ name_of_map us o
 out_name_is_used known us None is all = refl
 out_name_is_used known us (Some m) is all = name_is_used known us m (is m refl) all
@@ -181,28 +208,37 @@ other_touches g l = step (nat_eq l.low g) where
   step true = or_true (nat_eq l.low l.high) (nat_eq l.high l.high) (number_self l.high)
   step false = any_or (nat_eq l.low l.low) (nat_eq l.high l.low) (number_self l.low)
 
-pub end_is : (e : Plan) (g t : ℕ) (l : QLink) → touches g l ≡ true → act_into_end e.problem.acts g (act_link e.problem.protocol e.problem.edges e.links (t, l)) ≡ act_into e g l
+pub end_is : (e : Plan) (g t : ℕ) (l : QLink) → touches g l ≡ true →
+    act_into_end e.problem.acts g (act_link e.problem.protocol e.problem.edges e.links (t, l)) ≡ act_into e g l
 end_is e g t l at = sym (act_same e g t l at)
 
-uses_at : (e : Plan) (known : List Plain) (g t : ℕ) (l : QLink) → touches g l ≡ true → uses_on known e.problem.acts g (act_link e.problem.protocol e.problem.edges e.links (t, l)) ≡ map (use_of known) (maps_at e g l)
+uses_at : (e : Plan) (known : List Plain) (g t : ℕ) (l : QLink) → touches g l ≡ true →
+    uses_on known e.problem.acts g (act_link e.problem.protocol e.problem.edges e.links (t, l)) ≡ map (use_of known) (maps_at e g l)
 uses_at e known g t l at =
     let x = act_link e.problem.protocol e.problem.edges e.links (t, l) in
     let far = act_into_end e.problem.acts (other_end g l) x in
-    ap (λ o. listed_use (map_number known (act_in_map o)) (Some (act_in_map o)) ++ listed_use (option_and_then (map_number known) (act_out_map far)) (act_out_map far)) (end_is e g t l at)
-    ∙ ap (λ o. listed_use (map_number known (act_in_map (act_into e g l))) (Some (act_in_map (act_into e g l))) ++ listed_use (option_and_then (map_number known) (act_out_map o)) (act_out_map o)) (end_is e (other_end g l) t l (other_touches g l))
-    ∙ ap (λ us. us ++ listed_use (option_and_then (map_number known) (act_out_map (act_into e (other_end g l) l))) (act_out_map (act_into e (other_end g l) l))) (listed_same known (act_in_map (act_into e g l)))
+    ap (λ o. listed_use (map_number known (act_in_map o)) (Some (act_in_map o))
+    ++ listed_use (option_and_then (map_number known) (act_out_map far)) (act_out_map far)) (end_is e g t l at)
+    ∙ ap (λ o. listed_use (map_number known (act_in_map (act_into e g l))) (Some (act_in_map (act_into e g l)))
+    ++ listed_use (option_and_then (map_number known) (act_out_map o)) (act_out_map o)) (end_is e (other_end g l) t l (other_touches g l))
+    ∙ ap (λ us. us ++ listed_use (option_and_then (map_number known) (act_out_map (act_into e (other_end g l) l))) (act_out_map (act_into e (other_end g l) l)))
+    (listed_same known (act_in_map (act_into e g l)))
     ∙ ap (λ us. map (use_of known) (if_written (Some (act_in_map (act_into e g l)))) ++ us) (out_same known (act_out_map (act_into e (other_end g l) l)))
     ∙ sym (map-append (use_of known) (if_written (Some (act_in_map (act_into e g l)))) (if_written (act_out_map (act_into e (other_end g l) l))))
 
 pub all_uses : (e : Plan) (known : List Plain) (g n : ℕ) (ls : List QLink)
-    → flat_map (uses_on known e.problem.acts g) (map (act_link e.problem.protocol e.problem.edges e.links) (filter (is_at g) (enumerate_from n ls))) ≡ map (use_of known) (flat_map (maps_at e g) (filter (touches g) ls))
+    → flat_map (uses_on known e.problem.acts g) (map (act_link e.problem.protocol e.problem.edges e.links) (filter (is_at g) (enumerate_from n ls))) ≡ map
+    (use_of known) (flat_map (maps_at e g) (filter (touches g) ls))
 all_uses e known g n [] = refl
 all_uses e known g n (l ∷ ls) = step (all_uses e known g (n + 1) ls) (touches g l) refl where
   draw : ℕ × QLink → ActLink
   draw = act_link e.problem.protocol e.problem.edges e.links
 
-  step : flat_map (uses_on known e.problem.acts g) (map draw (filter (is_at g) (enumerate_from (n + 1) ls))) ≡ map (use_of known) (flat_map (maps_at e g) (filter (touches g) ls)) → (b : Bool) → touches g l ≡ b
-      → flat_map (uses_on known e.problem.acts g) (map draw (cond b ((n, l) ∷ filter (is_at g) (enumerate_from (n + 1) ls)) (filter (is_at g) (enumerate_from (n + 1) ls)))) ≡ map (use_of known) (flat_map (maps_at e g) (cond b (l ∷ filter (touches g) ls) (filter (touches g) ls)))
+  step : flat_map (uses_on known e.problem.acts g) (map draw (filter (is_at g) (enumerate_from (n + 1) ls))) ≡ map (use_of known)
+      (flat_map (maps_at e g) (filter (touches g) ls)) → (b : Bool) → touches g l ≡ b
+      → flat_map (uses_on known e.problem.acts g)
+      (map draw (cond b ((n, l) ∷ filter (is_at g) (enumerate_from (n + 1) ls)) (filter (is_at g) (enumerate_from (n + 1) ls)))) ≡ map (use_of known)
+      (flat_map (maps_at e g) (cond b (l ∷ filter (touches g) ls) (filter (touches g) ls)))
   step later false at = later
   step later true at =
       ap (λ us. us ++ flat_map (uses_on known e.problem.acts g) (map draw (filter (is_at g) (enumerate_from (n + 1) ls)))) (uses_at e known g n l at)
@@ -219,14 +255,16 @@ by_in (a ∷ acts) (suc k) = elim (by_in acts k) [ inl at ↦ inl (inr at) | inr
 closed_is_known : (known : List Plain) (closed : ℕ) → KnowsClosed known closed → IsKnown known closed_map
 closed_is_known known closed is = record { known = λ _. is.any }
 
-pub knows_into : (known : List Plain) (acts : List Act) (numbers : List ActMaps) (closed : ℕ) → AreKnown known acts numbers → KnowsClosed known closed → (p : Option ℕ) → IsKnown known (act_in_map (option_map (act_by acts) p))
+pub knows_into : (known : List Plain) (acts : List Act) (numbers : List ActMaps) (closed : ℕ) → AreKnown known acts numbers → KnowsClosed known closed →
+    (p : Option ℕ) → IsKnown known (act_in_map (option_map (act_by acts) p))
 knows_into known acts numbers closed are is None = closed_is_known known closed is
 knows_into known acts numbers closed are is (Some k) = elim (by_in acts k) [
   | inl at ↦ (are.known (act_by acts k) (contains_in acts (act_by acts k) at)).into
   | inr none ↦ subst (λ a. IsKnown known (act_in_map (Some a))) (sym none) (closed_is_known known closed is)
 ]
 
-pub knows_out : (known : List Plain) (acts : List Act) (numbers : List ActMaps) → AreKnown known acts numbers → (p : Option ℕ) (m : Plain) → act_out_map (option_map (act_by acts) p) ≡ Some m → IsKnown known m
+pub knows_out : (known : List Plain) (acts : List Act) (numbers : List ActMaps) → AreKnown known acts numbers → (p : Option ℕ) (m : Plain) →
+    act_out_map (option_map (act_by acts) p) ≡ Some m → IsKnown known m
 knows_out known acts numbers are None m e = absurd (let none : None ≡ Some m = e in cc)
 knows_out known acts numbers are (Some k) m e = elim (by_in acts k) [
   | inl at ↦ (are.known (act_by acts k) (contains_in acts (act_by acts k) at)).out m e
@@ -241,7 +279,8 @@ written_in (Some x) m at = step (is_whole x.entries) refl at where
   step false e (inl same) = (ap (λ y. Some y) same, ap (λ (y : Plain). is_whole y.entries) (sym same) ∙ e)
   step false e (inr none) = absurd none
 
-pub uses_known : (e : Plan) (known : List Plain) (numbers : List ActMaps) (closed : ℕ) (g : ℕ) → AreKnown known e.problem.acts numbers → KnowsClosed known closed → (m : Plain) → In (flat_map (maps_at e g) (filter (touches g) e.links)) m → list_any (same_map m) known ≡ true
+pub uses_known : (e : Plan) (known : List Plain) (numbers : List ActMaps) (closed : ℕ) (g : ℕ) → AreKnown known e.problem.acts numbers →
+    KnowsClosed known closed → (m : Plain) → In (flat_map (maps_at e g) (filter (touches g) e.links)) m → list_any (same_map m) known ≡ true
 uses_known e known numbers closed g are is m at =
     let at_link = flat_map_in (maps_at e g) (filter (touches g) e.links) m at in
     let l = at_link.0 in

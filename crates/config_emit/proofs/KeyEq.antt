@@ -25,13 +25,15 @@ use Rattle.config_emit.proofs.ListSteps.{both, same_numbers}
 
 -- ---- a test through a function
 
-items_same : {X Y : Type 0} (p : X → X → Bool) (q : Y → Y → Bool) (f : X → Y) → ((x y : X) → p x y ≡ q (f x) (f y)) → (xs ys : List X) → same_items p xs ys ≡ same_items q (map f xs) (map f ys)
+items_same : {X Y : Type 0} (p : X → X → Bool) (q : Y → Y → Bool) (f : X → Y) → ((x y : X) → p x y ≡ q (f x) (f y)) → (xs ys : List X) →
+    same_items p xs ys ≡ same_items q (map f xs) (map f ys)
 items_same p q f same [] [] = refl
 items_same p q f same [] (y ∷ ys) = refl
 items_same p q f same (x ∷ xs) [] = refl
 items_same p q f same (x ∷ xs) (y ∷ ys) = ap (λ b. b && same_items p xs ys) (same x y) ∙ ap (λ b. q (f x) (f y) && b) (items_same p q f same xs ys)
 
-option_same : {X Y : Type 0} (p : X → X → Bool) (q : Y → Y → Bool) (f : X → Y) → ((x y : X) → p x y ≡ q (f x) (f y)) → (a b : Option X) → option_eq p a b ≡ option_eq q (option_map f a) (option_map f b)
+option_same : {X Y : Type 0} (p : X → X → Bool) (q : Y → Y → Bool) (f : X → Y) → ((x y : X) → p x y ≡ q (f x) (f y)) → (a b : Option X) →
+    option_eq p a b ≡ option_eq q (option_map f a) (option_map f b)
 option_same p q f same None None = refl
 option_same p q f same None (Some y) = refl
 option_same p q f same (Some x) None = refl
@@ -58,14 +60,18 @@ entries_same a b =
     let head : Bool → Bool = λ r. nat_eq a.seq b.seq && (beq a.permit b.permit && (beq a.exact b.exact && r)) in
     let list = λ (x y : Vec LineKey). same_items (line_eq.ghosts).eq x.items y.items in
     let one = λ (x y : Vec LineKey). items_same (line_eq.ghosts).eq is_line line_shown lines_same x.items y.items in
-    let lists = option_same (λ (x y : Vec (Vec LineKey)). same_items list x.items y.items) (same_items is_list) lists_shown (λ x y. items_same list is_list list_shown one x.items y.items) a.lists b.lists in
+    let lists = option_same (λ (x y : Vec (Vec LineKey)). same_items list x.items y.items) (same_items is_list) lists_shown
+    (λ x y. items_same list is_list list_shown one x.items y.items) a.lists b.lists in
     let change = option_same (change_eq.ghosts).eq same_change change_shown changes_same a.change b.change in
     let delete = option_same list is_list list_shown one a.delete b.delete in
     let shown_a = entry_shown a in
     let shown_b = entry_shown b in
-    ap (λ x. head (x && (option_eq nat_eq a.lp b.lp && (option_eq (change_eq.ghosts).eq a.change b.change && (option_eq list a.delete b.delete && nat_eq a.adds b.adds))))) lists
-    ∙ ap (λ x. head (option_eq (same_items is_list) shown_a.lists shown_b.lists && (option_eq nat_eq a.lp b.lp && (x && (option_eq list a.delete b.delete && nat_eq a.adds b.adds))))) change
-    ∙ ap (λ x. head (option_eq (same_items is_list) shown_a.lists shown_b.lists && (option_eq nat_eq a.lp b.lp && (option_eq same_change shown_a.change shown_b.change && (x && nat_eq a.adds b.adds))))) delete
+    ap (λ x. head (x && (option_eq nat_eq a.lp b.lp
+    && (option_eq (change_eq.ghosts).eq a.change b.change && (option_eq list a.delete b.delete && nat_eq a.adds b.adds))))) lists
+    ∙ ap (λ x. head (option_eq (same_items is_list) shown_a.lists shown_b.lists
+    && (option_eq nat_eq a.lp b.lp && (x && (option_eq list a.delete b.delete && nat_eq a.adds b.adds))))) change
+    ∙ ap (λ x. head (option_eq (same_items is_list) shown_a.lists shown_b.lists
+    && (option_eq nat_eq a.lp b.lp && (option_eq same_change shown_a.change shown_b.change && (x && nat_eq a.adds b.adds))))) delete
 
 pub keys_same : (a b : Vec EntryKey) → same_keys a b ≡ is_map (shown a) (shown b)
 keys_same a b = items_same (entry_eq.ghosts).eq is_entry entry_shown entries_same a.items b.items
@@ -83,18 +89,23 @@ never : (a r : Bool) → (a && (false && r)) ≡ false
 never true r = refl
 never false r = refl
 
-said_matches : (e f : Bool) (xs ys : Option (List CommunityList)) (r : Bool) → (same_match e f xs ys && r) ≡ (beq (is_some xs && e) (is_some ys && f) && (option_eq (same_items is_list) (option_map lists_said xs) (option_map lists_said ys) && r))
+said_matches : (e f : Bool) (xs ys : Option (List CommunityList)) (r : Bool) →
+    (same_match e f xs ys && r) ≡ (beq (is_some xs && e) (is_some ys && f)
+    && (option_eq (same_items is_list) (option_map lists_said xs) (option_map lists_said ys) && r))
 said_matches e f None None r = refl
 said_matches e f None (Some ys) r = sym (never (beq false f) r)
 said_matches e f (Some xs) None r = sym (never (beq e false) r)
-said_matches e f (Some xs) (Some ys) r = assoc (beq e f) (same_items same_list xs ys) r ∙ ap (λ b. beq e f && (b && r)) (items_same same_list is_list list_said said_lines xs ys)
+said_matches e f (Some xs) (Some ys) r = assoc (beq e f) (same_items same_list xs ys) r
+    ∙ ap (λ b. beq e f && (b && r)) (items_same same_list is_list list_said said_lines xs ys)
 
 said_entries : (a b : PlainEntry) → same_entry a b ≡ is_entry (entry_said a) (entry_said b)
 said_entries a b =
     let rest = λ (d : Bool). option_eq nat_eq a.lp b.lp && (option_eq same_change a.change b.change && (d && nat_eq a.adds b.adds)) in
     let delete = option_same same_list is_list list_said said_lines a.delete b.delete in
     ap (λ b'. nat_eq a.seq b.seq && (beq a.permit b.permit && b')) (said_matches a.exact b.exact a.lists b.lists (rest (option_eq same_list a.delete b.delete)))
-    ∙ ap (λ d. nat_eq a.seq b.seq && (beq a.permit b.permit && (beq (is_some a.lists && a.exact) (is_some b.lists && b.exact) && (option_eq (same_items is_list) (option_map lists_said a.lists) (option_map lists_said b.lists) && rest d)))) delete
+    ∙ ap (λ d. nat_eq a.seq b.seq && (beq a.permit b.permit
+    && (beq (is_some a.lists && a.exact) (is_some b.lists && b.exact)
+    && (option_eq (same_items is_list) (option_map lists_said a.lists) (option_map lists_said b.lists) && rest d)))) delete
 
 pub said_maps : (a b : Plain) → same_map a b ≡ is_map (said a) (said b)
 unfolding same_map
@@ -123,7 +134,8 @@ bytes_tell = items_tell nat_eq numbers_tell
 
 lines_tell : Tells is_line
 lines_tell = record {
-  one = λ a b e. let parts = both (beq a.0 b.0) (bytes_eq a.1 b.1) e in ap (λ p. (p, a.1)) (beq_one a.0 b.0 parts.0) ∙ ap (λ cs. (b.0, cs)) (bytes_tell.one a.1 b.1 parts.1);
+  one = λ a b e. let parts = both (beq a.0 b.0) (bytes_eq a.1 b.1) e in ap (λ p. (p, a.1)) (beq_one a.0 b.0 parts.0)
+      ∙ ap (λ cs. (b.0, cs)) (bytes_tell.one a.1 b.1 parts.1);
   self = λ a. ap (λ b. b && bytes_eq a.1 a.1) (beq_self a.0) ∙ bytes_tell.self a.1;
 }
 
@@ -160,7 +172,8 @@ changes_tell : Tells same_change
 changes_tell = record { one = change_one; self = change_self }
 
 made : ℕ → Bool → Bool → Option (List (List LineSaid)) → Option ℕ → Option Change → Option (List LineSaid) → ℕ → EntrySaid
-made seq permit exact lists lp change delete adds = record { seq = seq; permit = permit; exact = exact; lists = lists; lp = lp; change = change; delete = delete; adds = adds }
+made seq permit exact lists lp change delete adds =
+    record { seq = seq; permit = permit; exact = exact; lists = lists; lp = lp; change = change; delete = delete; adds = adds }
 
 entry_one : (a b : EntrySaid) → is_entry a b ≡ true → a ≡ b
 unfolding made
@@ -175,7 +188,8 @@ entry_one a b e =
     ap (λ n. made n a.permit a.exact a.lists a.lp a.change a.delete a.adds) (numbers_tell.one a.seq b.seq p1.0)
     ∙ ap (λ p. made b.seq p a.exact a.lists a.lp a.change a.delete a.adds) (beq_one a.permit b.permit p2.0)
     ∙ ap (λ x. made b.seq b.permit x a.lists a.lp a.change a.delete a.adds) (beq_one a.exact b.exact p3.0)
-    ∙ ap (λ ls. made b.seq b.permit b.exact ls a.lp a.change a.delete a.adds) (option_one (same_items is_list) (items_tell is_list lists_tell) a.lists b.lists p4.0)
+    ∙ ap (λ ls. made b.seq b.permit b.exact ls a.lp a.change a.delete a.adds)
+    (option_one (same_items is_list) (items_tell is_list lists_tell) a.lists b.lists p4.0)
     ∙ ap (λ l. made b.seq b.permit b.exact b.lists l a.change a.delete a.adds) (option_one nat_eq numbers_tell a.lp b.lp p5.0)
     ∙ ap (λ c. made b.seq b.permit b.exact b.lists b.lp c a.delete a.adds) (option_one same_change changes_tell a.change b.change p6.0)
     ∙ ap (λ d. made b.seq b.permit b.exact b.lists b.lp b.change d a.adds) (option_one is_list lists_tell a.delete b.delete p7.0)

@@ -38,13 +38,15 @@ pub any_with : (m : Plain) (old new : List Plain) → new ≡ with_map m old →
 any_with m old new e = step (list_any (same_map m) old) refl e where
   step : (b : Bool) → list_any (same_map m) old ≡ b → new ≡ cond b old (old ++ m ∷ []) → list_any (same_map m) new ≡ true
   step true any is = ap (list_any (same_map m)) is ∙ any
-  step false any is = ap (list_any (same_map m)) is ∙ list_any-append (same_map m) old (m ∷ []) ∙ or_true (list_any (same_map m) old) (list_any (same_map m) (m ∷ [])) (any_or (same_map m m) false (same_self m))
+  step false any is = ap (list_any (same_map m)) is ∙ list_any-append (same_map m) old (m ∷ [])
+      ∙ or_true (list_any (same_map m) old) (list_any (same_map m) (m ∷ [])) (any_or (same_map m m) false (same_self m))
 
 pub known_with : (m : Plain) (old new : List Plain) → new ≡ with_map m old → IsKnown new m
 known_with m old new e = record { known = λ _. any_with m old new e }
 
 any_kept : (m : Plain) (old new : List Plain) → list_any (same_map m) old ≡ true → IsGrown old new → list_any (same_map m) new ≡ true
-any_kept m old new any grown = ap (list_any (same_map m)) grown.is ∙ list_any-append (same_map m) old grown.more ∙ any_or (list_any (same_map m) old) (list_any (same_map m) grown.more) any
+any_kept m old new any grown = ap (list_any (same_map m)) grown.is ∙ list_any-append (same_map m) old grown.more
+    ∙ any_or (list_any (same_map m) old) (list_any (same_map m) grown.more) any
 
 known_kept : (m : Plain) (old new : List Plain) → IsKnown old m → IsGrown old new → IsKnown new m
 known_kept m old new is grown = record { known = λ e. any_kept m old new (is.known e) grown }
@@ -52,7 +54,8 @@ known_kept m old new is grown = record { known = λ e. any_kept m old new (is.kn
 position_kept : (test : Plain → Bool) (xs ys : List Plain) → list_any test xs ≡ true → position_or_len test xs ≡ position_or_len test (xs ++ ys)
 position_kept test [] ys e = absurd cc
 position_kept test (x ∷ xs) ys e = position_cons test x xs ∙ step (position_kept test xs ys) (test x) e ∙ sym (position_cons test x (xs ++ ys)) where
-  step : (list_any test xs ≡ true → position_or_len test xs ≡ position_or_len test (xs ++ ys)) → (b : Bool) → (b || list_any test xs) ≡ true → cond b 0 (suc (position_or_len test xs)) ≡ cond b 0 (suc (position_or_len test (xs ++ ys)))
+  step : (list_any test xs ≡ true → position_or_len test xs ≡ position_or_len test (xs ++ ys)) → (b : Bool) → (b || list_any test xs) ≡ true →
+      cond b 0 (suc (position_or_len test xs)) ≡ cond b 0 (suc (position_or_len test (xs ++ ys)))
   step later true any = refl
   step later false any = ap suc (later any)
 
@@ -68,7 +71,8 @@ map_kept m old new is grown = step (is_whole m.entries) refl where
 made : Option ℕ → Option ℕ → Bool → ActMaps
 made into out sends = record { into = into; out = out; sends = sends }
 
-out_kept : (o : Option Plain) (old new : List Plain) → ((m : Plain) → o ≡ Some m → IsKnown old m) → IsGrown old new → option_and_then (map_number old) o ≡ option_and_then (map_number new) o
+out_kept : (o : Option Plain) (old new : List Plain) → ((m : Plain) → o ≡ Some m → IsKnown old m) → IsGrown old new →
+    option_and_then (map_number old) o ≡ option_and_then (map_number new) o
 out_kept None old new is grown = refl
 out_kept (Some m) old new is grown = map_kept m old new (is m refl) grown
 
@@ -79,7 +83,11 @@ act_kept act old new is grown =
     ∙ ap (λ n. made (map_number new (act_in_map (Some act))) n (sends_by (Some act))) (out_kept (act_out_map (Some act)) old new is.out grown)
 
 knows_kept : (act : Act) (old new : List Plain) → KnowsAct old act → IsGrown old new → KnowsAct new act
-knows_kept act old new is grown = record { into = known_kept (act_in_map (Some act)) old new is.into grown; out = λ m e. known_kept m old new (is.out m e) grown }
+knows_kept act old new is grown = record {
+  into = known_kept (act_in_map (Some act)) old new is.into grown;
+  out =
+      λ m e. known_kept m old new (is.out m e) grown;
+}
 
 pub closed_kept : (number : ℕ) (old new : List Plain) → KnowsClosed old number → IsGrown old new → KnowsClosed new number
 closed_kept number old new is grown = record { any = any_kept closed_map old new is.any grown; is = is.is ∙ number_kept closed_map old new is.any grown }
@@ -87,7 +95,8 @@ closed_kept number old new is grown = record { any = any_kept closed_map old new
 -- ---- an act
 
 -- its in map, and then its out map, became known
-pub import_known : (out into : Plain) (sends : Bool) (mid new : List Plain) (in_number out_number : Option ℕ) → IsKnown mid into → IsGrown mid new → IsKnown new out → in_number ≡ map_number mid into → out_number ≡ map_number new out
+pub import_known : (out into : Plain) (sends : Bool) (mid new : List Plain) (in_number out_number : Option ℕ) → IsKnown mid into → IsGrown mid new →
+    IsKnown new out → in_number ≡ map_number mid into → out_number ≡ map_number new out
     → HasMaps new (Import out sends into) (record { into = in_number; out = out_number; sends = sends })
 unfolding made
 import_known out into sends mid new in_number out_number in_known grown out_known in_is out_is = record {
@@ -95,7 +104,8 @@ import_known out into sends mid new in_number out_number in_known grown out_know
   are = ap (λ n. made n out_number sends) (in_is ∙ map_kept into mid new in_known grown) ∙ ap (λ n. made (map_number new into) n sends) out_is;
 }
 
-pub cost_known : (cost closed : ℕ) (maps : List Plain) → KnowsClosed maps closed → HasMaps maps (Cost cost) (record { into = Some closed; out = None; sends = false })
+pub cost_known : (cost closed : ℕ) (maps : List Plain) → KnowsClosed maps closed →
+    HasMaps maps (Cost cost) (record { into = Some closed; out = None; sends = false })
 unfolding made
 cost_known cost closed maps is = record {
   known = record { into = record { known = λ _. is.any }; out = λ m e. absurd (none m e) };
@@ -109,17 +119,21 @@ cost_known cost closed maps is = record {
 pub none_known : (maps : List Plain) → AreKnown maps [] []
 none_known maps = record { are = refl; known = λ act has. absurd (in_contains [] act has) }
 
-pub known_turn : (old new : List Plain) (acts : List Act) (numbers more : List ActMaps) (i : ℕ) (act : Act) (maps : ActMaps) → i < length acts → act ≡ get_or acts i act → IsGrown old new → AreKnown old (take i acts) numbers → HasMaps new act maps → more ≡ numbers ++ maps ∷ [] → AreKnown new (take (i + 1) acts) more
+pub known_turn : (old new : List Plain) (acts : List Act) (numbers more : List ActMaps) (i : ℕ) (act : Act) (maps : ActMaps) → i < length acts →
+    act ≡ get_or acts i act → IsGrown old new → AreKnown old (take i acts) numbers → HasMaps new act maps → more ≡ numbers ++ maps ∷ [] →
+    AreKnown new (take (i + 1) acts) more
 known_turn old new acts numbers more i act maps below here grown are has is =
     let taken : take (i + 1) acts ≡ take i acts ++ act ∷ [] = take_more acts i act below ∙ ap (λ y. take i acts ++ y ∷ []) (sym here) in
     subst (λ xs. AreKnown new xs more) (sym taken) (record {
-      are = is ∙ ap (λ ns. ns ++ maps ∷ []) (are.are ∙ kept (take i acts) (λ a at. are.known a (contains_in (take i acts) a at))) ∙ ap (λ m. map (λ a. act_maps new (Some a)) (take i acts) ++ m ∷ []) has.are ∙ sym (map-append (λ a. act_maps new (Some a)) (take i acts) (act ∷ []));
+      are = is ∙ ap (λ ns. ns ++ maps ∷ []) (are.are ∙ kept (take i acts) (λ a at. are.known a (contains_in (take i acts) a at)))
+          ∙ ap (λ m. map (λ a. act_maps new (Some a)) (take i acts) ++ m ∷ []) has.are ∙ sym (map-append (λ a. act_maps new (Some a)) (take i acts) (act ∷ []));
       known = λ a at. each a (append_in (take i acts) (act ∷ []) a (in_contains (take i acts ++ act ∷ []) a at));
     })
   where
     kept : (xs : List Act) → ((a : Act) → In xs a → KnowsAct old a) → map (λ a. act_maps old (Some a)) xs ≡ map (λ a. act_maps new (Some a)) xs
     kept [] knows = refl
-    kept (x ∷ xs) knows = ap (λ m. m ∷ map (λ a. act_maps old (Some a)) xs) (act_kept x old new (knows x (inl refl)) grown) ∙ ap (λ ms. act_maps new (Some x) ∷ ms) (kept xs (λ a at. knows a (inr at)))
+    kept (x ∷ xs) knows = ap (λ m. m ∷ map (λ a. act_maps old (Some a)) xs) (act_kept x old new (knows x (inl refl)) grown)
+        ∙ ap (λ ms. act_maps new (Some x) ∷ ms) (kept xs (λ a at. knows a (inr at)))
 
     each : (a : Act) → In (take i acts) a ⊎ In (act ∷ []) a → KnowsAct new a
     each a (inl at) = knows_kept a old new (are.known a (contains_in (take i acts) a at)) grown

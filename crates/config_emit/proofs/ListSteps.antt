@@ -11,19 +11,23 @@ map_ext f g (x ∷ xs) same = ap (λ y. y ∷ map f xs) (same x) ∙ ap (λ ys. 
 pub filter_mapped : {X Y : Type 0} (p : Y → Bool) (f : X → Y) (xs : List X) → filter p (map f xs) ≡ map f (filter (λ x. p (f x)) xs)
 filter_mapped p f [] = refl
 filter_mapped {X} {Y} p f (x ∷ xs) = step (p (f x)) (filter_mapped p f xs) where
-  step : (b : Bool) → filter p (map f xs) ≡ map f (filter (λ z. p (f z)) xs) → cond b (f x ∷ filter p (map f xs)) (filter p (map f xs)) ≡ map f (cond b (x ∷ filter (λ z. p (f z)) xs) (filter (λ z. p (f z)) xs))
+  step : (b : Bool) → filter p (map f xs) ≡ map f (filter (λ z. p (f z)) xs) →
+      cond b (f x ∷ filter p (map f xs)) (filter p (map f xs)) ≡ map f (cond b (x ∷ filter (λ z. p (f z)) xs) (filter (λ z. p (f z)) xs))
   step true e = ap (λ ys. f x ∷ ys) e
   step false e = e
 
 -- numbered items that pass a test
-pub numbered_agree : {X Y : Type 0} (f g : ℕ × X → Y) (p : X → Bool) (n : ℕ) (xs : List X) → ((k : ℕ) (x : X) → p x ≡ true → f (k, x) ≡ g (k, x)) → map f (enumerate_from n (filter p xs)) ≡ map g (enumerate_from n (filter p xs))
+pub numbered_agree : {X Y : Type 0} (f g : ℕ × X → Y) (p : X → Bool) (n : ℕ) (xs : List X) → ((k : ℕ) (x : X) → p x ≡ true → f (k, x) ≡ g (k, x)) →
+    map f (enumerate_from n (filter p xs)) ≡ map g (enumerate_from n (filter p xs))
 numbered_agree f g p n [] same = refl
 numbered_agree {X} {Y} f g p n (x ∷ xs) same = step (λ m. numbered_agree f g p m xs same) (p x) refl where
-  step : ((m : ℕ) → map f (enumerate_from m (filter p xs)) ≡ map g (enumerate_from m (filter p xs))) → (b : Bool) → p x ≡ b → map f (enumerate_from n (cond b (x ∷ filter p xs) (filter p xs))) ≡ map g (enumerate_from n (cond b (x ∷ filter p xs) (filter p xs)))
+  step : ((m : ℕ) → map f (enumerate_from m (filter p xs)) ≡ map g (enumerate_from m (filter p xs))) → (b : Bool) → p x ≡ b →
+      map f (enumerate_from n (cond b (x ∷ filter p xs) (filter p xs))) ≡ map g (enumerate_from n (cond b (x ∷ filter p xs) (filter p xs)))
   step later true e = ap (λ y. y ∷ map f (enumerate_from (n + 1) (filter p xs))) (same n x e) ∙ ap (λ ys. g (n, x) ∷ ys) (later (n + 1))
   step later false e = later n
 
-pub numbered_mapped : {X Y Z : Type 0} (f : ℕ × Y → Z) (h : X → Y) (n : ℕ) (xs : List X) → map f (enumerate_from n (map h xs)) ≡ map (λ (k : ℕ × X). f (k.0, h k.1)) (enumerate_from n xs)
+pub numbered_mapped : {X Y Z : Type 0} (f : ℕ × Y → Z) (h : X → Y) (n : ℕ) (xs : List X) →
+    map f (enumerate_from n (map h xs)) ≡ map (λ (k : ℕ × X). f (k.0, h k.1)) (enumerate_from n xs)
 numbered_mapped f h n [] = refl
 numbered_mapped f h n (x ∷ xs) = ap (λ ys. f (n, h x) ∷ ys) (numbered_mapped f h (n + 1) xs)
 
@@ -64,7 +68,8 @@ both false b e = cc
 pub range_turn : (g n : ℕ) → g < n → range_with_len g (n - g) ≡ g ∷ range_with_len (g + 1) (n - (g + 1))
 range_turn g n below = ap (range_with_len g) (let more : n - g ≡ suc (n - (g + 1)) = omega arith in more)
 
-pub pushed_turn : {Y : Type 0} (f : ℕ → Y) (found new : List Y) (g n : ℕ) → g < n → new ≡ found ++ f g ∷ [] → new ++ map f (range_with_len (g + 1) (n - (g + 1))) ≡ found ++ map f (range_with_len g (n - g))
+pub pushed_turn : {Y : Type 0} (f : ℕ → Y) (found new : List Y) (g n : ℕ) → g < n → new ≡ found ++ f g ∷ [] →
+    new ++ map f (range_with_len (g + 1) (n - (g + 1))) ≡ found ++ map f (range_with_len g (n - g))
 pushed_turn f found new g n below is =
     ap (λ ys. ys ++ map f (range_with_len (g + 1) (n - (g + 1)))) is
     ∙ append_assoc found (f g ∷ []) (map f (range_with_len (g + 1) (n - (g + 1))))

@@ -14,13 +14,17 @@ use Rattle.config_emit.proofs.KeyEq.{keys_same, said_maps, maps_tell}
 
 -- ---- places
 
-pub place_append : {X : Type 0} (test : X → Bool) (n : ℕ) (xs : List X) (x : X) → place_from test n (xs ++ x ∷ []) ≡ option_or (place_from test n xs) (cond (test x) (Some (n + length xs)) None)
+pub place_append : {X : Type 0} (test : X → Bool) (n : ℕ) (xs : List X) (x : X) →
+    place_from test n (xs ++ x ∷ []) ≡ option_or (place_from test n xs) (cond (test x) (Some (n + length xs)) None)
 place_append test n [] x = ap (λ k. cond (test x) (Some k) None) (let none : n ≡ n + 0 = omega arith in none)
-place_append {X} test n (y ∷ ys) x = step (place_append test (n + 1) ys x ∙ ap (λ k. option_or (place_from test (n + 1) ys) (cond (test x) (Some k) None)) (let same : n + 1 + length ys ≡ n + suc (length ys) = omega arith in same)) (test y) where
-  step : place_from test (n + 1) (ys ++ x ∷ []) ≡ option_or (place_from test (n + 1) ys) (cond (test x) (Some (n + suc (length ys))) None)
-      → (b : Bool) → cond b (Some n) (place_from test (n + 1) (ys ++ x ∷ [])) ≡ option_or (cond b (Some n) (place_from test (n + 1) ys)) (cond (test x) (Some (n + suc (length ys))) None)
-  step later true = refl
-  step later false = later
+place_append {X} test n (y ∷ ys) x = step
+    (place_append test (n + 1) ys x ∙ ap (λ k. option_or (place_from test (n + 1) ys) (cond (test x) (Some k) None))
+    (let same : n + 1 + length ys ≡ n + suc (length ys) = omega arith in same)) (test y) where
+      step : place_from test (n + 1) (ys ++ x ∷ []) ≡ option_or (place_from test (n + 1) ys) (cond (test x) (Some (n + suc (length ys))) None)
+          → (b : Bool) → cond b (Some n) (place_from test (n + 1) (ys ++ x ∷ [])) ≡ option_or (cond b (Some n) (place_from test (n + 1) ys))
+          (cond (test x) (Some (n + suc (length ys))) None)
+      step later true = refl
+      step later false = later
 
 pub place_ext : {X : Type 0} (p q : X → Bool) (n : ℕ) (xs : List X) → ((x : X) → p x ≡ q x) → place_from p n xs ≡ place_from q n xs
 place_ext p q n [] same = refl
@@ -39,28 +43,34 @@ pub record StandsAt {X : Type 0} (test : X → Bool) (n : ℕ) (xs : List X) (k 
 pub placed : {X : Type 0} (test : X → Bool) (n : ℕ) (xs : List X) (k : ℕ) → place_from test n xs ≡ Some k → StandsAt test n xs k
 placed test n [] k e = absurd cc
 placed {X} test n (x ∷ xs) k e = step (placed test (n + 1) xs k) (test x) refl e where
-  step : (place_from test (n + 1) xs ≡ Some k → StandsAt test (n + 1) xs k) → (b : Bool) → test x ≡ b → cond b (Some n) (place_from test (n + 1) xs) ≡ Some k → StandsAt test n (x ∷ xs) k
+  step : (place_from test (n + 1) xs ≡ Some k → StandsAt test (n + 1) xs k) → (b : Bool) → test x ≡ b → cond b (Some n) (place_from test (n + 1) xs) ≡ Some k →
+      StandsAt test n (x ∷ xs) k
   step later true is here = record {
     any = ap (λ b. b || list_any test xs) is;
-    at = (let same : n ≡ k = cc in let zero_there : position_or_len test (x ∷ xs) ≡ 0 = position_cons test x xs ∙ ap (λ b. cond b 0 (suc (position_or_len test xs))) is in omega (arith, same, zero_there));
+    at = (let same : n ≡ k = cc in let zero_there : position_or_len test (x ∷ xs) ≡ 0 = position_cons test x xs
+        ∙ ap (λ b. cond b 0 (suc (position_or_len test xs))) is in omega (arith, same, zero_there));
   }
   step later false is here = record {
     any = ap (λ b. b || list_any test xs) is ∙ (later here).any;
-    at = (let after : position_or_len test (x ∷ xs) ≡ suc (position_or_len test xs) = position_cons test x xs ∙ ap (λ b. cond b 0 (suc (position_or_len test xs))) is in let at = (later here).at in omega (arith, after, at));
+    at = (let after : position_or_len test (x ∷ xs) ≡ suc (position_or_len test xs) = position_cons test x xs
+        ∙ ap (λ b. cond b 0 (suc (position_or_len test xs))) is in let at = (later here).at in omega (arith, after, at));
   }
 
 pub absent : {X : Type 0} (test : X → Bool) (n : ℕ) (xs : List X) → place_from test n xs ≡ None → list_any test xs ≡ false
 absent test n [] e = refl
 absent {X} test n (x ∷ xs) e = step (absent test (n + 1) xs) (test x) e where
-  step : (place_from test (n + 1) xs ≡ None → list_any test xs ≡ false) → (b : Bool) → cond b (Some n) (place_from test (n + 1) xs) ≡ None → (b || list_any test xs) ≡ false
+  step : (place_from test (n + 1) xs ≡ None → list_any test xs ≡ false) → (b : Bool) → cond b (Some n) (place_from test (n + 1) xs) ≡ None →
+      (b || list_any test xs) ≡ false
   step later true here = absurd cc
   step later false here = later here
 
 -- the first that passes stands last
-pub position_last : {X : Type 0} (test : X → Bool) (xs : List X) (x : X) → list_any test xs ≡ false → test x ≡ true → position_or_len test (xs ++ x ∷ []) ≡ length xs
+pub position_last : {X : Type 0} (test : X → Bool) (xs : List X) (x : X) → list_any test xs ≡ false → test x ≡ true →
+    position_or_len test (xs ++ x ∷ []) ≡ length xs
 position_last test [] x none here = position_cons test x [] ∙ ap (λ b. cond b 0 1) here
 position_last {X} test (y ∷ ys) x none here = position_cons test y (ys ++ x ∷ []) ∙ step (position_last test ys x) (test y) none where
-  step : (list_any test ys ≡ false → test x ≡ true → position_or_len test (ys ++ x ∷ []) ≡ length ys) → (b : Bool) → (b || list_any test ys) ≡ false → cond b 0 (suc (position_or_len test (ys ++ x ∷ []))) ≡ suc (length ys)
+  step : (list_any test ys ≡ false → test x ≡ true → position_or_len test (ys ++ x ∷ []) ≡ length ys) → (b : Bool) → (b || list_any test ys) ≡ false →
+      cond b 0 (suc (position_or_len test (ys ++ x ∷ []))) ≡ suc (length ys)
   step later true at = absurd cc
   step later false at = ap suc (later at here)
 
@@ -104,7 +114,8 @@ known maps m key k is there =
       number = (let place = at.at in omega (arith, place));
     }
 
-pub unknown : (maps : List Plain) (m : Plain) (key : Vec EntryKey) → shown key ≡ said m → place_from (says key) 0 maps ≡ None → IsNumbered maps (maps ++ m ∷ []) m (length maps)
+pub unknown : (maps : List Plain) (m : Plain) (key : Vec EntryKey) → shown key ≡ said m → place_from (says key) 0 maps ≡ None →
+    IsNumbered maps (maps ++ m ∷ []) m (length maps)
 unknown maps m key is there =
     let none = absent (same_map m) 0 maps (sym (place_ext (says key) (same_map m) 0 maps (λ n. says_same key m n is)) ∙ there) in
     record {
@@ -112,7 +123,8 @@ unknown maps m key is there =
       number = sym (position_last (same_map m) maps m none (same_self m));
     }
 
-pub added : (old new : NumbersByKey) (maps : List Plain) (m : Plain) (key : Vec EntryKey) (k : ℕ) → shown key ≡ said m → k ≡ length maps → place_from (says key) 0 maps ≡ None
+pub added : (old new : NumbersByKey) (maps : List Plain) (m : Plain) (key : Vec EntryKey) (k : ℕ) → shown key ≡ said m → k ≡ length maps →
+    place_from (says key) 0 maps ≡ None
     → ((q : Vec EntryKey) → get same_keys new q ≡ cond (same_keys key q) (Some k) (get same_keys old q)) → AreNumbers old maps → AreNumbers new (maps ++ m ∷ [])
 added old new maps m key k is at none put are = record {
   each = λ q.
@@ -120,15 +132,18 @@ added old new maps m key k is at none put are = record {
       ∙ ap (λ b. cond b (Some k) (get same_keys old q)) (keys_same key q)
       ∙ ap (cond (is_map (shown key) (shown q)) (Some k)) (are.each q)
       ∙ step q (is_map (shown key) (shown q)) refl
-      ∙ ap (λ b. option_or (place_from (says q) 0 maps) (cond b (Some (0 + length maps)) None)) (tells_turned is_map maps_tell (shown key) (shown q) ∙ ap (is_map (shown q)) is)
+      ∙ ap (λ b. option_or (place_from (says q) 0 maps) (cond b (Some (0 + length maps)) None))
+      (tells_turned is_map maps_tell (shown key) (shown q) ∙ ap (is_map (shown q)) is)
       ∙ sym (place_append (says q) 0 maps m);
 } where
   no_more : (o : Option ℕ) → o ≡ option_or o None
   no_more None = refl
   no_more (Some n) = refl
 
-  step : (q : Vec EntryKey) (b : Bool) → is_map (shown key) (shown q) ≡ b → cond b (Some k) (place_from (says q) 0 maps) ≡ option_or (place_from (says q) 0 maps) (cond b (Some (0 + length maps)) None)
+  step : (q : Vec EntryKey) (b : Bool) → is_map (shown key) (shown q) ≡ b →
+      cond b (Some k) (place_from (says q) 0 maps) ≡ option_or (place_from (says q) 0 maps) (cond b (Some (0 + length maps)) None)
   step q true e =
       ap (λ n. Some n) (let here : k ≡ 0 + length maps = omega (arith, at) in here)
-      ∙ ap (λ o. option_or o (Some (0 + length maps))) (sym (place_ext (says q) (says key) 0 maps (λ n. ap (λ s. is_map s (said n)) (sym (maps_tell.one (shown key) (shown q) e))) ∙ none))
+      ∙ ap (λ o. option_or o (Some (0 + length maps)))
+      (sym (place_ext (says q) (says key) 0 maps (λ n. ap (λ s. is_map s (said n)) (sym (maps_tell.one (shown key) (shown q) e))) ∙ none))
   step q false e = no_more (place_from (says q) 0 maps)

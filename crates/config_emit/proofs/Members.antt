@@ -13,7 +13,8 @@ shifted : (p : ℕ → Bool) (s n : ℕ) → filter p (range_with_len (s + 1) n)
 shifted p s zero = refl
 shifted p s (suc n) = step (p (s + 1)) (p (suc s)) (ap p (omega arith)) (shifted p (s + 1) n) where
   step : (a b : Bool) → a ≡ b → filter p (range_with_len (s + 1 + 1) n) ≡ map suc (filter (λ r. p (suc r)) (range_with_len (s + 1) n))
-      → cond a ((s + 1) ∷ filter p (range_with_len (s + 1 + 1) n)) (filter p (range_with_len (s + 1 + 1) n)) ≡ map suc (cond b (s ∷ filter (λ r. p (suc r)) (range_with_len (s + 1) n)) (filter (λ r. p (suc r)) (range_with_len (s + 1) n)))
+      → cond a ((s + 1) ∷ filter p (range_with_len (s + 1 + 1) n)) (filter p (range_with_len (s + 1 + 1) n)) ≡ map suc
+      (cond b (s ∷ filter (λ r. p (suc r)) (range_with_len (s + 1) n)) (filter (λ r. p (suc r)) (range_with_len (s + 1) n)))
   step true true e rest = ap (λ k. k ∷ filter p (range_with_len (s + 1 + 1) n)) (let one : s + 1 ≡ suc s = omega arith in one) ∙ ap (λ ks. suc s ∷ ks) rest
   step true false e rest = absurd cc
   step false true e rest = absurd cc
@@ -35,11 +36,13 @@ other x g e same = grind (arith, nat_tests)
 
 first_in : (xs : List ℕ) (g : ℕ) → In xs g → BeginsWith (members_of xs g) (first_member xs g)
 first_in [] g at = absurd at
-first_in (x ∷ xs) g at = subst (λ ks. BeginsWith ks (cond (nat_eq x g) 0 (suc (first_member xs g)))) (sym (members_cons x xs g)) (step (first_in xs g) (nat_eq x g) refl at) where
-  step : (In xs g → BeginsWith (members_of xs g) (first_member xs g)) → (b : Bool) → nat_eq x g ≡ b → In (x ∷ xs) g → BeginsWith (cond b (0 ∷ map suc (members_of xs g)) (map suc (members_of xs g))) (cond b 0 (suc (first_member xs g)))
-  step deeper true e at = record { some = omega arith; first = refl }
-  step deeper false e (inl same) = absurd (other x g e same)
-  step deeper false e (inr later) = first_later (members_of xs g) (first_member xs g) (deeper later)
+first_in (x ∷ xs) g at = subst (λ ks. BeginsWith ks (cond (nat_eq x g) 0 (suc (first_member xs g)))) (sym (members_cons x xs g))
+    (step (first_in xs g) (nat_eq x g) refl at) where
+      step : (In xs g → BeginsWith (members_of xs g) (first_member xs g)) → (b : Bool) → nat_eq x g ≡ b → In (x ∷ xs) g →
+          BeginsWith (cond b (0 ∷ map suc (members_of xs g)) (map suc (members_of xs g))) (cond b 0 (suc (first_member xs g)))
+      step deeper true e at = record { some = omega arith; first = refl }
+      step deeper false e (inl same) = absurd (other x g e same)
+      step deeper false e (inr later) = first_later (members_of xs g) (first_member xs g) (deeper later)
 
 pub first_is : (xs : List ℕ) (g : ℕ) → Contains xs g → BeginsWith (members_of xs g) (first_member xs g)
 first_is xs g has = first_in xs g (in_contains xs g has)

@@ -28,14 +28,19 @@ same_turned p q = ap (λ b. b && nat_eq p.1 q.1) (same_either_way p.0 q.0) ∙ a
 
 -- ---- one link noted
 
-noted_step : (link : QLink) (s : Sides) (old : SidesByPair) (q : ℕ × ℕ) (b : Bool) → s ≡ sides_or (own_sides link) (sides_at old (pair_of link)) → (b ≡ true → pair_of link ≡ q)
+noted_step : (link : QLink) (s : Sides) (old : SidesByPair) (q : ℕ × ℕ) (b : Bool) → s ≡ sides_or (own_sides link) (sides_at old (pair_of link)) →
+    (b ≡ true → pair_of link ≡ q)
     → unwrap_or (cond b (Some s) (get same_pair old q)) no_sides ≡ cond b (sides_or (own_sides link) (sides_at old q)) (sides_at old q)
 noted_step link s old q true is same = is ∙ ap (λ p. sides_or (own_sides link) (sides_at old p)) (same refl)
 noted_step link s old q false is same = refl
 
-pub noted : (old new : SidesByPair) (link : QLink) (s : Sides) → ((q : ℕ × ℕ) → get same_pair new q ≡ cond (same_pair (pair_of link) q) (Some s) (get same_pair old q))
+pub noted : (old new : SidesByPair) (link : QLink) (s : Sides) →
+    ((q : ℕ × ℕ) → get same_pair new q ≡ cond (same_pair (pair_of link) q) (Some s) (get same_pair old q))
     → s ≡ sides_or (own_sides link) (sides_at old (pair_of link)) → NotesSides old new link
-noted old new link s put is = record { each = λ q. ap (λ o. unwrap_or o no_sides) (put q) ∙ noted_step link s old q (same_pair (pair_of link) q) is (same_pairs (pair_of link) q) }
+noted old new link s put is = record {
+  each = λ q. ap (λ o. unwrap_or o no_sides) (put q)
+      ∙ noted_step link s old q (same_pair (pair_of link) q) is (same_pairs (pair_of link) q);
+}
 
 -- ---- the last sides of one link more
 
@@ -55,13 +60,16 @@ last_single : (o : Option ℕ) → last_of (cons_option o []) ≡ o
 last_single None = refl
 last_single (Some k) = refl
 
-last_more : (g : ℕ) (p : QLink → Bool) (links : List QLink) (x : QLink) → last_of (filter_map (side_of g) (filter p (links ++ x ∷ []))) ≡ cond (p x) (or_else (side_of g x) (last_of (filter_map (side_of g) (filter p links)))) (last_of (filter_map (side_of g) (filter p links)))
+last_more : (g : ℕ) (p : QLink → Bool) (links : List QLink) (x : QLink) →
+    last_of (filter_map (side_of g) (filter p (links ++ x ∷ []))) ≡ cond (p x) (or_else (side_of g x) (last_of (filter_map (side_of g) (filter p links))))
+    (last_of (filter_map (side_of g) (filter p links)))
 last_more g p links x =
     ap (λ ls. last_of (filter_map (side_of g) ls)) (filter-append p links (x ∷ []))
     ∙ ap last_of (filter_map-append (side_of g) (filter p links) (filter p (x ∷ [])))
     ∙ last_append (filter_map (side_of g) (filter p links)) (filter_map (side_of g) (filter p (x ∷ [])))
     ∙ step (p x) where
-      step : (b : Bool) → or_else (last_of (filter_map (side_of g) (cond b (x ∷ []) []))) (last_of (filter_map (side_of g) (filter p links))) ≡ cond b (or_else (side_of g x) (last_of (filter_map (side_of g) (filter p links)))) (last_of (filter_map (side_of g) (filter p links)))
+      step : (b : Bool) → or_else (last_of (filter_map (side_of g) (cond b (x ∷ []) []))) (last_of (filter_map (side_of g) (filter p links))) ≡ cond b
+          (or_else (side_of g x) (last_of (filter_map (side_of g) (filter p links)))) (last_of (filter_map (side_of g) (filter p links)))
       step true = ap (λ o. or_else o (last_of (filter_map (side_of g) (filter p links)))) (last_single (side_of g x))
       step false = refl
 
@@ -69,12 +77,14 @@ made : Option ℕ → Option ℕ → Sides
 made a b = record { to_low = a; to_high = b }
 
 grown_step : (x : QLink) (q : ℕ × ℕ) (low high : Option ℕ) (b : Bool) → (b ≡ true → q ≡ pair_of x)
-    → made (cond b (or_else (side_of q.0 x) low) low) (cond b (or_else (side_of q.1 x) high) high) ≡ cond b (sides_or (own_sides x) (made low high)) (made low high)
+    → made (cond b (or_else (side_of q.0 x) low) low) (cond b (or_else (side_of q.1 x) high) high) ≡ cond b (sides_or (own_sides x) (made low high))
+    (made low high)
 unfolding made
 grown_step x q low high true same = ap (λ (p : ℕ × ℕ). made (or_else (side_of p.0 x) low) (or_else (side_of p.1 x) high)) (same refl)
 grown_step x q low high false same = refl
 
-sides_more : (links : List QLink) (x : QLink) (q : ℕ × ℕ) → last_sides (links ++ x ∷ []) q ≡ cond (is_of q x) (sides_or (own_sides x) (last_sides links q)) (last_sides links q)
+sides_more : (links : List QLink) (x : QLink) (q : ℕ × ℕ) →
+    last_sides (links ++ x ∷ []) q ≡ cond (is_of q x) (sides_or (own_sides x) (last_sides links q)) (last_sides links q)
 unfolding made
 sides_more links x q =
     let low = last_of (filter_map (side_of q.0) (filter (is_of q) links)) in
@@ -83,7 +93,8 @@ sides_more links x q =
     ∙ ap (λ o. made (cond (is_of q x) (or_else (side_of q.0 x) low) low) o) (last_more q.1 (is_of q) links x)
     ∙ grown_step x q low high (is_of q x) (same_pairs q (pair_of x))
 
-pub last_turn : (old new : SidesByPair) (links : List QLink) (i : ℕ) (x : QLink) → i < length links → x ≡ get_or links i x → NotesSides old new x → AreLastSides old (take i links) → AreLastSides new (take (i + 1) links)
+pub last_turn : (old new : SidesByPair) (links : List QLink) (i : ℕ) (x : QLink) → i < length links → x ≡ get_or links i x → NotesSides old new x →
+    AreLastSides old (take i links) → AreLastSides new (take (i + 1) links)
 last_turn old new links i x below here notes so_far = record {
   each = λ q.
       notes.each q
@@ -104,7 +115,8 @@ unfolding edge_into
 full OverBgp links l = or_no_sides (own_sides l)
 full OverOspf links l = refl
 
-pub act_links_are : (protocol : Protocol) (es : List Edge) (links : List QLink) (fill : SidesByPair) → FillsSides protocol links fill → map (act_link_by fill es) (enumerate_from 0 links) ≡ act_links protocol es links
+pub act_links_are : (protocol : Protocol) (es : List Edge) (links : List QLink) (fill : SidesByPair) → FillsSides protocol links fill →
+    map (act_link_by fill es) (enumerate_from 0 links) ≡ act_links protocol es links
 unfolding act_links
 act_links_are protocol es links fill fills = map_ext (act_link_by fill es) (act_link protocol es links) (enumerate_from 0 links) each where
   each : (x : ℕ × QLink) → act_link_by fill es x ≡ act_link protocol es links x

@@ -24,7 +24,8 @@ use_added old new uses n k m at none put are = record {
   no_more None = refl
   no_more (Some x) = refl
 
-  step : (i : ℕ) (b : Bool) → nat_eq n i ≡ b → cond b (Some k) (place_from (has_number i) 1 uses) ≡ option_or (place_from (has_number i) 1 uses) (cond b (Some (1 + length uses)) None)
+  step : (i : ℕ) (b : Bool) → nat_eq n i ≡ b →
+      cond b (Some k) (place_from (has_number i) 1 uses) ≡ option_or (place_from (has_number i) 1 uses) (cond b (Some (1 + length uses)) None)
   step i true e =
       ap (λ x. Some x) (let here : k ≡ 1 + length uses = omega (arith, at) in here)
       ∙ ap (λ o. option_or o (Some (1 + length uses))) (sym (ap (λ j. place_from (has_number j) 1 uses) (sym (same_numbers n i e)) ∙ none))
@@ -34,7 +35,8 @@ pub uses_append : (us more found : List (ℕ × Plain)) → with_uses (us ++ mor
 uses_append [] more found = refl
 uses_append (u ∷ us) more found = uses_append us more (with_use u found)
 
-pub uses_turn : {X : Type 0} (f : X → List (ℕ × Plain)) (xs : List X) (i : ℕ) (d : X) (found new : List (ℕ × Plain)) → i < length xs → new ≡ with_uses (f (get_or xs i d)) found
+pub uses_turn : {X : Type 0} (f : X → List (ℕ × Plain)) (xs : List X) (i : ℕ) (d : X) (found new : List (ℕ × Plain)) → i < length xs →
+    new ≡ with_uses (f (get_or xs i d)) found
     → with_uses (flat_map f (drop (i + 1) xs)) new ≡ with_uses (flat_map f (drop i xs)) found
 uses_turn f xs i d found new below is =
     ap (with_uses (flat_map f (drop (i + 1) xs))) is

@@ -35,7 +35,11 @@ sides_or sides others = record { to_low = or_else sides.to_low others.to_low; to
 
 -- the last edges that links of a pair carry into its groups
 abbrev pub last_sides : List QLink → ℕ × ℕ → Sides
-last_sides links q = record { to_low = last_of (filter_map (side_of q.0) (filter (is_of q) links)); to_high = last_of (filter_map (side_of q.1) (filter (is_of q) links)) }
+last_sides links q = record {
+  to_low = last_of (filter_map (side_of q.0) (filter (is_of q) links));
+  to_high =
+      last_of (filter_map (side_of q.1) (filter (is_of q) links));
+}
 
 abbrev pub SidesByPair : Type 0
 SidesByPair = HashMap (ℕ × ℕ) Sides (BuildHasherDefault FoldHasher)
@@ -64,7 +68,14 @@ pub record FillsSides (protocol : Protocol) (links : List QLink) (fill : SidesBy
 -- ---- links with acts
 
 abbrev pub drawn : List Edge → ℕ → QLink → Sides → ActLink
-drawn es t l sides = record { number = t; low = l.low; high = l.high; to_low = option_map (act_at es) sides.to_low; to_high = option_map (act_at es) sides.to_high }
+drawn es t l sides = record {
+  number = t;
+  low = l.low;
+  high = l.high;
+  to_low = option_map (act_at es) sides.to_low;
+  to_high =
+      option_map (act_at es) sides.to_high;
+}
 
 abbrev pub act_link_by : SidesByPair → List Edge → ℕ × QLink → ActLink
 act_link_by fill es (t, l) = drawn es t l (sides_or (own_sides l) (sides_at fill (pair_of l)))

@@ -42,7 +42,16 @@ abbrev pub lists_said : List CommunityList → List (List LineSaid)
 lists_said lists = map list_said lists
 
 abbrev pub entry_said : PlainEntry → EntrySaid
-entry_said x = record { seq = x.seq; permit = x.permit; exact = is_some x.lists && x.exact; lists = option_map lists_said x.lists; lp = x.lp; change = x.change; delete = option_map list_said x.delete; adds = x.adds }
+entry_said x = record {
+  seq = x.seq;
+  permit = x.permit;
+  exact = is_some x.lists && x.exact;
+  lists = option_map lists_said x.lists;
+  lp = x.lp;
+  change = x.change;
+  delete = option_map list_said x.delete;
+  adds = x.adds;
+}
 
 abbrev pub said : Plain → List EntrySaid
 said m = map entry_said m.entries
@@ -64,7 +73,17 @@ change_shown (key.Replace comms) = Replace comms.items
 change_shown (key.Append comms) = Append comms.items
 
 abbrev pub entry_shown : EntryKey → EntrySaid
-entry_shown k = record { seq = k.seq; permit = k.permit; exact = k.exact; lists = option_map lists_shown k.lists; lp = k.lp; change = option_map change_shown k.change; delete = option_map list_shown k.delete; adds = k.adds }
+entry_shown k = record {
+  seq = k.seq;
+  permit = k.permit;
+  exact = k.exact;
+  lists = option_map lists_shown k.lists;
+  lp = k.lp;
+  change =
+      option_map change_shown k.change;
+  delete = option_map list_shown k.delete;
+  adds = k.adds;
+}
 
 abbrev pub shown : Vec EntryKey → List EntrySaid
 shown k = map entry_shown k.items

@@ -165,7 +165,20 @@ written_entry number k x = record {
 
 -- `deny 10`
 abbrev pub denying_entry : MapEntry
-denying_entry = record { seq = 10; permit = false; line = 0; prefixes = None; comms = None; exact = false; lp = None; change = None; change_line = 0; delete = None; prepend = None }
+denying_entry = record {
+  seq = 10;
+  permit = false;
+  line = 0;
+  prefixes = None;
+  comms = None;
+  exact = false;
+  lp = None;
+  change = None;
+  change_line = 0;
+  delete =
+      None;
+  prepend = None;
+}
 
 -- a map without entries is written as one that denies
 abbrev pub written_entries : ℕ → ℕ → List PlainEntry → List MapEntry

@@ -19,15 +19,17 @@ key_from_same key other same = search rules
 module _ (key : OpKey) where
   lookup-lookup_entry : (es : List (OpKey × ℕ)) → option_map (λ e. e.1) (lookup_entry (same_key key) es) ≡ found key es
   lookup-lookup_entry [] = refl
-  lookup-lookup_entry (e ∷ es) = elim (same_key key e.0) as (λ y. option_map (λ (f : OpKey × ℕ). f.1) (if y then Some e else lookup_entry (same_key key) es) ≡ (if y then Some e.1 else found key es)) [
-    | true ↦ refl
-    | false ↦ lookup-lookup_entry es
-  ]
+  lookup-lookup_entry (e ∷ es) = elim (same_key key e.0) as
+      (λ y. option_map (λ (f : OpKey × ℕ). f.1) (if y then Some e else lookup_entry (same_key key) es) ≡ (if y then Some e.1 else found key es)) [
+        | true ↦ refl
+        | false ↦ lookup-lookup_entry es
+      ]
 
   first_key : (es : List (OpKey × ℕ)) (e : OpKey × ℕ) → lookup_entry (same_key key) es ≡ Some e → e.0 ≡ key
   first_key es e is = key_from_same key e.0 (Contains-lookup_entry (same_key key) es e is).1
 
-  promoted_by : (es : List (OpKey × ℕ)) (o : Option (OpKey × ℕ)) → lookup_entry (same_key key) es ≡ o → option_map_or (λ e. e ∷ without key es) o es ≡ brought key (option_map (λ e. e.1) o) es
+  promoted_by : (es : List (OpKey × ℕ)) (o : Option (OpKey × ℕ)) → lookup_entry (same_key key) es ≡ o →
+      option_map_or (λ e. e ∷ without key es) o es ≡ brought key (option_map (λ e. e.1) o) es
   promoted_by es None none = refl
   promoted_by es (Some e) is = ap (λ (k : OpKey). (k, e.1) ∷ without key es) (first_key es e is)
 

@@ -14,7 +14,8 @@ use Rattle.dd_core.proofs.DependLemmas.{reached_depends}
 use Rattle.dd_core.proofs.SupportLemmas.{known, StandsAt, stands_at, has-index, index_below, depends_on, independent_of}
 
 -- a node reaches no earlier variable
-pub not_before_root : (nodes : List Node) → IsStore nodes → (from v high low place : ℕ) → slice_get nodes from ≡ Some (Choice v high low) → IsReached nodes from place → IsNotBefore nodes v place
+pub not_before_root : (nodes : List Node) → IsStore nodes → (from v high low place : ℕ) → slice_get nodes from ≡ Some (Choice v high low) →
+    IsReached nodes from place → IsNotBefore nodes v place
 not_before_root nodes store from v high low _ at itself = record { same_or_later = λ other high' low' at'. let e : v ≡ other = cc in omega arith }
 not_before_root nodes store from v high low _ at (by_high place c high' low' reached at') =
     let before = not_before_root nodes store from v high low place at reached in
@@ -27,7 +28,8 @@ not_before_root nodes store from v high low _ at (by_low place c high' low' reac
     let r = store.reduced place c high' low' at' in
     record { same_or_later = λ other h l there. let lt = r.low_above.later other h l there in omega arith }
 
-not_earlier : (nodes : List Node) → IsStore nodes → (from v high low w : ℕ) → slice_get nodes from ≡ Some (Choice v high low) → w < v → ¬ IsVariableReached nodes from w
+not_earlier : (nodes : List Node) → IsStore nodes → (from v high low w : ℕ) → slice_get nodes from ≡ Some (Choice v high low) → w < v →
+    ¬ IsVariableReached nodes from w
 not_earlier nodes store from v high low w at lt = λ there.
     let before = not_before_root nodes store from v high low there.place at there.reached in
     let le = before.same_or_later w there.high there.low there.node in
@@ -36,8 +38,10 @@ not_earlier nodes store from v high low w at lt = λ there.
 -- a constant reaches itself alone
 only_itself : (nodes : List Node) (from : ℕ) (b : Bool) (place : ℕ) → slice_get nodes from ≡ Some (Constant b) → IsReached nodes from place → place ≡ from
 only_itself nodes from b _ at itself = refl
-only_itself nodes from b _ at (by_high place c high low reached at') = let e = only_itself nodes from b place at reached in let at'' : slice_get nodes from ≡ Some (Choice c high low) = rw e at at' in absurd cc
-only_itself nodes from b _ at (by_low place c high low reached at') = let e = only_itself nodes from b place at reached in let at'' : slice_get nodes from ≡ Some (Choice c high low) = rw e at at' in absurd cc
+only_itself nodes from b _ at (by_high place c high low reached at') = let e = only_itself nodes from b place at reached in
+    let at'' : slice_get nodes from ≡ Some (Choice c high low) = rw e at at' in absurd cc
+only_itself nodes from b _ at (by_low place c high low reached at') = let e = only_itself nodes from b place at reached in
+    let at'' : slice_get nodes from ≡ Some (Choice c high low) = rw e at at' in absurd cc
 
 none_reached : (nodes : List Node) (from : ℕ) (b : Bool) (w : ℕ) → slice_get nodes from ≡ Some (Constant b) → ¬ IsVariableReached nodes from w
 none_reached nodes from b w at = λ there.
@@ -71,7 +75,8 @@ module _ (shown : Shown) (is : IsShown shown) (from : ℕ) (inside : from < leng
   pub first_is : (v high low c : ℕ) → slice_get shown.nodes from ≡ Some (Choice v high low) → StandsAs shown.universe c v → IsFirstOf shown from c
   first_is v high low c at stands = record {
     known = ap (has shown.universe) (sym stands.there) ∙ has-index shown.universe v stands.inside;
-    needed = depends_on shown is from c v inside (known stands.inside stands.there) (reached_depends shown.nodes is.store from v (record { place = from; high = high; low = low; reached = itself; node = at }));
+    needed = depends_on shown is from c v inside (known stands.inside stands.there)
+        (reached_depends shown.nodes is.store from v (record { place = from; high = high; low = low; reached = itself; node = at }));
     least = λ d there dep.
         let other = stands_at shown.universe d there in
         elim (cases_lt other.place v) [

@@ -21,7 +21,8 @@ use Rattle.dd_core.proofs.SupportLemmas.{index_below}
 pub leads_itself : (nodes : List Node) (fix : ℕ → Option Bool) (place : ℕ) → place < length nodes → LeadsTo nodes fix place place
 leads_itself nodes fix place inside = record { inside = inside; value = λ test. refl; above = λ v above. above }
 
-module _ (nodes : List Node) (store : IsStore nodes) (fix : ℕ → Option Bool) (from place c high low : ℕ) (at : slice_get nodes place ≡ Some (Choice c high low)) (leads : LeadsTo nodes fix from place) where
+module _ (nodes : List Node) (store : IsStore nodes) (fix : ℕ → Option Bool) (from place c high low : ℕ) (at : slice_get nodes place ≡ Some (Choice c high low))
+    (leads : LeadsTo nodes fix from place) where
   pub leads_high : fix c ≡ Some true → LeadsTo nodes fix from high
   leads_high e =
       let r = store.reduced place c high low at in
@@ -49,7 +50,8 @@ module _ (nodes : List Node) (store : IsStore nodes) (fix : ℕ → Option Bool)
       }
 
 -- what the place becomes in a larger store, the first one becomes
-pub leads_restricted : (old new : List Node) (fix : ℕ → Option Bool) (from place node : ℕ) → Extends old new → from < length old → LeadsTo old fix from place → IsRestricted new fix place node → IsRestricted new fix from node
+pub leads_restricted : (old new : List Node) (fix : ℕ → Option Bool) (from place node : ℕ) → Extends old new → from < length old → LeadsTo old fix from place →
+    IsRestricted new fix place node → IsRestricted new fix from node
 leads_restricted old new fix from place node extends inside leads is = record {
   inside = is.inside;
   value = λ test.
@@ -62,7 +64,9 @@ leads_restricted old new fix from place node extends inside leads is = record {
     above_place v above = above_kept old new v place extends leads.inside (leads.above v (above_before old new v from extends inside above))
 
 -- the value hangs on the variables from the node's own on
-later_step : (nodes : List Node) (f g : ℕ → Bool) (v i : ℕ) → IsStore nodes → ((w : ℕ) → v ≤ w → f w ≡ g w) → ((k : ℕ) → k < i → k < length nodes → IsNotBefore nodes v k → value nodes f k ≡ value nodes g k) → i < length nodes → IsNotBefore nodes v i → IsNodeAt nodes i → value nodes f i ≡ value nodes g i
+later_step : (nodes : List Node) (f g : ℕ → Bool) (v i : ℕ) → IsStore nodes → ((w : ℕ) → v ≤ w → f w ≡ g w) →
+    ((k : ℕ) → k < i → k < length nodes → IsNotBefore nodes v k → value nodes f k ≡ value nodes g k) → i < length nodes → IsNotBefore nodes v i →
+    IsNodeAt nodes i → value nodes f i ≡ value nodes g i
 later_step nodes f g v i store same sons inside later (is_constant b at) = value-Constant nodes f i b at ∙ sym (value-Constant nodes g i b at)
 later_step nodes f g v i store same sons inside later (is_choice c high low at) =
     let r = store.reduced i c high low at in
@@ -79,13 +83,16 @@ later_step nodes f g v i store same sons inside later (is_choice c high low at) 
     from_above : (k : ℕ) → IsAbove nodes c k → v ≤ c → IsNotBefore nodes v k
     from_above k above le = record { same_or_later = λ other h l there. let lt = above.later other h l there in omega arith }
 
-pub same_later : (nodes : List Node) (f g : ℕ → Bool) (v n i : ℕ) → IsStore nodes → ((w : ℕ) → v ≤ w → f w ≡ g w) → i < n → i < length nodes → IsNotBefore nodes v i → value nodes f i ≡ value nodes g i
+pub same_later : (nodes : List Node) (f g : ℕ → Bool) (v n i : ℕ) → IsStore nodes → ((w : ℕ) → v ≤ w → f w ≡ g w) → i < n → i < length nodes →
+    IsNotBefore nodes v i → value nodes f i ≡ value nodes g i
 same_later nodes f g v zero i store same below inside later = absurd (omega arith)
 same_later nodes f g v (suc n) i store same below inside later =
-    later_step nodes f g v i store same (λ k before inside' later'. same_later nodes f g v n k store same (omega arith) inside' later') inside later (node_at nodes i inside)
+    later_step nodes f g v i store same (λ k before inside' later'. same_later nodes f g v n k store same (omega arith) inside' later') inside later
+    (node_at nodes i inside)
 
 -- so a node below which none is fixed stays
-pub unfixed_restricted : (nodes : List Node) (fix : ℕ → Option Bool) (place : ℕ) → IsStore nodes → place < length nodes → IsUnfixed nodes fix place → IsRestricted nodes fix place place
+pub unfixed_restricted : (nodes : List Node) (fix : ℕ → Option Bool) (place : ℕ) → IsStore nodes → place < length nodes → IsUnfixed nodes fix place →
+    IsRestricted nodes fix place place
 unfixed_restricted nodes fix place store inside unfixed = by (node_at nodes place inside)
   where
     by : IsNodeAt nodes place → IsRestricted nodes fix place place
@@ -96,7 +103,8 @@ unfixed_restricted nodes fix place store inside unfixed = by (node_at nodes plac
     }
     by (is_choice c high low at) = record {
       inside = inside;
-      value = λ test. same_later nodes test (fixed_test fix test) c (suc place) place store (λ w le. let e = unfixed.none c high low at w le in rw e refl) (omega arith) inside (itself c high low at);
+      value = λ test. same_later nodes test (fixed_test fix test) c (suc place) place store (λ w le. let e = unfixed.none c high low at w le in rw e refl)
+          (omega arith) inside (itself c high low at);
       above = λ v above. above;
     }
       where
@@ -126,7 +134,8 @@ not_there set c d all le = by (has set d) refl
     by true e = let lt = before_all set c d all e in absurd (omega arith)
     by false e = refl
 
-pub constant_unfixed : (nodes : List Node) (fix : ℕ → Option Bool) (place : ℕ) (b : Bool) → slice_get nodes place ≡ Some (Constant b) → IsUnfixed nodes fix place
+pub constant_unfixed : (nodes : List Node) (fix : ℕ → Option Bool) (place : ℕ) (b : Bool) → slice_get nodes place ≡ Some (Constant b) →
+    IsUnfixed nodes fix place
 constant_unfixed nodes fix place b at = record { none = λ v high low at'. absurd cc }
 
 module _ (nodes : List Node) (universe present absent : List ℕ) (place v high low : ℕ) (at : slice_get nodes place ≡ Some (Choice v high low)) where
@@ -142,7 +151,8 @@ module _ (nodes : List Node) (universe present absent : List ℕ) (place v high 
     | inr ne ↦ let lt = index_below universe v w up (omega arith) inside in omega arith
   ]
 
-  pub before_unfixed : (c : ℕ) → IsAscending universe → get_or universe v 0 ≡ c → list_all (λ x. nat_lt x c) present ≡ true → list_all (λ x. nat_lt x c) absent ≡ true → IsUnfixed nodes (fixed universe present absent) place
+  pub before_unfixed : (c : ℕ) → IsAscending universe → get_or universe v 0 ≡ c → list_all (λ x. nat_lt x c) present ≡ true →
+      list_all (λ x. nat_lt x c) absent ≡ true → IsUnfixed nodes (fixed universe present absent) place
   before_unfixed c up stands in_present in_absent = record {
     none = λ other h l there w le.
         let e : v ≡ other = cc in

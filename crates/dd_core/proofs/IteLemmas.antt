@@ -39,7 +39,8 @@ ite_false nodes a b c at inside = record {
 
 -- the first variable of three nodes, of which the first has one
 pub record IsFirstOfThree (nodes : List Node) (a b c first : ℕ) : Type 0 where
-  pub found : ((h : ℕ) × (l : ℕ) × (slice_get nodes a ≡ Some (Choice first h l))) ⊎ (((h : ℕ) × (l : ℕ) × (slice_get nodes b ≡ Some (Choice first h l))) ⊎ ((h : ℕ) × (l : ℕ) × (slice_get nodes c ≡ Some (Choice first h l))))
+  pub found : ((h : ℕ) × (l : ℕ) × (slice_get nodes a ≡ Some (Choice first h l)))
+      ⊎ (((h : ℕ) × (l : ℕ) × (slice_get nodes b ≡ Some (Choice first h l))) ⊎ ((h : ℕ) × (l : ℕ) × (slice_get nodes c ≡ Some (Choice first h l))))
 
 pub first_within : (nodes : List Node) (a b c first bound : ℕ) → IsFirstOfThree nodes a b c first → IsWithin nodes bound → first ≤ bound
 first_within nodes a b c first bound three within = elim three.found [
@@ -50,7 +51,8 @@ first_within nodes a b c first bound three within = elim three.found [
   ]
 ]
 
-pub first_of_three : (nodes : List Node) (a b c variable first first' h l : ℕ) → slice_get nodes a ≡ Some (Choice variable h l) → IsFirst nodes variable b first → IsFirst nodes first c first' → IsFirstOfThree nodes a b c first'
+pub first_of_three : (nodes : List Node) (a b c variable first first' h l : ℕ) → slice_get nodes a ≡ Some (Choice variable h l) →
+    IsFirst nodes variable b first → IsFirst nodes first c first' → IsFirstOfThree nodes a b c first'
 first_of_three nodes a b c variable first first' h l at one two = record {
   found = elim two.found [
     | inl e ↦ elim one.found [
@@ -61,7 +63,8 @@ first_of_three nodes a b c variable first first' h l at one two = record {
   ];
 }
 
-module _ (nodes : List Node) (a b c first ah al bh bl ch cl : ℕ) (three : IsFirstOfThree nodes a b c first) (of_a : AreSons nodes first a ah al) (of_b : AreSons nodes first b bh bl) (of_c : AreSons nodes first c ch cl) where
+module _ (nodes : List Node) (a b c first ah al bh bl ch cl : ℕ) (three : IsFirstOfThree nodes a b c first) (of_a : AreSons nodes first a ah al)
+    (of_b : AreSons nodes first b bh bl) (of_c : AreSons nodes first c ch cl) where
   pub sons_fall : (ah + bh + ch < a + b + c) × (al + bl + cl < a + b + c)
   sons_fall =
       let a1 = of_a.high_not_after in
@@ -88,7 +91,8 @@ module _ (nodes : List Node) (a b c first ah al bh bl ch cl : ℕ) (three : IsFi
         ]
       ]
 
-module _ (old mid mid' new : List Node) (a b c first ah al bh bl ch cl high low place : ℕ) (grown : Extends old mid) (grown' : Extends mid mid') (ia : a < length old) (ib : b < length old) (ic : c < length old)
+module _ (old mid mid' new : List Node) (a b c first ah al bh bl ch cl high low place : ℕ) (grown : Extends old mid) (grown' : Extends mid mid')
+    (ia : a < length old) (ib : b < length old) (ic : c < length old)
     (three : IsFirstOfThree old a b c first) (of_a : AreSons old first a ah al) (of_b : AreSons old first b bh bl) (of_c : AreSons old first c ch cl)
     (of_high : IsIte old mid ah bh ch high) (of_low : IsIte mid mid' al bl cl low) where
   pub ite_high_above : IsAbove mid' first high
@@ -99,10 +103,12 @@ module _ (old mid mid' new : List Node) (a b c first ah al bh bl ch cl high low 
       let a2 = of_a.low_not_after in
       let b2 = of_b.low_not_after in
       let c2 = of_c.low_not_after in
-      of_low.above first (above_kept old mid first al grown (omega arith) of_a.low_above) (above_kept old mid first bl grown (omega arith) of_b.low_above) (above_kept old mid first cl grown (omega arith) of_c.low_above)
+      of_low.above first (above_kept old mid first al grown (omega arith) of_a.low_above) (above_kept old mid first bl grown (omega arith) of_b.low_above)
+      (above_kept old mid first cl grown (omega arith) of_c.low_above)
 
   -- by whether the set has the first variable
-  value_of_step : (has : ℕ → Bool) (v : Bool) → has first ≡ v → IsChoiceBetween mid' new first high low place → value new has place ≡ (if value old has a then value old has b else value old has c)
+  value_of_step : (has : ℕ → Bool) (v : Bool) → has first ≡ v → IsChoiceBetween mid' new first high low place →
+      value new has place ≡ (if value old has a then value old has b else value old has c)
   value_of_step has true e choice =
       let e1 = rw e at (choice.value has) in
       let e2 = value_kept mid mid' has high grown' of_high.inside in

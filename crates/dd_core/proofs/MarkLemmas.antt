@@ -56,7 +56,8 @@ module _ (nodes : List Node) (marks : List Bool) (place : ℕ) where
     only = λ from other reached marked. inl marked;
   }
 
-  pub marked_sons : (c high low : ℕ) → place < length marks → is_marked marks place ≡ true → slice_get nodes place ≡ Some (Choice c high low) → high < place → low < place → MarksSons nodes marks (set (set marks high true) low true) place
+  pub marked_sons : (c high low : ℕ) → place < length marks → is_marked marks place ≡ true → slice_get nodes place ≡ Some (Choice c high low) → high < place →
+      low < place → MarksSons nodes marks (set (set marks high true) low true) place
   marked_sons c high low inside marked at hb lb =
       let once : List Bool = set marks high true in
       let size : length once ≡ length marks = length-set marks high true in
@@ -66,8 +67,10 @@ module _ (nodes : List Node) (marks : List Bool) (place : ℕ) where
         kept = λ other there. set_kept once low other (omega arith) (set_kept marks high other (omega arith) there);
         sons = λ variable high' low' there at'.
             let eh : high ≡ high' = cc in
-            let el : low ≡ low' = cc in
-            (rw (← eh) (set_kept once low high (omega arith) (get_or-set_same marks high true false (omega arith))), rw (← el) (get_or-set_same once low true false (omega arith)));
+            let el : low ≡ low' = cc in (
+              rw (← eh) (set_kept once low high (omega arith) (get_or-set_same marks high true false (omega arith))),
+              rw (← el) (get_or-set_same once low true false (omega arith)),
+            );
         only = λ from other reached there. elim (set_only once low other there) [
           | inl before ↦ elim (set_only marks high other before) [
             | inl old ↦ inl old
@@ -77,7 +80,8 @@ module _ (nodes : List Node) (marks : List Bool) (place : ℕ) where
         ];
       }
 
-  marking_closed : (new : List Bool) (from q variable high low : ℕ) → MarksSons nodes marks new place → IsMarking nodes from marks (place + 1) → place ≤ q → is_marked new q ≡ true → slice_get nodes q ≡ Some (Choice variable high low) → (is_marked new high ≡ true) × (is_marked new low ≡ true)
+  marking_closed : (new : List Bool) (from q variable high low : ℕ) → MarksSons nodes marks new place → IsMarking nodes from marks (place + 1) → place ≤ q →
+      is_marked new q ≡ true → slice_get nodes q ≡ Some (Choice variable high low) → (is_marked new high ≡ true) × (is_marked new low ≡ true)
   marking_closed new from q variable high low step before le marked at =
       let was : is_marked marks q ≡ true = sym (step.later q le) ∙ marked in
       elim (cases_eq q place) [
@@ -98,7 +102,8 @@ module _ (nodes : List Node) (marks : List Bool) (place : ℕ) where
     closed = λ q variable high low le marked at. marking_closed new from q variable high low step before le marked at;
   }
 
-pub marking_start : (nodes : List Node) (from : ℕ) (unmarked : List Bool) → unmarked ≡ replicate (from + 1) false → length unmarked ≡ from + 1 → IsMarking nodes from (set unmarked from true) (from + 1)
+pub marking_start : (nodes : List Node) (from : ℕ) (unmarked : List Bool) → unmarked ≡ replicate (from + 1) false → length unmarked ≡ from + 1 →
+    IsMarking nodes from (set unmarked from true) (from + 1)
 marking_start nodes from unmarked e size =
     let marks : List Bool = set unmarked from true in
     let size' : length marks ≡ from + 1 = length-set unmarked from true ∙ size in
@@ -115,10 +120,13 @@ marking_start nodes from unmarked e size =
       closed = λ place variable high low le marked at. let inside = marked_inside marks place marked in absurd (omega arith);
     }
 
-all_marked : (nodes : List Node) (from : ℕ) (marks : List Bool) → IsMarking nodes from marks 0 → (place : ℕ) → IsReached nodes from place → is_marked marks place ≡ true
+all_marked : (nodes : List Node) (from : ℕ) (marks : List Bool) → IsMarking nodes from marks 0 → (place : ℕ) → IsReached nodes from place →
+    is_marked marks place ≡ true
 all_marked nodes from marks done _ itself = done.start
-all_marked nodes from marks done _ (by_high place c high low reached at) = (done.closed place c high low (omega arith) (all_marked nodes from marks done place reached) at).0
-all_marked nodes from marks done _ (by_low place c high low reached at) = (done.closed place c high low (omega arith) (all_marked nodes from marks done place reached) at).1
+all_marked nodes from marks done _ (by_high place c high low reached at) =
+    (done.closed place c high low (omega arith) (all_marked nodes from marks done place reached) at).0
+all_marked nodes from marks done _ (by_low place c high low reached at) =
+    (done.closed place c high low (omega arith) (all_marked nodes from marks done place reached) at).1
 
 pub marking_done : (nodes : List Node) (from : ℕ) (marks : List Bool) (place : ℕ) → place ≡ 0 → IsMarking nodes from marks place → AreMarks nodes from marks
 marking_done nodes from marks place e marking =
@@ -146,11 +154,13 @@ both_true true false e = absurd cc
 both_true false b e = absurd cc
 
 -- a node that passes the test is a choice
-choice_reached : (nodes : List Node) (from place : ℕ) (node : Node) → IsReached nodes from place → slice_get nodes place ≡ Some node → is_choice node ≡ true → IsChoiceReached nodes from place
+choice_reached : (nodes : List Node) (from place : ℕ) (node : Node) → IsReached nodes from place → slice_get nodes place ≡ Some node → is_choice node ≡ true →
+    IsChoiceReached nodes from place
 choice_reached nodes from place (Constant b) reached at is = absurd cc
 choice_reached nodes from place (Choice variable high low) reached at is = record { reached = reached; variable = variable; high = high; low = low; node = at }
 
-pub size_is : (nodes : List Node) (from : ℕ) (marks : List Bool) (bound : ℕ) → bound ≡ length marks → bound ≤ length nodes → AreMarks nodes from marks → IsSize nodes from (length (choices_before nodes marks bound))
+pub size_is : (nodes : List Node) (from : ℕ) (marks : List Bool) (bound : ℕ) → bound ≡ length marks → bound ≤ length nodes → AreMarks nodes from marks →
+    IsSize nodes from (length (choices_before nodes marks bound))
 size_is nodes from marks bound e le are =
     let test : ℕ → Bool = is_marked_choice nodes marks in
     let range : List ℕ = range_with_len 0 bound in
@@ -161,7 +171,8 @@ size_is nodes from marks bound e le are =
           let (passes, _) = both_true (test place) (has range place) (sym (has-filter test range place) ∙ there) in
           let (marked, is) = both_true (is_marked marks place) (is_choice (get_or nodes place (Constant false))) passes in
           let inside = marked_inside marks place marked in
-          choice_reached nodes from place (get_or nodes place (Constant false)) (are.reached place marked) (slice_get-get_or nodes place (Constant false) (omega arith)) is;
+          choice_reached nodes from place (get_or nodes place (Constant false)) (are.reached place marked)
+          (slice_get-get_or nodes place (Constant false) (omega arith)) is;
       all = λ place choice.
           let marked = are.all place choice.reached in
           let inside = marked_inside marks place marked in
@@ -194,7 +205,8 @@ module _ (nodes : List Node) (marks : List Bool) (n : ℕ) where
   counted_same e = ap (λ (l : List ℕ). length l) (choices_more false e ∙ append-nil (choices_before nodes marks n))
 
 -- marks of variables
-pub variable_marked : (nodes : List Node) (used : List Bool) (place c high low : ℕ) → slice_get nodes place ≡ Some (Choice c high low) → c < length used → MarksVariable nodes used (set used c true) place
+pub variable_marked : (nodes : List Node) (used : List Bool) (place c high low : ℕ) → slice_get nodes place ≡ Some (Choice c high low) → c < length used →
+    MarksVariable nodes used (set used c true) place
 variable_marked nodes used place c high low at inside = record {
   total = length-set used c true;
   kept = λ variable there. set_kept used c variable inside there;
@@ -205,7 +217,8 @@ variable_marked nodes used place c high low at inside = record {
   ];
 }
 
-pub no_variable : (nodes : List Node) (used : List Bool) (place : ℕ) (b : Bool) → slice_get nodes place ≡ Some (Constant b) → MarksVariable nodes used used place
+pub no_variable : (nodes : List Node) (used : List Bool) (place : ℕ) (b : Bool) → slice_get nodes place ≡ Some (Constant b) →
+    MarksVariable nodes used used place
 no_variable nodes used place b at = record {
   total = refl;
   kept = λ variable there. there;
@@ -213,7 +226,8 @@ no_variable nodes used place b at = record {
   only = λ from variable reached there. inl there;
 }
 
-pub used_start : (nodes : List Node) (from bound : ℕ) (marks used : List Bool) → used ≡ replicate (bound + 1) false → length used ≡ bound + 1 → AreUsedBefore nodes from bound marks used 0
+pub used_start : (nodes : List Node) (from bound : ℕ) (marks used : List Bool) → used ≡ replicate (bound + 1) false → length used ≡ bound + 1 →
+    AreUsedBefore nodes from bound marks used 0
 used_start nodes from bound marks used e size = record {
   total = size;
   reached = λ variable there.
@@ -224,7 +238,8 @@ used_start nodes from bound marks used e size = record {
 }
 
 module _ (nodes : List Node) (from bound : ℕ) (marks used : List Bool) (place : ℕ) (before : AreUsedBefore nodes from bound marks used place) where
-  pub used_step : (new : List Bool) → AreMarks nodes from marks → is_marked marks place ≡ true → MarksVariable nodes used new place → AreUsedBefore nodes from bound marks new (place + 1)
+  pub used_step : (new : List Bool) → AreMarks nodes from marks → is_marked marks place ≡ true → MarksVariable nodes used new place →
+      AreUsedBefore nodes from bound marks new (place + 1)
   used_step new are marked step = record {
     total = step.total ∙ before.total;
     reached = λ variable there. elim (step.only from variable (are.reached place marked) there) [

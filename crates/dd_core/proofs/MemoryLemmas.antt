@@ -33,7 +33,9 @@ remembered_extends old new key place extends r =
             let ec = value_kept old new has key.c extends ic in
             let ep = value_kept old new has place extends ip in
             cc;
-        above = λ d ha hb hc. above_kept old new d place extends ip (r.ite.above d (above_before old new d key.a extends ia ha) (above_before old new d key.b extends ib hb) (above_before old new d key.c extends ic hc));
+        above = λ d ha hb hc. above_kept old new d place extends ip
+            (r.ite.above d (above_before old new d key.a extends ia ha) (above_before old new d key.b extends ib hb)
+            (above_before old new d key.c extends ic hc));
       };
     }
 
@@ -41,7 +43,8 @@ pub memory_extends : (old new : List Node) (entries : List (OpKey × ℕ)) → E
 memory_extends old new entries extends memory = record { each = λ key place there. remembered_extends old new key place extends (memory.each key place there) }
 
 -- the result of an operation, in the store that it left
-pub remembered_result : (old new : List Node) (key : OpKey) (place : ℕ) → Extends old new → key.a < length old → key.b < length old → key.c < length old → IsIte old new key.a key.b key.c place → IsResult new key place
+pub remembered_result : (old new : List Node) (key : OpKey) (place : ℕ) → Extends old new → key.a < length old → key.b < length old → key.c < length old →
+    IsIte old new key.a key.b key.c place → IsResult new key place
 remembered_result old new key place extends ia ib ic ite =
     let size = length_kept old new extends in
     record {
@@ -56,12 +59,14 @@ remembered_result old new key place extends ia ib ic ite =
             let eb = value_kept old new has key.b extends ib in
             let ec = value_kept old new has key.c extends ic in
             cc;
-        above = λ d ha hb hc. ite.above d (above_before old new d key.a extends ia ha) (above_before old new d key.b extends ib hb) (above_before old new d key.c extends ic hc);
+        above = λ d ha hb hc. ite.above d (above_before old new d key.a extends ia ha) (above_before old new d key.b extends ib hb)
+            (above_before old new d key.c extends ic hc);
       };
     }
 
 -- a memory stays right where one more result is kept
-pub memory_keep : (nodes : List Node) (entries : List (OpKey × ℕ)) (capacity : ℕ) (key : OpKey) (place : ℕ) → IsMemory nodes entries → IsResult nodes key place → IsMemory nodes (kept capacity key place entries)
+pub memory_keep : (nodes : List Node) (entries : List (OpKey × ℕ)) (capacity : ℕ) (key : OpKey) (place : ℕ) → IsMemory nodes entries →
+    IsResult nodes key place → IsMemory nodes (kept capacity key place entries)
 memory_keep nodes entries capacity key place memory r = record {
   each = λ key' place' there. elim (Contains-kept key capacity place entries (key', place') there) [
     | inl old ↦ memory.each key' place' old
@@ -73,7 +78,8 @@ pub memory_recalled : (nodes : List Node) (entries : List (OpKey × ℕ)) (key :
 memory_recalled nodes entries key memory = record { each = λ key' place there. memory.each key' place (Contains-recalled key entries (key', place) there) }
 
 -- what is found is the result of the operation
-pub memory_hit : (nodes : List Node) (entries : List (OpKey × ℕ)) (key : OpKey) (place : ℕ) → IsMemory nodes entries → found key entries ≡ Some place → IsIte nodes nodes key.a key.b key.c place
+pub memory_hit : (nodes : List Node) (entries : List (OpKey × ℕ)) (key : OpKey) (place : ℕ) → IsMemory nodes entries → found key entries ≡ Some place →
+    IsIte nodes nodes key.a key.b key.c place
 memory_hit nodes entries key place memory is = (memory.each key place (found_there key entries place is)).ite
 
 pub memory_empty : (nodes : List Node) → IsMemory nodes []

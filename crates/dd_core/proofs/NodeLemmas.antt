@@ -35,7 +35,9 @@ pub above_earlier : (nodes : List Node) (c d i : ℕ) → c < d → IsAbove node
 above_earlier nodes c d i lt above = record { later = λ other high low at. let lt' = above.later other high low at in omega arith }
 
 -- the step of the next lemma: what it says of the sons, it says of the node
-updated_step : (nodes : List Node) (has : ℕ → Bool) (c : ℕ) (b : Bool) (i : ℕ) → IsStore nodes → i < length nodes → ((k : ℕ) → k < i → k < length nodes → IsAbove nodes c k → value nodes (updated has c b) k ≡ value nodes has k) → IsAbove nodes c i → IsNodeAt nodes i → value nodes (updated has c b) i ≡ value nodes has i
+updated_step : (nodes : List Node) (has : ℕ → Bool) (c : ℕ) (b : Bool) (i : ℕ) → IsStore nodes → i < length nodes →
+    ((k : ℕ) → k < i → k < length nodes → IsAbove nodes c k → value nodes (updated has c b) k ≡ value nodes has k) → IsAbove nodes c i → IsNodeAt nodes i →
+    value nodes (updated has c b) i ≡ value nodes has i
 updated_step nodes has c b i store inside sons above (is_constant v at) = value-Constant nodes (updated has c b) i v at ∙ sym (value-Constant nodes has i v at)
 updated_step nodes has c b i store inside sons above (is_choice d high low at) =
     let r = store.reduced i d high low at in
@@ -50,10 +52,12 @@ updated_step nodes has c b i store inside sons above (is_choice d high low at) =
     cc
 
 -- a node's value does not depend on a variable before its own
-pub value-updated : (nodes : List Node) (store : IsStore nodes) (has : ℕ → Bool) (c : ℕ) (b : Bool) (n i : ℕ) → i < n → i < length nodes → IsAbove nodes c i → value nodes (updated has c b) i ≡ value nodes has i
+pub value-updated : (nodes : List Node) (store : IsStore nodes) (has : ℕ → Bool) (c : ℕ) (b : Bool) (n i : ℕ) → i < n → i < length nodes → IsAbove nodes c i →
+    value nodes (updated has c b) i ≡ value nodes has i
 value-updated nodes store has c b zero i below inside above = absurd (omega arith)
 value-updated nodes store has c b (suc n) i below inside above =
-    updated_step nodes has c b i store inside (λ k before inside' above'. value-updated nodes store has c b n k (omega arith) inside' above') above (node_at nodes i inside)
+    updated_step nodes has c b i store inside (λ k before inside' above'. value-updated nodes store has c b n k (omega arith) inside' above') above
+    (node_at nodes i inside)
 
 module _ (nodes : List Node) (store : IsStore nodes) (i c high low : ℕ) (inside : i < length nodes) (at : slice_get nodes i ≡ Some (Choice c high low)) where
   -- the value of the high son is that of the node with its variable put in

@@ -12,7 +12,8 @@ use Rattle.dd_core.specs.Sets.{has_others, test_of}
 use Rattle.dd_core.proofs.ValueLemmas.{value-Constant, value-Choice}
 use Rattle.dd_core.proofs.NodeLemmas.{IsNodeAt, is_constant, is_choice, node_at}
 
-agree_step : (nodes : List Node) (bound : ℕ) (f g : ℕ → Bool) (i : ℕ) → IsStore nodes → IsWithin nodes bound → ((c : ℕ) → c ≤ bound → f c ≡ g c) → ((k : ℕ) → k < i → k < length nodes → value nodes f k ≡ value nodes g k) → i < length nodes → IsNodeAt nodes i → value nodes f i ≡ value nodes g i
+agree_step : (nodes : List Node) (bound : ℕ) (f g : ℕ → Bool) (i : ℕ) → IsStore nodes → IsWithin nodes bound → ((c : ℕ) → c ≤ bound → f c ≡ g c) →
+    ((k : ℕ) → k < i → k < length nodes → value nodes f k ≡ value nodes g k) → i < length nodes → IsNodeAt nodes i → value nodes f i ≡ value nodes g i
 agree_step nodes bound f g i store within same sons inside (is_constant v at) = value-Constant nodes f i v at ∙ sym (value-Constant nodes g i v at)
 agree_step nodes bound f g i store within same sons inside (is_choice c high low at) =
     let r = store.reduced i c high low at in
@@ -26,10 +27,12 @@ agree_step nodes bound f g i store within same sons inside (is_choice c high low
     cc
 
 -- the value depends on no variable past the bound
-pub value_agrees : (nodes : List Node) (bound : ℕ) (f g : ℕ → Bool) (n i : ℕ) → IsStore nodes → IsWithin nodes bound → ((c : ℕ) → c ≤ bound → f c ≡ g c) → i < n → i < length nodes → value nodes f i ≡ value nodes g i
+pub value_agrees : (nodes : List Node) (bound : ℕ) (f g : ℕ → Bool) (n i : ℕ) → IsStore nodes → IsWithin nodes bound → ((c : ℕ) → c ≤ bound → f c ≡ g c) →
+    i < n → i < length nodes → value nodes f i ≡ value nodes g i
 value_agrees nodes bound f g zero i store within same below inside = absurd (omega arith)
 value_agrees nodes bound f g (suc n) i store within same below inside =
-    agree_step nodes bound f g i store within same (λ k before inside'. value_agrees nodes bound f g n k store within same (omega arith) inside') inside (node_at nodes i inside)
+    agree_step nodes bound f g i store within same (λ k before inside'. value_agrees nodes bound f g n k store within same (omega arith) inside') inside
+    (node_at nodes i inside)
 
 -- the communities of the list at whose places the test is true, and the outside one where it is true behind them
 abbrev pub chosen : (ℕ → Bool) → ℕ → List ℕ → ℕ → List ℕ
@@ -77,7 +80,8 @@ ascending_chosen f place [] outside up below = by (f place)
     by false = tt
 ascending_chosen f place (c ∷ cs) outside up below = by (f place) (ascending_chosen f (place + 1) cs outside up.1 below.1)
   where
-    by : (b : Bool) → IsAscending (chosen f (place + 1) cs outside) → IsAscending (cond b (c ∷ chosen f (place + 1) cs outside) (chosen f (place + 1) cs outside))
+    by : (b : Bool) → IsAscending (chosen f (place + 1) cs outside) →
+        IsAscending (cond b (c ∷ chosen f (place + 1) cs outside) (chosen f (place + 1) cs outside))
     by true rest = (above_chosen f c (place + 1) cs outside up.0 below.0, rest)
     by false rest = rest
 
@@ -94,19 +98,22 @@ later_chosen : (b : Bool) (c d : ℕ) (rest : List ℕ) → c ≢ d → has (con
 later_chosen true c d rest ne = rw (other_number c d ne) refl
 later_chosen false c d rest ne = refl
 
-pub has-chosen : (f : ℕ → Bool) (place : ℕ) (cs : List ℕ) (outside i : ℕ) → IsAscending cs → AllBelow outside cs → i < length cs → has (chosen f place cs outside) (get_or cs i 0) ≡ f (place + i)
+pub has-chosen : (f : ℕ → Bool) (place : ℕ) (cs : List ℕ) (outside i : ℕ) → IsAscending cs → AllBelow outside cs → i < length cs →
+    has (chosen f place cs outside) (get_or cs i 0) ≡ f (place + i)
 has-chosen f place [] outside i up below inside = absurd (omega arith)
 has-chosen f place (c ∷ cs) outside zero up below inside =
     first_chosen (f place) c (chosen f (place + 1) cs outside) (above_chosen f c (place + 1) cs outside up.0 below.0) ∙ ap f (omega arith)
 has-chosen f place (c ∷ cs) outside (suc i) up below inside =
     let above = above_index c cs i up.0 (omega arith) in
-    later_chosen (f place) c (get_or cs i 0) (chosen f (place + 1) cs outside) (omega arith) ∙ has-chosen f (place + 1) cs outside i up.1 below.1 (omega arith) ∙ ap f (omega arith)
+    later_chosen (f place) c (get_or cs i 0) (chosen f (place + 1) cs outside) (omega arith) ∙ has-chosen f (place + 1) cs outside i up.1 below.1 (omega arith)
+    ∙ ap f (omega arith)
 
 known_first : (b r : Bool) → r ≡ true → b || r ≡ true
 known_first true r e = refl
 known_first false r e = e
 
-others_taken : (universe : List ℕ) (b : Bool) (c : ℕ) (rest : List ℕ) → has universe c ≡ true → has_others universe (cond b (c ∷ rest) rest) ≡ has_others universe rest
+others_taken : (universe : List ℕ) (b : Bool) (c : ℕ) (rest : List ℕ) → has universe c ≡ true →
+    has_others universe (cond b (c ∷ rest) rest) ≡ has_others universe rest
 others_taken universe true c rest known = rw known refl
 others_taken universe false c rest known = refl
 
@@ -114,7 +121,8 @@ others_last : (universe : List ℕ) (b : Bool) (outside : ℕ) → has universe 
 others_last universe true outside none = rw none refl
 others_last universe false outside none = refl
 
-pub others-chosen : (f : ℕ → Bool) (universe : List ℕ) (place : ℕ) (cs : List ℕ) (outside : ℕ) → ((c : ℕ) → has cs c ≡ true → has universe c ≡ true) → has universe outside ≡ false → has_others universe (chosen f place cs outside) ≡ f (place + length cs)
+pub others-chosen : (f : ℕ → Bool) (universe : List ℕ) (place : ℕ) (cs : List ℕ) (outside : ℕ) → ((c : ℕ) → has cs c ≡ true → has universe c ≡ true) →
+    has universe outside ≡ false → has_others universe (chosen f place cs outside) ≡ f (place + length cs)
 others-chosen f universe place [] outside known none = others_last universe (f place) outside none ∙ ap f (omega arith)
 others-chosen f universe place (c ∷ cs) outside known none =
     others_taken universe (f place) c (chosen f (place + 1) cs outside) (known c (rw (same_number c c refl) refl))
@@ -125,14 +133,16 @@ abbrev pub set_of : List ℕ → (ℕ → Bool) → List ℕ
 set_of universe f = chosen f 0 universe (outside_of universe)
 
 -- the set makes the variables as true as the test does
-pub test-set_of : (universe : List ℕ) (f : ℕ → Bool) → IsAscending universe → (variable : ℕ) → variable ≤ length universe → test_of universe (set_of universe f) variable ≡ f variable
+pub test-set_of : (universe : List ℕ) (f : ℕ → Bool) → IsAscending universe → (variable : ℕ) → variable ≤ length universe →
+    test_of universe (set_of universe f) variable ≡ f variable
 test-set_of universe f up variable le = elim (cases_lt variable (length universe)) [
   | inl lt ↦
       let e : nat_lt variable (length universe) ≡ true = grind (arith, nat_tests) in
       rw e (has-chosen f 0 universe (outside_of universe) variable up (all_below_outside universe) lt ∙ ap f (omega arith))
   | inr ge ↦
       let e : nat_lt variable (length universe) ≡ false = grind (arith, nat_tests) in
-      rw e (others-chosen f universe 0 universe (outside_of universe) (λ c there. there) (has_outside (outside_of universe) universe (all_below_outside universe)) ∙ ap f (omega arith))
+      rw e (others-chosen f universe 0 universe (outside_of universe) (λ c there. there)
+      (has_outside (outside_of universe) universe (all_below_outside universe)) ∙ ap f (omega arith))
 ]
 
 pub ascending-set_of : (universe : List ℕ) (f : ℕ → Bool) → IsAscending universe → IsAscending (set_of universe f)

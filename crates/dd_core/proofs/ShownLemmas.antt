@@ -13,11 +13,19 @@ use Rattle.dd_core.proofs.ValueLemmas.{value_kept}
 
 pub constant_true : (shown : Shown) → IsShown shown → (b : Bool) → b ≡ true → Means shown 1 (λ _. b)
 unfolding value_of
-constant_true shown is b e = record { inside = two_nodes shown.nodes is.store; value = λ set. value_always shown.nodes (test_of shown.universe set) is.store ∙ sym e }
+constant_true shown is b e = record {
+  inside = two_nodes shown.nodes is.store;
+  value = λ set. value_always shown.nodes (test_of shown.universe set) is.store
+      ∙ sym e;
+}
 
 pub constant_false : (shown : Shown) → IsShown shown → (b : Bool) → b ≡ false → Means shown 0 (λ _. b)
 unfolding value_of
-constant_false shown is b e = record { inside = (let two = two_nodes shown.nodes is.store in omega arith); value = λ set. value_never shown.nodes (test_of shown.universe set) is.store ∙ sym e }
+constant_false shown is b e = record {
+  inside = (let two = two_nodes shown.nodes is.store in omega arith);
+  value =
+      λ set. value_never shown.nodes (test_of shown.universe set) is.store ∙ sym e;
+}
 
 if_same : (b : Bool) → (if b then true else false) ≡ b
 if_same true = refl
@@ -26,19 +34,22 @@ if_same false = refl
 choice_value : (old new : List Node) (v place : ℕ) → IsStore old → IsChoiceBetween old new v 1 0 place → (test : ℕ → Bool) → value new test place ≡ test v
 choice_value old new v place store choice test = choice.value test ∙ rw (value_always old test store, value_never old test store) (if_same (test v))
 
-pub var_means : (universe : List ℕ) (old new : List Node) (memory : Memory) (v c place : ℕ) → IsStore old → IsChoiceBetween old new v 1 0 place → v < length universe → get_or universe v 0 ≡ c → Means (record { universe = universe; nodes = new; memory = memory }) place (λ set. has set c)
+pub var_means : (universe : List ℕ) (old new : List Node) (memory : Memory) (v c place : ℕ) → IsStore old → IsChoiceBetween old new v 1 0 place →
+    v < length universe → get_or universe v 0 ≡ c → Means (record { universe = universe; nodes = new; memory = memory }) place (λ set. has set c)
 unfolding value_of
 var_means universe old new memory v c place store choice lt there =
     let e : nat_lt v (length universe) ≡ true = grind (arith, nat_tests) in
     record { inside = choice.inside; value = λ set. choice_value old new v place store choice (test_of universe set) ∙ rw (e, there) refl }
 
-pub others_means : (universe : List ℕ) (old new : List Node) (memory : Memory) (v place : ℕ) → IsStore old → IsChoiceBetween old new v 1 0 place → v ≡ length universe → Means (record { universe = universe; nodes = new; memory = memory }) place (λ set. has_others universe set)
+pub others_means : (universe : List ℕ) (old new : List Node) (memory : Memory) (v place : ℕ) → IsStore old → IsChoiceBetween old new v 1 0 place →
+    v ≡ length universe → Means (record { universe = universe; nodes = new; memory = memory }) place (λ set. has_others universe set)
 unfolding value_of
 others_means universe old new memory v place store choice last =
     let e : nat_lt v (length universe) ≡ false = grind (arith, nat_tests) in
     record { inside = choice.inside; value = λ set. choice_value old new v place store choice (test_of universe set) ∙ rw e refl }
 
-pub ite_of_sets : (universe : List ℕ) (old new : List Node) (memory memory' : Memory) (a b c place : ℕ) → IsIte old new a b c place → IsIteOfSets (record { universe = universe; nodes = old; memory = memory }) (record { universe = universe; nodes = new; memory = memory' }) a b c place
+pub ite_of_sets : (universe : List ℕ) (old new : List Node) (memory memory' : Memory) (a b c place : ℕ) → IsIte old new a b c place →
+    IsIteOfSets (record { universe = universe; nodes = old; memory = memory }) (record { universe = universe; nodes = new; memory = memory' }) a b c place
 unfolding value_of
 ite_of_sets universe old new memory memory' a b c place ite = record { inside = ite.inside; value = λ set. ite.value (test_of universe set) }
 
@@ -56,7 +67,8 @@ means_kept old new place test grows means = record {
   value = λ set. value_of_kept old new set place grows means.inside ∙ means.value set;
 }
 
-pub ite_means : (old new : Shown) (a b c place : ℕ) (f g h : List ℕ → Bool) → Means old a f → Means old b g → Means old c h → IsIteOfSets old new a b c place → Means new place (λ set. if f set then g set else h set)
+pub ite_means : (old new : Shown) (a b c place : ℕ) (f g h : List ℕ → Bool) → Means old a f → Means old b g → Means old c h → IsIteOfSets old new a b c place →
+    Means new place (λ set. if f set then g set else h set)
 ite_means old new a b c place f g h of_a of_b of_c ite = record {
   inside = ite.inside;
   value = λ set. ite.value set ∙ rw (of_a.value set, of_b.value set, of_c.value set) refl;

@@ -43,7 +43,8 @@ newest old new node place more e =
     let inside : place < length new = (let size = ap length more ∙ length_push old node in omega arith) in
     slice_get-get_or new place node inside ∙ ap (λ (x : Node). Some x) (ap (λ ns. get_or ns place node) more ∙ get_or_push old node node place (sym e))
 
-reduced_kept : (old new : List Node) (place c high low : ℕ) → Extends old new → place < length old → IsReduced old place c high low → IsReduced new place c high low
+reduced_kept : (old new : List Node) (place c high low : ℕ) → Extends old new → place < length old → IsReduced old place c high low →
+    IsReduced new place c high low
 reduced_kept old new place c high low extends inside r =
     let hb = r.high_before in
     let lb = r.low_before in
@@ -55,7 +56,9 @@ reduced_kept old new place c high low extends inside r =
       low_above = above_kept old new c low extends (omega arith) r.low_above;
     }
 
-new_reduced : (old new : List Node) (c high low : ℕ) → Extends old new → high < length old → low < length old → high ≢ low → IsAbove old c high → IsAbove old c low → (place c' high' low' : ℕ) → place ≡ length old → Some (Choice c' high' low') ≡ Some (Choice c high low) → IsReduced new place c' high' low'
+new_reduced : (old new : List Node) (c high low : ℕ) → Extends old new → high < length old → low < length old → high ≢ low → IsAbove old c high →
+    IsAbove old c low → (place c' high' low' : ℕ) → place ≡ length old → Some (Choice c' high' low') ≡ Some (Choice c high low) →
+    IsReduced new place c' high' low'
 new_reduced old new c high low extends hi li differ ha la place c' high' low' e same =
     let ec : c ≡ c' = cc in
     let eh : high ≡ high' = cc in
@@ -68,7 +71,8 @@ new_reduced old new c high low extends hi li differ ha la place c' high' low' e 
       low_above = above_kept old new c low extends li la;
     })
 
-pub interned_store : (old new : List Node) (c high low : ℕ) → IsStore old → high < length old → low < length old → high ≢ low → IsAbove old c high → IsAbove old c low → AreDistinct new → (new ≡ old) ⊎ (new ≡ old ++ Choice c high low ∷ []) → IsStore new
+pub interned_store : (old new : List Node) (c high low : ℕ) → IsStore old → high < length old → low < length old → high ≢ low → IsAbove old c high →
+    IsAbove old c low → AreDistinct new → (new ≡ old) ⊎ (new ≡ old ++ Choice c high low ∷ []) → IsStore new
 interned_store old new c high low store hi li differ ha la distinct (inl same) = rw same store
 interned_store old new c high low store hi li differ ha la distinct (inr more) =
     let extends : Extends old new = record { added = Choice c high low ∷ []; nodes = more } in
@@ -82,18 +86,22 @@ interned_store old new c high low store hi li differ ha la distinct (inr more) =
       reduced = λ place variable high' low' at.
           let inside = (read_get new place (Choice variable high' low') at).0 in
           elim (cases_lt place (length old)) [
-            | inl before ↦ reduced_kept old new place variable high' low' extends before (store.reduced place variable high' low' (sym (get_kept old new place extends before) ∙ at))
-            | inr past ↦ new_reduced old new c high low extends hi li differ ha la place variable high' low' (omega arith) (sym at ∙ newest old new (Choice c high low) place more (omega arith))
+            | inl before ↦ reduced_kept old new place variable high' low' extends before
+                (store.reduced place variable high' low' (sym (get_kept old new place extends before) ∙ at))
+            | inr past ↦ new_reduced old new c high low extends hi li differ ha la place variable high' low' (omega arith)
+                (sym at ∙ newest old new (Choice c high low) place more (omega arith))
           ];
     }
 
-pub interned_choice : (old new : List Node) (c high low place : ℕ) → IsStore new → Extends old new → high < length old → low < length old → slice_get new place ≡ Some (Choice c high low) → IsChoiceBetween old new c high low place
+pub interned_choice : (old new : List Node) (c high low place : ℕ) → IsStore new → Extends old new → high < length old → low < length old →
+    slice_get new place ≡ Some (Choice c high low) → IsChoiceBetween old new c high low place
 interned_choice old new c high low place store extends hi li at =
     let r = store.reduced place c high low at in
     let eh = value_kept old new in
     record {
       inside = (read_get new place (Choice c high low) at).0;
-      value = λ has. rw (sym (value_kept old new has high extends hi), sym (value_kept old new has low extends li)) (value-Choice new has place c high low at r.high_before r.low_before);
+      value = λ has. rw (sym (value_kept old new has high extends hi), sym (value_kept old new has low extends li))
+          (value-Choice new has place c high low at r.high_before r.low_before);
       above = λ d lt. choice_above new d place c high low at lt;
     }
 

@@ -18,13 +18,16 @@ length-values_after has values (node ∷ nodes) =
     omega arith
 
 -- the values of earlier nodes stay
-pub get_or-values_after : (has : ℕ → Bool) (values : List Bool) (nodes : List Node) (i : ℕ) → i < length values → get_or (values_after has values nodes) i false ≡ get_or values i false
+pub get_or-values_after : (has : ℕ → Bool) (values : List Bool) (nodes : List Node) (i : ℕ) → i < length values →
+    get_or (values_after has values nodes) i false ≡ get_or values i false
 get_or-values_after has values [] i inside = refl
 get_or-values_after has values (node ∷ nodes) i inside =
     let more = length_push values (value_from has values node) in
-    get_or-values_after has (values ++ value_from has values node ∷ []) nodes i (omega arith) ∙ get_or_append_left values (value_from has values node ∷ []) false i inside
+    get_or-values_after has (values ++ value_from has values node ∷ []) nodes i (omega arith)
+    ∙ get_or_append_left values (value_from has values node ∷ []) false i inside
 
-pub values_after-append : (has : ℕ → Bool) (values : List Bool) (nodes added : List Node) → values_after has values (nodes ++ added) ≡ values_after has (values_after has values nodes) added
+pub values_after-append : (has : ℕ → Bool) (values : List Bool) (nodes added : List Node) →
+    values_after has values (nodes ++ added) ≡ values_after has (values_after has values nodes) added
 values_after-append has values [] added = refl
 values_after-append has values (node ∷ nodes) added = values_after-append has (values ++ value_from has values node ∷ []) nodes added
 
@@ -35,13 +38,15 @@ value_kept old new has i extends inside =
     rw (extends.nodes, values_after-append has [] old extends.added) (get_or-values_after has (values_after has [] old) extends.added i (omega arith))
 
 -- a node's value follows from those of the nodes before it
-value_between : (before after : List Node) (node : Node) (has : ℕ → Bool) → value (before ++ node ∷ after) has (length before) ≡ value_from has (values_after has [] before) node
+value_between : (before after : List Node) (node : Node) (has : ℕ → Bool) →
+    value (before ++ node ∷ after) has (length before) ≡ value_from has (values_after has [] before) node
 value_between before after node has =
     let values : List Bool = values_after has [] before in
     let x : Bool = value_from has values node in
     let size : length values ≡ length before = length-values_after has [] before ∙ omega arith in
     let more = length_push values x in
-    rw (values_after-append has [] before (node ∷ after)) (get_or-values_after has (values ++ x ∷ []) after (length before) (omega arith) ∙ get_or_push values x false (length before) size)
+    rw (values_after-append has [] before (node ∷ after)) (get_or-values_after has (values ++ x ∷ []) after (length before) (omega arith)
+    ∙ get_or_push values x false (length before) size)
 
 -- the nodes before a place, and those after it
 record IsCutAt (nodes : List Node) (i : ℕ) (node : Node) : Type 0 where
@@ -60,11 +65,14 @@ cut_at nodes i node at =
       size = length-take-le i nodes (omega arith);
     }
 
-value_at : (nodes : List Node) (has : ℕ → Bool) (i : ℕ) (node : Node) (cut : IsCutAt nodes i node) → value nodes has i ≡ value_from has (values_after has [] cut.before) node
-value_at nodes has i node cut = ap (λ n. value nodes has n) (sym cut.size) ∙ ap (λ ns. value ns has (length cut.before)) cut.cut ∙ value_between cut.before cut.after node has
+value_at : (nodes : List Node) (has : ℕ → Bool) (i : ℕ) (node : Node) (cut : IsCutAt nodes i node) →
+    value nodes has i ≡ value_from has (values_after has [] cut.before) node
+value_at nodes has i node cut = ap (λ n. value nodes has n) (sym cut.size) ∙ ap (λ ns. value ns has (length cut.before)) cut.cut
+    ∙ value_between cut.before cut.after node has
 
 -- the values before the cut are those of the whole
-value_before : (nodes : List Node) (has : ℕ → Bool) (i : ℕ) (node : Node) (cut : IsCutAt nodes i node) (k : ℕ) → k < i → get_or (values_after has [] cut.before) k false ≡ value nodes has k
+value_before : (nodes : List Node) (has : ℕ → Bool) (i : ℕ) (node : Node) (cut : IsCutAt nodes i node) (k : ℕ) → k < i →
+    get_or (values_after has [] cut.before) k false ≡ value nodes has k
 value_before nodes has i node cut k inside =
     let size = cut.size in
     sym (value_kept cut.before nodes has k (record { added = node ∷ cut.after; nodes = cut.cut }) (omega arith))
@@ -72,7 +80,8 @@ value_before nodes has i node cut k inside =
 pub value-Constant : (nodes : List Node) (has : ℕ → Bool) (i : ℕ) (b : Bool) → slice_get nodes i ≡ Some (Constant b) → value nodes has i ≡ b
 value-Constant nodes has i b at = value_at nodes has i (Constant b) (cut_at nodes i (Constant b) at)
 
-pub value-Choice : (nodes : List Node) (has : ℕ → Bool) (i variable high low : ℕ) → slice_get nodes i ≡ Some (Choice variable high low) → high < i → low < i → value nodes has i ≡ (if has variable then value nodes has high else value nodes has low)
+pub value-Choice : (nodes : List Node) (has : ℕ → Bool) (i variable high low : ℕ) → slice_get nodes i ≡ Some (Choice variable high low) → high < i → low < i →
+    value nodes has i ≡ (if has variable then value nodes has high else value nodes has low)
 value-Choice nodes has i variable high low at high_before low_before =
     let cut = cut_at nodes i (Choice variable high low) at in
     let e = value_at nodes has i (Choice variable high low) cut in

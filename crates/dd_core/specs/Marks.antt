@@ -19,15 +19,18 @@ pub record IsMarking (nodes : List Node) (from : ℕ) (marks : List Bool) (done 
   pub total : length marks ≡ from + 1
   pub start : is_marked marks from ≡ true
   pub reached : (place : ℕ) → is_marked marks place ≡ true → IsReached nodes from place
-  pub closed : (place variable high low : ℕ) → done ≤ place → is_marked marks place ≡ true → slice_get nodes place ≡ Some (Choice variable high low) → (is_marked marks high ≡ true) × (is_marked marks low ≡ true)
+  pub closed : (place variable high low : ℕ) → done ≤ place → is_marked marks place ≡ true → slice_get nodes place ≡ Some (Choice variable high low) →
+      (is_marked marks high ≡ true) × (is_marked marks low ≡ true)
 
 -- the place has marked its sons, if it is marked itself
 pub record MarksSons (nodes : List Node) (old new : List Bool) (place : ℕ) : Type 0 where
   pub total : length new ≡ length old
   pub later : (other : ℕ) → place ≤ other → is_marked new other ≡ is_marked old other
   pub kept : (other : ℕ) → is_marked old other ≡ true → is_marked new other ≡ true
-  pub sons : (variable high low : ℕ) → is_marked old place ≡ true → slice_get nodes place ≡ Some (Choice variable high low) → (is_marked new high ≡ true) × (is_marked new low ≡ true)
-  pub only : (from other : ℕ) → (is_marked old place ≡ true → IsReached nodes from place) → is_marked new other ≡ true → (is_marked old other ≡ true) ⊎ IsReached nodes from other
+  pub sons : (variable high low : ℕ) → is_marked old place ≡ true → slice_get nodes place ≡ Some (Choice variable high low) → (is_marked new high ≡ true)
+      × (is_marked new low ≡ true)
+  pub only : (from other : ℕ) → (is_marked old place ≡ true → IsReached nodes from place) → is_marked new other ≡ true → (is_marked old other ≡ true)
+      ⊎ IsReached nodes from other
 
 -- whether the node has sons
 abbrev pub is_choice : Node → Bool
@@ -61,14 +64,16 @@ pub record AreUsed (nodes : List Node) (from bound : ℕ) (used : List Bool) : T
 pub record AreUsedBefore (nodes : List Node) (from bound : ℕ) (marks used : List Bool) (done : ℕ) : Type 0 where
   pub total : length used ≡ bound + 1
   pub reached : (variable : ℕ) → is_marked used variable ≡ true → IsVariableReached nodes from variable
-  pub all : (place variable high low : ℕ) → place < done → is_marked marks place ≡ true → slice_get nodes place ≡ Some (Choice variable high low) → is_marked used variable ≡ true
+  pub all : (place variable high low : ℕ) → place < done → is_marked marks place ≡ true → slice_get nodes place ≡ Some (Choice variable high low) →
+      is_marked used variable ≡ true
 
 -- the node at the place has marked its variable
 pub record MarksVariable (nodes : List Node) (old new : List Bool) (place : ℕ) : Type 0 where
   pub total : length new ≡ length old
   pub kept : (variable : ℕ) → is_marked old variable ≡ true → is_marked new variable ≡ true
   pub added : (variable high low : ℕ) → slice_get nodes place ≡ Some (Choice variable high low) → is_marked new variable ≡ true
-  pub only : (from variable : ℕ) → IsReached nodes from place → is_marked new variable ≡ true → (is_marked old variable ≡ true) ⊎ IsVariableReached nodes from variable
+  pub only : (from variable : ℕ) → IsReached nodes from place → is_marked new variable ≡ true → (is_marked old variable ≡ true)
+      ⊎ IsVariableReached nodes from variable
 
 -- the communities of the list at whose places there is a mark, from a place on
 abbrev pub picked : List Bool → ℕ → List ℕ → List ℕ

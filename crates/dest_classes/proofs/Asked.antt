@@ -26,7 +26,8 @@ module _ (lists : List PrefixList) where
 
   place_after : (ms : List Member) (keys : List Key) (key : Key) → is_known keys key ≡ true → place (keys_after keys ms) key ≡ place keys key
   place_after [] keys key known = refl
-  place_after (m ∷ ms) keys key known = place_after ms (with_key keys (kind_key lists m)) key (known_then keys (kind_key lists m) key known) ∙ place_then keys (kind_key lists m) key known
+  place_after (m ∷ ms) keys key known = place_after ms (with_key keys (kind_key lists m)) key (known_then keys (kind_key lists m) key known)
+      ∙ place_then keys (kind_key lists m) key known
 
   -- a member by the place of its key in the end
   abbrev placed : List Key → Member → Member
@@ -40,11 +41,15 @@ module _ (lists : List PrefixList) where
   asked_placed (m ∷ ms) keys =
       let key = kind_key lists m in
       ap (λ more. of_kind m (place keys key) ∷ more) (asked_placed ms (with_key keys key))
-      ∙ ap (λ kind. of_kind m kind ∷ map (placed (keys_after keys (m ∷ ms))) ms) (sym (place_after ms (with_key keys key) key (known_here keys key) ∙ place_here keys key))
+      ∙ ap (λ kind. of_kind m kind ∷ map (placed (keys_after keys (m ∷ ms))) ms)
+      (sym (place_after ms (with_key keys key) key (known_here keys key) ∙ place_here keys key))
 
   all_known : (ms : List Member) (keys : List Key) → AllByRecursion (IsKnown (keys_after keys ms)) ms
   all_known [] keys = tt
-  all_known (m ∷ ms) keys = (known_after ms (with_key keys (kind_key lists m)) (kind_key lists m) (known_here keys (kind_key lists m)), all_known ms (with_key keys (kind_key lists m)))
+  all_known (m ∷ ms) keys = (
+    known_after ms (with_key keys (kind_key lists m)) (kind_key lists m) (known_here keys (kind_key lists m)),
+    all_known ms (with_key keys (kind_key lists m)),
+  )
 
   module _ (done : List PrefixList) (keys : List Key) where
     told_placed : (m n : Member) → IsKnown keys m → IsKnown keys n → IsTold done m n → IsTold (done ++ lists) (placed keys m) (placed keys n)
@@ -54,7 +59,8 @@ module _ (lists : List PrefixList) where
           ∙ ap (λ b. alike_to done n.prefix m.prefix && b) (one_word lists n.prefix m.prefix) ∙ sym (alike-append n.prefix m.prefix done lists);
     }
 
-    later_placed : (m : Member) (ns : List Member) → IsKnown keys m → AllByRecursion (IsKnown keys) ns → AllByRecursion (IsTold done m) ns → AllByRecursion (IsTold (done ++ lists) (placed keys m)) (map (placed keys) ns)
+    later_placed : (m : Member) (ns : List Member) → IsKnown keys m → AllByRecursion (IsKnown keys) ns → AllByRecursion (IsTold done m) ns →
+        AllByRecursion (IsTold (done ++ lists) (placed keys m)) (map (placed keys) ns)
     later_placed m [] known all told = tt
     later_placed m (n ∷ ns) known all told = (told_placed m n known all.0 told.0, later_placed m ns known all.1 told.1)
 
@@ -67,18 +73,24 @@ module _ (lists : List PrefixList) where
   entries_asked (m ∷ ms) keys = ap (λ es. entry_of m ∷ es) (entries_asked ms (with_key keys (kind_key lists m)))
 
 -- what is left to ask, after the next member with its word
-pub asked_step : (lists : List PrefixList) (m : Member) (word : ℕ) (left rest done more : List Member) (keys new : List Key) (kind : ℕ) → left ≡ m ∷ rest → word ≡ word_of lists m.prefix
-    → kind ≡ place keys (m.kind, word) → new ≡ with_key keys (m.kind, word) → more ≡ done ++ of_kind m kind ∷ [] → more ++ asked lists new rest ≡ done ++ asked lists keys left
+pub asked_step : (lists : List PrefixList) (m : Member) (word : ℕ) (left rest done more : List Member) (keys new : List Key) (kind : ℕ) → left ≡ m ∷ rest →
+    word ≡ word_of lists m.prefix
+    → kind ≡ place keys (m.kind, word) → new ≡ with_key keys (m.kind, word) → more ≡ done ++ of_kind m kind ∷ [] → more ++ asked lists new rest ≡ done
+    ++ asked lists keys left
 asked_step lists m word left rest done more keys new kind next told at put pushed =
     let key = ap (λ (w : ℕ). let k : Key = (m.kind, w) in k) told in
-    ap (λ ms. ms ++ asked lists new rest) pushed ∙ append_assoc done (of_kind m kind ∷ []) (asked lists new rest) ∙ ap (λ k. done ++ of_kind m k ∷ asked lists new rest) (at ∙ ap (place keys) key)
-    ∙ ap (λ ks. done ++ of_kind m (place keys (kind_key lists m)) ∷ asked lists ks rest) (put ∙ ap (with_key keys) key) ∙ ap (λ ms. done ++ asked lists keys ms) (sym next)
+    ap (λ ms. ms ++ asked lists new rest) pushed ∙ append_assoc done (of_kind m kind ∷ []) (asked lists new rest)
+    ∙ ap (λ k. done ++ of_kind m k ∷ asked lists new rest) (at ∙ ap (place keys) key)
+    ∙ ap (λ ks. done ++ of_kind m (place keys (kind_key lists m)) ∷ asked lists ks rest) (put ∙ ap (with_key keys) key)
+    ∙ ap (λ ms. done ++ asked lists keys ms) (sym next)
 
 -- after more lists the kinds tell what all lists so far answer
-pub asked_told : (done lists : List PrefixList) (entries : List (Prefix × List Origin)) (ms : List Member) → AreMembers entries done ms → AreMembers entries (done ++ lists) (asked lists [] ms)
+pub asked_told : (done lists : List PrefixList) (entries : List (Prefix × List Origin)) (ms : List Member) → AreMembers entries done ms →
+    AreMembers entries (done ++ lists) (asked lists [] ms)
 asked_told done lists entries ms are = record {
   entries_are = entries_asked lists ms [] ∙ are.entries_are;
-  told = subst (AreAllTold (done ++ lists)) (sym (asked_placed lists ms [])) (all_placed lists done (keys_after lists [] ms) ms (all_known lists ms []) are.told);
+  told = subst (AreAllTold (done ++ lists)) (sym (asked_placed lists ms []))
+      (all_placed lists done (keys_after lists [] ms) ms (all_known lists ms []) are.told);
 }
 
 -- before any list is asked all are of one kind

@@ -35,7 +35,8 @@ module _ (lists : List PrefixList) where
   AreOne left (group ∷ groups) (like ∷ likes) = IsOne left group like × AreOne left groups likes
 
   new_later : (m : Member) (left : List Member) (prefixes : List Prefix) → AllByRecursion (IsTold lists m) left
-      → AllByRecursion (IsAlike (record { origins = m.origins; kind = m.kind; prefixes = prefixes }) (record { traits = traits_at m; prefixes = prefixes })) left
+      → AllByRecursion (IsAlike (record { origins = m.origins; kind = m.kind; prefixes = prefixes }) (record { traits = traits_at m; prefixes = prefixes }))
+      left
   new_later m [] prefixes told = tt
   new_later m (n ∷ left) prefixes told = (record { alike = told.0.alike }, new_later m left prefixes told.1)
 
@@ -44,31 +45,46 @@ module _ (lists : List PrefixList) where
   with_more [] group like prefixes others later = tt
   with_more (n ∷ left) group like prefixes others later = (record { alike = later.0.alike }, with_more left group like prefixes others later.1)
 
-  belongs_alike : (m : Member) (left : List Member) (group : Group) (like : Likes) → IsOne (m ∷ left) group like → belongs m group ≡ same_traits (traits_at m) like.traits
-  belongs_alike m left group like one = ap (λ origins. same_items same_origin m.origins origins && nat_eq m.kind group.kind) one.origins ∙ ap (λ b. same_items same_origin m.origins like.traits.origins && b) one.later.0.alike
+  belongs_alike : (m : Member) (left : List Member) (group : Group) (like : Likes) → IsOne (m ∷ left) group like →
+      belongs m group ≡ same_traits (traits_at m) like.traits
+  belongs_alike m left group like one = ap (λ origins. same_items same_origin m.origins origins && nat_eq m.kind group.kind) one.origins
+      ∙ ap (λ b. same_items same_origin m.origins like.traits.origins && b) one.later.0.alike
 
   fewer : (m : Member) (left : List Member) (groups : List Group) (likes : List Likes) → AreOne (m ∷ left) groups likes → AreOne left groups likes
   fewer m left [] [] are = tt
   fewer m left [] (like ∷ likes) are = are
   fewer m left (group ∷ groups) [] are = are
-  fewer m left (group ∷ groups) (like ∷ likes) are = (record { origins = are.0.origins; prefixes = are.0.prefixes; later = are.0.later.1 }, fewer m left groups likes are.1)
+  fewer m left (group ∷ groups) (like ∷ likes) are =
+      (record { origins = are.0.origins; prefixes = are.0.prefixes; later = are.0.later.1 }, fewer m left groups likes are.1)
 
-  one_more : (m : Member) (left : List Member) (groups : List Group) (likes : List Likes) → AllByRecursion (IsTold lists m) left → AreOne (m ∷ left) groups likes → AreOne left (grouped_with m groups) (with_like (traits_at m) m.prefix likes)
+  one_more : (m : Member) (left : List Member) (groups : List Group) (likes : List Likes) → AllByRecursion (IsTold lists m) left →
+      AreOne (m ∷ left) groups likes → AreOne left (grouped_with m groups) (with_like (traits_at m) m.prefix likes)
   one_more m left [] [] told are = (record { origins = refl; prefixes = refl; later = new_later m left (m.prefix ∷ []) told }, tt)
   one_more m left [] (like ∷ likes) told are = absurd are
   one_more m left (group ∷ groups) [] told are = absurd are
-  one_more m left (group ∷ groups) (like ∷ likes) told are = step (belongs m group) (same_traits (traits_at m) like.traits) (belongs_alike m left group like are.0) (one_more m left groups likes told are.1) where
-    step : (b c : Bool) → b ≡ c → AreOne left (grouped_with m groups) (with_like (traits_at m) m.prefix likes)
-        → AreOne left (cond b (record group { prefixes = group.prefixes ++ m.prefix ∷ [] } ∷ groups) (group ∷ grouped_with m groups))
-        (cond c (record like { prefixes = like.prefixes ++ m.prefix ∷ [] } ∷ likes) (like ∷ with_like (traits_at m) m.prefix likes))
-    step true true same rest = (record { origins = are.0.origins; prefixes = ap (λ ps. ps ++ m.prefix ∷ []) are.0.prefixes; later = with_more left group like _ _ are.0.later.1 }, fewer m left groups likes are.1)
-    step true false same rest = absurd (true≢false same)
-    step false true same rest = absurd (true≢false (sym same))
-    step false false same rest = (record { origins = are.0.origins; prefixes = are.0.prefixes; later = are.0.later.1 }, rest)
+  one_more m left (group ∷ groups) (like ∷ likes) told are =
+      step (belongs m group) (same_traits (traits_at m) like.traits) (belongs_alike m left group like are.0) (one_more m left groups likes told are.1) where
+        step : (b c : Bool) → b ≡ c → AreOne left (grouped_with m groups) (with_like (traits_at m) m.prefix likes)
+            → AreOne left (cond b (record group { prefixes = group.prefixes ++ m.prefix ∷ [] } ∷ groups) (group ∷ grouped_with m groups))
+            (cond c (record like { prefixes = like.prefixes ++ m.prefix ∷ [] } ∷ likes) (like ∷ with_like (traits_at m) m.prefix likes))
+        step true true same rest = (
+          record {
+            origins = are.0.origins;
+            prefixes = ap (λ ps. ps ++ m.prefix ∷ []) are.0.prefixes;
+            later =
+                with_more left group like _ _ are.0.later.1;
+          },
+          fewer m left groups likes are.1,
+        )
+        step true false same rest = absurd (true≢false same)
+        step false true same rest = absurd (true≢false (sym same))
+        step false false same rest = (record { origins = are.0.origins; prefixes = are.0.prefixes; later = are.0.later.1 }, rest)
 
-  all_one : (ms : List Member) (groups : List Group) (likes : List Likes) → AreAllTold lists ms → AreOne ms groups likes → AreOne [] (with_members ms groups) (with_likes lists (entries_of ms) likes)
+  all_one : (ms : List Member) (groups : List Group) (likes : List Likes) → AreAllTold lists ms → AreOne ms groups likes →
+      AreOne [] (with_members ms groups) (with_likes lists (entries_of ms) likes)
   all_one [] groups likes told are = are
-  all_one (m ∷ ms) groups likes told are = all_one ms (grouped_with m groups) (with_like (traits_at m) m.prefix likes) told.1 (one_more m ms groups likes told.0 are)
+  all_one (m ∷ ms) groups likes told are =
+      all_one ms (grouped_with m groups) (with_like (traits_at m) m.prefix likes) told.1 (one_more m ms groups likes told.0 are)
 
   classes_one : (groups : List Group) (likes : List Likes) → AreOne [] groups likes → map class_from groups ≡ map class_of_likes likes
   classes_one [] [] are = refl
@@ -80,5 +96,7 @@ module _ (lists : List PrefixList) where
       ∙ ap (λ cs. class_of_likes like ∷ cs) (classes_one groups likes are.1)
 
 -- the classes from groups by kinds are those from groups by answers
-pub kinds_do : (lists : List PrefixList) (entries : List (Prefix × List Origin)) (ms : List Member) → AreMembers entries lists ms → map class_from (with_members ms []) ≡ map class_of_likes (with_likes lists entries [])
-kinds_do lists entries ms are = classes_one lists (with_members ms []) (with_likes lists (entries_of ms) []) (all_one lists ms [] [] are.told tt) ∙ ap (λ es. map class_of_likes (with_likes lists es [])) are.entries_are
+pub kinds_do : (lists : List PrefixList) (entries : List (Prefix × List Origin)) (ms : List Member) → AreMembers entries lists ms →
+    map class_from (with_members ms []) ≡ map class_of_likes (with_likes lists entries [])
+kinds_do lists entries ms are = classes_one lists (with_members ms []) (with_likes lists (entries_of ms) []) (all_one lists ms [] [] are.told tt)
+    ∙ ap (λ es. map class_of_likes (with_likes lists es [])) are.entries_are

@@ -45,7 +45,8 @@ known_last (k ∷ keys) key = ap (λ b. same_kind_key key k || b) (known_last ke
 place_kept : (keys more : List Key) (key : Key) → is_known keys key ≡ true → place (keys ++ more) key ≡ place keys key
 place_kept [] more key known = absurd (true≢false (sym known))
 place_kept (k ∷ keys) more key known = step (same_kind_key key k) known (place_kept keys more key) where
-  step : (b : Bool) → (b || is_known keys key) ≡ true → (is_known keys key ≡ true → place (keys ++ more) key ≡ place keys key) → cond (not b) (1 + place (keys ++ more) key) 0 ≡ cond (not b) (1 + place keys key) 0
+  step : (b : Bool) → (b || is_known keys key) ≡ true → (is_known keys key ≡ true → place (keys ++ more) key ≡ place keys key) →
+      cond (not b) (1 + place (keys ++ more) key) 0 ≡ cond (not b) (1 + place keys key) 0
   step true known rest = refl
   step false known rest = ap (λ n. 1 + n) (rest known)
 

@@ -26,7 +26,8 @@ one_rule x y e =
     let len : x.len ≡ y.len = search rules in
     let ge : x.ge ≡ y.ge = search rules in
     let le : x.le ≡ y.le = search rules in
-    ap (λ p. made p x.addr x.len x.ge x.le) permit ∙ ap (λ a. made y.permit a x.len x.ge x.le) addr ∙ ap (λ l. made y.permit y.addr l x.ge x.le) len ∙ ap (λ g. made y.permit y.addr y.len g x.le) ge ∙ ap (made y.permit y.addr y.len y.ge) le
+    ap (λ p. made p x.addr x.len x.ge x.le) permit ∙ ap (λ a. made y.permit a x.len x.ge x.le) addr ∙ ap (λ l. made y.permit y.addr l x.ge x.le) len
+    ∙ ap (λ g. made y.permit y.addr y.len g x.le) ge ∙ ap (made y.permit y.addr y.len y.ge) le
 
 rule_self : (x : Rule) → same_rule x x ≡ true
 rule_self x = search rules
@@ -40,9 +41,12 @@ all_tell = items_tell same_rule rules_tell
 swapped : (xs ys : List Rule) → same_items same_rule xs ys ≡ true → same_items same_rule ys xs ≡ true
 swapped xs ys same = ap (same_items same_rule ys) (all_tell.one xs ys same) ∙ all_tell.self ys
 
-pub said_more : {S : Type 0} (old new : HashSet (Vec Rule) S) (own : Vec Rule) (list : PrefixList) (asked : List PrefixList) → own.items ≡ rules_of list → Updates same_rules old new own true → AreSaid old asked → AreSaid new (asked ++ list ∷ [])
+pub said_more : {S : Type 0} (old new : HashSet (Vec Rule) S) (own : Vec Rule) (list : PrefixList) (asked : List PrefixList) → own.items ≡ rules_of list →
+    Updates same_rules old new own true → AreSaid old asked → AreSaid new (asked ++ list ∷ [])
 said_more old new own list asked same put said = record {
   each = λ (v : Vec Rule).
-      let here : same_rules own v ≡ has_rules v.items list = ap (λ rs. same_items same_rule rs v.items) same ∙ by_both _ _ (swapped (rules_of list) v.items) (swapped v.items (rules_of list)) in
-      put.0 v ∙ ap (cond (same_rules own v) true) (said.each v) ∙ ap (λ b. cond b true (list_any (has_rules v.items) asked)) here ∙ last_first (has_rules v.items list) (list_any (has_rules v.items) asked) ∙ sym (list_any-append (has_rules v.items) asked (list ∷ []));
+      let here : same_rules own v ≡ has_rules v.items list = ap (λ rs. same_items same_rule rs v.items) same
+      ∙ by_both _ _ (swapped (rules_of list) v.items) (swapped v.items (rules_of list)) in
+      put.0 v ∙ ap (cond (same_rules own v) true) (said.each v) ∙ ap (λ b. cond b true (list_any (has_rules v.items) asked)) here
+      ∙ last_first (has_rules v.items list) (list_any (has_rules v.items) asked) ∙ sym (list_any-append (has_rules v.items) asked (list ∷ []));
 }

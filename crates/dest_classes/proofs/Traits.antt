@@ -28,7 +28,8 @@ pub record Likes : Type 0 where
 -- a prefix put with those of its traits, or into a new group at the end
 abbrev pub with_like : Traits → Prefix → List Likes → List Likes
 with_like traits p [] = record { traits = traits; prefixes = p ∷ [] } ∷ []
-with_like traits p (group ∷ groups) = cond (same_traits traits group.traits) (record group { prefixes = group.prefixes ++ p ∷ [] } ∷ groups) (group ∷ with_like traits p groups)
+with_like traits p (group ∷ groups) = cond (same_traits traits group.traits) (record group { prefixes = group.prefixes ++ p ∷ [] } ∷ groups)
+    (group ∷ with_like traits p groups)
 
 -- the same for all prefixes in turn, each with its originators
 abbrev pub with_likes : List PrefixList → List (Prefix × List Origin) → List Likes → List Likes

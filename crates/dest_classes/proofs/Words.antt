@@ -32,7 +32,8 @@ words_alike [] p q w v = sym (both_true (nat_eq w v))
 words_alike (list ∷ lists) p q w v =
     let a = prefix_list_permits list p in
     let b = prefix_list_permits list q in
-    words_alike lists p q (2 * w + bit a) (2 * v + bit b) ∙ ap (λ t. t && alike_to lists p q) (one_bit w v a b) ∙ both_assoc (nat_eq w v) (beq a b) (alike_to lists p q)
+    words_alike lists p q (2 * w + bit a) (2 * v + bit b) ∙ ap (λ t. t && alike_to lists p q) (one_bit w v a b)
+    ∙ both_assoc (nat_eq w v) (beq a b) (alike_to lists p q)
 
 -- lists give two prefixes one word exactly where they answer both alike
 pub one_word : (lists : List PrefixList) (p q : Prefix) → nat_eq (word_of lists p) (word_of lists q) ≡ alike_to lists p q

@@ -27,7 +27,8 @@ belongs member group = same_items same_origin member.origins group.origins && na
 -- a member put into its group, or into a new one at the end
 abbrev pub grouped_with : Member → List Group → List Group
 grouped_with member [] = record { origins = member.origins; kind = member.kind; prefixes = member.prefix ∷ [] } ∷ []
-grouped_with member (group ∷ groups) = if belongs member group then record group { prefixes = group.prefixes ++ member.prefix ∷ [] } ∷ groups else group ∷ grouped_with member groups
+grouped_with member (group ∷ groups) = if belongs member group then record group { prefixes = group.prefixes ++ member.prefix ∷ [] } ∷ groups else group
+    ∷ grouped_with member groups
 
 abbrev pub with_members : List Member → List Group → List Group
 with_members [] groups = groups

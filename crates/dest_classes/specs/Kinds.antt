@@ -30,7 +30,8 @@ same_kind_key a b = nat_eq a.0 b.0 && nat_eq a.1 b.1
 abbrev pub asked : List PrefixList → List (ℕ × ℕ) → List Member → List Member
 asked lists keys [] = []
 asked lists keys (member ∷ members) =
-    record member { kind = position_or_len (same_kind_key (kind_key lists member)) keys } ∷ asked lists (insert_key same_kind_key keys (kind_key lists member)) members
+    record member { kind = position_or_len (same_kind_key (kind_key lists member)) keys } ∷ asked lists (insert_key same_kind_key keys (kind_key lists member))
+    members
 
 -- a prefix with its originators, before any list is asked
 abbrev pub started : Prefix × List Origin → Member

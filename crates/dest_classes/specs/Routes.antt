@@ -52,7 +52,8 @@ with_origin origins origin = if ends_with_router origin.router origins then orig
 
 -- what is known of a prefix after one more route of a router
 abbrev pub noted : Prefix → ℕ → Route → Option (List Origin) → Option (List Origin)
-noted p router route known = if same_prefix p route.prefix then Some (with_origin (unwrap_or known []) (record { router = router; cost = route.cost })) else known
+noted p router route known = if same_prefix p route.prefix then Some (with_origin (unwrap_or known []) (record { router = router; cost = route.cost }))
+    else known
 
 abbrev pub all_noted : Prefix → ℕ → List Route → Option (List Origin) → Option (List Origin)
 all_noted p router [] known = known

@@ -31,18 +31,20 @@ distinct_places e reflexive xs distinct = record {
 module _ {K V : Type 0} (e : K → K → Bool) (sound : (x y : K) → e x y ≡ true → x ≡ y) (key : K) (v : V) where
   pub interned_at : (es : List (K × V)) → slice_get (keys_of (insert_entry e es key v)) (position_or_len (e key) (keys_of es)) ≡ Some key
   interned_at [] = refl
-  interned_at (f ∷ es) = (elim (e key f.0) as (λ y. e key f.0 ≡ y → slice_get (keys_of (insert_entry e (f ∷ es) key v)) (position_or_len (e key) (keys_of (f ∷ es))) ≡ Some key) [
-    | true ↦ λ t. rw t (ap (λ (x : K). Some x) (sym (sound key f.0 t)))
-    | false ↦ λ t. let up : 1 + position_or_len (e key) (keys_of es) ≡ suc (position_or_len (e key) (keys_of es)) = omega arith in rw (t, up) (interned_at es)
-  ]) refl
+  interned_at (f ∷ es) = (elim (e key f.0) as
+      (λ y. e key f.0 ≡ y → slice_get (keys_of (insert_entry e (f ∷ es) key v)) (position_or_len (e key) (keys_of (f ∷ es))) ≡ Some key) [
+        | true ↦ λ t. rw t (ap (λ (x : K). Some x) (sym (sound key f.0 t)))
+        | false ↦ λ t. let up : 1 + position_or_len (e key) (keys_of es) ≡ suc (position_or_len (e key) (keys_of es)) = omega arith in rw (t, up) (interned_at es)
+      ]) refl
 
   -- and it stands last where it is new
   pub interned_last : (es : List (K × V)) → (keys_of (insert_entry e es key v) ≡ keys_of es) ⊎ (keys_of (insert_entry e es key v) ≡ keys_of es ++ key ∷ [])
   interned_last [] = inr refl
-  interned_last (f ∷ es) = (elim (e key f.0) as (λ y. e key f.0 ≡ y → (keys_of (insert_entry e (f ∷ es) key v) ≡ keys_of (f ∷ es)) ⊎ (keys_of (insert_entry e (f ∷ es) key v) ≡ keys_of (f ∷ es) ++ key ∷ [])) [
-    | true ↦ λ t. inl (rw t refl)
-    | false ↦ λ t. elim (interned_last es) [
-      | inl same ↦ inl (rw t (ap (λ (l : List K). f.0 ∷ l) same))
-      | inr more ↦ inr (rw t (ap (λ (l : List K). f.0 ∷ l) more))
-    ]
-  ]) refl
+  interned_last (f ∷ es) = (elim (e key f.0) as (λ y. e key f.0 ≡ y → (keys_of (insert_entry e (f ∷ es) key v) ≡ keys_of (f ∷ es))
+      ⊎ (keys_of (insert_entry e (f ∷ es) key v) ≡ keys_of (f ∷ es) ++ key ∷ [])) [
+        | true ↦ λ t. inl (rw t refl)
+        | false ↦ λ t. elim (interned_last es) [
+          | inl same ↦ inl (rw t (ap (λ (l : List K). f.0 ∷ l) same))
+          | inr more ↦ inr (rw t (ap (λ (l : List K). f.0 ∷ l) more))
+        ]
+      ]) refl

@@ -28,7 +28,8 @@ use Rattle.emit_form_laws.proofs.Processes.{same_overlap}
 
 -- ---- subnets of one router
 
-up_apart : (e : Plan) → IsPlan e → length e.links ≤ 1048576 → (g : ℕ) → IsPairwise (λ (a b : Address). overlap b a ≡ false) (up_addresses_of (emitted_router e g))
+up_apart : (e : Plan) → IsPlan e → length e.links ≤ 1048576 → (g : ℕ) →
+    IsPairwise (λ (a b : Address). overlap b a ≡ false) (up_addresses_of (emitted_router e g))
 up_apart e plan few g =
     pairs_filter_map up_address AreApart (λ (a b : Address). overlap b a ≡ false) (class_interfaces e g ++ link_interfaces e g)
     (λ x y a b h i away is is'. away.apart a b (up_some x a is) (up_some y b is')) (interfaces_apart e plan few g)
@@ -37,7 +38,8 @@ pub no_overlapping : (e : Plan) → IsPlan e → length e.links ≤ 1048576 → 
 unfolding overlapping_lines
 no_overlapping e plan few =
     ap (map address_line)
-    (flat_none overlapping_in (emitted e).routers (of_routers e (λ r. overlapping_in r ≡ []) (λ g below. no_repeats overlap (up_addresses_of (emitted_router e g)) (up_apart e plan few g))))
+    (flat_none overlapping_in (emitted e).routers
+    (of_routers e (λ r. overlapping_in r ≡ []) (λ g below. no_repeats overlap (up_addresses_of (emitted_router e g)) (up_apart e plan few g))))
 
 -- ---- addresses of different routers
 
@@ -64,7 +66,8 @@ address_of e g a h =
     let given = up_some f.0 a f.2 in
     elim (append_in (class_interfaces e g) (link_interfaces e g) f.0 f.1) [
       | inl i ↦ (let c = class_at e g f.0 i in inl (record { interface = f.0; of = c; is = same_some f.0.address (bare_address c.address) a c.given given }))
-      | inr i ↦ (let l = link_at e g f.0 i in inr (record { interface = f.0; of = l; is = same_some f.0.address (link_address l.place (side_number g l.link)) a l.given given }))
+      | inr i ↦ (let l = link_at e g f.0 i in inr
+          (record { interface = f.0; of = l; is = same_some f.0.address (link_address l.place (side_number g l.link)) a l.given given }))
     ]
 
 one_router : (o : Option Router) (r s : Router) → o ≡ Some r → o ≡ Some s → r ≡ s
@@ -81,11 +84,16 @@ unfolding shared_address_lines
 class_class e plan g h other below lower a b c d =
     let f = first_of e plan g below in
     let k = first_of e plan h lower in
-    let here : In (up_addresses_of f.router) c.of.address = subst (λ (r : Router). In (up_addresses_of r) c.of.address) (one_router (first_router_of e g) c.of.router f.router c.of.at f.at) c.of.address_in in
-    let there : In (up_addresses_of k.router) d.of.address = subst (λ (r : Router). In (up_addresses_of r) d.of.address) (one_router (first_router_of e h) d.of.router k.router d.of.at k.at) d.of.address_in in
-    let pairs = flat_pairs up_addresses_of (λ (x y : Address). same_address y x ≡ false) e.network.routers (pairs_repeats same_address (up_addresses e.network) (map_nil address_line (repeats same_address (up_addresses e.network)) plan.faultless.shared_address)) in
+    let here : In (up_addresses_of f.router) c.of.address =
+    subst (λ (r : Router). In (up_addresses_of r) c.of.address) (one_router (first_router_of e g) c.of.router f.router c.of.at f.at) c.of.address_in in
+    let there : In (up_addresses_of k.router) d.of.address =
+    subst (λ (r : Router). In (up_addresses_of r) d.of.address) (one_router (first_router_of e h) d.of.router k.router d.of.at k.at) d.of.address_in in
+    let pairs = flat_pairs up_addresses_of (λ (x y : Address). same_address y x ≡ false) e.network.routers
+    (pairs_repeats same_address (up_addresses e.network)
+    (map_nil address_line (repeats same_address (up_addresses e.network)) plan.faultless.shared_address)) in
     ap (λ (x : Address). same_address x a) (sym d.is) ∙ ap (λ (x : Address). same_address (bare_address d.of.address) x) (sym c.is)
-    ∙ elim (pairs_either (λ (r s : Router). (x y : Address) → In (up_addresses_of r) x → In (up_addresses_of s) y → same_address y x ≡ false) e.network.routers (first_member e.groups g) (first_member e.groups h) f.router k.router pairs (firsts_differ e g h other f k) f.at k.at) [
+    ∙ elim (pairs_either (λ (r s : Router). (x y : Address) → In (up_addresses_of r) x → In (up_addresses_of s) y → same_address y x ≡ false) e.network.routers
+    (first_member e.groups g) (first_member e.groups h) f.router k.router pairs (firsts_differ e g h other f k) f.at k.at) [
       | inl clear ↦ clear c.of.address d.of.address here there
       | inr clear ↦ turned d.of.address c.of.address ∙ clear d.of.address c.of.address there here
     ]
@@ -93,8 +101,11 @@ class_class e plan g h other below lower a b c d =
 class_link : (e : Plan) → IsPlan e → length e.links ≤ 1048576 → (g h : ℕ) (a b : Address) → IsOfClass e g a → IsOfLink e h b → a.addr ≢ b.addr
 class_link e plan few g h a b c l same =
     (let within = l.of.of.within in
-    let over = same_overlap (bare_address c.of.address) (link_address l.of.place (side_number h l.of.link)) (ap (λ (x : Address). x.addr) c.is ∙ same ∙ ap (λ (x : Address). x.addr) (sym l.is)) in
-    outside_pool e plan c.of.prefix c.of.prefix_in (ap meets_pool (sym c.of.subnet) ∙ overlap_meets (bare_address c.of.address) l.of.place (side_number h l.of.link) (side_below h l.of.link) (omega arith) over))
+    let over = same_overlap (bare_address c.of.address) (link_address l.of.place (side_number h l.of.link))
+    (ap (λ (x : Address). x.addr) c.is ∙ same ∙ ap (λ (x : Address). x.addr) (sym l.is)) in
+    outside_pool e plan c.of.prefix c.of.prefix_in
+    (ap meets_pool (sym c.of.subnet) ∙ overlap_meets (bare_address c.of.address) l.of.place (side_number h l.of.link) (side_below h l.of.link) (omega arith)
+    over))
 
 -- two ends of a link have different sides
 sides_differ : (g h : ℕ) (l : QLink) → g ≢ h → touches g l ≡ true → touches h l ≡ true → side_number g l ≢ side_number h l
@@ -117,15 +128,18 @@ link_link : (e : Plan) (g h : ℕ) (a b : Address) → g ≢ h → IsOfLink e g 
 link_link e g h a b other c d same =
     (let low = side_below g c.of.link in
     let high = side_below h d.of.link in
-    let numbers : 1681915904 + 2 * c.of.place + side_number g c.of.link ≡ 1681915904 + 2 * d.of.place + side_number h d.of.link = ap (λ (x : Address). x.addr) c.is ∙ same ∙ ap (λ (x : Address). x.addr) (sym d.is) in
+    let numbers : 1681915904 + 2 * c.of.place + side_number g c.of.link ≡ 1681915904 + 2 * d.of.place + side_number h d.of.link =
+    ap (λ (x : Address). x.addr) c.is ∙ same ∙ ap (λ (x : Address). x.addr) (sym d.is) in
     let parts = halves c.of.place (side_number g c.of.link) d.of.place (side_number h d.of.link) low high numbers in
-    let one : c.of.link ≡ d.of.link = same_some (slice_get e.links d.of.place) c.of.link d.of.link (subst (λ k. slice_get e.links k ≡ Some c.of.link) parts.0 c.of.of.place) d.of.of.place in
+    let one : c.of.link ≡ d.of.link = same_some (slice_get e.links d.of.place) c.of.link d.of.link
+    (subst (λ k. slice_get e.links k ≡ Some c.of.link) parts.0 c.of.of.place) d.of.of.place in
     sides_differ g h d.of.link other (subst (λ (l : QLink). touches g l ≡ true) one c.of.of.touched) d.of.of.touched (ap (side_number g) (sym one) ∙ parts.1))
   where
     halves : (t s u z : ℕ) → s ≤ 1 → z ≤ 1 → 1681915904 + 2 * t + s ≡ 1681915904 + 2 * u + z → (t ≡ u) × (s ≡ z)
     halves t s u z low high same = (omega arith, omega arith)
 
-routers_apart : (e : Plan) → IsPlan e → length e.links ≤ 1048576 → (g h : ℕ) → g < e.count → h < e.count → g ≢ h → (a b : Address) → In (up_addresses_of (emitted_router e g)) a → In (up_addresses_of (emitted_router e h)) b → HaveOthers a b
+routers_apart : (e : Plan) → IsPlan e → length e.links ≤ 1048576 → (g h : ℕ) → g < e.count → h < e.count → g ≢ h → (a b : Address) →
+    In (up_addresses_of (emitted_router e g)) a → In (up_addresses_of (emitted_router e h)) b → HaveOthers a b
 routers_apart e plan few g h below lower other a b i k = elim (address_of e g a i) [
   | inl c ↦ elim (address_of e h b k) [
     | inl d ↦ class_class e plan g h other below lower a b c d
@@ -145,8 +159,10 @@ unfolding shared_address_lines
 no_shared_address e plan few =
     ap (map address_line)
     (no_repeats same_address (up_addresses (emitted e))
-    (pairs_flat up_addresses_of (λ (r s : Router). (a b : Address) → In (up_addresses_of r) a → In (up_addresses_of s) b → HaveOthers a b) HaveOthers (emitted e).routers
+    (pairs_flat up_addresses_of (λ (r s : Router). (a b : Address) → In (up_addresses_of r) a → In (up_addresses_of s) b → HaveOthers a b) HaveOthers
+    (emitted e).routers
     (of_routers e (λ r. IsPairwise HaveOthers (up_addresses_of r))
-    (λ g below. weaker (λ (a b : Address). overlap b a ≡ false) HaveOthers (up_addresses_of (emitted_router e g)) (λ a b h i clear. no_such a b clear) (up_apart e plan few g)))
+    (λ g below. weaker (λ (a b : Address). overlap b a ≡ false) HaveOthers (up_addresses_of (emitted_router e g)) (λ a b h i clear. no_such a b clear)
+    (up_apart e plan few g)))
     (λ r s a b h i given k l. given a b k l)
     (router_pairs e (λ (r s : Router). (a b : Address) → In (up_addresses_of r) a → In (up_addresses_of s) b → HaveOthers a b) (routers_apart e plan few))))

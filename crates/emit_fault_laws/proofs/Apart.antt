@@ -38,14 +38,16 @@ names_apart e plan g h below lower other =
     differ (slice_index_or (small e).names h []) (slice_index_or (small e).names g [])
     (λ same.
     let one : k.router.name ≡ f.router.name = sym (name_is e plan h lower k) ∙ same ∙ name_is e plan g below f in
-    elim (pairs_either (λ (r s : Router). same_name s r ≡ false) e.network.routers (first_member e.groups g) (first_member e.groups h) f.router k.router pairs (firsts_differ e g h other f k) f.at k.at) [
+    elim (pairs_either (λ (r s : Router). same_name s r ≡ false) e.network.routers (first_member e.groups g) (first_member e.groups h) f.router k.router pairs
+    (firsts_differ e g h other f k) f.at k.at) [
       | inl clear ↦ apart k.router.name f.router.name clear one
       | inr clear ↦ apart f.router.name k.router.name clear (sym one)
     ])
 
 pub no_shared_name : (e : Plan) → IsPlan e → shared_name_lines (emitted e) ≡ []
 unfolding shared_name_lines
-no_shared_name e plan = ap (map router_line) (no_repeats same_name (emitted e).routers (router_pairs e (λ (r s : Router). same_name s r ≡ false) (names_apart e plan)))
+no_shared_name e plan = ap (map router_line)
+    (no_repeats same_name (emitted e).routers (router_pairs e (λ (r s : Router). same_name s r ≡ false) (names_apart e plan)))
 
 -- ---- AS numbers
 
@@ -74,7 +76,8 @@ first_has (i ∷ is) (x ∷ xs) g some = step (nat_eq x g) (not (nat_eq i 0)) re
     later : HasNumber is xs g (first_number is xs g) → HasNumber (i ∷ is) (x ∷ xs) g (first_number is xs g)
     later h = record { place = suc h.place; inside = (let inside = h.inside in omega arith); group = h.group; same = h.same }
 
-    step : (a b : Bool) → nat_eq x g ≡ a → cond (a && b) i (first_number is xs g) ≢ 0 → (first_number is xs g ≢ 0 → HasNumber is xs g (first_number is xs g)) → HasNumber (i ∷ is) (x ∷ xs) g (cond (a && b) i (first_number is xs g))
+    step : (a b : Bool) → nat_eq x g ≡ a → cond (a && b) i (first_number is xs g) ≢ 0 → (first_number is xs g ≢ 0 → HasNumber is xs g (first_number is xs g)) →
+        HasNumber (i ∷ is) (x ∷ xs) g (cond (a && b) i (first_number is xs g))
     step true true e some ih = record { place = 0; inside = omega arith; group = is_group x g e; same = refl }
     step true false e some ih = later (ih some)
     step false b e some ih = later (ih some)
@@ -84,16 +87,20 @@ number_of e g below some =
     let at = number_at e g below in
     step (is_used e.problem e.groups e.links g) (λ zero. some (at ∙ zero)) (at)
   where
-    step : (b : Bool) → cond b (first_number e.problem.numbers e.groups g) 0 ≢ 0 → number (small e) g ≡ cond b (first_number e.problem.numbers e.groups g) 0 → IsNumberOf e g
+    step : (b : Bool) → cond b (first_number e.problem.numbers e.groups g) 0 ≢ 0 → number (small e) g ≡ cond b (first_number e.problem.numbers e.groups g) 0 →
+        IsNumberOf e g
     step false some at = absurd (some refl)
-    step true some at = let h = first_has e.problem.numbers e.groups g some in record { member = h.place; inside = h.inside; group = h.group; same = h.same ∙ sym at }
+    step true some at = let h = first_has e.problem.numbers e.groups g some in
+        record { member = h.place; inside = h.inside; group = h.group; same = h.same ∙ sym at }
 
 -- groups with one AS number are one
-pub numbers_tell : (e : Plan) → IsPlan e → e.problem.protocol ≡ OverBgp → (g h : ℕ) → g < e.count → h < e.count → number (small e) g ≢ 0 → number (small e) g ≡ number (small e) h → g ≡ h
+pub numbers_tell : (e : Plan) → IsPlan e → e.problem.protocol ≡ OverBgp → (g h : ℕ) → g < e.count → h < e.count → number (small e) g ≢ 0 →
+    number (small e) g ≡ number (small e) h → g ≡ h
 numbers_tell e plan bgp g h below lower some same =
     let u = number_of e g below some in
     let v = number_of e h lower (λ zero. some (same ∙ zero)) in
-    let one = ((problem_of e plan).of.rules.numbers bgp).distinct u.member v.member u.inside v.inside (u.same ∙ same ∙ sym v.same) (λ zero. some (sym u.same ∙ zero)) in
+    let one = ((problem_of e plan).of.rules.numbers bgp).distinct u.member v.member u.inside v.inside (u.same ∙ same ∙ sym v.same)
+    (λ zero. some (sym u.same ∙ zero)) in
     sym u.group ∙ ap (slice_index e.groups) one ∙ v.group
 
 pub no_shared_as : (e : Plan) → IsPlan e → shared_as_lines (emitted e) ≡ []
@@ -101,7 +108,8 @@ unfolding shared_as_lines
 no_shared_as e plan =
     ap (map process_line)
     (no_repeats same_as (bgp_processes (emitted e))
-    (pairs_filter_map process_on (λ (r s : Router). (b c : BgpProcess) → process_on r ≡ Some b → process_on s ≡ Some c → same_as c b ≡ false) (λ (b c : BgpProcess). same_as c b ≡ false) (emitted e).routers
+    (pairs_filter_map process_on (λ (r s : Router). (b c : BgpProcess) → process_on r ≡ Some b → process_on s ≡ Some c → same_as c b ≡ false)
+    (λ (b c : BgpProcess). same_as c b ≡ false) (emitted e).routers
     (λ r s b c i j given has has'. given b c has has')
     (router_pairs e (λ (r s : Router). (b c : BgpProcess) → process_on r ≡ Some b → process_on s ≡ Some c → same_as c b ≡ false)
     (λ g h below lower other b c has has'.
@@ -114,7 +122,8 @@ pub no_internal_peer : (e : Plan) → IsPlan e → QuotientCarries → internal_
 unfolding internal_peer_lines
 no_internal_peer e plan law =
     ap (map neighbor_line)
-    (flat_none internal_peers_of (emitted e).routers (of_routers e (λ r. internal_peers_of r ≡ []) (λ g below. step g below (written_bgp e.problem.protocol e g) refl)))
+    (flat_none internal_peers_of (emitted e).routers
+    (of_routers e (λ r. internal_peers_of r ≡ []) (λ g below. step g below (written_bgp e.problem.protocol e g) refl)))
   where
     step : (g : ℕ) → g < e.count → (o : Option BgpProcess) → written_bgp e.problem.protocol e g ≡ o → internal_peers_in o ≡ []
     step g below None made = refl
@@ -127,4 +136,5 @@ no_internal_peer e plan law =
         let of = link_of e g m.0.0 m.0.1 m.1 in
         let end = end_of e plan law g m.0.1 of.link_in of.touched in
         ap (λ (x : Neighbor). nat_eq x.remote (number (small e) g)) (sym m.2) ∙ ap (λ k. nat_eq (number (small e) k) (number (small e) g)) end.1.other
-        ∙ other_number (number (small e) end.0) (number (small e) g) (λ same. end.1.apart (numbers_tell e plan p.over g end.0 below end.1.there p.some (sym same)))))
+        ∙ other_number (number (small e) end.0) (number (small e) g)
+        (λ same. end.1.apart (numbers_tell e plan p.over g end.0 below end.1.there p.some (sym same)))))

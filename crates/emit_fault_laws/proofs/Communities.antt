@@ -39,7 +39,8 @@ map_within e plan g m of =
     set : List ℕ
     set = communities_of e.network
 
-    step : (o : Option Act) → IfSome o (IsActWithin set) → IfSome o (λ act. IsMapWithin set (act_in_map (Some act)) × IfSome (act_out_map (Some act)) (IsMapWithin set))
+    step : (o : Option Act) → IfSome o (IsActWithin set) →
+        IfSome o (λ act. IsMapWithin set (act_in_map (Some act)) × IfSome (act_out_map (Some act)) (IsMapWithin set))
     step None is = tt
     step (Some (Import out sends into)) is = (is.1, is.0)
     step (Some (Cost cost)) is = (tt, tt)
@@ -48,15 +49,19 @@ abbrev IsIn : List ℕ → Mention → Type 0
 IsIn set mention = has set mention.community ≡ true
 
 named_in : (set : List ℕ) (line : ℕ) (comms : List ℕ) (mention : Mention) → AreWithin set comms → In (map (mention_at line) comms) mention → IsIn set mention
-named_in set line comms mention within h = let m = map_in (mention_at line) comms mention h in subst (IsIn set) m.2 (all_in (λ c. has set c ≡ true) comms m.0 within m.1)
+named_in set line comms mention within h = let m = map_in (mention_at line) comms mention h in
+    subst (IsIn set) m.2 (all_in (λ c. has set c ≡ true) comms m.0 within m.1)
 
-in_list : (set : List ℕ) (list : CommunityList) (mention : Mention) → IsListWithin set list → In (flat_map mentions_on (map bare_community_line list.lines)) mention → IsIn set mention
+in_list : (set : List ℕ) (list : CommunityList) (mention : Mention) → IsListWithin set list →
+    In (flat_map mentions_on (map bare_community_line list.lines)) mention → IsIn set mention
 in_list set list mention within h =
     let l = flat_map_in mentions_on (map bare_community_line list.lines) mention h in
     let m = map_in bare_community_line list.lines l.0 l.1 in
-    named_in set 0 m.0.comms mention (all_in (IsLineWithin set) list.lines m.0 within m.1) (subst (λ (x : CommunityLine). In (mentions_on x) mention) (sym m.2) l.2)
+    named_in set 0 m.0.comms mention (all_in (IsLineWithin set) list.lines m.0 within m.1)
+    (subst (λ (x : CommunityLine). In (mentions_on x) mention) (sym m.2) l.2)
 
-in_lists : (e : Plan) → IsPlan e → length e.links ≤ 1048576 → (g : ℕ) (mention : Mention) → In (flat_map mentions_in_list (emitted_router e g).community_lists) mention → IsIn (communities_of e.network) mention
+in_lists : (e : Plan) → IsPlan e → length e.links ≤ 1048576 → (g : ℕ) (mention : Mention) →
+    In (flat_map mentions_in_list (emitted_router e g).community_lists) mention → IsIn (communities_of e.network) mention
 in_lists e plan few g mention h =
     let set = communities_of e.network in
     let c = flat_map_in mentions_in_list (emitted_router e g).community_lists mention h in
@@ -67,10 +72,12 @@ in_lists e plan few g mention h =
     elim (append_in (match_lists m.0.0 x.0) (deletion_lists m.0.0 x.0) c.0 x.2) [
       | inl i ↦ (
           let l = match_of m.0.0 x.0 c.0 i in
-          in_list set l.list mention (all_in (IsListWithin set) l.lists l.list (some_holds (AreListsWithin set) x.0.lists l.lists within.lists l.matched) l.list_in) (subst (λ (z : CommunityList). In (mentions_in_list z) mention) (sym l.is) c.2))
+          in_list set l.list mention (all_in (IsListWithin set) l.lists l.list (some_holds (AreListsWithin set) x.0.lists l.lists within.lists l.matched)
+          l.list_in) (subst (λ (z : CommunityList). In (mentions_in_list z) mention) (sym l.is) c.2))
       | inr i ↦ (
           let d = deletion_of m.0.0 x.0 c.0 i in
-          in_list set d.list mention (some_holds (IsListWithin set) x.0.delete d.list within.delete d.deleted) (subst (λ (z : CommunityList). In (mentions_in_list z) mention) (sym d.is) c.2))
+          in_list set d.list mention (some_holds (IsListWithin set) x.0.delete d.list within.delete d.deleted)
+          (subst (λ (z : CommunityList). In (mentions_in_list z) mention) (sym d.is) c.2))
     ]
 
 changes_within : (set : List ℕ) (o : Option Change) → IfSome o (IsChangeWithin set) → AreWithin set (changed_by o)
@@ -79,7 +86,8 @@ changes_within set (Some Clear) is = tt
 changes_within set (Some (Replace by)) is = is
 changes_within set (Some (Append more)) is = is
 
-in_maps : (e : Plan) → IsPlan e → length e.links ≤ 1048576 → (g : ℕ) (mention : Mention) → In (flat_map mentions_in_map (emitted_router e g).route_maps) mention → IsIn (communities_of e.network) mention
+in_maps : (e : Plan) → IsPlan e → length e.links ≤ 1048576 → (g : ℕ) (mention : Mention) →
+    In (flat_map mentions_in_map (emitted_router e g).route_maps) mention → IsIn (communities_of e.network) mention
 in_maps e plan few g mention h =
     let set = communities_of e.network in
     let w = flat_map_in mentions_in_map (emitted_router e g).route_maps mention h in
@@ -90,11 +98,13 @@ in_maps e plan few g mention h =
     named_in set 0 (changed_by x.change) mention (changes_within set x.change within.change) i)
     w.0 w.1 entry.0 entry.1 entry.2
 
-all_within : (e : Plan) → IsPlan e → length e.links ≤ 1048576 → (mention : Mention) → In (mentions (emitted e)) mention → IsIn (communities_of e.network) mention
+all_within : (e : Plan) → IsPlan e → length e.links ≤ 1048576 → (mention : Mention) → In (mentions (emitted e)) mention →
+    IsIn (communities_of e.network) mention
 all_within e plan few mention h =
     let r = flat_map_in mentions_of (emitted e).routers mention h in
     of_routers e (λ x. In (mentions_of x) mention → IsIn (communities_of e.network) mention)
-    (λ g below i. elim (append_in (flat_map mentions_in_list (emitted_router e g).community_lists) (flat_map mentions_in_map (emitted_router e g).route_maps) mention i) [
+    (λ g below i. elim (append_in (flat_map mentions_in_list (emitted_router e g).community_lists) (flat_map mentions_in_map (emitted_router e g).route_maps)
+    mention i) [
       | inl k ↦ in_lists e plan few g mention k
       | inr k ↦ in_maps e plan few g mention k
     ])
@@ -109,7 +119,8 @@ both_hold false b inside = refl
 -- a set within another one has no more numbers
 no_more : (xs ys : List ℕ) → IsAscending xs → IsAscending ys → ((c : ℕ) → has xs c ≡ true → has ys c ≡ true) → length xs ≤ length ys
 no_more xs ys up up' inside =
-    let same : xs ≡ filter (has xs) ys = one_list xs (filter (has xs) ys) up (ascending_filter (has xs) ys up') (λ c. both_hold (has xs c) (has ys c) (inside c) ∙ sym (has-filter (has xs) ys c)) in
+    let same : xs ≡ filter (has xs) ys = one_list xs (filter (has xs) ys) up (ascending_filter (has xs) ys up')
+    (λ c. both_hold (has xs c) (has ys c) (inside c) ∙ sym (has-filter (has xs) ys c)) in
     omega (arith, ap length same, length-filter_both (has xs) (λ c. not (has xs c)) (λ c. refl) ys)
 
 or_no : (a : Bool) → (a || false) ≡ a
@@ -123,15 +134,18 @@ has_some (m ∷ ms) c e = step (nat_eq m.community c) refl e (has_some ms c)
     is_number : (a b : ℕ) → nat_eq a b ≡ true → a ≡ b
     is_number a b e = grind (arith, nat_tests)
 
-    step : (b : Bool) → nat_eq m.community c ≡ b → (b || has (map community_of ms) c) ≡ true → (has (map community_of ms) c ≡ true → (x : Mention) × In ms x × (x.community ≡ c)) → (x : Mention) × In (m ∷ ms) x × (x.community ≡ c)
+    step : (b : Bool) → nat_eq m.community c ≡ b → (b || has (map community_of ms) c) ≡ true →
+        (has (map community_of ms) c ≡ true → (x : Mention) × In ms x × (x.community ≡ c)) → (x : Mention) × In (m ∷ ms) x × (x.community ≡ c)
     step true is e rest = (m, inl refl, is_number m.community c is)
     step false is e rest = let r = rest e in (r.0, inr r.1, r.2)
 
 pub few_communities : FewCommunities → (e : Plan) → IsPlan e → length e.links ≤ 1048576 → length (communities_of (emitted e)) ≤ 1024
 unfolding communities_of
 few_communities law e plan few =
-    let less = no_more (communities_in (mentions (emitted e))) (communities_in (mentions e.network)) (ascending_with_numbers (map community_of (mentions (emitted e))) [] tt) (ascending_with_numbers (map community_of (mentions e.network)) [] tt)
+    let less = no_more (communities_in (mentions (emitted e))) (communities_in (mentions e.network))
+    (ascending_with_numbers (map community_of (mentions (emitted e))) [] tt) (ascending_with_numbers (map community_of (mentions e.network)) [] tt)
     (λ c inside.
-    let m = has_some (mentions (emitted e)) c (sym (or_no (has (map community_of (mentions (emitted e))) c)) ∙ sym (has-with_numbers (map community_of (mentions (emitted e))) [] c) ∙ inside) in
+    let m = has_some (mentions (emitted e)) c (sym (or_no (has (map community_of (mentions (emitted e))) c))
+    ∙ sym (has-with_numbers (map community_of (mentions (emitted e))) [] c) ∙ inside) in
     subst (λ k. has (communities_in (mentions e.network)) k ≡ true) m.2 (all_within e plan few m.0 m.1)) in
     let most = law e.network plan.faultless in omega arith

@@ -47,8 +47,10 @@ type_is e plan g x h = elim (append_in (class_interfaces e g) (link_interfaces e
   | inl i ↦ (
       let c = class_at e g x i in
       let few = class_numbers e plan g x c in
-      subst (λ (y : Interface). IsLinkType (type_of y)) c.is (subst IsLinkType (sym (vlan_before (decimal c.number) (decimal_is c.number (omega arith)))) vlan_type))
-  | inr i ↦ (let l = link_at e g x i in subst (λ (y : Interface). IsLinkType (type_of y)) l.is (subst IsLinkType (sym (link_before (decimal l.number))) link_type))
+      subst (λ (y : Interface). IsLinkType (type_of y)) c.is
+      (subst IsLinkType (sym (vlan_before (decimal c.number) (decimal_is c.number (omega arith)))) vlan_type))
+  | inr i ↦ (let l = link_at e g x i in subst (λ (y : Interface). IsLinkType (type_of y)) l.is
+      (subst IsLinkType (sym (link_before (decimal l.number))) link_type))
 ]
 
 -- ---- no fault in the area
@@ -62,13 +64,17 @@ none_in_area has_fault r none =
     step x true = refl
     step x false = refl
 
-none_anywhere : (e : Plan) (has_fault : Interface → Bool) → ((g : ℕ) (x : Interface) → In (class_interfaces e g ++ link_interfaces e g) x → has_fault x ≡ false) → flat_map (area_addresses_with has_fault) (emitted e).routers ≡ []
+none_anywhere : (e : Plan) (has_fault : Interface → Bool) →
+    ((g : ℕ) (x : Interface) → In (class_interfaces e g ++ link_interfaces e g) x → has_fault x ≡ false) →
+    flat_map (area_addresses_with has_fault) (emitted e).routers ≡ []
 none_anywhere e has_fault none =
-    flat_none (area_addresses_with has_fault) (emitted e).routers (of_routers e (λ r. area_addresses_with has_fault r ≡ []) (λ g below. none_in_area has_fault (emitted_router e g) (none g)))
+    flat_none (area_addresses_with has_fault) (emitted e).routers
+    (of_routers e (λ r. area_addresses_with has_fault r ≡ []) (λ g below. none_in_area has_fault (emitted_router e g) (none g)))
 
 pub no_wide_loopback : (e : Plan) → IsPlan e → loopback_mask_lines (emitted e) ≡ []
 unfolding loopback_mask_lines
-no_wide_loopback e plan = ap (map address_line) (none_anywhere e is_wide_loopback (λ g x h. ap (λ b. b && not (has_host_mask x.address)) (type_is e plan g x h).0))
+no_wide_loopback e plan = ap (map address_line)
+    (none_anywhere e is_wide_loopback (λ g x h. ap (λ b. b && not (has_host_mask x.address)) (type_is e plan g x h).0))
 
 pub none_without_cost : (e : Plan) → IsPlan e → no_cost_lines (emitted e) ≡ []
 unfolding no_cost_lines

@@ -77,7 +77,8 @@ two_ends : (p : ℕ × QLink) (gs : List ℕ) → ends_in p gs ≤ hits p.1.low 
 two_ends p [] = omega arith
 two_ends p (g ∷ gs) = step (nat_eq p.1.low g) (nat_eq p.1.high g) (two_ends p gs)
   where
-    step : (a b : Bool) → ends_in p gs ≤ hits p.1.low gs + hits p.1.high gs → cond (a || b) 1 0 + ends_in p gs ≤ (cond a 1 0 + hits p.1.low gs) + (cond b 1 0 + hits p.1.high gs)
+    step : (a b : Bool) → ends_in p gs ≤ hits p.1.low gs + hits p.1.high gs →
+        cond (a || b) 1 0 + ends_in p gs ≤ (cond a 1 0 + hits p.1.low gs) + (cond b 1 0 + hits p.1.high gs)
     step true true rest = omega arith
     step true false rest = omega arith
     step false true rest = omega arith
@@ -91,7 +92,9 @@ one_more : (p : ℕ × QLink) (ps : List (ℕ × QLink)) (gs : List ℕ) → lin
 one_more p ps [] = omega arith
 one_more p ps (g ∷ gs) = step (is_at g p) (one_more p ps gs)
   where
-    step : (b : Bool) → links_in (p ∷ ps) gs ≡ ends_in p gs + links_in ps gs → length (cond b (p ∷ filter (is_at g) ps) (filter (is_at g) ps)) + links_in (p ∷ ps) gs ≡ (cond b 1 0 + ends_in p gs) + (length (filter (is_at g) ps) + links_in ps gs)
+    step : (b : Bool) → links_in (p ∷ ps) gs ≡ ends_in p gs + links_in ps gs →
+        length (cond b (p ∷ filter (is_at g) ps) (filter (is_at g) ps)) + links_in (p ∷ ps) gs ≡ (cond b 1 0 + ends_in p gs)
+        + (length (filter (is_at g) ps) + links_in ps gs)
     step true rest = omega arith
     step false rest = omega arith
 
@@ -145,7 +148,8 @@ no_neighbors : (e : Plan) → e.problem.protocol ≡ OverOspf → (gs : List ℕ
 no_neighbors e ospf [] = refl
 no_neighbors e ospf (g ∷ gs) =
     flat_map-cons neighbors_of (emitted_router e g) (map (emitted_router e) gs)
-    ∙ ap (λ (ns : List Neighbor). ns ++ flat_map neighbors_of (map (emitted_router e) gs)) (ap (λ q. option_map_or (λ (process : BgpProcess). process.neighbors) (written_bgp q e g) []) ospf)
+    ∙ ap (λ (ns : List Neighbor). ns ++ flat_map neighbors_of (map (emitted_router e) gs))
+    (ap (λ q. option_map_or (λ (process : BgpProcess). process.neighbors) (written_bgp q e g) []) ospf)
     ∙ no_neighbors e ospf gs
 
 pub no_more_neighbors : (e : Plan) → (e.problem.protocol ≡ OverBgp → 2 * length e.links ≤ 131072) → too_many_neighbors_lines (emitted e) ≡ []

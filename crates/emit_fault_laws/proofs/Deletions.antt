@@ -26,7 +26,8 @@ use Rattle.emit_form_laws.proofs.Policies.{map_prints, map_at, entry_prints, mat
 other_name : (k s i j t : ℕ) → k ≤ 2097152 → s ≤ 65535 → i ≤ 32 → j ≤ 2097152 → t ≤ 65535 → bytes_eq (match_name k s i) (deletion_name j t) ≡ false
 other_name k s i j t hk hs hi hj ht = differ (match_name k s i) (deletion_name j t) (λ same. no_letter i (omega arith) (one_list k s j t (decimal i) (codes "D") (omega arith) (omega arith) (omega arith) (omega arith) same).2)
 
-not_deleted : (e : Plan) → IsPlan e → length e.links ≤ 1048576 → (g k s i : ℕ) → k ≤ 2097152 → s ≤ 65535 → i ≤ 32 → is_deleted (emitted_router e g) (match_name k s i) ≡ false
+not_deleted : (e : Plan) → IsPlan e → length e.links ≤ 1048576 → (g k s i : ℕ) → k ≤ 2097152 → s ≤ 65535 → i ≤ 32 →
+    is_deleted (emitted_router e g) (match_name k s i) ≡ false
 not_deleted e plan few g k s i hk hs hi =
     none_like (is_deleted_in (match_name k s i)) (emitted_router e g).route_maps
     (λ w h.
@@ -37,7 +38,8 @@ not_deleted e plan few g k s i hk hs hi =
     step j x.seq to.few (entry_prints m (map_prints e plan g m to.of) x here).seq x.delete)
     w h))
   where
-    step : (j t : ℕ) → j ≤ 2097152 → t ≤ 65535 → (o : Option CommunityList) → is_name (match_name k s i) (option_map (λ (list : CommunityList). named (deletion_name j t)) o) ≡ false
+    step : (j t : ℕ) → j ≤ 2097152 → t ≤ 65535 → (o : Option CommunityList) →
+        is_name (match_name k s i) (option_map (λ (list : CommunityList). named (deletion_name j t)) o) ≡ false
     step j t hj ht None = refl
     step j t hj ht (Some list) = other_name k s i j t hk hs hi hj ht
 
@@ -70,7 +72,8 @@ no_wide_deletion e plan few =
       | inl i ↦ (
           let l = match_of m.0.0 x.0 c i in
           subst (λ (z : CommunityList). several_in (is_deleted (emitted_router e g)) z ≡ []) l.is
-          (ap (λ b. cond b (flat_map several_at (map bare_community_line l.list.lines)) []) (not_deleted e plan few g m.0.0 x.0.seq l.number at.few prints.seq (match_number m.0.0 x.0 c prints l))))
+          (ap (λ b. cond b (flat_map several_at (map bare_community_line l.list.lines)) [])
+          (not_deleted e plan few g m.0.0 x.0.seq l.number at.few prints.seq (match_number m.0.0 x.0 c prints l))))
       | inr i ↦ (
           let d = deletion_of m.0.0 x.0 c i in
           subst (λ (z : CommunityList). several_in (is_deleted (emitted_router e g)) z ≡ []) d.is

@@ -23,7 +23,8 @@ use Rattle.emit_form_laws.proofs.Groups.{problem_of}
 -- ---- in BGP there are few links, since each is a session
 
 bgp_adjacencies : (e : Plan) → IsPlan e → e.problem.protocol ≡ OverBgp → adjacencies_of e.network ≡ []
-bgp_adjacencies e plan bgp = no_adjacencies e.network (no_ospf e.network ((problem_of e plan).of.protocol ∙ ap (λ q. Some q) bgp) plan.faultless.mixed_protocols)
+bgp_adjacencies e plan bgp = no_adjacencies e.network
+    (no_ospf e.network ((problem_of e plan).of.protocol ∙ ap (λ q. Some q) bgp) plan.faultless.mixed_protocols)
 
 pub bgp_links_few : GroupsHaveNoMoreLinks → FewSessions → (e : Plan) → IsPlan e → e.problem.protocol ≡ OverBgp → 2 * length e.links ≤ 131072
 unfolding links_of
@@ -42,14 +43,16 @@ numbered_length n (x ∷ xs) = ap (λ k. suc k) (numbered_length (n + 1) xs)
 
 -- in OSPF the network has as many links as the plan
 ospf_links_many : (e : Plan) → IsPlan e → e.problem.protocol ≡ OverOspf → length (links_of (emitted e)) ≡ length e.links
-ospf_links_many e plan ospf = ap (λ (ls : List Link). length ls) (ospf_links e plan ospf) ∙ length-map (enumerate_from 0 e.links) (link_at e) ∙ numbered_length 0 e.links
+ospf_links_many e plan ospf = ap (λ (ls : List Link). length ls) (ospf_links e plan ospf) ∙ length-map (enumerate_from 0 e.links) (link_at e)
+    ∙ numbered_length 0 e.links
 
 few_adjacencies : GroupsHaveFewLinks → (e : Plan) → IsPlan e → length (adjacencies_of (emitted e)) ≤ 1048576
 unfolding links_of
 few_adjacencies few e plan = over e.problem.protocol refl
   where
     over : (q : Protocol) → e.problem.protocol ≡ q → length (adjacencies_of (emitted e)) ≤ 1048576
-    over OverBgp bgp = (let none = ap (λ (ls : List Link). length ls) (no_adjacencies (emitted e) (of_routers e (λ r. r.ospf ≡ None) (λ g below. ap (λ q. ospf_of q e g) bgp))) in omega arith)
+    over OverBgp bgp = (let none = ap (λ (ls : List Link). length ls)
+        (no_adjacencies (emitted e) (of_routers e (λ r. r.ospf ≡ None) (λ g below. ap (λ q. ospf_of q e g) bgp))) in omega arith)
     over OverOspf ospf = (
         let both = length-append (sessions_of (emitted e)) (adjacencies_of (emitted e)) in
         let same = ospf_links_many e plan ospf in

@@ -43,7 +43,8 @@ pub record IsNeighborOf (e : Plan) (g : ℕ) (n : Neighbor) : Type 0 where
 pub neighbor_of : (e : Plan) (g : ℕ) (n : Neighbor) → In (neighbors_of (emitted_router e g)) n → IsNeighborOf e g n
 neighbor_of e g n h = step (written_bgp e.problem.protocol e g) refl h
   where
-    step : (o : Option BgpProcess) → written_bgp e.problem.protocol e g ≡ o → In (option_map_or (λ (process : BgpProcess). process.neighbors) o []) n → IsNeighborOf e g n
+    step : (o : Option BgpProcess) → written_bgp e.problem.protocol e g ≡ o → In (option_map_or (λ (process : BgpProcess). process.neighbors) o []) n →
+        IsNeighborOf e g n
     step None made h = absurd h
     step (Some b) made h =
         let p = process_is e g b made in
@@ -51,7 +52,8 @@ neighbor_of e g n h = step (written_bgp e.problem.protocol e g) refl h
         record { over = p.over; place = m.0.0; link = m.0.1; of = link_of e g m.0.0 m.0.1 m.1; is = m.2 }
 
 -- an entry of a written map
-pub entry_of : (n k : ℕ) (xs : List PlainEntry) (x : MapEntry) → In (written_entries n k xs) x → (denying_entry ≡ x) ⊎ ((y : PlainEntry) × In xs y × (written_entry n k y ≡ x))
+pub entry_of : (n k : ℕ) (xs : List PlainEntry) (x : MapEntry) → In (written_entries n k xs) x →
+    (denying_entry ≡ x) ⊎ ((y : PlainEntry) × In xs y × (written_entry n k y ≡ x))
 entry_of n k [] x (inl same) = inl same
 entry_of n k [] x (inr h) = absurd h
 entry_of n k (y ∷ ys) x h = inr (map_in (written_entry n k) (y ∷ ys) x h)
@@ -64,10 +66,12 @@ pub record IsWritten (e : Plan) (g : ℕ) (w : RouteMap) : Type 0 where
   pub is : written_map (number (small e) g) (number_of, plain) ≡ w
 
 pub written_of : (e : Plan) (g : ℕ) (w : RouteMap) → In (emitted_router e g).route_maps w → IsWritten e g w
-written_of e g w h = let m = map_in (written_map (number (small e) g)) (enumerate_from 1 (maps_of e g)) w h in record { number_of = m.0.0; plain = m.0.1; numbered = m.1; is = m.2 }
+written_of e g w h = let m = map_in (written_map (number (small e) g)) (enumerate_from 1 (maps_of e g)) w h in
+    record { number_of = m.0.0; plain = m.0.1; numbered = m.1; is = m.2 }
 
 -- what holds of each entry that is written, and of the denying one, holds of each entry
-pub of_entries : (e : Plan) (g : ℕ) (P : MapEntry → Type 0) → P denying_entry → ((k : ℕ) (m : Plain) (x : PlainEntry) → In (enumerate_from 1 (maps_of e g)) (k, m) → In m.entries x → P (written_entry (number (small e) g) k x))
+pub of_entries : (e : Plan) (g : ℕ) (P : MapEntry → Type 0) → P denying_entry →
+    ((k : ℕ) (m : Plain) (x : PlainEntry) → In (enumerate_from 1 (maps_of e g)) (k, m) → In m.entries x → P (written_entry (number (small e) g) k x))
     → (w : RouteMap) → In (emitted_router e g).route_maps w → (entry : MapEntry) → In w.entries entry → P entry
 of_entries e g P denied holds w h entry i =
     let of = written_of e g w h in
@@ -103,17 +107,23 @@ no_undefined_map e =
     (λ n h.
     let of = neighbor_of e g n h in
     subst (λ (x : Neighbor). map_lines_naming (lacks_map (emitted_router e g)) x ≡ []) of.is
-    (two_empty (line_naming (lacks_map (emitted_router e g)) (neighbor_at e g (of.place, of.link)).map_in) (line_naming (lacks_map (emitted_router e g)) (neighbor_at e g (of.place, of.link)).map_out)
-    (no_line (lacks_map (emitted_router e g)) (neighbor_at e g (of.place, of.link)).map_in (λ m made. named_is_defined e g _ m (in_name e g of.link m of.over of.of.link_in of.of.touched made)))
-    (no_line (lacks_map (emitted_router e g)) (neighbor_at e g (of.place, of.link)).map_out (λ m made. named_is_defined e g _ m (out_name e g of.link m of.over of.of.link_in of.of.touched made)))))))
+    (two_empty (line_naming (lacks_map (emitted_router e g)) (neighbor_at e g (of.place, of.link)).map_in)
+    (line_naming (lacks_map (emitted_router e g)) (neighbor_at e g (of.place, of.link)).map_out)
+    (no_line (lacks_map (emitted_router e g)) (neighbor_at e g (of.place, of.link)).map_in
+    (λ m made. named_is_defined e g _ m (in_name e g of.link m of.over of.of.link_in of.of.touched made)))
+    (no_line (lacks_map (emitted_router e g)) (neighbor_at e g (of.place, of.link)).map_out
+    (λ m made. named_is_defined e g _ m (out_name e g of.link m of.over of.of.link_in of.of.touched made)))))))
 
 -- ---- lists are defined
 
-list_in_router : (e : Plan) (g k : ℕ) (m : Plain) (x : PlainEntry) (c : CommunityList) → In (enumerate_from 1 (maps_of e g)) (k, m) → In m.entries x → In (lists_of_entry k x) c → In (emitted_router e g).community_lists c
-list_in_router e g k m x c at here h = in_flat_map lists_of_map (enumerate_from 1 (maps_of e g)) (k, m) c at (in_flat_map (lists_of_entry k) m.entries x c here h)
+list_in_router : (e : Plan) (g k : ℕ) (m : Plain) (x : PlainEntry) (c : CommunityList) → In (enumerate_from 1 (maps_of e g)) (k, m) → In m.entries x →
+    In (lists_of_entry k x) c → In (emitted_router e g).community_lists c
+list_in_router e g k m x c at here h = in_flat_map lists_of_map (enumerate_from 1 (maps_of e g)) (k, m) c at
+    (in_flat_map (lists_of_entry k) m.entries x c here h)
 
 list_is_defined : (r : Router) (c : CommunityList) (name : List ℕ) → In r.community_lists c → c.name ≡ name → lacks_community_list r name ≡ false
-list_is_defined r c name h same = ap not (any_in (λ (list : CommunityList). bytes_eq name list.name) r.community_lists c h (ap (bytes_eq name) same ∙ bytes_self name))
+list_is_defined r c name h same = ap not
+    (any_in (λ (list : CommunityList). bytes_eq name list.name) r.community_lists c h (ap (bytes_eq name) same ∙ bytes_self name))
 
 entry_defined : (e : Plan) (g k : ℕ) (m : Plain) (x : PlainEntry) → In (enumerate_from 1 (maps_of e g)) (k, m) → In m.entries x
     → entry_lines_naming (lacks_prefix_list (emitted_router e g)) (lacks_community_list (emitted_router e g)) (written_entry (number (small e) g) k x) ≡ []
@@ -131,7 +141,8 @@ entry_defined e g k m x at here = two_empty (matches x.lists) (deletes x.delete)
     none_lacks : list_any (lacks_community_list r) (map name_of_list (match_lists k x)) ≡ false
     none_lacks =
         none_like (lacks_community_list r) (map name_of_list (match_lists k x))
-        (λ name h. let c = map_in name_of_list (match_lists k x) name h in list_is_defined r c.0 name (list_in_router e g k m x c.0 at here (in_left (match_lists k x) (deletion_lists k x) c.0 c.1)) c.2)
+        (λ name h. let c = map_in name_of_list (match_lists k x) name h in
+        list_is_defined r c.0 name (list_in_router e g k m x c.0 at here (in_left (match_lists k x) (deletion_lists k x) c.0 c.1)) c.2)
 
     matches_none : (o : Option (List CommunityList)) → matches o ≡ []
     matches_none None = refl
@@ -144,7 +155,8 @@ entry_defined e g k m x at here = two_empty (matches x.lists) (deletes x.delete)
         (list_is_defined r (written_list (deletion_name k x.seq) list) (deletion_name k x.seq)
         (list_in_router e g k m x (written_list (deletion_name k x.seq) list) at here
         (in_right (match_lists k x) (deletion_lists k x) (written_list (deletion_name k x.seq) list)
-        (subst (λ (o : Option CommunityList). In (option_map_or (λ (l : CommunityList). written_list (deletion_name k x.seq) l ∷ []) o []) (written_list (deletion_name k x.seq) list)) (sym is) (inl refl)))) refl)
+        (subst (λ (o : Option CommunityList). In (option_map_or (λ (l : CommunityList). written_list (deletion_name k x.seq) l ∷ []) o [])
+        (written_list (deletion_name k x.seq) list)) (sym is) (inl refl)))) refl)
 
 pub no_undefined_list : (e : Plan) → undefined_list_lines (emitted e) ≡ []
 unfolding undefined_list_lines
@@ -152,10 +164,12 @@ no_undefined_list e =
     flat_none undefined_lists_of (emitted e).routers
     (of_routers e (λ r. undefined_lists_of r ≡ [])
     (λ g below.
-    two_empty (flat_map (list_lines_naming (lacks_prefix_list (emitted_router e g))) (neighbors_of (emitted_router e g))) (flat_map (lines_in_map_naming (lacks_prefix_list (emitted_router e g)) (lacks_community_list (emitted_router e g))) (emitted_router e g).route_maps)
+    two_empty (flat_map (list_lines_naming (lacks_prefix_list (emitted_router e g))) (neighbors_of (emitted_router e g)))
+    (flat_map (lines_in_map_naming (lacks_prefix_list (emitted_router e g)) (lacks_community_list (emitted_router e g))) (emitted_router e g).route_maps)
     (flat_none (list_lines_naming (lacks_prefix_list (emitted_router e g))) (neighbors_of (emitted_router e g))
     (λ n h. let of = neighbor_of e g n h in subst (λ (x : Neighbor). list_lines_naming (lacks_prefix_list (emitted_router e g)) x ≡ []) of.is refl))
     (flat_none (lines_in_map_naming (lacks_prefix_list (emitted_router e g)) (lacks_community_list (emitted_router e g))) (emitted_router e g).route_maps
     (λ w h.
     flat_none (entry_lines_naming (lacks_prefix_list (emitted_router e g)) (lacks_community_list (emitted_router e g))) w.entries
-    (of_entries e g (λ entry. entry_lines_naming (lacks_prefix_list (emitted_router e g)) (lacks_community_list (emitted_router e g)) entry ≡ []) refl (λ k m x at here. entry_defined e g k m x at here) w h)))))
+    (of_entries e g (λ entry. entry_lines_naming (lacks_prefix_list (emitted_router e g)) (lacks_community_list (emitted_router e g)) entry ≡ []) refl
+    (λ k m x at here. entry_defined e g k m x at here) w h)))))

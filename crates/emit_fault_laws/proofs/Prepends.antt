@@ -43,14 +43,17 @@ use Rattle.emit_form_laws.proofs.Policies.{map_at, number_few}
 own_number : (e : Plan) (g : ℕ) → e.problem.protocol ≡ OverBgp → number (small e) g ≢ 0 → has_number (emitted_router e g) (number (small e) g) ≡ true
 own_number e g bgp some =
     ap (λ q. option_map_or (λ (process : BgpProcess). nat_eq process.number (number (small e) g)) (written_bgp q e g) false) bgp
-    ∙ ap (λ b. option_map_or (λ (process : BgpProcess). nat_eq process.number (number (small e) g)) (cond b None (Some (process_of e g))) false) (other_number (number (small e) g) 0 some)
+    ∙ ap (λ b. option_map_or (λ (process : BgpProcess). nat_eq process.number (number (small e) g)) (cond b None (Some (process_of e g))) false)
+    (other_number (number (small e) g) 0 some)
     ∙ same_number (number (small e) g) (number (small e) g) refl
 
-all_own : (e : Plan) (g : ℕ) → has_number (emitted_router e g) (number (small e) g) ≡ true → (n : ℕ) → list_all (has_number (emitted_router e g)) (replicate n (number (small e) g)) ≡ true
+all_own : (e : Plan) (g : ℕ) → has_number (emitted_router e g) (number (small e) g) ≡ true → (n : ℕ) →
+    list_all (has_number (emitted_router e g)) (replicate n (number (small e) g)) ≡ true
 all_own e g own zero = refl
 all_own e g own (suc n) = rw (own, all_own e g own n) refl
 
-own_prepend : (e : Plan) (g adds : ℕ) → has_number (emitted_router e g) (number (small e) g) ≡ true → foreign_prepend (emitted_router e g) (written_prepend (number (small e) g) adds) ≡ []
+own_prepend : (e : Plan) (g adds : ℕ) → has_number (emitted_router e g) (number (small e) g) ≡ true →
+    foreign_prepend (emitted_router e g) (written_prepend (number (small e) g) adds) ≡ []
 own_prepend e g adds own = step (nat_eq adds 0)
   where
     step : (b : Bool) → foreign_prepend (emitted_router e g) (cond b None (Some (record { numbers = replicate adds (number (small e) g); line = 0 }))) ≡ []
@@ -84,13 +87,15 @@ AddsNoneIn (Cost cost) = Unit {0}
 acts_add_nothing : (e : Plan) → IsPlan e → e.problem.protocol ≡ OverBgp → AllByRecursion AddsNoneIn e.problem.acts
 acts_add_nothing e plan bgp =
     recursion_from_All AddsNoneIn e.problem.acts
-    (λ k d below. fits (slice_index_or e.problem.acts k d) (subst (λ q. IsActOf q (slice_index_or e.problem.acts k d)) bgp ((problem_of e plan).of.rules.acts.fit k d below)))
+    (λ k d below. fits (slice_index_or e.problem.acts k d)
+    (subst (λ q. IsActOf q (slice_index_or e.problem.acts k d)) bgp ((problem_of e plan).of.rules.acts.fit k d below)))
   where
     fits : (act : Act) → IsActOf OverBgp act → AddsNoneIn act
     fits (Import out sends into) is = recursion_from_All AddsNothing into.entries is
     fits (Cost cost) is = tt
 
-into_adds_nothing : (e : Plan) → IsPlan e → e.problem.protocol ≡ OverBgp → (g : ℕ) (l : QLink) → AllByRecursion AddsNothing (act_in_map (act_into e g l)).entries
+into_adds_nothing : (e : Plan) → IsPlan e → e.problem.protocol ≡ OverBgp → (g : ℕ) (l : QLink) →
+    AllByRecursion AddsNothing (act_in_map (act_into e g l)).entries
 into_adds_nothing e plan bgp g l = step (act_into e g l) (act_holds AddsNoneIn e tt (acts_add_nothing e plan bgp) g l)
   where
     step : (o : Option Act) → IfSome o AddsNoneIn → AllByRecursion AddsNothing (act_in_map o).entries
@@ -121,7 +126,8 @@ entries_add_nothing : (xs ys : List PlainEntry) → same_items same_entry xs ys 
 entries_add_nothing [] [] same none = tt
 entries_add_nothing [] (y ∷ ys) same none = absurd cc
 entries_add_nothing (x ∷ xs) [] same none = tt
-entries_add_nothing (x ∷ xs) (y ∷ ys) same none = let parts = and_parts (same_entry x y) (same_items same_entry xs ys) same in (sym (same_adds x y parts.0) ∙ none.0, entries_add_nothing xs ys parts.1 none.1)
+entries_add_nothing (x ∷ xs) (y ∷ ys) same none = let parts = and_parts (same_entry x y) (same_items same_entry xs ys) same in
+    (sym (same_adds x y parts.0) ∙ none.0, entries_add_nothing xs ys parts.1 none.1)
 
 same_adds_nothing : (m w : Plain) → same_map m w ≡ true → AllByRecursion AddsNothing m.entries → AllByRecursion AddsNothing w.entries
 unfolding same_map
@@ -147,24 +153,30 @@ and_no : (a : Bool) → (a && false) ≡ false
 and_no true = refl
 and_no false = refl
 
-not_prepending : (e : Plan) → length e.links ≤ 1048576 → (g : ℕ) (m : Plain) → IsAtNumber e g m → AllByRecursion AddsNothing m.entries → has_prepending_map (emitted_router e g) (map_name (number_of_map (maps_of e g) m)) ≡ false
+not_prepending : (e : Plan) → length e.links ≤ 1048576 → (g : ℕ) (m : Plain) → IsAtNumber e g m → AllByRecursion AddsNothing m.entries →
+    has_prepending_map (emitted_router e g) (map_name (number_of_map (maps_of e g) m)) ≡ false
 not_prepending e few g m at none =
     none_like (λ (w : RouteMap). prepends_in_map w && bytes_eq (map_name j) w.name) (emitted_router e g).route_maps
     (λ w h.
     let of = written_of e g w h in
-    subst (λ (z : RouteMap). (prepends_in_map z && bytes_eq (map_name j) z.name) ≡ false) of.is (step of.number_of of.plain of.numbered (nat_eq j of.number_of) refl))
+    subst (λ (z : RouteMap). (prepends_in_map z && bytes_eq (map_name j) z.name) ≡ false) of.is
+    (step of.number_of of.plain of.numbered (nat_eq j of.number_of) refl))
   where
     j : ℕ
     j = number_of_map (maps_of e g) m
 
-    step : (k : ℕ) (p : Plain) → In (enumerate_from 1 (maps_of e g)) (k, p) → (b : Bool) → nat_eq j k ≡ b → (prepends_in_map (written_map (number (small e) g) (k, p)) && bytes_eq (map_name j) (map_name k)) ≡ false
+    step : (k : ℕ) (p : Plain) → In (enumerate_from 1 (maps_of e g)) (k, p) → (b : Bool) → nat_eq j k ≡ b →
+        (prepends_in_map (written_map (number (small e) g) (k, p)) && bytes_eq (map_name j) (map_name k)) ≡ false
     step k p i true is =
         let one = one_at (maps_of e g) 1 j k at.written p at.at i (is_number j k is) in
-        ap (λ b. b && bytes_eq (map_name j) (map_name k)) (no_prepends (number (small e) g) k p (subst (λ (q : Plain). AllByRecursion AddsNothing q.entries) one (same_adds_nothing m at.written at.same none)))
+        ap (λ b. b && bytes_eq (map_name j) (map_name k))
+        (no_prepends (number (small e) g) k p (subst (λ (q : Plain). AllByRecursion AddsNothing q.entries) one
+        (same_adds_nothing m at.written at.same none)))
     step k p i false is =
         let low = number_few e few g m in
         let high = (map_at e few g k p i).few in
-        ap (λ b. prepends_in_map (written_map (number (small e) g) (k, p)) && b) (maps_apart j k (omega arith) (omega arith) (λ same. (let yes = same_number j k same in cc)))
+        ap (λ b. prepends_in_map (written_map (number (small e) g) (k, p)) && b)
+        (maps_apart j k (omega arith) (omega arith) (λ same. (let yes = same_number j k same in cc)))
         ∙ and_no (prepends_in_map (written_map (number (small e) g) (k, p)))
 
 pub none_inbound : (e : Plan) → IsPlan e → length e.links ≤ 1048576 → prepend_in_lines (emitted e) ≡ []
@@ -182,7 +194,8 @@ none_inbound e plan few =
     let name = in_name e g of.link m of.over of.of.link_in of.of.touched made in
     ap (has_prepending_map (emitted_router e g)) name.is
     ∙ not_prepending e few g name.plain name.at
-    (subst (λ (q : Plain). AllByRecursion AddsNothing q.entries) (one_some (act_in_map (act_into e g of.link)) name.plain name.of) (into_adds_nothing e plan of.over g of.link)))))))
+    (subst (λ (q : Plain). AllByRecursion AddsNothing q.entries) (one_some (act_in_map (act_into e g of.link)) name.plain name.of)
+    (into_adds_nothing e plan of.over g of.link)))))))
   where
     one_some : (x y : Plain) → Some x ≡ Some y → x ≡ y
     one_some x y same = cc

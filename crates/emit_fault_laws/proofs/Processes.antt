@@ -46,23 +46,27 @@ one_line protocol.Ospf e g l h = step (ospf_of protocol.Ospf e g) h
 pub protocol_is : (e : Plan) (l : ProtocolLine) → In (protocol_lines (emitted e)) l → l.protocol ≡ e.problem.protocol
 protocol_is e l h =
     let r = flat_map_in protocol_lines_of (emitted e).routers l h in
-    of_routers e (λ (x : Router). In (protocol_lines_of x) l → l.protocol ≡ e.problem.protocol) (λ g below here. one_line e.problem.protocol e g l here) r.0 r.1 r.2
+    of_routers e (λ (x : Router). In (protocol_lines_of x) l → l.protocol ≡ e.problem.protocol) (λ g below here. one_line e.problem.protocol e g l here) r.0 r.1
+    r.2
 
 pub no_mixed_protocols : (e : Plan) → mixed_protocol_lines (emitted e) ≡ []
 unfolding mixed_protocol_lines
 no_mixed_protocols e =
     ap (map line_of_protocol)
     (none_unlike same_protocol (protocol_lines (emitted e))
-    (λ l m h k. ap (λ q. is_same_protocol q m.protocol) (protocol_is e l h) ∙ ap (is_same_protocol e.problem.protocol) (protocol_is e m k) ∙ same_itself e.problem.protocol))
+    (λ l m h k. ap (λ q. is_same_protocol q m.protocol) (protocol_is e l h) ∙ ap (is_same_protocol e.problem.protocol) (protocol_is e m k)
+    ∙ same_itself e.problem.protocol))
 
 -- ---- one area
 
 made_area : (area : ℕ) (x : Interface) (l : AreaLine) → host_area_line area x ≡ Some l → l.area ≡ area
 made_area area x l made = step x.address made
   where
-    step : (o : Option Address) → option_map (λ (a : Address). let line : AreaLine = record { addr = a.addr; wild = 0; area = area; line = 0 } in line) o ≡ Some l → l.area ≡ area
+    step : (o : Option Address) → option_map (λ (a : Address). let line : AreaLine = record { addr = a.addr; wild = 0; area = area; line = 0 } in line) o ≡ Some
+        l → l.area ≡ area
     step None e = absurd cc
-    step (Some a) e = let same : ◌≡◌ {A = AreaLine} (record { addr = a.addr; wild = 0; area = area; line = 0 }) l = cc in ap (λ (x : AreaLine). x.area) (sym same)
+    step (Some a) e = let same : ◌≡◌ {A = AreaLine} (record { addr = a.addr; wild = 0; area = area; line = 0 }) l = cc in
+        ap (λ (x : AreaLine). x.area) (sym same)
 
 one_area : (q : Protocol) (e : Plan) (g : ℕ) (l : AreaLine) → In (areas_in (ospf_of q e g)) l → l.area ≡ area_number e
 one_area protocol.Bgp e g l h = absurd h

@@ -32,7 +32,8 @@ pub of_routers : (e : Plan) (P : Router → Type 0) → ((g : ℕ) → g < e.cou
 of_routers e P holds r h = let of = router_of_group e r h in subst P of.is (holds of.group of.below)
 
 -- what holds of the routers of each two groups holds of each two routers
-pub router_pairs : (e : Plan) (R : Router → Router → Type 0) → ((g h : ℕ) → g < e.count → h < e.count → g ≢ h → R (emitted_router e g) (emitted_router e h)) → IsPairwise R (emitted e).routers
+pub router_pairs : (e : Plan) (R : Router → Router → Type 0) → ((g h : ℕ) → g < e.count → h < e.count → g ≢ h → R (emitted_router e g) (emitted_router e h)) →
+    IsPairwise R (emitted e).routers
 unfolding emitted
 router_pairs e R holds =
     pairs_map (emitted_router e) R (range_with_len 0 e.count)

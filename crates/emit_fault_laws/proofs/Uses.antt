@@ -99,7 +99,8 @@ kept m seen (x ∷ xs) h = step (list_any (same_map x) seen) refl h (kept m seen
       | inr known ↦ inl (record { other = s.other; has = known; same = s.same })
     ]
 
-    step : (b : Bool) → list_any (same_map x) seen ≡ b → (x ≡ m) ⊎ In xs m → (In xs m → HasSame m seen ⊎ HasSame m (firsts seen xs)) → (In xs m → HasSame m (x ∷ seen) ⊎ HasSame m (firsts (x ∷ seen) xs))
+    step : (b : Bool) → list_any (same_map x) seen ≡ b → (x ≡ m) ⊎ In xs m → (In xs m → HasSame m seen ⊎ HasSame m (firsts seen xs)) →
+        (In xs m → HasSame m (x ∷ seen) ⊎ HasSame m (firsts (x ∷ seen) xs))
         → HasSame m seen ⊎ HasSame m (cond b (firsts seen xs) (x ∷ firsts (x ∷ seen) xs))
     step true e (inl same) known new = inl (subst (λ (z : Plain). HasSame z seen) same (any_same x seen e))
     step true e (inr i) known new = known i
@@ -110,7 +111,9 @@ found : (m : Plain) (maps : List Plain) → HasSame m maps → (x : Plain) × (f
 found m [] s = absurd s.has
 found m (x ∷ xs) s = step (same_map m x) refl s.has (λ h. found m xs (record { other = s.other; has = h; same = s.same }))
   where
-    step : (b : Bool) → same_map m x ≡ b → (x ≡ s.other) ⊎ In xs s.other → (In xs s.other → (y : Plain) × (find (same_map m) xs ≡ Some y) × (same_map m y ≡ true)) → (y : Plain) × (cond b (Some x) (find (same_map m) xs) ≡ Some y) × (same_map m y ≡ true)
+    step : (b : Bool) → same_map m x ≡ b → (x ≡ s.other) ⊎ In xs s.other →
+        (In xs s.other → (y : Plain) × (find (same_map m) xs ≡ Some y) × (same_map m y ≡ true)) →
+        (y : Plain) × (cond b (Some x) (find (same_map m) xs) ≡ Some y) × (same_map m y ≡ true)
     step true e h rest = (x, refl, e)
     step false e (inl same) rest = absurd (let f = sym e ∙ ap (same_map m) same ∙ s.same in cc)
     step false e (inr h) rest = rest h
@@ -126,13 +129,20 @@ in_maps e g m s =
     let f = found m (maps_of e g) s in
     let place = sym (find_at (same_map m) (maps_of e g)) ∙ f.1 in
     let number : 1 + position_or_len (same_map m) (maps_of e g) ≡ number_of_map (maps_of e g) m = omega arith in
-    record { written = f.0; at = subst (λ (n : ℕ). In (enumerate_from 1 (maps_of e g)) (n, f.0)) number (in_enumerate (maps_of e g) 1 (position_or_len (same_map m) (maps_of e g)) f.0 place); same = f.2 }
+    record {
+      written = f.0;
+      at = subst (λ (n : ℕ). In (enumerate_from 1 (maps_of e g)) (n, f.0)) number
+          (in_enumerate (maps_of e g) 1 (position_or_len (same_map m) (maps_of e g)) f.0 place);
+      same = f.2;
+    }
 
-use_in : (e : Plan) (g : ℕ) (l : QLink) (m : Plain) → e.problem.protocol ≡ OverBgp → In e.links l → touches g l ≡ true → In (maps_at e g l) m → HasSame m (maps_of e g)
+use_in : (e : Plan) (g : ℕ) (l : QLink) (m : Plain) → e.problem.protocol ≡ OverBgp → In e.links l → touches g l ≡ true → In (maps_at e g l) m →
+    HasSame m (maps_of e g)
 unfolding maps_of
 use_in e g l m bgp at touched here =
     subst (λ q. HasSame m (maps_over q e g)) (sym bgp)
-    (elim (kept m [] (flat_map (maps_at e g) (filter (touches g) e.links)) (in_flat_map (maps_at e g) (filter (touches g) e.links) l m (in_filter (touches g) e.links l at touched) here)) [
+    (elim (kept m [] (flat_map (maps_at e g) (filter (touches g) e.links))
+    (in_flat_map (maps_at e g) (filter (touches g) e.links) l m (in_filter (touches g) e.links l at touched) here)) [
       | inl s ↦ absurd s.has
       | inr s ↦ s
     ])
@@ -146,23 +156,31 @@ pub record IsNameOf (e : Plan) (g : ℕ) (o : Option Plain) (n : Named) : Type 0
   pub is : n.name ≡ map_name (number_of_map (maps_of e g) plain)
   pub at : IsAtNumber e g plain
 
-name_use : (e : Plan) (g : ℕ) (m : Plain) (n : Named) → (In (if_written (Some m)) m → HasSame m (maps_of e g)) → name_of_map (maps_of e g) (Some m) ≡ Some n → IsNameOf e g (Some m) n
+name_use : (e : Plan) (g : ℕ) (m : Plain) (n : Named) → (In (if_written (Some m)) m → HasSame m (maps_of e g)) → name_of_map (maps_of e g) (Some m) ≡ Some n →
+    IsNameOf e g (Some m) n
 name_use e g m n given made = step (is_whole m.entries) made given
   where
-    step : (b : Bool) → cond b None (Some (named (map_name (number_of_map (maps_of e g) m)))) ≡ Some n → (In (cond b [] (m ∷ [])) m → HasSame m (maps_of e g)) → IsNameOf e g (Some m) n
+    step : (b : Bool) → cond b None (Some (named (map_name (number_of_map (maps_of e g) m)))) ≡ Some n → (In (cond b [] (m ∷ [])) m → HasSame m (maps_of e g)) →
+        IsNameOf e g (Some m) n
     step true made given = absurd cc
-    step false made given = let same : named (map_name (number_of_map (maps_of e g) m)) ≡ n = cc in record { plain = m; of = refl; is = ap (λ (x : Named). x.name) (sym same); at = in_maps e g m (given (inl refl)) }
+    step false made given = let same : named (map_name (number_of_map (maps_of e g) m)) ≡ n = cc in
+        record { plain = m; of = refl; is = ap (λ (x : Named). x.name) (sym same); at = in_maps e g m (given (inl refl)) }
 
-pub in_name : (e : Plan) (g : ℕ) (l : QLink) (n : Named) → e.problem.protocol ≡ OverBgp → In e.links l → touches g l ≡ true → name_of_map (maps_of e g) (Some (act_in_map (act_into e g l))) ≡ Some n → IsNameOf e g (Some (act_in_map (act_into e g l))) n
+pub in_name : (e : Plan) (g : ℕ) (l : QLink) (n : Named) → e.problem.protocol ≡ OverBgp → In e.links l → touches g l ≡ true →
+    name_of_map (maps_of e g) (Some (act_in_map (act_into e g l))) ≡ Some n → IsNameOf e g (Some (act_in_map (act_into e g l))) n
 in_name e g l n bgp at touched made =
     name_use e g (act_in_map (act_into e g l)) n
-    (λ here. use_in e g l (act_in_map (act_into e g l)) bgp at touched (in_left (if_written (Some (act_in_map (act_into e g l)))) (if_written (act_out_map (act_into e (other_end g l) l))) (act_in_map (act_into e g l)) here)) made
+    (λ here. use_in e g l (act_in_map (act_into e g l)) bgp at touched
+    (in_left (if_written (Some (act_in_map (act_into e g l)))) (if_written (act_out_map (act_into e (other_end g l) l))) (act_in_map (act_into e g l))
+    here)) made
 
-pub out_name : (e : Plan) (g : ℕ) (l : QLink) (n : Named) → e.problem.protocol ≡ OverBgp → In e.links l → touches g l ≡ true → name_of_map (maps_of e g) (act_out_map (act_into e (other_end g l) l)) ≡ Some n → IsNameOf e g (act_out_map (act_into e (other_end g l) l)) n
+pub out_name : (e : Plan) (g : ℕ) (l : QLink) (n : Named) → e.problem.protocol ≡ OverBgp → In e.links l → touches g l ≡ true →
+    name_of_map (maps_of e g) (act_out_map (act_into e (other_end g l) l)) ≡ Some n → IsNameOf e g (act_out_map (act_into e (other_end g l) l)) n
 out_name e g l n bgp at touched made = step (act_out_map (act_into e (other_end g l) l)) refl made
   where
     step : (o : Option Plain) → act_out_map (act_into e (other_end g l) l) ≡ o → name_of_map (maps_of e g) o ≡ Some n → IsNameOf e g o n
     step None is made = absurd cc
     step (Some m) is made =
         name_use e g m n
-        (λ here. use_in e g l m bgp at touched (in_right (if_written (Some (act_in_map (act_into e g l)))) (if_written (act_out_map (act_into e (other_end g l) l))) m (subst (λ (o : Option Plain). In (if_written o) m) (sym is) here))) made
+        (λ here. use_in e g l m bgp at touched (in_right (if_written (Some (act_in_map (act_into e g l))))
+        (if_written (act_out_map (act_into e (other_end g l) l))) m (subst (λ (o : Option Plain). In (if_written o) m) (sym is) here))) made

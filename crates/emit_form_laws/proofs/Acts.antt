@@ -72,13 +72,22 @@ pub record IsActBetween (e : Plan) (g h : ℕ) (act : Act) : Type 0 where
   pub importer : slice_index e.groups edge.importer ≡ g
   pub exporter : slice_index e.groups edge.exporter ≡ h
 
-pub act_between : (e : Plan) → IsPlan e → QuotientCarries → (g h : ℕ) (l : QLink) → In e.links l → IsEnd e g l h → (act : Act) → act_into e g l ≡ Some act → IsActBetween e g h act
+pub act_between : (e : Plan) → IsPlan e → QuotientCarries → (g h : ℕ) (l : QLink) → In e.links l → IsEnd e g l h → (act : Act) → act_into e g l ≡ Some act →
+    IsActBetween e g h act
 act_between e plan law g h l at end act is =
     let place = map_some (act_of_place e) (edge_into e.problem.protocol e.links g l) act is in
     let by = carried_by e.problem.protocol e.links g l place.0 at place.1 in
-    let joined : IsJoined by.link g h = elim end.joined [ inl low ↦ inl (by.low ∙ low.0, by.high ∙ low.1) | inr high ↦ inr (by.high ∙ high.0, by.low ∙ high.1) ] in
+    let joined : IsJoined by.link g h = elim end.joined [ inl low ↦ inl (by.low ∙ low.0, by.high ∙ low.1) | inr high ↦ inr (by.high ∙ high.0, by.low ∙ high.1) ]
+    in
     let b = ((carries e plan law).real by.link g h place.0 (contains_in e.links by.link by.link_in) joined by.side).between in
-    record { edge = b.edge; has = b.has; does = ap (λ k. slice_index_or e.problem.acts k (Cost 0)) b.does ∙ place.2; importer = b.importer; exporter = b.exporter }
+    record {
+      edge = b.edge;
+      has = b.has;
+      does = ap (λ k. slice_index_or e.problem.acts k (Cost 0)) b.does ∙ place.2;
+      importer = b.importer;
+      exporter =
+          b.exporter;
+    }
 
 -- ---- acts can be printed
 
@@ -112,10 +121,20 @@ found_holds P test (item ∷ items) all = step (test item) (found_holds P test i
 
 rows_are_costs : AllByRecursion (λ (row : List ℕ × ℕ). IsCost row.1) default_costs
 unfolding default_costs
-rows_are_costs = ((omega arith, omega arith), ((omega arith, omega arith), ((omega arith, omega arith), ((omega arith, omega arith), ((omega arith, omega arith), ((omega arith, omega arith), ((omega arith, omega arith), tt)))))))
+rows_are_costs = (
+  (omega arith, omega arith),
+  (
+    (omega arith, omega arith),
+    (
+      (omega arith, omega arith),
+      ((omega arith, omega arith), ((omega arith, omega arith), ((omega arith, omega arith), ((omega arith, omega arith), tt)))),
+    ),
+  ),
+)
 
 default_is_cost : (name : List ℕ) → IfSome (default_cost_of name) IsCost
-default_is_cost name = step (find (is_row_of name) default_costs) (found_holds (λ (row : List ℕ × ℕ). IsCost row.1) (is_row_of name) default_costs rows_are_costs)
+default_is_cost name = step (find (is_row_of name) default_costs)
+    (found_holds (λ (row : List ℕ × ℕ). IsCost row.1) (is_row_of name) default_costs rows_are_costs)
   where
     step : (o : Option (List ℕ × ℕ)) → IfSome o (λ (row : List ℕ × ℕ). IsCost row.1) → IfSome (option_map (λ (row : List ℕ × ℕ). row.1) o) IsCost
     step None is = tt
@@ -135,14 +154,17 @@ act_cost e plan g h cost b =
     let means : Means e.network p.prefix stood.0 (Cost cost) = subst (Means e.network p.prefix stood.0) b.does stood.1.means in
     step means (slice_get means.importer.interfaces stood.0.importer_item) refl means.same
   where
-    step : {d : Direction} (means : MeansCost e.network d cost) (o : Option Interface) → slice_get means.importer.interfaces d.importer_item ≡ o → option_and_then cost_of_interface o ≡ Some cost → IsCost cost
+    step : {d : Direction} (means : MeansCost e.network d cost) (o : Option Interface) → slice_get means.importer.interfaces d.importer_item ≡ o →
+        option_and_then cost_of_interface o ≡ Some cost → IsCost cost
     step means None at is = absurd cc
     step {d} means (Some x) at is =
         some_holds IsCost (cost_of_interface x) cost
-        (cost_form x (interface_forms e.network plan.well_formed means.importer (get_in e.network.routers d.importer means.importer means.importer_at) x (get_in means.importer.interfaces d.importer_item x at))) is
+        (cost_form x (interface_forms e.network plan.well_formed means.importer (get_in e.network.routers d.importer means.importer means.importer_at) x
+        (get_in means.importer.interfaces d.importer_item x at))) is
 
 -- the cost that a link has into g
-pub link_cost : (e : Plan) → IsPlan e → QuotientCarries → (g h : ℕ) (l : QLink) → In e.links l → IsEnd e g l h → IfSome (option_and_then cost_by (act_into e g l)) IsCost
+pub link_cost : (e : Plan) → IsPlan e → QuotientCarries → (g h : ℕ) (l : QLink) → In e.links l → IsEnd e g l h →
+    IfSome (option_and_then cost_by (act_into e g l)) IsCost
 link_cost e plan law g h l at end = step (act_into e g l) refl
   where
     step : (o : Option Act) → act_into e g l ≡ o → IfSome (option_and_then cost_by o) IsCost

@@ -56,7 +56,8 @@ is_number m n e = grind (arith, nat_tests)
 pub overlap_meets : (a : Address) (t s : ℕ) → s ≤ 1 → t < 1048576 → overlap a (link_address t s) ≡ true → meets_pool (subnet_of_address a) ≡ true
 overlap_meets a t s low few over =
     let b : ℕ = 1681915904 + 2 * t + s in
-    let cut : a.addr / 2 ^ (32 - min a.len 31) ≡ b / 2 ^ (32 - min a.len 31) = is_number (a.addr / 2 ^ (32 - min a.len 31)) (b / 2 ^ (32 - min a.len 31)) over in
+    let cut : a.addr / 2 ^ (32 - min a.len 31) ≡ b / 2 ^ (32 - min a.len 31) =
+    is_number (a.addr / 2 ^ (32 - min a.len 31)) (b / 2 ^ (32 - min a.len 31)) over in
     same_number (a.addr / 2 ^ (32 - a.len) * 2 ^ (32 - a.len) / 2 ^ (32 - min a.len 10)) (1681915904 / 2 ^ (32 - min a.len 10))
     (cut_again a.addr (32 - a.len) (32 - min a.len 10) (omega arith)
     ∙ cut_more a.addr b (32 - min a.len 31) (32 - min a.len 10) (omega arith) cut
@@ -79,7 +80,8 @@ no_map f (Some x) e = absurd cc
 pub outside_pool : (e : Plan) → IsPlan e → (p : Prefix) → In e.class.prefixes p → meets_pool p ≡ true → ⊥
 unfolding pool_line
 outside_pool e plan p at meets =
-    none_found meets_pool e.class.prefixes p (no_map (λ (q : Prefix). unwrap_or (line_at e.network e.class.origins q) 0) (find meets_pool e.class.prefixes) plan.apart) at meets
+    none_found meets_pool e.class.prefixes p
+    (no_map (λ (q : Prefix). unwrap_or (line_at e.network e.class.origins q) 0) (find meets_pool e.class.prefixes) plan.apart) at meets
 
 -- ---- two interfaces whose subnets do not overlap
 
@@ -92,7 +94,8 @@ turned_tests m n = grind (arith, nat_tests)
 pub turned : (a b : Address) → overlap a b ≡ overlap b a
 turned a b =
     let same : min a.len b.len ≡ min b.len a.len = omega arith in
-    ap (λ k. nat_eq (a.addr / 2 ^ (32 - k)) (b.addr / 2 ^ (32 - k))) same ∙ turned_tests (a.addr / 2 ^ (32 - min b.len a.len)) (b.addr / 2 ^ (32 - min b.len a.len))
+    ap (λ k. nat_eq (a.addr / 2 ^ (32 - k)) (b.addr / 2 ^ (32 - k))) same
+    ∙ turned_tests (a.addr / 2 ^ (32 - min b.len a.len)) (b.addr / 2 ^ (32 - min b.len a.len))
 
 not_true : (b : Bool) → (b ≡ true → ⊥) → b ≡ false
 not_true true never = absurd (never refl)
@@ -125,17 +128,21 @@ flat_nil f (z ∷ zs) x e (inr h) = flat_nil f zs x (append_nil (f z) (flat_map 
 
 pub router_apart : (n : Network) → IsFaultless n → (r : Router) → In n.routers r → IsPairwise (λ (a b : Address). overlap b a ≡ false) (up_addresses_of r)
 unfolding overlapping_lines
-router_apart n ok r at = pairs_repeats overlap (up_addresses_of r) (flat_nil overlapping_in n.routers r (map_nil address_line (flat_map overlapping_in n.routers) ok.overlapping) at)
+router_apart n ok r at = pairs_repeats overlap (up_addresses_of r)
+    (flat_nil overlapping_in n.routers r (map_nil address_line (flat_map overlapping_in n.routers) ok.overlapping) at)
 
 one_router : (o : Option Router) (r s : Router) → o ≡ Some r → o ≡ Some s → r ≡ s
 one_router o r s e f = cc
 
 class_apart : (e : Plan) → IsPlan e → (g : ℕ) (x y : Interface) (c : IsClassAt e g x) (d : IsClassAt e g y) → IsBefore c.prefix d.prefix → AreApart x y
 class_apart e plan g x y c d before =
-    let here : In (up_addresses_of c.router) d.address = subst (λ (r : Router). In (up_addresses_of r) d.address) (one_router (first_router_of e g) d.router c.router d.at c.at) d.address_in in
+    let here : In (up_addresses_of c.router) d.address =
+    subst (λ (r : Router). In (up_addresses_of r) d.address) (one_router (first_router_of e g) d.router c.router d.at c.at) d.address_in in
     apart_by x y (bare_address c.address) (bare_address d.address) c.given d.given
-    (elim (pick (λ (a b : Address). overlap b a ≡ false) (up_addresses_of c.router) c.address d.address (router_apart e.network plan.faultless c.router c.router_in) c.address_in here) [
-      | inl same ↦ absurd (let f = sym c.subnet ∙ ap subnet_of_address same ∙ d.subnet in let g = not_before_self d.prefix in let h = subst (λ (p : Prefix). IsBefore p d.prefix) f before in cc)
+    (elim (pick (λ (a b : Address). overlap b a ≡ false) (up_addresses_of c.router) c.address d.address
+    (router_apart e.network plan.faultless c.router c.router_in) c.address_in here) [
+      | inl same ↦ absurd (let f = sym c.subnet ∙ ap subnet_of_address same ∙ d.subnet in let g = not_before_self d.prefix in let h =
+          subst (λ (p : Prefix). IsBefore p d.prefix) f before in cc)
       | inr (inl clear) ↦ clear
       | inr (inr clear) ↦ turned d.address c.address ∙ clear
     ])
@@ -148,7 +155,8 @@ class_link_apart e plan few g x y c d =
     apart_by x y (bare_address c.address) (link_address d.place (side_number g d.link)) c.given d.given
     (turned (link_address d.place (side_number g d.link)) (bare_address c.address)
     ∙ not_true (overlap (bare_address c.address) (link_address d.place (side_number g d.link)))
-    (λ over. outside_pool e plan c.prefix c.prefix_in (ap meets_pool (sym c.subnet) ∙ overlap_meets (bare_address c.address) d.place (side_number g d.link) (side_below g d.link) (omega arith) over)))
+    (λ over. outside_pool e plan c.prefix c.prefix_in
+    (ap meets_pool (sym c.subnet) ∙ overlap_meets (bare_address c.address) d.place (side_number g d.link) (side_below g d.link) (omega arith) over)))
 
 pub links_apart : (t u s z : ℕ) → s ≤ 1 → z ≤ 1 → t ≢ u → overlap (link_address t s) (link_address u z) ≡ false
 links_apart t u s z low high other = other_number ((1681915904 + 2 * t + s) / 2) ((1681915904 + 2 * u + z) / 2) (λ same. other (one_half t u s z low high same))
@@ -157,7 +165,8 @@ links_pairs : (e : Plan) (g : ℕ) → IsPairwise AreApart (link_interfaces e g)
 unfolding link_interfaces links_at
 links_pairs e g =
     pairs_map (link_interface e g) AreApart (enumerate_from 1 (links_at e g))
-    (weaker (λ (p q : ℕ × (ℕ × QLink)). p.1.0 < q.1.0) (λ (p q : ℕ × (ℕ × QLink)). AreApart (link_interface e g p) (link_interface e g q)) (enumerate_from 1 (links_at e g))
+    (weaker (λ (p q : ℕ × (ℕ × QLink)). p.1.0 < q.1.0) (λ (p q : ℕ × (ℕ × QLink)). AreApart (link_interface e g p) (link_interface e g q))
+    (enumerate_from 1 (links_at e g))
     (λ (j, (t, l)) (k, (u, m)) h i less.
     apart_by (link_interface e g (j, (t, l))) (link_interface e g (k, (u, m))) (link_address t (side_number g l)) (link_address u (side_number g m)) refl refl
     (links_apart u t (side_number g m) (side_number g l) (side_below g m) (side_below g l) (λ same. absurd (omega arith))))
@@ -174,10 +183,12 @@ class_pairs_apart e plan g = step (first_router_of e g) refl
         (λ (j, p) (k, q) x y h i before is is'.
         let c = class_of_entry e g r j p x at h is in
         let d = class_of_entry e g r k q y at i is' in
-        class_apart e plan g x y c.0 d.0 (let P : Prefix → Prefix → Type 0 = IsBefore in subst (P c.0.prefix) (sym d.1) (subst (λ (z : Prefix). P z q) (sym c.1) before)))
+        class_apart e plan g x y c.0 d.0 (let P : Prefix → Prefix → Type 0 = IsBefore in
+        subst (P c.0.prefix) (sym d.1) (subst (λ (z : Prefix). P z q) (sym c.1) before)))
         (numbered_items 1 IsBefore e.class.prefixes (class_pairs e.network e.class (class_is e.network e.class plan.class)))
 
 -- no two subnets of the router overlap
 pub interfaces_apart : (e : Plan) → IsPlan e → length e.links ≤ 1048576 → (g : ℕ) → IsPairwise AreApart (class_interfaces e g ++ link_interfaces e g)
 interfaces_apart e plan few g =
-    pairs_append AreApart (class_interfaces e g) (link_interfaces e g) (class_pairs_apart e plan g) (links_pairs e g) (λ x y h k. class_link_apart e plan few g x y (class_at e g x h) (link_at e g y k))
+    pairs_append AreApart (class_interfaces e g) (link_interfaces e g) (class_pairs_apart e plan g) (links_pairs e g)
+    (λ x y h k. class_link_apart e plan few g x y (class_at e g x h) (link_at e g y k))

@@ -38,7 +38,8 @@ pub record HasProblem (e : Plan) : Type 0 where
   pub of : IsProblemOf e.network prefix e.problem
 
 pub problem_of : (e : Plan) → IsPlan e → HasProblem e
-problem_of e plan = let p = some_prefix e.network e.class (class_is e.network e.class plan.class) in record { prefix = p.0; has = p.1; of = plan.problem p.0 p.1 }
+problem_of e plan = let p = some_prefix e.network e.class (class_is e.network e.class plan.class) in
+    record { prefix = p.0; has = p.1; of = plan.problem p.0 p.1 }
 
 pub groups_total : (e : Plan) → IsPlan e → length e.groups ≡ length e.network.routers
 groups_total e plan = plan.groups.total ∙ ap length (problem_of e plan).of.numbers ∙ length-map e.network.routers as_number_of
@@ -113,7 +114,8 @@ number_below e plan g below =
     let few : (i : ℕ) → In e.problem.numbers i → i ≤ 4294967295 =
     λ i at. (let m = map_in as_number_of e.network.routers i (subst (λ (is : List ℕ). In is i) (problem_of e plan).of.numbers at) in
     subst (λ j. j ≤ 4294967295) m.2 (as_number_below m.0 (router_forms e.network plan.well_formed m.0 m.1))) in
-    subst (λ i. i ≤ 4294967295) (sym (number_at e g below)) (step (is_used e.problem e.groups e.links g) (first_below 4294967295 e.problem.numbers e.groups g few))
+    subst (λ i. i ≤ 4294967295) (sym (number_at e g below))
+    (step (is_used e.problem e.groups e.links g) (first_below 4294967295 e.problem.numbers e.groups g few))
   where
     step : (b : Bool) → first_number e.problem.numbers e.groups g ≤ 4294967295 → cond b (first_number e.problem.numbers e.groups g) 0 ≤ 4294967295
     step true few = few
@@ -126,7 +128,11 @@ carries e plan law =
     let inside : (edge : Edge) → Contains e.problem.edges edge → IsInside e.groups e.count edge =
     λ edge has. (let of = (problem_of e plan).of.rules.edges.inside edge has in
     let total = plan.groups.total in
-    record { importer = plan.numbered.below edge.importer 0 (let i = of.importer_in in omega arith); exporter = plan.numbered.below edge.exporter 0 (let i = of.exporter_in in omega arith) }) in
+    record {
+      importer = plan.numbered.below edge.importer 0 (let i = of.importer_in in omega arith);
+      exporter =
+          plan.numbered.below edge.exporter 0 (let i = of.exporter_in in omega arith);
+    }) in
     subst (CarriesActs e.problem.edges e.groups e.count) (sym plan.links) (law e.problem.edges e.groups e.count inside)
 
 or_cases : (a b : Bool) → (a || b) ≡ true → (a ≡ true) ⊎ (b ≡ true)
@@ -195,7 +201,8 @@ record HasNumbered (e : Plan) (g : ℕ) : Type 0 where
   group : slice_index e.groups member ≡ g
   numbered : number e.problem member ≢ 0
 
-pub first_some : (numbers groups : List ℕ) (g u : ℕ) → u < length numbers → length groups ≡ length numbers → slice_index groups u ≡ g → slice_index numbers u ≢ 0 → first_number numbers groups g ≢ 0
+pub first_some : (numbers groups : List ℕ) (g u : ℕ) → u < length numbers → length groups ≡ length numbers → slice_index groups u ≡ g →
+    slice_index numbers u ≢ 0 → first_number numbers groups g ≢ 0
 unfolding first_number
 first_some [] groups g u below total of some = absurd (omega arith)
 first_some (i ∷ is) [] g u below total of some = absurd (omega arith)
@@ -208,7 +215,8 @@ first_some (i ∷ is) (x ∷ xs) g (suc u) below total of some = step (nat_eq x 
     step true true e rest same = rest same
     step false b e rest same = rest same
 
-numbered_of : (e : Plan) → IsPlan e → QuotientCarries → e.problem.protocol ≡ OverBgp → (g h : ℕ) (l : QLink) → In e.links l → IsJoined l g h → IsJoined l h g → HasNumbered e g
+numbered_of : (e : Plan) → IsPlan e → QuotientCarries → e.problem.protocol ≡ OverBgp → (g h : ℕ) (l : QLink) → In e.links l → IsJoined l g h → IsJoined l h g →
+    HasNumbered e g
 numbered_of e plan law bgp g h l at joined back = step (side_of g l) refl
   where
     rules : IsProblem e.problem
@@ -220,11 +228,23 @@ numbered_of e plan law bgp g h l at joined back = step (side_of g l) refl
     step : (o : Option ℕ) → side_of g l ≡ o → HasNumbered e g
     step (Some k) is =
         let b = ((carries e plan law).real l g h k has joined is).between in
-        record { member = b.edge.importer; inside = (rules.edges.inside b.edge b.has).importer_in; group = b.importer; numbered = (rules.numbers bgp).importers b.edge b.has }
+        record {
+          member = b.edge.importer;
+          inside = (rules.edges.inside b.edge b.has).importer_in;
+          group = b.importer;
+          numbered =
+              (rules.numbers bgp).importers b.edge b.has;
+        }
     step None is =
         let k = (carries e plan law).used l g h has joined is in
         let b = ((carries e plan law).real l h g k.0 has back k.1).between in
-        record { member = b.edge.exporter; inside = (rules.edges.inside b.edge b.has).exporter_in; group = b.exporter; numbered = (rules.numbers bgp).exporters b.edge b.has }
+        record {
+          member = b.edge.exporter;
+          inside = (rules.edges.inside b.edge b.has).exporter_in;
+          group = b.exporter;
+          numbered =
+              (rules.numbers bgp).exporters b.edge b.has;
+        }
 
 pub any_in : {X : Type 0} (p : X → Bool) (xs : List X) (x : X) → In xs x → p x ≡ true → list_any p xs ≡ true
 any_in p [] x h e = absurd h
@@ -236,12 +256,14 @@ any_in p (y ∷ ys) x (inr h) e = step (p y) (any_in p ys x h e)
     step false rest = rest
 
 -- a group with a link has an AS number
-pub linked : (e : Plan) → IsPlan e → QuotientCarries → e.problem.protocol ≡ OverBgp → (g : ℕ) (l : QLink) → In e.links l → touches g l ≡ true → number (small e) g ≢ 0
+pub linked : (e : Plan) → IsPlan e → QuotientCarries → e.problem.protocol ≡ OverBgp → (g : ℕ) (l : QLink) → In e.links l → touches g l ≡ true →
+    number (small e) g ≢ 0
 linked e plan law bgp g l at touched same =
     (let end = end_of e plan law g l at touched in
     let of = numbered_of e plan law bgp g end.0 l at end.1.joined end.1.back in
     let some = first_some e.problem.numbers e.groups g of.member of.inside plan.groups.total of.group of.numbered in
-    some (sym (used (is_some (initial e.problem (first_member e.groups g))) (list_any (touches g) e.links) (any_in (touches g) e.links l at touched)) ∙ sym (number_at e g end.1.here) ∙ same))
+    some (sym (used (is_some (initial e.problem (first_member e.groups g))) (list_any (touches g) e.links) (any_in (touches g) e.links l at touched))
+    ∙ sym (number_at e g end.1.here) ∙ same))
   where
     used : (a b : Bool) → b ≡ true → cond (a || b) (first_number e.problem.numbers e.groups g) 0 ≡ first_number e.problem.numbers e.groups g
     used true b e = refl

@@ -68,12 +68,14 @@ and_second false b e = absurd cc
 
 origin_is : (q : Protocol) (r : Router) (p : Prefix) (x : Interface) → interface_in q r p ≡ Some x → In r.interfaces x × (is_up_in p x ≡ true)
 origin_is OverBgp r p x e = found_in (is_up_in p) r.interfaces x e
-origin_is OverOspf r p x e = let f = found_in (λ y. is_in_area_interface r y && is_up_in p y) r.interfaces x e in (f.0, and_second (is_in_area_interface r x) (is_up_in p x) f.1)
+origin_is OverOspf r p x e = let f = found_in (λ y. is_in_area_interface r y && is_up_in p y) r.interfaces x e in
+    (f.0, and_second (is_in_area_interface r x) (is_up_in p x) f.1)
 
 pub up_in_is : (p : Prefix) (x : Interface) → is_up_in p x ≡ true → (a : Address) × (up_address x ≡ Some a) × (subnet_of_address a ≡ p)
 up_in_is p x e = step (up_address x) refl e
   where
-    step : (o : Option Address) → up_address x ≡ o → option_map_or (same_prefix p) (option_map subnet_of_address o) false ≡ true → (a : Address) × (up_address x ≡ Some a) × (subnet_of_address a ≡ p)
+    step : (o : Option Address) → up_address x ≡ o → option_map_or (same_prefix p) (option_map subnet_of_address o) false ≡ true →
+        (a : Address) × (up_address x ≡ Some a) × (subnet_of_address a ≡ p)
     step None is e = absurd cc
     step (Some a) is e = (a, is, sym (one_prefix p (subnet_of_address a) e))
 
@@ -81,14 +83,17 @@ cond_some : {X : Type 0} (b : Bool) (o : Option X) (x : X) → cond b o None ≡
 cond_some true o x e = (refl, e)
 cond_some false o x e = absurd cc
 
-made_address : (q : Protocol) (number : ℕ) (origin x : Interface) (a : Address) → class_interface q number origin ≡ x → origin.address ≡ Some a → x.address ≡ Some (bare_address a)
+made_address : (q : Protocol) (number : ℕ) (origin x : Interface) (a : Address) → class_interface q number origin ≡ x → origin.address ≡ Some a →
+    x.address ≡ Some (bare_address a)
 made_address q number origin x a is given = ap (λ (y : Interface). y.address) (sym is) ∙ ap (option_map bare_address) given
 
 -- the interface that is made of a prefix and its number
-pub class_of_entry : (e : Plan) (g : ℕ) (r : Router) (number : ℕ) (prefix : Prefix) (x : Interface) → first_router_of e g ≡ Some r → In (enumerate_from 1 e.class.prefixes) (number, prefix) → class_interface_in e.problem.protocol r (number, prefix) ≡ Some x
+pub class_of_entry : (e : Plan) (g : ℕ) (r : Router) (number : ℕ) (prefix : Prefix) (x : Interface) → first_router_of e g ≡ Some r →
+    In (enumerate_from 1 e.class.prefixes) (number, prefix) → class_interface_in e.problem.protocol r (number, prefix) ≡ Some x
     → (c : IsClassAt e g x) × (c.prefix ≡ prefix)
 class_of_entry e g r number prefix x at numbered made =
-    let c = cond_some (is_some (initial_route r prefix)) (option_map (class_interface e.problem.protocol number) (interface_in e.problem.protocol r prefix)) x made in
+    let c = cond_some (is_some (initial_route r prefix)) (option_map (class_interface e.problem.protocol number) (interface_in e.problem.protocol r prefix)) x
+    made in
     let o = map_some (class_interface e.problem.protocol number) (interface_in e.problem.protocol r prefix) x c.1 in
     let from = origin_is e.problem.protocol r prefix o.0 o.1 in
     let a = up_in_is prefix o.0 from.1 in
@@ -116,7 +121,8 @@ class_of_entry e g r number prefix x at numbered made =
       refl,
     )
 
-class_of_router : (e : Plan) (g : ℕ) (r : Router) (x : Interface) → first_router_of e g ≡ Some r → In (class_interfaces_on e.problem.protocol e.class.prefixes r) x → IsClassAt e g x
+class_of_router : (e : Plan) (g : ℕ) (r : Router) (x : Interface) → first_router_of e g ≡ Some r →
+    In (class_interfaces_on e.problem.protocol e.class.prefixes r) x → IsClassAt e g x
 class_of_router e g r x at h =
     let f = filter_map_in (class_interface_in e.problem.protocol r) (enumerate_from 1 e.class.prefixes) x h in
     (class_of_entry e g r f.0.0 f.0.1 x at f.1 f.2).0
@@ -130,7 +136,8 @@ class_at e g x h = step (first_router_of e g) refl h
     step (Some r) at h = class_of_router e g r x at h
 
 pub class_numbers : (e : Plan) → IsPlan e → (g : ℕ) → (x : Interface) → (c : IsClassAt e g x) → c.number < 10 ^ 14
-class_numbers e plan g x c = let few = few_prefixes e.network e.class plan.well_formed (class_is e.network e.class plan.class) in let early = c.early in omega arith
+class_numbers e plan g x c = let few = few_prefixes e.network e.class plan.well_formed (class_is e.network e.class plan.class) in let early = c.early in
+    omega arith
 
 -- ---- interfaces of links
 
@@ -152,7 +159,8 @@ link_of e g t l h =
 
 pub few_at : (e : Plan) (g : ℕ) → length (links_at e g) ≤ length e.links
 unfolding links_at
-few_at e g = let kept = length-filter_both (is_at g) (λ p. not (is_at g p)) (λ p. refl) (enumerate_from 0 e.links) in let all = numbered_length 0 e.links in omega arith
+few_at e g = let kept = length-filter_both (is_at g) (λ p. not (is_at g p)) (λ p. refl) (enumerate_from 0 e.links) in let all = numbered_length 0 e.links in
+    omega arith
   where
     numbered_length : {X : Type 0} (n : ℕ) (xs : List X) → length (enumerate_from n xs) ≡ length xs
     numbered_length n [] = refl
@@ -206,7 +214,8 @@ class_form e plan g x c =
     subst IsWellFormedInterface c.is
     (record {
       name = class_name_is c.number (class_numbers e plan g x c);
-      address = subst (λ (o : Option Address). IfSome (option_map bare_address o) IsWellFormedAddress) (sym (up_some c.origin c.address c.up)) (let a = up_form c.origin c.address origin c.up in record { addr = a.addr; len = a.len });
+      address = subst (λ (o : Option Address). IfSome (option_map bare_address o) IsWellFormedAddress) (sym (up_some c.origin c.address c.up))
+          (let a = up_form c.origin c.address origin c.up in record { addr = a.addr; len = a.len });
       cost = cost_over_form e.problem.protocol c.origin origin;
     })
 
@@ -239,7 +248,8 @@ class_names e plan g = step (first_router_of e g) refl
         let n = placed.1 in
         let all = few_prefixes e.network e.class plan.well_formed (class_is e.network e.class plan.class) in omega arith
 
-    apart : (r : Router) (p q : ℕ × Prefix) (x y : Interface) → In (enumerate_from 1 e.class.prefixes) p → In (enumerate_from 1 e.class.prefixes) q → IsEarlier p q
+    apart : (r : Router) (p q : ℕ × Prefix) (x y : Interface) → In (enumerate_from 1 e.class.prefixes) p → In (enumerate_from 1 e.class.prefixes) q →
+        IsEarlier p q
         → class_interface_in e.problem.protocol r p ≡ Some x → class_interface_in e.problem.protocol r q ≡ Some y → HaveOtherNames x y
     apart r (j, p) (k, q) x y h i less is is' =
         let c = cond_some (is_some (initial_route r p)) (option_map (class_interface e.problem.protocol j) (interface_in e.problem.protocol r p)) x is in
@@ -248,9 +258,11 @@ class_names e plan g = step (first_router_of e g) refl
         let n = map_some (class_interface e.problem.protocol k) (interface_in e.problem.protocol r q) y d.1 in
         ap (λ (z : Interface). bytes_eq z.name y.name) (sym m.2) ∙ ap (λ (z : Interface). bytes_eq (codes "Vlan" ++ decimal j) z.name) (sym n.2) ∙ numbers_apart (codes "Vlan") j k (few j p h) (few k q i) (λ same. absurd (omega arith))
 
-    step : (o : Option Router) → first_router_of e g ≡ o → IsPairwise HaveOtherNames (option_map_or (class_interfaces_on e.problem.protocol e.class.prefixes) o [])
+    step : (o : Option Router) → first_router_of e g ≡ o →
+        IsPairwise HaveOtherNames (option_map_or (class_interfaces_on e.problem.protocol e.class.prefixes) o [])
     step None at = tt
-    step (Some r) at = pairs_filter_map (class_interface_in e.problem.protocol r) IsEarlier HaveOtherNames (enumerate_from 1 e.class.prefixes) (apart r) (numbered_pairs 1 e.class.prefixes)
+    step (Some r) at = pairs_filter_map (class_interface_in e.problem.protocol r) IsEarlier HaveOtherNames (enumerate_from 1 e.class.prefixes) (apart r)
+        (numbered_pairs 1 e.class.prefixes)
 
 link_names : (e : Plan) → length e.links ≤ 1048576 → (g : ℕ) → IsPairwise HaveOtherNames (link_interfaces e g)
 unfolding link_interfaces
@@ -261,7 +273,8 @@ link_names e few g =
     (numbered_pairs 1 (links_at e g)))
   where
     number : (j : ℕ) (p : ℕ × QLink) → In (enumerate_from 1 (links_at e g)) (j, p) → j < 10 ^ 14
-    number j p h = let placed = enumerate_in (links_at e g) 1 j p h in let within = slice_get_within (links_at e g) placed.0 p placed.2 in let n = placed.1 in let all = few_at e g in omega arith
+    number j p h = let placed = enumerate_in (links_at e g) 1 j p h in let within = slice_get_within (links_at e g) placed.0 p placed.2 in let n = placed.1 in
+        let all = few_at e g in omega arith
 
 pub interface_names : (e : Plan) → IsPlan e → length e.links ≤ 1048576 → (g : ℕ) → IsPairwise HaveOtherNames (class_interfaces e g ++ link_interfaces e g)
 interface_names e plan few g =

@@ -29,12 +29,17 @@ use Rattle.emit_form_laws.proofs.Policies.{map_prints, map_at, IsMapAt, entry_pr
 
 -- ---- community lists
 
-lines_form : (lines : List CommunityLine) → AllByRecursion IsWellFormedCommunityLine lines → AllByRecursion IsWellFormedCommunityLine (map bare_community_line lines)
+lines_form : (lines : List CommunityLine) → AllByRecursion IsWellFormedCommunityLine lines →
+    AllByRecursion IsWellFormedCommunityLine (map bare_community_line lines)
 lines_form [] all = tt
 lines_form (line ∷ lines) all = (all.0, lines_form lines all.1)
 
 written_form : (name : List ℕ) (list : CommunityList) → IsListName name → IsPrintableList list → IsWellFormedCommunityList (written_list name list)
-written_form name list is prints = record { name = is; some = (let some = prints.some in let same = length-map list.lines bare_community_line in omega arith); lines = lines_form list.lines prints.lines }
+written_form name list is prints = record {
+  name = is;
+  some = (let some = prints.some in let same = length-map list.lines bare_community_line in omega arith);
+  lines = lines_form list.lines prints.lines;
+}
 
 entry_list_form : (k : ℕ) (x : PlainEntry) (c : CommunityList) → k ≤ 2097152 → IsPrintableEntry x → In (lists_of_entry k x) c → IsWellFormedCommunityList c
 entry_list_form k x c few prints h = elim (append_in (match_lists k x) (deletion_lists k x) c h) [
@@ -42,11 +47,14 @@ entry_list_form k x c few prints h = elim (append_in (match_lists k x) (deletion
       let m = match_of k x c a in
       let seq = prints.seq in
       let low = match_number k x c prints m in
-      subst IsWellFormedCommunityList m.is (written_form (match_name k x.seq m.number) m.list (match_name_is k x.seq m.number (omega arith) (omega arith) (omega arith)) (all_in IsPrintableList m.lists m.list (match_few x prints m.lists m.matched).each m.list_in)))
+      subst IsWellFormedCommunityList m.is (written_form (match_name k x.seq m.number) m.list
+      (match_name_is k x.seq m.number (omega arith) (omega arith) (omega arith))
+      (all_in IsPrintableList m.lists m.list (match_few x prints m.lists m.matched).each m.list_in)))
   | inr b ↦ (
       let d = deletion_of k x c b in
       let seq = prints.seq in
-      subst IsWellFormedCommunityList d.is (written_form (deletion_name k x.seq) d.list (deletion_name_is k x.seq (omega arith) (omega arith)) (some_holds IsPrintableDeletion x.delete d.list prints.delete d.deleted).printable))
+      subst IsWellFormedCommunityList d.is (written_form (deletion_name k x.seq) d.list (deletion_name_is k x.seq (omega arith) (omega arith))
+      (some_holds IsPrintableDeletion x.delete d.list prints.delete d.deleted).printable))
 ]
 
 abbrev pub lists : Plan → ℕ → List CommunityList
@@ -78,7 +86,8 @@ matches_many k x ls is =
 match_name_of : (k : ℕ) (x : PlainEntry) (name : List ℕ) → In (map name_of_list (match_lists k x)) name → (c : CommunityList) × IsMatch k x c × (c.name ≡ name)
 match_name_of k x name h = let m = map_in name_of_list (match_lists k x) name h in (m.0, match_of k x m.0 m.1, m.2)
 
-names_form : (k : ℕ) (x : PlainEntry) (ls : List CommunityList) → k ≤ 2097152 → IsPrintableEntry x → x.lists ≡ Some ls → IsWellFormedNameLine (names_line (match_lists k x))
+names_form : (k : ℕ) (x : PlainEntry) (ls : List CommunityList) → k ≤ 2097152 → IsPrintableEntry x → x.lists ≡ Some ls →
+    IsWellFormedNameLine (names_line (match_lists k x))
 names_form k x ls few prints is =
     let printable = match_few x prints ls is in
     let low = printable.count.0 in
@@ -91,7 +100,8 @@ names_form k x ls few prints is =
       each = all_from IsListName (map name_of_list (match_lists k x))
           (λ name h. let m = match_name_of k x name h in let n = match_number k x m.0 prints m.1 in
           subst IsListName (ap name_of_list m.1.is ∙ m.2) (match_name_is k x.seq m.1.number (omega arith) (omega arith) (omega arith)));
-      once = distinct_from bytes_eq (map name_of_list (match_lists k x)) (pairs_map name_of_list (λ (a b : List ℕ). bytes_eq a b ≡ false) (match_lists k x) (matches_apart k x few prints));
+      once = distinct_from bytes_eq (map name_of_list (match_lists k x))
+          (pairs_map name_of_list (λ (a b : List ℕ). bytes_eq a b ≡ false) (match_lists k x) (matches_apart k x few prints));
     }
 
 unmarked : (names : List (List ℕ)) → ((name : List ℕ) → In names name → bytes_eq name (codes "exact-match") ≡ false) → has_mark (codes "exact-match") names ≡ false
@@ -107,7 +117,8 @@ match_unmarked k x =
 mark_form : (k : ℕ) (x : PlainEntry) → IsMarkRight (option_map (λ (ls : List CommunityList). names_line (match_lists k x)) x.lists) (is_some x.lists && x.exact)
 mark_form k x = step x.lists x.exact
   where
-    step : (o : Option (List CommunityList)) (exact : Bool) → IsMarkRight (option_map (λ (ls : List CommunityList). names_line (match_lists k x)) o) (is_some o && exact)
+    step : (o : Option (List CommunityList)) (exact : Bool) →
+        IsMarkRight (option_map (λ (ls : List CommunityList). names_line (match_lists k x)) o) (is_some o && exact)
     step None exact = refl
     step (Some ls) true = tt
     step (Some ls) false = match_unmarked k x
@@ -123,9 +134,17 @@ prepend_form number adds is few = step (nat_eq adds 0) refl
 
     step : (b : Bool) → nat_eq adds 0 ≡ b → IfSome (cond b None (Some (record { numbers = replicate adds number; line = 0 }))) IsWellFormedPrepend
     step true e = tt
-    step false e = record { count = (let some : 1 ≤ adds = grind (arith, nat_tests) in let same = length-replicate adds number in omega arith, let same = length-replicate adds number in omega arith); each = each adds }
+    step false e = record {
+      count = (
+        let some : 1 ≤ adds = grind (arith, nat_tests) in let same = length-replicate adds number in omega arith,
+        let same =
+            length-replicate adds number in omega arith,
+      );
+      each = each adds;
+    }
 
-entry_form : (number k : ℕ) (x : PlainEntry) → IsBetween 1 4294967295 number → k ≤ 2097152 → IsPrintableEntry x → IsWellFormedMapEntry (written_entry number k x)
+entry_form : (number k : ℕ) (x : PlainEntry) → IsBetween 1 4294967295 number → k ≤ 2097152 → IsPrintableEntry x →
+    IsWellFormedMapEntry (written_entry number k x)
 entry_form number k x is few prints = record {
   seq = prints.seq;
   prefixes = tt;
@@ -137,7 +156,8 @@ entry_form number k x is few prints = record {
   prepend = prepend_form number x.adds is prints.adds;
 }
   where
-    comms : (o : Option (List CommunityList)) → x.lists ≡ o → IfSome (option_map (λ (ls : List CommunityList). names_line (match_lists k x)) o) IsWellFormedNameLine
+    comms : (o : Option (List CommunityList)) → x.lists ≡ o →
+        IfSome (option_map (λ (ls : List CommunityList). names_line (match_lists k x)) o) IsWellFormedNameLine
     comms None e = tt
     comms (Some ls) e = names_form k x ls few prints e
 
@@ -148,7 +168,8 @@ entry_form number k x is few prints = record {
 denying_form : IsWellFormedMapEntry denying_entry
 denying_form = record { seq = omega arith; prefixes = tt; comms = tt; exact = refl; lp = tt; change = tt; delete = tt; prepend = tt }
 
-entries_form : (number k : ℕ) (xs : List PlainEntry) → IsBetween 1 4294967295 number → k ≤ 2097152 → AllByRecursion IsPrintableEntry xs → AllByRecursion IsWellFormedMapEntry (map (written_entry number k) xs)
+entries_form : (number k : ℕ) (xs : List PlainEntry) → IsBetween 1 4294967295 number → k ≤ 2097152 → AllByRecursion IsPrintableEntry xs →
+    AllByRecursion IsWellFormedMapEntry (map (written_entry number k) xs)
 entries_form number k [] is few all = tt
 entries_form number k (x ∷ xs) is few all = (entry_form number k x is few all.0, entries_form number k xs is few all.1)
 
@@ -159,7 +180,8 @@ same_seqs number k (x ∷ xs) = ap (λ seqs. x.seq ∷ seqs) (same_seqs number k
 map_form : (number k : ℕ) (m : Plain) → IsBetween 1 4294967295 number → k ≤ 2097152 → IsPrintable m → IsWellFormedRouteMap (written_map number (k, m))
 map_form number k m is few prints = step m.entries prints.entries prints.ascending
   where
-    step : (xs : List PlainEntry) → AllByRecursion IsPrintableEntry xs → IsAscending (plain_seqs xs) → IsWellFormedRouteMap (record { name = map_name k; entries = written_entries number k xs })
+    step : (xs : List PlainEntry) → AllByRecursion IsPrintableEntry xs → IsAscending (plain_seqs xs) →
+        IsWellFormedRouteMap (record { name = map_name k; entries = written_entries number k xs })
     step [] all up = record { name = map_name_is k (omega arith); some = omega arith; entries = (denying_form, tt); ascending = (tt, tt) }
     step (x ∷ xs) all up = record {
       name = map_name_is k (omega arith);
@@ -171,7 +193,8 @@ map_form number k m is few prints = step m.entries prints.entries prints.ascendi
 abbrev pub maps : Plan → ℕ → ℕ → List RouteMap
 maps e g number = map (written_map number) (enumerate_from 1 (maps_of e g))
 
-pub maps_form : (e : Plan) → IsPlan e → length e.links ≤ 1048576 → (g number : ℕ) → ((k : ℕ) (m : Plain) → IsMapAt e g k m → IsBetween 1 4294967295 number) → AllByRecursion IsWellFormedRouteMap (maps e g number)
+pub maps_form : (e : Plan) → IsPlan e → length e.links ≤ 1048576 → (g number : ℕ) → ((k : ℕ) (m : Plain) → IsMapAt e g k m → IsBetween 1 4294967295 number) →
+    AllByRecursion IsWellFormedRouteMap (maps e g number)
 maps_form e plan few g number is =
     all_from IsWellFormedRouteMap (maps e g number)
     (λ w h.
@@ -192,7 +215,8 @@ maps_once e few g number =
 
 -- ---- match lines are short
 
-joined_most : (bound : ℕ) (words : List (List ℕ)) → ((word : List ℕ) → In words word → length word ≤ bound) → length (join_with_byte 32 words) ≤ (bound + 1) * length words
+joined_most : (bound : ℕ) (words : List (List ℕ)) → ((word : List ℕ) → In words word → length word ≤ bound) →
+    length (join_with_byte 32 words) ≤ (bound + 1) * length words
 joined_most bound [] few = omega arith
 joined_most bound (word ∷ []) few = let here = few word (inl refl) in omega arith
 joined_most bound (word ∷ next ∷ words) few =
@@ -217,7 +241,8 @@ name_short k x few prints name h =
     let all = list_name_length k x.seq (decimal m.1.number) in
     let same = ap (λ (w : List ℕ). length w) (ap name_of_list m.1.is ∙ m.2) in omega arith
 
-match_short : (k : ℕ) (x : PlainEntry) (ls : List CommunityList) (exact : Bool) → k ≤ 2097152 → IsPrintableEntry x → x.lists ≡ Some ls → IsShortLine (match_comms_line exact (names_line (match_lists k x)))
+match_short : (k : ℕ) (x : PlainEntry) (ls : List CommunityList) (exact : Bool) → k ≤ 2097152 → IsPrintableEntry x → x.lists ≡ Some ls →
+    IsShortLine (match_comms_line exact (names_line (match_lists k x)))
 unfolding match_comms_line
 match_short k x ls exact few prints is =
     let high = (match_few x prints ls is).count.1 in
@@ -246,7 +271,8 @@ match_short k x ls exact few prints is =
 entry_short : (number k : ℕ) (x : PlainEntry) → k ≤ 2097152 → IsPrintableEntry x → IsShortEntry (written_entry number k x)
 entry_short number k x few prints = (tt, step x.lists refl)
   where
-    step : (o : Option (List CommunityList)) → x.lists ≡ o → IfSome (option_map (λ (ls : List CommunityList). names_line (match_lists k x)) o) (λ l. IsShortLine (match_comms_line (is_some x.lists && x.exact) l))
+    step : (o : Option (List CommunityList)) → x.lists ≡ o →
+        IfSome (option_map (λ (ls : List CommunityList). names_line (match_lists k x)) o) (λ l. IsShortLine (match_comms_line (is_some x.lists && x.exact) l))
     step None e = tt
     step (Some ls) e = match_short k x ls (is_some x.lists && x.exact) few prints e
 

@@ -47,7 +47,11 @@ all_append P (x ∷ xs) ys first second = (first.0, all_append P xs ys first.1 s
 pub decimal_is : (n : ℕ) → n < 2 ^ 64 → IsDecimal (decimal n)
 decimal_is n small = decimal_by_steps (λ m word. IsDecimal word)
     (λ m one. record { some = omega arith; digits = ((omega arith, omega arith), tt) })
-    (λ m word more is. record { some = omega (arith, length-append word ((48 + m % 10) ∷ []), is.some); digits = all_append IsDigit word ((48 + m % 10) ∷ []) is.digits ((omega arith, omega arith), tt) }) n small
+    (λ m word more is. record {
+      some = omega (arith, length-append word ((48 + m % 10) ∷ []), is.some);
+      digits =
+          all_append IsDigit word ((48 + m % 10) ∷ []) is.digits ((omega arith, omega arith), tt);
+    }) n small
 
 -- up to 99,999,999,999,999 it has at most 14 digits
 pub decimal_short : (n : ℕ) → n < 10 ^ 14 → length (decimal n) ≤ 14
@@ -85,20 +89,26 @@ both : (a b : Bool) → a ≡ true → b ≡ true → (a && b) ≡ true
 both a b e f = rw (e, f) refl
 
 -- a front that begins with a letter, and a decimal behind it
-interface_name : (front : List ℕ) (n : ℕ) → n < 10 ^ 14 → length front ≤ 40 → begins_with is_ascii_alphabetic (front ++ decimal n) ≡ true → list_all is_interface_byte front ≡ true → is_interface_name (front ++ decimal n) ≡ true
+interface_name : (front : List ℕ) (n : ℕ) → n < 10 ^ 14 → length front ≤ 40 → begins_with is_ascii_alphabetic (front ++ decimal n) ≡ true →
+    list_all is_interface_byte front ≡ true → is_interface_name (front ++ decimal n) ≡ true
 unfolding is_interface_name
 interface_name front n small short begins bytes =
     let is = decimal_is n (omega arith) in
     let some = is.some in
     let count = length-append front (decimal n) in
     let few = decimal_short n small in
-    both (is_name_long (front ++ decimal n) && begins_with is_ascii_alphabetic (front ++ decimal n) && list_any is_ascii_digit (front ++ decimal n)) (list_all is_interface_byte (front ++ decimal n))
+    both (is_name_long (front ++ decimal n) && begins_with is_ascii_alphabetic (front ++ decimal n) && list_any is_ascii_digit (front ++ decimal n))
+    (list_all is_interface_byte (front ++ decimal n))
     (both (is_name_long (front ++ decimal n) && begins_with is_ascii_alphabetic (front ++ decimal n)) (list_any is_ascii_digit (front ++ decimal n))
     (both (is_name_long (front ++ decimal n)) (begins_with is_ascii_alphabetic (front ++ decimal n))
-    (both (nat_le 1 (length (front ++ decimal n))) (nat_le (length (front ++ decimal n)) 63) (le-leb 1 (length (front ++ decimal n)) (omega arith)) (le-leb (length (front ++ decimal n)) 63 (omega arith)))
+    (both (nat_le 1 (length (front ++ decimal n))) (nat_le (length (front ++ decimal n)) 63) (le-leb 1 (length (front ++ decimal n)) (omega arith))
+    (le-leb (length (front ++ decimal n)) 63 (omega arith)))
     begins)
-    (list_any-append is_ascii_digit front (decimal n) ∙ or_true (list_any is_ascii_digit front) (list_any is_ascii_digit (decimal n)) (first_digit (decimal n) is)))
-    (list_all-append is_interface_byte front (decimal n) ∙ both (list_all is_interface_byte front) (list_all is_interface_byte (decimal n)) bytes (all_of IsDigit is_interface_byte digit_byte (decimal n) is.digits))
+    (list_any-append is_ascii_digit front (decimal n)
+    ∙ or_true (list_any is_ascii_digit front) (list_any is_ascii_digit (decimal n)) (first_digit (decimal n) is)))
+    (list_all-append is_interface_byte front (decimal n)
+    ∙ both (list_all is_interface_byte front) (list_all is_interface_byte (decimal n)) bytes
+    (all_of IsDigit is_interface_byte digit_byte (decimal n) is.digits))
 
 pub class_name_is : (j : ℕ) → j < 10 ^ 14 → is_interface_name (codes "Vlan" ++ decimal j) ≡ true
 class_name_is j small = interface_name (codes "Vlan") j small (omega arith) refl refl
@@ -112,7 +122,8 @@ wide n small = omega arith
 -- a front, and different numbers behind it
 pub numbers_apart : (front : List ℕ) (m n : ℕ) → m < 10 ^ 14 → n < 10 ^ 14 → m ≢ n → bytes_eq (front ++ decimal m) (front ++ decimal n) ≡ false
 numbers_apart front m n small few other =
-    differ (front ++ decimal m) (front ++ decimal n) (λ same. other (decimal_injective m n (wide m small) (wide n few) (cut_front front (decimal m) (decimal n) same)))
+    differ (front ++ decimal m) (front ++ decimal n)
+    (λ same. other (decimal_injective m n (wide m small) (wide n few) (cut_front front (decimal m) (decimal n) same)))
 
 pub fronts_apart : (j k : ℕ) → bytes_eq (codes "Vlan" ++ decimal j) (codes "GigabitEthernet0/" ++ decimal k) ≡ false
 fronts_apart j k = refl
@@ -120,7 +131,16 @@ fronts_apart j k = refl
 -- ---- names of maps and lists
 
 policy_bytes : AllByRecursion (IsBetween 33 126) (codes "POLICY-")
-policy_bytes = ((omega arith, omega arith), ((omega arith, omega arith), ((omega arith, omega arith), ((omega arith, omega arith), ((omega arith, omega arith), ((omega arith, omega arith), ((omega arith, omega arith), tt)))))))
+policy_bytes = (
+  (omega arith, omega arith),
+  (
+    (omega arith, omega arith),
+    (
+      (omega arith, omega arith),
+      ((omega arith, omega arith), ((omega arith, omega arith), ((omega arith, omega arith), ((omega arith, omega arith), tt)))),
+    ),
+  ),
+)
 
 digits_print : (word : List ℕ) → AllByRecursion IsDigit word → AllByRecursion (IsBetween 33 126) word
 digits_print [] all = tt
@@ -128,7 +148,8 @@ digits_print (b ∷ word) all = ((let low = all.0.0 in omega arith, let high = a
 
 list_name_of : (name : List ℕ) → 1 ≤ length name → length name ≤ 63 → AllByRecursion (IsBetween 33 126) name → IsListName name
 unfolding is_list_name
-list_name_of name some short bytes = record { long = both (nat_le 1 (length name)) (nat_le (length name) 63) (le-leb 1 (length name) some) (le-leb (length name) 63 short); bytes = bytes }
+list_name_of name some short bytes = record
+    { long = both (nat_le 1 (length name)) (nat_le (length name) 63) (le-leb 1 (length name) some) (le-leb (length name) 63 short); bytes = bytes }
 
 decimal_prints : (n : ℕ) → n < 10 ^ 14 → AllByRecursion (IsBetween 33 126) (decimal n)
 decimal_prints n small = digits_print (decimal n) (decimal_is n (wide n small)).digits
@@ -147,7 +168,8 @@ list_name_length k s end =
     let third = length-append (decimal s) (45 ∷ end) in
     omega arith
 
-pub list_name_is : (k s : ℕ) (end : List ℕ) → k < 10 ^ 14 → s < 10 ^ 14 → length end ≤ 20 → AllByRecursion (IsBetween 33 126) end → IsListName (list_name k s end)
+pub list_name_is : (k s : ℕ) (end : List ℕ) → k < 10 ^ 14 → s < 10 ^ 14 → length end ≤ 20 → AllByRecursion (IsBetween 33 126) end →
+    IsListName (list_name k s end)
 list_name_is k s end small few short prints =
     let count = list_name_length k s end in
     let first = decimal_short k small in
@@ -189,7 +211,8 @@ split (c ∷ a) (d ∷ b) x y na nb e =
     let r = split a b x y na.1 nb.1 tail in
     ((λ i. head i ∷ r.0 i), r.1)
 
-pub one_list : (k s m t : ℕ) (x y : List ℕ) → k < 10 ^ 14 → s < 10 ^ 14 → m < 10 ^ 14 → t < 10 ^ 14 → list_name k s x ≡ list_name m t y → (k ≡ m) × (s ≡ t) × (x ≡ y)
+pub one_list : (k s m t : ℕ) (x y : List ℕ) → k < 10 ^ 14 → s < 10 ^ 14 → m < 10 ^ 14 → t < 10 ^ 14 → list_name k s x ≡ list_name m t y →
+    (k ≡ m) × (s ≡ t) × (x ≡ y)
 one_list k s m t x y hk hs hm ht e =
     let policy : List ℕ = codes "POLICY-" in
     let f =

@@ -34,7 +34,8 @@ with_one p [] x (inl same) = inl same
 with_one p [] x (inr h) = absurd h
 with_one p (q ∷ qs) x h = step (is_before p q) (same_prefix p q) h (with_one p qs x)
   where
-    step : (b s : Bool) → In (cond b (p ∷ q ∷ qs) (cond s (q ∷ qs) (q ∷ with_prefix p qs))) x → (In (with_prefix p qs) x → (p ≡ x) ⊎ In qs x) → (p ≡ x) ⊎ In (q ∷ qs) x
+    step : (b s : Bool) → In (cond b (p ∷ q ∷ qs) (cond s (q ∷ qs) (q ∷ with_prefix p qs))) x → (In (with_prefix p qs) x → (p ≡ x) ⊎ In qs x) →
+        (p ≡ x) ⊎ In (q ∷ qs) x
     step true s (inl same) ih = inl same
     step true s (inr k) ih = inr k
     step false true k ih = inr k
@@ -85,8 +86,11 @@ class_is n class has =
 
 pub some_prefix : (n : Network) (class : DestClass) → IsClassOf n class → (p : Prefix) × Contains class.prefixes p
 some_prefix n class of =
-    let same = is_one_class n of.least of.least (record { origins = refl; answers = refl }) in
-    (of.least, subst (λ (c : DestClass). Contains c.prefixes of.least) of.is (contains_in (class_of n of.least).prefixes of.least (in_filter (is_same_class n of.least) (originated n) of.least of.originates same)))
+    let same = is_one_class n of.least of.least (record { origins = refl; answers = refl }) in (
+      of.least,
+      subst (λ (c : DestClass). Contains c.prefixes of.least) of.is
+          (contains_in (class_of n of.least).prefixes of.least (in_filter (is_same_class n of.least) (originated n) of.least of.originates same)),
+    )
 
 pub class_prefix : (n : Network) (class : DestClass) (p : Prefix) → IsClassOf n class → In class.prefixes p → IsOriginated n p
 class_prefix n class p of at =
@@ -146,11 +150,13 @@ subnet_is a form =
 
 pub originated_is : (n : Network) (p : Prefix) → IsWellFormed n → IsOriginated n p → IsSubnet p
 originated_is n p well from =
-    subst IsSubnet from.subnet (subnet_is from.address (up_form from.interface from.address (interface_forms n well from.router from.router_in from.interface from.interface_in) from.up))
+    subst IsSubnet from.subnet (subnet_is from.address
+    (up_form from.interface from.address (interface_forms n well from.router from.router_in from.interface from.interface_in) from.up))
 
 -- ---- there are few prefixes
 
-pub ascending_few : {X : Type 0} (key : X → ℕ) (bound low : ℕ) (xs : List X) → ((x : X) → In xs x → (low ≤ key x) × (key x < bound)) → low ≤ bound → IsPairwise (λ (x y : X). key x < key y) xs → low + length xs ≤ bound
+pub ascending_few : {X : Type 0} (key : X → ℕ) (bound low : ℕ) (xs : List X) → ((x : X) → In xs x → (low ≤ key x) × (key x < bound)) → low ≤ bound →
+    IsPairwise (λ (x y : X). key x < key y) xs → low + length xs ≤ bound
 ascending_few key bound low [] inside room all = omega arith
 ascending_few key bound low (x ∷ xs) inside room all =
     let here = inside x (inl refl) in
@@ -179,5 +185,7 @@ keys_grow (p ∷ ps) is all = (λ q h. key_grows p q (is p (inl refl)) (is q (in
 pub few_prefixes : (n : Network) (class : DestClass) → IsWellFormed n → IsClassOf n class → length class.prefixes ≤ 274877906944
 few_prefixes n class well of =
     let is : (p : Prefix) → In class.prefixes p → IsSubnet p = λ p at. originated_is n p well (class_prefix n class p of at) in
-    let few = ascending_few key_of 274877906944 0 class.prefixes (λ p at. (omega arith, (let a = (is p at).prefix.addr in let l = (is p at).prefix.len in omega arith))) (omega arith) (keys_grow class.prefixes is (class_pairs n class of)) in
+    let few = ascending_few key_of 274877906944 0 class.prefixes
+    (λ p at. (omega arith, (let a = (is p at).prefix.addr in let l = (is p at).prefix.len in omega arith))) (omega arith)
+    (keys_grow class.prefixes is (class_pairs n class of)) in
     omega arith

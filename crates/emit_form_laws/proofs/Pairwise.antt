@@ -50,7 +50,8 @@ pairs_filter p R (x ∷ xs) all = step (p x) (pairs_filter p R xs all.1)
     step true rest = (λ y h. all.0 y (filter_in p xs y h).0, rest)
     step false rest = rest
 
-pub pairs_filter_map : {X Y : Type 0} (f : X → Option Y) (Q : X → X → Type 0) (R : Y → Y → Type 0) (xs : List X) → ((x y : X) (a b : Y) → In xs x → In xs y → Q x y → f x ≡ Some a → f y ≡ Some b → R a b) → IsPairwise Q xs → IsPairwise R (filter_map f xs)
+pub pairs_filter_map : {X Y : Type 0} (f : X → Option Y) (Q : X → X → Type 0) (R : Y → Y → Type 0) (xs : List X) →
+    ((x y : X) (a b : Y) → In xs x → In xs y → Q x y → f x ≡ Some a → f y ≡ Some b → R a b) → IsPairwise Q xs → IsPairwise R (filter_map f xs)
 pairs_filter_map f Q R [] given all = tt
 pairs_filter_map {X} {Y} f Q R (x ∷ xs) given all = step (f x) refl (pairs_filter_map f Q R xs (λ y z a b h k. given y z a b (inr h) (inr k)) all.1)
   where
@@ -58,16 +59,21 @@ pairs_filter_map {X} {Y} f Q R (x ∷ xs) given all = step (f x) refl (pairs_fil
     step None is rest = rest
     step (Some a) is rest = (λ b h. (let m = filter_map_in f xs b h in given x m.0 a b (inl refl) (inr m.1) (all.0 m.0 m.1) is m.2), rest)
 
-pub pairs_append : {X : Type 0} (R : X → X → Type 0) (xs ys : List X) → IsPairwise R xs → IsPairwise R ys → ((x y : X) → In xs x → In ys y → R x y) → IsPairwise R (xs ++ ys)
+pub pairs_append : {X : Type 0} (R : X → X → Type 0) (xs ys : List X) → IsPairwise R xs → IsPairwise R ys → ((x y : X) → In xs x → In ys y → R x y) →
+    IsPairwise R (xs ++ ys)
 pairs_append R [] ys first second across = second
-pairs_append R (x ∷ xs) ys first second across =
-    (λ y h. elim (append_in xs ys y h) [ inl k ↦ first.0 y k | inr k ↦ across x y (inl refl) k ], pairs_append R xs ys first.1 second (λ y z h k. across y z (inr h) k))
+pairs_append R (x ∷ xs) ys first second across = (
+  λ y h. elim (append_in xs ys y h) [ inl k ↦ first.0 y k | inr k ↦ across x y (inl refl) k ],
+  pairs_append R xs ys first.1 second (λ y z h k. across y z (inr h) k),
+)
 
-pub pairs_flat : {X Y : Type 0} (f : X → List Y) (Q : X → X → Type 0) (R : Y → Y → Type 0) (xs : List X) → ((x : X) → In xs x → IsPairwise R (f x)) → ((x y : X) (a b : Y) → In xs x → In xs y → Q x y → In (f x) a → In (f y) b → R a b) → IsPairwise Q xs → IsPairwise R (flat_map f xs)
+pub pairs_flat : {X Y : Type 0} (f : X → List Y) (Q : X → X → Type 0) (R : Y → Y → Type 0) (xs : List X) → ((x : X) → In xs x → IsPairwise R (f x)) →
+    ((x y : X) (a b : Y) → In xs x → In xs y → Q x y → In (f x) a → In (f y) b → R a b) → IsPairwise Q xs → IsPairwise R (flat_map f xs)
 pairs_flat f Q R [] each across all = tt
 pairs_flat f Q R (x ∷ xs) each across all =
     subst (IsPairwise R) (sym (flat_map-cons f x xs))
-    (pairs_append R (f x) (flat_map f xs) (each x (inl refl)) (pairs_flat f Q R xs (λ y h. each y (inr h)) (λ y z a b h k. across y z a b (inr h) (inr k)) all.1)
+    (pairs_append R (f x) (flat_map f xs) (each x (inl refl))
+    (pairs_flat f Q R xs (λ y h. each y (inr h)) (λ y z a b h k. across y z a b (inr h) (inr k)) all.1)
     (λ a b h k. let m = flat_map_in f xs b k in across x m.0 a b (inl refl) (inr m.1) (all.0 m.0 m.1) h m.2))
 
 -- ---- numbers ascend
@@ -109,7 +115,8 @@ pub none_like : {X : Type 0} (p : X → Bool) (xs : List X) → ((x : X) → In 
 none_like p [] none = refl
 none_like p (x ∷ xs) none = rw (none x (inl refl), none_like p xs (λ y h. none y (inr h))) refl
 
-fresh_after : {X : Type 0} (alike : X → X → Bool) (past xs : List X) → ((x y : X) → In past x → In xs y → alike y x ≡ false) → IsPairwise (λ (x y : X). alike y x ≡ false) xs → repeats_after alike past xs ≡ []
+fresh_after : {X : Type 0} (alike : X → X → Bool) (past xs : List X) → ((x y : X) → In past x → In xs y → alike y x ≡ false) →
+    IsPairwise (λ (x y : X). alike y x ≡ false) xs → repeats_after alike past xs ≡ []
 fresh_after alike past [] apart all = refl
 fresh_after {X} alike past (x ∷ xs) apart all =
     rw (none_like (alike x) past (λ y h. apart y x h (inl refl)))
@@ -138,8 +145,10 @@ fresh false x rest e = (refl, e)
 
 unlike_past : {X : Type 0} (alike : X → X → Bool) (past xs : List X) (x y : X) → repeats_after alike past xs ≡ [] → In past x → In xs y → alike y x ≡ false
 unlike_past alike past [] x y e h k = absurd k
-unlike_past alike past (z ∷ zs) x y e h (inl same) = ap (λ w. alike w x) (sym same) ∙ any_false (alike z) past x (fresh (list_any (alike z) past) z (repeats_after alike (z ∷ past) zs) e).0 h
-unlike_past alike past (z ∷ zs) x y e h (inr k) = unlike_past alike (z ∷ past) zs x y (fresh (list_any (alike z) past) z (repeats_after alike (z ∷ past) zs) e).1 (inr h) k
+unlike_past alike past (z ∷ zs) x y e h (inl same) = ap (λ w. alike w x) (sym same)
+    ∙ any_false (alike z) past x (fresh (list_any (alike z) past) z (repeats_after alike (z ∷ past) zs) e).0 h
+unlike_past alike past (z ∷ zs) x y e h (inr k) =
+    unlike_past alike (z ∷ past) zs x y (fresh (list_any (alike z) past) z (repeats_after alike (z ∷ past) zs) e).1 (inr h) k
 
 repeats_pairs : {X : Type 0} (alike : X → X → Bool) (past xs : List X) → repeats_after alike past xs ≡ [] → IsPairwise (λ (x y : X). alike y x ≡ false) xs
 repeats_pairs alike past [] e = tt
@@ -161,7 +170,8 @@ pick R (z ∷ zs) x y all (inr h) (inr k) = pick R zs x y all.1 h k
 
 -- ---- by places, and in lists of lists
 
-pub pairs_at : {X : Type 0} (R : X → X → Type 0) (xs : List X) (i j : ℕ) (x y : X) → IsPairwise R xs → i < j → slice_get xs i ≡ Some x → slice_get xs j ≡ Some y → R x y
+pub pairs_at : {X : Type 0} (R : X → X → Type 0) (xs : List X) (i j : ℕ) (x y : X) → IsPairwise R xs → i < j → slice_get xs i ≡ Some x →
+    slice_get xs j ≡ Some y → R x y
 pairs_at R [] i j x y all less at to = absurd cc
 pairs_at R (z ∷ zs) zero zero x y all less at to = absurd (omega arith)
 pairs_at R (z ∷ zs) zero (suc j) x y all less at to = let same : z ≡ x = cc in let P : _ → Type 0 = λ w. R w y in subst P same (all.0 y (get_in zs j y to))
@@ -169,7 +179,8 @@ pairs_at R (z ∷ zs) (suc i) zero x y all less at to = absurd (omega arith)
 pairs_at R (z ∷ zs) (suc i) (suc j) x y all less at to = pairs_at R zs i j x y all.1 (omega arith) at to
 
 -- items at different places are related in one order or the other
-pub pairs_either : {X : Type 0} (R : X → X → Type 0) (xs : List X) (i j : ℕ) (x y : X) → IsPairwise R xs → i ≢ j → slice_get xs i ≡ Some x → slice_get xs j ≡ Some y → R x y ⊎ R y x
+pub pairs_either : {X : Type 0} (R : X → X → Type 0) (xs : List X) (i j : ℕ) (x y : X) → IsPairwise R xs → i ≢ j → slice_get xs i ≡ Some x →
+    slice_get xs j ≡ Some y → R x y ⊎ R y x
 pairs_either R xs i j x y all other at to = elim (cases_lt i j) [
   | inl less ↦ inl (pairs_at R xs i j x y all less at to)
   | inr le ↦ inr (pairs_at R xs j i y x all (later i j other le) to at)
@@ -189,7 +200,8 @@ append_parts {X} R (x ∷ xs) ys all =
     across rest a b (inr h) k = rest a b h k
 
 -- items of different lists among those of all lists
-pub flat_pairs : {X Y : Type 0} (f : X → List Y) (R : Y → Y → Type 0) (xs : List X) → IsPairwise R (flat_map f xs) → IsPairwise (λ (x y : X). (a b : Y) → In (f x) a → In (f y) b → R a b) xs
+pub flat_pairs : {X Y : Type 0} (f : X → List Y) (R : Y → Y → Type 0) (xs : List X) → IsPairwise R (flat_map f xs) →
+    IsPairwise (λ (x y : X). (a b : Y) → In (f x) a → In (f y) b → R a b) xs
 flat_pairs f R [] all = tt
 flat_pairs f R (x ∷ xs) all =
     let parts = append_parts R (f x) (flat_map f xs) (subst (IsPairwise R) (flat_map-cons f x xs) all) in

@@ -43,7 +43,8 @@ firsts_in : (seen ms : List Plain) (m : Plain) → In (firsts seen ms) m → In 
 firsts_in seen [] m h = absurd h
 firsts_in seen (x ∷ xs) m h = step (list_any (same_map x) seen) h (firsts_in seen xs m) (firsts_in (x ∷ seen) xs m)
   where
-    step : (b : Bool) → In (cond b (firsts seen xs) (x ∷ firsts (x ∷ seen) xs)) m → (In (firsts seen xs) m → In xs m) → (In (firsts (x ∷ seen) xs) m → In xs m) → In (x ∷ xs) m
+    step : (b : Bool) → In (cond b (firsts seen xs) (x ∷ firsts (x ∷ seen) xs)) m → (In (firsts seen xs) m → In xs m) →
+        (In (firsts (x ∷ seen) xs) m → In xs m) → In (x ∷ xs) m
     step true h known new = inr (known h)
     step false (inl same) known new = inl same
     step false (inr h) known new = inr (new h)
@@ -69,11 +70,16 @@ written_in (Some x) m h = step (is_whole x.entries) h
     step false (inr h) = absurd h
 
 -- what holds of the maps of acts, and of the map without entries, holds of each map of a group
-pub map_holds : (P : Plain → Type 0) (e : Plan) → P closed_map → ((g : ℕ) (l : QLink) → IfSome (act_into e g l) (λ act. P (act_in_map (Some act)) × IfSome (act_out_map (Some act)) P)) → (g : ℕ) (m : Plain) → IsMapOf e g m → P m
+pub map_holds : (P : Plain → Type 0) (e : Plan) → P closed_map →
+    ((g : ℕ) (l : QLink) → IfSome (act_into e g l) (λ act. P (act_in_map (Some act)) × IfSome (act_out_map (Some act)) P)) → (g : ℕ) (m : Plain) →
+    IsMapOf e g m → P m
 map_holds P e closed acts g m of =
     elim (append_in (if_written (Some (act_in_map (act_into e g of.link)))) (if_written (act_out_map (act_into e (other_end g of.link) of.link))) m of.here) [
-      | inl h ↦ some_holds P (Some (act_in_map (act_into e g of.link))) m (in_map (act_into e g of.link) (acts g of.link)) (written_in (Some (act_in_map (act_into e g of.link))) m h)
-      | inr h ↦ some_holds P (act_out_map (act_into e (other_end g of.link) of.link)) m (out (act_into e (other_end g of.link) of.link) (acts (other_end g of.link) of.link)) (written_in (act_out_map (act_into e (other_end g of.link) of.link)) m h)
+      | inl h ↦ some_holds P (Some (act_in_map (act_into e g of.link))) m (in_map (act_into e g of.link) (acts g of.link))
+          (written_in (Some (act_in_map (act_into e g of.link))) m h)
+      | inr h ↦ some_holds P (act_out_map (act_into e (other_end g of.link) of.link)) m
+          (out (act_into e (other_end g of.link) of.link) (acts (other_end g of.link) of.link))
+          (written_in (act_out_map (act_into e (other_end g of.link) of.link)) m h)
     ]
   where
     in_map : (o : Option Act) → IfSome o (λ act. P (act_in_map (Some act)) × IfSome (act_out_map (Some act)) P) → P (act_in_map o)
@@ -101,7 +107,8 @@ firsts_few : (seen ms : List Plain) → length (firsts seen ms) ≤ length ms
 firsts_few seen [] = omega arith
 firsts_few seen (x ∷ xs) = step (list_any (same_map x) seen) (firsts_few seen xs) (firsts_few (x ∷ seen) xs)
   where
-    step : (b : Bool) → length (firsts seen xs) ≤ length xs → length (firsts (x ∷ seen) xs) ≤ length xs → length (cond b (firsts seen xs) (x ∷ firsts (x ∷ seen) xs)) ≤ suc (length xs)
+    step : (b : Bool) → length (firsts seen xs) ≤ length xs → length (firsts (x ∷ seen) xs) ≤ length xs →
+        length (cond b (firsts seen xs) (x ∷ firsts (x ∷ seen) xs)) ≤ suc (length xs)
     step true few less = omega arith
     step false few less = omega arith
 
@@ -192,7 +199,8 @@ pub record IsDeletion (k : ℕ) (x : PlainEntry) (c : CommunityList) : Type 0 wh
 pub match_of : (k : ℕ) (x : PlainEntry) (c : CommunityList) → In (match_lists k x) c → IsMatch k x c
 match_of k x c h = step x.lists refl h
   where
-    step : (o : Option (List CommunityList)) → x.lists ≡ o → In (option_map_or (λ lists. map (match_list k x.seq) (enumerate_from 1 lists)) o []) c → IsMatch k x c
+    step : (o : Option (List CommunityList)) → x.lists ≡ o → In (option_map_or (λ lists. map (match_list k x.seq) (enumerate_from 1 lists)) o []) c →
+        IsMatch k x c
     step None is h = absurd h
     step (Some lists) is h =
         let m = map_in (match_list k x.seq) (enumerate_from 1 lists) c h in
@@ -233,14 +241,16 @@ list_end k x c h = elim (append_in (match_lists k x) (deletion_lists k x) c h) [
 abbrev pub HaveOtherNames : CommunityList → CommunityList → Type 0
 HaveOtherNames c d = bytes_eq c.name d.name ≡ false
 
-ends_apart : (k s j t : ℕ) (c d : CommunityList) → k ≤ 2097152 → s ≤ 65535 → j ≤ 2097152 → t ≤ 65535 → (a : HasEnd k s c) (b : HasEnd j t d) → ((k ≡ j) × (s ≡ t) × (a.end ≡ b.end) → ⊥) → HaveOtherNames c d
+ends_apart : (k s j t : ℕ) (c d : CommunityList) → k ≤ 2097152 → s ≤ 65535 → j ≤ 2097152 → t ≤ 65535 → (a : HasEnd k s c) (b : HasEnd j t d) →
+    ((k ≡ j) × (s ≡ t) × (a.end ≡ b.end) → ⊥) → HaveOtherNames c d
 ends_apart k s j t c d hk hs hj ht a b other =
     differ c.name d.name (λ same. other (one_list k s j t a.end b.end (omega arith) (omega arith) (omega arith) (omega arith) (sym a.name ∙ same ∙ b.name)))
 
 pub matches_apart : (k : ℕ) (x : PlainEntry) → k ≤ 2097152 → IsPrintableEntry x → IsPairwise HaveOtherNames (match_lists k x)
 matches_apart k x few prints = step x.lists prints.lists
   where
-    step : (o : Option (List CommunityList)) → IfSome o ArePrintableLists → IsPairwise HaveOtherNames (option_map_or (λ lists. map (match_list k x.seq) (enumerate_from 1 lists)) o [])
+    step : (o : Option (List CommunityList)) → IfSome o ArePrintableLists →
+        IsPairwise HaveOtherNames (option_map_or (λ lists. map (match_list k x.seq) (enumerate_from 1 lists)) o [])
     step None is = tt
     step (Some lists) is =
         pairs_map (match_list k x.seq) HaveOtherNames (enumerate_from 1 lists)
@@ -249,12 +259,14 @@ matches_apart k x few prints = step x.lists prints.lists
         let seq = prints.seq in
         let low = number i c h in
         let high = number j d l in
-        ends_apart k x.seq k x.seq (match_list k x.seq (i, c)) (match_list k x.seq (j, d)) few seq few seq (record { end = decimal i; name = refl }) (record { end = decimal j; name = refl })
+        ends_apart k x.seq k x.seq (match_list k x.seq (i, c)) (match_list k x.seq (j, d)) few seq few seq (record { end = decimal i; name = refl })
+        (record { end = decimal j; name = refl })
         (λ same. (let one : i ≡ j = decimal_injective i j (omega arith) (omega arith) same.2 in omega arith)))
         (numbered_pairs 1 lists))
       where
         number : (i : ℕ) (c : CommunityList) → In (enumerate_from 1 lists) (i, c) → i ≤ 32
-        number i c h = let placed = enumerate_in lists 1 i c h in let within = slice_get_within lists placed.0 c placed.2 in let n = placed.1 in let all = is.count.1 in omega arith
+        number i c h = let placed = enumerate_in lists 1 i c h in let within = slice_get_within lists placed.0 c placed.2 in let n = placed.1 in let all =
+            is.count.1 in omega arith
 
 one_deletion : (k : ℕ) (x : PlainEntry) → IsPairwise HaveOtherNames (deletion_lists k x)
 one_deletion k x = step x.delete
@@ -273,21 +285,25 @@ entry_apart k x few prints =
     ends_apart k x.seq k x.seq c d few prints.seq few prints.seq (record { end = decimal m.number; name = ap (λ (z : CommunityList). z.name) (sym m.is) }) (record { end = codes "D"; name = ap (λ (z : CommunityList). z.name) (sym n.is) })
     (λ same. no_letter m.number (omega arith) same.2))
 
-pub lists_apart : (e : Plan) → IsPlan e → length e.links ≤ 1048576 → (g : ℕ) → IsPairwise HaveOtherNames (flat_map lists_of_map (enumerate_from 1 (maps_of e g)))
+pub lists_apart : (e : Plan) → IsPlan e → length e.links ≤ 1048576 → (g : ℕ) →
+    IsPairwise HaveOtherNames (flat_map lists_of_map (enumerate_from 1 (maps_of e g)))
 lists_apart e plan few g =
     pairs_flat lists_of_map IsEarlier HaveOtherNames (enumerate_from 1 (maps_of e g))
     (λ (k, m) h.
     let at = map_at e few g k m h in
     let prints = map_prints e plan g m at.of in
-    pairs_flat (lists_of_entry k) (λ (x y : PlainEntry). x.seq < y.seq) HaveOtherNames m.entries (λ x here. entry_apart k x at.few (entry_prints m prints x here))
+    pairs_flat (lists_of_entry k) (λ (x y : PlainEntry). x.seq < y.seq) HaveOtherNames m.entries
+    (λ x here. entry_apart k x at.few (entry_prints m prints x here))
     (λ x y c d h l less i j.
-    ends_apart k x.seq k y.seq c d at.few (entry_prints m prints x h).seq at.few (entry_prints m prints y l).seq (list_end k x c i) (list_end k y d j) (λ same. (let one = same.1 in omega arith)))
+    ends_apart k x.seq k y.seq c d at.few (entry_prints m prints x h).seq at.few (entry_prints m prints y l).seq (list_end k x c i) (list_end k y d j)
+    (λ same. (let one = same.1 in omega arith)))
     (entries_ascend m prints))
     (λ (k, m) (j, n) c d h l less i o.
     let at = map_at e few g k m h in
     let to = map_at e few g j n l in
     let x = flat_map_in (lists_of_entry k) m.entries c i in
     let y = flat_map_in (lists_of_entry j) n.entries d o in
-    ends_apart k x.0.seq j y.0.seq c d at.few (entry_prints m (map_prints e plan g m at.of) x.0 x.1).seq to.few (entry_prints n (map_prints e plan g n to.of) y.0 y.1).seq (list_end k x.0 c x.2) (list_end j y.0 d y.2)
+    ends_apart k x.0.seq j y.0.seq c d at.few (entry_prints m (map_prints e plan g m at.of) x.0 x.1).seq to.few
+    (entry_prints n (map_prints e plan g n to.of) y.0 y.1).seq (list_end k x.0 c x.2) (list_end j y.0 d y.2)
     (λ same. (let one = same.0 in omega arith)))
     (numbered_pairs 1 (maps_of e g))

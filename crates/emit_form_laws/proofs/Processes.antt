@@ -72,7 +72,8 @@ nets_form e plan g =
     all_from IsWellFormedNetLine (net_lines e g)
     (λ net h.
     let of = net_of e g net h in
-    let is = originated_is e.network net.prefix plan.well_formed (class_prefix e.network e.class net.prefix (class_is e.network e.class plan.class) of.prefix_in) in
+    let is = originated_is e.network net.prefix plan.well_formed
+    (class_prefix e.network e.class net.prefix (class_is e.network e.class plan.class) of.prefix_in) in
     record { prefix = is.prefix; some = is.some })
 
 nets_once : (e : Plan) → IsPlan e → (g : ℕ) → IsDistinct same_net (net_lines e g)
@@ -96,7 +97,8 @@ preference_form r form = step r.bgp form.bgp
     by_base None is = omega arith
     by_base (Some base) is = is
 
-    step : (o : Option BgpProcess) → IfSome o IsWellFormedBgp → option_map_or (λ (process : BgpProcess). option_map_or (λ (base : Base). base.value) process.base 100) o 100 ≤ 4294967295
+    step : (o : Option BgpProcess) → IfSome o IsWellFormedBgp →
+        option_map_or (λ (process : BgpProcess). option_map_or (λ (base : Base). base.value) process.base 100) o 100 ≤ 4294967295
     step None is = omega arith
     step (Some process) is = by_base process.base is.base
 
@@ -128,7 +130,8 @@ name_form e few g (Some m) = step (is_whole m.entries)
 other_side : (g : ℕ) (l : QLink) → 1 - side_number g l ≤ 1
 other_side g l = omega arith
 
-neighbor_form : (e : Plan) → IsPlan e → QuotientCarries → length e.links ≤ 1048576 → e.problem.protocol ≡ OverBgp → (g t : ℕ) (l : QLink) → IsLinkOf e g t l → IsWellFormedNeighbor (neighbor_at e g (t, l))
+neighbor_form : (e : Plan) → IsPlan e → QuotientCarries → length e.links ≤ 1048576 → e.problem.protocol ≡ OverBgp → (g t : ℕ) (l : QLink) → IsLinkOf e g t l →
+    IsWellFormedNeighbor (neighbor_at e g (t, l))
 neighbor_form e plan law few bgp g t l of =
     let end = end_of e plan law g l of.link_in of.touched in
     let within = of.within in
@@ -148,10 +151,12 @@ neighbor_form e plan law few bgp g t l of =
     positive zero some = absurd (some refl)
     positive (suc n) some = omega arith
 
-neighbors_form : (e : Plan) → IsPlan e → QuotientCarries → length e.links ≤ 1048576 → e.problem.protocol ≡ OverBgp → (g : ℕ) → AllByRecursion IsWellFormedNeighbor (map (neighbor_at e g) (links_at e g))
+neighbors_form : (e : Plan) → IsPlan e → QuotientCarries → length e.links ≤ 1048576 → e.problem.protocol ≡ OverBgp → (g : ℕ) →
+    AllByRecursion IsWellFormedNeighbor (map (neighbor_at e g) (links_at e g))
 neighbors_form e plan law few bgp g =
     all_from IsWellFormedNeighbor (map (neighbor_at e g) (links_at e g))
-    (λ p h. let m = map_in (neighbor_at e g) (links_at e g) p h in subst IsWellFormedNeighbor m.2 (neighbor_form e plan law few bgp g m.0.0 m.0.1 (link_of e g m.0.0 m.0.1 m.1)))
+    (λ p h. let m = map_in (neighbor_at e g) (links_at e g) p h in
+    subst IsWellFormedNeighbor m.2 (neighbor_form e plan law few bgp g m.0.0 m.0.1 (link_of e g m.0.0 m.0.1 m.1)))
 
 neighbors_once : (e : Plan) (g : ℕ) → IsDistinct same_neighbor (map (neighbor_at e g) (links_at e g))
 unfolding links_at
@@ -175,7 +180,8 @@ number_form e plan g below some = (positive (number (small e) g) some, number_be
     positive zero some = absurd (some refl)
     positive (suc n) some = omega arith
 
-pub bgp_form : (e : Plan) → IsPlan e → QuotientCarries → length e.links ≤ 1048576 → (g : ℕ) → g < e.count → IfSome (written_bgp e.problem.protocol e g) IsWellFormedBgp
+pub bgp_form : (e : Plan) → IsPlan e → QuotientCarries → length e.links ≤ 1048576 → (g : ℕ) → g < e.count →
+    IfSome (written_bgp e.problem.protocol e g) IsWellFormedBgp
 bgp_form e plan law few g below = over e.problem.protocol refl
   where
     step : e.problem.protocol ≡ OverBgp → (b : Bool) → nat_eq (number (small e) g) 0 ≡ b → IfSome (cond b None (Some (process_of e g))) IsWellFormedBgp
@@ -208,16 +214,19 @@ area_form e plan = step (slice_get (area_lines e.network) 0) refl
         on None form h = absurd h
         on (Some process) form h = (all_in IsWellFormedArea process.areas line form.areas h).area
 
-area_of_interface : (area : ℕ) (x : Interface) (line : AreaLine) → host_area_line area x ≡ Some line → (a : Address) × (x.address ≡ Some a) × (a.addr ≡ line.addr) × (line.wild ≡ 0) × (line.area ≡ area)
+area_of_interface : (area : ℕ) (x : Interface) (line : AreaLine) → host_area_line area x ≡ Some line → (a : Address) × (x.address ≡ Some a)
+    × (a.addr ≡ line.addr) × (line.wild ≡ 0) × (line.area ≡ area)
 area_of_interface area x line e = step x.address e
   where
-    step : (o : Option Address) → option_map (λ (a : Address). let made : AreaLine = record { addr = a.addr; wild = 0; area = area; line = 0 } in made) o ≡ Some line → (a : Address) × (o ≡ Some a) × (a.addr ≡ line.addr) × (line.wild ≡ 0) × (line.area ≡ area)
+    step : (o : Option Address) → option_map (λ (a : Address). let made : AreaLine = record { addr = a.addr; wild = 0; area = area; line = 0 } in made) o ≡ Some
+        line → (a : Address) × (o ≡ Some a) × (a.addr ≡ line.addr) × (line.wild ≡ 0) × (line.area ≡ area)
     step None e = absurd cc
     step (Some a) e =
         let same : ◌≡◌ {A = AreaLine} (record { addr = a.addr; wild = 0; area = area; line = 0 }) line = cc in
         (a, refl, ap (λ (l : AreaLine). l.addr) same, ap (λ (l : AreaLine). l.wild) (sym same), ap (λ (l : AreaLine). l.area) (sym same))
 
-areas_form : (area : ℕ) → IsNumber area → (xs : List Interface) → AllByRecursion IsWellFormedInterface xs → AllByRecursion IsWellFormedArea (filter_map (host_area_line area) xs)
+areas_form : (area : ℕ) → IsNumber area → (xs : List Interface) → AllByRecursion IsWellFormedInterface xs →
+    AllByRecursion IsWellFormedArea (filter_map (host_area_line area) xs)
 areas_form area is xs forms =
     all_from IsWellFormedArea (filter_map (host_area_line area) xs)
     (λ line h.
@@ -243,7 +252,8 @@ areas_once area xs apart =
     not_same : (l m : AreaLine) → (l.addr ≡ m.addr → ⊥) → same_area_line l m ≡ false
     not_same l m other = ap (λ b. b && (nat_eq l.wild m.wild) && (nat_eq l.area m.area)) (other_number l.addr m.addr other)
 
-pub ospf_form : (e : Plan) → IsPlan e → length e.links ≤ 1048576 → (g : ℕ) → AllByRecursion IsWellFormedInterface (class_interfaces e g) → AllByRecursion IsWellFormedInterface (class_interfaces e g ++ link_interfaces e g)
+pub ospf_form : (e : Plan) → IsPlan e → length e.links ≤ 1048576 → (g : ℕ) → AllByRecursion IsWellFormedInterface (class_interfaces e g) →
+    AllByRecursion IsWellFormedInterface (class_interfaces e g ++ link_interfaces e g)
     → IfSome (ospf_of e.problem.protocol e g) IsWellFormedOspf
 ospf_form e plan few g class all = over e.problem.protocol
   where
@@ -251,12 +261,14 @@ ospf_form e plan few g class all = over e.problem.protocol
     names [] forms = tt
     names (x ∷ xs) forms = (forms.0.name, names xs forms.1)
 
-    step : (xs : List Interface) → AllByRecursion IsWellFormedInterface xs → IsPairwise AreApart xs → IfSome (ospf_on (area_number e) (class_interfaces e g) xs) IsWellFormedOspf
+    step : (xs : List Interface) → AllByRecursion IsWellFormedInterface xs → IsPairwise AreApart xs →
+        IfSome (ospf_on (area_number e) (class_interfaces e g) xs) IsWellFormedOspf
     step [] forms apart = tt
     step (x ∷ xs) forms apart = record {
       number = (omega arith, omega arith);
       passive = names (class_interfaces e g) class;
-      passive_once = distinct_from bytes_eq (map interface_name (class_interfaces e g)) (pairs_map interface_name (λ (a b : List ℕ). bytes_eq a b ≡ false) (class_interfaces e g) (class_names e plan g));
+      passive_once = distinct_from bytes_eq (map interface_name (class_interfaces e g))
+          (pairs_map interface_name (λ (a b : List ℕ). bytes_eq a b ≡ false) (class_interfaces e g) (class_names e plan g));
       not_passive = tt;
       not_passive_once = distinct_from bytes_eq [] tt;
       areas = areas_form (area_number e) (area_form e plan) (x ∷ xs) forms;

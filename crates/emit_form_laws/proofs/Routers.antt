@@ -44,7 +44,8 @@ router_form e plan law few g below =
     let class = all_from IsWellFormedInterface (class_interfaces e g) (λ x h. class_form e plan g x (class_at e g x h)) in
     let all =
     all_from IsWellFormedInterface (class_interfaces e g ++ link_interfaces e g)
-    (λ x h. elim (append_in (class_interfaces e g) (link_interfaces e g) x h) [ inl a ↦ class_form e plan g x (class_at e g x a) | inr b ↦ link_form e plan law few g x (link_at e g x b) ]) in
+    (λ x h. elim (append_in (class_interfaces e g) (link_interfaces e g) x h)
+    [ inl a ↦ class_form e plan g x (class_at e g x a) | inr b ↦ link_form e plan law few g x (link_at e g x b) ]) in
     record {
       name = router_name e plan g below;
       interfaces = all;
@@ -75,7 +76,8 @@ member_name e plan u below =
     let total = groups_total e plan in
     let r = get_at e.network.routers u (omega arith) in
     ap (λ (names : List (List ℕ)). is_router_name (slice_index_or names u [])) (problem_of e plan).of.names
-    ∙ ap is_router_name (get_or_from_slice_get (map (λ (q : Router). q.name) e.network.routers) u r.0.name [] (slice_get-map (λ (q : Router). q.name) e.network.routers u ∙ ap (option_map (λ (q : Router). q.name)) r.1))
+    ∙ ap is_router_name (get_or_from_slice_get (map (λ (q : Router). q.name) e.network.routers) u r.0.name []
+    (slice_get-map (λ (q : Router). q.name) e.network.routers u ∙ ap (option_map (λ (q : Router). q.name)) r.1))
     ∙ (router_forms e.network plan.well_formed r.0 (get_in e.network.routers u r.0 r.1)).name
 
 notes : (e : Plan) → IsPlan e → AreNotes (emitted e) (notes_of e)

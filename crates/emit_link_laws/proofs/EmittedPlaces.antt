@@ -19,7 +19,8 @@ use Rattle.emit_link_laws.proofs.PairedLinks.{AreBetween, filter_same, filter_tw
 pub enumerate_append : {X : Type 0} (n : ℕ) (xs ys : List X) → enumerate_from n (xs ++ ys) ≡ enumerate_from n xs ++ enumerate_from (n + length xs) ys
 enumerate_append n [] ys = ap (λ k. enumerate_from k ys) (let e : n ≡ n + 0 = omega arith in e)
 enumerate_append {X} n (x ∷ xs) ys =
-    ap (λ (l : List (ℕ × X)). (n, x) ∷ l) (enumerate_append (n + 1) xs ys ∙ ap (λ k. enumerate_from (n + 1) xs ++ enumerate_from k ys) (let e : n + 1 + length xs ≡ n + suc (length xs) = omega arith in e))
+    ap (λ (l : List (ℕ × X)). (n, x) ∷ l) (enumerate_append (n + 1) xs ys
+    ∙ ap (λ k. enumerate_from (n + 1) xs ++ enumerate_from k ys) (let e : n + 1 + length xs ≡ n + suc (length xs) = omega arith in e))
 
 pub none_of : {X : Type 0} (p : X → Bool) (xs : List X) → ((x : X) → In xs x → p x ≡ false) → list_any p xs ≡ false
 none_of p [] fails = refl
@@ -37,12 +38,14 @@ pub router_at : (e : Plan) (g : ℕ) → g < e.count → slice_get (emitted e).r
 unfolding emitted
 router_at e g less = group_at (emitted_router e) 0 e.count g less ∙ ap (λ m. Some (emitted_router e m)) (let s : 0 + g ≡ g = omega arith in s)
 
-places_from : {X : Type 0} (items : Router → List X) (f : ℕ → Router) (a n : ℕ) → flat_map (places_on items) (enumerate_from a (map f (range_with_len a n))) ≡ flat_map (λ g. places_on items (g, f g)) (range_with_len a n)
+places_from : {X : Type 0} (items : Router → List X) (f : ℕ → Router) (a n : ℕ) →
+    flat_map (places_on items) (enumerate_from a (map f (range_with_len a n))) ≡ flat_map (λ g. places_on items (g, f g)) (range_with_len a n)
 places_from items f a zero = refl
 places_from {X} items f a (suc n) = ap (λ (ps : List (Place X)). places_on items (a, f a) ++ ps) (places_from items f (a + 1) n)
 
 -- the places of the groups' routers
-pub group_places : {X : Type 0} (items : Router → List X) (e : Plan) → places items (emitted e) ≡ flat_map (λ g. places_on items (g, emitted_router e g)) (range_with_len 0 e.count)
+pub group_places : {X : Type 0} (items : Router → List X) (e : Plan) →
+    places items (emitted e) ≡ flat_map (λ g. places_on items (g, emitted_router e g)) (range_with_len 0 e.count)
 unfolding places emitted
 group_places items e = places_from items (emitted_router e) 0 e.count
 
@@ -56,7 +59,8 @@ kept_in_front p q xs implied = filter_same q (λ x. p x && q x) xs (λ x at. by 
     by false true implied = let e = implied refl in absurd cc
     by false false implied = refl
 
-none_joined : {X : Type 0} (joins : Place X → Place X → Bool) (p : Place X) (qs : List (Place X)) → ((q : Place X) → joins p q ≡ false) → filter (joins p) qs ≡ []
+none_joined : {X : Type 0} (joins : Place X → Place X → Bool) (p : Place X) (qs : List (Place X)) → ((q : Place X) → joins p q ≡ false) →
+    filter (joins p) qs ≡ []
 none_joined joins p [] fails = refl
 none_joined joins p (q ∷ qs) fails = ap (λ (b : Bool). cond b (q ∷ filter (joins p) qs) (filter (joins p) qs)) (fails q) ∙ none_joined joins p qs fails
 
@@ -64,20 +68,27 @@ bool_is : (b : Bool) → (b ≡ true → ⊥) → b ≡ false
 bool_is true never = absurd (never refl)
 bool_is false never = refl
 
-row_of_some : {X : Type 0} (joins : Place X → Place X → Bool) (some : Place X → Bool) (ps : List (Place X)) → ((p q : Place X) → joins p q ≡ true → (some p ≡ true) × (some q ≡ true))
-    → (p : Place X) (b : Bool) (rest : List Link) (qs : List (Place X)) → some p ≡ b → rest ≡ flat_map (links_from joins (filter some ps)) qs → links_from joins ps p ++ rest ≡ flat_map (links_from joins (filter some ps)) (cond b (p ∷ qs) qs)
+row_of_some : {X : Type 0} (joins : Place X → Place X → Bool) (some : Place X → Bool) (ps : List (Place X)) →
+    ((p q : Place X) → joins p q ≡ true → (some p ≡ true) × (some q ≡ true))
+    → (p : Place X) (b : Bool) (rest : List Link) (qs : List (Place X)) → some p ≡ b → rest ≡ flat_map (links_from joins (filter some ps)) qs →
+    links_from joins ps p ++ rest ≡ flat_map (links_from joins (filter some ps)) (cond b (p ∷ qs) qs)
 row_of_some {X} joins some ps joined p true rest qs is same =
-    ap (λ (xs : List (Place X)). map (link_between p) xs ++ rest) (kept_in_front some (joins p) ps (λ q e. (joined p q e).1)) ∙ ap (λ (ls : List Link). links_from joins (filter some ps) p ++ ls) same
+    ap (λ (xs : List (Place X)). map (link_between p) xs ++ rest) (kept_in_front some (joins p) ps (λ q e. (joined p q e).1))
+    ∙ ap (λ (ls : List Link). links_from joins (filter some ps) p ++ ls) same
 row_of_some {X} joins some ps joined p false rest qs is same =
-    ap (λ (xs : List (Place X)). map (link_between p) xs ++ rest) (none_joined joins p ps (λ q. bool_is (joins p q) (λ e. (let yes_it_is = (joined p q e).0 in cc)))) ∙ same
+    ap (λ (xs : List (Place X)). map (link_between p) xs ++ rest)
+    (none_joined joins p ps (λ q. bool_is (joins p q) (λ e. (let yes_it_is = (joined p q e).0 in cc)))) ∙ same
 
-rows_of_some : {X : Type 0} (joins : Place X → Place X → Bool) (some : Place X → Bool) (ps : List (Place X)) → ((p q : Place X) → joins p q ≡ true → (some p ≡ true) × (some q ≡ true))
+rows_of_some : {X : Type 0} (joins : Place X → Place X → Bool) (some : Place X → Bool) (ps : List (Place X)) →
+    ((p q : Place X) → joins p q ≡ true → (some p ≡ true) × (some q ≡ true))
     → (qs : List (Place X)) → flat_map (links_from joins ps) qs ≡ flat_map (links_from joins (filter some ps)) (filter some qs)
 rows_of_some joins some ps joined [] = refl
-rows_of_some joins some ps joined (q ∷ qs) = row_of_some joins some ps joined q (some q) (flat_map (links_from joins ps) qs) (filter some qs) refl (rows_of_some joins some ps joined qs)
+rows_of_some joins some ps joined (q ∷ qs) =
+    row_of_some joins some ps joined q (some q) (flat_map (links_from joins ps) qs) (filter some qs) refl (rows_of_some joins some ps joined qs)
 
 -- places that are joined with no other place may be left out
-pub links_of_some : {X : Type 0} (joins : Place X → Place X → Bool) (some : Place X → Bool) (ps : List (Place X)) → ((p q : Place X) → joins p q ≡ true → (some p ≡ true) × (some q ≡ true)) → links_joining joins ps ≡ links_joining joins (filter some ps)
+pub links_of_some : {X : Type 0} (joins : Place X → Place X → Bool) (some : Place X → Bool) (ps : List (Place X)) →
+    ((p q : Place X) → joins p q ≡ true → (some p ≡ true) × (some q ≡ true)) → links_joining joins ps ≡ links_joining joins (filter some ps)
 links_of_some joins some ps joined = rows_of_some joins some ps joined ps
 
 -- ---- the links of a group

@@ -38,16 +38,19 @@ plan_between e plan = subst (λ (ls : List QLink). AreBetween ls e.count) (sym p
 -- in OSPF no more is needed of the network of the groups
 pub ospf_links : (e : Plan) → IsPlan e → e.problem.protocol ≡ OverOspf → links_of (emitted e) ≡ map (link_at e) (enumerate_from 0 e.links)
 unfolding links_of
-ospf_links e plan over = ap (λ (ls : List Link). ls ++ adjacencies_of (emitted e)) (no_sessions (emitted e) (without_bgp e over)) ∙ ospf_adjacencies e over (plan_between e plan)
+ospf_links e plan over = ap (λ (ls : List Link). ls ++ adjacencies_of (emitted e)) (no_sessions (emitted e) (without_bgp e over))
+    ∙ ospf_adjacencies e over (plan_between e plan)
 
-pub bgp_links : QuotientCarries → (e : Plan) → IsPlan e → e.problem.protocol ≡ OverBgp → IsFaultless (emitted e) → links_of (emitted e) ≡ map (link_at e) (enumerate_from 0 e.links)
+pub bgp_links : QuotientCarries → (e : Plan) → IsPlan e → e.problem.protocol ≡ OverBgp → IsFaultless (emitted e) →
+    links_of (emitted e) ≡ map (link_at e) (enumerate_from 0 e.links)
 unfolding links_of
 bgp_links carries e plan over faultless =
     ap (λ (ls : List Link). sessions_of (emitted e) ++ ls) (no_adjacencies (emitted e) (without_ospf e over))
     ∙ append-nil (sessions_of (emitted e))
     ∙ bgp_sessions e over (linked e plan carries over) (plan_between e plan) faultless
 
-by_protocol : QuotientCarries → (e : Plan) → IsPlan e → (q : Protocol) → e.problem.protocol ≡ q → IsFaultless (emitted e) → links_of (emitted e) ≡ map (link_at e) (enumerate_from 0 e.links)
+by_protocol : QuotientCarries → (e : Plan) → IsPlan e → (q : Protocol) → e.problem.protocol ≡ q → IsFaultless (emitted e) →
+    links_of (emitted e) ≡ map (link_at e) (enumerate_from 0 e.links)
 by_protocol carries e plan OverOspf over faultless = ospf_links e plan over
 by_protocol carries e plan OverBgp over faultless = bgp_links carries e plan over faultless
 

@@ -22,13 +22,15 @@ pub filter_twice : {X : Type 0} (p q : X → Bool) (xs : List X) → filter p (f
 filter_twice p q [] = refl
 filter_twice {X} p q (x ∷ xs) = by (q x) (filter_twice p q xs)
   where
-    by : (b : Bool) → filter p (filter q xs) ≡ filter (λ y. q y && p y) xs → filter p (cond b (x ∷ filter q xs) (filter q xs)) ≡ cond (b && p x) (x ∷ filter (λ y. q y && p y) xs) (filter (λ y. q y && p y) xs)
+    by : (b : Bool) → filter p (filter q xs) ≡ filter (λ y. q y && p y) xs →
+        filter p (cond b (x ∷ filter q xs) (filter q xs)) ≡ cond (b && p x) (x ∷ filter (λ y. q y && p y) xs) (filter (λ y. q y && p y) xs)
     by true rest = ap (λ (ys : List X). cond (p x) (x ∷ ys) ys) rest
     by false rest = rest
 
 pub filter_same : {X : Type 0} (p q : X → Bool) (xs : List X) → ((x : X) → In xs x → p x ≡ q x) → filter p xs ≡ filter q xs
 filter_same p q [] same = refl
-filter_same {X} p q (x ∷ xs) same = ap (λ (b : Bool). cond b (x ∷ filter p xs) (filter p xs)) (same x (inl refl)) ∙ ap (λ (ys : List X). cond (q x) (x ∷ ys) ys) (filter_same p q xs (λ y at. same y (inr at)))
+filter_same {X} p q (x ∷ xs) same = ap (λ (b : Bool). cond b (x ∷ filter p xs) (filter p xs)) (same x (inl refl))
+    ∙ ap (λ (ys : List X). cond (q x) (x ∷ ys) ys) (filter_same p q xs (λ y at. same y (inr at)))
 
 none_pass : {X : Type 0} (p : X → Bool) (xs : List X) → ((x : X) → p x ≡ false) → filter p xs ≡ []
 none_pass p [] fails = refl
@@ -48,7 +50,8 @@ filter_mapped r f (x ∷ xs) = mapped_if f (r (f x)) x (filter (λ y. r (f y)) x
 
 pub flat_map_same : {X Y : Type 0} (f h : X → List Y) (xs : List X) → ((x : X) → In xs x → f x ≡ h x) → flat_map f xs ≡ flat_map h xs
 flat_map_same f h [] same = refl
-flat_map_same {X} {Y} f h (x ∷ xs) same = ap (λ (ys : List Y). ys ++ flat_map f xs) (same x (inl refl)) ∙ ap (λ (ys : List Y). h x ++ ys) (flat_map_same f h xs (λ y at. same y (inr at)))
+flat_map_same {X} {Y} f h (x ∷ xs) same = ap (λ (ys : List Y). ys ++ flat_map f xs) (same x (inl refl))
+    ∙ ap (λ (ys : List Y). h x ++ ys) (flat_map_same f h xs (λ y at. same y (inr at)))
 
 pub flat_flat : {X Y Z : Type 0} (h : Y → List Z) (f : X → List Y) (xs : List X) → flat_map h (flat_map f xs) ≡ flat_map (λ x. flat_map h (f x)) xs
 flat_flat h f [] = refl
@@ -78,10 +81,12 @@ without_places {X} {Y} h n (x ∷ xs) = ap (λ (ys : List Y). h x ++ ys) (withou
 nothing_in_range : {Y : Type 0} (f : ℕ → Y) (b : Bool) (h a n : ℕ) → h < a → flat_map (λ g. cond (nat_eq g h && b) (f g ∷ []) []) (range_with_len a n) ≡ []
 nothing_in_range f b h a zero less = refl
 nothing_in_range {Y} f b h a (suc n) less =
-    ap (λ (c : Bool). cond (c && b) (f a ∷ []) [] ++ flat_map (λ g. cond (nat_eq g h && b) (f g ∷ []) []) (range_with_len (a + 1) n)) (let e : nat_eq a h ≡ false = grind (arith, nat_tests) in e)
+    ap (λ (c : Bool). cond (c && b) (f a ∷ []) [] ++ flat_map (λ g. cond (nat_eq g h && b) (f g ∷ []) []) (range_with_len (a + 1) n))
+    (let e : nat_eq a h ≡ false = grind (arith, nat_tests) in e)
     ∙ nothing_in_range f b h (a + 1) n (omega arith)
 
-one_step : {Y : Type 0} (f : ℕ → Y) (b : Bool) (h a : ℕ) (rest : List Y) (c : Bool) → nat_eq a h ≡ c → (a ≡ h → rest ≡ []) → (nat_eq a h ≡ false → rest ≡ cond b (f h ∷ []) []) → cond (c && b) (f a ∷ []) [] ++ rest ≡ cond b (f h ∷ []) []
+one_step : {Y : Type 0} (f : ℕ → Y) (b : Bool) (h a : ℕ) (rest : List Y) (c : Bool) → nat_eq a h ≡ c → (a ≡ h → rest ≡ []) →
+    (nat_eq a h ≡ false → rest ≡ cond b (f h ∷ []) []) → cond (c && b) (f a ∷ []) [] ++ rest ≡ cond b (f h ∷ []) []
 one_step {Y} f b h a rest true here none more =
     let same : a ≡ h = grind (arith, nat_tests) in
     ap (λ (ys : List Y). cond b (f a ∷ []) [] ++ ys) (none same) ∙ by b ∙ ap (λ k. cond b (f k ∷ []) []) same
@@ -92,7 +97,8 @@ one_step {Y} f b h a rest true here none more =
 one_step f b h a rest false other none more = more other
 
 -- of all numbers one is listed
-one_in_range : {Y : Type 0} (f : ℕ → Y) (b : Bool) (h a n : ℕ) → a ≤ h → h < a + n → flat_map (λ g. cond (nat_eq g h && b) (f g ∷ []) []) (range_with_len a n) ≡ cond b (f h ∷ []) []
+one_in_range : {Y : Type 0} (f : ℕ → Y) (b : Bool) (h a n : ℕ) → a ≤ h → h < a + n →
+    flat_map (λ g. cond (nat_eq g h && b) (f g ∷ []) []) (range_with_len a n) ≡ cond b (f h ∷ []) []
 one_in_range f b h a zero le less = absurd (omega arith)
 one_in_range {Y} f b h a (suc n) le less =
     one_step f b h a (flat_map (λ g. cond (nat_eq g h && b) (f g ∷ []) []) (range_with_len (a + 1) n)) (nat_eq a h) refl
@@ -108,47 +114,57 @@ not_numbered : (t b m : ℕ) (x : QLink) (rest : List (ℕ × (ℕ × QLink))) �
 unfolding is_number
 not_numbered t b m x rest less = ap (λ (d : Bool). cond d ((b, (m, x)) ∷ rest) rest) (let e : nat_eq t m ≡ false = grind (arith, nat_tests) in e)
 
-none_step : (t b m : ℕ) (x : QLink) (rest : List (ℕ × QLink)) (c : Bool) → t < m → ((n : ℕ) → filter (is_number t) (enumerate_from n rest) ≡ []) → filter (is_number t) (enumerate_from b (cond c ((m, x) ∷ rest) rest)) ≡ []
+none_step : (t b m : ℕ) (x : QLink) (rest : List (ℕ × QLink)) (c : Bool) → t < m → ((n : ℕ) → filter (is_number t) (enumerate_from n rest) ≡ []) →
+    filter (is_number t) (enumerate_from b (cond c ((m, x) ∷ rest) rest)) ≡ []
 none_step t b m x rest true less none = not_numbered t b m x (filter (is_number t) (enumerate_from (b + 1) rest)) less ∙ none (b + 1)
 none_step t b m x rest false less none = none b
 
 -- links before this one have other numbers
 none_numbered : (g t b m : ℕ) (xs : List QLink) → t < m → filter (is_number t) (enumerate_from b (filter (is_at g) (enumerate_from m xs))) ≡ []
 none_numbered g t b m [] less = refl
-none_numbered g t b m (x ∷ xs) less = none_step t b m x (filter (is_at g) (enumerate_from (m + 1) xs)) (touches g x) less (λ n. none_numbered g t n (m + 1) xs (omega arith))
+none_numbered g t b m (x ∷ xs) less = none_step t b m x (filter (is_at g) (enumerate_from (m + 1) xs)) (touches g x) less
+    (λ n. none_numbered g t n (m + 1) xs (omega arith))
 
 abbrev found_if : Bool → ℕ → ℕ → QLink → List (ℕ × (ℕ × QLink))
 found_if c b t l = cond c ((b, (t, l)) ∷ []) []
 
-first_step : (t b m : ℕ) (x : QLink) (rest : List (ℕ × QLink)) (c : Bool) → t ≡ m → ((n : ℕ) → filter (is_number t) (enumerate_from n rest) ≡ []) → filter (is_number t) (enumerate_from b (cond c ((m, x) ∷ rest) rest)) ≡ found_if c b t x
+first_step : (t b m : ℕ) (x : QLink) (rest : List (ℕ × QLink)) (c : Bool) → t ≡ m → ((n : ℕ) → filter (is_number t) (enumerate_from n rest) ≡ []) →
+    filter (is_number t) (enumerate_from b (cond c ((m, x) ∷ rest) rest)) ≡ found_if c b t x
 unfolding is_number
 first_step t b m x rest true same none =
-    ap (λ (d : Bool). cond d ((b, (m, x)) ∷ filter (is_number t) (enumerate_from (b + 1) rest)) (filter (is_number t) (enumerate_from (b + 1) rest))) (let e : nat_eq t m ≡ true = grind (arith, nat_tests) in e)
+    ap (λ (d : Bool). cond d ((b, (m, x)) ∷ filter (is_number t) (enumerate_from (b + 1) rest)) (filter (is_number t) (enumerate_from (b + 1) rest)))
+    (let e : nat_eq t m ≡ true = grind (arith, nat_tests) in e)
     ∙ ap (λ ys. (b, (m, x)) ∷ ys) (none (b + 1))
     ∙ ap (λ k. (b, (k, x)) ∷ []) (sym same)
 first_step t b m x rest false same none = none b
 
-next_step : (t b m : ℕ) (x : QLink) (rest : List (ℕ × QLink)) (before : List QLink) (c d : Bool) (l : QLink) → m < t → ((n : ℕ) → filter (is_number t) (enumerate_from n rest) ≡ found_if d (n + length before) t l)
+next_step : (t b m : ℕ) (x : QLink) (rest : List (ℕ × QLink)) (before : List QLink) (c d : Bool) (l : QLink) → m < t →
+    ((n : ℕ) → filter (is_number t) (enumerate_from n rest) ≡ found_if d (n + length before) t l)
     → filter (is_number t) (enumerate_from b (cond c ((m, x) ∷ rest) rest)) ≡ found_if d (b + length (cond c (x ∷ before) before)) t l
 unfolding is_number
 next_step t b m x rest before true d l less found =
-    ap (λ (e : Bool). cond e ((b, (m, x)) ∷ filter (is_number t) (enumerate_from (b + 1) rest)) (filter (is_number t) (enumerate_from (b + 1) rest))) (let e : nat_eq t m ≡ false = grind (arith, nat_tests) in e)
+    ap (λ (e : Bool). cond e ((b, (m, x)) ∷ filter (is_number t) (enumerate_from (b + 1) rest)) (filter (is_number t) (enumerate_from (b + 1) rest)))
+    (let e : nat_eq t m ≡ false = grind (arith, nat_tests) in e)
     ∙ found (b + 1)
     ∙ ap (λ n. found_if d n t l) (let e : b + 1 + length before ≡ b + suc (length before) = omega arith in e)
 next_step t b m x rest before false d l less found = found b
 
 -- the link of a number, if it touches the group: behind as many links of the group as stand before it
-found_numbered : (g b m k : ℕ) (xs : List QLink) (l : QLink) → slice_get xs k ≡ Some l → filter (is_number (m + k)) (enumerate_from b (filter (is_at g) (enumerate_from m xs))) ≡ found_if (touches g l) (b + links_before xs g k) (m + k) l
+found_numbered : (g b m k : ℕ) (xs : List QLink) (l : QLink) → slice_get xs k ≡ Some l →
+    filter (is_number (m + k)) (enumerate_from b (filter (is_at g) (enumerate_from m xs))) ≡ found_if (touches g l) (b + links_before xs g k) (m + k) l
 found_numbered g b m k [] l e = cc
 found_numbered g b m zero (x ∷ xs) l e =
     let same : x ≡ l = cc in
-    first_step (m + zero) b m x (filter (is_at g) (enumerate_from (m + 1) xs)) (touches g x) (omega arith) (λ n. none_numbered g (m + zero) n (m + 1) xs (omega arith))
+    first_step (m + zero) b m x (filter (is_at g) (enumerate_from (m + 1) xs)) (touches g x) (omega arith)
+    (λ n. none_numbered g (m + zero) n (m + 1) xs (omega arith))
     ∙ ap (λ y. found_if (touches g y) b (m + zero) y) same
     ∙ ap (λ n. found_if (touches g l) n (m + zero) l) (let f : b ≡ b + 0 = omega arith in f)
 found_numbered g b m (suc k) (x ∷ xs) l e =
-    let P : ℕ → Type 0 = λ t. (n : ℕ) → filter (is_number t) (enumerate_from n (filter (is_at g) (enumerate_from (m + 1) xs))) ≡ found_if (touches g l) (n + links_before xs g k) t l in
+    let P : ℕ → Type 0 = λ t. (n : ℕ) → filter (is_number t) (enumerate_from n (filter (is_at g) (enumerate_from (m + 1) xs))) ≡ found_if (touches g l)
+    (n + links_before xs g k) t l in
     let same : m + 1 + k ≡ m + suc k = omega arith in
-    next_step (m + suc k) b m x (filter (is_at g) (enumerate_from (m + 1) xs)) (filter (touches g) (take k xs)) (touches g x) (touches g l) l (omega arith) (subst P same (λ n. found_numbered g n (m + 1) k xs l e))
+    next_step (m + suc k) b m x (filter (is_at g) (enumerate_from (m + 1) xs)) (filter (touches g) (take k xs)) (touches g x) (touches g l) l (omega arith)
+    (subst P same (λ n. found_numbered g n (m + 1) k xs l e))
 
 -- ---- what stands among the links of a group
 
@@ -160,7 +176,8 @@ pub record IsOfGroup (links : List QLink) (g b m i t : ℕ) (l : QLink) : Type 0
   pub item : i ≡ b + links_before links g place
 
 -- one link more in front
-behind : (x : QLink) (xs : List QLink) (g b m i t : ℕ) (l : QLink) (c : Bool) → touches g x ≡ c → IsOfGroup xs g (b + cond c 1 0) (m + 1) i t l → IsOfGroup (x ∷ xs) g b m i t l
+behind : (x : QLink) (xs : List QLink) (g b m i t : ℕ) (l : QLink) (c : Bool) → touches g x ≡ c → IsOfGroup xs g (b + cond c 1 0) (m + 1) i t l →
+    IsOfGroup (x ∷ xs) g b m i t l
 behind x xs g b m i t l c is_c is = record {
   place = suc is.place;
   number = (let n = is.number in omega arith);
@@ -169,11 +186,13 @@ behind x xs g b m i t l c is_c is = record {
   item = is.item ∙ sum (touches g x) is_c;
 }
   where
-    sum : (d : Bool) → d ≡ c → b + cond c 1 0 + length (filter (touches g) (take is.place xs)) ≡ b + length (cond d (x ∷ filter (touches g) (take is.place xs)) (filter (touches g) (take is.place xs)))
+    sum : (d : Bool) → d ≡ c → b + cond c 1 0 + length (filter (touches g) (take is.place xs)) ≡ b + length
+        (cond d (x ∷ filter (touches g) (take is.place xs)) (filter (touches g) (take is.place xs)))
     sum true same = ap (λ (e : Bool). b + cond e 1 0 + length (filter (touches g) (take is.place xs))) (sym same) ∙ omega arith
     sum false same = ap (λ (e : Bool). b + cond e 1 0 + length (filter (touches g) (take is.place xs))) (sym same) ∙ omega arith
 
-numbered_step : (x : QLink) (xs : List QLink) (g b m i t : ℕ) (l : QLink) (rest : List (ℕ × QLink)) (c : Bool) → touches g x ≡ c → ((n : ℕ) → In (enumerate_from n rest) (i, (t, l)) → IsOfGroup xs g n (m + 1) i t l)
+numbered_step : (x : QLink) (xs : List QLink) (g b m i t : ℕ) (l : QLink) (rest : List (ℕ × QLink)) (c : Bool) → touches g x ≡ c →
+    ((n : ℕ) → In (enumerate_from n rest) (i, (t, l)) → IsOfGroup xs g n (m + 1) i t l)
     → In (enumerate_from b (cond c ((m, x) ∷ rest) rest)) (i, (t, l)) → IsOfGroup (x ∷ xs) g b m i t l
 numbered_step x xs g b m i t l rest true is_c more (inl same) =
     let number : m ≡ t = ap (λ (p : ℕ × (ℕ × QLink)). p.1.0) same in
@@ -182,11 +201,14 @@ numbered_step x xs g b m i t l rest true is_c more (inl same) =
     record { place = zero; number = (omega arith); at = ap Some link; touching = sym (ap (touches g) link) ∙ is_c; item = (omega arith) }
 numbered_step x xs g b m i t l rest true is_c more (inr at) = behind x xs g b m i t l true is_c (more (b + 1) at)
 numbered_step x xs g b m i t l rest false is_c more at =
-    behind x xs g b m i t l false is_c (let P : ℕ → Type 0 = λ n. IsOfGroup xs g n (m + 1) i t l in let same : b ≡ b + 0 = omega arith in subst P same (more b at))
+    behind x xs g b m i t l false is_c (let P : ℕ → Type 0 = λ n. IsOfGroup xs g n (m + 1) i t l in let same : b ≡ b + 0 = omega arith in
+    subst P same (more b at))
 
-pub numbered_in : (links : List QLink) (g b m i t : ℕ) (l : QLink) → In (enumerate_from b (filter (is_at g) (enumerate_from m links))) (i, (t, l)) → IsOfGroup links g b m i t l
+pub numbered_in : (links : List QLink) (g b m i t : ℕ) (l : QLink) → In (enumerate_from b (filter (is_at g) (enumerate_from m links))) (i, (t, l)) →
+    IsOfGroup links g b m i t l
 numbered_in [] g b m i t l at = absurd at
-numbered_in (x ∷ xs) g b m i t l at = numbered_step x xs g b m i t l (filter (is_at g) (enumerate_from (m + 1) xs)) (touches g x) refl (λ n in_rest. numbered_in xs g n (m + 1) i t l in_rest) at
+numbered_in (x ∷ xs) g b m i t l at = numbered_step x xs g b m i t l (filter (is_at g) (enumerate_from (m + 1) xs)) (touches g x) refl
+    (λ n in_rest. numbered_in xs g n (m + 1) i t l in_rest) at
 
 -- ---- spots
 
@@ -234,7 +256,8 @@ absorbed false false = refl
 same_numbers : (m n : ℕ) → nat_eq m n ≡ true → m ≡ n
 same_numbers m n e = grind (arith, nat_tests)
 
-module _ {X : Type 0} (links : List QLink) (count : ℕ) (base : ℕ → ℕ) (spot : ℕ → ℕ × (ℕ × QLink) → Place X) (joins : Place X → Place X → Bool) (paired : ArePaired links spot joins) (between : AreBetween links count) where
+module _ {X : Type 0} (links : List QLink) (count : ℕ) (base : ℕ → ℕ) (spot : ℕ → ℕ × (ℕ × QLink) → Place X) (joins : Place X → Place X → Bool)
+    (paired : ArePaired links spot joins) (between : AreBetween links count) where
   abbrev at_group : ℕ → List (ℕ × QLink)
   at_group g = filter (is_at g) (enumerate_from 0 links)
 
@@ -257,21 +280,25 @@ module _ {X : Type 0} (links : List QLink) (count : ℕ) (base : ℕ → ℕ) (s
   later_end : (g h t : ℕ) (l : QLink) → slice_get links t ≡ Some l → touches g l ≡ true → (nat_lt g h && touches h l) ≡ (nat_eq h l.high && nat_eq l.low g)
   later_end g h t l at touching = let less = between.low l (get_in_list links t l at) in ends g h l.low l.high less touching
     where
-      ends : (g h low high : ℕ) → low < high → (nat_eq low g || nat_eq high g) ≡ true → (nat_lt g h && (nat_eq low h || nat_eq high h)) ≡ (nat_eq h high && nat_eq low g)
+      ends : (g h low high : ℕ) → low < high → (nat_eq low g || nat_eq high g) ≡ true →
+          (nat_lt g h && (nat_eq low h || nat_eq high h)) ≡ (nat_eq h high && nat_eq low g)
       ends g h low high less touching = grind (arith, nat_tests)
 
   spot_if : (h t : ℕ) (l : QLink) (b : Bool) → map (spot h) (found_if b (item_of h t) t l) ≡ cond b (spot_of h (t, l) ∷ []) []
   spot_if h t l true = refl
   spot_if h t l false = refl
 
-  spots_numbered : (h t : ℕ) (l : QLink) → slice_get links t ≡ Some l → (b : Bool) → map (spot h) (filter (λ p. is_number t p && b) (enumerate_from (base h) (at_group h))) ≡ cond (b && touches h l) (spot_of h (t, l) ∷ []) []
+  spots_numbered : (h t : ℕ) (l : QLink) → slice_get links t ≡ Some l → (b : Bool) →
+      map (spot h) (filter (λ p. is_number t p && b) (enumerate_from (base h) (at_group h))) ≡ cond (b && touches h l) (spot_of h (t, l) ∷ []) []
   spots_numbered h t l at true =
       let rows = enumerate_from (base h) (at_group h) in
       let P : ℕ → Type 0 = λ u. filter (is_number u) rows ≡ found_if (touches h l) (item_of h t) u l in
       let none : 0 + t ≡ t = omega arith in
-      ap (map (spot h)) (filter_same (λ p. is_number t p && true) (is_number t) rows (λ p in_rows. and_true (is_number t p)) ∙ subst P none (found_numbered h (base h) 0 t links l at))
+      ap (map (spot h)) (filter_same (λ p. is_number t p && true) (is_number t) rows (λ p in_rows. and_true (is_number t p))
+      ∙ subst P none (found_numbered h (base h) 0 t links l at))
       ∙ spot_if h t l (touches h l)
-  spots_numbered h t l at false = ap (map (spot h)) (none_pass (λ p. is_number t p && false) (enumerate_from (base h) (at_group h)) (λ p. and_false (is_number t p)))
+  spots_numbered h t l at false = ap (map (spot h))
+      (none_pass (λ p. is_number t p && false) (enumerate_from (base h) (at_group h)) (λ p. and_false (is_number t p)))
 
   agree : (g i t h : ℕ) (l : QLink) → slice_get links t ≡ Some l → touches g l ≡ true → (p : ℕ × (ℕ × QLink)) → In (enumerate_from (base h) (at_group h)) p
       → joins (spot g (i, (t, l))) (spot h p) ≡ (is_number t p && nat_lt g h)
@@ -295,15 +322,18 @@ module _ {X : Type 0} (links : List QLink) (count : ℕ) (base : ℕ → ℕ) (s
   abbrev links_in : Place X → List Link
   links_in s = links_from joins all_spots s
 
-  row : (g i t : ℕ) (l : QLink) → slice_get links t ≡ Some l → touches g l ≡ true → filter (joins (spot g (i, (t, l)))) all_spots ≡ cond (nat_eq l.low g) (spot_of l.high (t, l) ∷ []) []
+  row : (g i t : ℕ) (l : QLink) → slice_get links t ≡ Some l → touches g l ≡ true →
+      filter (joins (spot g (i, (t, l)))) all_spots ≡ cond (nat_eq l.low g) (spot_of l.high (t, l) ∷ []) []
   row g i t l at touching =
       let here = spot g (i, (t, l)) in
       let inside = between.high l (get_in_list links t l at) in
       filter_flat (joins here) spots_at (range_with_len 0 count)
-      ∙ flat_map_same (λ h. filter (joins here) (spots_at h)) (λ h. cond (nat_eq h l.high && nat_eq l.low g) (spot_of h (t, l) ∷ []) []) (range_with_len 0 count) (λ h in_range. later_at g i t h l at touching)
+      ∙ flat_map_same (λ h. filter (joins here) (spots_at h)) (λ h. cond (nat_eq h l.high && nat_eq l.low g) (spot_of h (t, l) ∷ []) [])
+      (range_with_len 0 count) (λ h in_range. later_at g i t h l at touching)
       ∙ one_in_range (λ h. spot_of h (t, l)) (nat_eq l.low g) l.high 0 count (omega arith) (omega arith)
 
-  link_if : (g t : ℕ) (l : QLink) (s : Place X) (b : Bool) → (b ≡ true → s ≡ spot_of l.low (t, l)) → map (link_between s) (cond b (spot_of l.high (t, l) ∷ []) []) ≡ cond b (link_of (t, l) ∷ []) []
+  link_if : (g t : ℕ) (l : QLink) (s : Place X) (b : Bool) → (b ≡ true → s ≡ spot_of l.low (t, l)) →
+      map (link_between s) (cond b (spot_of l.high (t, l) ∷ []) []) ≡ cond b (link_of (t, l) ∷ []) []
   link_if g t l s true same = ap (λ (x : Place X). link_between x (spot_of l.high (t, l)) ∷ []) (same refl)
   link_if g t l s false same = refl
 
@@ -314,7 +344,8 @@ module _ {X : Type 0} (links : List QLink) (count : ℕ) (base : ℕ → ℕ) (s
       let at : slice_get links p.1.0 ≡ Some p.1.1 = ap (slice_get links) (sym place) ∙ is.at in
       let item : p.0 ≡ item_of g p.1.0 = is.item ∙ ap (λ k. base g + links_before links g k) place in
       ap (map (link_between (spot g p))) (row g p.0 p.1.0 p.1.1 at is.touching)
-      ∙ link_if g p.1.0 p.1.1 (spot g p) (nat_eq p.1.1.low g) (λ low. ap (λ i. spot g (i, p.1)) item ∙ ap (λ k. spot k (item_of k p.1.0, p.1)) (let e : g ≡ p.1.1.low = sym (same_numbers p.1.1.low g low) in e))
+      ∙ link_if g p.1.0 p.1.1 (spot g p) (nat_eq p.1.1.low g)
+      (λ low. ap (λ i. spot g (i, p.1)) item ∙ ap (λ k. spot k (item_of k p.1.0, p.1)) (let e : g ≡ p.1.1.low = sym (same_numbers p.1.1.low g low) in e))
 
   at_one : (g : ℕ) → flat_map links_in (spots_at g) ≡ map link_of (with_key low_of (enumerate_from 0 links) g)
   unfolding low_of
@@ -323,13 +354,17 @@ module _ {X : Type 0} (links : List QLink) (count : ℕ) (base : ℕ → ℕ) (s
       ∙ flat_map_same (λ p. links_in (spot g p)) (λ p. cond (nat_eq p.1.1.low g) (link_of p.1 ∷ []) []) (enumerate_from (base g) (at_group g)) (one_row g)
       ∙ without_places (λ (q : ℕ × QLink). cond (nat_eq q.1.low g) (link_of q ∷ []) []) (base g) (at_group g)
       ∙ listed_if (λ (q : ℕ × QLink). nat_eq q.1.low g) link_of (at_group g)
-      ∙ ap (map link_of) (filter_twice (λ (q : ℕ × QLink). nat_eq q.1.low g) (is_at g) (enumerate_from 0 links) ∙ filter_same (λ (q : ℕ × QLink). is_at g q && nat_eq q.1.low g) (λ (q : ℕ × QLink). nat_eq q.1.low g) (enumerate_from 0 links) (λ q in_all. absorbed (nat_eq q.1.low g) (nat_eq q.1.high g)))
+      ∙ ap (map link_of) (filter_twice (λ (q : ℕ × QLink). nat_eq q.1.low g) (is_at g) (enumerate_from 0 links)
+      ∙ filter_same (λ (q : ℕ × QLink). is_at g q && nat_eq q.1.low g) (λ (q : ℕ × QLink). nat_eq q.1.low g) (enumerate_from 0 links)
+      (λ q in_all. absorbed (nat_eq q.1.low g) (nat_eq q.1.high g)))
 
   -- joined places give the links in their order
   pub links_by_spots : links_joining joins all_spots ≡ map link_of (enumerate_from 0 links)
   unfolding low_of
   links_by_spots =
       flat_flat links_in spots_at (range_with_len 0 count)
-      ∙ flat_map_same (λ g. flat_map links_in (spots_at g)) (λ g. map link_of (with_key low_of (enumerate_from 0 links) g)) (range_with_len 0 count) (λ g in_range. at_one g)
+      ∙ flat_map_same (λ g. flat_map links_in (spots_at g)) (λ g. map link_of (with_key low_of (enumerate_from 0 links) g)) (range_with_len 0 count)
+      (λ g in_range. at_one g)
       ∙ sym (map_of_flat link_of (with_key low_of (enumerate_from 0 links)) (range_with_len 0 count))
-      ∙ ap (map link_of) (grouped low_of (enumerate_from 0 links) count (rises_numbered links 0 between.rises) (λ p at. let inside = numbered_of links 0 p at in let less = between.low p.1 inside in let few = between.high p.1 inside in omega arith))
+      ∙ ap (map link_of) (grouped low_of (enumerate_from 0 links) count (rises_numbered links 0 between.rises) (λ p at. let inside = numbered_of links 0 p at in
+      let less = between.low p.1 inside in let few = between.high p.1 inside in omega arith))

@@ -19,8 +19,10 @@ range_from a (suc n) m (inr h) = let r = range_from (a + 1) n m h in omega arith
 
 rises_append : (xs ys : List QLink) → Rises low_end xs → Rises low_end ys → ((x y : QLink) → In xs x → In ys y → x.low ≤ y.low) → Rises low_end (xs ++ ys)
 rises_append [] ys a b h = b
-rises_append (x ∷ xs) ys a b h =
-    ((λ z at. elim (append_in xs ys z at) [ inl before ↦ a.0 z before | inr behind ↦ h x z (inl refl) behind ]), rises_append xs ys a.1 b (λ z w i j. h z w (inr i) j))
+rises_append (x ∷ xs) ys a b h = (
+  (λ z at. elim (append_in xs ys z at) [ inl before ↦ a.0 z before | inr behind ↦ h x z (inl refl) behind ]),
+  rises_append xs ys a.1 b (λ z w i j. h z w (inr i) j),
+)
 
 rises_at_one : (g : ℕ) (xs : List QLink) → ((x : QLink) → In xs x → x.low ≡ g) → Rises low_end xs
 rises_at_one g [] same = tt
@@ -34,7 +36,8 @@ record IsOfPair (count g : ℕ) (l : QLink) : Type 0 where
 of_pair : (es : List Edge) (groups : List ℕ) (count g : ℕ) (l : QLink) → In (group_links_from es groups count g) l → IsOfPair count g l
 of_pair es groups count g l at =
     let pair = flat_map_in (links_of_pair es groups g) (range_with_len (g + 1) (count - (g + 1))) l at in
-    let made = map_in (group_link g pair.0 (acts_into es groups g pair.0) (acts_into es groups pair.0 g)) (range_with_len 0 (max (length (acts_into es groups g pair.0)) (length (acts_into es groups pair.0 g)))) l pair.2 in
+    let made = map_in (group_link g pair.0 (acts_into es groups g pair.0) (acts_into es groups pair.0 g))
+    (range_with_len 0 (max (length (acts_into es groups g pair.0)) (length (acts_into es groups pair.0 g)))) l pair.2 in
     let high : pair.0 ≡ l.high = ap (λ (m : QLink). m.high) made.2 in
     let more = range_from (g + 1) (count - (g + 1)) pair.0 pair.1 in
     let less = range_in (g + 1) (count - (g + 1)) pair.0 pair.1 in
@@ -58,7 +61,8 @@ rises_from es groups count a (suc n) =
 pub quotient_between : (es : List Edge) (groups : List ℕ) (count : ℕ) → AreBetween (quotient_links es groups count) count
 unfolding quotient_links
 quotient_between es groups count = record {
-  low = λ l at. let from = flat_map_in (group_links_from es groups count) (range_with_len 0 count) l at in let pair = of_pair es groups count from.0 l from.2 in let low = pair.low in let high = pair.high in omega arith;
+  low = λ l at. let from = flat_map_in (group_links_from es groups count) (range_with_len 0 count) l at in let pair = of_pair es groups count from.0 l from.2 in
+      let low = pair.low in let high = pair.high in omega arith;
   high = λ l at. let from = flat_map_in (group_links_from es groups count) (range_with_len 0 count) l at in (of_pair es groups count from.0 l from.2).inside;
   rises = rises_from es groups count 0 count;
 }

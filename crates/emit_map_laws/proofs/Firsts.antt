@@ -61,7 +61,8 @@ kept : (m : Plain) (seen ms : List Plain) → In ms m → HasSame m seen ⊎ Has
 kept m seen [] at = absurd at
 kept m seen (x ∷ ms) at = step (list_any (same_map x) seen) refl at (kept m seen ms) (kept m (x ∷ seen) ms)
   where
-    step : (b : Bool) → list_any (same_map x) seen ≡ b → (x ≡ m) ⊎ In ms m → (In ms m → HasSame m seen ⊎ HasSame m (firsts seen ms)) → (In ms m → HasSame m (x ∷ seen) ⊎ HasSame m (firsts (x ∷ seen) ms))
+    step : (b : Bool) → list_any (same_map x) seen ≡ b → (x ≡ m) ⊎ In ms m → (In ms m → HasSame m seen ⊎ HasSame m (firsts seen ms)) →
+        (In ms m → HasSame m (x ∷ seen) ⊎ HasSame m (firsts (x ∷ seen) ms))
         → HasSame m seen ⊎ HasSame m (if b then firsts seen ms else x ∷ firsts (x ∷ seen) ms)
     step true e (inl is) one two = inl (subst (λ (y : Plain). HasSame y seen) is (any_same x seen e))
     step true e (inr later) one two = one later
@@ -84,7 +85,8 @@ find_same : (m : Plain) (xs : List Plain) → HasSame m xs → (r : Plain) × (f
 find_same m [] s = absurd s.has
 find_same m (x ∷ xs) s = step (same_map m x) refl (find_same m xs)
   where
-    step : (b : Bool) → same_map m x ≡ b → (HasSame m xs → (r : Plain) × (find (same_map m) xs ≡ Some r) × (same_map m r ≡ true)) → (r : Plain) × (cond b (Some x) (find (same_map m) xs) ≡ Some r) × (same_map m r ≡ true)
+    step : (b : Bool) → same_map m x ≡ b → (HasSame m xs → (r : Plain) × (find (same_map m) xs ≡ Some r) × (same_map m r ≡ true)) →
+        (r : Plain) × (cond b (Some x) (find (same_map m) xs) ≡ Some r) × (same_map m r ≡ true)
     step true e rest = (x, refl, e)
     step false e rest = elim s.has [
       | inl here ↦ absurd (let f : same_map m x ≡ true = ap (same_map m) here ∙ s.same in cc)
@@ -97,5 +99,10 @@ at_number m uses used = elim (kept m [] uses used) [
   | inr s ↦ (let f = find_same m (firsts [] uses) s in
       let place = sym (find_at (same_map m) (firsts [] uses)) ∙ f.1 in
       let e : 1 + position_or_len (same_map m) (firsts [] uses) ≡ number_of_map (firsts [] uses) m = omega arith in
-      record { other = f.0; at = subst (λ (n : ℕ). In (enumerate_from 1 (firsts [] uses)) (n, f.0)) e (in_enumerate (firsts [] uses) 1 (position_or_len (same_map m) (firsts [] uses)) f.0 place); same = f.2 })
+      record {
+        other = f.0;
+        at = subst (λ (n : ℕ). In (enumerate_from 1 (firsts [] uses)) (n, f.0)) e
+            (in_enumerate (firsts [] uses) 1 (position_or_len (same_map m) (firsts [] uses)) f.0 place);
+        same = f.2;
+      })
 ]

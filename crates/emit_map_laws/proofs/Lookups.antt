@@ -39,7 +39,8 @@ pub record HasEnd (k : ℕ) (x : PlainEntry) (c : CommunityList) : Type 0 where
   pub end : List ℕ
   pub name : c.name ≡ list_name k x.seq end
 
-of_matches : (k : ℕ) (x : PlainEntry) (o : Option (List CommunityList)) (c : CommunityList) → In (option_map_or (λ lists. map (match_list k x.seq) (enumerate_from 1 lists)) o []) c
+of_matches : (k : ℕ) (x : PlainEntry) (o : Option (List CommunityList)) (c : CommunityList) →
+    In (option_map_or (λ lists. map (match_list k x.seq) (enumerate_from 1 lists)) o []) c
     → (lists : List CommunityList) × (o ≡ Some lists) × (i : ℕ) × (l : CommunityList) × In (enumerate_from 1 lists) (i, l) × (match_list k x.seq (i, l) ≡ c)
 of_matches k x None c at = absurd at
 of_matches k x (Some lists) c at = let m = map_in (match_list k x.seq) (enumerate_from 1 lists) c at in (lists, refl, m.0.0, m.0.1, m.1, m.2)
@@ -57,7 +58,8 @@ name_of : CommunityList → List ℕ
 name_of c = c.name
 
 -- two lists of an entry with one name are one
-one_of_entry : (k : ℕ) (x : PlainEntry) (c d : CommunityList) → k < 2 ^ 64 → IsPrintableEntry x → In (lists_of_entry k x) c → In (lists_of_entry k x) d → c.name ≡ d.name → c ≡ d
+one_of_entry : (k : ℕ) (x : PlainEntry) (c d : CommunityList) → k < 2 ^ 64 → IsPrintableEntry x → In (lists_of_entry k x) c → In (lists_of_entry k x) d →
+    c.name ≡ d.name → c ≡ d
 one_of_entry k x c d small is at at' e = elim (append_in (match_lists k x) (deletion_lists k x) c at) [
   | inl a ↦ elim (append_in (match_lists k x) (deletion_lists k x) d at') [
     | inl b ↦ both_match (of_matches k x x.lists c a) (of_matches k x x.lists d b)
@@ -75,7 +77,8 @@ one_of_entry k x c d small is at at' e = elim (append_in (match_lists k x) (dele
     number : (lists : List CommunityList) (i : ℕ) (l : CommunityList) → x.lists ≡ Some lists → In (enumerate_from 1 lists) (i, l) → i < 2 ^ 64
     number lists i l f at = let n = number_within lists 1 i l at in let m = few_lists x lists is f in omega arith
 
-    no_both : {c d : CommunityList} → (lists : List CommunityList) × (x.lists ≡ Some lists) × (i : ℕ) × (l : CommunityList) × In (enumerate_from 1 lists) (i, l) × (match_list k x.seq (i, l) ≡ c)
+    no_both : {c d : CommunityList} → (lists : List CommunityList) × (x.lists ≡ Some lists) × (i : ℕ) × (l : CommunityList) × In (enumerate_from 1 lists) (i, l)
+        × (match_list k x.seq (i, l) ≡ c)
         → (l : CommunityList) × (x.delete ≡ Some l) × (written_list (list_name k x.seq (codes "D")) l ≡ d) → c.name ≡ d.name → ⊥
     no_both m w f =
         let g = one_list k x.seq k x.seq (decimal m.2) (codes "D") small seq small seq (ap (λ (z : CommunityList). z.name) m.5 ∙ f ∙ sym (ap (λ (z : CommunityList). z.name) w.2)) in
@@ -84,10 +87,13 @@ one_of_entry k x c d small is at at' e = elim (append_in (match_lists k x) (dele
     both_delete : (l : CommunityList) × (x.delete ≡ Some l) × (written_list (list_name k x.seq (codes "D")) l ≡ c) → (l : CommunityList) × (x.delete ≡ Some l) × (written_list (list_name k x.seq (codes "D")) l ≡ d) → c ≡ d
     both_delete a b = (let same : a.0 ≡ b.0 = (let both = sym a.1 ∙ b.1 in cc) in sym a.2 ∙ ap (written_list (list_name k x.seq (codes "D"))) same ∙ b.2)
 
-    both_match : (lists : List CommunityList) × (x.lists ≡ Some lists) × (i : ℕ) × (l : CommunityList) × In (enumerate_from 1 lists) (i, l) × (match_list k x.seq (i, l) ≡ c)
-        → (lists : List CommunityList) × (x.lists ≡ Some lists) × (i : ℕ) × (l : CommunityList) × In (enumerate_from 1 lists) (i, l) × (match_list k x.seq (i, l) ≡ d) → c ≡ d
+    both_match : (lists : List CommunityList) × (x.lists ≡ Some lists) × (i : ℕ) × (l : CommunityList) × In (enumerate_from 1 lists) (i, l)
+        × (match_list k x.seq (i, l) ≡ c)
+        → (lists : List CommunityList) × (x.lists ≡ Some lists) × (i : ℕ) × (l : CommunityList) × In (enumerate_from 1 lists) (i, l)
+        × (match_list k x.seq (i, l) ≡ d) → c ≡ d
     both_match a b =
-        let g = one_list k x.seq k x.seq (decimal a.2) (decimal b.2) small seq small seq (ap (λ (z : CommunityList). z.name) a.5 ∙ e ∙ sym (ap (λ (z : CommunityList). z.name) b.5)) in
+        let g = one_list k x.seq k x.seq (decimal a.2) (decimal b.2) small seq small seq
+        (ap (λ (z : CommunityList). z.name) a.5 ∙ e ∙ sym (ap (λ (z : CommunityList). z.name) b.5)) in
         let i : a.2 ≡ b.2 = decimal_injective a.2 b.2 (number a.0 a.2 a.3 a.1 a.4) (number b.0 b.2 b.3 b.1 b.4) g.2 in
         let same : a.0 ≡ b.0 = (let both = sym a.1 ∙ b.1 in cc) in
         let l : a.3 ≡ b.3 = one_at b.0 1 a.2 b.2 a.3 b.3 (subst (λ (z : List CommunityList). In (enumerate_from 1 z) (a.2, a.3)) same a.4) b.4 i in
@@ -128,7 +134,8 @@ in_numbered xs n k x at = let p = enumerate_in xs n k x at in get_in xs p.0 x p.
 abbrev pub ArePrintable : List Plain → Type 0
 ArePrintable maps = (m : Plain) → In maps m → IsPrintable m
 
-one_written : (maps : List Plain) (c d : CommunityList) → length maps < 2 ^ 32 → ArePrintable maps → IsWritten maps c → IsWritten maps d → c.name ≡ d.name → c ≡ d
+one_written : (maps : List Plain) (c d : CommunityList) → length maps < 2 ^ 32 → ArePrintable maps → IsWritten maps c → IsWritten maps d → c.name ≡ d.name →
+    c ≡ d
 one_written maps c d few are v w e =
     let kv = number_within maps 1 v.k v.m v.at in
     let kw = number_within maps 1 w.k w.m w.at in
@@ -143,10 +150,13 @@ one_written maps c d few are v w e =
     let g = one_list v.k v.x.seq w.k w.x.seq a.end b.end (omega arith) (omega arith) (omega arith) (omega arith) (sym a.name ∙ e ∙ b.name) in
     let m : v.m ≡ w.m = one_at maps 1 v.k w.k v.m w.m v.at w.at g.0 in
     let x : v.x ≡ w.x = one_entry w.m.entries v.x w.x pw.ascending (subst (λ (z : Plain). In z.entries v.x) m v.x_in) w.x_in g.1 in
-    let here : In (lists_of_entry w.k w.x) c = subst (λ (y : PlainEntry). In (lists_of_entry w.k y) c) x (subst (λ (n : ℕ). In (lists_of_entry n v.x) c) g.0 v.c_in) in
+    let here : In (lists_of_entry w.k w.x) c =
+    subst (λ (y : PlainEntry). In (lists_of_entry w.k y) c) x (subst (λ (n : ℕ). In (lists_of_entry n v.x) c) g.0 v.c_in) in
     one_of_entry w.k w.x c d (omega arith) ew here w.c_in e
 
 -- the look-up by the name of a list finds it
-pub found_list : (maps : List Plain) (c : CommunityList) → length maps < 2 ^ 32 → ArePrintable maps → IsWritten maps c → find (λ (l : CommunityList). bytes_eq l.name c.name) (all_lists maps) ≡ Some c
-found_list maps c few are w = find_one (λ (l : CommunityList). bytes_eq l.name c.name) (all_lists maps) c (of_written maps c w) ((bytes_eq-Decides c.name c.name).1 refl)
+pub found_list : (maps : List Plain) (c : CommunityList) → length maps < 2 ^ 32 → ArePrintable maps → IsWritten maps c →
+    find (λ (l : CommunityList). bytes_eq l.name c.name) (all_lists maps) ≡ Some c
+found_list maps c few are w = find_one (λ (l : CommunityList). bytes_eq l.name c.name) (all_lists maps) c (of_written maps c w)
+    ((bytes_eq-Decides c.name c.name).1 refl)
     (λ d at same. one_written maps d c few are (written_of maps d at) w ((bytes_eq-Decides d.name c.name).0 same))

@@ -11,7 +11,8 @@ use Rattle.route_maps.specs.Printable.{plain_seqs}
 use Rattle.config_emit.specs.Maps.{map_name, list_name}
 
 -- ---- the one item that passes
-pub find_one : {X : Type 0} (test : X → Bool) (xs : List X) (x : X) → In xs x → test x ≡ true → ((y : X) → In xs y → test y ≡ true → y ≡ x) → find test xs ≡ Some x
+pub find_one : {X : Type 0} (test : X → Bool) (xs : List X) (x : X) → In xs x → test x ≡ true → ((y : X) → In xs y → test y ≡ true → y ≡ x) →
+    find test xs ≡ Some x
 find_one test [] x at is one = absurd at
 find_one {X} test (y ∷ ys) x at is one = step (test y) refl (λ i. find_one test ys x i is (λ z h f. one z (inr h) f))
   where
@@ -54,9 +55,11 @@ policy = codes "POLICY-"
 pub one_map : (k m : ℕ) → k < 2 ^ 64 → m < 2 ^ 64 → map_name k ≡ map_name m → k ≡ m
 one_map k m a b e = decimal_injective k m a b (cut_front policy (decimal k) (decimal m) e)
 
-pub one_list : (k s m t : ℕ) (x y : List ℕ) → k < 2 ^ 64 → s < 2 ^ 64 → m < 2 ^ 64 → t < 2 ^ 64 → list_name k s x ≡ list_name m t y → (k ≡ m) × (s ≡ t) × (x ≡ y)
+pub one_list : (k s m t : ℕ) (x y : List ℕ) → k < 2 ^ 64 → s < 2 ^ 64 → m < 2 ^ 64 → t < 2 ^ 64 → list_name k s x ≡ list_name m t y →
+    (k ≡ m) × (s ≡ t) × (x ≡ y)
 one_list k s m t x y hk hs hm ht e =
-    let f = cut_front policy (decimal k ++ (45 ∷ (decimal s ++ (45 ∷ x)))) (decimal m ++ (45 ∷ (decimal t ++ (45 ∷ y)))) (sym (append_assoc policy (decimal k) (45 ∷ (decimal s ++ (45 ∷ x)))) ∙ e ∙ append_assoc policy (decimal m) (45 ∷ (decimal t ++ (45 ∷ y)))) in
+    let f = cut_front policy (decimal k ++ (45 ∷ (decimal s ++ (45 ∷ x)))) (decimal m ++ (45 ∷ (decimal t ++ (45 ∷ y))))
+    (sym (append_assoc policy (decimal k) (45 ∷ (decimal s ++ (45 ∷ x)))) ∙ e ∙ append_assoc policy (decimal m) (45 ∷ (decimal t ++ (45 ∷ y)))) in
     let one = split (decimal k) (decimal m) (decimal s ++ (45 ∷ x)) (decimal t ++ (45 ∷ y)) (no_dash k hk) (no_dash m hm) f in
     let two = split (decimal s) (decimal t) x y (no_dash s hs) (no_dash t ht) one.1 in
     (decimal_injective k m hk hm one.0, decimal_injective s t hs ht two.0, two.1)

@@ -41,7 +41,8 @@ start_at p (x ∷ rs) (suc k) r e = start_at p rs k r e
 no_lines : (r : Router) (ps : List Prefix) → ((p : Prefix) → In ps p → initial_route r p ≡ None) → filter_map (class_line_of r) ps ≡ []
 no_lines r [] none = refl
 no_lines r (p ∷ ps) none =
-    ap (λ (o : Option (Option ℕ)). cons_option (if is_some o then Some (record { prefix = p; line = 0 }) else None) (filter_map (class_line_of r) ps)) (none p (inl refl))
+    ap (λ (o : Option (Option ℕ)). cons_option (if is_some o then Some (record { prefix = p; line = 0 }) else None) (filter_map (class_line_of r) ps))
+    (none p (inl refl))
     ∙ no_lines r ps (λ q i. none q (inr i))
 
 based_on : (o : Option Router) (lines : List NetLine) → lines ≡ [] → option_map_or (base_of lines) o None ≡ None
@@ -63,15 +64,20 @@ no_base e g none = step (written_bgp e.problem.protocol e g) (of e.problem.proto
         by true = tt
         by false = none
 
-    hundred : (o : Option Base) → o ≡ None → (if true && not (nat_eq (option_map_or (λ (base : Base). base.value) o 100) 100) then Some (option_map_or (λ (base : Base). base.value) o 100) else None) ≡ None
+    hundred : (o : Option Base) → o ≡ None →
+        (if true && not (nat_eq (option_map_or (λ (base : Base). base.value) o 100) 100) then Some (option_map_or (λ (base : Base). base.value) o 100)
+        else None) ≡ None
     hundred None e = refl
     hundred (Some x) e = absurd cc
 
-    step : (o : Option BgpProcess) → HasNoBase o → (let v = option_map_or (λ (process : BgpProcess). option_map_or (λ (base : Base). base.value) process.base 100) o 100 in if true && not (nat_eq v 100) then Some v else None) ≡ None
+    step : (o : Option BgpProcess) → HasNoBase o →
+        (let v = option_map_or (λ (process : BgpProcess). option_map_or (λ (base : Base). base.value) process.base 100) o 100 in
+        if true && not (nat_eq v 100) then Some v else None) ≡ None
     step None is = refl
     step (Some process) is = hundred process.base is
 
-pub no_own : (e : Plan) → IsPlan e → QuotientCarries → e.problem.protocol ≡ OverBgp → (g : ℕ) (l : QLink) → In e.links l → touches g l ≡ true → (act : Act) → act_into e g l ≡ Some act → own_preference (emitted_router e g) true ≡ None
+pub no_own : (e : Plan) → IsPlan e → QuotientCarries → e.problem.protocol ≡ OverBgp → (g : ℕ) (l : QLink) → In e.links l → touches g l ≡ true → (act : Act) →
+    act_into e g l ≡ Some act → own_preference (emitted_router e g) true ≡ None
 no_own e plan law bgp g l at touched act is =
     let end = end_of e plan law g l at touched in
     let edge = act_between e plan law g end.0 l at end.1 act is in
@@ -83,7 +89,9 @@ no_own e plan law bgp g l at touched act is =
     let none : initial e.problem (first_member e.groups g) ≡ None = alike ∙ rules.starts.unoriginated bgp edge.edge edge.has in
     let here : (p : Prefix) → In e.class.prefixes p → initial_route first.router p ≡ None =
     λ p i. (let of = plan.problem p (contains_in e.class.prefixes p i) in
-    no_start p first.router (sym (start_at p e.network.routers (first_member e.groups g) first.router first.at) ∙ sym (ap (λ (l : List (Option Route)). slice_index_or l (first_member e.groups g) None) of.init) ∙ none)) in
+    no_start p first.router (sym (start_at p e.network.routers (first_member e.groups g) first.router first.at)
+    ∙ sym (ap (λ (l : List (Option Route)). slice_index_or l (first_member e.groups g) None) of.init) ∙ none)) in
     let lines : option_map_or (λ r. filter_map (class_line_of r) e.class.prefixes) (first_router_of e g) [] ≡ [] =
-    ap (λ (o : Option Router). option_map_or (λ r. filter_map (class_line_of r) e.class.prefixes) o []) first.at ∙ no_lines first.router e.class.prefixes here in
+    ap (λ (o : Option Router). option_map_or (λ r. filter_map (class_line_of r) e.class.prefixes) o []) first.at
+    ∙ no_lines first.router e.class.prefixes here in
     no_base e g (based_on (first_router_of e g) (net_lines e g) lines)

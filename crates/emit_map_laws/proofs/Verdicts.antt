@@ -52,7 +52,8 @@ whole_verdict (x ∷ []) comms e =
     let change = none_is x.change d.0 in
     let delete = none_is x.delete f.0 in
     let adds = zero_is x.adds f.1 in
-    let plain : x ≡ record x { permit = true; lists = None; lp = None; change = None; delete = None; adds = 0 } = λ i. record { seq = x.seq; permit = permit i; lists = lists i; lp = lp i; change = change i; delete = delete i; adds = adds i; exact = x.exact } in
+    let plain : x ≡ record x { permit = true; lists = None; lp = None; change = None; delete = None; adds = 0 } =
+    λ i. record { seq = x.seq; permit = permit i; lists = lists i; lp = lp i; change = change i; delete = delete i; adds = adds i; exact = x.exact } in
     ap (λ (y : PlainEntry). verdict (y ∷ []) comms) plain
 whole_verdict (x ∷ y ∷ xs) comms e = absurd cc
 
@@ -62,11 +63,14 @@ maps_are : (e : Plan) (g : ℕ) → e.problem.protocol ≡ OverBgp → maps_of e
 unfolding maps_of
 maps_are e g bgp = ap (λ q. maps_over q e g) bgp
 
-used_at : (e : Plan) (g : ℕ) (l : QLink) (m : Plain) → In e.links l → touches g l ≡ true → In (maps_at e g l) m → In (flat_map (maps_at e g) (filter (touches g) e.links)) m
+used_at : (e : Plan) (g : ℕ) (l : QLink) (m : Plain) → In e.links l → touches g l ≡ true → In (maps_at e g l) m →
+    In (flat_map (maps_at e g) (filter (touches g) e.links)) m
 used_at e g l m at touched used = in_flat_map (maps_at e g) (filter (touches g) e.links) l m (in_filter (touches g) e.links l at touched) used
 
-numbered : (e : Plan) (g : ℕ) (l : QLink) (m : Plain) → e.problem.protocol ≡ OverBgp → In e.links l → touches g l ≡ true → In (maps_at e g l) m → IsAtNumber m (maps_of e g)
-numbered e g l m bgp at touched used = subst (IsAtNumber m) (sym (maps_are e g bgp)) (at_number m (flat_map (maps_at e g) (filter (touches g) e.links)) (used_at e g l m at touched used))
+numbered : (e : Plan) (g : ℕ) (l : QLink) (m : Plain) → e.problem.protocol ≡ OverBgp → In e.links l → touches g l ≡ true → In (maps_at e g l) m →
+    IsAtNumber m (maps_of e g)
+numbered e g l m bgp at touched used = subst (IsAtNumber m) (sym (maps_are e g bgp))
+    (at_number m (flat_map (maps_at e g) (filter (touches g) e.links)) (used_at e g l m at touched used))
 
 module _ (e : Plan) (plan : IsPlan e) (few : length e.links ≤ 1048576) (bgp : e.problem.protocol ≡ OverBgp) (g : ℕ) where
   short : length (maps_of e g) < 2 ^ 32
@@ -76,12 +80,14 @@ module _ (e : Plan) (plan : IsPlan e) (few : length e.links ≤ 1048576) (bgp : 
   print m at = map_prints e plan g m (map_of e g m at)
 
   -- of a map that a link of the group uses, where the router has no preference of its own
-  pub by_name : (l : QLink) (m : Plain) (p : Prefix) (inbound : Bool) (comms : List ℕ) → In e.links l → touches g l ≡ true → (is_whole m.entries ≡ false → In (maps_at e g l) m) → own_preference (emitted_router e g) inbound ≡ None
+  pub by_name : (l : QLink) (m : Plain) (p : Prefix) (inbound : Bool) (comms : List ℕ) → In e.links l → touches g l ≡ true →
+      (is_whole m.entries ≡ false → In (maps_at e g l) m) → own_preference (emitted_router e g) inbound ≡ None
       → verdict (plain_of (emitted_router e g) (name_of (name_of_map (maps_of e g) (Some m))) None p inbound).entries comms ≡ verdict m.entries comms
   by_name l m p inbound comms at touched used own = step (is_whole m.entries) refl
     where
       step : (b : Bool) → is_whole m.entries ≡ b
-          → verdict (plain_of (emitted_router e g) (name_of (if b then None else Some (record { name = map_name (number_of_map (maps_of e g) m); line = 0 }))) None p inbound).entries comms ≡ verdict m.entries comms
+          → verdict (plain_of (emitted_router e g) (name_of (if b then None else Some (record { name = map_name (number_of_map (maps_of e g) m); line = 0 })))
+          None p inbound).entries comms ≡ verdict m.entries comms
       step true is = ap (λ o. verdict (whole_entry o ∷ []) comms) own ∙ sym (whole_verdict m.entries comms is)
       step false is =
           let n = numbered e g l m bgp at touched (used is) in
@@ -101,4 +107,5 @@ module _ (e : Plan) (plan : IsPlan e) (few : length e.links ≤ 1048576) (bgp : 
       → verdict (plain_of (emitted_router e g) (name_of (name_of_map (maps_of e g) (Some closed_map))) None p inbound).entries comms ≡ Deny
   closed_by_name l p inbound comms at touched used =
       let n = numbered e g l closed_map bgp at touched used in
-      closed_back (emitted_router e g) (maps_of e g) _ refl refl short print (number_of_map (maps_of e g) closed_map) n.other n.at (same_as_closed n.other n.same) p inbound comms
+      closed_back (emitted_router e g) (maps_of e g) _ refl refl short print (number_of_map (maps_of e g) closed_map) n.other n.at
+      (same_as_closed n.other n.same) p inbound comms

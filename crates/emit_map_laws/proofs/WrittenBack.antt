@@ -73,25 +73,32 @@ cut_short j n e few = omega arith
 count_back : (number n : ℕ) → n ≤ 10 → min (prepend_count (written_prepend number n)) 255 ≡ n
 count_back number zero few = refl
 count_back number (suc n) few =
-    ap (λ (b : Bool). min (prepend_count (if b then None else Some (record { numbers = replicate (suc n) number; line = 0 }))) 255) (let e : nat_eq (suc n) 0 ≡ false = grind (arith, nat_tests) in e)
+    ap (λ (b : Bool). min (prepend_count (if b then None else Some (record { numbers = replicate (suc n) number; line = 0 }))) 255)
+    (let e : nat_eq (suc n) 0 ≡ false = grind (arith, nat_tests) in e)
     ∙ cut_short (length {A = ℕ} (replicate (suc n) number)) n (length_replicated (suc n) number) few
 
-module _ (r : Router) (maps : List Plain) (number : ℕ) (lists_are : r.community_lists ≡ all_lists maps) (maps_are : r.route_maps ≡ map (written_map number) (enumerate_from 1 maps)) (few : length maps < 2 ^ 32) (are : ArePrintable maps) where
+module _ (r : Router) (maps : List Plain) (number : ℕ) (lists_are : r.community_lists ≡ all_lists maps)
+    (maps_are : r.route_maps ≡ map (written_map number) (enumerate_from 1 maps)) (few : length maps < 2 ^ 32) (are : ArePrintable maps) where
   named_back : (c : CommunityList) → IsWritten maps c → community_list_named r c.name ≡ Some c
   named_back c w = ap (λ (ls : List CommunityList). find (λ (l : CommunityList). bytes_eq l.name c.name) ls) lists_are ∙ found_list maps c few are w
 
   module _ (k : ℕ) (m : Plain) (at : In (enumerate_from 1 maps) (k, m)) where
-    lists_back : (x : PlainEntry) → In m.entries x → (cs : List CommunityList) → ((c : CommunityList) → In cs c → In (lists_of_entry k x) c) → filter_map (community_list_named r) (map name_of_list cs) ≡ cs
+    lists_back : (x : PlainEntry) → In m.entries x → (cs : List CommunityList) → ((c : CommunityList) → In cs c → In (lists_of_entry k x) c) →
+        filter_map (community_list_named r) (map name_of_list cs) ≡ cs
     lists_back x x_in [] inside = refl
     lists_back x x_in (c ∷ cs) inside =
-        ap (λ (o : Option CommunityList). cons_option o (filter_map (community_list_named r) (map name_of_list cs))) (named_back c (record { k = k; m = m; at = at; x = x; x_in = x_in; c_in = inside c (inl refl) }))
+        ap (λ (o : Option CommunityList). cons_option o (filter_map (community_list_named r) (map name_of_list cs)))
+        (named_back c (record { k = k; m = m; at = at; x = x; x_in = x_in; c_in = inside c (inl refl) }))
         ∙ ap (λ (l : List CommunityList). c ∷ l) (lists_back x x_in cs (λ d i. inside d (inr i)))
 
-    match_names : (x : PlainEntry) → In m.entries x → (o : Option (List CommunityList)) → x.lists ≡ o → same_match (is_some o && x.exact) x.exact (lists_named r (option_map (λ lists. names_line (match_lists k x)) o)) o ≡ true
+    match_names : (x : PlainEntry) → In m.entries x → (o : Option (List CommunityList)) → x.lists ≡ o →
+        same_match (is_some o && x.exact) x.exact (lists_named r (option_map (λ lists. names_line (match_lists k x)) o)) o ≡ true
     match_names x x_in None e = refl
     match_names x x_in (Some lists) e =
-        let all : match_lists k x ≡ map (match_list k x.seq) (enumerate_from 1 lists) = ap (λ (o : Option (List CommunityList)). option_map_or (λ lists. map (match_list k x.seq) (enumerate_from 1 lists)) o []) e in
-        let back : filter_map (community_list_named r) (map name_of_list (match_lists k x)) ≡ match_lists k x = lists_back x x_in (match_lists k x) (λ c i. in_left_of c i) in
+        let all : match_lists k x ≡ map (match_list k x.seq) (enumerate_from 1 lists) =
+        ap (λ (o : Option (List CommunityList)). option_map_or (λ lists. map (match_list k x.seq) (enumerate_from 1 lists)) o []) e in
+        let back : filter_map (community_list_named r) (map name_of_list (match_lists k x)) ≡ match_lists k x =
+        lists_back x x_in (match_lists k x) (λ c i. in_left_of c i) in
         both (beq x.exact x.exact) _ (bool_same x.exact) (ap (λ (ls : List CommunityList). same_items same_list ls lists) (back ∙ all) ∙ written_same 1 lists)
       where
         in_left_of : (c : CommunityList) → In (match_lists k x) c → In (lists_of_entry k x) c
@@ -99,7 +106,8 @@ module _ (r : Router) (maps : List Plain) (number : ℕ) (lists_are : r.communit
 
         written_same : (n : ℕ) (ls : List CommunityList) → same_items same_list (map (match_list k x.seq) (enumerate_from n ls)) ls ≡ true
         written_same n [] = refl
-        written_same n (l ∷ ls) = both (same_list (written_list (list_name k x.seq (decimal n)) l) l) _ (list_same (list_name k x.seq (decimal n)) l) (written_same (n + 1) ls)
+        written_same n (l ∷ ls) = both (same_list (written_list (list_name k x.seq (decimal n)) l) l) _ (list_same (list_name k x.seq (decimal n)) l)
+            (written_same (n + 1) ls)
 
     delete_back : (x : PlainEntry) → In m.entries x → (o : Option CommunityList) → x.delete ≡ o → option_eq same_list (deletion_list r (option_map (λ list. record { name = list_name k x.seq (codes "D"); line = 0 }) o)) o ≡ true
     delete_back x x_in None e = refl
@@ -118,32 +126,40 @@ module _ (r : Router) (maps : List Plain) (number : ℕ) (lists_are : r.communit
         (both _ _ (change_option x.change)
         (both _ _ (delete_back x x_in x.delete refl) (eq-eqb _ x.adds (count_back number x.adds is.adds)))))))
 
-    entries_back : (p : Prefix) (xs : List PlainEntry) → ((x : PlainEntry) → In xs x → In m.entries x) → AllByRecursion IsPrintableEntry xs → same_items same_entry (plain_entries r None p (map (written_entry number k) xs)) xs ≡ true
+    entries_back : (p : Prefix) (xs : List PlainEntry) → ((x : PlainEntry) → In xs x → In m.entries x) → AllByRecursion IsPrintableEntry xs →
+        same_items same_entry (plain_entries r None p (map (written_entry number k) xs)) xs ≡ true
     entries_back p [] inside is = refl
-    entries_back p (x ∷ xs) inside is = both (same_entry (plain_entry r None (written_entry number k x)) x) _ (entry_back x (inside x (inl refl)) is.0) (entries_back p xs (λ y i. inside y (inr i)) is.1)
+    entries_back p (x ∷ xs) inside is = both (same_entry (plain_entry r None (written_entry number k x)) x) _ (entry_back x (inside x (inl refl)) is.0)
+        (entries_back p xs (λ y i. inside y (inr i)) is.1)
 
-    written_verdict : (p : Prefix) (comms : List ℕ) (xs : List PlainEntry) → m.entries ≡ xs → AllByRecursion IsPrintableEntry xs → verdict (plain_entries r None p (written_entries number k xs)) comms ≡ verdict xs comms
+    written_verdict : (p : Prefix) (comms : List ℕ) (xs : List PlainEntry) → m.entries ≡ xs → AllByRecursion IsPrintableEntry xs →
+        verdict (plain_entries r None p (written_entries number k xs)) comms ≡ verdict xs comms
     written_verdict p comms [] e is = refl
-    written_verdict p comms (x ∷ xs) e is = entries_alike comms (plain_entries r None p (map (written_entry number k) (x ∷ xs))) (x ∷ xs) (entries_back p (x ∷ xs) (λ y i. subst (λ (l : List PlainEntry). In l y) (sym e) i) is)
+    written_verdict p comms (x ∷ xs) e is = entries_alike comms (plain_entries r None p (map (written_entry number k) (x ∷ xs))) (x ∷ xs)
+        (entries_back p (x ∷ xs) (λ y i. subst (λ (l : List PlainEntry). In l y) (sym e) i) is)
 
     map_back : route_map_named r (map_name k) ≡ Some (written_map number (k, m))
     map_back =
         ap (λ (ms : List RouteMap). find (λ (x : RouteMap). bytes_eq x.name (map_name k)) ms) maps_are
-        ∙ find_one (λ (x : RouteMap). bytes_eq x.name (map_name k)) (map (written_map number) (enumerate_from 1 maps)) (written_map number (k, m)) (in_map (written_map number) (enumerate_from 1 maps) (k, m) at) (bytes_same (map_name k))
+        ∙ find_one (λ (x : RouteMap). bytes_eq x.name (map_name k)) (map (written_map number) (enumerate_from 1 maps)) (written_map number (k, m))
+        (in_map (written_map number) (enumerate_from 1 maps) (k, m) at) (bytes_same (map_name k))
         (λ y i same. (let o = map_in (written_map number) (enumerate_from 1 maps) y i in
-        let n : o.0.0 ≡ k = one_map o.0.0 k (let b = number_within maps 1 o.0.0 o.0.1 o.1 in omega arith) (let b = number_within maps 1 k m at in omega arith) (ap (λ (z : RouteMap). z.name) o.2 ∙ (bytes_eq-Decides y.name (map_name k)).0 same) in
+        let n : o.0.0 ≡ k = one_map o.0.0 k (let b = number_within maps 1 o.0.0 o.0.1 o.1 in omega arith) (let b = number_within maps 1 k m at in omega arith)
+        (ap (λ (z : RouteMap). z.name) o.2 ∙ (bytes_eq-Decides y.name (map_name k)).0 same) in
         let l : o.0.1 ≡ m = one_at maps 1 o.0.0 k o.0.1 m o.1 at n in
         sym o.2 ∙ (λ j. written_map number (n j, l j))))
 
     -- THE POINT: by its name the map says of every set what the plain map says
-    pub written_back : (p : Prefix) (inbound : Bool) (comms : List ℕ) → own_preference r inbound ≡ None → verdict (plain_of r (Some (map_name k)) None p inbound).entries comms ≡ verdict m.entries comms
+    pub written_back : (p : Prefix) (inbound : Bool) (comms : List ℕ) → own_preference r inbound ≡ None →
+        verdict (plain_of r (Some (map_name k)) None p inbound).entries comms ≡ verdict m.entries comms
     written_back p inbound comms none =
         ap (λ (o : Option ℕ). verdict (entries_for r o p (Some (map_name k))) comms) none
         ∙ ap (λ (o : Option RouteMap). verdict (option_map_or (λ (x : RouteMap). plain_entries r None p x.entries) o []) comms) map_back
         ∙ written_verdict p comms m.entries refl (are m (in_numbered maps 1 k m at)).entries
 
     -- a map without entries denies, whatever the router's own preference is
-    pub closed_back : m.entries ≡ [] → (p : Prefix) (inbound : Bool) (comms : List ℕ) → verdict (plain_of r (Some (map_name k)) None p inbound).entries comms ≡ Deny
+    pub closed_back : m.entries ≡ [] → (p : Prefix) (inbound : Bool) (comms : List ℕ) →
+        verdict (plain_of r (Some (map_name k)) None p inbound).entries comms ≡ Deny
     closed_back none p inbound comms =
         ap (λ (o : Option RouteMap). verdict (option_map_or (λ (x : RouteMap). plain_entries r (own_preference r inbound) p x.entries) o []) comms) map_back
         ∙ ap (λ (xs : List PlainEntry). verdict (plain_entries r (own_preference r inbound) p (written_entries number k xs)) comms) none

@@ -21,5 +21,7 @@ imported_by (Some act) comms = import_by act comms
 -- A session of the network of the groups imports into an end of its link what the act does that the link
 -- carries there, and nothing where it carries none.
 abbrev pub SessionsImportActs : Type 0
-SessionsImportActs = (e : Plan) → IsPlan e → e.problem.protocol ≡ OverBgp → (p : Prefix) (g t : ℕ) (l : QLink) → Contains e.links l → touches g l ≡ true → (comms : List ℕ)
-    → session_import p (emitted_router e (other_end g l)) (neighbor_at e (other_end g l) (t, l)) (emitted_router e g) (neighbor_at e g (t, l)) comms ≡ imported_by (act_into e g l) comms
+SessionsImportActs = (e : Plan) → IsPlan e → e.problem.protocol ≡ OverBgp → (p : Prefix) (g t : ℕ) (l : QLink) → Contains e.links l → touches g l ≡ true →
+    (comms : List ℕ)
+    → session_import p (emitted_router e (other_end g l)) (neighbor_at e (other_end g l) (t, l)) (emitted_router e g) (neighbor_at e g (t, l))
+    comms ≡ imported_by (act_into e g l) comms

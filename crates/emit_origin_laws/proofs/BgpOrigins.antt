@@ -53,7 +53,8 @@ announces r p some is = step r.bgp refl some is
     by true e = refl
     by false e = absurd cc
 
-    step : (o : Option BgpProcess) → r.bgp ≡ o → option_map_or (λ (process : BgpProcess). process.number) o 0 ≢ 0 → route_by_process r o p ≡ Some None → Announces r p
+    step : (o : Option BgpProcess) → r.bgp ≡ o → option_map_or (λ (process : BgpProcess). process.number) o 0 ≢ 0 → route_by_process r o p ≡ Some None →
+        Announces r p
     step None has some is = absurd (some refl)
     step (Some process) has some is = record { process = process; has = has; announced = by (is_announced r process p) is }
 
@@ -69,7 +70,8 @@ based n = step (nat_eq n 100) refl
     step true e = sym (is_hundred n e)
     step false e = refl
 
-module _ (e : Plan) (plan : IsPlan e) (bgp : e.problem.protocol ≡ OverBgp) (p : Prefix) (at : Contains e.class.prefixes p) (g : ℕ) (below : g < e.count) (first : HasFirst e g) (is : initial_route first.router p ≡ Some None) where
+module _ (e : Plan) (plan : IsPlan e) (bgp : e.problem.protocol ≡ OverBgp) (p : Prefix) (at : Contains e.class.prefixes p) (g : ℕ) (below : g < e.count)
+    (first : HasFirst e g) (is : initial_route first.router p ≡ Some None) where
   starts : initial e.problem (first_member e.groups g) ≡ Some (Bgp (default_preference first.router) [] [])
   starts = first_start e plan p at g first ∙ ap (option_map (route_from first.router)) is
 
@@ -77,7 +79,8 @@ module _ (e : Plan) (plan : IsPlan e) (bgp : e.problem.protocol ≡ OverBgp) (p 
   first_number_some = ((problem_of e plan).of.rules.numbers bgp).originators (first_member e.groups g) _ starts
 
   numbered : as_number_of first.router ≢ 0
-  numbered same = first_number_some (ap (λ (ns : List ℕ). slice_index ns (first_member e.groups g)) (problem_of e plan).of.numbers ∙ number_from e.network.routers (first_member e.groups g) first.router first.at ∙ same)
+  numbered same = first_number_some (ap (λ (ns : List ℕ). slice_index ns (first_member e.groups g)) (problem_of e plan).of.numbers
+      ∙ number_from e.network.routers (first_member e.groups g) first.router first.at ∙ same)
 
   has_number : number (small e) g ≢ 0
   has_number same =
@@ -93,12 +96,15 @@ module _ (e : Plan) (plan : IsPlan e) (bgp : e.problem.protocol ≡ OverBgp) (p 
   net =
       let line : NetLine = record { prefix = p; line = 0 } in
       let made : class_line_of first.router p ≡ Some line = ap (λ (o : Option (Option ℕ)). if is_some o then Some line else None) is in
-      subst (λ (o : Option Router). In (option_map_or (λ r. filter_map (class_line_of r) e.class.prefixes) o []) line) (sym first.at) (in_filter_map (class_line_of first.router) e.class.prefixes p line (in_contains e.class.prefixes p at) made)
+      subst (λ (o : Option Router). In (option_map_or (λ r. filter_map (class_line_of r) e.class.prefixes) o []) line) (sym first.at)
+      (in_filter_map (class_line_of first.router) e.class.prefixes p line (in_contains e.class.prefixes p at) made)
 
   up : list_any (is_up_in p) (emitted_router e g).interfaces ≡ true
   up =
       let from = announces first.router p numbered is in
-      let o = found_first (is_up_in p) first.router.interfaces (parts (list_any (λ (line : NetLine). same_prefix p line.prefix) from.process.networks) (list_any (is_up_in p) first.router.interfaces) from.announced).1 in
+      let o = found_first (is_up_in p) first.router.interfaces
+      (parts (list_any (λ (line : NetLine). same_prefix p line.prefix) from.process.networks) (list_any (is_up_in p) first.router.interfaces)
+      from.announced).1 in
       let origin = found_is (is_up_in p) first.router.interfaces o.0 o.1 in
       let found : interface_in e.problem.protocol first.router p ≡ Some o.0 = ap (λ q. interface_in q first.router p) bgp ∙ o.1 in
       let here = class_here e g first p at (ap is_some is) o.0 found in
@@ -110,7 +116,9 @@ module _ (e : Plan) (plan : IsPlan e) (bgp : e.problem.protocol ≡ OverBgp) (p 
   announced : initial_route (emitted_router e g) p ≡ Some None
   announced =
       ap (λ (o : Option BgpProcess). route_by_process (emitted_router e g) o p) process
-      ∙ ap (λ (b : Bool). if b then Some None else None) (both (list_any (λ (line : NetLine). same_prefix p line.prefix) (net_lines e g)) (list_any (is_up_in p) (emitted_router e g).interfaces) (any_passes (λ (line : NetLine). same_prefix p line.prefix) (net_lines e g) (record { prefix = p; line = 0 }) net (same_prefix_self p)) up)
+      ∙ ap (λ (b : Bool). if b then Some None else None)
+      (both (list_any (λ (line : NetLine). same_prefix p line.prefix) (net_lines e g)) (list_any (is_up_in p) (emitted_router e g).interfaces)
+      (any_passes (λ (line : NetLine). same_prefix p line.prefix) (net_lines e g) (record { prefix = p; line = 0 }) net (same_prefix_self p)) up)
 
   preference : default_preference (emitted_router e g) ≡ default_preference first.router
   preference =
@@ -118,7 +126,8 @@ module _ (e : Plan) (plan : IsPlan e) (bgp : e.problem.protocol ≡ OverBgp) (p 
       ∙ ap (λ (o : Option Router). option_map_or (λ (base : Base). base.value) (option_map_or (base_of (net_lines e g)) o None) 100) first.at
       ∙ by (net_lines e g) net
     where
-      by : (lines : List NetLine) → In lines (record { prefix = p; line = 0 }) → option_map_or (λ (base : Base). base.value) (base_of lines first.router) 100 ≡ default_preference first.router
+      by : (lines : List NetLine) → In lines (record { prefix = p; line = 0 }) →
+          option_map_or (λ (base : Base). base.value) (base_of lines first.router) 100 ≡ default_preference first.router
       by [] h = absurd h
       by (line ∷ lines) h = based (default_preference first.router)
 

@@ -11,7 +11,8 @@ none_passes test (x ∷ xs) none = step (test x) refl (none_passes test xs (λ y
     step true is rest = absurd (none x (inl refl) is)
     step false is rest = rest
 
-pub one_passes : {X : Type 0} (test : X → Bool) (xs : List X) (x : X) → In xs x → test x ≡ true → ((y : X) → In xs y → test y ≡ true → y ≡ x) → find test xs ≡ Some x
+pub one_passes : {X : Type 0} (test : X → Bool) (xs : List X) (x : X) → In xs x → test x ≡ true → ((y : X) → In xs y → test y ≡ true → y ≡ x) →
+    find test xs ≡ Some x
 one_passes test [] x at is one = absurd at
 one_passes {X} test (y ∷ ys) x at is one = step (test y) refl at (λ i. one_passes test ys x i is (λ z h f. one z (inr h) f))
   where
@@ -33,7 +34,8 @@ pub passing : {X : Type 0} (test : X → Bool) (xs : List X) → list_any test x
 passing test [] e = absurd cc
 passing test (x ∷ xs) e = step (test x) refl e (passing test xs)
   where
-    step : (b : Bool) → test x ≡ b → (b || list_any test xs) ≡ true → (list_any test xs ≡ true → (y : _) × In xs y × (test y ≡ true)) → (y : _) × In (x ∷ xs) y × (test y ≡ true)
+    step : (b : Bool) → test x ≡ b → (b || list_any test xs) ≡ true → (list_any test xs ≡ true → (y : _) × In xs y × (test y ≡ true)) → (y : _) × In (x ∷ xs) y
+        × (test y ≡ true)
     step true is e rest = (x, inl refl, is)
     step false is e rest = let r = rest e in (r.0, inr r.1, r.2)
 
@@ -41,7 +43,8 @@ pub found_first : {X : Type 0} (test : X → Bool) (xs : List X) → list_any te
 found_first test [] e = absurd cc
 found_first test (x ∷ xs) e = step (test x) refl e (found_first test xs)
   where
-    step : (b : Bool) → test x ≡ b → (b || list_any test xs) ≡ true → (list_any test xs ≡ true → (y : _) × (find test xs ≡ Some y)) → (y : _) × (cond b (Some x) (find test xs) ≡ Some y)
+    step : (b : Bool) → test x ≡ b → (b || list_any test xs) ≡ true → (list_any test xs ≡ true → (y : _) × (find test xs ≡ Some y)) →
+        (y : _) × (cond b (Some x) (find test xs) ≡ Some y)
     step true is e rest = (x, refl)
     step false is e rest = rest e
 
@@ -49,7 +52,8 @@ pub found_is : {X : Type 0} (test : X → Bool) (xs : List X) (y : X) → find t
 found_is test [] y e = absurd cc
 found_is test (x ∷ xs) y e = step (test x) refl e (found_is test xs y)
   where
-    step : (b : Bool) → test x ≡ b → cond b (Some x) (find test xs) ≡ Some y → (find test xs ≡ Some y → In xs y × (test y ≡ true)) → In (x ∷ xs) y × (test y ≡ true)
+    step : (b : Bool) → test x ≡ b → cond b (Some x) (find test xs) ≡ Some y → (find test xs ≡ Some y → In xs y × (test y ≡ true)) →
+        In (x ∷ xs) y × (test y ≡ true)
     step true is e rest = let same : x ≡ y = cc in (inl same, ap test (sym same) ∙ is)
     step false is e rest = let r = rest e in (inr r.0, r.1)
 

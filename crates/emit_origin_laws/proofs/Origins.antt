@@ -45,16 +45,21 @@ silent r p none = step r.bgp
     closed false b e = refl
 
     step : (o : Option BgpProcess) → route_by_process r o p ≡ None
-    step None = ap (option_map cost_of_interface) (none_passes (λ x. is_in_area_interface r x && is_up_in p x) r.interfaces (λ x h passes. none x h (parts (is_in_area_interface r x) (is_up_in p x) passes).1))
+    step None = ap (option_map cost_of_interface)
+        (none_passes (λ x. is_in_area_interface r x && is_up_in p x) r.interfaces
+        (λ x h passes. none x h (parts (is_in_area_interface r x) (is_up_in p x) passes).1))
     step (Some process) = closed (list_any (λ (line : NetLine). same_prefix p line.prefix) process.networks) (list_any (is_up_in p) r.interfaces) nothing
 
-start : (e : Plan) (plan : IsPlan e) → length e.links ≤ 1048576 → (p : Prefix) → Contains e.class.prefixes p → (g : ℕ) → g < e.count → (first : HasFirst e g) → start_route p (emitted_router e g) ≡ start_route p first.router
+start : (e : Plan) (plan : IsPlan e) → length e.links ≤ 1048576 → (p : Prefix) → Contains e.class.prefixes p → (g : ℕ) → g < e.count → (first : HasFirst e g) →
+    start_route p (emitted_router e g) ≡ start_route p first.router
 start e plan few p at g below first = step e.problem.protocol (initial_route first.router p) refl refl
   where
     fits : (o : Option ℕ) → initial_route first.router p ≡ Some o → IsRouteOf e.problem.protocol (route_from first.router o)
-    fits o is = (problem_of e plan).of.rules.starts.routes (first_member e.groups g) (route_from first.router o) (first_start e plan p at g first ∙ ap (option_map (route_from first.router)) is)
+    fits o is = (problem_of e plan).of.rules.starts.routes (first_member e.groups g) (route_from first.router o)
+        (first_start e plan p at g first ∙ ap (option_map (route_from first.router)) is)
 
-    step : (q : Protocol) (o : Option (Option ℕ)) → e.problem.protocol ≡ q → initial_route first.router p ≡ o → start_route p (emitted_router e g) ≡ start_route p first.router
+    step : (q : Protocol) (o : Option (Option ℕ)) → e.problem.protocol ≡ q → initial_route first.router p ≡ o →
+        start_route p (emitted_router e g) ≡ start_route p first.router
     step q None over is =
         ap (option_map (route_from (emitted_router e g)))
         (silent (emitted_router e g) p (λ x h up. (let some = only_class e plan few g first p at x h up in let none = ap is_some is in cc)))

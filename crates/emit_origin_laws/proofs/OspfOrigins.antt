@@ -45,7 +45,8 @@ origin_of r p cost is = step r.bgp is
     step (Some process) is = absurd (by (is_announced r process p) is)
 
 -- an interface of a process is in its area
-in_process : (area : ℕ) (class xs : List Interface) (x : Interface) (a : Address) → In xs x → x.address ≡ Some a → process_has_address (ospf_on area class xs) a ≡ true
+in_process : (area : ℕ) (class xs : List Interface) (x : Interface) (a : Address) → In xs x → x.address ≡ Some a →
+    process_has_address (ospf_on area class xs) a ≡ true
 in_process area class [] x a h has = absurd h
 in_process area class (y ∷ xs) x a h has =
     let line : AreaLine = record { addr = a.addr; wild = 0; area = area; line = 0 } in
@@ -53,7 +54,8 @@ in_process area class (y ∷ xs) x a h has =
     (in_filter_map (host_area_line area) (y ∷ xs) x line h (ap (option_map (λ (b : Address). record { addr = b.addr; wild = 0; area = area; line = 0 })) has))
     (same_number (bit_or a.addr 0) (bit_or a.addr 0) refl)
 
-module _ (e : Plan) (plan : IsPlan e) (few : length e.links ≤ 1048576) (ospf : e.problem.protocol ≡ OverOspf) (p : Prefix) (at : Contains e.class.prefixes p) (g : ℕ) (first : HasFirst e g) (cost : ℕ) (is : initial_route first.router p ≡ Some (Some cost)) where
+module _ (e : Plan) (plan : IsPlan e) (few : length e.links ≤ 1048576) (ospf : e.problem.protocol ≡ OverOspf) (p : Prefix) (at : Contains e.class.prefixes p)
+    (g : ℕ) (first : HasFirst e g) (cost : ℕ) (is : initial_route first.router p ≡ Some (Some cost)) where
   pub ospf_start : start_route p (emitted_router e g) ≡ start_route p first.router
   ospf_start =
       let from = origin_of first.router p cost is in
@@ -69,20 +71,25 @@ module _ (e : Plan) (plan : IsPlan e) (few : length e.links ≤ 1048576) (ospf :
       ∙ ap (λ q. process_has_address (ospf_of q e g) (bare_address a.0)) ospf
       ∙ in_process (area_number e) (class_interfaces e g) (class_interfaces e g ++ link_interfaces e g) x (bare_address a.0) x_in address in
       let x_up : is_up_in p x ≡ true = up_in p x (bare_address a.0) address a.2 in
-      let one : (y : Interface) → In (class_interfaces e g ++ link_interfaces e g) y → (is_in_area_interface (emitted_router e g) y && is_up_in p y) ≡ true → y ≡ x =
+      let one : (y : Interface) → In (class_interfaces e g ++ link_interfaces e g) y → (is_in_area_interface (emitted_router e g) y && is_up_in p y) ≡ true →
+      y ≡ x =
       λ y h passes. (
       let b = up_in_is p y (parts (is_in_area_interface (emitted_router e g) y) (is_up_in p y) passes).1 in
       let b_is = up_some y b.0 b.1 in
       elim (pick AreApart (class_interfaces e g ++ link_interfaces e g) x y (interfaces_apart e plan few g) x_in h) [
         | inl same ↦ sym same
-        | inr (inl away) ↦ absurd (let clear = away.apart (bare_address a.0) b.0 address b_is in let over = subnets_overlap b.0 (bare_address a.0) (b.2 ∙ sym a.2) in cc)
-        | inr (inr away) ↦ absurd (let clear = away.apart b.0 (bare_address a.0) b_is address in let over = subnets_overlap (bare_address a.0) b.0 (a.2 ∙ sym b.2) in cc)
+        | inr (inl away) ↦ absurd (let clear = away.apart (bare_address a.0) b.0 address b_is in let over =
+            subnets_overlap b.0 (bare_address a.0) (b.2 ∙ sym a.2) in cc)
+        | inr (inr away) ↦ absurd (let clear = away.apart b.0 (bare_address a.0) b_is address in let over =
+            subnets_overlap (bare_address a.0) b.0 (a.2 ∙ sym b.2) in cc)
       ]) in
       let area : area_interface_in (emitted_router e g) p ≡ Some x =
-      one_passes (λ y. is_in_area_interface (emitted_router e g) y && is_up_in p y) (class_interfaces e g ++ link_interfaces e g) x x_in (both (is_in_area_interface (emitted_router e g) x) (is_up_in p x) in_area x_up) one in
+      one_passes (λ y. is_in_area_interface (emitted_router e g) y && is_up_in p y) (class_interfaces e g ++ link_interfaces e g) x x_in
+      (both (is_in_area_interface (emitted_router e g) x) (is_up_in p x) in_area x_up) one in
       let own : x.cost ≡ Some cost = ap (λ q. cost_over q from.origin) ospf ∙ from.costs in
       let costs : cost_of_interface x ≡ Some cost = ap (λ (o : Option ℕ). if is_some o then o else default_cost_of (type_of x)) own in
-      ap (λ (o : Option BgpProcess). option_map (route_from (emitted_router e g)) (route_by_process (emitted_router e g) o p)) (ap (λ q. written_bgp q e g) ospf)
+      ap (λ (o : Option BgpProcess). option_map (route_from (emitted_router e g)) (route_by_process (emitted_router e g) o p))
+      (ap (λ q. written_bgp q e g) ospf)
       ∙ ap (λ (o : Option Interface). option_map (route_from (emitted_router e g)) (option_map cost_of_interface o)) area
       ∙ ap (λ (o : Option ℕ). Some (route_from (emitted_router e g) o)) costs
       ∙ sym (ap (option_map (route_from first.router)) is)

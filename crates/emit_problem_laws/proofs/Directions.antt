@@ -35,7 +35,8 @@ link_t e links t =
 abbrev pub direction : Plan → ℕ → ℕ → ℕ → Direction
 direction e t g h = record { link = t; importer = g; exporter = h; importer_item = item_at e g t; exporter_item = item_at e h t }
 
-pub is_direction : (e : Plan) → HasLinks e → (t : ℕ) (l : QLink) (g h : ℕ) → slice_get e.links t ≡ Some l → IsJoined l g h → IsDirection (emitted e) (direction e t g h)
+pub is_direction : (e : Plan) → HasLinks e → (t : ℕ) (l : QLink) (g h : ℕ) → slice_get e.links t ≡ Some l → IsJoined l g h →
+    IsDirection (emitted e) (direction e t g h)
 is_direction e links t l g h at (inl j) =
     inl (link_t e links t ∙ ap (option_map (λ (m : QLink). link_at e (t, m))) at
     ∙ ap (λ (x : ℕ). Some (record { low = x; high = l.high; low_item = item_at e x t; high_item = item_at e l.high t })) j.0
@@ -53,21 +54,35 @@ pub record IsOfLink (e : Plan) (d : Direction) : Type 0 where
   pub importer_item : d.importer_item ≡ item_at e d.importer d.link
   pub exporter_item : d.exporter_item ≡ item_at e d.exporter d.link
 
-from_low : (e : Plan) (d : Direction) (o : Option QLink) → slice_get e.links d.link ≡ o → option_map (λ (l : QLink). link_at e (d.link, l)) o ≡ Some (low_imports d) → IsOfLink e d
+from_low : (e : Plan) (d : Direction) (o : Option QLink) → slice_get e.links d.link ≡ o →
+    option_map (λ (l : QLink). link_at e (d.link, l)) o ≡ Some (low_imports d) → IsOfLink e d
 from_low e d None at is = absurd cc
 from_low e d (Some l) at is =
     let same : link_at e (d.link, l) ≡ low_imports d = cc in
     let low : l.low ≡ d.importer = ap (λ (x : Link). x.low) same in
     let high : l.high ≡ d.exporter = ap (λ (x : Link). x.high) same in
-    record { link = l; at = at; joined = inl (low, high); importer_item = sym (ap (λ (x : Link). x.low_item) same) ∙ ap (λ g. item_at e g d.link) low; exporter_item = sym (ap (λ (x : Link). x.high_item) same) ∙ ap (λ g. item_at e g d.link) high }
+    record {
+      link = l;
+      at = at;
+      joined = inl (low, high);
+      importer_item = sym (ap (λ (x : Link). x.low_item) same) ∙ ap (λ g. item_at e g d.link) low;
+      exporter_item = sym (ap (λ (x : Link). x.high_item) same) ∙ ap (λ g. item_at e g d.link) high;
+    }
 
-from_high : (e : Plan) (d : Direction) (o : Option QLink) → slice_get e.links d.link ≡ o → option_map (λ (l : QLink). link_at e (d.link, l)) o ≡ Some (high_imports d) → IsOfLink e d
+from_high : (e : Plan) (d : Direction) (o : Option QLink) → slice_get e.links d.link ≡ o →
+    option_map (λ (l : QLink). link_at e (d.link, l)) o ≡ Some (high_imports d) → IsOfLink e d
 from_high e d None at is = absurd cc
 from_high e d (Some l) at is =
     let same : link_at e (d.link, l) ≡ high_imports d = cc in
     let low : l.low ≡ d.exporter = ap (λ (x : Link). x.low) same in
     let high : l.high ≡ d.importer = ap (λ (x : Link). x.high) same in
-    record { link = l; at = at; joined = inr (high, low); importer_item = sym (ap (λ (x : Link). x.high_item) same) ∙ ap (λ g. item_at e g d.link) high; exporter_item = sym (ap (λ (x : Link). x.low_item) same) ∙ ap (λ g. item_at e g d.link) low }
+    record {
+      link = l;
+      at = at;
+      joined = inr (high, low);
+      importer_item = sym (ap (λ (x : Link). x.high_item) same) ∙ ap (λ g. item_at e g d.link) high;
+      exporter_item = sym (ap (λ (x : Link). x.low_item) same) ∙ ap (λ g. item_at e g d.link) low;
+    }
 
 pub of_link : (e : Plan) → HasLinks e → (d : Direction) → IsDirection (emitted e) d → IsOfLink e d
 of_link e links d (inl is) = from_low e d (slice_get e.links d.link) refl (sym (link_t e links d.link) ∙ is)
@@ -76,8 +91,10 @@ of_link e links d (inr is) = from_high e d (slice_get e.links d.link) refl (sym 
 -- a direction of a link is the one of its ends
 pub one_direction : (e : Plan) (d : Direction) → IsOfLink e d → direction e d.link d.importer d.exporter ≡ d
 one_direction e d is =
-    ap (λ (i : ℕ). record { link = d.link; importer = d.importer; exporter = d.exporter; importer_item = i; exporter_item = item_at e d.exporter d.link }) (sym is.importer_item)
-    ∙ ap (λ (i : ℕ). record { link = d.link; importer = d.importer; exporter = d.exporter; importer_item = d.importer_item; exporter_item = i }) (sym is.exporter_item)
+    ap (λ (i : ℕ). record { link = d.link; importer = d.importer; exporter = d.exporter; importer_item = i; exporter_item = item_at e d.exporter d.link })
+    (sym is.importer_item)
+    ∙ ap (λ (i : ℕ). record { link = d.link; importer = d.importer; exporter = d.exporter; importer_item = d.importer_item; exporter_item = i })
+    (sym is.exporter_item)
 
 or_right : (a b : Bool) → b ≡ true → (a || b) ≡ true
 or_right true b e = refl

@@ -22,7 +22,8 @@ use Rattle.emit_link_laws.specs.Laws.{first_item, links_before, item_at}
 pub numbered_at : {X : Type 0} (n : ℕ) (xs : List X) (k : ℕ) → slice_get (enumerate_from n xs) k ≡ option_map (λ x. (n + k, x)) (slice_get xs k)
 numbered_at n [] k = refl
 numbered_at {X} n (x ∷ xs) zero = ap (λ (m : ℕ). Some (m, x)) (let e : n ≡ n + 0 = omega arith in e)
-numbered_at {X} n (x ∷ xs) (suc k) = numbered_at (n + 1) xs k ∙ ap (λ (m : ℕ). option_map (λ (y : X). (m, y)) (slice_get xs k)) (let e : n + 1 + k ≡ n + suc k = omega arith in e)
+numbered_at {X} n (x ∷ xs) (suc k) = numbered_at (n + 1) xs k
+    ∙ ap (λ (m : ℕ). option_map (λ (y : X). (m, y)) (slice_get xs k)) (let e : n + 1 + k ≡ n + suc k = omega arith in e)
 
 behind : {X : Type 0} (xs ys : List X) (k : ℕ) → slice_get (xs ++ ys) (length xs + k) ≡ slice_get ys k
 behind [] ys k = ap (slice_get ys) (let e : 0 + k ≡ k = omega arith in e)
@@ -32,12 +33,14 @@ kept_first : (m : ℕ) (x : QLink) (rest : List (ℕ × QLink)) (b : Bool) → b
 kept_first m x rest true e = refl
 kept_first m x rest false e = absurd cc
 
-kept_later : (m : ℕ) (x : QLink) (rest : List (ℕ × QLink)) (before : List QLink) (b : Bool) → slice_get (cond b ((m, x) ∷ rest) rest) (length (cond b (x ∷ before) before)) ≡ slice_get rest (length before)
+kept_later : (m : ℕ) (x : QLink) (rest : List (ℕ × QLink)) (before : List QLink) (b : Bool) →
+    slice_get (cond b ((m, x) ∷ rest) rest) (length (cond b (x ∷ before) before)) ≡ slice_get rest (length before)
 kept_later m x rest before true = refl
 kept_later m x rest before false = refl
 
 -- a link of a group stands behind as many of its links as stand before it
-kept_at : (g n k : ℕ) (links : List QLink) (l : QLink) → slice_get links k ≡ Some l → touches g l ≡ true → slice_get (filter (is_at g) (enumerate_from n links)) (links_before links g k) ≡ Some (n + k, l)
+kept_at : (g n k : ℕ) (links : List QLink) (l : QLink) → slice_get links k ≡ Some l → touches g l ≡ true →
+    slice_get (filter (is_at g) (enumerate_from n links)) (links_before links g k) ≡ Some (n + k, l)
 kept_at g n k [] l at touching = absurd cc
 kept_at g n zero (x ∷ xs) l at touching =
     let same : x ≡ l = cc in
@@ -49,7 +52,8 @@ kept_at g n (suc k) (x ∷ xs) l at touching =
     ∙ kept_at g (n + 1) k xs l at touching
     ∙ ap (λ (m : ℕ). Some (m, l)) (let e : n + 1 + k ≡ n + suc k = omega arith in e)
 
-pub link_at_place : (e : Plan) (g t : ℕ) (l : QLink) → slice_get e.links t ≡ Some l → touches g l ≡ true → slice_get (links_at e g) (links_before e.links g t) ≡ Some (t, l)
+pub link_at_place : (e : Plan) (g t : ℕ) (l : QLink) → slice_get e.links t ≡ Some l → touches g l ≡ true →
+    slice_get (links_at e g) (links_before e.links g t) ≡ Some (t, l)
 unfolding links_at
 link_at_place e g t l at touching = kept_at g 0 t e.links l at touching ∙ ap (λ (m : ℕ). Some (m, l)) (let s : 0 + t ≡ t = omega arith in s)
 
@@ -63,7 +67,8 @@ interface_at_item e over g t l at touching =
     ∙ behind (class_interfaces e g) (link_interfaces e g) (links_before e.links g t)
     ∙ slice_get-map (link_interface e g) (enumerate_from 1 (links_at e g)) (links_before e.links g t)
     ∙ ap (option_map (link_interface e g)) (numbered_at 1 (links_at e g) (links_before e.links g t))
-    ∙ ap (λ (o : Option (ℕ × QLink)). option_map (link_interface e g) (option_map (λ (y : ℕ × QLink). (1 + links_before e.links g t, y)) o)) (link_at_place e g t l at touching)
+    ∙ ap (λ (o : Option (ℕ × QLink)). option_map (link_interface e g) (option_map (λ (y : ℕ × QLink). (1 + links_before e.links g t, y)) o))
+    (link_at_place e g t l at touching)
 
 -- ---- BGP
 
@@ -74,7 +79,8 @@ runs_bgp e over g some =
     not_none : (m : ℕ) → m ≢ 0 → nat_eq m 0 ≡ false
     not_none m some = grind (arith, nat_tests)
 
-pub neighbor_at_item : (e : Plan) → e.problem.protocol ≡ OverBgp → (g t : ℕ) (l : QLink) → number (small e) g ≢ 0 → slice_get e.links t ≡ Some l → touches g l ≡ true
+pub neighbor_at_item : (e : Plan) → e.problem.protocol ≡ OverBgp → (g t : ℕ) (l : QLink) → number (small e) g ≢ 0 → slice_get e.links t ≡ Some l →
+    touches g l ≡ true
     → slice_get (neighbors_of (emitted_router e g)) (item_at e g t) ≡ Some (neighbor_at e g (t, l))
 neighbor_at_item e over g t l some at touching =
     ap (λ (o : Option BgpProcess). slice_get (option_map_or (λ (process : BgpProcess). process.neighbors) o []) (item_at e g t)) (runs_bgp e over g some)

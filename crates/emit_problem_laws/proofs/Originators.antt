@@ -25,7 +25,8 @@ or_none true = refl
 or_none false = refl
 
 among : (ps : List Prefix) (p : Prefix) → In (with_prefixes ps []) p → In ps p
-among ps p at = has_in ps p (sym (or_none (has_prefix ps p)) ∙ sym (has-with_prefixes ps [] p) ∙ any_in (same_prefix p) (with_prefixes ps []) p at (same_prefix-self p))
+among ps p at = has_in ps p (sym (or_none (has_prefix ps p)) ∙ sym (has-with_prefixes ps [] p)
+    ∙ any_in (same_prefix p) (with_prefixes ps []) p at (same_prefix-self p))
 
 pub record HasOrigin (n : Network) (class : DestClass) : Type 0 where
   pub prefix : Prefix
@@ -43,7 +44,8 @@ of_class n class of =
     let same = is_one_class n p p (record { origins = refl; answers = refl }) in
     record {
       prefix = p;
-      has = subst (λ (c : DestClass). Contains c.prefixes p) of.is (contains_in (class_of n p).prefixes p (in_filter (is_same_class n p) (originated n) p of.originates same));
+      has = subst (λ (c : DestClass). Contains c.prefixes p) of.is
+          (contains_in (class_of n p).prefixes p (in_filter (is_same_class n p) (originated n) p of.originates same));
       router = from.0;
       router_in = from.1;
       originates = kept.1;

@@ -59,15 +59,19 @@ turned_direction n d (inr is) = inl is
 
 -- ---- an act of the problem
 
-pub act_within : (e : Plan) → IsPlan e → (law : QuotientCarries) → (g h k : ℕ) (l : QLink) → In e.links l → IsJoined l g h → edge_into e.problem.protocol e.links g l ≡ Some k → act_at e.problem.edges k < length e.problem.acts
+pub act_within : (e : Plan) → IsPlan e → (law : QuotientCarries) → (g h k : ℕ) (l : QLink) → In e.links l → IsJoined l g h →
+    edge_into e.problem.protocol e.links g l ≡ Some k → act_at e.problem.edges k < length e.problem.acts
 act_within e plan law g h k l at joined into =
-    let b = (into_real e.problem.protocol e.problem.edges e.groups e.count e.links (carries e plan law) l g h k (contains_in e.links l at) joined into).between in
+    let b = (into_real e.problem.protocol e.problem.edges e.groups e.count e.links (carries e plan law) l g h k (contains_in e.links l at) joined into).between
+    in
     let within = ((problem_of e plan).of.rules.edges.inside b.edge b.has).act_in in
     let does = b.does in
     omega arith
 
-pub act_fits : (e : Plan) → IsPlan e → (law : QuotientCarries) → (g h k : ℕ) (l : QLink) → In e.links l → IsJoined l g h → edge_into e.problem.protocol e.links g l ≡ Some k → IsActOf e.problem.protocol (act_of_place e k)
-act_fits e plan law g h k l at joined into = (problem_of e plan).of.rules.acts.fit (act_at e.problem.edges k) (Cost 0) (act_within e plan law g h k l at joined into)
+pub act_fits : (e : Plan) → IsPlan e → (law : QuotientCarries) → (g h k : ℕ) (l : QLink) → In e.links l → IsJoined l g h →
+    edge_into e.problem.protocol e.links g l ≡ Some k → IsActOf e.problem.protocol (act_of_place e k)
+act_fits e plan law g h k l at joined into =
+    (problem_of e plan).of.rules.acts.fit (act_at e.problem.edges k) (Cost 0) (act_within e plan law g h k l at joined into)
 
 module _ (e : Plan) (plan : IsPlan e) (law : QuotientCarries) (over : e.problem.protocol ≡ OverOspf) (links : HasLinks e) where
   side_first : (l : QLink) (g k : ℕ) → side_of g l ≡ Some k → edge_into e.problem.protocol e.links g l ≡ Some k
@@ -89,13 +93,17 @@ module _ (e : Plan) (plan : IsPlan e) (law : QuotientCarries) (over : e.problem.
       let there = (carry.real l h g used.0 has (turned l g h joined) used.1).between in
       let stands = p.of.edges_stand there.edge there.has in
       let d = other_way stands.0 in
-      let back = p.of.edges_all d (turned_direction e.network stands.0 stands.1.is_direction) (subst (λ (q : Protocol). IsEdgeDirection q e.network p.prefix d) (sym over) tt) in
+      let back = p.of.edges_all d (turned_direction e.network stands.0 stands.1.is_direction)
+      (subst (λ (q : Protocol). IsEdgeDirection q e.network p.prefix d) (sym over) tt) in
       let importer : slice_index e.groups back.0.importer ≡ g = ap (slice_index e.groups) (back.2.importer ∙ sym stands.1.exporter) ∙ there.exporter in
       let exporter : slice_index e.groups back.0.exporter ≡ h = ap (slice_index e.groups) (back.2.exporter ∙ sym stands.1.importer) ∙ there.importer in
       let below = carry.below l has in
-      let kept = carry.kept g h back.0.act (apart l g h below.ordered joined) (record { edge = back.0; has = back.1; importer = importer; exporter = exporter; does = refl }) in
+      let kept = carry.kept g h back.0.act (apart l g h below.ordered joined)
+      (record { edge = back.0; has = back.1; importer = importer; exporter = exporter; does = refl }) in
       let same = same_ends l kept.link g h below.ordered (carry.below kept.link kept.has).ordered joined kept.joined in
-      last_some (filter_map (side_of g) (filter (same_pair l) e.links)) kept.edge (in_filter_map (side_of g) (filter (same_pair l) e.links) kept.link kept.edge (in_filter (same_pair l) e.links kept.link (in_contains e.links kept.link kept.has) same) kept.side)
+      last_some (filter_map (side_of g) (filter (same_pair l) e.links)) kept.edge
+      (in_filter_map (side_of g) (filter (same_pair l) e.links) kept.link kept.edge
+      (in_filter (same_pair l) e.links kept.link (in_contains e.links kept.link kept.has) same) kept.side)
     where
       apart : (l : QLink) (g h : ℕ) → l.low < l.high → IsJoined l g h → g ≢ h
       apart l g h less (inl j) same = let x = j.0 in let y = j.1 in absurd (omega arith)
@@ -110,14 +118,16 @@ module _ (e : Plan) (plan : IsPlan e) (law : QuotientCarries) (over : e.problem.
 
   -- ---- costs
 
-  cost_at : (g h t k c : ℕ) (l : QLink) → slice_get e.links t ≡ Some l → IsJoined l g h → edge_into e.problem.protocol e.links g l ≡ Some k → act_of_place e k ≡ Cost c → cost_of (emitted_router e g) (item_at e g t) ≡ Some c
+  cost_at : (g h t k c : ℕ) (l : QLink) → slice_get e.links t ≡ Some l → IsJoined l g h → edge_into e.problem.protocol e.links g l ≡ Some k →
+      act_of_place e k ≡ Cost c → cost_of (emitted_router e g) (item_at e g t) ≡ Some c
   cost_at g h t k c l at joined into act =
       let x = link_interface e g (1 + links_before e.links g t, (t, l)) in
       let given : x.cost ≡ Some c = ap (λ (o : Option ℕ). option_and_then cost_by (option_map (act_of_place e) o)) into ∙ ap (λ (a : Act). cost_by a) act in
       ap (λ (o : Option Interface). option_and_then cost_of_interface o) (interface_at_item e over g t l at (touched l g h joined))
       ∙ ap (λ (o : Option ℕ). if is_some o then o else default_cost_of (type_of x)) given
 
-  means_cost : (p : Prefix) (g h t k : ℕ) (l : QLink) (a : Act) → slice_get e.links t ≡ Some l → IsJoined l g h → edge_into e.problem.protocol e.links g l ≡ Some k → act_of_place e k ≡ a → IsActOf OverOspf a → Means (emitted e) p (direction e t g h) a
+  means_cost : (p : Prefix) (g h t k : ℕ) (l : QLink) (a : Act) → slice_get e.links t ≡ Some l → IsJoined l g h →
+      edge_into e.problem.protocol e.links g l ≡ Some k → act_of_place e k ≡ a → IsActOf OverOspf a → Means (emitted e) p (direction e t g h) a
   means_cost p g h t k l (Import out sends into_map) at joined into act fits = absurd fits
   means_cost p g h t k l (Cost c) at joined into act fits = record {
     importer = emitted_router e g;
@@ -125,7 +135,8 @@ module _ (e : Plan) (plan : IsPlan e) (law : QuotientCarries) (over : e.problem.
     same = cost_at g h t k c l at joined into act;
   }
 
-  stands : (p : Prefix) (g h t k : ℕ) (l : QLink) → slice_get e.links t ≡ Some l → IsJoined l g h → edge_into e.problem.protocol e.links g l ≡ Some k → StandsFor (small e) (emitted e) p (lower_edge e.problem.edges t g h k) (direction e t g h)
+  stands : (p : Prefix) (g h t k : ℕ) (l : QLink) → slice_get e.links t ≡ Some l → IsJoined l g h → edge_into e.problem.protocol e.links g l ≡ Some k →
+      StandsFor (small e) (emitted e) p (lower_edge e.problem.edges t g h k) (direction e t g h)
   unfolding quotient_problem
   stands p g h t k l at joined into = record {
     is_direction = is_direction e links t l g h at joined;
@@ -133,7 +144,8 @@ module _ (e : Plan) (plan : IsPlan e) (law : QuotientCarries) (over : e.problem.
     link = refl;
     importer = refl;
     exporter = refl;
-    means = means_cost p g h t k l (act_of_place e k) at joined into refl (subst (λ (q : Protocol). IsActOf q (act_of_place e k)) over (act_fits e plan law g h k l (get_in e.links t l at) joined into));
+    means = means_cost p g h t k l (act_of_place e k) at joined into refl
+        (subst (λ (q : Protocol). IsActOf q (act_of_place e k)) over (act_fits e plan law g h k l (get_in e.links t l at) joined into));
   }
 
   pub ospf_stand : (p : Prefix) (edge : Edge) → Contains (small e).edges edge → (d : Direction) × StandsFor (small e) (emitted e) p edge d
@@ -143,7 +155,8 @@ module _ (e : Plan) (plan : IsPlan e) (law : QuotientCarries) (over : e.problem.
       let d = direction e f.place f.to f.from in
       (d, subst (λ (x : Edge). StandsFor (small e) (emitted e) p x d) f.is (stands p f.to f.from f.place f.k f.link f.at f.joined f.into))
 
-  pub ospf_all : (p : Prefix) (d : Direction) → IsDirection (emitted e) d → (edge : Edge) × Contains (small e).edges edge × StandsFor (small e) (emitted e) p edge d
+  pub ospf_all : (p : Prefix) (d : Direction) → IsDirection (emitted e) d → (edge : Edge) × Contains (small e).edges edge
+      × StandsFor (small e) (emitted e) p edge d
   unfolding quotient_problem
   ospf_all p d is =
       let f = of_link e links d is in
@@ -151,6 +164,8 @@ module _ (e : Plan) (plan : IsPlan e) (law : QuotientCarries) (over : e.problem.
       let k = both_ways f.link d.importer d.exporter at f.joined in
       let edge = lower_edge e.problem.edges d.link d.importer d.exporter k.0 in (
         edge,
-        contains_in (small e).edges edge (to_edge e.problem.protocol e.problem.edges e.count e.links (plan_between e plan) d.link f.link d.importer d.exporter k.0 f.at f.joined k.1),
-        subst (λ (x : Direction). StandsFor (small e) (emitted e) p edge x) (one_direction e d f) (stands p d.importer d.exporter d.link k.0 f.link f.at f.joined k.1),
+        contains_in (small e).edges edge (to_edge e.problem.protocol e.problem.edges e.count e.links (plan_between e plan) d.link f.link d.importer d.exporter
+            k.0 f.at f.joined k.1),
+        subst (λ (x : Direction). StandsFor (small e) (emitted e) p edge x) (one_direction e d f)
+            (stands p d.importer d.exporter d.link k.0 f.link f.at f.joined k.1),
       )

@@ -25,7 +25,8 @@ pod_count half pod =
 pub switch_count : (half : ℕ) → length (switches half) ≡ 5 * (half * half)
 switch_count half =
     let cores : length (core_switches half) ≡ half * half = length-map-range_with_len (λ number. Core number) 0 (half * half) in
-    let pods : length (flat_map (pod_switches half) (range_with_len 0 (2 * half))) ≡ (2 * half) * (half + half) = joined_length (pod_switches half) (half + half) 0 (2 * half) (pod_count half) in
+    let pods : length (flat_map (pod_switches half) (range_with_len 0 (2 * half))) ≡ (2 * half) * (half + half) =
+    joined_length (pod_switches half) (half + half) 0 (2 * half) (pod_count half) in
     omega (arith, length-append (core_switches half) (flat_map (pod_switches half) (range_with_len 0 (2 * half))))
 
 switch_cable_count : (half pod number : ℕ) → length (switch_cables half pod number) ≡ half + half
@@ -37,7 +38,8 @@ switch_cable_count half pod number =
 pub cable_count : (half : ℕ) → length (cables half) ≡ 4 * (half * half * half)
 cable_count half =
     let whole : length (cables half) ≡ (2 * half) * (half * (half + half)) =
-    joined_length (pod_cables half) (half * (half + half)) 0 (2 * half) (λ pod. joined_length (switch_cables half pod) (half + half) 0 half (switch_cable_count half pod)) in
+    joined_length (pod_cables half) (half * (half + half)) 0 (2 * half)
+    (λ pod. joined_length (switch_cables half pod) (half + half) 0 half (switch_cable_count half pod)) in
     omega arith
 
 pub few_switches : (half : ℕ) → half ≤ 10 → length (switches half) ≤ 500

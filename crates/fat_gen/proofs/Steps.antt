@@ -6,12 +6,15 @@ use Rattle.std.proofs.lemmas.List.FromFn.{map-range_with_len_more}
 use Rattle.std.proofs.lemmas.Result.{on_ok_weaker}
 
 -- the items of a function, from a on
-pub one_more : {X : Type 0} (f : ℕ → X) (old now new : List X) (a n j : ℕ) → a + n ≡ j → new ≡ now ++ f j ∷ [] → now ≡ old ++ map f (range_with_len a n) → new ≡ old ++ map f (range_with_len a (n + 1))
+pub one_more : {X : Type 0} (f : ℕ → X) (old now new : List X) (a n j : ℕ) → a + n ≡ j → new ≡ now ++ f j ∷ [] → now ≡ old ++ map f (range_with_len a n) →
+    new ≡ old ++ map f (range_with_len a (n + 1))
 one_more f old now new a n j at step before =
-    step ∙ ap (λ l. l ++ f j ∷ []) before ∙ append_assoc old (map f (range_with_len a n)) (f j ∷ []) ∙ ap (λ l. old ++ l) (sym (map-range_with_len_more f a n j at))
+    step ∙ ap (λ l. l ++ f j ∷ []) before ∙ append_assoc old (map f (range_with_len a n)) (f j ∷ [])
+    ∙ ap (λ l. old ++ l) (sym (map-range_with_len_more f a n j at))
 
 -- the same, up to a place
-pub one_more_to : {X : Type 0} (f : ℕ → X) (old now new : List X) (a j : ℕ) → a ≤ j → new ≡ now ++ f j ∷ [] → now ≡ old ++ map f (range_with_len a (j - a)) → new ≡ old ++ map f (range_with_len a (j + 1 - a))
+pub one_more_to : {X : Type 0} (f : ℕ → X) (old now new : List X) (a j : ℕ) → a ≤ j → new ≡ now ++ f j ∷ [] → now ≡ old ++ map f (range_with_len a (j - a)) →
+    new ≡ old ++ map f (range_with_len a (j + 1 - a))
 one_more_to f old now new a j after step before =
     let at : a + (j - a) ≡ j = omega arith in
     let more : (j - a) + 1 ≡ j + 1 - a = omega arith in
@@ -23,7 +26,8 @@ range_step i n less =
     ap (range_with_len i) more
 
 -- the lists of a function, of which those from i on are left
-pub one_less : {X : Type 0} (f : ℕ → List X) (old new whole : List X) (i n : ℕ) → i < n → new ≡ old ++ f i → old ++ flat_map f (range_with_len i (n - i)) ≡ whole
+pub one_less : {X : Type 0} (f : ℕ → List X) (old new whole : List X) (i n : ℕ) → i < n → new ≡ old ++ f i →
+    old ++ flat_map f (range_with_len i (n - i)) ≡ whole
     → new ++ flat_map f (range_with_len (i + 1) (n - (i + 1))) ≡ whole
 one_less f old new whole i n less step before =
     ap (λ t. t ++ flat_map f (range_with_len (i + 1) (n - (i + 1)))) step

@@ -45,7 +45,9 @@ end_at line _ = tt
 
 ip_address_at : (line : ℕ) (words : List (List ℕ)) → IfOk (ip_address_form line words) (IsAddressAt line)
 unfolding ip_address_form
-ip_address_at line (_ ∷ _ ∷ address ∷ mask ∷ []) = given IsAny (IsAddressAt line) _ _ (anything (address_word address)) (λ addr any. given IsAny (IsAddressAt line) _ _ (anything (mask_len_of mask)) (λ len any. refl))
+ip_address_at line (_ ∷ _ ∷ address ∷ mask ∷ []) =
+    given IsAny (IsAddressAt line) _ _ (anything (address_word address))
+    (λ addr any. given IsAny (IsAddressAt line) _ _ (anything (mask_len_of mask)) (λ len any. refl))
 ip_address_at line _ = tt
 
 cost_at : (line : ℕ) (words : List (List ℕ)) → IfOk (cost_form words) (IsAddressAt line)
@@ -69,14 +71,17 @@ net_at line addr len = given IsAny (IsAddressAt line) _ _ (anything (exact_prefi
 
 network_at : (line : ℕ) (words : List (List ℕ)) → IfOk (network_form line words) (IsAddressAt line)
 unfolding network_form
-network_at line (_ ∷ address ∷ []) = given IsAny (IsAddressAt line) _ _ (anything (address_word address)) (λ addr any. given IsAny (IsAddressAt line) _ _ (anything (classful_len_of addr)) (λ len any. net_at line addr len))
+network_at line (_ ∷ address ∷ []) = given IsAny (IsAddressAt line) _ _ (anything (address_word address))
+    (λ addr any. given IsAny (IsAddressAt line) _ _ (anything (classful_len_of addr)) (λ len any. net_at line addr len))
 network_at line (_ ∷ address ∷ word ∷ mask ∷ []) =
     fits (IsAddressAt line) (bytes_eq word (codes "mask")) _ (λ e. given IsAny (IsAddressAt line) _ _ (anything (address_word address)) (λ addr any. given IsAny (IsAddressAt line) _ _ (anything (mask_len_of mask)) (λ len any. net_at line addr len)))
 network_at line _ = tt
 
 remote_as_at : (line : ℕ) (words : List (List ℕ)) → IfOk (remote_as_form words) (IsAddressAt line)
 unfolding remote_as_form
-remote_as_at line (_ ∷ address ∷ _ ∷ number ∷ []) = given IsAny (IsAddressAt line) _ _ (anything (address_word address)) (λ addr any. given IsAny (IsAddressAt line) _ _ (anything (as_number_word number)) (λ n any. tt))
+remote_as_at line (_ ∷ address ∷ _ ∷ number ∷ []) =
+    given IsAny (IsAddressAt line) _ _ (anything (address_word address))
+    (λ addr any. given IsAny (IsAddressAt line) _ _ (anything (as_number_word number)) (λ n any. tt))
 remote_as_at line _ = tt
 
 peer_shut_at : (line : ℕ) (words : List (List ℕ)) → IfOk (peer_shut_form words) (IsAddressAt line)
@@ -87,26 +92,33 @@ peer_shut_at line _ = tt
 peer_sends_at : (line : ℕ) (words : List (List ℕ)) → IfOk (peer_sends_form words) (IsAddressAt line)
 unfolding peer_sends_form
 peer_sends_at line (_ ∷ address ∷ _ ∷ []) = given IsAny (IsAddressAt line) _ _ (anything (address_word address)) (λ addr any. tt)
-peer_sends_at line (_ ∷ address ∷ _ ∷ word ∷ []) = fits (IsAddressAt line) (sends_standard word) _ (λ e. given IsAny (IsAddressAt line) _ _ (anything (address_word address)) (λ addr any. tt))
+peer_sends_at line (_ ∷ address ∷ _ ∷ word ∷ []) =
+    fits (IsAddressAt line) (sends_standard word) _ (λ e. given IsAny (IsAddressAt line) _ _ (anything (address_word address)) (λ addr any. tt))
 peer_sends_at line _ = tt
 
 peer_list_at : (line : ℕ) (words : List (List ℕ)) → IfOk (peer_list_form line words) (IsAddressAt line)
 unfolding peer_list_form
 peer_list_at line (_ ∷ address ∷ _ ∷ name ∷ way ∷ []) =
-    given IsAny (IsAddressAt line) _ _ (anything (address_word address)) (λ addr any. given IsAny (IsAddressAt line) _ _ (anything (is_inward way)) (λ inward any. after IsAny (IsAddressAt line) _ _ (any_result (named_of line name)) (λ list any. tt)))
+    given IsAny (IsAddressAt line) _ _ (anything (address_word address))
+    (λ addr any. given IsAny (IsAddressAt line) _ _ (anything (is_inward way))
+    (λ inward any. after IsAny (IsAddressAt line) _ _ (any_result (named_of line name)) (λ list any. tt)))
 peer_list_at line _ = tt
 
 peer_map_at : (line : ℕ) (words : List (List ℕ)) → IfOk (peer_map_form line words) (IsAddressAt line)
 unfolding peer_map_form
 peer_map_at line (_ ∷ address ∷ _ ∷ name ∷ way ∷ []) =
-    given IsAny (IsAddressAt line) _ _ (anything (address_word address)) (λ addr any. given IsAny (IsAddressAt line) _ _ (anything (is_inward way)) (λ inward any. after IsAny (IsAddressAt line) _ _ (any_result (named_of line name)) (λ map any. tt)))
+    given IsAny (IsAddressAt line) _ _ (anything (address_word address))
+    (λ addr any. given IsAny (IsAddressAt line) _ _ (anything (is_inward way))
+    (λ inward any. after IsAny (IsAddressAt line) _ _ (any_result (named_of line name)) (λ map any. tt)))
 peer_map_at line _ = tt
 
 area_at : (line : ℕ) (words : List (List ℕ)) → IfOk (area_form line words) (IsAddressAt line)
 unfolding area_form
 area_at line (_ ∷ address ∷ wildcard ∷ word ∷ number ∷ []) =
     fits (IsAddressAt line) (bytes_eq word (codes "area")) _
-    (λ e. given IsAny (IsAddressAt line) _ _ (anything (address_word address)) (λ addr any. given IsAny (IsAddressAt line) _ _ (anything (address_word wildcard)) (λ wild any. given IsAny (IsAddressAt line) _ _ (anything (area_word number)) (λ area any. tt))))
+    (λ e. given IsAny (IsAddressAt line) _ _ (anything (address_word address))
+    (λ addr any. given IsAny (IsAddressAt line) _ _ (anything (address_word wildcard))
+    (λ wild any. given IsAny (IsAddressAt line) _ _ (anything (area_word number)) (λ area any. tt))))
 area_at line _ = tt
 
 passive_at : (line : ℕ) (words : List (List ℕ)) → IfOk (passive_form words) (IsAddressAt line)

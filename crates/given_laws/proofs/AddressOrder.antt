@@ -98,7 +98,8 @@ policy_keeps n _ c idle = refl
 abbrev GrowsAddress : ℕ → Interface → Interface → Type 0
 GrowsAddress n i j = Extends n (option_to_list (address_line_of i)) (option_to_list (address_line_of j))
 
-first_address : (n : ℕ) (before : Option Address) (address : Address) → is_some before ≡ false → address.line ≡ n → Extends n (option_to_list (option_map (λ (a : Address). a.line) before)) (address.line ∷ [])
+first_address : (n : ℕ) (before : Option Address) (address : Address) → is_some before ≡ false → address.line ≡ n →
+    Extends n (option_to_list (option_map (λ (a : Address). a.line) before)) (address.line ∷ [])
 first_address n None address e at = inr (ap (λ (k : ℕ). k ∷ []) at)
 first_address n (Some a) address e at = absurd cc
 
@@ -117,16 +118,23 @@ unfolding take_inner
 inner_grows l closed = tt
 inner_grows l ignored = inl refl
 inner_grows l (in_interface i) =
-    then_said (IsAddressAt l.number) (GrowsOpen l.number (in_interface i)) l.number (router_item_of scope.Interface l.number l.words) _ (address_of_line scope.Interface l.number l.words) (λ said at.
-    then_step (GrowsAddress l.number i) (GrowsOpen l.number (in_interface i)) _ _ (interface_grows l.number said i at) (λ j grows. let out : GrowsOpen l.number (in_interface i) (in_interface j) = grows in out))
+    then_said (IsAddressAt l.number) (GrowsOpen l.number (in_interface i)) l.number (router_item_of scope.Interface l.number l.words) _
+    (address_of_line scope.Interface l.number l.words) (λ said at.
+    then_step (GrowsAddress l.number i) (GrowsOpen l.number (in_interface i)) _ _ (interface_grows l.number said i at)
+    (λ j grows. let out : GrowsOpen l.number (in_interface i) (in_interface j) = grows in out))
 inner_grows l (in_bgp b) =
-    then_said IsAny (GrowsOpen l.number (in_bgp b)) l.number (router_item_of scope.Bgp l.number l.words) _ (any_result (router_item_of scope.Bgp l.number l.words)) (λ said any.
-    then_step IsAny (GrowsOpen l.number (in_bgp b)) (set_bgp l.number said b) _ (any_result (set_bgp l.number said b)) (λ c any. let out : GrowsOpen l.number (in_bgp b) (in_bgp c) = inl refl in out))
+    then_said IsAny (GrowsOpen l.number (in_bgp b)) l.number (router_item_of scope.Bgp l.number l.words) _
+    (any_result (router_item_of scope.Bgp l.number l.words)) (λ said any.
+    then_step IsAny (GrowsOpen l.number (in_bgp b)) (set_bgp l.number said b) _ (any_result (set_bgp l.number said b))
+    (λ c any. let out : GrowsOpen l.number (in_bgp b) (in_bgp c) = inl refl in out))
 inner_grows l (in_ospf o) =
-    then_said IsAny (GrowsOpen l.number (in_ospf o)) l.number (router_item_of scope.Ospf l.number l.words) _ (any_result (router_item_of scope.Ospf l.number l.words)) (λ said any. inl refl)
+    then_said IsAny (GrowsOpen l.number (in_ospf o)) l.number (router_item_of scope.Ospf l.number l.words) _
+    (any_result (router_item_of scope.Ospf l.number l.words)) (λ said any. inl refl)
 inner_grows l (in_entry name e) =
-    then_said IsAny (GrowsOpen l.number (in_entry name e)) l.number (policy_item_of policy_scope.Entry l.number l.words) _ (any_result (policy_item_of policy_scope.Entry l.number l.words)) (λ said any.
-    then_step IsAny (GrowsOpen l.number (in_entry name e)) (set_entry l.number said e) _ (any_result (set_entry l.number said e)) (λ f any. let out : GrowsOpen l.number (in_entry name e) (in_entry name f) = inl refl in out))
+    then_said IsAny (GrowsOpen l.number (in_entry name e)) l.number (policy_item_of policy_scope.Entry l.number l.words) _
+    (any_result (policy_item_of policy_scope.Entry l.number l.words)) (λ said any.
+    then_step IsAny (GrowsOpen l.number (in_entry name e)) (set_entry l.number said e) _ (any_result (set_entry l.number said e))
+    (λ f any. let out : GrowsOpen l.number (in_entry name e) (in_entry name f) = inl refl in out))
 
 -- ---- the state
 
@@ -140,23 +148,30 @@ abbrev GrowsState : ℕ → State → State → Type 0
 GrowsState n s t = Extends n (state_addresses s) (state_addresses t)
 
 -- a draft that keeps the addresses of a closed one, in its state
-in_state : (n : ℕ) (rs : List Router) (d c e : Draft) → IsClosedOf d c → Keeps c e → GrowsState n (record { routers = rs; draft = d }) (record { routers = rs; draft = e })
+in_state : (n : ℕ) (rs : List Router) (d c e : Draft) → IsClosedOf d c → Keeps c e →
+    GrowsState n (record { routers = rs; draft = d }) (record { routers = rs; draft = e })
 in_state n rs d c e of keeps = inl (ap (λ (ks : List ℕ). routers_addresses rs ++ ks) (keeps ∙ of.addresses))
 
-named_grows : (n : ℕ) (rs : List Router) (d c : Draft) (name : Option Named) → IsClosedOf d c → IfOk (named_router n name c) (λ (r : Router). GrowsState n (record { routers = rs; draft = d }) (record { routers = rs ++ r ∷ []; draft = no_draft }))
+named_grows : (n : ℕ) (rs : List Router) (d c : Draft) (name : Option Named) → IsClosedOf d c →
+    IfOk (named_router n name c) (λ (r : Router). GrowsState n (record { routers = rs; draft = d }) (record { routers = rs ++ r ∷ []; draft = no_draft }))
 named_grows n rs d c None of = tt
-named_grows n rs d c (Some host) of = inl (moved (λ (r : Router). filter_map address_line_of r.interfaces) rs _ (draft_addresses d) (sym of.addresses ∙ idle_addresses c of.idle))
+named_grows n rs d c (Some host) of = inl
+    (moved (λ (r : Router). filter_map address_line_of r.interfaces) rs _ (draft_addresses d) (sym of.addresses ∙ idle_addresses c of.idle))
 
-top_grows : (n : ℕ) (said : RouterItem) (rs : List Router) (d c : Draft) → IsClosedOf d c → IfOk (take_top n said (record { routers = rs; draft = c })) (GrowsState n (record { routers = rs; draft = d }))
+top_grows : (n : ℕ) (said : RouterItem) (rs : List Router) (d c : Draft) → IsClosedOf d c →
+    IfOk (take_top n said (record { routers = rs; draft = c })) (GrowsState n (record { routers = rs; draft = d }))
 unfolding take_top
 top_grows n said rs d c of =
     either (GrowsState n (record { routers = rs; draft = d })) (ends_router said) _ _
-    (λ e. then_step (λ (r : Router). GrowsState n (record { routers = rs; draft = d }) (record { routers = rs ++ r ∷ []; draft = no_draft })) (GrowsState n (record { routers = rs; draft = d })) (router_of n c) _ (named_grows n rs d c c.name of) (λ r grows. grows))
-    (λ e. then_step (Keeps c) (GrowsState n (record { routers = rs; draft = d })) (take_line n said c) _ (line_keeps n said c of.idle) (λ x keeps. in_state n rs d c x of keeps))
+    (λ e. then_step (λ (r : Router). GrowsState n (record { routers = rs; draft = d }) (record { routers = rs ++ r ∷ []; draft = no_draft }))
+    (GrowsState n (record { routers = rs; draft = d })) (router_of n c) _ (named_grows n rs d c c.name of) (λ r grows. grows))
+    (λ e. then_step (Keeps c) (GrowsState n (record { routers = rs; draft = d })) (take_line n said c) _ (line_keeps n said c of.idle)
+    (λ x keeps. in_state n rs d c x of keeps))
 
 stanza_state : (n : ℕ) (s : State) (out : Stanza) → GrowsOpen n s.draft.stanza out → GrowsState n s (record s { draft = record s.draft { stanza = out } })
 stanza_state n s out grows =
-    extends_behind n (routers_addresses s.routers) (draft_addresses s.draft) (draft_addresses s.draft) (lines_of_addresses s.draft.interfaces ++ address_open out) refl
+    extends_behind n (routers_addresses s.routers) (draft_addresses s.draft) (draft_addresses s.draft)
+    (lines_of_addresses s.draft.interfaces ++ address_open out) refl
     (extends_behind n (lines_of_addresses s.draft.interfaces) (address_open s.draft.stanza) (address_open s.draft.stanza) (address_open out) refl grows)
 
 one_step : (s : State) (l : TextLine) → IfOk (step s l) (GrowsState l.number s)
@@ -165,11 +180,15 @@ one_step s l =
     let of = closed_of s.draft in
     either (GrowsState l.number s) (l.indent == 0) _ _
     (λ top. either (GrowsState l.number s) (is_policy_line l.words) _ _
-    (λ listed. then_said IsAny (GrowsState l.number s) l.number (policy_item_of policy_scope.Top l.number l.words) _ (any_result (policy_item_of policy_scope.Top l.number l.words)) (λ said any.
-    then_step (Keeps (with_closed s.draft)) (GrowsState l.number s) _ _ (policy_keeps l.number said (with_closed s.draft) of.idle) (λ d keeps. in_state l.number s.routers s.draft (with_closed s.draft) d of keeps)))
-    (λ other. then_said IsAny (GrowsState l.number s) l.number (router_item_of scope.Top l.number l.words) _ (any_result (router_item_of scope.Top l.number l.words)) (λ said any.
+    (λ listed. then_said IsAny (GrowsState l.number s) l.number (policy_item_of policy_scope.Top l.number l.words) _
+    (any_result (policy_item_of policy_scope.Top l.number l.words)) (λ said any.
+    then_step (Keeps (with_closed s.draft)) (GrowsState l.number s) _ _ (policy_keeps l.number said (with_closed s.draft) of.idle)
+    (λ d keeps. in_state l.number s.routers s.draft (with_closed s.draft) d of keeps)))
+    (λ other. then_said IsAny (GrowsState l.number s) l.number (router_item_of scope.Top l.number l.words) _
+    (any_result (router_item_of scope.Top l.number l.words)) (λ said any.
     top_grows l.number said s.routers s.draft (with_closed s.draft) of)))
-    (λ inner. then_step (GrowsOpen l.number s.draft.stanza) (GrowsState l.number s) (take_inner l s.draft.stanza) _ (inner_grows l s.draft.stanza) (λ out grows. stanza_state l.number s out grows))
+    (λ inner. then_step (GrowsOpen l.number s.draft.stanza) (GrowsState l.number s) (take_inner l s.draft.stanza) _ (inner_grows l s.draft.stanza)
+    (λ out grows. stanza_state l.number s out grows))
 
 -- ---- all lines
 
@@ -181,7 +200,8 @@ pub address_steps : (ls : List TextLine) (s : State) (m : ℕ) → AreNumbered m
 unfolding steps
 address_steps [] s m numbered is = (m, is)
 address_steps (l ∷ ls) s m numbered is =
-    then_step (GrowsState l.number s) HasAddressesInOrder (step s l) _ (one_step s l) (λ t grows. address_steps ls t l.number numbered.2 (order_next m l.number (state_addresses s) (state_addresses t) is numbered.0 numbered.1 grows))
+    then_step (GrowsState l.number s) HasAddressesInOrder (step s l) _ (one_step s l)
+    (λ t grows. address_steps ls t l.number numbered.2 (order_next m l.number (state_addresses s) (state_addresses t) is numbered.0 numbered.1 grows))
 
 pub start_addresses : IsInOrder 0 (state_addresses at_start)
 start_addresses = record { ascending = tt; upto = tt; range = tt }

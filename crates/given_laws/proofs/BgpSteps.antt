@@ -21,16 +21,22 @@ IsNeighborOf p q = IsWellFormedNeighbor q × (q.addr ≡ p.addr)
 
 neighbor_step : (n : ℕ) (said : RouterItem) (p : Neighbor) → IsRouterItem said → IsWellFormedNeighbor p → IfOk (set_neighbor n said p) (IsNeighborOf p)
 unfolding set_neighbor
-neighbor_step n (item.PeerShut addr) p said is = (record { addr = is.addr; remote = is.remote; list_in = is.list_in; list_out = is.list_out; map_in = is.map_in; map_out = is.map_out }, refl)
-neighbor_step n (item.PeerSends addr) p said is = (record { addr = is.addr; remote = is.remote; list_in = is.list_in; list_out = is.list_out; map_in = is.map_in; map_out = is.map_out }, refl)
+neighbor_step n (item.PeerShut addr) p said is =
+    (record { addr = is.addr; remote = is.remote; list_in = is.list_in; list_out = is.list_out; map_in = is.map_in; map_out = is.map_out }, refl)
+neighbor_step n (item.PeerSends addr) p said is =
+    (record { addr = is.addr; remote = is.remote; list_in = is.list_in; list_out = is.list_out; map_in = is.map_in; map_out = is.map_out }, refl)
 neighbor_step n (item.PeerList addr list true) p said is =
-    stands_once (IsNeighborOf p) n (is_some p.list_in) _ (λ e. (record { addr = is.addr; remote = is.remote; list_in = said; list_out = is.list_out; map_in = is.map_in; map_out = is.map_out }, refl))
+    stands_once (IsNeighborOf p) n (is_some p.list_in) _
+    (λ e. (record { addr = is.addr; remote = is.remote; list_in = said; list_out = is.list_out; map_in = is.map_in; map_out = is.map_out }, refl))
 neighbor_step n (item.PeerList addr list false) p said is =
-    stands_once (IsNeighborOf p) n (is_some p.list_out) _ (λ e. (record { addr = is.addr; remote = is.remote; list_in = is.list_in; list_out = said; map_in = is.map_in; map_out = is.map_out }, refl))
+    stands_once (IsNeighborOf p) n (is_some p.list_out) _
+    (λ e. (record { addr = is.addr; remote = is.remote; list_in = is.list_in; list_out = said; map_in = is.map_in; map_out = is.map_out }, refl))
 neighbor_step n (item.PeerMap addr map true) p said is =
-    stands_once (IsNeighborOf p) n (is_some p.map_in) _ (λ e. (record { addr = is.addr; remote = is.remote; list_in = is.list_in; list_out = is.list_out; map_in = said; map_out = is.map_out }, refl))
+    stands_once (IsNeighborOf p) n (is_some p.map_in) _
+    (λ e. (record { addr = is.addr; remote = is.remote; list_in = is.list_in; list_out = is.list_out; map_in = said; map_out = is.map_out }, refl))
 neighbor_step n (item.PeerMap addr map false) p said is =
-    stands_once (IsNeighborOf p) n (is_some p.map_out) _ (λ e. (record { addr = is.addr; remote = is.remote; list_in = is.list_in; list_out = is.list_out; map_in = is.map_in; map_out = said }, refl))
+    stands_once (IsNeighborOf p) n (is_some p.map_out) _
+    (λ e. (record { addr = is.addr; remote = is.remote; list_in = is.list_in; list_out = is.list_out; map_in = is.map_in; map_out = said }, refl))
 neighbor_step n _ p said is = (is, refl)
 
 -- ---- all neighbours
@@ -42,17 +48,21 @@ addresses peers = map (λ (p : Neighbor). p.addr) peers
 abbrev AreNeighborsOf : List Neighbor → List Neighbor → Type 0
 AreNeighborsOf ps qs = AllByRecursion IsWellFormedNeighbor qs × (addresses qs ≡ addresses ps)
 
-changed_neighbor : (n addr : ℕ) (change : Neighbor → Result Neighbor ReadRefusal) → ((p : Neighbor) → IsWellFormedNeighbor p → IfOk (change p) (IsNeighborOf p)) → (ps : List Neighbor) → AllByRecursion IsWellFormedNeighbor ps → IfOk (at_neighbor n addr change ps) (AreNeighborsOf ps)
+changed_neighbor : (n addr : ℕ) (change : Neighbor → Result Neighbor ReadRefusal) →
+    ((p : Neighbor) → IsWellFormedNeighbor p → IfOk (change p) (IsNeighborOf p)) → (ps : List Neighbor) → AllByRecursion IsWellFormedNeighbor ps →
+    IfOk (at_neighbor n addr change ps) (AreNeighborsOf ps)
 unfolding at_neighbor
 changed_neighbor n addr change changes [] all = tt
 changed_neighbor n addr change changes (p ∷ ps) all =
     either (AreNeighborsOf (p ∷ ps)) (p.addr == addr) _ _
     (λ e. then_step (IsNeighborOf p) (AreNeighborsOf (p ∷ ps)) (change p) _ (changes p all.0) (λ q is. ((is.0, all.1), ap (λ (a : ℕ). a ∷ addresses ps) is.1)))
-    (λ e. then_step (AreNeighborsOf ps) (AreNeighborsOf (p ∷ ps)) (at_neighbor n addr change ps) _ (changed_neighbor n addr change changes ps all.1) (λ qs are. ((all.0, are.0), ap (λ (rest : List ℕ). p.addr ∷ rest) are.1)))
+    (λ e. then_step (AreNeighborsOf ps) (AreNeighborsOf (p ∷ ps)) (at_neighbor n addr change ps) _ (changed_neighbor n addr change changes ps all.1)
+    (λ qs are. ((all.0, are.0), ap (λ (rest : List ℕ). p.addr ∷ rest) are.1)))
 
 peer_step : (n addr : ℕ) (said : RouterItem) (b : BgpProcess) → IsRouterItem said → IsWellFormedBgp b → IfOk (with_peer n addr said b) IsWellFormedBgp
 peer_step n addr said b is whole =
-    then_step (AreNeighborsOf b.neighbors) IsWellFormedBgp (at_neighbor n addr (set_neighbor n said) b.neighbors) _ (changed_neighbor n addr (set_neighbor n said) (λ p. neighbor_step n said p is) b.neighbors whole.neighbors) (λ qs are. record {
+    then_step (AreNeighborsOf b.neighbors) IsWellFormedBgp (at_neighbor n addr (set_neighbor n said) b.neighbors) _
+    (changed_neighbor n addr (set_neighbor n said) (λ p. neighbor_step n said p is) b.neighbors whole.neighbors) (λ qs are. record {
       number = whole.number;
       base = whole.base;
       networks = whole.networks;
@@ -66,7 +76,16 @@ peer_step n addr said b is whole =
 process_step : (n : ℕ) (said : RouterItem) (b : BgpProcess) → IsRouterItem said → IsWellFormedBgp b → IfOk (set_process n said b) IsWellFormedBgp
 unfolding set_process has_network has_neighbor
 process_step n (item.Base base) b said is =
-    stands_once IsWellFormedBgp n (is_some b.base) _ (λ e. record { number = is.number; base = said; networks = is.networks; networks_once = is.networks_once; neighbors = is.neighbors; neighbors_once = is.neighbors_once })
+    stands_once IsWellFormedBgp n (is_some b.base) _
+    (λ e. record {
+      number = is.number;
+      base = said;
+      networks = is.networks;
+      networks_once = is.networks_once;
+      neighbors = is.neighbors;
+      neighbors_once =
+          is.neighbors_once;
+    })
 process_step n (item.Network net) b said is =
     stands_once IsWellFormedBgp n (has_network b.networks net.prefix) _ (λ none. record {
       number = is.number;
@@ -82,7 +101,8 @@ process_step n (item.RemoteAs addr number) b said is =
       base = is.base;
       networks = is.networks;
       networks_once = is.networks_once;
-      neighbors = all_push IsWellFormedNeighbor b.neighbors (new_neighbor n addr number) is.neighbors (record { addr = said.0; remote = said.1; list_in = tt; list_out = tt; map_in = tt; map_out = tt });
+      neighbors = all_push IsWellFormedNeighbor b.neighbors (new_neighbor n addr number) is.neighbors
+          (record { addr = said.0; remote = said.1; list_in = tt; list_out = tt; map_in = tt; map_out = tt });
       neighbors_once = distinct_new same_neighbor b.neighbors (new_neighbor n addr number) is.neighbors_once none;
     })
 process_step n _ b said is = is

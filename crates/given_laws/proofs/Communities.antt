@@ -73,7 +73,8 @@ length_with : (n : ℕ) (xs : List ℕ) → (length xs ≤ length (with_number n
 length_with n [] = (omega arith, omega arith)
 length_with n (x ∷ xs) = by (nat_lt n x) (n == x) (length_with n xs)
   where
-    by : (b c : Bool) → (length xs ≤ length (with_number n xs)) × (length (with_number n xs) ≤ length xs + 1) → (length (x ∷ xs) ≤ length (placed n x xs b c)) × (length (placed n x xs b c) ≤ length (x ∷ xs) + 1)
+    by : (b c : Bool) → (length xs ≤ length (with_number n xs)) × (length (with_number n xs) ≤ length xs + 1) → (length (x ∷ xs) ≤ length (placed n x xs b c))
+        × (length (placed n x xs b c) ≤ length (x ∷ xs) + 1)
     by true c rest = (omega arith, omega arith)
     by false true rest = (omega arith, omega arith)
     by false false rest = let low = rest.0 in let high = rest.1 in (omega arith, omega arith)
@@ -107,11 +108,14 @@ plain_value : (word : List ℕ) → is_community word ≡ true → is_well_known
 unfolding is_community is_well_known
 plain_value word is plain = value_case (is_well_known_name word) (community_word word) is plain
 
-set_case : (words : List (List ℕ)) → IsBetween 1 32 (length words) → AllByRecursion (λ word. IsPlainValue (community_word word)) words → IsCommunitySet (with_numbers (filter_map community_word words) [])
+set_case : (words : List (List ℕ)) → IsBetween 1 32 (length words) → AllByRecursion (λ word. IsPlainValue (community_word word)) words →
+    IsCommunitySet (with_numbers (filter_map community_word words) [])
 set_case words count plain =
     let values = filter_map community_word words in
-    let some : AllByRecursion (λ word. is_some (community_word word) ≡ true) words = all_weaker (λ word. IsPlainValue (community_word word)) (λ word. is_some (community_word word) ≡ true) (λ word is. is.0) words plain in
-    let ranges : AllByRecursion (λ word. IfSome (community_word word) (IsBetween 1 4294901759)) words = all_weaker (λ word. IsPlainValue (community_word word)) (λ word. IfSome (community_word word) (IsBetween 1 4294901759)) (λ word is. is.1) words plain in
+    let some : AllByRecursion (λ word. is_some (community_word word) ≡ true) words =
+    all_weaker (λ word. IsPlainValue (community_word word)) (λ word. is_some (community_word word) ≡ true) (λ word is. is.0) words plain in
+    let ranges : AllByRecursion (λ word. IfSome (community_word word) (IsBetween 1 4294901759)) words =
+    all_weaker (λ word. IsPlainValue (community_word word)) (λ word. IfSome (community_word word) (IsBetween 1 4294901759)) (λ word is. is.1) words plain in
     let same = length-filter_map community_word words some in
     record {
       count = count_of_set values (omega (arith, same, count.0)) (omega (arith, same, count.1));
@@ -128,4 +132,6 @@ a_community_set words =
     either IsCommunitySet (list_any is_well_known words) _ _ (λ known. tt) (λ none.
     let are : AllByRecursion (λ word. is_community word ≡ true) words = all_pass is_community words one.1 in
     let plain : AllByRecursion (λ word. is_well_known word ≡ false) words = none_pass is_well_known words none in
-    set_case words (group_count words one.0) (all_both (λ word. is_community word ≡ true) (λ word. is_well_known word ≡ false) (λ word. IsPlainValue (community_word word)) plain_value words are plain)))
+    set_case words (group_count words one.0)
+    (all_both (λ word. is_community word ≡ true) (λ word. is_well_known word ≡ false) (λ word. IsPlainValue (community_word word)) plain_value words are
+    plain)))

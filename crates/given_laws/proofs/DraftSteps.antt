@@ -34,7 +34,8 @@ abbrev IsHost : Named → Type 0
 IsHost host = is_router_name host.name ≡ true
 
 -- what stands of a router but for its open stanza
-pub record AreParts (host : Option Named) (ins : List Interface) (b : Option BgpProcess) (o : Option OspfProcess) (ps : List PrefixList) (cs : List CommunityList) (ms : List RouteMap) : Type 0 where
+pub record AreParts (host : Option Named) (ins : List Interface) (b : Option BgpProcess) (o : Option OspfProcess) (ps : List PrefixList)
+    (cs : List CommunityList) (ms : List RouteMap) : Type 0 where
   pub named : IfSome host IsHost
   pub interfaces : AllByRecursion IsWellFormedInterface ins
   pub interfaces_once : IsDistinct same_interface ins
@@ -158,11 +159,25 @@ line_step n (item.Hostname name) d said is =
       },
       is.1,
     ))
-line_step n (item.Interface name) d said is = stands_once IsDraft n (has_interface d.interfaces name) _ (λ none. (is.0, (record { name = said; address = tt; cost = tt }, none)))
+line_step n (item.Interface name) d said is =
+    stands_once IsDraft n (has_interface d.interfaces name) _ (λ none. (is.0, (record { name = said; address = tt; cost = tt }, none)))
 line_step n (item.Bgp number) d said is =
-    stands_once IsDraft n (is_some d.bgp) _ (λ e. (is.0, record { number = said; base = tt; networks = tt; networks_once = distinct_nil _; neighbors = tt; neighbors_once = distinct_nil _ }))
+    stands_once IsDraft n (is_some d.bgp) _ (λ e.
+    (is.0, record { number = said; base = tt; networks = tt; networks_once = distinct_nil _; neighbors = tt; neighbors_once = distinct_nil _ }))
 line_step n (item.Ospf number) d said is =
-    stands_once IsDraft n (is_some d.ospf) _ (λ e. (is.0, record { number = said; passive = tt; passive_once = distinct_nil _; not_passive = tt; not_passive_once = distinct_nil _; areas = tt; areas_once = distinct_nil _ }))
+    stands_once IsDraft n (is_some d.ospf) _
+    (λ e. (
+      is.0,
+      record {
+        number = said;
+        passive = tt;
+        passive_once = distinct_nil _;
+        not_passive = tt;
+        not_passive_once = distinct_nil _;
+        areas = tt;
+        areas_once = distinct_nil _;
+      },
+    ))
 line_step n item.Ignored d said is = (is.0, tt)
 line_step n _ d said is = is
 
@@ -253,23 +268,32 @@ end_step n s is =
 top_step : (n : ℕ) (said : RouterItem) (s : State) → IsRouterItem said → IsState s → IfOk (take_top n said s) IsState
 unfolding take_top
 top_step n said s item is =
-    either IsState (ends_router said) _ _ (λ e. end_step n s is) (λ e. then_step IsDraft IsState (take_line n said s.draft) _ (line_step n said s.draft item is.draft) (λ d whole. record { routers = is.routers; draft = whole }))
+    either IsState (ends_router said) _ _ (λ e. end_step n s is)
+    (λ e. then_step IsDraft IsState (take_line n said s.draft) _ (line_step n said s.draft item is.draft)
+    (λ d whole. record { routers = is.routers; draft = whole }))
 
-inner_step : (l : TextLine) (interfaces : List Interface) (maps : List RouteMap) (stanza : Stanza) → AreWords l.words → IsStanza interfaces maps stanza → IfOk (take_inner l stanza) (IsStanza interfaces maps)
+inner_step : (l : TextLine) (interfaces : List Interface) (maps : List RouteMap) (stanza : Stanza) → AreWords l.words → IsStanza interfaces maps stanza →
+    IfOk (take_inner l stanza) (IsStanza interfaces maps)
 unfolding take_inner
 inner_step l interfaces maps closed are is = tt
 inner_step l interfaces maps ignored are is = tt
 inner_step l interfaces maps (in_interface i) are is =
-    then_said IsRouterItem (IsStanza interfaces maps) l.number (router_item_of scope.Interface l.number l.words) _ (a_router_item scope.Interface l.number l.words are) (λ said item.
-    then_step (IsInterfaceOf i) (IsStanza interfaces maps) _ _ (interface_step l.number said i item is.0) (λ j whole. (whole.0, ap (has_interface interfaces) whole.1 ∙ is.1)))
+    then_said IsRouterItem (IsStanza interfaces maps) l.number (router_item_of scope.Interface l.number l.words) _
+    (a_router_item scope.Interface l.number l.words are) (λ said item.
+    then_step (IsInterfaceOf i) (IsStanza interfaces maps) _ _ (interface_step l.number said i item is.0)
+    (λ j whole. (whole.0, ap (has_interface interfaces) whole.1 ∙ is.1)))
 inner_step l interfaces maps (in_bgp b) are is =
-    then_said IsRouterItem (IsStanza interfaces maps) l.number (router_item_of scope.Bgp l.number l.words) _ (a_router_item scope.Bgp l.number l.words are) (λ said item.
+    then_said IsRouterItem (IsStanza interfaces maps) l.number (router_item_of scope.Bgp l.number l.words) _ (a_router_item scope.Bgp l.number l.words are)
+    (λ said item.
     then_step IsWellFormedBgp (IsStanza interfaces maps) _ _ (bgp_step l.number said b item is) (λ c whole. whole))
 inner_step l interfaces maps (in_ospf o) are is =
-    then_said IsRouterItem (IsStanza interfaces maps) l.number (router_item_of scope.Ospf l.number l.words) _ (a_router_item scope.Ospf l.number l.words are) (λ said item. ospf_step said o item is)
+    then_said IsRouterItem (IsStanza interfaces maps) l.number (router_item_of scope.Ospf l.number l.words) _ (a_router_item scope.Ospf l.number l.words are)
+    (λ said item. ospf_step said o item is)
 inner_step l interfaces maps (in_entry name e) are is =
-    then_said IsPolicyItem (IsStanza interfaces maps) l.number (policy_item_of policy_scope.Entry l.number l.words) _ (a_policy_item policy_scope.Entry l.number l.words are) (λ said item.
-    then_step (IsEntryOf e) (IsStanza interfaces maps) _ _ (entry_step l.number said e item is.1) (λ f whole. (is.0, whole.0, ap (has_map_entry maps name) whole.1 ∙ is.2)))
+    then_said IsPolicyItem (IsStanza interfaces maps) l.number (policy_item_of policy_scope.Entry l.number l.words) _
+    (a_policy_item policy_scope.Entry l.number l.words are) (λ said item.
+    then_step (IsEntryOf e) (IsStanza interfaces maps) _ _ (entry_step l.number said e item is.1)
+    (λ f whole. (is.0, whole.0, ap (has_map_entry maps name) whole.1 ∙ is.2)))
 
 -- ---- all lines
 
@@ -278,11 +302,14 @@ unfolding step step_policy step_router
 one_step s l are is =
     either IsState (l.indent == 0) _ _
     (λ top. either IsState (is_policy_line l.words) _ _
-    (λ listed. then_said IsPolicyItem IsState l.number (policy_item_of policy_scope.Top l.number l.words) _ (a_policy_item policy_scope.Top l.number l.words are) (λ said item.
-    then_step IsDraft IsState _ _ (policy_step l.number said (with_closed s.draft) item (closed_step s.draft is.draft)) (λ d whole. record { routers = is.routers; draft = whole })))
+    (λ listed. then_said IsPolicyItem IsState l.number (policy_item_of policy_scope.Top l.number l.words) _
+    (a_policy_item policy_scope.Top l.number l.words are) (λ said item.
+    then_step IsDraft IsState _ _ (policy_step l.number said (with_closed s.draft) item (closed_step s.draft is.draft))
+    (λ d whole. record { routers = is.routers; draft = whole })))
     (λ other. then_said IsRouterItem IsState l.number (router_item_of scope.Top l.number l.words) _ (a_router_item scope.Top l.number l.words are) (λ said item.
     top_step l.number said (record s { draft = with_closed s.draft }) item (record { routers = is.routers; draft = closed_step s.draft is.draft }))))
-    (λ inner. then_step (IsStanza s.draft.interfaces s.draft.route_maps) IsState (take_inner l s.draft.stanza) _ (inner_step l s.draft.interfaces s.draft.route_maps s.draft.stanza are is.draft.1) (λ stanza whole.
+    (λ inner. then_step (IsStanza s.draft.interfaces s.draft.route_maps) IsState (take_inner l s.draft.stanza) _
+    (inner_step l s.draft.interfaces s.draft.route_maps s.draft.stanza are is.draft.1) (λ stanza whole.
     record { routers = is.routers; draft = (is.draft.0, whole) }))
 
 abbrev pub IsLineOfWords : TextLine → Type 0

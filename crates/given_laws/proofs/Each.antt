@@ -54,7 +54,8 @@ one_more : {Y : Type 0} (P : Y → Type 0) (o : Option Y) (ys : List Y) → IfSo
 one_more P None ys is all = all
 one_more P (Some y) ys is all = (is, all)
 
-pub all_filter_map : {X Y : Type 0} (P : Y → Type 0) (f : X → Option Y) (xs : List X) → AllByRecursion (λ (x : X). IfSome (f x) P) xs → AllByRecursion P (filter_map f xs)
+pub all_filter_map : {X Y : Type 0} (P : Y → Type 0) (f : X → Option Y) (xs : List X) → AllByRecursion (λ (x : X). IfSome (f x) P) xs →
+    AllByRecursion P (filter_map f xs)
 all_filter_map P f [] all = tt
 all_filter_map P f (x ∷ xs) all = one_more P (f x) (filter_map f xs) all.0 (all_filter_map P f xs all.1)
 
@@ -63,7 +64,8 @@ longer None ys e = absurd cc
 longer (Some y) ys e = refl
 
 -- as many as there are elements, where each gives something
-pub length-filter_map : {X Y : Type 0} (f : X → Option Y) (xs : List X) → AllByRecursion (λ (x : X). is_some (f x) ≡ true) xs → length (filter_map f xs) ≡ length xs
+pub length-filter_map : {X Y : Type 0} (f : X → Option Y) (xs : List X) → AllByRecursion (λ (x : X). is_some (f x) ≡ true) xs →
+    length (filter_map f xs) ≡ length xs
 length-filter_map f [] all = refl
 length-filter_map f (x ∷ xs) all = longer (f x) (filter_map f xs) all.0 ∙ ap (λ (n : ℕ). suc n) (length-filter_map f xs all.1)
 
@@ -71,11 +73,16 @@ length-filter_map f (x ∷ xs) all = longer (f x) (filter_map f xs) all.0 ∙ ap
 
 pub all_range : (a n : ℕ) → AllByRecursion (λ (k : ℕ). (a ≤ k) × (k + 1 ≤ a + n)) (range_with_len a n)
 all_range a zero = tt
-all_range a (suc n) = ((omega arith, omega arith), all_weaker (λ (k : ℕ). (a + 1 ≤ k) × (k + 1 ≤ a + 1 + n)) (λ (k : ℕ). (a ≤ k) × (k + 1 ≤ a + suc n)) (λ k is. let low = is.0 in let high = is.1 in (omega arith, omega arith)) (range_with_len (a + 1) n) (all_range (a + 1) n))
+all_range a (suc n) = (
+  (omega arith, omega arith),
+  all_weaker (λ (k : ℕ). (a + 1 ≤ k) × (k + 1 ≤ a + 1 + n)) (λ (k : ℕ). (a ≤ k) × (k + 1 ≤ a + suc n))
+      (λ k is. let low = is.0 in let high = is.1 in (omega arith, omega arith)) (range_with_len (a + 1) n) (all_range (a + 1) n),
+)
 
 -- ---- elements that differ
 
-pub distinct_push : {X : Type 0} (same : X → X → Bool) (xs : List X) (x : X) → IsDistinct same xs → AllByRecursion (λ (y : X). same y x ≡ false) xs → IsDistinct same (xs ++ x ∷ [])
+pub distinct_push : {X : Type 0} (same : X → X → Bool) (xs : List X) (x : X) → IsDistinct same xs → AllByRecursion (λ (y : X). same y x ≡ false) xs →
+    IsDistinct same (xs ++ x ∷ [])
 unfolding IsDistinct
 distinct_push same [] x all differ = (tt, tt)
 distinct_push same (y ∷ ys) x all differ = (all_push (λ (z : _). same y z ≡ false) ys x all.0 differ.0, distinct_push same ys x all.1 differ.1)
@@ -85,19 +92,23 @@ unfolding IsDistinct
 distinct_nil same = tt
 
 -- of a list, it is known by a test on what stands so far that the next one differs
-pub distinct_new : {X : Type 0} (same : X → X → Bool) (xs : List X) (x : X) → IsDistinct same xs → list_any (λ (y : X). same y x) xs ≡ false → IsDistinct same (xs ++ x ∷ [])
+pub distinct_new : {X : Type 0} (same : X → X → Bool) (xs : List X) (x : X) → IsDistinct same xs → list_any (λ (y : X). same y x) xs ≡ false →
+    IsDistinct same (xs ++ x ∷ [])
 distinct_new same xs x all none = distinct_push same xs x all (none_pass (λ y. same y x) xs none)
 
 -- ---- elements with the same keys
 
-same_all : {X K : Type 0} (key : X → K) (test : K → Bool) (xs ys : List X) → map key xs ≡ map key ys → AllByRecursion (λ (x : X). test (key x) ≡ false) ys → AllByRecursion (λ (x : X). test (key x) ≡ false) xs
+same_all : {X K : Type 0} (key : X → K) (test : K → Bool) (xs ys : List X) → map key xs ≡ map key ys → AllByRecursion (λ (x : X). test (key x) ≡ false) ys →
+    AllByRecursion (λ (x : X). test (key x) ≡ false) xs
 same_all key test [] [] same all = tt
 same_all key test [] (y ∷ ys) same all = tt
 same_all key test (x ∷ xs) [] same all = absurd cc
-same_all key test (x ∷ xs) (y ∷ ys) same all = (ap test (let e : key x ≡ key y = cc in e) ∙ all.0, same_all key test xs ys (let e : map key xs ≡ map key ys = cc in e) all.1)
+same_all key test (x ∷ xs) (y ∷ ys) same all =
+    (ap test (let e : key x ≡ key y = cc in e) ∙ all.0, same_all key test xs ys (let e : map key xs ≡ map key ys = cc in e) all.1)
 
 -- elements differ as their keys do
-pub distinct_keys : {X K : Type 0} (key : X → K) (same : K → K → Bool) (xs ys : List X) → map key xs ≡ map key ys → IsDistinct (λ (x y : X). same (key x) (key y)) ys → IsDistinct (λ (x y : X). same (key x) (key y)) xs
+pub distinct_keys : {X K : Type 0} (key : X → K) (same : K → K → Bool) (xs ys : List X) → map key xs ≡ map key ys →
+    IsDistinct (λ (x y : X). same (key x) (key y)) ys → IsDistinct (λ (x y : X). same (key x) (key y)) xs
 unfolding IsDistinct
 distinct_keys key same [] [] e all = tt
 distinct_keys key same [] (y ∷ ys) e all = tt

@@ -16,7 +16,8 @@ tested P true x rest = rest refl
 tested P false x rest = tt
 
 -- one word after the other
-pub and_after : {A B : Type 0} (Q : A → Type 0) (P : B → Type 0) (o : Option A) (f : A → Option B) → IfSome o Q → ((x : A) → Q x → IfSome (f x) P) → IfSome (option_and_then f o) P
+pub and_after : {A B : Type 0} (Q : A → Type 0) (P : B → Type 0) (o : Option A) (f : A → Option B) → IfSome o Q → ((x : A) → Q x → IfSome (f x) P) →
+    IfSome (option_and_then f o) P
 and_after Q P (Some x) f is rest = rest x is
 and_after Q P None f is rest = tt
 
@@ -35,12 +36,14 @@ any_result (Err fault) = tt
 -- ---- forms
 
 -- one part of a form after the other
-pub after : {A B : Type 0} (Q : A → Type 0) (P : B → Type 0) (r : Result A FormFault) (f : A → Result B FormFault) → IfOk r Q → ((x : A) → Q x → IfOk (f x) P) → IfOk (r >>= f) P
+pub after : {A B : Type 0} (Q : A → Type 0) (P : B → Type 0) (r : Result A FormFault) (f : A → Result B FormFault) → IfOk r Q → ((x : A) → Q x → IfOk (f x) P) →
+    IfOk (r >>= f) P
 after Q P (Ok x) f is rest = rest x is
 after Q P (Err fault) f is rest = tt
 
 -- a word that must give something, and the parts after it
-pub given : {A B : Type 0} (Q : A → Type 0) (P : B → Type 0) (o : Option A) (f : A → Result B FormFault) → IfSome o Q → ((x : A) → Q x → IfOk (f x) P) → IfOk (or_bad o >>= f) P
+pub given : {A B : Type 0} (Q : A → Type 0) (P : B → Type 0) (o : Option A) (f : A → Result B FormFault) → IfSome o Q → ((x : A) → Q x → IfOk (f x) P) →
+    IfOk (or_bad o >>= f) P
 given Q P (Some x) f is rest = rest x is
 given Q P None f is rest = tt
 
@@ -56,12 +59,14 @@ either P false r s first second = second refl
 
 -- ---- steps
 
-pub then_step : {A B : Type 0} (Q : A → Type 0) (P : B → Type 0) (r : Result A ReadRefusal) (f : A → Result B ReadRefusal) → IfOk r Q → ((x : A) → Q x → IfOk (f x) P) → IfOk (r >>= f) P
+pub then_step : {A B : Type 0} (Q : A → Type 0) (P : B → Type 0) (r : Result A ReadRefusal) (f : A → Result B ReadRefusal) → IfOk r Q →
+    ((x : A) → Q x → IfOk (f x) P) → IfOk (r >>= f) P
 then_step Q P (Ok x) f is rest = rest x is
 then_step Q P (Err fault) f is rest = tt
 
 -- what a line says, and what is made of it
-pub then_said : {A B : Type 0} (Q : A → Type 0) (P : B → Type 0) (n : ℕ) (r : Result A FormFault) (f : A → Result B ReadRefusal) → IfOk r Q → ((x : A) → Q x → IfOk (f x) P) → IfOk (said_at n r >>= f) P
+pub then_said : {A B : Type 0} (Q : A → Type 0) (P : B → Type 0) (n : ℕ) (r : Result A FormFault) (f : A → Result B ReadRefusal) → IfOk r Q →
+    ((x : A) → Q x → IfOk (f x) P) → IfOk (said_at n r >>= f) P
 then_said Q P n (Ok x) f is rest = rest x is
 then_said Q P n (Err fault) f is rest = tt
 

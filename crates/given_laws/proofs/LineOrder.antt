@@ -67,7 +67,8 @@ Grows n d e = Extends n (draft_interfaces d) (draft_interfaces e) × Extends n (
 
 closing_interfaces : (st : Stanza) (d : Draft) → d.stanza ≡ st → draft_interfaces (closing_stanza st d) ≡ draft_interfaces d
 closing_interfaces closed d same = refl
-closing_interfaces (in_interface i) d same = append-nil (lines_of_interfaces (d.interfaces ++ i ∷ [])) ∙ map_push (λ (j : Interface). j.line) d.interfaces i ∙ ap (λ (st : Stanza). lines_of_interfaces d.interfaces ++ interface_of st) (sym same)
+closing_interfaces (in_interface i) d same = append-nil (lines_of_interfaces (d.interfaces ++ i ∷ [])) ∙ map_push (λ (j : Interface). j.line) d.interfaces i
+    ∙ ap (λ (st : Stanza). lines_of_interfaces d.interfaces ++ interface_of st) (sym same)
 closing_interfaces ignored d same = ap (λ (st : Stanza). lines_of_interfaces d.interfaces ++ interface_of st) (sym same)
 closing_interfaces (in_bgp b) d same = ap (λ (st : Stanza). lines_of_interfaces d.interfaces ++ interface_of st) (sym same)
 closing_interfaces (in_ospf o) d same = ap (λ (st : Stanza). lines_of_interfaces d.interfaces ++ interface_of st) (sym same)
@@ -75,7 +76,9 @@ closing_interfaces (in_entry name e) d same = ap (λ (st : Stanza). lines_of_int
 
 closing_neighbors : (st : Stanza) (d : Draft) → d.stanza ≡ st → IsOnly d.bgp st → draft_neighbors (closing_stanza st d) ≡ draft_neighbors d
 closing_neighbors closed d same only = refl
-closing_neighbors (in_bgp b) d same only = append-nil (lines_of_neighbors b.neighbors) ∙ ap (λ (o : Option BgpProcess). neighbors_in o ++ lines_of_neighbors b.neighbors) (sym only) ∙ ap (λ (st : Stanza). neighbors_in d.bgp ++ neighbors_open st) (sym same)
+closing_neighbors (in_bgp b) d same only = append-nil (lines_of_neighbors b.neighbors)
+    ∙ ap (λ (o : Option BgpProcess). neighbors_in o ++ lines_of_neighbors b.neighbors) (sym only)
+    ∙ ap (λ (st : Stanza). neighbors_in d.bgp ++ neighbors_open st) (sym same)
 closing_neighbors ignored d same only = ap (λ (st : Stanza). neighbors_in d.bgp ++ neighbors_open st) (sym same)
 closing_neighbors (in_interface i) d same only = ap (λ (st : Stanza). neighbors_in d.bgp ++ neighbors_open st) (sym same)
 closing_neighbors (in_ospf o) d same only = ap (λ (st : Stanza). neighbors_in d.bgp ++ neighbors_open st) (sym same)
@@ -93,7 +96,12 @@ record IsClosedOf (d c : Draft) : Type 0 where
 
 closed_of : (d : Draft) → IsOnly d.bgp d.stanza → IsClosedOf d (with_closed d)
 unfolding with_closed
-closed_of d only = record { idle = closing_closed d.stanza d refl; interfaces = closing_interfaces d.stanza d refl; neighbors = closing_neighbors d.stanza d refl only }
+closed_of d only = record {
+  idle = closing_closed d.stanza d refl;
+  interfaces = closing_interfaces d.stanza d refl;
+  neighbors =
+      closing_neighbors d.stanza d refl only;
+}
 
 idle_interfaces : (c : Draft) → c.stanza ≡ closed → draft_interfaces c ≡ lines_of_interfaces c.interfaces
 idle_interfaces c idle = ap (λ (st : Stanza). lines_of_interfaces c.interfaces ++ interface_of st) idle ∙ append-nil (lines_of_interfaces c.interfaces)
@@ -121,7 +129,8 @@ line_grows : (n : ℕ) (said : RouterItem) (c : Draft) → c.stanza ≡ closed �
 unfolding take_line
 line_grows n (item.Hostname name) c idle = stands_once (Grows n c) n (is_some c.name) _ (λ e. (inl refl, inl refl, idle_only c idle))
 line_grows n (item.Interface name) c idle =
-    stands_once (Grows n c) n (has_interface c.interfaces name) _ (λ e. (inr (ap (λ (ns : List ℕ). ns ++ n ∷ []) (sym (idle_interfaces c idle))), same_neighbors n c idle, tt))
+    stands_once (Grows n c) n (has_interface c.interfaces name) _
+    (λ e. (inr (ap (λ (ns : List ℕ). ns ++ n ∷ []) (sym (idle_interfaces c idle))), same_neighbors n c idle, tt))
 line_grows n (item.Bgp number) c idle = stands_once (Grows n c) n (is_some c.bgp) _ (λ e. (same_interfaces n c idle, same_neighbors n c idle, none_of c.bgp e))
 line_grows n (item.Ospf number) c idle = stands_once (Grows n c) n (is_some c.ospf) _ (λ e. (same_interfaces n c idle, same_neighbors n c idle, tt))
 line_grows n item.Ignored c idle = (same_interfaces n c idle, same_neighbors n c idle, tt)
@@ -129,9 +138,11 @@ line_grows n _ c idle = (inl refl, inl refl, idle_only c idle)
 
 policy_grows : (n : ℕ) (said : PolicyItem) (c : Draft) → c.stanza ≡ closed → IfOk (take_policy n said c) (Grows n c)
 unfolding take_policy
-policy_grows n (policy.PrefixEntry name e) c idle = stands_once (Grows n c) n (has_prefix_entry c.prefix_lists name e.seq) _ (λ b. (inl refl, inl refl, idle_only c idle))
+policy_grows n (policy.PrefixEntry name e) c idle =
+    stands_once (Grows n c) n (has_prefix_entry c.prefix_lists name e.seq) _ (λ b. (inl refl, inl refl, idle_only c idle))
 policy_grows n (policy.CommunityLine name line) c idle = (inl refl, inl refl, idle_only c idle)
-policy_grows n (policy.MapHead name e) c idle = stands_once (Grows n c) n (has_map_entry c.route_maps name e.seq) _ (λ b. (same_interfaces n c idle, same_neighbors n c idle, tt))
+policy_grows n (policy.MapHead name e) c idle =
+    stands_once (Grows n c) n (has_map_entry c.route_maps name e.seq) _ (λ b. (same_interfaces n c idle, same_neighbors n c idle, tt))
 policy_grows n policy.Ignored c idle = (same_interfaces n c idle, same_neighbors n c idle, tt)
 policy_grows n _ c idle = (inl refl, inl refl, idle_only c idle)
 
@@ -165,8 +176,10 @@ unfolding at_neighbor
 neighbors_keep n addr said [] = tt
 neighbors_keep n addr said (p ∷ ps) =
     either (HaveLinesOf (p ∷ ps)) (p.addr == addr) _ _
-    (λ e. then_step (HasLineOf p) (HaveLinesOf (p ∷ ps)) (set_neighbor n said p) _ (neighbor_keeps n said p) (λ q same. ap (λ (k : ℕ). k ∷ lines_of_neighbors ps) same))
-    (λ e. then_step (HaveLinesOf ps) (HaveLinesOf (p ∷ ps)) (at_neighbor n addr (set_neighbor n said) ps) _ (neighbors_keep n addr said ps) (λ qs same. ap (λ (ks : List ℕ). p.line ∷ ks) same))
+    (λ e. then_step (HasLineOf p) (HaveLinesOf (p ∷ ps)) (set_neighbor n said p) _ (neighbor_keeps n said p)
+    (λ q same. ap (λ (k : ℕ). k ∷ lines_of_neighbors ps) same))
+    (λ e. then_step (HaveLinesOf ps) (HaveLinesOf (p ∷ ps)) (at_neighbor n addr (set_neighbor n said) ps) _ (neighbors_keep n addr said ps)
+    (λ qs same. ap (λ (ks : List ℕ). p.line ∷ ks) same))
 
 abbrev GrowsBgp : ℕ → BgpProcess → BgpProcess → Type 0
 GrowsBgp n b c = Extends n (lines_of_neighbors b.neighbors) (lines_of_neighbors c.neighbors)
@@ -175,7 +188,8 @@ process_grows : (n : ℕ) (said : RouterItem) (b : BgpProcess) → IfOk (set_pro
 unfolding set_process
 process_grows n (item.Base base) b = stands_once (GrowsBgp n b) n (is_some b.base) _ (λ e. inl refl)
 process_grows n (item.Network net) b = stands_once (GrowsBgp n b) n (has_network b.networks net.prefix) _ (λ e. inl refl)
-process_grows n (item.RemoteAs addr number) b = stands_once (GrowsBgp n b) n (has_neighbor b.neighbors addr) _ (λ e. inr (map_push (λ (p : Neighbor). p.line) b.neighbors (new_neighbor n addr number)))
+process_grows n (item.RemoteAs addr number) b =
+    stands_once (GrowsBgp n b) n (has_neighbor b.neighbors addr) _ (λ e. inr (map_push (λ (p : Neighbor). p.line) b.neighbors (new_neighbor n addr number)))
 process_grows n _ b = inl refl
 
 bgp_grows : (n : ℕ) (said : RouterItem) (b : BgpProcess) → IfOk (set_bgp n said b) (GrowsBgp n b)
@@ -183,7 +197,8 @@ unfolding set_bgp
 bgp_grows n said b = by (peer_of said)
   where
     by : (o : Option ℕ) → IfOk (set_bgp_for o n said b) (GrowsBgp n b)
-    by (Some addr) = then_step (HaveLinesOf b.neighbors) (GrowsBgp n b) (at_neighbor n addr (set_neighbor n said) b.neighbors) _ (neighbors_keep n addr said b.neighbors) (λ qs same. inl same)
+    by (Some addr) = then_step (HaveLinesOf b.neighbors) (GrowsBgp n b) (at_neighbor n addr (set_neighbor n said) b.neighbors) _
+        (neighbors_keep n addr said b.neighbors) (λ qs same. inl same)
     by None = process_grows n said b
 
 -- what a line of a stanza leaves
@@ -195,16 +210,23 @@ unfolding take_inner
 inner_grows l bgp closed only = tt
 inner_grows l bgp ignored only = (refl, inl refl, tt)
 inner_grows l bgp (in_interface i) only =
-    then_said IsAny (GrowsStanza l.number bgp (in_interface i)) l.number (router_item_of scope.Interface l.number l.words) _ (any_result (router_item_of scope.Interface l.number l.words)) (λ said any.
-    then_step (λ (j : Interface). j.line ≡ i.line) (GrowsStanza l.number bgp (in_interface i)) _ _ (interface_keeps l.number said i) (λ j same. let out : GrowsStanza l.number bgp (in_interface i) (in_interface j) = (ap (λ (k : ℕ). k ∷ []) same, inl refl, tt) in out))
+    then_said IsAny (GrowsStanza l.number bgp (in_interface i)) l.number (router_item_of scope.Interface l.number l.words) _
+    (any_result (router_item_of scope.Interface l.number l.words)) (λ said any.
+    then_step (λ (j : Interface). j.line ≡ i.line) (GrowsStanza l.number bgp (in_interface i)) _ _ (interface_keeps l.number said i)
+    (λ j same. let out : GrowsStanza l.number bgp (in_interface i) (in_interface j) = (ap (λ (k : ℕ). k ∷ []) same, inl refl, tt) in out))
 inner_grows l bgp (in_bgp b) only =
-    then_said IsAny (GrowsStanza l.number bgp (in_bgp b)) l.number (router_item_of scope.Bgp l.number l.words) _ (any_result (router_item_of scope.Bgp l.number l.words)) (λ said any.
-    then_step (GrowsBgp l.number b) (GrowsStanza l.number bgp (in_bgp b)) _ _ (bgp_grows l.number said b) (λ c grows. let out : GrowsStanza l.number bgp (in_bgp b) (in_bgp c) = (refl, grows, only) in out))
+    then_said IsAny (GrowsStanza l.number bgp (in_bgp b)) l.number (router_item_of scope.Bgp l.number l.words) _
+    (any_result (router_item_of scope.Bgp l.number l.words)) (λ said any.
+    then_step (GrowsBgp l.number b) (GrowsStanza l.number bgp (in_bgp b)) _ _ (bgp_grows l.number said b)
+    (λ c grows. let out : GrowsStanza l.number bgp (in_bgp b) (in_bgp c) = (refl, grows, only) in out))
 inner_grows l bgp (in_ospf o) only =
-    then_said IsAny (GrowsStanza l.number bgp (in_ospf o)) l.number (router_item_of scope.Ospf l.number l.words) _ (any_result (router_item_of scope.Ospf l.number l.words)) (λ said any. (refl, inl refl, tt))
+    then_said IsAny (GrowsStanza l.number bgp (in_ospf o)) l.number (router_item_of scope.Ospf l.number l.words) _
+    (any_result (router_item_of scope.Ospf l.number l.words)) (λ said any. (refl, inl refl, tt))
 inner_grows l bgp (in_entry name e) only =
-    then_said IsAny (GrowsStanza l.number bgp (in_entry name e)) l.number (policy_item_of policy_scope.Entry l.number l.words) _ (any_result (policy_item_of policy_scope.Entry l.number l.words)) (λ said any.
-    then_step IsAny (GrowsStanza l.number bgp (in_entry name e)) (set_entry l.number said e) _ (any_result (set_entry l.number said e)) (λ f any. let out : GrowsStanza l.number bgp (in_entry name e) (in_entry name f) = (refl, inl refl, tt) in out))
+    then_said IsAny (GrowsStanza l.number bgp (in_entry name e)) l.number (policy_item_of policy_scope.Entry l.number l.words) _
+    (any_result (policy_item_of policy_scope.Entry l.number l.words)) (λ said any.
+    then_step IsAny (GrowsStanza l.number bgp (in_entry name e)) (set_entry l.number said e) _ (any_result (set_entry l.number said e))
+    (λ f any. let out : GrowsStanza l.number bgp (in_entry name e) (in_entry name f) = (refl, inl refl, tt) in out))
 
 -- ---- the state
 
@@ -225,10 +247,12 @@ GrowsState n s t = Extends n (state_interfaces s) (state_interfaces t) × Extend
 
 pub extends_behind : (n : ℕ) (front before now after : List ℕ) → now ≡ before → Extends n now after → Extends n (front ++ before) (front ++ after)
 extends_behind n front before now after same (inl e) = inl (ap (λ (ks : List ℕ). front ++ ks) (e ∙ same))
-extends_behind n front before now after same (inr e) = inr (ap (λ (ks : List ℕ). front ++ ks) (e ∙ ap (λ (ks : List ℕ). ks ++ n ∷ []) same) ∙ sym (append_assoc front before (n ∷ [])))
+extends_behind n front before now after same (inr e) =
+    inr (ap (λ (ks : List ℕ). front ++ ks) (e ∙ ap (λ (ks : List ℕ). ks ++ n ∷ []) same) ∙ sym (append_assoc front before (n ∷ [])))
 
 -- a draft that grows from a closed one, in its state
-in_state : (n : ℕ) (rs : List Router) (d c e : Draft) → IsClosedOf d c → Grows n c e → GrowsState n (record { routers = rs; draft = d }) (record { routers = rs; draft = e })
+in_state : (n : ℕ) (rs : List Router) (d c e : Draft) → IsClosedOf d c → Grows n c e →
+    GrowsState n (record { routers = rs; draft = d }) (record { routers = rs; draft = e })
 in_state n rs d c e of grows = (
   extends_behind n (routers_interfaces rs) (draft_interfaces d) (draft_interfaces c) (draft_interfaces e) of.interfaces grows.0,
   extends_behind n (routers_neighbors rs) (draft_neighbors d) (draft_neighbors c) (draft_neighbors e) of.neighbors grows.1,
@@ -236,10 +260,13 @@ in_state n rs d c e of grows = (
 )
 
 -- a router that ends takes its draft's lines along
-pub moved : {X : Type 0} (lines : X → List ℕ) (xs : List X) (x : X) (draft : List ℕ) → draft ≡ lines x → flat_map lines (xs ++ x ∷ []) ++ [] ≡ flat_map lines xs ++ draft
-moved lines xs x draft e = append-nil (flat_map lines (xs ++ x ∷ [])) ∙ flat_map-append lines xs (x ∷ []) ∙ ap (λ (ks : List ℕ). flat_map lines xs ++ ks) (append-nil (lines x) ∙ sym e)
+pub moved : {X : Type 0} (lines : X → List ℕ) (xs : List X) (x : X) (draft : List ℕ) → draft ≡ lines x → flat_map lines (xs ++ x ∷ []) ++ [] ≡ flat_map lines xs
+    ++ draft
+moved lines xs x draft e = append-nil (flat_map lines (xs ++ x ∷ [])) ∙ flat_map-append lines xs (x ∷ [])
+    ∙ ap (λ (ks : List ℕ). flat_map lines xs ++ ks) (append-nil (lines x) ∙ sym e)
 
-named_grows : (n : ℕ) (rs : List Router) (d c : Draft) (name : Option Named) → IsClosedOf d c → IfOk (named_router n name c) (λ (r : Router). GrowsState n (record { routers = rs; draft = d }) (record { routers = rs ++ r ∷ []; draft = no_draft }))
+named_grows : (n : ℕ) (rs : List Router) (d c : Draft) (name : Option Named) → IsClosedOf d c →
+    IfOk (named_router n name c) (λ (r : Router). GrowsState n (record { routers = rs; draft = d }) (record { routers = rs ++ r ∷ []; draft = no_draft }))
 named_grows n rs d c None of = tt
 named_grows n rs d c (Some host) of = (
   inl (moved (λ (r : Router). lines_of_interfaces r.interfaces) rs _ (draft_interfaces d) (sym of.interfaces ∙ idle_interfaces c of.idle)),
@@ -247,15 +274,19 @@ named_grows n rs d c (Some host) of = (
   tt,
 )
 
-top_grows : (n : ℕ) (said : RouterItem) (rs : List Router) (d c : Draft) → IsClosedOf d c → IfOk (take_top n said (record { routers = rs; draft = c })) (GrowsState n (record { routers = rs; draft = d }))
+top_grows : (n : ℕ) (said : RouterItem) (rs : List Router) (d c : Draft) → IsClosedOf d c →
+    IfOk (take_top n said (record { routers = rs; draft = c })) (GrowsState n (record { routers = rs; draft = d }))
 unfolding take_top
 top_grows n said rs d c of =
     either (GrowsState n (record { routers = rs; draft = d })) (ends_router said) _ _
-    (λ e. then_step (λ (r : Router). GrowsState n (record { routers = rs; draft = d }) (record { routers = rs ++ r ∷ []; draft = no_draft })) (GrowsState n (record { routers = rs; draft = d })) (router_of n c) _ (named_grows n rs d c c.name of) (λ r grows. grows))
-    (λ e. then_step (Grows n c) (GrowsState n (record { routers = rs; draft = d })) (take_line n said c) _ (line_grows n said c of.idle) (λ x grows. in_state n rs d c x of grows))
+    (λ e. then_step (λ (r : Router). GrowsState n (record { routers = rs; draft = d }) (record { routers = rs ++ r ∷ []; draft = no_draft }))
+    (GrowsState n (record { routers = rs; draft = d })) (router_of n c) _ (named_grows n rs d c c.name of) (λ r grows. grows))
+    (λ e. then_step (Grows n c) (GrowsState n (record { routers = rs; draft = d })) (take_line n said c) _ (line_grows n said c of.idle)
+    (λ x grows. in_state n rs d c x of grows))
 
 -- an open stanza that grows, in its state
-stanza_state : (n : ℕ) (s : State) (out : Stanza) → GrowsStanza n s.draft.bgp s.draft.stanza out → GrowsState n s (record s { draft = record s.draft { stanza = out } })
+stanza_state : (n : ℕ) (s : State) (out : Stanza) → GrowsStanza n s.draft.bgp s.draft.stanza out →
+    GrowsState n s (record s { draft = record s.draft { stanza = out } })
 stanza_state n s out grows = (
   inl (ap (λ (ks : List ℕ). routers_interfaces s.routers ++ (lines_of_interfaces s.draft.interfaces ++ ks)) grows.0),
   extends_behind n (routers_neighbors s.routers) (draft_neighbors s.draft) (draft_neighbors s.draft) (neighbors_in s.draft.bgp ++ neighbors_open out) refl
@@ -269,11 +300,15 @@ one_step s l only =
     let of = closed_of s.draft only in
     either (GrowsState l.number s) (l.indent == 0) _ _
     (λ top. either (GrowsState l.number s) (is_policy_line l.words) _ _
-    (λ listed. then_said IsAny (GrowsState l.number s) l.number (policy_item_of policy_scope.Top l.number l.words) _ (any_result (policy_item_of policy_scope.Top l.number l.words)) (λ said any.
-    then_step (Grows l.number (with_closed s.draft)) (GrowsState l.number s) _ _ (policy_grows l.number said (with_closed s.draft) of.idle) (λ d grows. in_state l.number s.routers s.draft (with_closed s.draft) d of grows)))
-    (λ other. then_said IsAny (GrowsState l.number s) l.number (router_item_of scope.Top l.number l.words) _ (any_result (router_item_of scope.Top l.number l.words)) (λ said any.
+    (λ listed. then_said IsAny (GrowsState l.number s) l.number (policy_item_of policy_scope.Top l.number l.words) _
+    (any_result (policy_item_of policy_scope.Top l.number l.words)) (λ said any.
+    then_step (Grows l.number (with_closed s.draft)) (GrowsState l.number s) _ _ (policy_grows l.number said (with_closed s.draft) of.idle)
+    (λ d grows. in_state l.number s.routers s.draft (with_closed s.draft) d of grows)))
+    (λ other. then_said IsAny (GrowsState l.number s) l.number (router_item_of scope.Top l.number l.words) _
+    (any_result (router_item_of scope.Top l.number l.words)) (λ said any.
     top_grows l.number said s.routers s.draft (with_closed s.draft) of)))
-    (λ inner. then_step (GrowsStanza l.number s.draft.bgp s.draft.stanza) (GrowsState l.number s) (take_inner l s.draft.stanza) _ (inner_grows l s.draft.bgp s.draft.stanza only) (λ out grows. stanza_state l.number s out grows))
+    (λ inner. then_step (GrowsStanza l.number s.draft.bgp s.draft.stanza) (GrowsState l.number s) (take_inner l s.draft.stanza) _
+    (inner_grows l s.draft.bgp s.draft.stanza only) (λ out grows. stanza_state l.number s out grows))
 
 -- ---- all lines
 
@@ -297,7 +332,8 @@ ascending_push m n [] up all less = (tt, tt)
 ascending_push m n (k ∷ ks) up all less = (above_push k n ks up.0 (let le = all.0 in omega arith), ascending_push m n ks up.1 all.1 less)
 
 pub order_next : (m n : ℕ) (before after : List ℕ) → IsInOrder m before → m < n → n ≤ 1000000 → Extends n before after → IsInOrder n after
-order_next m n before after is less small (inl e) = rw e (record { ascending = is.ascending; upto = all_weaker (λ (k : ℕ). k ≤ m) (λ (k : ℕ). k ≤ n) (λ k le. omega arith) before is.upto; range = is.range })
+order_next m n before after is less small (inl e) =
+    rw e (record { ascending = is.ascending; upto = all_weaker (λ (k : ℕ). k ≤ m) (λ (k : ℕ). k ≤ n) (λ k le. omega arith) before is.upto; range = is.range })
 order_next m n before after is less small (inr e) =
     rw e (record {
       ascending = ascending_push m n before is.ascending is.upto less;
@@ -311,7 +347,12 @@ pub record IsOrdered (m : ℕ) (s : State) : Type 0 where
   pub only : IsOnly s.draft.bgp s.draft.stanza
 
 pub start_ordered : IsOrdered 0 at_start
-start_ordered = record { interfaces = record { ascending = tt; upto = tt; range = tt }; neighbors = record { ascending = tt; upto = tt; range = tt }; only = tt }
+start_ordered = record {
+  interfaces = record { ascending = tt; upto = tt; range = tt };
+  neighbors = record { ascending = tt; upto = tt; range = tt };
+  only =
+      tt;
+}
 
 -- in order, up to some line
 abbrev pub AreOrdered : State → Type 0
@@ -362,8 +403,12 @@ front_lines m xs ys is =
     let range = all_front (λ (k : ℕ). (1 ≤ k) × (k ≤ 1000000)) xs ys is.range in
     record {
       ascending = up;
-      few = (let count = count_above 0 1000000 xs (omega arith) (zero_below xs range) up (all_weaker (λ (k : ℕ). (1 ≤ k) × (k ≤ 1000000)) (λ (k : ℕ). k ≤ 1000000) (λ k is. is.1) xs range) in omega (arith, count));
+      few = (let count = count_above 0 1000000 xs (omega arith) (zero_below xs range) up
+          (all_weaker (λ (k : ℕ). (1 ≤ k) × (k ≤ 1000000)) (λ (k : ℕ). k ≤ 1000000) (λ k is. is.1) xs range) in omega (arith, count));
     }
 
 pub routers_lines : (s : State) → AreOrdered s → AreLines (routers_interfaces s.routers) × AreLines (routers_neighbors s.routers)
-routers_lines s (m, is) = (front_lines m (routers_interfaces s.routers) (draft_interfaces s.draft) is.interfaces, front_lines m (routers_neighbors s.routers) (draft_neighbors s.draft) is.neighbors)
+routers_lines s (m, is) = (
+  front_lines m (routers_interfaces s.routers) (draft_interfaces s.draft) is.interfaces,
+  front_lines m (routers_neighbors s.routers) (draft_neighbors s.draft) is.neighbors,
+)

@@ -23,7 +23,8 @@ ends_mapped : {X : Type 0} (p : Place X) (qs : List (Place X)) → map (link_bet
 ends_mapped p [] = refl
 ends_mapped p (q ∷ qs) = ap (λ (ls : List Link). link_between p q ∷ ls) (ends_mapped p qs)
 
-ends_of_links : {X : Type 0} (joins : Place X → Place X → Bool) (qs ps : List (Place X)) → flat_map (links_from joins qs) ps ≡ map link_of_ends (flat_map (ends_from joins qs) ps)
+ends_of_links : {X : Type 0} (joins : Place X → Place X → Bool) (qs ps : List (Place X)) →
+    flat_map (links_from joins qs) ps ≡ map link_of_ends (flat_map (ends_from joins qs) ps)
 ends_of_links joins qs [] = refl
 ends_of_links joins qs (p ∷ ps) =
     ap (λ (ls : List Link). ls ++ flat_map (links_from joins qs) ps) (ends_mapped p (filter (joins p) qs))
@@ -40,10 +41,13 @@ all_append : {X : Type 0} (P : X → Type 0) (xs ys : List X) → AllByRecursion
 all_append P [] ys first second = second
 all_append P (x ∷ xs) ys first second = (first.0, all_append P xs ys first.1 second)
 
-pairs_append : (xs ys : List (ℕ × ℕ)) → ArePairsAscending xs → ArePairsAscending ys → ((x y : ℕ × ℕ) → In xs x → In ys y → IsPairBefore x y) → ArePairsAscending (xs ++ ys)
+pairs_append : (xs ys : List (ℕ × ℕ)) → ArePairsAscending xs → ArePairsAscending ys → ((x y : ℕ × ℕ) → In xs x → In ys y → IsPairBefore x y) →
+    ArePairsAscending (xs ++ ys)
 pairs_append [] ys first second before = second
-pairs_append (x ∷ xs) ys first second before =
-    (all_append (IsPairBefore x) xs ys first.0 (all_in (IsPairBefore x) ys (λ y at. before x y (inl refl) at)), pairs_append xs ys first.1 second (λ z y at also. before z y (inr at) also))
+pairs_append (x ∷ xs) ys first second before = (
+  all_append (IsPairBefore x) xs ys first.0 (all_in (IsPairBefore x) ys (λ y at. before x y (inl refl) at)),
+  pairs_append xs ys first.1 second (λ z y at also. before z y (inr at) also),
+)
 
 -- ---- places by routers
 
@@ -52,7 +56,8 @@ abbrev FollowsRouters : {X : Type 0} → List (Place X) → Type 0
 FollowsRouters [] = Unit {0}
 FollowsRouters {X} (p ∷ ps) = ((q : Place X) → In ps q → p.router ≤ q.router) × FollowsRouters ps
 
-follows_append : {X : Type 0} (ps qs : List (Place X)) → FollowsRouters ps → FollowsRouters qs → ((p q : Place X) → In ps p → In qs q → p.router ≤ q.router) → FollowsRouters (ps ++ qs)
+follows_append : {X : Type 0} (ps qs : List (Place X)) → FollowsRouters ps → FollowsRouters qs → ((p q : Place X) → In ps p → In qs q → p.router ≤ q.router) →
+    FollowsRouters (ps ++ qs)
 follows_append [] qs first second before = second
 follows_append {X} (p ∷ ps) qs first second before =
     ((λ q at. either q (append_in ps qs q at)), follows_append ps qs first.1 second (λ r s at also. before r s (inr at) also))
@@ -68,7 +73,10 @@ on_router items numbered p at =
 
 one_router : {X : Type 0} (k : ℕ) (ps : List (Place X)) → ((p : Place X) → In ps p → k ≡ p.router) → FollowsRouters ps
 one_router k [] each = tt
-one_router k (p ∷ ps) each = ((λ q at. (let first = each p (inl refl) in let second = each q (inr at) in omega arith)), one_router k ps (λ q at. each q (inr at)))
+one_router k (p ∷ ps) each = (
+  (λ q at. (let first = each p (inl refl) in let second = each q (inr at) in omega arith)),
+  one_router k ps (λ q at. each q (inr at)),
+)
 
 number_from : {Y : Type 0} (k : ℕ) (ys : List Y) (numbered : ℕ × Y) → In (enumerate_from k ys) numbered → k ≤ numbered.0
 number_from k [] numbered at = absurd at
@@ -100,7 +108,8 @@ Rises some_line [] = Unit {0}
 Rises {X} some_line (p ∷ ps) = ((q : Place X) (m n : ℕ) → In ps q → some_line p ≡ Some m → some_line q ≡ Some n → m < n) × Rises some_line ps
 
 -- of two places that have lines, the one on the earlier router has the lesser line
-less_on : {X : Type 0} (some_line : Place X → Option ℕ) (ps : List (Place X)) → Rises some_line ps → FollowsRouters ps → (p q : Place X) (m n : ℕ) → In ps p → In ps q → p.router < q.router
+less_on : {X : Type 0} (some_line : Place X → Option ℕ) (ps : List (Place X)) → Rises some_line ps → FollowsRouters ps → (p q : Place X) (m n : ℕ) → In ps p →
+    In ps q → p.router < q.router
     → some_line p ≡ Some m → some_line q ≡ Some n → m < n
 less_on some_line [] up follows p q m n at also earlier first second = absurd at
 less_on {X} some_line (x ∷ ps) up follows p q m n (inl same) (inl again) earlier first second =
@@ -108,7 +117,8 @@ less_on {X} some_line (x ∷ ps) up follows p q m n (inl same) (inl again) earli
 less_on some_line (x ∷ ps) up follows p q m n (inl same) (inr also) earlier first second = up.0 q m n also (ap some_line same ∙ first) second
 less_on {X} some_line (x ∷ ps) up follows p q m n (inr at) (inl again) earlier first second =
     let e = follows.0 p at in let f = ap (λ (place : Place X). place.router) again in absurd (omega arith)
-less_on some_line (x ∷ ps) up follows p q m n (inr at) (inr also) earlier first second = less_on some_line ps up.1 follows.1 p q m n at also earlier first second
+less_on some_line (x ∷ ps) up follows p q m n (inr at) (inr also) earlier first second =
+    less_on some_line ps up.1 follows.1 p q m n at also earlier first second
 
 module _ {X : Type 0} (joins : Place X → Place X → Bool) (some_line : Place X → Option ℕ) (line : Place X → ℕ)
     (has : (p q : Place X) → joins p q ≡ true → (some_line p ≡ Some (line p)) × (some_line q ≡ Some (line q)))
@@ -116,8 +126,10 @@ module _ {X : Type 0} (joins : Place X → Place X → Bool) (some_line : Place 
   abbrev lines_of : Ends X → ℕ × ℕ
   lines_of e = (line e.0, line e.1)
 
-  row_step : (p q : Place X) (qs : List (Place X)) (b : Bool) → joins p q ≡ b → ((r : Place X) (m n : ℕ) → In qs r → some_line q ≡ Some m → some_line r ≡ Some n → m < n)
-      → ArePairsAscending (map lines_of (map (λ r. (p, r)) (filter (joins p) qs))) → ArePairsAscending (map lines_of (map (λ r. (p, r)) (cond b (q ∷ filter (joins p) qs) (filter (joins p) qs))))
+  row_step : (p q : Place X) (qs : List (Place X)) (b : Bool) → joins p q ≡ b →
+      ((r : Place X) (m n : ℕ) → In qs r → some_line q ≡ Some m → some_line r ≡ Some n → m < n)
+      → ArePairsAscending (map lines_of (map (λ r. (p, r)) (filter (joins p) qs))) →
+      ArePairsAscending (map lines_of (map (λ r. (p, r)) (cond b (q ∷ filter (joins p) qs) (filter (joins p) qs))))
   row_step p q qs true joined before rest = (
     all_in (IsPairBefore (line p, line q)) (map lines_of (map (λ r. (p, r)) (filter (joins p) qs)))
         (λ pair at.
@@ -159,7 +171,8 @@ module _ {X : Type 0} (joins : Place X → Place X → Bool) (some_line : Place 
       let from = map_in (λ r. (place.0, r)) (filter (joins place.0) ps) e place.2 in
       let kept = filter_in (joins place.0) ps from.0 from.1 in
       let lines = has place.0 from.0 kept.1 in
-      subst (IsLesserFirst line) from.2 (less_on some_line ps up follows place.0 from.0 (line place.0) (line from.0) place.1 kept.0 (earlier place.0 from.0 kept.1) lines.0 lines.1))
+      subst (IsLesserFirst line) from.2 (less_on some_line ps up follows place.0 from.0 (line place.0) (line from.0) place.1 kept.0
+      (earlier place.0 from.0 kept.1) lines.0 lines.1))
 
   by_lines : (ps : List (Place X)) → Rises some_line ps → FollowsRouters ps → AreByLines joins line ps
   by_lines ps up follows = record { ends = ends_of_links joins ps ps; ascending = rows ps ps up up; lesser_first = lesser_firsts ps up follows }
@@ -173,21 +186,29 @@ above_in line n (p ∷ ps) q above (inr at) = above_in line n ps q above.1 at
 
 rises_all : {X : Type 0} (line : Place X → ℕ) (ps : List (Place X)) → IsAscending (map line ps) → Rises (λ p. Some (line p)) ps
 rises_all line [] up = tt
-rises_all line (p ∷ ps) up = ((λ q m n at e f. (let first : line p ≡ m = cc in let second : line q ≡ n = cc in let less = above_in line (line p) ps q up.0 at in omega arith)), rises_all line ps up.1)
+rises_all line (p ∷ ps) up = (
+  (λ q m n at e f. (let first : line p ≡ m = cc in let second : line q ≡ n = cc in let less = above_in line (line p) ps q up.0 at in
+      omega arith)),
+  rises_all line ps up.1,
+)
 
-above_some : {X : Type 0} (line : Place X → Option ℕ) (n m : ℕ) (ps : List (Place X)) (q : Place X) → AllAbove n (filter_map line ps) → In ps q → line q ≡ Some m → n < m
+above_some : {X : Type 0} (line : Place X → Option ℕ) (n m : ℕ) (ps : List (Place X)) (q : Place X) → AllAbove n (filter_map line ps) → In ps q →
+    line q ≡ Some m → n < m
 above_some line n m [] q above at e = absurd at
 above_some {X} line n m (p ∷ ps) q above at e = by (line p) refl above at (λ rest behind. above_some line n m ps q rest behind e)
   where
-    by : (o : Option ℕ) → line p ≡ o → AllAbove n (cons_option o (filter_map line ps)) → In (p ∷ ps) q → (AllAbove n (filter_map line ps) → In ps q → n < m) → n < m
+    by : (o : Option ℕ) → line p ≡ o → AllAbove n (cons_option o (filter_map line ps)) → In (p ∷ ps) q → (AllAbove n (filter_map line ps) → In ps q → n < m) →
+        n < m
     by None is above (inl same) more = let f : line p ≡ Some m = ap line same ∙ e in absurd cc
     by None is above (inr behind) more = more above behind
     by (Some k) is above (inl same) more = let f : line p ≡ Some m = ap line same ∙ e in let g : k ≡ m = cc in let less = above.0 in omega arith
     by (Some k) is above (inr behind) more = more above.1 behind
 
-rises_some_step : {X : Type 0} (line : Place X → Option ℕ) (p : Place X) (ps : List (Place X)) (o : Option ℕ) → line p ≡ o → IsAscending (cons_option o (filter_map line ps)) → (IsAscending (filter_map line ps) → Rises line ps) → Rises line (p ∷ ps)
+rises_some_step : {X : Type 0} (line : Place X → Option ℕ) (p : Place X) (ps : List (Place X)) (o : Option ℕ) → line p ≡ o →
+    IsAscending (cons_option o (filter_map line ps)) → (IsAscending (filter_map line ps) → Rises line ps) → Rises line (p ∷ ps)
 rises_some_step line p ps None is up more = ((λ q m n at e f. absurd cc), more up)
-rises_some_step line p ps (Some k) is up more = ((λ q m n at e f. (let g : k ≡ m = cc in let less = above_some line k n ps q up.0 at f in omega arith)), more up.1)
+rises_some_step line p ps (Some k) is up more =
+    ((λ q m n at e f. (let g : k ≡ m = cc in let less = above_some line k n ps q up.0 at f in omega arith)), more up.1)
 
 rises_some : {X : Type 0} (line : Place X → Option ℕ) (ps : List (Place X)) → IsAscending (filter_map line ps) → Rises line ps
 rises_some line [] up = tt
@@ -215,7 +236,8 @@ address_has_line p a active = line_of p.value.address (has_line (is_active_inter
     line_of (Some b) e = refl
     line_of None e = absurd cc
 
-adjacent_lines : (p q : Place Interface) → are_adjacent p q ≡ true → (given_address_line p ≡ Some (address_line p)) × (given_address_line q ≡ Some (address_line q))
+adjacent_lines : (p q : Place Interface) → are_adjacent p q ≡ true → (given_address_line p ≡ Some (address_line p))
+    × (given_address_line q ≡ Some (address_line q))
 adjacent_lines p q joined =
     let both = both_some (active_address p) (active_address q) (and_second (nat_lt p.router q.router) (share_area_subnet p q) joined) in
     (address_has_line p both.0.0 both.0.1, address_has_line q both.1.0 both.1.1)
@@ -229,7 +251,8 @@ first_earlier p q b joined = let less = and_first (nat_lt p.router q.router) b j
 
 -- ---- places that are kept ascend
 
-above_kept : {X : Type 0} (line : Place X → ℕ) (test : Place X → Bool) (n : ℕ) (ps : List (Place X)) → AllAbove n (map line ps) → AllAbove n (map line (filter test ps))
+above_kept : {X : Type 0} (line : Place X → ℕ) (test : Place X → Bool) (n : ℕ) (ps : List (Place X)) → AllAbove n (map line ps) →
+    AllAbove n (map line (filter test ps))
 above_kept line test n [] above = tt
 above_kept {X} line test n (p ∷ ps) above = by (test p) (above_kept line test n ps above.1)
   where
@@ -237,7 +260,8 @@ above_kept {X} line test n (p ∷ ps) above = by (test p) (above_kept line test 
     by true rest = (above.0, rest)
     by false rest = rest
 
-ascending_kept : {X : Type 0} (line : Place X → ℕ) (test : Place X → Bool) (ps : List (Place X)) → IsAscending (map line ps) → IsAscending (map line (filter test ps))
+ascending_kept : {X : Type 0} (line : Place X → ℕ) (test : Place X → Bool) (ps : List (Place X)) → IsAscending (map line ps) →
+    IsAscending (map line (filter test ps))
 ascending_kept line test [] up = tt
 ascending_kept {X} line test (p ∷ ps) up = by (test p) (ascending_kept line test ps up.1)
   where
@@ -253,12 +277,14 @@ unmatched_listed network = refl
 
 in_order : (network : Network) → PlacesAreInOrder network → LinksAreInOrder network
 in_order network is = record {
-  sessions = by_lines is_session (λ p. Some (neighbor_line p)) neighbor_line (λ p q joined. (refl, refl)) (λ p q joined. first_earlier p q (are_peers p q) joined)
+  sessions = by_lines is_session (λ p. Some (neighbor_line p)) neighbor_line (λ p q joined. (refl, refl))
+      (λ p q joined. first_earlier p q (are_peers p q) joined)
       (places neighbors_of network) (rises_all neighbor_line (places neighbors_of network) is.neighbors) (follows_routers neighbors_of network);
   adjacencies = by_lines are_adjacent given_address_line address_line adjacent_lines (λ p q joined. first_earlier p q (share_area_subnet p q) joined)
       (places interfaces_of network) (rises_some given_address_line (places interfaces_of network) is.addresses) (follows_routers interfaces_of network);
   unmatched = unmatched_listed network;
-  unmatched_ascending = ascending_kept neighbor_line (λ p. not (list_any (are_peers p) (places neighbors_of network))) (places neighbors_of network) is.neighbors;
+  unmatched_ascending = ascending_kept neighbor_line (λ p. not (list_any (are_peers p) (places neighbors_of network))) (places neighbors_of network)
+      is.neighbors;
 }
 
 pub given_links_are_in_order : GivenLinksAreInOrder

@@ -31,12 +31,15 @@ use Rattle.given_laws.proofs.LineOrder.{AreNumbered, AreOrdered, start_ordered, 
 
 -- ---- the numbers of the lines of a text
 
-numbered_case : (b : Bool) (bs : List ℕ) (m : ℕ) (p : Piece) (ps : List Piece) → m < p.number → p.number ≤ 1000000 → AreNumbered p.number (texts_of bs (map (line_of bs) (filter (is_kept bs) ps))) → AreNumbered m (texts_of bs (map (line_of bs) (filter (is_kept bs) ps)))
+numbered_case : (b : Bool) (bs : List ℕ) (m : ℕ) (p : Piece) (ps : List Piece) → m < p.number → p.number ≤ 1000000 →
+    AreNumbered p.number (texts_of bs (map (line_of bs) (filter (is_kept bs) ps))) → AreNumbered m (texts_of bs (map (line_of bs) (filter (is_kept bs) ps)))
     → AreNumbered m (texts_of bs (map (line_of bs) (cond b (p ∷ filter (is_kept bs) ps) (filter (is_kept bs) ps))))
 numbered_case true bs m p ps less small here skipped = (less, small, here)
 numbered_case false bs m p ps less small here skipped = skipped
 
-numbered : (bs : List ℕ) (m n : ℕ) (starts : List ℕ) → m < n → AllByRecursion (λ (p : Piece). p.number ≤ 1000000) (map (piece_at bs) (enumerate_from n starts)) → AreNumbered m (texts_of bs (map (line_of bs) (filter (is_kept bs) (map (piece_at bs) (enumerate_from n starts)))))
+numbered : (bs : List ℕ) (m n : ℕ) (starts : List ℕ) → m < n →
+    AllByRecursion (λ (p : Piece). p.number ≤ 1000000) (map (piece_at bs) (enumerate_from n starts)) →
+    AreNumbered m (texts_of bs (map (line_of bs) (filter (is_kept bs) (map (piece_at bs) (enumerate_from n starts)))))
 numbered bs m n [] less all = tt
 numbered bs m n (i ∷ starts) less all =
     let p = piece_at bs (n, i) in
@@ -48,7 +51,9 @@ unfolding pieces_from
 lines_numbered bs ls e =
     let ps = pieces_from bs 1 0 in
     let free = lines_faultless bs ps ls e in
-    let small : AllByRecursion (λ (p : Piece). p.number ≤ 1000000) ps = all_weaker (λ (p : Piece). kind_at bs p ≡ None) (λ (p : Piece). p.number ≤ 1000000) (λ p none. few bs p none) ps (recursion_from_All (λ p. kind_at bs p ≡ None) ps free.each) in
+    let small : AllByRecursion (λ (p : Piece). p.number ≤ 1000000) ps =
+    all_weaker (λ (p : Piece). kind_at bs p ≡ None) (λ (p : Piece). p.number ≤ 1000000) (λ p none. few bs p none) ps
+    (recursion_from_All (λ p. kind_at bs p ≡ None) ps free.each) in
     rw free.are (numbered bs 0 1 (filter (begins_line bs) (range_with_len 0 (length bs - 0))) (omega arith) small)
 
 -- ---- the network
@@ -58,7 +63,9 @@ HasLines n = AreLines (routers_interfaces n.routers) × AreLines (routers_neighb
 
 of_lines : (ls : List TextLine) → AreNumbered 0 ls → IfOk (network_of_lines ls) HasLines
 unfolding network_of_lines
-of_lines ls are = then_step AreOrdered HasLines (steps at_start ls) _ (ordered_steps ls at_start 0 are start_ordered) (λ s is. then_step IsAny HasLines (ending ls) _ (any_result (ending ls)) (λ x any. let lines : HasLines (record { routers = s.routers }) = routers_lines s is in lines))
+of_lines ls are = then_step AreOrdered HasLines (steps at_start ls) _ (ordered_steps ls at_start 0 are start_ordered)
+    (λ s is. then_step IsAny HasLines (ending ls) _ (any_result (ending ls)) (λ x any. let lines : HasLines (record { routers = s.routers }) =
+    routers_lines s is in lines))
 
 of_result : (bs : List ℕ) (r : Result (List Line) ReadRefusal) → lines_of bs ≡ r → IfOk (r >>= (λ (ls : List Line). network_of_lines (texts_of bs ls))) HasLines
 of_result bs (Err fault) e = tt
@@ -71,7 +78,8 @@ values_on r owner [] n = refl
 values_on r owner (x ∷ xs) n = ap (λ (ys : List _). x ∷ ys) (values_on r owner xs (n + 1))
 
 -- the values of the places are the items of the routers
-values_from : {X : Type 0} (items : Router → List X) (rs : List Router) (n : ℕ) → map (λ (p : Place X). p.value) (flat_map (places_on items) (enumerate_from n rs)) ≡ flat_map items rs
+values_from : {X : Type 0} (items : Router → List X) (rs : List Router) (n : ℕ) →
+    map (λ (p : Place X). p.value) (flat_map (places_on items) (enumerate_from n rs)) ≡ flat_map items rs
 values_from items [] n = refl
 values_from {X} items (r ∷ rs) n =
     map-append (λ (p : Place X). p.value) (places_on items (n, r)) (flat_map (places_on items) (enumerate_from (n + 1) rs))
@@ -82,7 +90,8 @@ values : {X : Type 0} (items : Router → List X) (network : Network) → map (�
 unfolding places
 values items network = values_from items network.routers 0
 
-map_flat : {X : Type 0} (line : X → ℕ) (items : Router → List X) (rs : List Router) → map line (flat_map items rs) ≡ flat_map (λ (r : Router). map line (items r)) rs
+map_flat : {X : Type 0} (line : X → ℕ) (items : Router → List X) (rs : List Router) →
+    map line (flat_map items rs) ≡ flat_map (λ (r : Router). map line (items r)) rs
 map_flat line items [] = refl
 map_flat line items (r ∷ rs) = map-append line (items r) (flat_map items rs) ∙ ap (λ (ks : List ℕ). map line (items r) ++ ks) (map_flat line items rs)
 
@@ -90,7 +99,8 @@ map_twice : {X : Type 0} (line : X → ℕ) (ps : List (Place X)) → map (λ (p
 map_twice line [] = refl
 map_twice line (p ∷ ps) = ap (λ (ks : List ℕ). line p.value ∷ ks) (map_twice line ps)
 
-place_lines : {X : Type 0} (line : X → ℕ) (items : Router → List X) (network : Network) → map (λ (p : Place X). line p.value) (places items network) ≡ flat_map (λ (r : Router). map line (items r)) network.routers
+place_lines : {X : Type 0} (line : X → ℕ) (items : Router → List X) (network : Network) →
+    map (λ (p : Place X). line p.value) (places items network) ≡ flat_map (λ (r : Router). map line (items r)) network.routers
 place_lines line items network = map_twice line (places items network) ∙ ap (map line) (values items network) ∙ map_flat line items network.routers
 
 peers_of : (o : Option BgpProcess) → lines_of_neighbors (option_map_or (λ (process : BgpProcess). process.neighbors) o []) ≡ neighbors_in o
@@ -101,25 +111,31 @@ all_peers : (rs : List Router) → flat_map (λ (r : Router). map (λ (p : Neigh
 all_peers [] = refl
 all_peers (r ∷ rs) = rw (peers_of r.bgp, all_peers rs) refl
 
-value_lines : {X : Type 0} (line : X → Option ℕ) (ps : List (Place X)) → filter_map (λ (p : Place X). line p.value) ps ≡ filter_map line (map (λ (p : Place X). p.value) ps)
+value_lines : {X : Type 0} (line : X → Option ℕ) (ps : List (Place X)) →
+    filter_map (λ (p : Place X). line p.value) ps ≡ filter_map line (map (λ (p : Place X). p.value) ps)
 value_lines line [] = refl
 value_lines line (p ∷ ps) = ap (λ (ks : List ℕ). cons_option (line p.value) ks) (value_lines line ps)
 
-some_lines_flat : {X : Type 0} (line : X → Option ℕ) (items : Router → List X) (rs : List Router) → filter_map line (flat_map items rs) ≡ flat_map (λ (r : Router). filter_map line (items r)) rs
+some_lines_flat : {X : Type 0} (line : X → Option ℕ) (items : Router → List X) (rs : List Router) →
+    filter_map line (flat_map items rs) ≡ flat_map (λ (r : Router). filter_map line (items r)) rs
 some_lines_flat line items [] = refl
-some_lines_flat line items (r ∷ rs) = filter_map-append line (items r) (flat_map items rs) ∙ ap (λ (ks : List ℕ). filter_map line (items r) ++ ks) (some_lines_flat line items rs)
+some_lines_flat line items (r ∷ rs) = filter_map-append line (items r) (flat_map items rs)
+    ∙ ap (λ (ks : List ℕ). filter_map line (items r) ++ ks) (some_lines_flat line items rs)
 
 in_order : (network : Network) → HasLines network → AreLines (routers_addresses network.routers) → PlacesAreInOrder network
 in_order network has given =
     let interfaces = place_lines (λ (i : Interface). i.line) interfaces_of network in
-    let addresses = value_lines address_line_of (places interfaces_of network) ∙ ap (filter_map address_line_of) (values interfaces_of network) ∙ some_lines_flat address_line_of interfaces_of network.routers in
+    let addresses = value_lines address_line_of (places interfaces_of network) ∙ ap (filter_map address_line_of) (values interfaces_of network)
+    ∙ some_lines_flat address_line_of interfaces_of network.routers in
     let neighbors = place_lines (λ (p : Neighbor). p.line) neighbors_of network ∙ all_peers network.routers in
     record {
       interfaces = rw interfaces has.0.ascending;
       addresses = rw addresses given.ascending;
       neighbors = rw neighbors has.1.ascending;
-      few_interfaces = (let count = length-map (places interfaces_of network) interface_line in let few = has.0.few in omega (arith, sym count, ap (λ (ks : List ℕ). length ks) interfaces));
-      few_neighbors = (let count = length-map (places neighbors_of network) neighbor_line in let few = has.1.few in omega (arith, sym count, ap (λ (ks : List ℕ). length ks) neighbors));
+      few_interfaces = (let count = length-map (places interfaces_of network) interface_line in let few = has.0.few in
+          omega (arith, sym count, ap (λ (ks : List ℕ). length ks) interfaces));
+      few_neighbors = (let count = length-map (places neighbors_of network) neighbor_line in let few = has.1.few in
+          omega (arith, sym count, ap (λ (ks : List ℕ). length ks) neighbors));
     }
 
 -- ---- the addresses
@@ -131,9 +147,11 @@ addresses_of_lines : (ls : List TextLine) → AreNumbered 0 ls → IfOk (network
 unfolding network_of_lines
 addresses_of_lines ls are =
     then_step HasAddressesInOrder HasAddresses (steps at_start ls) _ (address_steps ls at_start 0 are start_addresses)
-    (λ s is. then_step IsAny HasAddresses (ending ls) _ (any_result (ending ls)) (λ x any. let lines : HasAddresses (record { routers = s.routers }) = addresses_lines s is in lines))
+    (λ s is. then_step IsAny HasAddresses (ending ls) _ (any_result (ending ls)) (λ x any. let lines : HasAddresses (record { routers = s.routers }) =
+    addresses_lines s is in lines))
 
-addresses_of_result : (bs : List ℕ) (r : Result (List Line) ReadRefusal) → lines_of bs ≡ r → IfOk (r >>= (λ (ls : List Line). network_of_lines (texts_of bs ls))) HasAddresses
+addresses_of_result : (bs : List ℕ) (r : Result (List Line) ReadRefusal) → lines_of bs ≡ r →
+    IfOk (r >>= (λ (ls : List Line). network_of_lines (texts_of bs ls))) HasAddresses
 addresses_of_result bs (Err fault) e = tt
 addresses_of_result bs (Ok ls) e = addresses_of_lines (texts_of bs ls) (lines_numbered bs ls e)
 
@@ -141,7 +159,8 @@ addresses_of_result bs (Ok ls) e = addresses_of_lines (texts_of bs ls) (lines_nu
 
 of_text : (network : Network) → IsGiven network → PlacesAreInOrder network
 unfolding network_of_text
-of_text network (bs, e) = in_order network (IfOk-at_ok HasLines e (of_result bs (lines_of bs) refl)) (IfOk-at_ok HasAddresses e (addresses_of_result bs (lines_of bs) refl))
+of_text network (bs, e) = in_order network (IfOk-at_ok HasLines e (of_result bs (lines_of bs) refl))
+    (IfOk-at_ok HasAddresses e (addresses_of_result bs (lines_of bs) refl))
 
 PlacesAreInOrder-prop : (network : Network) → IsProp (PlacesAreInOrder network)
 PlacesAreInOrder-prop network = hlevel (props, ascending_prop)

@@ -71,7 +71,8 @@ community_line_case line name act communities is =
 
 numbered_case : (line : ℕ) (number act : List ℕ) (communities : List (List ℕ)) → IsWord number → IfOk (numbered_line line number act communities) IsPolicyItem
 unfolding numbered_line
-numbered_case line number act communities is = fits IsPolicyItem (is_some (number_between 1 99 number)) _ (λ e. community_line_case line number act communities is)
+numbered_case line number act communities is =
+    fits IsPolicyItem (is_some (number_between 1 99 number)) _ (λ e. community_line_case line number act communities is)
 
 list_line_case : (line : ℕ) (words : List (List ℕ)) → AreWords words → IfOk (community_line_form line words) IsPolicyItem
 unfolding community_line_form
@@ -94,12 +95,14 @@ map_head_case line _ are = tt
 
 match_prefixes_case : (line : ℕ) (words : List (List ℕ)) → AreWords words → IfOk (match_prefixes_form line words) IsPolicyItem
 unfolding match_prefixes_form
-match_prefixes_case line (_ ∷ _ ∷ _ ∷ _ ∷ words) are = after (AreNames words) IsPolicyItem _ _ (a_name_list words are.1.1.1.1) (λ names is. record { count = is.0; each = is.1; once = is.2 })
+match_prefixes_case line (_ ∷ _ ∷ _ ∷ _ ∷ words) are =
+    after (AreNames words) IsPolicyItem _ _ (a_name_list words are.1.1.1.1) (λ names is. record { count = is.0; each = is.1; once = is.2 })
 match_prefixes_case line _ are = tt
 
 exact_case : (line : ℕ) (words : List (List ℕ)) → AreWords words → IfOk (comms_match line true words) IsPolicyItem
 unfolding comms_match
-exact_case line words are = after (AreNames words) IsPolicyItem _ _ (a_name_list words are) (λ names is. (record { count = is.0; each = is.1; once = is.2 }, tt))
+exact_case line words are = after (AreNames words) IsPolicyItem _ _ (a_name_list words are)
+    (λ names is. (record { count = is.0; each = is.1; once = is.2 }, tt))
 
 inexact_case : (line : ℕ) (words : List (List ℕ)) → AreWords words → has_mark (codes "exact-match") words ≡ false → IfOk (comms_match line false words) IsPolicyItem
 unfolding comms_match

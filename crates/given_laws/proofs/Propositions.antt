@@ -93,7 +93,18 @@ route_map_prop : (m : RouteMap) → IsProp (IsWellFormedRouteMap m)
 route_map_prop m = hlevel (props, AllByRecursion-prop, list_name_prop, map_entry_prop, ascending_prop)
 
 router_prop : (r : Router) → IsProp (IsWellFormedRouter r)
-router_prop r = hlevel (props, AllByRecursion-prop, IsDistinct-prop, MatchOption-prop, interface_prop, bgp_prop, ospf_prop, prefix_list_prop, community_list_prop, route_map_prop)
+router_prop r = hlevel (
+  props,
+  AllByRecursion-prop,
+  IsDistinct-prop,
+  MatchOption-prop,
+  interface_prop,
+  bgp_prop,
+  ospf_prop,
+  prefix_list_prop,
+  community_list_prop,
+  route_map_prop,
+)
 
 pub IsWellFormed-prop : (network : Network) → IsProp (IsWellFormed network)
 IsWellFormed-prop network = hlevel (props, AllByRecursion-prop, router_prop)

@@ -101,7 +101,8 @@ base_case line _ = tt
 
 net_case : (line addr len : ℕ) → IsNumber addr → IsBetween 1 32 len → IfOk (net_line line addr len) IsRouterItem
 unfolding net_line
-net_case line addr len number short = given IsSomePrefix IsRouterItem _ _ (an_exact_prefix addr len number short) (λ prefix is. record { prefix = is.0; some = is.1 })
+net_case line addr len number short = given IsSomePrefix IsRouterItem _ _ (an_exact_prefix addr len number short)
+    (λ prefix is. record { prefix = is.0; some = is.1 })
 
 network_case : (line : ℕ) (words : List (List ℕ)) → IfOk (network_form line words) IsRouterItem
 unfolding network_form
@@ -131,7 +132,8 @@ peer_shut_case _ = tt
 peer_sends_case : (words : List (List ℕ)) → IfOk (peer_sends_form words) IsRouterItem
 unfolding peer_sends_form
 peer_sends_case (_ ∷ address ∷ _ ∷ []) = given IsNumber IsRouterItem _ _ (an_address address) (λ addr is. tt)
-peer_sends_case (_ ∷ address ∷ _ ∷ word ∷ []) = fits IsRouterItem (sends_standard word) _ (λ e. given IsNumber IsRouterItem _ _ (an_address address) (λ addr is. tt))
+peer_sends_case (_ ∷ address ∷ _ ∷ word ∷ []) =
+    fits IsRouterItem (sends_standard word) _ (λ e. given IsNumber IsRouterItem _ _ (an_address address) (λ addr is. tt))
 peer_sends_case _ = tt
 
 peer_list_case : (line : ℕ) (words : List (List ℕ)) → AreWords words → IfOk (peer_list_form line words) IsRouterItem

@@ -28,8 +28,10 @@ IsInterfaceOf i j = IsWellFormedInterface j × (j.name ≡ i.name)
 
 pub interface_step : (n : ℕ) (said : RouterItem) (i : Interface) → IsRouterItem said → IsWellFormedInterface i → IfOk (set_interface n said i) (IsInterfaceOf i)
 unfolding set_interface
-interface_step n (item.IpAddress address) i said is = stands_once (IsInterfaceOf i) n (is_some i.address) _ (λ e. (record { name = is.name; address = said; cost = is.cost }, refl))
-interface_step n (item.Cost cost) i said is = stands_once (IsInterfaceOf i) n (is_some i.cost) _ (λ e. (record { name = is.name; address = is.address; cost = said }, refl))
+interface_step n (item.IpAddress address) i said is =
+    stands_once (IsInterfaceOf i) n (is_some i.address) _ (λ e. (record { name = is.name; address = said; cost = is.cost }, refl))
+interface_step n (item.Cost cost) i said is =
+    stands_once (IsInterfaceOf i) n (is_some i.cost) _ (λ e. (record { name = is.name; address = is.address; cost = said }, refl))
 interface_step n item.Shutdown i said is = (record { name = is.name; address = is.address; cost = is.cost }, refl)
 interface_step n _ i said is = (is, refl)
 
@@ -52,7 +54,8 @@ text_step names name are is = by (list_any (bytes_eq name) names) refl
     by true some = are
     by false none = (
       all_push IsInterfaceName names name are.0 is,
-      distinct_push bytes_eq names name are.1 (all_weaker (λ other. bytes_eq name other ≡ false) (λ other. bytes_eq other name ≡ false) (λ other. bytes_other name other) names (none_pass (bytes_eq name) names none)),
+      distinct_push bytes_eq names name are.1 (all_weaker (λ other. bytes_eq name other ≡ false) (λ other. bytes_eq other name ≡ false)
+          (λ other. bytes_other name other) names (none_pass (bytes_eq name) names none)),
     )
 
 number_swap : (m n : ℕ) → (m == n) ≡ (n == m)
@@ -75,22 +78,57 @@ area_step areas area are is = by (list_any (same_area_line area) areas) refl
     by true some = are
     by false none = (
       all_push IsWellFormedArea areas area are.0 is,
-      distinct_push same_area_line areas area are.1 (all_weaker (λ other. same_area_line area other ≡ false) (λ other. same_area_line other area ≡ false) (λ other apart. area_swap other area ∙ apart) areas (none_pass (same_area_line area) areas none)),
+      distinct_push same_area_line areas area are.1
+          (all_weaker (λ other. same_area_line area other ≡ false) (λ other. same_area_line other area ≡ false) (λ other apart. area_swap other area ∙ apart)
+          areas (none_pass (same_area_line area) areas none)),
     )
 
 pub ospf_step : (said : RouterItem) (o : OspfProcess) → IsRouterItem said → IsWellFormedOspf o → IsWellFormedOspf (set_ospf said o)
 unfolding set_ospf
 ospf_step (item.Area area) o said is =
     let more = area_step o.areas area (is.areas, is.areas_once) said in
-    record { number = is.number; passive = is.passive; passive_once = is.passive_once; not_passive = is.not_passive; not_passive_once = is.not_passive_once; areas = more.0; areas_once = more.1 }
+    record {
+      number = is.number;
+      passive = is.passive;
+      passive_once = is.passive_once;
+      not_passive = is.not_passive;
+      not_passive_once = is.not_passive_once;
+      areas = more.0;
+      areas_once = more.1;
+    }
 ospf_step item.PassiveDefault o said is =
-    record { number = is.number; passive = is.passive; passive_once = is.passive_once; not_passive = is.not_passive; not_passive_once = is.not_passive_once; areas = is.areas; areas_once = is.areas_once }
+    record {
+      number = is.number;
+      passive = is.passive;
+      passive_once = is.passive_once;
+      not_passive = is.not_passive;
+      not_passive_once = is.not_passive_once;
+      areas = is.areas;
+      areas_once = is.areas_once;
+    }
 ospf_step (item.Passive name) o said is =
     let more = text_step o.passive name (is.passive, is.passive_once) said in
-    record { number = is.number; passive = more.0; passive_once = more.1; not_passive = is.not_passive; not_passive_once = is.not_passive_once; areas = is.areas; areas_once = is.areas_once }
+    record {
+      number = is.number;
+      passive = more.0;
+      passive_once = more.1;
+      not_passive = is.not_passive;
+      not_passive_once = is.not_passive_once;
+      areas =
+          is.areas;
+      areas_once = is.areas_once;
+    }
 ospf_step (item.NotPassive name) o said is =
     let more = text_step o.not_passive name (is.not_passive, is.not_passive_once) said in
-    record { number = is.number; passive = is.passive; passive_once = is.passive_once; not_passive = more.0; not_passive_once = more.1; areas = is.areas; areas_once = is.areas_once }
+    record {
+      number = is.number;
+      passive = is.passive;
+      passive_once = is.passive_once;
+      not_passive = more.0;
+      not_passive_once = more.1;
+      areas = is.areas;
+      areas_once = is.areas_once;
+    }
 ospf_step _ o said is = is
 
 -- ---- an entry of a route map
@@ -102,15 +140,99 @@ IsEntryOf e f = IsWellFormedMapEntry f × (f.seq ≡ e.seq)
 pub entry_step : (n : ℕ) (said : PolicyItem) (e : MapEntry) → IsPolicyItem said → IsWellFormedMapEntry e → IfOk (set_entry n said e) (IsEntryOf e)
 unfolding set_entry
 entry_step n (policy.MatchPrefixes names) e said is =
-    stands_once (IsEntryOf e) n (is_some e.prefixes) _ (λ b. (record { seq = is.seq; prefixes = said; comms = is.comms; exact = is.exact; lp = is.lp; change = is.change; delete = is.delete; prepend = is.prepend }, refl))
+    stands_once (IsEntryOf e) n (is_some e.prefixes) _
+    (λ b. (
+      record {
+        seq = is.seq;
+        prefixes = said;
+        comms = is.comms;
+        exact = is.exact;
+        lp = is.lp;
+        change = is.change;
+        delete = is.delete;
+        prepend =
+            is.prepend;
+      },
+      refl,
+    ))
 entry_step n (policy.MatchComms names exact) e said is =
-    stands_once (IsEntryOf e) n (is_some e.comms) _ (λ b. (record { seq = is.seq; prefixes = is.prefixes; comms = said.0; exact = said.1; lp = is.lp; change = is.change; delete = is.delete; prepend = is.prepend }, refl))
+    stands_once (IsEntryOf e) n (is_some e.comms) _
+    (λ b. (
+      record {
+        seq = is.seq;
+        prefixes = is.prefixes;
+        comms = said.0;
+        exact = said.1;
+        lp = is.lp;
+        change = is.change;
+        delete = is.delete;
+        prepend =
+            is.prepend;
+      },
+      refl,
+    ))
 entry_step n (policy.Lp lp) e said is =
-    stands_once (IsEntryOf e) n (is_some e.lp) _ (λ b. (record { seq = is.seq; prefixes = is.prefixes; comms = is.comms; exact = is.exact; lp = said; change = is.change; delete = is.delete; prepend = is.prepend }, refl))
+    stands_once (IsEntryOf e) n (is_some e.lp) _
+    (λ b. (
+      record {
+        seq = is.seq;
+        prefixes = is.prefixes;
+        comms = is.comms;
+        exact = is.exact;
+        lp = said;
+        change = is.change;
+        delete = is.delete;
+        prepend =
+            is.prepend;
+      },
+      refl,
+    ))
 entry_step n (policy.Comms change) e said is =
-    stands_once (IsEntryOf e) n (is_some e.change) _ (λ b. (record { seq = is.seq; prefixes = is.prefixes; comms = is.comms; exact = is.exact; lp = is.lp; change = said; delete = is.delete; prepend = is.prepend }, refl))
+    stands_once (IsEntryOf e) n (is_some e.change) _
+    (λ b. (
+      record {
+        seq = is.seq;
+        prefixes = is.prefixes;
+        comms = is.comms;
+        exact = is.exact;
+        lp = is.lp;
+        change = said;
+        delete = is.delete;
+        prepend =
+            is.prepend;
+      },
+      refl,
+    ))
 entry_step n (policy.Delete list) e said is =
-    stands_once (IsEntryOf e) n (is_some e.delete) _ (λ b. (record { seq = is.seq; prefixes = is.prefixes; comms = is.comms; exact = is.exact; lp = is.lp; change = is.change; delete = said; prepend = is.prepend }, refl))
+    stands_once (IsEntryOf e) n (is_some e.delete) _
+    (λ b. (
+      record {
+        seq = is.seq;
+        prefixes = is.prefixes;
+        comms = is.comms;
+        exact = is.exact;
+        lp = is.lp;
+        change = is.change;
+        delete = said;
+        prepend =
+            is.prepend;
+      },
+      refl,
+    ))
 entry_step n (policy.Prepend prepend) e said is =
-    stands_once (IsEntryOf e) n (is_some e.prepend) _ (λ b. (record { seq = is.seq; prefixes = is.prefixes; comms = is.comms; exact = is.exact; lp = is.lp; change = is.change; delete = is.delete; prepend = said }, refl))
+    stands_once (IsEntryOf e) n (is_some e.prepend) _
+    (λ b. (
+      record {
+        seq = is.seq;
+        prefixes = is.prefixes;
+        comms = is.comms;
+        exact = is.exact;
+        lp = is.lp;
+        change = is.change;
+        delete = is.delete;
+        prepend =
+            said;
+      },
+      refl,
+    ))
 entry_step n _ e said is = (is, refl)

@@ -31,10 +31,13 @@ word_case : (bs : List ℕ) (from upto i : ℕ) → IsPlainLine bs from upto →
 word_case bs from upto i line place =
     let end = word_end bs i upto in
     let below : end ≤ upto = first_below (blank_at bs) i upto (omega (arith, place.1)) in
-    recursion_from_All (IsBetween 33 126) (slice_range bs i end) (range_all (end - i) (IsBetween 33 126) bs i end (omega (arith, first_from (blank_at bs) i upto)) (omega (arith, line.inside)) (λ k l m.
-    plain_byte (get_or bs k 0) (first_fails (blank_at bs) i upto k (omega (arith, place.1)) l m) (first_fails (λ j. not (is_plain (slice_index bs j))) from upto k line.front (omega (arith, place.0)) (omega (arith, line.plain)))))
+    recursion_from_All (IsBetween 33 126) (slice_range bs i end)
+    (range_all (end - i) (IsBetween 33 126) bs i end (omega (arith, first_from (blank_at bs) i upto)) (omega (arith, line.inside)) (λ k l m.
+    plain_byte (get_or bs k 0) (first_fails (blank_at bs) i upto k (omega (arith, place.1)) l m)
+    (first_fails (λ j. not (is_plain (slice_index bs j))) from upto k line.front (omega (arith, place.0)) (omega (arith, line.plain)))))
 
-words_case : (bs : List ℕ) (from upto : ℕ) (is : List ℕ) → IsPlainLine bs from upto → AllByRecursion (IsPlace from upto) is → AreWords (texts bs (map (word_at bs upto) is))
+words_case : (bs : List ℕ) (from upto : ℕ) (is : List ℕ) → IsPlainLine bs from upto → AllByRecursion (IsPlace from upto) is →
+    AreWords (texts bs (map (word_at bs upto) is))
 words_case bs from upto [] line places = tt
 words_case bs from upto (i ∷ is) line places = (word_case bs from upto i line places.0, words_case bs from upto is line places.1)
 
@@ -42,7 +45,9 @@ line_words : (bs : List ℕ) (from upto : ℕ) → IsPlainLine bs from upto → 
 unfolding words_between
 line_words bs from upto line =
     let range = range_with_len from (upto - from) in
-    let places : AllByRecursion (IsPlace from upto) range = all_weaker (λ (k : ℕ). (from ≤ k) × (k + 1 ≤ from + (upto - from))) (IsPlace from upto) (λ k is. (is.0, let high = is.1 in let front = line.front in omega arith)) range (all_range from (upto - from)) in
+    let places : AllByRecursion (IsPlace from upto) range =
+    all_weaker (λ (k : ℕ). (from ≤ k) × (k + 1 ≤ from + (upto - from))) (IsPlace from upto)
+    (λ k is. (is.0, let high = is.1 in let front = line.front in omega arith)) range (all_range from (upto - from)) in
     words_case bs from upto (filter (begins_word bs from) range) line (all_filter (IsPlace from upto) (begins_word bs from) range places)
 
 -- ---- the lines of a text
@@ -63,5 +68,6 @@ lines_words bs ls e =
     let free = lines_faultless bs ps ls e in
     let lie : AllByRecursion (Lies bs) ps = recursion_from_All (Lies bs) ps (pieces_lie bs 1 0) in
     let none : AllByRecursion (λ p. kind_at bs p ≡ None) ps = recursion_from_All (λ p. kind_at bs p ≡ None) ps free.each in
-    let plain = all_both (Lies bs) (λ p. kind_at bs p ≡ None) (IsPlainPiece bs) (λ p lies no. record { front = lies.front; inside = lies.inside; plain = no_odd bs p no }) ps lie none in
+    let plain = all_both (Lies bs) (λ p. kind_at bs p ≡ None) (IsPlainPiece bs)
+    (λ p lies no. record { front = lies.front; inside = lies.inside; plain = no_odd bs p no }) ps lie none in
     rw free.are (pieces_words bs (filter (is_kept bs) ps) (all_filter (IsPlainPiece bs) (is_kept bs) ps plain))

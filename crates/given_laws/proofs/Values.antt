@@ -16,7 +16,8 @@ use Rattle.given_laws.proofs.Each.{all_weaker, all_find, all_range}
 -- ---- numbers
 
 up_to : (most : ℕ) (word : List ℕ) → IfSome (number_up_to most word) (λ n. n ≤ most)
-up_to most word = tested (λ n. n ≤ most) (is_numeral word && nat_le (value_from 0 word) most) (value_from 0 word) (λ e. leb-true (value_from 0 word) most (and_parts (is_numeral word) (nat_le (value_from 0 word) most) e).1)
+up_to most word = tested (λ n. n ≤ most) (is_numeral word && nat_le (value_from 0 word) most) (value_from 0 word)
+    (λ e. leb-true (value_from 0 word) most (and_parts (is_numeral word) (nat_le (value_from 0 word) most) e).1)
 
 pub a_number : (word : List ℕ) → IfSome (number_word word) IsNumber
 unfolding number_word
@@ -41,12 +42,14 @@ an_as_number word = between 1 4294967295 word
 small_parts : (a b c d : ℕ) → a ≤ 255 → b ≤ 255 → c ≤ 255 → d ≤ 255 → ((a * 256 + b) * 256 + c) * 256 + d ≤ 4294967295
 small_parts a b c d ha hb hc hd = omega arith
 
-of_numbers : (a b c d : Option ℕ) → IfSome a (λ n. n ≤ 255) → IfSome b (λ n. n ≤ 255) → IfSome c (λ n. n ≤ 255) → IfSome d (λ n. n ≤ 255) → IfSome (address_of_numbers a b c d) IsNumber
+of_numbers : (a b c d : Option ℕ) → IfSome a (λ n. n ≤ 255) → IfSome b (λ n. n ≤ 255) → IfSome c (λ n. n ≤ 255) → IfSome d (λ n. n ≤ 255) →
+    IfSome (address_of_numbers a b c d) IsNumber
 of_numbers (Some a) (Some b) (Some c) (Some d) ha hb hc hd = small_parts a b c d ha hb hc hd
 of_numbers _ _ _ _ ha hb hc hd = tt
 
 of_parts : (parts : List (List ℕ)) → IfSome (address_of_parts parts) IsNumber
-of_parts (a ∷ b ∷ c ∷ d ∷ []) = of_numbers (number_up_to 255 a) (number_up_to 255 b) (number_up_to 255 c) (number_up_to 255 d) (up_to 255 a) (up_to 255 b) (up_to 255 c) (up_to 255 d)
+of_parts (a ∷ b ∷ c ∷ d ∷ []) = of_numbers (number_up_to 255 a) (number_up_to 255 b) (number_up_to 255 c) (number_up_to 255 d) (up_to 255 a) (up_to 255 b)
+    (up_to 255 c) (up_to 255 d)
 of_parts _ = tt
 
 pub an_address : (word : List ℕ) → IfSome (address_word word) IsNumber
@@ -65,7 +68,9 @@ an_area word = by (number_word word) (address_word word) (a_number word) (an_add
 
 a_len : (mask : ℕ) → IfSome (len_of_mask mask) (IsBetween 1 32)
 unfolding len_of_mask
-a_len mask = all_find (IsBetween 1 32) (λ len. mask_of len == mask) (range_with_len 1 32) (all_weaker (λ (k : ℕ). (1 ≤ k) × (k + 1 ≤ 1 + 32)) (IsBetween 1 32) (λ k is. (is.0, let high = is.1 in omega arith)) (range_with_len 1 32) (all_range 1 32))
+a_len mask = all_find (IsBetween 1 32) (λ len. mask_of len == mask) (range_with_len 1 32)
+    (all_weaker (λ (k : ℕ). (1 ≤ k) × (k + 1 ≤ 1 + 32)) (IsBetween 1 32) (λ k is. (is.0, let high = is.1 in omega arith)) (range_with_len 1 32)
+    (all_range 1 32))
 
 pub a_mask_len : (word : List ℕ) → IfSome (mask_len_of word) (IsBetween 1 32)
 unfolding mask_len_of

@@ -24,9 +24,11 @@ use Rattle.given_laws.proofs.TextWords.{lines_words}
 
 of_lines : (ls : List TextLine) → AllByRecursion IsLineOfWords ls → IfOk (network_of_lines ls) IsWellFormed
 unfolding network_of_lines
-of_lines ls are = then_step IsState IsWellFormed (steps at_start ls) _ (all_steps ls at_start are start_is) (λ s is. then_step IsAny IsWellFormed (ending ls) _ (any_result (ending ls)) (λ x any. record { routers = is.routers }))
+of_lines ls are = then_step IsState IsWellFormed (steps at_start ls) _ (all_steps ls at_start are start_is)
+    (λ s is. then_step IsAny IsWellFormed (ending ls) _ (any_result (ending ls)) (λ x any. record { routers = is.routers }))
 
-of_result : (bs : List ℕ) (r : Result (List Line) ReadRefusal) → lines_of bs ≡ r → IfOk (r >>= (λ (ls : List Line). network_of_lines (texts_of bs ls))) IsWellFormed
+of_result : (bs : List ℕ) (r : Result (List Line) ReadRefusal) → lines_of bs ≡ r →
+    IfOk (r >>= (λ (ls : List Line). network_of_lines (texts_of bs ls))) IsWellFormed
 of_result bs (Err fault) e = tt
 of_result bs (Ok ls) e = of_lines (texts_of bs ls) (lines_words bs ls e)
 
@@ -40,7 +42,9 @@ given_is_well_formed network known = ∥∥₁_elim known (IsWellFormed-prop net
 -- ---- what follows
 
 pub given_routers_are_well_formed : GivenRoutersAreWellFormed
-given_routers_are_well_formed network is r in_network = All-contains IsWellFormedRouter network.routers r (All-from_recursion IsWellFormedRouter network.routers (given_is_well_formed network is).routers) in_network
+given_routers_are_well_formed network is r in_network =
+    All-contains IsWellFormedRouter network.routers r (All-from_recursion IsWellFormedRouter network.routers (given_is_well_formed network is).routers)
+    in_network
 
 abbrev IsPositive : ℕ → Type 0
 IsPositive cost = 1 ≤ cost
@@ -61,4 +65,6 @@ pub given_costs_are_positive : GivenCostsArePositive
 given_costs_are_positive network is r in_network x in_router =
     let whole = given_routers_are_well_formed network is r in_network in
     let formed = All-contains IsWellFormedInterface r.interfaces x (All-from_recursion IsWellFormedInterface r.interfaces whole.interfaces) in_router in
-    cost_case x.cost (default_cost_of (type_of x)) formed.cost (cost_of_row (find (is_row_of (type_of x)) default_costs) (all_find (λ (row : List ℕ × ℕ). 1 ≤ row.1) (is_row_of (type_of x)) default_costs defaults_positive))
+    cost_case x.cost (default_cost_of (type_of x)) formed.cost
+    (cost_of_row (find (is_row_of (type_of x)) default_costs)
+    (all_find (λ (row : List ℕ × ℕ). 1 ≤ row.1) (is_row_of (type_of x)) default_costs defaults_positive))

@@ -24,7 +24,8 @@ GivenRoutersAreWellFormed = (network : Network) → ∥ IsGiven network ∥₁ �
 -- The cost of an interface, given or by its type, is at least 1.
 abbrev pub GivenCostsArePositive : Type 0
 GivenCostsArePositive =
-    (network : Network) → ∥ IsGiven network ∥₁ → (router : Router) → Contains network.routers router → (x : Interface) → Contains router.interfaces x → IfSome (cost_of_interface x) (λ cost. 1 ≤ cost)
+    (network : Network) → ∥ IsGiven network ∥₁ → (router : Router) → Contains network.routers router → (x : Interface) → Contains router.interfaces x →
+    IfSome (cost_of_interface x) (λ cost. 1 ≤ cost)
 
 -- ---- places
 

@@ -35,7 +35,8 @@ list_text [] = refl
 list_text (d ∷ ds) = ap (λ (t : List ℕ). 91 ∷ t) (items_from d ds)
 
 -- a list of values that have these texts
-list_of : {X : Type 0} (value : X → Data) (text : X → List ℕ) (xs : List X) → ((x : X) → compact_text (value x) ≡ text x) → compact_text (list_data (map value xs)) ≡ json_list (map text xs)
+list_of : {X : Type 0} (value : X → Data) (text : X → List ℕ) (xs : List X) → ((x : X) → compact_text (value x) ≡ text x) →
+    compact_text (list_data (map value xs)) ≡ json_list (map text xs)
 list_of value text xs same = list_text (map value xs) ∙ ap json_list (map_map compact_text value text xs same)
 
 -- ---- objects
@@ -82,7 +83,8 @@ group_text problem members =
     let texts : object_text ((codes "lone", compact_text (boolean (is_lone problem first))) ∷ (codes "members", compact_text (list_data (map (name_data problem) members))) ∷ (codes "name", name_string problem first) ∷ (codes "origin", compact_text (boolean (originates problem first))) ∷ [])
     ≡ object_text ((codes "lone", boolean_text (is_lone problem first)) ∷ (codes "members", json_list (map (name_string problem) members)) ∷ (codes "name", name_string problem first) ∷ (codes "origin", boolean_text (originates problem first)) ∷ []) =
     λ j. object_text ((codes "lone", boolean_is (is_lone problem first) j) ∷ (codes "members", list_of (name_data problem) (name_string problem) members (λ x. refl) j) ∷ (codes "name", name_string problem first) ∷ (codes "origin", boolean_is (originates problem first) j) ∷ []) in
-    texts ∙ group_shape (boolean_text (is_lone problem first)) (json_list (map (name_string problem) members)) (name_string problem first) (boolean_text (originates problem first))
+    texts ∙ group_shape (boolean_text (is_lone problem first)) (json_list (map (name_string problem) members)) (name_string problem first)
+    (boolean_text (originates problem first))
 
 counts_text : (after before : ℕ) → compact_text (counts_data after before) ≡ counts_object after before
 counts_text after before = counts_shape (decimal after) (decimal before)
@@ -90,15 +92,18 @@ counts_text after before = counts_shape (decimal after) (decimal before)
 unmatched_text : (problem : Problem) (neighbor : Unmatched) → compact_text (unmatched_data problem neighbor) ≡ unmatched_object problem neighbor
 unmatched_text problem neighbor = unmatched_shape (quoted (address_text neighbor.addr)) (name_string problem neighbor.router)
 
-groups_text : (problem : Problem) (groups : List ℕ) (count : ℕ) → compact_text (list_data (groups_data problem groups count)) ≡ group_objects problem groups count
-groups_text problem groups count = list_of (data_of_group problem groups) (object_of_group problem groups) (range_with_len 0 count) (λ group. group_text problem (members_of groups group))
+groups_text : (problem : Problem) (groups : List ℕ) (count : ℕ) →
+    compact_text (list_data (groups_data problem groups count)) ≡ group_objects problem groups count
+groups_text problem groups count = list_of (data_of_group problem groups) (object_of_group problem groups) (range_with_len 0 count)
+    (λ group. group_text problem (members_of groups group))
 
 module _ (r : Report) where
   texts : compact_text (report_data r) ≡ object_text ((codes "class", decimal r.class_number) ∷ (codes "groups", group_objects r.problem r.groups r.group_count) ∷ (codes "links", counts_object (length r.links) r.links_before) ∷ (codes "routers", counts_object r.group_count (count r.problem)) ∷ (codes "unmatched", json_list (map (unmatched_object r.problem) r.unmatched)) ∷ [])
   texts = λ j. object_text ((codes "class", decimal r.class_number) ∷ (codes "groups", groups_text r.problem r.groups r.group_count j) ∷ (codes "links", counts_text (length r.links) r.links_before j) ∷ (codes "routers", counts_text r.group_count (count r.problem) j) ∷ (codes "unmatched", list_of (unmatched_data r.problem) (unmatched_object r.problem) r.unmatched (unmatched_text r.problem) j) ∷ [])
 
   pub report_object : compact_text (report_data r) ≡ json_object r
-  report_object = texts ∙ report_shape (decimal r.class_number) (group_objects r.problem r.groups r.group_count) (counts_object (length r.links) r.links_before) (counts_object r.group_count (count r.problem)) (json_list (map (unmatched_object r.problem) r.unmatched))
+  report_object = texts ∙ report_shape (decimal r.class_number) (group_objects r.problem r.groups r.group_count) (counts_object (length r.links) r.links_before)
+      (counts_object r.group_count (count r.problem)) (json_list (map (unmatched_object r.problem) r.unmatched))
 
 -- ---- no floats
 
@@ -110,7 +115,8 @@ group_has_none : (problem : Problem) (members : List ℕ) → has_float (group_d
 group_has_none problem members = λ j. no_floats (name_data problem) members (λ x. refl) j || false
 
 pub has_none : (r : Report) → has_float (report_data r) ≡ false
-has_none r = λ j. no_floats (data_of_group r.problem r.groups) (range_with_len 0 r.group_count) (λ group. group_has_none r.problem (members_of r.groups group)) j || (no_floats (unmatched_data r.problem) r.unmatched (λ x. refl) j || false)
+has_none r = λ j. no_floats (data_of_group r.problem r.groups) (range_with_len 0 r.group_count) (λ group. group_has_none r.problem (members_of r.groups group))
+    j || (no_floats (unmatched_data r.problem) r.unmatched (λ x. refl) j || false)
 
 -- the line of values that are those of a report
 pub line_of_report : (r : Report) (d : Data) (bytes : List ℕ) → (has_float d ≡ false → bytes ≡ compact_text d ++ codes "\n") → d ≡ report_data r → bytes ≡ json_text r
@@ -122,7 +128,8 @@ line_of_report r d bytes line same =
 -- ---- lists of values
 
 -- one value more
-pub one_more_value : (make : ℕ → Data) (old new : List Value) (value : Value) (n : ℕ) → new ≡ old ++ value ∷ [] → view value ≡ make n → map view old ≡ map make (range_with_len 0 n) → map view new ≡ map make (range_with_len 0 (n + 1))
+pub one_more_value : (make : ℕ → Data) (old new : List Value) (value : Value) (n : ℕ) → new ≡ old ++ value ∷ [] → view value ≡ make n →
+    map view old ≡ map make (range_with_len 0 n) → map view new ≡ map make (range_with_len 0 (n + 1))
 one_more_value make old new value n step is before =
     let at : 0 + n ≡ n = omega arith in
     ap (map view) step ∙ map-append view old (value ∷ []) ∙ (λ j. before j ++ is j ∷ []) ∙ sym (map-range_with_len_more make 0 n n at)

@@ -55,7 +55,17 @@ report_text r =
     ++ flat_map (unmatched_line r.problem) r.unmatched
 
 -- what is said of the report of these parts, whose groups are numbered by their least members
-pub record HasReport (Is : Report → Type 0) (class_number : ℕ) (problem : Problem) (links_before : ℕ) (groups : List ℕ) (links : List QLink) (unmatched : List Unmatched) : Type 0 where
+pub record HasReport (Is : Report → Type 0) (class_number : ℕ) (problem : Problem) (links_before : ℕ) (groups : List ℕ) (links : List QLink)
+    (unmatched : List Unmatched) : Type 0 where
   pub group_count : ℕ
   pub numbered : IsNumbered groups group_count
-  pub said : Is (record { class_number = class_number; problem = problem; links_before = links_before; groups = groups; group_count = group_count; links = links; unmatched = unmatched })
+  pub said : Is (record {
+    class_number = class_number;
+    problem = problem;
+    links_before = links_before;
+    groups = groups;
+    group_count = group_count;
+    links =
+        links;
+    unmatched = unmatched;
+  })

@@ -23,7 +23,8 @@ mentions_at : (line : ℕ) (comms : List ℕ) → map (mention_at 0) comms ≡ m
 mentions_at line [] = refl
 mentions_at line (c ∷ comms) = ap (λ ms. mention_at 0 c ∷ ms) (mentions_at line comms)
 
-in_lists_bare : (r : Router) → flat_map mentions_in_list (map bare_community_list r.community_lists) ≡ map bare_mention (flat_map mentions_in_list r.community_lists)
+in_lists_bare : (r : Router) → flat_map mentions_in_list (map bare_community_list r.community_lists) ≡ map bare_mention
+    (flat_map mentions_in_list r.community_lists)
 in_lists_bare r =
     flat_mapped bare_community_list bare_mention mentions_in_list mentions_in_list
     (λ list. flat_mapped bare_community_line bare_mention mentions_on mentions_on (λ line. mentions_at line.line line.comms) list.lines) r.community_lists
@@ -31,7 +32,8 @@ in_lists_bare r =
 in_maps_bare : (r : Router) → flat_map mentions_in_map (map bare_route_map r.route_maps) ≡ map bare_mention (flat_map mentions_in_map r.route_maps)
 in_maps_bare r =
     flat_mapped bare_route_map bare_mention mentions_in_map mentions_in_map
-    (λ map. flat_mapped bare_map_entry bare_mention mentions_in mentions_in (λ entry. mentions_at entry.change_line (changed_by entry.change)) map.entries) r.route_maps
+    (λ map. flat_mapped bare_map_entry bare_mention mentions_in mentions_in (λ entry. mentions_at entry.change_line (changed_by entry.change)) map.entries)
+    r.route_maps
 
 mentions_bare : (r : Router) → mentions_of (bare_router r) ≡ map bare_mention (mentions_of r)
 mentions_bare r =
@@ -55,7 +57,8 @@ both_hold false b inside = refl
 -- a set within another one has no more numbers
 no_more : (xs ys : List ℕ) → IsAscending xs → IsAscending ys → ((c : ℕ) → has xs c ≡ true → has ys c ≡ true) → length xs ≤ length ys
 no_more xs ys up up' inside =
-    let same : xs ≡ filter (has xs) ys = one_list xs (filter (has xs) ys) up (ascending_filter (has xs) ys up') (λ c. both_hold (has xs c) (has ys c) (inside c) ∙ sym (has-filter (has xs) ys c)) in
+    let same : xs ≡ filter (has xs) ys = one_list xs (filter (has xs) ys) up (ascending_filter (has xs) ys up')
+    (λ c. both_hold (has xs c) (has ys c) (inside c) ∙ sym (has-filter (has xs) ys c)) in
     omega (arith, ap length same, length-filter_both (has xs) (λ c. not (has xs c)) (λ c. refl) ys)
 
 or_no : (a : Bool) → (a || false) ≡ a
@@ -77,7 +80,8 @@ kept_has p (m ∷ ms) c inside = step (p m) (nat_eq m.community c) refl (kept_ha
 
 fewer : (p : Mention → Bool) (ms : List Mention) → length (communities_in (filter p ms)) ≤ length (communities_in ms)
 fewer p ms =
-    no_more (communities_in (filter p ms)) (communities_in ms) (ascending_with_numbers (map community_of (filter p ms)) [] tt) (ascending_with_numbers (map community_of ms) [] tt)
+    no_more (communities_in (filter p ms)) (communities_in ms) (ascending_with_numbers (map community_of (filter p ms)) [] tt)
+    (ascending_with_numbers (map community_of ms) [] tt)
     (λ c inside. has_set (map community_of ms) c ∙ kept_has p ms c (sym (has_set (map community_of (filter p ms)) c) ∙ inside))
 
 none_kept : (p : ℕ → Bool) → ((line : ℕ) → p line ≡ false) → (lines : List ℕ) → filter p lines ≡ []
@@ -96,6 +100,7 @@ unfolding communities_of too_many_communities_lines
 few_are_no_fault n few =
     none_kept (first_exceeds 1024 (mentions n))
     (λ line. ap (λ b. nat_le (length (communities_in (mentions_before (mentions n) line))) 1024 && b)
-    (within 1024 (length (communities_in (mentions_up_to (mentions n) line))) (let less = fewer (λ (m : Mention). nat_le m.line line) (mentions n) in omega arith))
+    (within 1024 (length (communities_in (mentions_up_to (mentions n) line))) (let less = fewer (λ (m : Mention). nat_le m.line line) (mentions n) in
+    omega arith))
     ∙ and_no (nat_le (length (communities_in (mentions_before (mentions n) line))) 1024))
     (map line_of_mention (mentions n))

@@ -31,13 +31,16 @@ up_address_bare x = step x.shut where
 
 process_has_bare : (o : Option OspfProcess) (a : Address) → process_has_address (option_map bare_ospf o) (bare_address a) ≡ process_has_address o a
 process_has_bare None a = refl
-process_has_bare (Some process) a = any_mapped bare_area (λ (line : AreaLine). line_has_address line a.addr) (λ (line : AreaLine). line_has_address line a.addr) (λ line. refl) process.areas
+process_has_bare (Some process) a = any_mapped bare_area (λ (line : AreaLine). line_has_address line a.addr) (λ (line : AreaLine). line_has_address line a.addr)
+    (λ line. refl) process.areas
 
 pub in_area_bare : (r : Router) (x : Interface) → is_in_area_interface (bare_router r) (bare_interface x) ≡ is_in_area_interface r x
-in_area_bare r x = ap (λ (o : Option Address). option_map_or (process_has_address (option_map bare_ospf r.ospf)) o false) (up_address_bare x) ∙ step (up_address x) where
-  step : (o : Option Address) → option_map_or (process_has_address (option_map bare_ospf r.ospf)) (option_map bare_address o) false ≡ option_map_or (process_has_address r.ospf) o false
-  step None = refl
-  step (Some a) = process_has_bare r.ospf a
+in_area_bare r x = ap (λ (o : Option Address). option_map_or (process_has_address (option_map bare_ospf r.ospf)) o false) (up_address_bare x)
+    ∙ step (up_address x) where
+      step : (o : Option Address) → option_map_or (process_has_address (option_map bare_ospf r.ospf)) (option_map bare_address o) false ≡ option_map_or
+          (process_has_address r.ospf) o false
+      step None = refl
+      step (Some a) = process_has_bare r.ospf a
 
 passive_bare : (o : Option OspfProcess) (name : List ℕ) → is_passive_in (option_map bare_ospf o) name ≡ is_passive_in o name
 passive_bare None name = refl
@@ -56,19 +59,22 @@ cost_bare r i = ap (option_and_then cost_of_interface) (slice_get-map bare_inter
 
 pub neighbors_bare : (r : Router) → neighbors_of (bare_router r) ≡ map bare_neighbor (neighbors_of r)
 neighbors_bare r = step r.bgp where
-  step : (o : Option BgpProcess) → option_map_or (λ (process : BgpProcess). process.neighbors) (option_map bare_bgp o) [] ≡ map bare_neighbor (option_map_or (λ (process : BgpProcess). process.neighbors) o [])
+  step : (o : Option BgpProcess) → option_map_or (λ (process : BgpProcess). process.neighbors) (option_map bare_bgp o) [] ≡ map bare_neighbor
+      (option_map_or (λ (process : BgpProcess). process.neighbors) o [])
   step None = refl
   step (Some process) = refl
 
 pub number_bare : (r : Router) (number : ℕ) → has_number (bare_router r) number ≡ has_number r number
 number_bare r number = step r.bgp where
-  step : (o : Option BgpProcess) → option_map_or (λ (process : BgpProcess). nat_eq process.number number) (option_map bare_bgp o) false ≡ option_map_or (λ (process : BgpProcess). nat_eq process.number number) o false
+  step : (o : Option BgpProcess) → option_map_or (λ (process : BgpProcess). nat_eq process.number number) (option_map bare_bgp o) false ≡ option_map_or
+      (λ (process : BgpProcess). nat_eq process.number number) o false
   step None = refl
   step (Some process) = refl
 
 pub as_number_bare : (r : Router) → as_number_of (bare_router r) ≡ as_number_of r
 as_number_bare r = step r.bgp where
-  step : (o : Option BgpProcess) → option_map_or (λ (process : BgpProcess). process.number) (option_map bare_bgp o) 0 ≡ option_map_or (λ (process : BgpProcess). process.number) o 0
+  step : (o : Option BgpProcess) → option_map_or (λ (process : BgpProcess). process.number) (option_map bare_bgp o) 0 ≡ option_map_or
+      (λ (process : BgpProcess). process.number) o 0
   step None = refl
   step (Some process) = refl
 
@@ -83,16 +89,19 @@ up_addresses_at_bare r addr =
 pub share_subnet_bare : (u : Router) (at_u : ℕ) (v : Router) (at_v : ℕ) → share_subnet (bare_router u) at_u (bare_router v) at_v ≡ share_subnet u at_u v at_v
 share_subnet_bare u at_u v at_v =
     rw (up_addresses_at_bare u at_u, up_addresses_at_bare v at_v)
-    (any_mapped bare_address (λ (a : Address). list_any (same_subnet a) (map bare_address (up_addresses_at v at_v))) (λ (a : Address). list_any (same_subnet a) (up_addresses_at v at_v))
+    (any_mapped bare_address (λ (a : Address). list_any (same_subnet a) (map bare_address (up_addresses_at v at_v)))
+    (λ (a : Address). list_any (same_subnet a) (up_addresses_at v at_v))
     (λ a. any_mapped bare_address (same_subnet (bare_address a)) (same_subnet a) (λ b. refl) (up_addresses_at v at_v)) (up_addresses_at u at_u))
 
 -- Initial routes.
 
 up_in_bare : (p : Prefix) (x : Interface) → is_up_in p (bare_interface x) ≡ is_up_in p x
-up_in_bare p x = ap (λ (o : Option Address). option_map_or (same_prefix p) (option_map subnet_of_address o) false) (up_address_bare x) ∙ step (up_address x) where
-  step : (o : Option Address) → option_map_or (same_prefix p) (option_map subnet_of_address (option_map bare_address o)) false ≡ option_map_or (same_prefix p) (option_map subnet_of_address o) false
-  step None = refl
-  step (Some a) = refl
+up_in_bare p x = ap (λ (o : Option Address). option_map_or (same_prefix p) (option_map subnet_of_address o) false) (up_address_bare x)
+    ∙ step (up_address x) where
+      step : (o : Option Address) → option_map_or (same_prefix p) (option_map subnet_of_address (option_map bare_address o)) false ≡ option_map_or (same_prefix p)
+          (option_map subnet_of_address o) false
+      step None = refl
+      step (Some a) = refl
 
 announced_bare : (r : Router) (process : BgpProcess) (p : Prefix) → is_announced (bare_router r) (bare_bgp process) p ≡ is_announced r process p
 announced_bare r process p =
@@ -122,7 +131,8 @@ base_bare (Some base) = refl
 
 pub preference_bare : (r : Router) → default_preference (bare_router r) ≡ default_preference r
 preference_bare r = step r.bgp where
-  step : (o : Option BgpProcess) → option_map_or (λ (process : BgpProcess). option_map_or (λ (base : Base). base.value) process.base 100) (option_map bare_bgp o) 100 ≡ option_map_or (λ (process : BgpProcess). option_map_or (λ (base : Base). base.value) process.base 100) o 100
+  step : (o : Option BgpProcess) → option_map_or (λ (process : BgpProcess). option_map_or (λ (base : Base). base.value) process.base 100)
+      (option_map bare_bgp o) 100 ≡ option_map_or (λ (process : BgpProcess). option_map_or (λ (base : Base). base.value) process.base 100) o 100
   step None = refl
   step (Some process) = base_bare process.base
 

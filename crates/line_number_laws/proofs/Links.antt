@@ -19,7 +19,8 @@ use Rattle.line_number_laws.proofs.Interfaces.{active_bare, neighbors_bare, numb
 abbrev pub bare_place : {X : Type 0} → (X → X) → Place X → Place X
 bare_place h p = record { router = p.router; item = p.item; owner = bare_router p.owner; value = h p.value }
 
-places_on_bare : {X : Type 0} (items : Router → List X) (h : X → X) → ((r : Router) → items (bare_router r) ≡ map h (items r)) → (p : ℕ × Router) → places_on items (at_place bare_router p) ≡ map (bare_place h) (places_on items p)
+places_on_bare : {X : Type 0} (items : Router → List X) (h : X → X) → ((r : Router) → items (bare_router r) ≡ map h (items r)) → (p : ℕ × Router) →
+    places_on items (at_place bare_router p) ≡ map (bare_place h) (places_on items p)
 places_on_bare items h same (k, r) =
     ap (λ xs. map (place_on k (bare_router r)) (enumerate_from 0 xs)) (same r)
     ∙ ap (map (place_on k (bare_router r))) (enumerate_mapped h 0 (items r))
@@ -29,7 +30,8 @@ places_on_bare items h same (k, r) =
     numbered [] = refl
     numbered ((i, x) ∷ ps) = ap (λ qs. place_on k (bare_router r) (i, h x) ∷ qs) (numbered ps)
 
-pub places_bare : {X : Type 0} (items : Router → List X) (h : X → X) → ((r : Router) → items (bare_router r) ≡ map h (items r)) → (n : Network) → places items (bare n) ≡ map (bare_place h) (places items n)
+pub places_bare : {X : Type 0} (items : Router → List X) (h : X → X) → ((r : Router) → items (bare_router r) ≡ map h (items r)) → (n : Network) →
+    places items (bare n) ≡ map (bare_place h) (places items n)
 unfolding places
 places_bare items h same n =
     ap (flat_map (places_on items)) (enumerate_mapped bare_router 0 n.routers)
@@ -44,7 +46,8 @@ same_flat {X} {Y} h f g same xs = flat_mapped h (λ (y : Y). y) f g (λ x. same 
     unchanged [] = refl
     unchanged (y ∷ ys) = ap (λ zs. y ∷ zs) (unchanged ys)
 
-joined_bare : {X : Type 0} (h : X → X) (joins : Place X → Place X → Bool) → ((p q : Place X) → joins (bare_place h p) (bare_place h q) ≡ joins p q) → (ps : List (Place X)) → links_joining joins (map (bare_place h) ps) ≡ links_joining joins ps
+joined_bare : {X : Type 0} (h : X → X) (joins : Place X → Place X → Bool) → ((p q : Place X) → joins (bare_place h p) (bare_place h q) ≡ joins p q) →
+    (ps : List (Place X)) → links_joining joins (map (bare_place h) ps) ≡ links_joining joins ps
 joined_bare h joins same ps =
     same_flat (bare_place h) (links_from joins (map (bare_place h) ps)) (links_from joins ps)
     (λ p.
@@ -59,7 +62,8 @@ sessions_alike p q =
 
 sessions_bare : (n : Network) → sessions_of (bare n) ≡ sessions_of n
 unfolding sessions_of
-sessions_bare n = ap (links_joining is_session) (places_bare neighbors_of bare_neighbor neighbors_bare n) ∙ joined_bare bare_neighbor is_session sessions_alike (places neighbors_of n)
+sessions_bare n = ap (links_joining is_session) (places_bare neighbors_of bare_neighbor neighbors_bare n)
+    ∙ joined_bare bare_neighbor is_session sessions_alike (places neighbors_of n)
 
 -- Adjacencies.
 
@@ -79,7 +83,8 @@ adjacent_alike p q = rw (active_address_bare p, active_address_bare q, subnets_a
 
 adjacencies_bare : (n : Network) → adjacencies_of (bare n) ≡ adjacencies_of n
 unfolding adjacencies_of
-adjacencies_bare n = ap (links_joining are_adjacent) (places_bare interfaces_of bare_interface (λ r. refl) n) ∙ joined_bare bare_interface are_adjacent adjacent_alike (places interfaces_of n)
+adjacencies_bare n = ap (links_joining are_adjacent) (places_bare interfaces_of bare_interface (λ r. refl) n)
+    ∙ joined_bare bare_interface are_adjacent adjacent_alike (places interfaces_of n)
 
 links_bare : (n : Network) → links_of (bare n) ≡ links_of n
 unfolding links_of

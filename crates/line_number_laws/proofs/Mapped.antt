@@ -29,7 +29,8 @@ pub kept_mapped : {A B : Type 0} (h : A → B) (b : Bool) (x : A) (xs : List A) 
 kept_mapped h true x xs = refl
 kept_mapped h false x xs = refl
 
-pub filter_mapped : {A B : Type 0} (h : A → B) (f : B → Bool) (g : A → Bool) → ((x : A) → f (h x) ≡ g x) → (xs : List A) → filter f (map h xs) ≡ map h (filter g xs)
+pub filter_mapped : {A B : Type 0} (h : A → B) (f : B → Bool) (g : A → Bool) → ((x : A) → f (h x) ≡ g x) → (xs : List A) →
+    filter f (map h xs) ≡ map h (filter g xs)
 filter_mapped h f g same [] = refl
 filter_mapped h f g same (x ∷ xs) = rw (same x, filter_mapped h f g same xs) (kept_mapped h (g x) x (filter g xs))
 
@@ -37,7 +38,8 @@ pub found_mapped : {A B : Type 0} (h : A → B) (b : Bool) (x : A) (o : Option A
 found_mapped h true x o = refl
 found_mapped h false x o = refl
 
-pub find_mapped : {A B : Type 0} (h : A → B) (f : B → Bool) (g : A → Bool) → ((x : A) → f (h x) ≡ g x) → (xs : List A) → find f (map h xs) ≡ option_map h (find g xs)
+pub find_mapped : {A B : Type 0} (h : A → B) (f : B → Bool) (g : A → Bool) → ((x : A) → f (h x) ≡ g x) → (xs : List A) →
+    find f (map h xs) ≡ option_map h (find g xs)
 find_mapped h f g same [] = refl
 find_mapped h f g same (x ∷ xs) = rw (same x, find_mapped h f g same xs) (found_mapped h (g x) x (find g xs))
 
@@ -45,11 +47,13 @@ cons_mapped : {C D : Type 0} (k : C → D) (o : Option C) (ys : List C) → cons
 cons_mapped k None ys = refl
 cons_mapped k (Some y) ys = refl
 
-pub filter_map_mapped : {A B C D : Type 0} (h : A → B) (k : C → D) (f : B → Option D) (g : A → Option C) → ((x : A) → f (h x) ≡ option_map k (g x)) → (xs : List A) → filter_map f (map h xs) ≡ map k (filter_map g xs)
+pub filter_map_mapped : {A B C D : Type 0} (h : A → B) (k : C → D) (f : B → Option D) (g : A → Option C) → ((x : A) → f (h x) ≡ option_map k (g x)) →
+    (xs : List A) → filter_map f (map h xs) ≡ map k (filter_map g xs)
 filter_map_mapped h k f g same [] = refl
 filter_map_mapped h k f g same (x ∷ xs) = rw (same x, filter_map_mapped h k f g same xs) (cons_mapped k (g x) (filter_map g xs))
 
-pub flat_mapped : {A B C D : Type 0} (h : A → B) (k : C → D) (f : B → List D) (g : A → List C) → ((x : A) → f (h x) ≡ map k (g x)) → (xs : List A) → flat_map f (map h xs) ≡ map k (flat_map g xs)
+pub flat_mapped : {A B C D : Type 0} (h : A → B) (k : C → D) (f : B → List D) (g : A → List C) → ((x : A) → f (h x) ≡ map k (g x)) → (xs : List A) →
+    flat_map f (map h xs) ≡ map k (flat_map g xs)
 flat_mapped h k f g same [] = refl
 flat_mapped h k f g same (x ∷ xs) =
     flat_map-cons f (h x) (map h xs)
@@ -63,15 +67,19 @@ pub enumerate_mapped : {A B : Type 0} (h : A → B) (n : ℕ) (xs : List A) → 
 enumerate_mapped h n [] = refl
 enumerate_mapped h n (x ∷ xs) = ap (λ ys. (n, h x) ∷ ys) (enumerate_mapped h (n + 1) xs)
 
-pub repeats_after_mapped : {A B : Type 0} (h : A → B) (f : B → B → Bool) (g : A → A → Bool) → ((x y : A) → f (h x) (h y) ≡ g x y) → (past xs : List A) → repeats_after f (map h past) (map h xs) ≡ map h (repeats_after g past xs)
+pub repeats_after_mapped : {A B : Type 0} (h : A → B) (f : B → B → Bool) (g : A → A → Bool) → ((x y : A) → f (h x) (h y) ≡ g x y) → (past xs : List A) →
+    repeats_after f (map h past) (map h xs) ≡ map h (repeats_after g past xs)
 repeats_after_mapped h f g same past [] = refl
 repeats_after_mapped h f g same past (x ∷ xs) =
-    rw (any_mapped h (f (h x)) (g x) (same x) past, repeats_after_mapped h f g same (x ∷ past) xs) (kept_mapped h (list_any (g x) past) x (repeats_after g (x ∷ past) xs))
+    rw (any_mapped h (f (h x)) (g x) (same x) past, repeats_after_mapped h f g same (x ∷ past) xs)
+    (kept_mapped h (list_any (g x) past) x (repeats_after g (x ∷ past) xs))
 
-pub repeats_mapped : {A B : Type 0} (h : A → B) (f : B → B → Bool) (g : A → A → Bool) → ((x y : A) → f (h x) (h y) ≡ g x y) → (xs : List A) → repeats f (map h xs) ≡ map h (repeats g xs)
+pub repeats_mapped : {A B : Type 0} (h : A → B) (f : B → B → Bool) (g : A → A → Bool) → ((x y : A) → f (h x) (h y) ≡ g x y) → (xs : List A) →
+    repeats f (map h xs) ≡ map h (repeats g xs)
 repeats_mapped h f g same xs = repeats_after_mapped h f g same [] xs
 
-pub unlike_mapped : {A B : Type 0} (h : A → B) (f : B → B → Bool) (g : A → A → Bool) → ((x y : A) → f (h x) (h y) ≡ g x y) → (xs : List A) → unlike_first f (map h xs) ≡ map h (unlike_first g xs)
+pub unlike_mapped : {A B : Type 0} (h : A → B) (f : B → B → Bool) (g : A → A → Bool) → ((x y : A) → f (h x) (h y) ≡ g x y) → (xs : List A) →
+    unlike_first f (map h xs) ≡ map h (unlike_first g xs)
 unlike_mapped h f g same [] = refl
 unlike_mapped h f g same (x ∷ xs) = filter_mapped h (λ y. not (f (h x) y)) (λ y. not (g x y)) (λ y. ap not (same x y)) xs
 

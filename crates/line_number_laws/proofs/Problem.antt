@@ -35,7 +35,8 @@ pub record IsTwin {A : Type 0} (h : A → A) (xs : List A) (k : ℕ) (x : A) : T
   pub same : h twin ≡ h x
 
 twin_at : {A : Type 0} (h : A → A) (xs ys : List A) (k : ℕ) (y : A) → map h xs ≡ map h ys → slice_get ys k ≡ Some y → IsTwin h xs k y
-twin_at {A} h xs ys k y same at = found (slice_get xs k) refl (sym (slice_get-map h xs k) ∙ ap (λ zs. slice_get zs k) same ∙ slice_get-map h ys k ∙ ap (option_map h) at)
+twin_at {A} h xs ys k y same at = found (slice_get xs k) refl (sym (slice_get-map h xs k) ∙ ap (λ zs. slice_get zs k) same ∙ slice_get-map h ys k
+    ∙ ap (option_map h) at)
   where
     found : (o : Option A) → slice_get xs k ≡ o → option_map h o ≡ Some (h y) → IsTwin h xs k y
     found None is none = absurd cc
@@ -61,8 +62,10 @@ ends_aside : (m n : Network) → AreTwins m n → (d : Direction) (e : SessionEn
 ends_aside m n twins d e =
     let exporter = twin_at bare_router m.routers n.routers d.exporter e.exporter twins.routers e.exporter_at in
     let importer = twin_at bare_router m.routers n.routers d.importer e.importer twins.routers e.importer_at in
-    let out = twin_at bare_neighbor (neighbors_of exporter.twin) (neighbors_of e.exporter) d.exporter_item e.exporter_line (neighbors_alike exporter.twin e.exporter exporter.same) e.exporter_line_at in
-    let into = twin_at bare_neighbor (neighbors_of importer.twin) (neighbors_of e.importer) d.importer_item e.importer_line (neighbors_alike importer.twin e.importer importer.same) e.importer_line_at in
+    let out = twin_at bare_neighbor (neighbors_of exporter.twin) (neighbors_of e.exporter) d.exporter_item e.exporter_line
+    (neighbors_alike exporter.twin e.exporter exporter.same) e.exporter_line_at in
+    let into = twin_at bare_neighbor (neighbors_of importer.twin) (neighbors_of e.importer) d.importer_item e.importer_line
+    (neighbors_alike importer.twin e.importer importer.same) e.importer_line_at in
     record {
       ends = record {
         exporter = exporter.twin;
@@ -108,7 +111,8 @@ edge_aside m n twins OverBgp p d edge =
       comms = edge.comms;
       is_set = edge.is_set;
       imported = edge.imported;
-      accepted = imports_alike p t.ends.exporter e.exporter t.ends.exporter_line e.exporter_line t.ends.importer e.importer t.ends.importer_line e.importer_line edge.comms t.exporters t.outs t.importers t.intos ∙ edge.accepted;
+      accepted = imports_alike p t.ends.exporter e.exporter t.ends.exporter_line e.exporter_line t.ends.importer e.importer t.ends.importer_line e.importer_line
+          edge.comms t.exporters t.outs t.importers t.intos ∙ edge.accepted;
     }
 
 means_aside : (m n : Network) → AreTwins m n → (p : Prefix) (d : Direction) (act : Act) → Means n p d act → Means m p d act
@@ -117,7 +121,9 @@ means_aside m n twins p d (Import out sends into) means =
     let t = ends_aside m n twins d e in
     record {
       ends = t.ends;
-      same = λ comms set. means.same comms set ∙ sym (imports_alike p t.ends.exporter e.exporter t.ends.exporter_line e.exporter_line t.ends.importer e.importer t.ends.importer_line e.importer_line comms t.exporters t.outs t.importers t.intos);
+      same = λ comms set. means.same comms set
+          ∙ sym (imports_alike p t.ends.exporter e.exporter t.ends.exporter_line e.exporter_line t.ends.importer e.importer t.ends.importer_line e.importer_line
+          comms t.exporters t.outs t.importers t.intos);
     }
 means_aside m n twins p d (Cost cost) means =
     let t = twin_at bare_router m.routers n.routers d.importer means.importer twins.routers means.importer_at in
@@ -127,7 +133,8 @@ means_aside m n twins p d (Cost cost) means =
       same = same_of bare_router (λ r. cost_of r d.importer_item) (λ r. cost_bare r d.importer_item) t.twin means.importer t.same ∙ means.same;
     }
 
-stands_aside : (m n : Network) → AreTwins m n → (problem : Problem) (p : Prefix) (edge : Edge) (d : Direction) → StandsFor problem n p edge d → StandsFor problem m p edge d
+stands_aside : (m n : Network) → AreTwins m n → (problem : Problem) (p : Prefix) (edge : Edge) (d : Direction) → StandsFor problem n p edge d →
+    StandsFor problem m p edge d
 stands_aside m n twins problem p edge d stands = record {
   is_direction = direction_aside m n twins d stands.is_direction;
   is_edge = edge_aside m n twins problem.protocol p d stands.is_edge;

@@ -35,13 +35,16 @@ lines_of h line zero [] = refl
 lines_of h line zero (x ∷ xs) = rw (zero x, lines_of h line zero xs) refl
 
 -- the lines of repeated items, of items unlike the first, and of the item beyond a limit
-repeated : {X : Type 0} (h : X → X) (line : X → ℕ) → ((x : X) → line (h x) ≡ 0) → (alike : X → X → Bool) → ((x y : X) → alike (h x) (h y) ≡ alike x y) → (xs : List X) → map line (repeats alike (map h xs)) ≡ at_zero (map line (repeats alike xs))
+repeated : {X : Type 0} (h : X → X) (line : X → ℕ) → ((x : X) → line (h x) ≡ 0) → (alike : X → X → Bool) → ((x y : X) → alike (h x) (h y) ≡ alike x y) →
+    (xs : List X) → map line (repeats alike (map h xs)) ≡ at_zero (map line (repeats alike xs))
 repeated h line zero alike same xs = ap (map line) (repeats_mapped h alike alike same xs) ∙ lines_of h line zero (repeats alike xs)
 
-unlike : {X : Type 0} (h : X → X) (line : X → ℕ) → ((x : X) → line (h x) ≡ 0) → (alike : X → X → Bool) → ((x y : X) → alike (h x) (h y) ≡ alike x y) → (xs : List X) → map line (unlike_first alike (map h xs)) ≡ at_zero (map line (unlike_first alike xs))
+unlike : {X : Type 0} (h : X → X) (line : X → ℕ) → ((x : X) → line (h x) ≡ 0) → (alike : X → X → Bool) → ((x y : X) → alike (h x) (h y) ≡ alike x y) →
+    (xs : List X) → map line (unlike_first alike (map h xs)) ≡ at_zero (map line (unlike_first alike xs))
 unlike h line zero alike same xs = ap (map line) (unlike_mapped h alike alike same xs) ∙ lines_of h line zero (unlike_first alike xs)
 
-beyond : {X : Type 0} (h : X → X) (line : X → ℕ) → ((x : X) → line (h x) ≡ 0) → (limit : ℕ) (xs : List X) → map line (first_beyond limit (map h xs)) ≡ at_zero (map line (first_beyond limit xs))
+beyond : {X : Type 0} (h : X → X) (line : X → ℕ) → ((x : X) → line (h x) ≡ 0) → (limit : ℕ) (xs : List X) →
+    map line (first_beyond limit (map h xs)) ≡ at_zero (map line (first_beyond limit xs))
 beyond h line zero limit xs = ap (map line) (beyond_mapped h limit xs) ∙ lines_of h line zero (first_beyond limit xs)
 
 -- Names and numbers.
@@ -60,7 +63,8 @@ internal_bare : (r : Router) → internal_peers_of (bare_router r) ≡ map bare_
 internal_bare r = step r.bgp where
   step : (o : Option BgpProcess) → internal_peers_in (option_map bare_bgp o) ≡ map bare_neighbor (internal_peers_in o)
   step None = refl
-  step (Some process) = filter_mapped bare_neighbor (λ (q : Neighbor). nat_eq q.remote process.number) (λ (q : Neighbor). nat_eq q.remote process.number) (λ q. refl) process.neighbors
+  step (Some process) = filter_mapped bare_neighbor (λ (q : Neighbor). nat_eq q.remote process.number) (λ (q : Neighbor). nat_eq q.remote process.number)
+      (λ q. refl) process.neighbors
 
 pub internal_peer_bare : (n : Network) → internal_peer_lines (bare n) ≡ at_zero (internal_peer_lines n)
 unfolding internal_peer_lines
@@ -88,30 +92,35 @@ up_bare r = up_addresses_bare r.interfaces
 pub shared_address_bare : (n : Network) → shared_address_lines (bare n) ≡ at_zero (shared_address_lines n)
 unfolding shared_address_lines
 shared_address_bare n =
-    ap (λ (found : List Address). map address_line (repeats same_address found)) (flat_mapped bare_router bare_address up_addresses_of up_addresses_of up_bare n.routers)
+    ap (λ (found : List Address). map address_line (repeats same_address found))
+    (flat_mapped bare_router bare_address up_addresses_of up_addresses_of up_bare n.routers)
     ∙ repeated bare_address address_line (λ a. refl) same_address (λ a b. refl) (up_addresses n)
 
 pub overlapping_bare : (n : Network) → overlapping_lines (bare n) ≡ at_zero (overlapping_lines n)
 unfolding overlapping_lines
 overlapping_bare n =
     ap (map address_line)
-    (flat_mapped bare_router bare_address overlapping_in overlapping_in (λ r. ap (repeats overlap) (up_bare r) ∙ repeats_mapped bare_address overlap overlap (λ a b. refl) (up_addresses_of r)) n.routers)
+    (flat_mapped bare_router bare_address overlapping_in overlapping_in
+    (λ r. ap (repeats overlap) (up_bare r) ∙ repeats_mapped bare_address overlap overlap (λ a b. refl) (up_addresses_of r)) n.routers)
     ∙ lines_of bare_address address_line (λ a. refl) (flat_map overlapping_in n.routers)
 
 -- Interfaces in the area.
 
-with_bare : (has_fault : Interface → Bool) → ((x : Interface) → has_fault (bare_interface x) ≡ has_fault x) → (r : Router) (x : Interface) → area_address_with has_fault (bare_router r) (bare_interface x) ≡ option_map bare_address (area_address_with has_fault r x)
+with_bare : (has_fault : Interface → Bool) → ((x : Interface) → has_fault (bare_interface x) ≡ has_fault x) → (r : Router) (x : Interface) →
+    area_address_with has_fault (bare_router r) (bare_interface x) ≡ option_map bare_address (area_address_with has_fault r x)
 with_bare has_fault same r x = rw (in_area_bare r x, same x, up_address_bare x) (step (is_in_area_interface r x && has_fault x)) where
   step : (b : Bool) → cond b (option_map bare_address (up_address x)) None ≡ option_map bare_address (cond b (up_address x) None)
   step true = refl
   step false = refl
 
 area_faults_bare : (has_fault : Interface → Bool) → ((x : Interface) → has_fault (bare_interface x) ≡ has_fault x) → (n : Network)
-    → map address_line (flat_map (area_addresses_with has_fault) (map bare_router n.routers)) ≡ at_zero (map address_line (flat_map (area_addresses_with has_fault) n.routers))
+    → map address_line (flat_map (area_addresses_with has_fault) (map bare_router n.routers)) ≡ at_zero
+    (map address_line (flat_map (area_addresses_with has_fault) n.routers))
 area_faults_bare has_fault same n =
     ap (map address_line)
     (flat_mapped bare_router bare_address (area_addresses_with has_fault) (area_addresses_with has_fault)
-    (λ r. filter_map_mapped bare_interface bare_address (area_address_with has_fault (bare_router r)) (area_address_with has_fault r) (with_bare has_fault same r) r.interfaces) n.routers)
+    (λ r. filter_map_mapped bare_interface bare_address (area_address_with has_fault (bare_router r)) (area_address_with has_fault r)
+    (with_bare has_fault same r) r.interfaces) n.routers)
     ∙ lines_of bare_address address_line (λ a. refl) (flat_map (area_addresses_with has_fault) n.routers)
 
 mask_bare : (o : Option Address) → has_host_mask (option_map bare_address o) ≡ has_host_mask o
@@ -135,7 +144,8 @@ too_many_routers_bare n = beyond bare_router router_line (λ r. refl) 4096 n.rou
 pub too_many_neighbors_bare : (n : Network) → too_many_neighbors_lines (bare n) ≡ at_zero (too_many_neighbors_lines n)
 unfolding too_many_neighbors_lines
 too_many_neighbors_bare n =
-    ap (λ (qs : List Neighbor). map neighbor_line (first_beyond 131072 qs)) (flat_mapped bare_router bare_neighbor neighbors_of neighbors_of neighbors_bare n.routers)
+    ap (λ (qs : List Neighbor). map neighbor_line (first_beyond 131072 qs))
+    (flat_mapped bare_router bare_neighbor neighbors_of neighbors_of neighbors_bare n.routers)
     ∙ beyond bare_neighbor neighbor_line (λ q. refl) 131072 (flat_map neighbors_of n.routers)
 
 abbrev bare_added : Added → Added
@@ -153,19 +163,25 @@ actives_bare r = filter_map_mapped bare_interface bare_address (active_address_o
 added_by_bare : (earlier : List Address) (a : Address) → added_by (map bare_address earlier) (bare_address a) ≡ bare_added (added_by earlier a)
 added_by_bare earlier a =
     ap (λ (count : ℕ). let added : Added = record { line = 0; pairs = count } in added)
-    (ap length (filter_mapped bare_address (same_subnet (bare_address a)) (same_subnet a) (λ b. refl) earlier) ∙ length-map (filter (same_subnet a) earlier) bare_address)
+    (ap length (filter_mapped bare_address (same_subnet (bare_address a)) (same_subnet a) (λ b. refl) earlier)
+    ∙ length-map (filter (same_subnet a) earlier) bare_address)
 
 all_added_bare : (earlier xs : List Address) → map (added_by (map bare_address earlier)) (map bare_address xs) ≡ map bare_added (map (added_by earlier) xs)
 all_added_bare earlier [] = refl
 all_added_bare earlier (x ∷ xs) = rw (added_by_bare earlier x, all_added_bare earlier xs) refl
 
-added_after_bare : (earlier : List Address) (routers : List Router) → added_after (map bare_address earlier) (map bare_router routers) ≡ map bare_added (added_after earlier routers)
+added_after_bare : (earlier : List Address) (routers : List Router) →
+    added_after (map bare_address earlier) (map bare_router routers) ≡ map bare_added (added_after earlier routers)
 added_after_bare earlier [] = refl
 added_after_bare earlier (r ∷ routers) =
-    ap (λ (found : List Address). map (added_by (map bare_address earlier)) found ++ added_after (map bare_address earlier ++ found) (map bare_router routers)) (actives_bare r)
-    ∙ ap (λ (more : List Added). more ++ added_after (map bare_address earlier ++ map bare_address (active_addresses_of r)) (map bare_router routers)) (all_added_bare earlier (active_addresses_of r))
-    ∙ ap (λ (found : List Address). map bare_added (map (added_by earlier) (active_addresses_of r)) ++ added_after found (map bare_router routers)) (sym (map-append bare_address earlier (active_addresses_of r)))
-    ∙ ap (λ (more : List Added). map bare_added (map (added_by earlier) (active_addresses_of r)) ++ more) (added_after_bare (earlier ++ active_addresses_of r) routers)
+    ap (λ (found : List Address). map (added_by (map bare_address earlier)) found ++ added_after (map bare_address earlier ++ found) (map bare_router routers))
+    (actives_bare r)
+    ∙ ap (λ (more : List Added). more ++ added_after (map bare_address earlier ++ map bare_address (active_addresses_of r)) (map bare_router routers))
+    (all_added_bare earlier (active_addresses_of r))
+    ∙ ap (λ (found : List Address). map bare_added (map (added_by earlier) (active_addresses_of r)) ++ added_after found (map bare_router routers))
+    (sym (map-append bare_address earlier (active_addresses_of r)))
+    ∙ ap (λ (more : List Added). map bare_added (map (added_by earlier) (active_addresses_of r)) ++ more)
+    (added_after_bare (earlier ++ active_addresses_of r) routers)
     ∙ sym (map-append bare_added (map (added_by earlier) (active_addresses_of r)) (added_after (earlier ++ active_addresses_of r) routers))
 
 exceeding_bare : (limit sum : ℕ) (more : List Added) → exceeding limit sum (map bare_added more) ≡ at_zero (exceeding limit sum more)

@@ -16,7 +16,8 @@ LinksAside = (m n : Network) → bare m ≡ bare n → links_of m ≡ links_of n
 
 -- A problem of one is a problem of the other, if both have one protocol.
 abbrev pub ProblemAside : Type 0
-ProblemAside = (m n : Network) (p : Prefix) (problem : Problem) → bare m ≡ bare n → protocol_of m ≡ protocol_of n → IsProblemOf n p problem → IsProblemOf m p problem
+ProblemAside = (m n : Network) (p : Prefix) (problem : Problem) → bare m ≡ bare n → protocol_of m ≡ protocol_of n → IsProblemOf n p problem →
+    IsProblemOf m p problem
 
 -- If no fault of its meaning stands in one, none stands in the other.
 abbrev pub FaultsAside : Type 0

@@ -46,7 +46,8 @@ module _ {E : Type 0} (number : E → ℕ) where
   through a b c lt = grind (arith, nat_tests)
 
   -- of entries that ascend, the last one has the largest number
-  pub below_by_last : (xs : List E) (d : E) (wanted : ℕ) → ascends number xs ≡ true → 0 < length xs → are_below number xs wanted ≡ nat_lt (number (get_or xs (length xs - 1) d)) wanted
+  pub below_by_last : (xs : List E) (d : E) (wanted : ℕ) → ascends number xs ≡ true → 0 < length xs →
+      are_below number xs wanted ≡ nat_lt (number (get_or xs (length xs - 1) d)) wanted
   below_by_last [] d wanted up some = absurd (omega arith)
   below_by_last (x ∷ []) d wanted up some = and_true (nat_lt (number x) wanted)
     where
@@ -57,8 +58,10 @@ module _ {E : Type 0} (number : E → ℕ) where
       let parts = both (list_all (λ z. nat_lt (number x) (number z)) (y ∷ ys)) (ascends number (y ∷ ys)) up in
       let end : length (y ∷ ys) - 1 ≡ length ys = omega arith in
       let whole : length (x ∷ y ∷ ys) - 1 ≡ suc (length ys) = omega arith in
-      rw whole (ap (λ b. nat_lt (number x) wanted && b) (below_by_last (y ∷ ys) d wanted parts.1 (omega arith) ∙ ap (λ i. nat_lt (number (get_or (y ∷ ys) i d)) wanted) end)
-      ∙ through (number x) (number (get_or (y ∷ ys) (length ys) d)) wanted (all_at (λ z. nat_lt (number x) (number z)) (y ∷ ys) (length ys) d parts.0 (omega arith)))
+      rw whole (ap (λ b. nat_lt (number x) wanted && b)
+      (below_by_last (y ∷ ys) d wanted parts.1 (omega arith) ∙ ap (λ i. nat_lt (number (get_or (y ∷ ys) i d)) wanted) end)
+      ∙ through (number x) (number (get_or (y ∷ ys) (length ys) d)) wanted
+      (all_at (λ z. nat_lt (number x) (number z)) (y ∷ ys) (length ys) d parts.0 (omega arith)))
 
   other : (a b : ℕ) → nat_lt a b ≡ true → nat_eq a b ≡ false
   other a b lt = grind (arith, nat_tests)
@@ -70,7 +73,8 @@ module _ {E : Type 0} (number : E → ℕ) where
       rw (other (number x) wanted parts.0, none_if_below xs wanted parts.1) refl
 
   pub has_last : (xs : List E) (e : E) (wanted : ℕ) → has_number number (xs ++ e ∷ []) wanted ≡ (has_number number xs wanted || nat_eq (number e) wanted)
-  has_last xs e wanted = list_any-append (λ x. nat_eq (number x) wanted) xs (e ∷ []) ∙ ap (λ b. has_number number xs wanted || b) (or_none (nat_eq (number e) wanted))
+  has_last xs e wanted = list_any-append (λ x. nat_eq (number x) wanted) xs (e ∷ [])
+      ∙ ap (λ b. has_number number xs wanted || b) (or_none (nat_eq (number e) wanted))
     where
       or_none : (b : Bool) → (b || false) ≡ b
       or_none true = refl

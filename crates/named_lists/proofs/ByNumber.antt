@@ -28,14 +28,18 @@ module _ {E : Type 0} (number : E → ℕ) where
   unfolding put_all
   by_number_none = refl
 
-  ordered_by : (name : List ℕ) (e : E) (l : NamedList E) (ls : List (NamedList E)) → map (in_order number) (in_named name (λ es. es ++ e ∷ []) ls) ≡ in_named name (put number e) (map (in_order number) ls)
-      → (b : Bool) → bytes_eq l.name name ≡ b → map (in_order number) (in_named name (λ es. es ++ e ∷ []) (l ∷ ls)) ≡ in_named name (put number e) (map (in_order number) (l ∷ ls))
+  ordered_by : (name : List ℕ) (e : E) (l : NamedList E) (ls : List (NamedList E)) →
+      map (in_order number) (in_named name (λ es. es ++ e ∷ []) ls) ≡ in_named name (put number e) (map (in_order number) ls)
+      → (b : Bool) → bytes_eq l.name name ≡ b →
+      map (in_order number) (in_named name (λ es. es ++ e ∷ []) (l ∷ ls)) ≡ in_named name (put number e) (map (in_order number) (l ∷ ls))
   unfolding in_named
-  ordered_by name e l ls rest true is = rw is (ap (λ es. (let m : NamedList E = record { name = l.name; entries = es } in m) ∷ map (in_order number) ls) (by_number_last l.entries e))
+  ordered_by name e l ls rest true is = rw is
+      (ap (λ es. (let m : NamedList E = record { name = l.name; entries = es } in m) ∷ map (in_order number) ls) (by_number_last l.entries e))
   ordered_by name e l ls rest false is = rw is (ap (λ ms. in_order number l ∷ ms) rest)
 
   -- an entry put last into a list is put into the list that is in order
-  pub put_in_order : (name : List ℕ) (e : E) (ls : List (NamedList E)) → map (in_order number) (in_named name (λ es. es ++ e ∷ []) ls) ≡ in_named name (put number e) (map (in_order number) ls)
+  pub put_in_order : (name : List ℕ) (e : E) (ls : List (NamedList E)) →
+      map (in_order number) (in_named name (λ es. es ++ e ∷ []) ls) ≡ in_named name (put number e) (map (in_order number) ls)
   unfolding in_named put put_all
   put_in_order name e [] = refl
   put_in_order name e (l ∷ ls) = ordered_by name e l ls (put_in_order name e ls) (bytes_eq l.name name) refl
@@ -56,7 +60,8 @@ module _ {E : Type 0} (number : E → ℕ) where
   or_none true = refl
   or_none false = refl
 
-  any_by : (test : E → Bool) (e x : E) (xs : List E) → list_any test (put number e xs) ≡ (test e || list_any test xs) → (b : Bool) → nat_lt (number e) (number x) ≡ b → list_any test (put number e (x ∷ xs)) ≡ (test e || list_any test (x ∷ xs))
+  any_by : (test : E → Bool) (e x : E) (xs : List E) → list_any test (put number e xs) ≡ (test e || list_any test xs) → (b : Bool) →
+      nat_lt (number e) (number x) ≡ b → list_any test (put number e (x ∷ xs)) ≡ (test e || list_any test (x ∷ xs))
   unfolding put
   any_by test e x xs rest true is = rw is refl
   any_by test e x xs rest false is = rw is (ap (λ b. test x || b) rest ∙ swap (test x) (test e) (list_any test xs))
@@ -69,7 +74,8 @@ module _ {E : Type 0} (number : E → ℕ) where
   any_put_all : (test : E → Bool) (done xs : List E) → list_any test (put_all number done xs) ≡ (list_any test xs || list_any test done)
   unfolding put_all
   any_put_all test done [] = refl
-  any_put_all test done (x ∷ xs) = any_put_all test (put number x done) xs ∙ ap (λ b. list_any test xs || b) (any_put test x done) ∙ turn (test x) (list_any test xs) (list_any test done)
+  any_put_all test done (x ∷ xs) = any_put_all test (put number x done) xs ∙ ap (λ b. list_any test xs || b) (any_put test x done)
+      ∙ turn (test x) (list_any test xs) (list_any test done)
 
   pub has_by_number : (xs : List E) (wanted : ℕ) → has_number number (by_number number xs) wanted ≡ has_number number xs wanted
   has_by_number xs wanted = any_put_all (λ x. nat_eq (number x) wanted) [] xs ∙ or_none (has_number number xs wanted)
@@ -96,7 +102,8 @@ module _ {E : Type 0} (number : E → ℕ) where
   not_less : (a b : ℕ) → nat_lt a b ≡ false → b ≤ a
   not_less a b e = grind (arith, nat_tests)
 
-  from_put_by : (n : ℕ) (e x : E) (xs : List E) → n ≤ number e → AreFrom n (x ∷ xs) → AreFrom n (put number e xs) → (b : Bool) → nat_lt (number e) (number x) ≡ b → AreFrom n (put number e (x ∷ xs))
+  from_put_by : (n : ℕ) (e x : E) (xs : List E) → n ≤ number e → AreFrom n (x ∷ xs) → AreFrom n (put number e xs) → (b : Bool) →
+      nat_lt (number e) (number x) ≡ b → AreFrom n (put number e (x ∷ xs))
   unfolding put
   from_put_by n e x xs le from rest true is = rw is (le, from)
   from_put_by n e x xs le from rest false is = rw is (from.0, rest)
@@ -146,19 +153,22 @@ module _ {E : Type 0} (number : E → ℕ) where
   append_none (x ∷ xs) = ap (λ ys. x ∷ ys) (append_none xs)
 
   -- the items of one number, with one put before those of larger numbers
-  put_first : (v : ℕ) (e x : E) (xs : List E) → number e < number x → AreFrom (number x) xs → (b : Bool) → nat_eq (number e) v ≡ b → with_key number (e ∷ x ∷ xs) v ≡ with_key number (x ∷ xs) v ++ with_key number (e ∷ []) v
+  put_first : (v : ℕ) (e x : E) (xs : List E) → number e < number x → AreFrom (number x) xs → (b : Bool) → nat_eq (number e) v ≡ b →
+      with_key number (e ∷ x ∷ xs) v ≡ with_key number (x ∷ xs) v ++ with_key number (e ∷ []) v
   put_first v e x xs lt from true is =
       let same : number e ≡ v = number_is (number e) v is in
       let none : with_key number (x ∷ xs) v ≡ [] = none_with v (number x) (x ∷ xs) (omega (arith, lt, same)) (omega arith, from) in
       rw (is, none) refl
   put_first v e x xs lt from false is = rw is (sym (append_none (with_key number (x ∷ xs) v)))
 
-  put_later : (v : ℕ) (e x : E) (xs : List E) → with_key number (put number e xs) v ≡ with_key number xs v ++ with_key number (e ∷ []) v → (b : Bool) → nat_eq (number x) v ≡ b
+  put_later : (v : ℕ) (e x : E) (xs : List E) → with_key number (put number e xs) v ≡ with_key number xs v ++ with_key number (e ∷ []) v → (b : Bool) →
+      nat_eq (number x) v ≡ b
       → with_key number (x ∷ put number e xs) v ≡ with_key number (x ∷ xs) v ++ with_key number (e ∷ []) v
   put_later v e x xs rest true is = rw is (ap (λ ys. x ∷ ys) rest)
   put_later v e x xs rest false is = rw is rest
 
-  with_put_by : (v : ℕ) (e x : E) (xs : List E) → IsUp (x ∷ xs) → with_key number (put number e xs) v ≡ with_key number xs v ++ with_key number (e ∷ []) v → (b : Bool) → nat_lt (number e) (number x) ≡ b
+  with_put_by : (v : ℕ) (e x : E) (xs : List E) → IsUp (x ∷ xs) → with_key number (put number e xs) v ≡ with_key number xs v ++ with_key number (e ∷ []) v →
+      (b : Bool) → nat_lt (number e) (number x) ≡ b
       → with_key number (put number e (x ∷ xs)) v ≡ with_key number (x ∷ xs) v ++ with_key number (e ∷ []) v
   unfolding put
   with_put_by v e x xs up rest true is = rw is (put_first v e x xs (less (number e) (number x) is) up.0 (nat_eq (number e) v) refl)
@@ -169,7 +179,8 @@ module _ {E : Type 0} (number : E → ℕ) where
   with_put v e [] up = refl
   with_put v e (x ∷ xs) up = with_put_by v e x xs up (with_put v e xs up.1) (nat_lt (number e) (number x)) refl
 
-  with_next : (v : ℕ) (x : E) (xs : List E) (b : Bool) → nat_eq (number x) v ≡ b → with_key number (x ∷ []) v ++ with_key number xs v ≡ with_key number (x ∷ xs) v
+  with_next : (v : ℕ) (x : E) (xs : List E) (b : Bool) → nat_eq (number x) v ≡ b → with_key number (x ∷ []) v
+      ++ with_key number xs v ≡ with_key number (x ∷ xs) v
   with_next v x xs true is = rw is refl
   with_next v x xs false is = rw is refl
 
@@ -178,7 +189,8 @@ module _ {E : Type 0} (number : E → ℕ) where
   with_put_all v done [] up = sym (append_none (with_key number done v))
   with_put_all v done (x ∷ xs) up =
       with_put_all v (put number x done) xs (up_put x done up) ∙ ap (λ ys. ys ++ with_key number xs v) (with_put v x done up)
-      ∙ append_assoc (with_key number done v) (with_key number (x ∷ []) v) (with_key number xs v) ∙ ap (λ ys. with_key number done v ++ ys) (with_next v x xs (nat_eq (number x) v) refl)
+      ∙ append_assoc (with_key number done v) (with_key number (x ∷ []) v) (with_key number xs v)
+      ∙ ap (λ ys. with_key number done v ++ ys) (with_next v x xs (nat_eq (number x) v) refl)
 
   -- a number above those of the entries
   total : List E → ℕ
@@ -198,10 +210,12 @@ module _ {E : Type 0} (number : E → ℕ) where
 
   by_keys : (xs : List E) (n : ℕ) → ((z : E) → In (by_number number xs) z → number z < n) → by_number number xs ≡ by_key number n xs
   by_keys xs n below =
-      sym (grouped number (by_number number xs) n (rises (by_number number xs) (up_put_all [] xs tt)) below) ∙ (λ i. flat_map (λ v. with_put_all v [] xs tt i) (range_with_len 0 n))
+      sym (grouped number (by_number number xs) n (rises (by_number number xs) (up_put_all [] xs tt)) below)
+      ∙ (λ i. flat_map (λ v. with_put_all v [] xs tt i) (range_with_len 0 n))
 
   -- a stable sort is the list by numbers
   pub sorted_by_number : (xs ys : List E) → IsNonDecreasingBy number ys → IsStableByKey number nat_cmp xs ys → ys ≡ by_number number xs
   sorted_by_number xs ys up stable =
       let n = total xs + total (by_number number xs) in
-      sorted_is number xs ys n up stable (λ x at. omega (arith, below_total xs x at)) ∙ sym (by_keys xs n (λ z at. omega (arith, below_total (by_number number xs) z at)))
+      sorted_is number xs ys n up stable (λ x at. omega (arith, below_total xs x at))
+      ∙ sym (by_keys xs n (λ z at. omega (arith, below_total (by_number number xs) z at)))

@@ -13,13 +13,15 @@ pub none_changed : {X : Type 0} (change : X → X) (xs : List X) → changed_fro
 unfolding changed_from
 none_changed change xs = refl
 
-next_changed : {X : Type 0} (change : X → X) (xs : List X) (i : ℕ) (d : X) → i < length xs → changed_from change (suc i) (set xs i (change (get_or xs i d))) ≡ changed_from change i xs
+next_changed : {X : Type 0} (change : X → X) (xs : List X) (i : ℕ) (d : X) → i < length xs →
+    changed_from change (suc i) (set xs i (change (get_or xs i d))) ≡ changed_from change i xs
 unfolding changed_from
 next_changed change [] i d lt = absurd (omega arith)
 next_changed change (x ∷ xs) zero d lt = refl
 next_changed change (x ∷ xs) (suc i) d lt = ap (λ ys. x ∷ ys) (next_changed change xs i d (omega arith))
 
-pub one_changed : {X : Type 0} (change : X → X) (xs : List X) (i : ℕ) (d : X) → i < length xs → changed_from change (i + 1) (set xs i (change (get_or xs i d))) ≡ changed_from change i xs
+pub one_changed : {X : Type 0} (change : X → X) (xs : List X) (i : ℕ) (d : X) → i < length xs →
+    changed_from change (i + 1) (set xs i (change (get_or xs i d))) ≡ changed_from change i xs
 one_changed change xs i d lt =
     let next : i + 1 ≡ suc i = omega arith in
     rw next (next_changed change xs i d lt)

@@ -34,7 +34,8 @@ some_spot : (r i : ℕ) (o : Option Address) (s : Spot) → option_map (spot_at 
 some_spot r i None s e = cc
 some_spot r i (Some a) s e = (a, refl, cc)
 
-near_at : (u v i j : ℕ) (o w : Option Address) (s t : Spot) → option_map (spot_at u i) o ≡ Some s → option_map (spot_at v j) w ≡ Some t → (nat_lt u v && both_in_one_subnet o w) ≡ (is_at pair_of (pair_of s) t && is_later s t)
+near_at : (u v i j : ℕ) (o w : Option Address) (s t : Spot) → option_map (spot_at u i) o ≡ Some s → option_map (spot_at v j) w ≡ Some t →
+    (nat_lt u v && both_in_one_subnet o w) ≡ (is_at pair_of (pair_of s) t && is_later s t)
 near_at u v i j None w s t e f = cc
 near_at u v i j (Some a) None s t e f = cc
 near_at u v i j (Some a) (Some b) s t e f =
@@ -44,7 +45,8 @@ near_at u v i j (Some a) (Some b) s t e f =
     ∙ ap (λ (x : Spot). is_at pair_of (pair_of x) (spot_at v j b) && is_later x (spot_at v j b)) low
     ∙ ap (λ (y : Spot). is_at pair_of (pair_of s) y && is_later s y) high
 
-link_at : (u v i j : ℕ) (o w : Option Address) (s t : Spot) → option_map (spot_at u i) o ≡ Some s → option_map (spot_at v j) w ≡ Some t → record { low = u; high = v; low_item = i; high_item = j } ≡ spot_link s t
+link_at : (u v i j : ℕ) (o w : Option Address) (s t : Spot) → option_map (spot_at u i) o ≡ Some s → option_map (spot_at v j) w ≡ Some t →
+    record { low = u; high = v; low_item = i; high_item = j } ≡ spot_link s t
 link_at u v i j None w s t e f = cc
 link_at u v i j (Some a) None s t e f = cc
 link_at u v i j (Some a) (Some b) s t e f =
@@ -60,19 +62,25 @@ unfolding any_place
 all_good [] = tt
 all_good (p ∷ ps) = (tt, all_good ps)
 
-adjacent_here : (p q : Place Interface) → are_adjacent p q ≡ (nat_lt p.router q.router && both_in_one_subnet (active_address_on p.owner p.value) (active_address_on q.owner q.value))
+adjacent_here : (p q : Place Interface) →
+    are_adjacent p q ≡ (nat_lt p.router q.router && both_in_one_subnet (active_address_on p.owner p.value) (active_address_on q.owner q.value))
 adjacent_here p q =
     ap (λ (o : Option Address). nat_lt p.router q.router && both_in_one_subnet o (active_address q)) (active_here p)
     ∙ ap (λ (o : Option Address). nat_lt p.router q.router && both_in_one_subnet (active_address_on p.owner p.value) o) (active_here q)
 
 are_indexed : IsIndexed any_place spot_of are_adjacent (λ s t. is_at pair_of (pair_of s) t) is_later spot_link
 are_indexed = record {
-  left = λ p q e. adjacent_here p q ∙ ap (λ (o : Option Address). nat_lt p.router q.router && both_in_one_subnet o (active_address_on q.owner q.value)) (no_spot p.router p.item (active_address_on p.owner p.value) e) ∙ and_false (nat_lt p.router q.router);
-  right = λ p q e. adjacent_here p q ∙ ap (λ (o : Option Address). nat_lt p.router q.router && both_in_one_subnet (active_address_on p.owner p.value) o) (no_spot q.router q.item (active_address_on q.owner q.value) e) ∙ ap (λ (b : Bool). nat_lt p.router q.router && b) (none_right (active_address_on p.owner p.value)) ∙ and_false (nat_lt p.router q.router);
-  both = λ p q s t g h e f. adjacent_here p q ∙ near_at p.router q.router p.item q.item (active_address_on p.owner p.value) (active_address_on q.owner q.value) s t e f;
+  left = λ p q e. adjacent_here p q ∙ ap (λ (o : Option Address). nat_lt p.router q.router && both_in_one_subnet o (active_address_on q.owner q.value))
+      (no_spot p.router p.item (active_address_on p.owner p.value) e) ∙ and_false (nat_lt p.router q.router);
+  right = λ p q e. adjacent_here p q ∙ ap (λ (o : Option Address). nat_lt p.router q.router && both_in_one_subnet (active_address_on p.owner p.value) o)
+      (no_spot q.router q.item (active_address_on q.owner q.value) e)
+      ∙ ap (λ (b : Bool). nat_lt p.router q.router && b) (none_right (active_address_on p.owner p.value)) ∙ and_false (nat_lt p.router q.router);
+  both = λ p q s t g h e f. adjacent_here p q ∙ near_at p.router q.router p.item q.item (active_address_on p.owner p.value) (active_address_on q.owner q.value)
+      s t e f;
   same = λ p q s t e f. link_at p.router q.router p.item q.item (active_address_on p.owner p.value) (active_address_on q.owner q.value) s t e f;
 }
 
 pub adjacencies_by_index : (n : Network) → adjacencies_of n ≡ flat_map (links_in (spots n)) (spots n)
 unfolding adjacencies_of spots
-adjacencies_by_index n = joined_by_index any_place spot_of are_adjacent (λ s t. is_at pair_of (pair_of s) t) is_later spot_link are_indexed (places interfaces_of n) (all_good (places interfaces_of n))
+adjacencies_by_index n = joined_by_index any_place spot_of are_adjacent (λ s t. is_at pair_of (pair_of s) t) is_later spot_link are_indexed
+    (places interfaces_of n) (all_good (places interfaces_of n))

@@ -16,9 +16,11 @@ use Rattle.net_topology.proofs.OneProtocol.{no_bgp, no_ospf, no_process, no_sess
 
 pub few_neighbors : (n : Network) → IsFaultless n → length (flat_map neighbors_of n.routers) ≤ 131072
 unfolding too_many_neighbors_lines
-few_neighbors n faultless = none_beyond (flat_map neighbors_of n.routers) 131072 (map_nil neighbor_line (first_beyond 131072 (flat_map neighbors_of n.routers)) faultless.too_many_neighbors)
+few_neighbors n faultless = none_beyond (flat_map neighbors_of n.routers) 131072
+    (map_nil neighbor_line (first_beyond 131072 (flat_map neighbors_of n.routers)) faultless.too_many_neighbors)
 
-of_protocol : (n : Network) → IsWellFormed n → IsFaultless n → (o : Option Protocol) → protocol_of n ≡ o → length (sessions_of n) + length (adjacencies_of n) ≤ 1048576
+of_protocol : (n : Network) → IsWellFormed n → IsFaultless n → (o : Option Protocol) → protocol_of n ≡ o →
+    length (sessions_of n) + length (adjacencies_of n) ≤ 1048576
 of_protocol n formed faultless None is =
     let none = no_process n is in
     let sessions = ap (λ (l : List Link). length l) (no_sessions n (λ r at. (none r at).0)) in

@@ -11,7 +11,8 @@ use Rattle.cfg_ast.specs.meaning.Topology.{place_on, places_on, places, interfac
 use Rattle.given_laws.specs.Laws.{PlacesAreInOrder}
 use Rattle.net_topology.specs.FewPlaces.{HasFewPlaces}
 
-places_counted : {X : Type 0} (items : Router → List X) (k : ℕ) (routers : List Router) → length (flat_map (places_on items) (enumerate_from k routers)) ≡ length (flat_map items routers)
+places_counted : {X : Type 0} (items : Router → List X) (k : ℕ) (routers : List Router) →
+    length (flat_map (places_on items) (enumerate_from k routers)) ≡ length (flat_map items routers)
 places_counted items k [] = refl
 places_counted items k (r ∷ routers) =
     let here = length-map (enumerate_from 0 (items r)) (place_on k r) in
@@ -21,10 +22,13 @@ places_counted items k (r ∷ routers) =
     let right = length-append (items r) (flat_map items routers) in
     omega arith
 
-one_of_all : {X : Type 0} (items : Router → List X) (routers : List Router) (router : Router) → In routers router → length (items router) ≤ length (flat_map items routers)
+one_of_all : {X : Type 0} (items : Router → List X) (routers : List Router) (router : Router) → In routers router →
+    length (items router) ≤ length (flat_map items routers)
 one_of_all items [] router at = absurd at
-one_of_all items (r ∷ routers) router (inl same) = let e = ap (λ (q : Router). length (items q)) same in let all = length-append (items r) (flat_map items routers) in omega arith
-one_of_all items (r ∷ routers) router (inr at) = let rest = one_of_all items routers router at in let all = length-append (items r) (flat_map items routers) in omega arith
+one_of_all items (r ∷ routers) router (inl same) = let e = ap (λ (q : Router). length (items q)) same in let all =
+    length-append (items r) (flat_map items routers) in omega arith
+one_of_all items (r ∷ routers) router (inr at) = let rest = one_of_all items routers router at in let all = length-append (items r) (flat_map items routers) in
+    omega arith
 
 pub few_places : (n : Network) → length n.routers ≤ 4096 → PlacesAreInOrder n → HasFewPlaces n.routers
 unfolding places

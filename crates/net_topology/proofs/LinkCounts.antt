@@ -28,11 +28,13 @@ links_counted {X} joins (p ∷ ps) qs =
 
 -- ---- addresses of places
 
-both_last : (a : Address) (o : Option Address) (found : List Address) (n : ℕ) → n ≡ passing (same_subnet a) found → one_if (both_in_one_subnet (Some a) o) + n ≡ passing (same_subnet a) (cons_option o found)
+both_last : (a : Address) (o : Option Address) (found : List Address) (n : ℕ) → n ≡ passing (same_subnet a) found →
+    one_if (both_in_one_subnet (Some a) o) + n ≡ passing (same_subnet a) (cons_option o found)
 both_last a None found n e = let z = e in omega arith
 both_last a (Some b) found n e = ap (λ m. one_if (same_subnet a b) + m) e
 
-row_with : {Y : Type 0} (at : Y → Option Address) (a : Address) (ys : List Y) → passing (λ y. both_in_one_subnet (Some a) (at y)) ys ≡ passing (same_subnet a) (filter_map at ys)
+row_with : {Y : Type 0} (at : Y → Option Address) (a : Address) (ys : List Y) →
+    passing (λ y. both_in_one_subnet (Some a) (at y)) ys ≡ passing (same_subnet a) (filter_map at ys)
 row_with at a [] = refl
 row_with at a (y ∷ ys) = both_last a (at y) (filter_map at ys) (passing (λ z. both_in_one_subnet (Some a) (at z)) ys) (row_with at a ys)
 
@@ -40,25 +42,31 @@ row_without : {Y : Type 0} (at : Y → Option Address) (ys : List Y) → passing
 row_without at [] = refl
 row_without at (y ∷ ys) = let r = row_without at ys in omega arith
 
-row_next : {Y : Type 0} (at : Y → Option Address) (o : Option Address) (ys : List Y) (found : List Address) (n : ℕ) → n ≡ pairs same_subnet found (filter_map at ys)
+row_next : {Y : Type 0} (at : Y → Option Address) (o : Option Address) (ys : List Y) (found : List Address) (n : ℕ) →
+    n ≡ pairs same_subnet found (filter_map at ys)
     → passing (λ y. both_in_one_subnet o (at y)) ys + n ≡ pairs same_subnet (cons_option o found) (filter_map at ys)
 row_next at None ys found n e = let r = row_without at ys in let z = e in omega arith
 row_next at (Some a) ys found n e = let r = row_with at a ys in let z = e in omega arith
 
-pub pairs_of_addresses : {X : Type 0} (at : X → Option Address) (xs ys : List X) → pairs (λ x y. both_in_one_subnet (at x) (at y)) xs ys ≡ pairs same_subnet (filter_map at xs) (filter_map at ys)
+pub pairs_of_addresses : {X : Type 0} (at : X → Option Address) (xs ys : List X) →
+    pairs (λ x y. both_in_one_subnet (at x) (at y)) xs ys ≡ pairs same_subnet (filter_map at xs) (filter_map at ys)
 pairs_of_addresses at [] ys = refl
-pairs_of_addresses at (x ∷ xs) ys = row_next at (at x) ys (filter_map at xs) (pairs (λ z y. both_in_one_subnet (at z) (at y)) xs ys) (pairs_of_addresses at xs ys)
+pairs_of_addresses at (x ∷ xs) ys = row_next at (at x) ys (filter_map at xs) (pairs (λ z y. both_in_one_subnet (at z) (at y)) xs ys)
+    (pairs_of_addresses at xs ys)
 
 pub either_way : (m n : ℕ) → nat_eq m n ≡ nat_eq n m
 either_way m n = grind (arith, nat_tests)
 
 pub subnet_either_way : (a b : Address) → same_subnet a b ≡ same_subnet b a
-subnet_either_way a b = ap (λ c. c && nat_eq (first_address a) (first_address b)) (either_way a.len b.len) ∙ ap (λ c. nat_eq b.len a.len && c) (either_way (first_address a) (first_address b))
+subnet_either_way a b = ap (λ c. c && nat_eq (first_address a) (first_address b)) (either_way a.len b.len)
+    ∙ ap (λ c. nat_eq b.len a.len && c) (either_way (first_address a) (first_address b))
 
-addresses_here : (k i : ℕ) (router : Router) (xs : List Interface) → filter_map active_address (map (place_on k router) (enumerate_from i xs)) ≡ filter_map (active_address_on router) xs
+addresses_here : (k i : ℕ) (router : Router) (xs : List Interface) →
+    filter_map active_address (map (place_on k router) (enumerate_from i xs)) ≡ filter_map (active_address_on router) xs
 addresses_here k i router [] = refl
 addresses_here k i router (x ∷ xs) =
-    ap (λ (o : Option Address). cons_option o (filter_map active_address (map (place_on k router) (enumerate_from (i + 1) xs)))) (active_here (place_on k router (i, x)))
+    ap (λ (o : Option Address). cons_option o (filter_map active_address (map (place_on k router) (enumerate_from (i + 1) xs))))
+    (active_here (place_on k router (i, x)))
     ∙ ap (λ (l : List Address). cons_option (active_address_on router x) l) (addresses_here k (i + 1) router xs)
 
 -- ---- pairs router by router
@@ -67,7 +75,8 @@ pub added_pairs : List Added → ℕ
 added_pairs [] = 0
 added_pairs (a ∷ rest) = a.pairs + added_pairs rest
 
-added_by_all : (earlier mine : List Address) (rest : List Added) → added_pairs (map (added_by earlier) mine ++ rest) ≡ pairs same_subnet mine earlier + added_pairs rest
+added_by_all : (earlier mine : List Address) (rest : List Added) →
+    added_pairs (map (added_by earlier) mine ++ rest) ≡ pairs same_subnet mine earlier + added_pairs rest
 unfolding added_pairs
 added_by_all earlier [] rest = omega arith
 added_by_all earlier (a ∷ mine) rest = let r = added_by_all earlier mine rest in let s = length_filter (same_subnet a) earlier in omega arith
@@ -92,7 +101,8 @@ AreBefore k before = (p : Place Interface) → In before p → p.router < k
 
 -- one router more
 pairs_with : (k : ℕ) (router : Router) (before : List (Place Interface)) → AreBefore k before
-    → pairs are_adjacent (before ++ here_on k router) (before ++ here_on k router) ≡ pairs are_adjacent before before + pairs same_subnet (active_addresses_of router) (filter_map active_address before)
+    → pairs are_adjacent (before ++ here_on k router) (before ++ here_on k router) ≡ pairs are_adjacent before before + pairs same_subnet
+    (active_addresses_of router) (filter_map active_address before)
 pairs_with k router before earlier =
     let here = here_on k router in
     let all = pairs_append_left are_adjacent before here (before ++ here) in
@@ -101,10 +111,12 @@ pairs_with k router before earlier =
       | inl b ↦ never_earlier p q (let c = earlier q b in omega arith)
       | inr h ↦ never_earlier p q (let c = on_router k router q h in omega arith)
     ])) in
-    let shared = pairs_same are_adjacent share before here (λ p q at also. later_apart p q (let a = earlier p at in let b = on_router k router q also in omega arith)) in
+    let shared = pairs_same are_adjacent share before here
+    (λ p q at also. later_apart p q (let a = earlier p at in let b = on_router k router q also in omega arith)) in
     let found = pairs_of_addresses active_address before here in
     let turned = pairs_turned same_subnet (filter_map active_address before) (filter_map active_address here) in
-    let same = pairs_same (λ a b. same_subnet b a) same_subnet (filter_map active_address here) (filter_map active_address before) (λ a b at also. subnet_either_way b a) in
+    let same = pairs_same (λ a b. same_subnet b a) same_subnet (filter_map active_address here) (filter_map active_address before)
+    (λ a b at also. subnet_either_way b a) in
     let addresses = ap (λ (l : List Address). pairs same_subnet l (filter_map active_address before)) (addresses_here k 0 router router.interfaces) in
     omega arith
 
@@ -117,15 +129,18 @@ before_next k router before earlier p at = elim (append_in before (here_on k rou
 abbrev later_from : ℕ → List Router → List (Place Interface)
 later_from k routers = flat_map (places_on interfaces_of) (enumerate_from k routers)
 
-addresses_next : (k : ℕ) (router : Router) (before : List (Place Interface)) → filter_map active_address (before ++ here_on k router) ≡ filter_map active_address before ++ active_addresses_of router
-addresses_next k router before = filter_map-append active_address before (here_on k router) ∙ ap (λ (l : List Address). filter_map active_address before ++ l) (addresses_here k 0 router router.interfaces)
+addresses_next : (k : ℕ) (router : Router) (before : List (Place Interface)) →
+    filter_map active_address (before ++ here_on k router) ≡ filter_map active_address before ++ active_addresses_of router
+addresses_next k router before = filter_map-append active_address before (here_on k router)
+    ∙ ap (λ (l : List Address). filter_map active_address before ++ l) (addresses_here k 0 router router.interfaces)
 
 no_more : {X : Type 0} (xs : List X) → xs ++ [] ≡ xs
 no_more [] = refl
 no_more (x ∷ xs) = ap (λ ys. x ∷ ys) (no_more xs)
 
 pairs_grow : (k : ℕ) (routers : List Router) (before : List (Place Interface)) → AreBefore k before
-    → pairs are_adjacent (before ++ later_from k routers) (before ++ later_from k routers) ≡ pairs are_adjacent before before + added_pairs (added_after (filter_map active_address before) routers)
+    → pairs are_adjacent (before ++ later_from k routers) (before ++ later_from k routers) ≡ pairs are_adjacent before before + added_pairs
+    (added_after (filter_map active_address before) routers)
 unfolding added_pairs
 pairs_grow k [] before earlier = ap (λ (l : List (Place Interface)). pairs are_adjacent l l) (no_more before) ∙ omega arith
 pairs_grow k (router ∷ routers) before earlier =
@@ -135,7 +150,8 @@ pairs_grow k (router ∷ routers) before earlier =
     let rest = pairs_grow (k + 1) routers (before ++ here) (before_next k router before earlier) in
     let addresses = ap (λ (l : List Address). added_pairs (added_after l routers)) (addresses_next k router before) in
     let one = pairs_with k router before earlier in
-    let added = added_by_all (filter_map active_address before) (active_addresses_of router) (added_after (filter_map active_address before ++ active_addresses_of router) routers) in
+    let added = added_by_all (filter_map active_address before) (active_addresses_of router)
+    (added_after (filter_map active_address before ++ active_addresses_of router) routers) in
     omega arith
 
 none_before : (m : ℕ) → 0 + m ≡ m
@@ -144,11 +160,13 @@ none_before m = omega arith
 -- the limit counts the adjacencies
 pub adjacencies_counted : (n : Network) → length (adjacencies_of n) ≡ added_pairs (added_after [] n.routers)
 unfolding adjacencies_of places
-adjacencies_counted n = links_counted are_adjacent (places interfaces_of n) (places interfaces_of n) ∙ pairs_grow 0 n.routers [] (λ p at. absurd at) ∙ none_before (added_pairs (added_after [] n.routers))
+adjacencies_counted n = links_counted are_adjacent (places interfaces_of n) (places interfaces_of n) ∙ pairs_grow 0 n.routers [] (λ p at. absurd at)
+    ∙ none_before (added_pairs (added_after [] n.routers))
 
 -- ---- the limit
 
-not_beyond : (limit sum : ℕ) (a : Added) (rest : List ℕ) (b : Bool) → nat_lt limit (sum + a.pairs) ≡ b → cond b (a.line ∷ []) rest ≡ [] → (sum + a.pairs ≤ limit) × (rest ≡ [])
+not_beyond : (limit sum : ℕ) (a : Added) (rest : List ℕ) (b : Bool) → nat_lt limit (sum + a.pairs) ≡ b → cond b (a.line ∷ []) rest ≡ [] →
+    (sum + a.pairs ≤ limit) × (rest ≡ [])
 not_beyond limit sum a rest true is none = absurd cc
 not_beyond limit sum a rest false is none = (grind (arith, nat_tests), none)
 

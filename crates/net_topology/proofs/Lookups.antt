@@ -16,18 +16,22 @@ later_first false x o w = refl
 
 last_where-push : {X : Type 0} (test : X → Bool) (xs : List X) (x : X) → last_where test (xs ++ x ∷ []) ≡ cond (test x) (Some x) (last_where test xs)
 last_where-push test [] x = refl
-last_where-push {X} test (y ∷ ys) x = ap (λ (o : Option X). option_or o (cond (test y) (Some y) None)) (last_where-push test ys x) ∙ later_first (test x) x (last_where test ys) (cond (test y) (Some y) None)
+last_where-push {X} test (y ∷ ys) x = ap (λ (o : Option X). option_or o (cond (test y) (Some y) None)) (last_where-push test ys x)
+    ∙ later_first (test x) x (last_where test ys) (cond (test y) (Some y) None)
 
 -- one item more
-pub lookup_turn : {K : Type 0} (same : K → K → Bool) (key_of : Up → K) (old new : HashMap K Up (BuildHasherDefault FoldHasher)) (xs : List Up) (i : ℕ) (x : Up) → ((p q : K) → same p q ≡ same q p) → i < length xs → x ≡ get_or xs i x
-    → ((q : K) → get same new q ≡ cond (same (key_of x) q) (Some x) (get same old q)) → IsLookup same key_of old (take i xs) → IsLookup same key_of new (take (i + 1) xs)
+pub lookup_turn : {K : Type 0} (same : K → K → Bool) (key_of : Up → K) (old new : HashMap K Up (BuildHasherDefault FoldHasher)) (xs : List Up) (i : ℕ)
+    (x : Up) → ((p q : K) → same p q ≡ same q p) → i < length xs → x ≡ get_or xs i x
+    → ((q : K) → get same new q ≡ cond (same (key_of x) q) (Some x) (get same old q)) → IsLookup same key_of old (take i xs) →
+    IsLookup same key_of new (take (i + 1) xs)
 lookup_turn {K} same key_of old new xs i x turned below here put so_far = record {
   each = λ q.
       let test : Up → Bool = λ y. same q (key_of y) in
       put q
       ∙ ap (λ b. cond b (Some x) (get same old q)) (turned (key_of x) q)
       ∙ ap (λ (o : Option Up). cond (test x) (Some x) o) (so_far.each q)
-      ∙ sym (ap (λ (l : List Up). last_where test l) (take_more xs i x below ∙ ap (λ (y : Up). take i xs ++ y ∷ []) (sym here)) ∙ last_where-push test (take i xs) x);
+      ∙ sym (ap (λ (l : List Up). last_where test l) (take_more xs i x below ∙ ap (λ (y : Up). take i xs ++ y ∷ []) (sym here))
+      ∙ last_where-push test (take i xs) x);
 }
 
 pub numbers_turned : (m n : ℕ) → nat_eq m n ≡ nat_eq n m

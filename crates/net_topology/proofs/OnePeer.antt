@@ -42,18 +42,22 @@ all_append : {X : Type 0} (P : X → Type 0) (xs ys : List X) → AllByRecursion
 all_append P [] ys first second = second
 all_append P (x ∷ xs) ys first second = (first.0, all_append P xs ys first.1 second)
 
-distinct_append : {X : Type 0} (same : X → X → Bool) (xs ys : List X) → IsDistinct same xs → IsDistinct same ys → ((x y : X) → In xs x → In ys y → same x y ≡ false) → IsDistinct same (xs ++ ys)
+distinct_append : {X : Type 0} (same : X → X → Bool) (xs ys : List X) → IsDistinct same xs → IsDistinct same ys →
+    ((x y : X) → In xs x → In ys y → same x y ≡ false) → IsDistinct same (xs ++ ys)
 unfolding IsDistinct
 distinct_append same [] ys first second apart = second
-distinct_append same (x ∷ xs) ys first second apart =
-    (all_append (λ y. same x y ≡ false) xs ys first.0 (all_of (λ y. same x y ≡ false) ys (λ y at. apart x y (inl refl) at)), distinct_append same xs ys first.1 second (λ z y at also. apart z y (inr at) also))
+distinct_append same (x ∷ xs) ys first second apart = (
+  all_append (λ y. same x y ≡ false) xs ys first.0 (all_of (λ y. same x y ≡ false) ys (λ y at. apart x y (inl refl) at)),
+  distinct_append same xs ys first.1 second (λ z y at also. apart z y (inr at) also),
+)
 
 bool_is : (b : Bool) → (b ≡ true → ⊥) → b ≡ false
 bool_is true never = absurd (never refl)
 bool_is false never = refl
 
 -- at most one of different items passes a test, if two that pass are the same
-at_most_one : {X : Type 0} (same : X → X → Bool) (p : X → Bool) (xs : List X) → IsDistinct same xs → ((x y : X) → In xs x → In xs y → p x ≡ true → p y ≡ true → same x y ≡ true) → passing p xs ≤ 1
+at_most_one : {X : Type 0} (same : X → X → Bool) (p : X → Bool) (xs : List X) → IsDistinct same xs →
+    ((x y : X) → In xs x → In xs y → p x ≡ true → p y ≡ true → same x y ≡ true) → passing p xs ≤ 1
 unfolding IsDistinct
 at_most_one same p [] apart one = omega arith
 at_most_one {X} same p (x ∷ xs) apart one = by (p x) refl (at_most_one same p xs apart.1 (λ y z at also. one y z (inr at) (inr also)))
@@ -74,11 +78,13 @@ rows : {X Y : Type 0} (f : X → Y → Bool) (xs : List X) (ys : List Y) → ((x
 rows f [] ys each = omega arith
 rows f (x ∷ xs) ys each = let here = each x (inl refl) in let rest = rows f xs ys (λ y at. each y (inr at)) in omega arith
 
-passing_sum : {X : Type 0} (p q r : X → Bool) (xs : List X) → ((x : X) → In xs x → one_if (p x) ≡ one_if (q x) + one_if (r x)) → passing p xs ≡ passing q xs + passing r xs
+passing_sum : {X : Type 0} (p q r : X → Bool) (xs : List X) → ((x : X) → In xs x → one_if (p x) ≡ one_if (q x) + one_if (r x)) →
+    passing p xs ≡ passing q xs + passing r xs
 passing_sum p q r [] each = refl
 passing_sum p q r (x ∷ xs) each = let here = each x (inl refl) in let rest = passing_sum p q r xs (λ y at. each y (inr at)) in omega arith
 
-pairs_sum : {X Y : Type 0} (f g h : X → Y → Bool) (xs : List X) (ys : List Y) → ((x : X) (y : Y) → In xs x → In ys y → one_if (f x y) ≡ one_if (g x y) + one_if (h x y)) → pairs f xs ys ≡ pairs g xs ys + pairs h xs ys
+pairs_sum : {X Y : Type 0} (f g h : X → Y → Bool) (xs : List X) (ys : List Y) →
+    ((x : X) (y : Y) → In xs x → In ys y → one_if (f x y) ≡ one_if (g x y) + one_if (h x y)) → pairs f xs ys ≡ pairs g xs ys + pairs h xs ys
 pairs_sum f g h [] ys each = refl
 pairs_sum f g h (x ∷ xs) ys each =
     let here = passing_sum (f x) (g x) (h x) ys (λ y at. each x y (inl refl) at) in
@@ -100,7 +106,8 @@ turned u v a b is = record {
 
 share_either_way : (u v : Router) (a b : ℕ) → share_subnet u a v b ≡ share_subnet v b u a
 share_either_way u v a b =
-    same_truth (share_subnet u a v b) (share_subnet v b u a) (λ e. share_if v u b a (turned u v a b (joined_if u v a b e))) (λ e. share_if u v a b (turned v u b a (joined_if v u b a e)))
+    same_truth (share_subnet u a v b) (share_subnet v b u a) (λ e. share_if v u b a (turned u v a b (joined_if u v a b e)))
+    (λ e. share_if u v a b (turned v u b a (joined_if v u b a e)))
 
 swapped : (a b rest : Bool) → (a && (b && rest)) ≡ (b && (a && rest))
 swapped true true rest = refl
@@ -113,15 +120,22 @@ both_swapped e a b c d s = ap (λ x. e && x) (swapped a b (c && (d && s)) ∙ ap
 
 peers_either_way : (p q : Place Neighbor) → are_peers p q ≡ are_peers q p
 peers_either_way p q =
-    ap (λ b. not b && (not p.value.shut && (not q.value.shut && (has_number q.owner p.value.remote && (has_number p.owner q.value.remote && share_subnet p.owner q.value.addr q.owner p.value.addr))))) (either_way p.router q.router)
-    ∙ ap (λ s. not (nat_eq q.router p.router) && (not p.value.shut && (not q.value.shut && (has_number q.owner p.value.remote && (has_number p.owner q.value.remote && s))))) (share_either_way p.owner q.owner q.value.addr p.value.addr)
-    ∙ both_swapped (not (nat_eq q.router p.router)) (not p.value.shut) (not q.value.shut) (has_number q.owner p.value.remote) (has_number p.owner q.value.remote) (share_subnet q.owner p.value.addr p.owner q.value.addr)
+    ap (λ b. not b && (not p.value.shut && (not q.value.shut
+    && (has_number q.owner p.value.remote && (has_number p.owner q.value.remote && share_subnet p.owner q.value.addr q.owner p.value.addr)))))
+    (either_way p.router q.router)
+    ∙ ap (λ s. not (nat_eq q.router p.router)
+    && (not p.value.shut && (not q.value.shut && (has_number q.owner p.value.remote && (has_number p.owner q.value.remote && s)))))
+    (share_either_way p.owner q.owner q.value.addr p.value.addr)
+    ∙ both_swapped (not (nat_eq q.router p.router)) (not p.value.shut) (not q.value.shut) (has_number q.owner p.value.remote)
+    (has_number p.owner q.value.remote) (share_subnet q.owner p.value.addr p.owner q.value.addr)
 
 one_way : (u v : ℕ) (a b : Bool) → a ≡ b → (nat_eq u v ≡ true → a ≡ false) → one_if a ≡ one_if (nat_lt u v && a) + one_if (nat_lt v u && b)
 one_way u v a b same apart = grind (arith, nat_tests)
 
 not_with_itself : (p q : Place Neighbor) → nat_eq p.router q.router ≡ true → are_peers p q ≡ false
-not_with_itself p q e = ap (λ b. not b && (not p.value.shut && (not q.value.shut && (has_number q.owner p.value.remote && (has_number p.owner q.value.remote && share_subnet p.owner q.value.addr q.owner p.value.addr))))) e
+not_with_itself p q e = ap (λ b. not b && (not p.value.shut
+    && (not q.value.shut && (has_number q.owner p.value.remote
+    && (has_number p.owner q.value.remote && share_subnet p.owner q.value.addr q.owner p.value.addr))))) e
 
 -- peers are a session in one of both directions
 one_session : (p q : Place Neighbor) → one_if (are_peers p q) ≡ one_if (is_session p q) + one_if (is_session q p)
@@ -141,22 +155,29 @@ same_line p q = nat_eq p.router q.router && nat_eq p.value.addr q.value.addr
 
 shared : (p q : Place Neighbor) → are_peers p q ≡ true → share_subnet p.owner q.value.addr q.owner p.value.addr ≡ true
 shared p q e =
-    let a = both (not (nat_eq p.router q.router)) (not p.value.shut && (not q.value.shut && (has_number q.owner p.value.remote && (has_number p.owner q.value.remote && share_subnet p.owner q.value.addr q.owner p.value.addr)))) e in
-    let b = both (not p.value.shut) (not q.value.shut && (has_number q.owner p.value.remote && (has_number p.owner q.value.remote && share_subnet p.owner q.value.addr q.owner p.value.addr))) a.1 in
-    let c = both (not q.value.shut) (has_number q.owner p.value.remote && (has_number p.owner q.value.remote && share_subnet p.owner q.value.addr q.owner p.value.addr)) b.1 in
+    let a = both (not (nat_eq p.router q.router))
+    (not p.value.shut && (not q.value.shut && (has_number q.owner p.value.remote
+    && (has_number p.owner q.value.remote && share_subnet p.owner q.value.addr q.owner p.value.addr)))) e in
+    let b = both (not p.value.shut) (not q.value.shut
+    && (has_number q.owner p.value.remote && (has_number p.owner q.value.remote && share_subnet p.owner q.value.addr q.owner p.value.addr))) a.1 in
+    let c = both (not q.value.shut) (has_number q.owner p.value.remote
+    && (has_number p.owner q.value.remote && share_subnet p.owner q.value.addr q.owner p.value.addr)) b.1 in
     let d = both (has_number q.owner p.value.remote) (has_number p.owner q.value.remote && share_subnet p.owner q.value.addr q.owner p.value.addr) c.1 in
     (both (has_number p.owner q.value.remote) (share_subnet p.owner q.value.addr q.owner p.value.addr) d.1).1
 
 -- the far ends of two sessions of one line are one address, and so are the near ones
-one_end : (routers : List Router) (p q r : Place Neighbor) → AreApart (ups_of routers) → IsPlace routers p → IsPlace routers q → IsPlace routers r → AreJoined p.owner q.owner q.value.addr p.value.addr → AreJoined p.owner r.owner r.value.addr p.value.addr → same_line q r ≡ true
+one_end : (routers : List Router) (p q r : Place Neighbor) → AreApart (ups_of routers) → IsPlace routers p → IsPlace routers q → IsPlace routers r →
+    AreJoined p.owner q.owner q.value.addr p.value.addr → AreJoined p.owner r.owner r.value.addr p.value.addr → same_line q r ≡ true
 one_end routers p q r apart at_p at_q at_r a b =
     let far_a = up_at q.router a.far in
     let far_b = up_at r.router b.far in
     let near_a = up_at p.router a.near in
     let near_b = up_at p.router b.near in
-    let far : far_a ≡ far_b = apart.addrs far_a far_b (in_ups routers q.router q.owner a.far at_q a.far_in) (in_ups routers r.router r.owner b.far at_r b.far_in) (a.far_addr ∙ sym b.far_addr) in
+    let far : far_a ≡ far_b = apart.addrs far_a far_b (in_ups routers q.router q.owner a.far at_q a.far_in)
+    (in_ups routers r.router r.owner b.far at_r b.far_in) (a.far_addr ∙ sym b.far_addr) in
     let ats : near_a.at ≡ near_b.at = in_subnet p.router a.near a.far a.joined ∙ ap (beside p.router) far ∙ sym (in_subnet p.router b.near b.far b.joined) in
-    let near : near_a ≡ near_b = apart.attachments near_a near_b (in_ups routers p.router p.owner a.near at_p a.near_in) (in_ups routers p.router p.owner b.near at_p b.near_in) ats in
+    let near : near_a ≡ near_b = apart.attachments near_a near_b (in_ups routers p.router p.owner a.near at_p a.near_in)
+    (in_ups routers p.router p.owner b.near at_p b.near_in) ats in
     both_true (nat_eq q.router r.router) (nat_eq q.value.addr r.value.addr)
     (same_number q.router r.router (ap (λ (x : Up). x.at.router) far))
     (same_number q.value.addr r.value.addr (sym a.near_addr ∙ ap (λ (x : Up). x.addr) near ∙ b.near_addr))
@@ -171,16 +192,21 @@ good_in routers (q ∷ ps) p good (inr at) = good_in routers ps p good.1 at
 other_number : (m n : ℕ) → (m ≡ n → ⊥) → nat_eq m n ≡ false
 other_number m n differ = grind (arith, nat_tests)
 
-others_on : (r : ℕ) (owner : Router) (p : Place Neighbor) (n : ℕ) (xs : List Neighbor) → AllByRecursion (λ y. same_neighbor p.value y ≡ false) xs → AllByRecursion (λ q. same_line p q ≡ false) (map (place_on r owner) (enumerate_from n xs))
+others_on : (r : ℕ) (owner : Router) (p : Place Neighbor) (n : ℕ) (xs : List Neighbor) → AllByRecursion (λ y. same_neighbor p.value y ≡ false) xs →
+    AllByRecursion (λ q. same_line p q ≡ false) (map (place_on r owner) (enumerate_from n xs))
 others_on r owner p n [] all = tt
-others_on r owner p n (x ∷ xs) all =
-    (ap (λ b. nat_eq p.router r && b) (other_number p.value.addr x.addr (eqb-false p.value.addr x.addr all.0)) ∙ nothing (nat_eq p.router r), others_on r owner p (n + 1) xs all.1)
+others_on r owner p n (x ∷ xs) all = (
+  ap (λ b. nat_eq p.router r && b) (other_number p.value.addr x.addr (eqb-false p.value.addr x.addr all.0))
+      ∙ nothing (nat_eq p.router r),
+  others_on r owner p (n + 1) xs all.1,
+)
   where
     nothing : (b : Bool) → (b && false) ≡ false
     nothing true = refl
     nothing false = refl
 
-distinct_on : (r : ℕ) (owner : Router) (n : ℕ) (xs : List Neighbor) → IsDistinct same_neighbor xs → IsDistinct same_line (map (place_on r owner) (enumerate_from n xs))
+distinct_on : (r : ℕ) (owner : Router) (n : ℕ) (xs : List Neighbor) → IsDistinct same_neighbor xs →
+    IsDistinct same_line (map (place_on r owner) (enumerate_from n xs))
 unfolding IsDistinct
 distinct_on r owner n [] once = tt
 distinct_on r owner n (x ∷ xs) once = (others_on r owner (place_on r owner (n, x)) (n + 1) xs once.0, distinct_on r owner (n + 1) xs once.1)
@@ -204,7 +230,8 @@ placed_from k routers p at =
 apart_by_router : (k : ℕ) (p q : Place Neighbor) → p.router ≡ k → k + 1 ≤ q.router → same_line p q ≡ false
 apart_by_router k p q here later = ap (λ b. b && nat_eq p.value.addr q.value.addr) (other_number p.router q.router (λ e. omega arith))
 
-distinct_from : (k : ℕ) (routers : List Router) → AllByRecursion IsWellFormedRouter routers → IsDistinct same_line (flat_map (places_on neighbors_of) (enumerate_from k routers))
+distinct_from : (k : ℕ) (routers : List Router) → AllByRecursion IsWellFormedRouter routers →
+    IsDistinct same_line (flat_map (places_on neighbors_of) (enumerate_from k routers))
 unfolding IsDistinct
 distinct_from k [] formed = tt
 distinct_from k (r ∷ routers) formed =
@@ -217,7 +244,8 @@ length_enumerated : {X : Type 0} (n : ℕ) (xs : List X) → length (enumerate_f
 length_enumerated n [] = refl
 length_enumerated n (x ∷ xs) = let rest = length_enumerated (n + 1) xs in omega arith
 
-places_counted : (k : ℕ) (routers : List Router) → length (flat_map (places_on neighbors_of) (enumerate_from k routers)) ≡ length (flat_map neighbors_of routers)
+places_counted : (k : ℕ) (routers : List Router) →
+    length (flat_map (places_on neighbors_of) (enumerate_from k routers)) ≡ length (flat_map neighbors_of routers)
 places_counted k [] = refl
 places_counted k (r ∷ routers) =
     let here = length-map (enumerate_from 0 (neighbors_of r)) (place_on k r) in
@@ -236,7 +264,8 @@ few_sessions n formed faultless =
     let at : (p : Place Neighbor) → In ps p → IsPlace n.routers p = λ p h. good_in n.routers ps p good h in
     let one : (p : Place Neighbor) → In ps p → passing (are_peers p) ps ≤ 1 = λ p h.
     at_most_one same_line (are_peers p) ps (distinct_from 0 n.routers formed.routers)
-    (λ q r k l e f. one_end n.routers p q r apart (at p h) (at q k) (at r l) (joined_if p.owner q.owner q.value.addr p.value.addr (shared p q e)) (joined_if p.owner r.owner r.value.addr p.value.addr (shared p r f))) in
+    (λ q r k l e f. one_end n.routers p q r apart (at p h) (at q k) (at r l) (joined_if p.owner q.owner q.value.addr p.value.addr (shared p q e))
+    (joined_if p.owner r.owner r.value.addr p.value.addr (shared p r f))) in
     let counted = links_counted is_session ps ps in
     let twice = sessions_twice ps in
     let few = rows are_peers ps ps one in

@@ -31,7 +31,8 @@ passing_append p (x ∷ xs) ys = let r = passing_append p xs ys in omega arith
 
 pub passing_same : {X : Type 0} (p q : X → Bool) (xs : List X) → ((x : X) → In xs x → p x ≡ q x) → passing p xs ≡ passing q xs
 passing_same p q [] same = refl
-passing_same p q (x ∷ xs) same = ap (λ b. one_if b + passing p xs) (same x (inl refl)) ∙ ap (λ n. one_if (q x) + n) (passing_same p q xs (λ y at. same y (inr at)))
+passing_same p q (x ∷ xs) same = ap (λ b. one_if b + passing p xs) (same x (inl refl))
+    ∙ ap (λ n. one_if (q x) + n) (passing_same p q xs (λ y at. same y (inr at)))
 
 pub none_passing : {X : Type 0} (p : X → Bool) (xs : List X) → ((x : X) → In xs x → p x ≡ false) → passing p xs ≡ 0
 none_passing p [] fails = refl
@@ -45,13 +46,16 @@ pub pairs_append_right : {X Y : Type 0} (f : X → Y → Bool) (xs : List X) (ys
 pairs_append_right f [] ys more = omega arith
 pairs_append_right f (x ∷ xs) ys more = let r = pairs_append_right f xs ys more in let s = passing_append (f x) ys more in omega arith
 
-pub pairs_same : {X Y : Type 0} (f g : X → Y → Bool) (xs : List X) (ys : List Y) → ((x : X) (y : Y) → In xs x → In ys y → f x y ≡ g x y) → pairs f xs ys ≡ pairs g xs ys
+pub pairs_same : {X Y : Type 0} (f g : X → Y → Bool) (xs : List X) (ys : List Y) → ((x : X) (y : Y) → In xs x → In ys y → f x y ≡ g x y) →
+    pairs f xs ys ≡ pairs g xs ys
 pairs_same f g [] ys same = refl
-pairs_same f g (x ∷ xs) ys same = let r = pairs_same f g xs ys (λ z y at in_ys. same z y (inr at) in_ys) in let s = passing_same (f x) (g x) ys (λ y at. same x y (inl refl) at) in omega arith
+pairs_same f g (x ∷ xs) ys same = let r = pairs_same f g xs ys (λ z y at in_ys. same z y (inr at) in_ys) in let s =
+    passing_same (f x) (g x) ys (λ y at. same x y (inl refl) at) in omega arith
 
 pub no_pairs : {X Y : Type 0} (f : X → Y → Bool) (xs : List X) (ys : List Y) → ((x : X) (y : Y) → In xs x → In ys y → f x y ≡ false) → pairs f xs ys ≡ 0
 no_pairs f [] ys fails = refl
-no_pairs f (x ∷ xs) ys fails = let r = no_pairs f xs ys (λ z y at in_ys. fails z y (inr at) in_ys) in let s = none_passing (f x) ys (λ y at. fails x y (inl refl) at) in omega arith
+no_pairs f (x ∷ xs) ys fails = let r = no_pairs f xs ys (λ z y at in_ys. fails z y (inr at) in_ys) in let s =
+    none_passing (f x) ys (λ y at. fails x y (inl refl) at) in omega arith
 
 no_partner : {X Y : Type 0} (f : X → Y → Bool) (xs : List X) → pairs f xs [] ≡ 0
 no_partner f [] = refl

@@ -21,15 +21,18 @@ use Rattle.net_topology.proofs.Joined.{IsIndexed, AreGood, joined_by_index}
 abbrev pub IsPlace : List Router → Place Neighbor → Type 0
 IsPlace routers p = slice_get routers p.router ≡ Some p.owner
 
-append_good : (routers : List Router) (ps qs : List (Place Neighbor)) → AreGood (IsPlace routers) ps → AreGood (IsPlace routers) qs → AreGood (IsPlace routers) (ps ++ qs)
+append_good : (routers : List Router) (ps qs : List (Place Neighbor)) → AreGood (IsPlace routers) ps → AreGood (IsPlace routers) qs →
+    AreGood (IsPlace routers) (ps ++ qs)
 append_good routers [] qs a b = b
 append_good routers (p ∷ ps) qs a b = (a.0, append_good routers ps qs a.1 b)
 
-on_good : (routers : List Router) (r : ℕ) (owner : Router) (n : ℕ) (xs : List Neighbor) → slice_get routers r ≡ Some owner → AreGood (IsPlace routers) (map (place_on r owner) (enumerate_from n xs))
+on_good : (routers : List Router) (r : ℕ) (owner : Router) (n : ℕ) (xs : List Neighbor) → slice_get routers r ≡ Some owner →
+    AreGood (IsPlace routers) (map (place_on r owner) (enumerate_from n xs))
 on_good routers r owner n [] e = tt
 on_good routers r owner n (x ∷ xs) e = (e, on_good routers r owner (n + 1) xs e)
 
-from_good : (routers : List Router) (r : ℕ) (rs : List Router) → ((k : ℕ) (x : Router) → slice_get rs k ≡ Some x → slice_get routers (r + k) ≡ Some x) → AreGood (IsPlace routers) (flat_map (places_on neighbors_of) (enumerate_from r rs))
+from_good : (routers : List Router) (r : ℕ) (rs : List Router) → ((k : ℕ) (x : Router) → slice_get rs k ≡ Some x → slice_get routers (r + k) ≡ Some x) →
+    AreGood (IsPlace routers) (flat_map (places_on neighbors_of) (enumerate_from r rs))
 from_good routers r [] at = tt
 from_good routers r (x ∷ rs) at =
     append_good routers (places_on neighbors_of (r, x)) (flat_map (places_on neighbors_of) (enumerate_from (r + 1) rs))
@@ -47,11 +50,14 @@ pub record IsPeer (p : Place Neighbor) (s : Peer) : Type 0 where
   pub open_ : p.value.shut ≡ false
   pub peer : record { router = p.router; item = p.item; number = process.number; remote = p.value.remote; addr = p.value.addr } ≡ s
 
-in_process : (r i : ℕ) (x : Neighbor) (process : BgpProcess) (b : Bool) (s : Peer) → x.shut ≡ b → cond b None (Some (record { router = r; item = i; number = process.number; remote = x.remote; addr = x.addr })) ≡ Some s → (b ≡ false) × (record { router = r; item = i; number = process.number; remote = x.remote; addr = x.addr } ≡ s)
+in_process : (r i : ℕ) (x : Neighbor) (process : BgpProcess) (b : Bool) (s : Peer) → x.shut ≡ b →
+    cond b None (Some (record { router = r; item = i; number = process.number; remote = x.remote; addr = x.addr })) ≡ Some s →
+    (b ≡ false) × (record { router = r; item = i; number = process.number; remote = x.remote; addr = x.addr } ≡ s)
 in_process r i x process true s e f = cc
 in_process r i x process false s e f = (refl, cc)
 
-is_peer_in : (p : Place Neighbor) (s : Peer) (o : Option BgpProcess) → p.owner.bgp ≡ o → option_and_then (peer_of_process p.router p.item p.value) o ≡ Some s → IsPeer p s
+is_peer_in : (p : Place Neighbor) (s : Peer) (o : Option BgpProcess) → p.owner.bgp ≡ o → option_and_then (peer_of_process p.router p.item p.value) o ≡ Some s →
+    IsPeer p s
 is_peer_in p s None e f = cc
 is_peer_in p s (Some process) e f =
     let parts = in_process p.router p.item p.value process p.value.shut s refl f in
@@ -75,13 +81,16 @@ made p process = record { router = p.router; item = p.item; number = process.num
 abbrev pub is_reached : List Router → Peer → Peer → Bool
 is_reached routers s t = reaches (other_end (ups_of routers) s) t
 
-both_made : (routers : List Router) (p q : Place Neighbor) (x y : BgpProcess) → AreApart (ups_of routers) → IsPlace routers p → IsPlace routers q → p.owner.bgp ≡ Some x → q.owner.bgp ≡ Some y → p.value.shut ≡ false → q.value.shut ≡ false
+both_made : (routers : List Router) (p q : Place Neighbor) (x y : BgpProcess) → AreApart (ups_of routers) → IsPlace routers p → IsPlace routers q →
+    p.owner.bgp ≡ Some x → q.owner.bgp ≡ Some y → p.value.shut ≡ false → q.value.shut ≡ false
     → is_session p q ≡ (is_reached routers (made p x) (made q y) && is_later (made p x) (made q y))
 both_made routers p q x y apart at_p at_q e f g h =
-    sessions_same p.router q.router x.number p.value.remote y.number q.value.remote p.value.shut q.value.shut (has_number q.owner p.value.remote) (has_number p.owner q.value.remote) (share_subnet p.owner q.value.addr q.owner p.value.addr) (is_reached routers (made p x) (made q y))
+    sessions_same p.router q.router x.number p.value.remote y.number q.value.remote p.value.shut q.value.shut (has_number q.owner p.value.remote)
+    (has_number p.owner q.value.remote) (share_subnet p.owner q.value.addr q.owner p.value.addr) (is_reached routers (made p x) (made q y))
     g h (number_at q.owner y p.value.remote f) (number_at p.owner x q.value.remote e) (share_is routers (made p x) (made q y) p.owner q.owner apart at_p at_q)
 
-both : (routers : List Router) (p q : Place Neighbor) (s t : Peer) → AreApart (ups_of routers) → IsPlace routers p → IsPlace routers q → IsPeer p s → IsPeer q t → is_session p q ≡ (is_reached routers s t && is_later s t)
+both : (routers : List Router) (p q : Place Neighbor) (s t : Peer) → AreApart (ups_of routers) → IsPlace routers p → IsPlace routers q → IsPeer p s →
+    IsPeer q t → is_session p q ≡ (is_reached routers s t && is_later s t)
 both routers p q s t apart at_p at_q a b =
     both_made routers p q a.process b.process apart at_p at_q a.bgp b.bgp a.open_ b.open_
     ∙ ap (λ (z : Peer). is_reached routers z (made q b.process) && is_later z (made q b.process)) a.peer
@@ -108,18 +117,23 @@ closed : (shut : Bool) (process : BgpProcess) (number : ℕ) (s : Peer) → cond
 closed true process number s e = refl
 closed false process number s e = cc
 
-pub no_peer_in : (p : Place Neighbor) (o : Option BgpProcess) (number : ℕ) → option_and_then (peer_of_process p.router p.item p.value) o ≡ None → (not p.value.shut && option_map_or (λ (process : BgpProcess). nat_eq process.number number) o false) ≡ false
+pub no_peer_in : (p : Place Neighbor) (o : Option BgpProcess) (number : ℕ) → option_and_then (peer_of_process p.router p.item p.value) o ≡ None →
+    (not p.value.shut && option_map_or (λ (process : BgpProcess). nat_eq process.number number) o false) ≡ false
 no_peer_in p None number e = and_false (not p.value.shut)
 no_peer_in p (Some process) number e = closed p.value.shut process number (made p process) e
 
 peers_indexed : (routers : List Router) → AreApart (ups_of routers) → IsIndexed (IsPlace routers) peer_of is_session (is_reached routers) is_later peer_link
 peers_indexed routers apart = record {
-  left = λ p q e. shut_left p.router q.router p.value.shut q.value.shut (has_number q.owner p.value.remote) (has_number p.owner q.value.remote) (share_subnet p.owner q.value.addr q.owner p.value.addr) (no_peer_in p p.owner.bgp q.value.remote e);
-  right = λ p q e. shut_right p.router q.router p.value.shut q.value.shut (has_number q.owner p.value.remote) (has_number p.owner q.value.remote) (share_subnet p.owner q.value.addr q.owner p.value.addr) (no_peer_in q q.owner.bgp p.value.remote e);
+  left = λ p q e. shut_left p.router q.router p.value.shut q.value.shut (has_number q.owner p.value.remote) (has_number p.owner q.value.remote)
+      (share_subnet p.owner q.value.addr q.owner p.value.addr) (no_peer_in p p.owner.bgp q.value.remote e);
+  right = λ p q e. shut_right p.router q.router p.value.shut q.value.shut (has_number q.owner p.value.remote) (has_number p.owner q.value.remote)
+      (share_subnet p.owner q.value.addr q.owner p.value.addr) (no_peer_in q q.owner.bgp p.value.remote e);
   both = λ p q s t g h e f. both routers p q s t apart g h (is_peer p s e) (is_peer q t f);
-  same = λ p q s t e f. ap (λ (z : Peer). peer_link z (made q (is_peer q t f).process)) (is_peer p s e).peer ∙ ap (λ (z : Peer). peer_link s z) (is_peer q t f).peer;
+  same = λ p q s t e f. ap (λ (z : Peer). peer_link z (made q (is_peer q t f).process)) (is_peer p s e).peer
+      ∙ ap (λ (z : Peer). peer_link s z) (is_peer q t f).peer;
 }
 
 pub sessions_by_index : (n : Network) → IsFaultless n → sessions_of n ≡ flat_map (sessions_in (ups_of n.routers) (peers n)) (peers n)
 unfolding sessions_of peers
-sessions_by_index n faultless = joined_by_index (IsPlace n.routers) peer_of is_session (is_reached n.routers) is_later peer_link (peers_indexed n.routers (ups_apart n faultless)) (places neighbors_of n) (all_places n)
+sessions_by_index n faultless = joined_by_index (IsPlace n.routers) peer_of is_session (is_reached n.routers) is_later peer_link
+    (peers_indexed n.routers (ups_apart n faultless)) (places neighbors_of n) (all_places n)

@@ -24,18 +24,22 @@ first_none : {X : Type 0} (test : X → Bool) (x : X) (b : Bool) → test x ≡ 
 first_none test x true e = rw e refl
 first_none test x false e = rw e refl
 
-first_by : {X : Type 0} (test : X → Bool) (y : X) (ys : List X) (x : X) → position_or_len test (ys ++ x ∷ []) ≡ cond (nat_lt (position_or_len test ys) (length ys)) (position_or_len test ys) (length ys + cond (test x) 0 1)
-    → (b : Bool) → test y ≡ b → position_or_len test (y ∷ ys ++ x ∷ []) ≡ cond (nat_lt (position_or_len test (y ∷ ys)) (length (y ∷ ys))) (position_or_len test (y ∷ ys)) (length (y ∷ ys) + cond (test x) 0 1)
+first_by : {X : Type 0} (test : X → Bool) (y : X) (ys : List X) (x : X) →
+    position_or_len test (ys ++ x ∷ []) ≡ cond (nat_lt (position_or_len test ys) (length ys)) (position_or_len test ys) (length ys + cond (test x) 0 1)
+    → (b : Bool) → test y ≡ b → position_or_len test (y ∷ ys ++ x ∷ []) ≡ cond (nat_lt (position_or_len test (y ∷ ys)) (length (y ∷ ys)))
+    (position_or_len test (y ∷ ys)) (length (y ∷ ys) + cond (test x) 0 1)
 first_by test y ys x rest true e =
     let there : nat_lt 0 (suc (length ys)) ≡ true = grind (arith, nat_tests) in
     rw e (sym (ap (λ b. cond b 0 (suc (length ys) + cond (test x) 0 1)) there))
 first_by test y ys x rest false e = rw e (grind (arith, nat_tests, rest))
 
-pub first_last : {X : Type 0} (test : X → Bool) (xs : List X) (x : X) → position_or_len test (xs ++ x ∷ []) ≡ cond (nat_lt (position_or_len test xs) (length xs)) (position_or_len test xs) (length xs + cond (test x) 0 1)
+pub first_last : {X : Type 0} (test : X → Bool) (xs : List X) (x : X) →
+    position_or_len test (xs ++ x ∷ []) ≡ cond (nat_lt (position_or_len test xs) (length xs)) (position_or_len test xs) (length xs + cond (test x) 0 1)
 first_last test [] x = first_none test x (test x) refl
 first_last test (y ∷ ys) x = first_by test y ys x (first_last test ys x) (test y) refl
 
-pub position_new : {X : Type 0} (test : X → Bool) (xs : List X) (x : X) → position test xs ≡ None → test x ≡ true → position test (xs ++ x ∷ []) ≡ Some (length xs)
+pub position_new : {X : Type 0} (test : X → Bool) (xs : List X) (x : X) → position test xs ≡ None → test x ≡ true →
+    position test (xs ++ x ∷ []) ≡ Some (length xs)
 position_new test xs x none here =
     let first = first_last test xs x in
     let longer = length_push xs x in
@@ -53,7 +57,8 @@ position_kept test xs x there =
     let longer = length_push xs x in
     grind (arith, nat_tests, first, longer)
 
-pub place_by : {X : Type 0} (test : X → Bool) (xs : List X) (x : X) (b : Bool) → test x ≡ b → (b ≡ true → position test xs ≡ None) → cond b (Some (length xs)) (position test xs) ≡ position test (xs ++ x ∷ [])
+pub place_by : {X : Type 0} (test : X → Bool) (xs : List X) (x : X) (b : Bool) → test x ≡ b → (b ≡ true → position test xs ≡ None) →
+    cond b (Some (length xs)) (position test xs) ≡ position test (xs ++ x ∷ [])
 place_by test xs x true e new = sym (position_new test xs x (new refl) e)
 place_by test xs x false e new = sym (position_old test xs x e)
 
@@ -66,7 +71,8 @@ some_if : (b : Bool) (n : ℕ) → is_some (cond b (Some n) None) ≡ b
 some_if true n = refl
 some_if false n = refl
 
-some_by : {X : Type 0} (test : X → Bool) (y : X) (ys : List X) → list_any test ys ≡ is_some (position test ys) → (b : Bool) → test y ≡ b → list_any test (y ∷ ys) ≡ is_some (position test (y ∷ ys))
+some_by : {X : Type 0} (test : X → Bool) (y : X) (ys : List X) → list_any test ys ≡ is_some (position test ys) → (b : Bool) → test y ≡ b →
+    list_any test (y ∷ ys) ≡ is_some (position test (y ∷ ys))
 some_by test y ys rest true e =
     let there : nat_lt 0 (suc (length ys)) ≡ true = grind (arith, nat_tests) in
     rw e (sym (some_if (nat_lt 0 (suc (length ys))) 0 ∙ there))
@@ -80,7 +86,8 @@ pub any_some : {X : Type 0} (test : X → Bool) (xs : List X) → list_any test 
 any_some test [] = refl
 any_some test (y ∷ ys) = some_by test y ys (any_some test ys) (test y) refl
 
-map_by : {X Z : Type 0} (test : Z → Bool) (f : X → Z) (y : X) (ys : List X) → position_or_len test (map f ys) ≡ position_or_len (λ x. test (f x)) ys → (b : Bool) → test (f y) ≡ b → position_or_len test (map f (y ∷ ys)) ≡ position_or_len (λ x. test (f x)) (y ∷ ys)
+map_by : {X Z : Type 0} (test : Z → Bool) (f : X → Z) (y : X) (ys : List X) → position_or_len test (map f ys) ≡ position_or_len (λ x. test (f x)) ys →
+    (b : Bool) → test (f y) ≡ b → position_or_len test (map f (y ∷ ys)) ≡ position_or_len (λ x. test (f x)) (y ∷ ys)
 map_by test f y ys rest true e = rw e refl
 map_by test f y ys rest false e = rw e (ap (λ (n : ℕ). 1 + n) rest)
 
@@ -105,7 +112,8 @@ all_of test xs none = grind (arith, common_steps, nat_tests)
 pub parts_kept : {X Z : Type 0} (f : X → Z) (xs : List X) (i : ℕ) (x d : X) → i < length xs → f x ≡ f (get_or xs i d) → map f (set xs i x) ≡ map f xs
 parts_kept f xs i x d lt same = map-set f xs i x ∙ ap (set (map f xs) i) (same ∙ sym (get_or-map f xs i d (f d) lt)) ∙ set-get_or (map f xs) i (f d)
 
-pub position_by : {X Z : Type 0} (test : Z → Bool) (f : X → Z) (xs ys : List X) → map f xs ≡ map f ys → position (λ x. test (f x)) xs ≡ position (λ x. test (f x)) ys
+pub position_by : {X Z : Type 0} (test : Z → Bool) (f : X → Z) (xs ys : List X) → map f xs ≡ map f ys →
+    position (λ x. test (f x)) xs ≡ position (λ x. test (f x)) ys
 position_by test f xs ys same = sym (position_map test f xs) ∙ ap (position test) same ∙ position_map test f ys
 
 -- ---- tests that say the same

@@ -22,13 +22,15 @@ use Rattle.policy_dd.proofs.TableLemmas.{has-append, case_at, case_not_at, case_
 pub tabled_none : (shown : Shown) (test : ℕ → List ℕ → Bool) → IsTabled shown test [] []
 tabled_none shown test = record { inside = tt; keys_are = refl; value = λ set k other. refl }
 
-pub tabled_more : (mid new : Shown) (test : ℕ → List ℕ → Bool) (keys : List ℕ) (cases : List (ℕ × ℕ)) (key node : ℕ) → Grows mid new → IsTabled mid test keys cases → Means new node (λ set. test key set) → IsTabled new test (keys ++ key ∷ []) (cases ++ (key, node) ∷ [])
+pub tabled_more : (mid new : Shown) (test : ℕ → List ℕ → Bool) (keys : List ℕ) (cases : List (ℕ × ℕ)) (key node : ℕ) → Grows mid new →
+    IsTabled mid test keys cases → Means new node (λ set. test key set) → IsTabled new test (keys ++ key ∷ []) (cases ++ (key, node) ∷ [])
 tabled_more mid new test keys cases key node g table is = record {
   inside = inside-append new cases (key, node) (cases_inside_kept mid new cases g table.inside) is.inside;
   keys_are = keys-append cases ((key, node) ∷ []) ∙ ap (λ (l : List ℕ). l ++ key ∷ []) table.keys_are;
   value = λ set k other.
       case-append new set cases ((key, node) ∷ []) k other
-      ∙ case_kept mid new set cases k (case_or new set ((key, node) ∷ []) k other) (if nat_eq key k then test key set else other) g table.inside (ap (λ b. if nat_eq key k then b else other) (is.value set))
+      ∙ case_kept mid new set cases k (case_or new set ((key, node) ∷ []) k other) (if nat_eq key k then test key set else other) g table.inside
+      (ap (λ b. if nat_eq key k then b else other) (is.value set))
       ∙ table.value set k (if nat_eq key k then test key set else other)
       ∙ by set k other (cases_eq key k)
       ∙ ap (λ b. if b then test k set else other) (sym (has-append keys (key ∷ []) k));
@@ -42,12 +44,15 @@ tabled_more mid new test keys cases key node g table is = record {
     miss true t other = refl
     miss false t other = refl
 
-    by : (set : List ℕ) (k : ℕ) (other : Bool) → (key ≡ k) ⊎ (key ≢ k) → (if has keys k then test k set else (if nat_eq key k then test key set else other)) ≡ (if has keys k || (nat_eq key k || false) then test k set else other)
+    by : (set : List ℕ) (k : ℕ) (other : Bool) → (key ≡ k) ⊎ (key ≢ k) →
+        (if has keys k then test k set else (if nat_eq key k then test key set else other)) ≡ (if has keys k
+        || (nat_eq key k || false) then test k set else other)
     by set k other (inl e) = rw (same_number key k e, e) (hit (has keys k) (test k set) other)
     by set k other (inr ne) = rw (other_number key k ne) (miss (has keys k) (test k set) other)
 
 -- whether the community stays
-pub stays_odd : (s0 s1 s2 : Shown) (m : MapFn) (c odd gone node : ℕ) → Grows s0 s1 → AreMapInside s0 m → odd < length s0.nodes → node_at m.odd c ≡ Some odd → Means s1 gone (λ set. not (value_of s0 set m.rest)) → IsIteOfSets s1 s2 odd gone m.rest node → Means s2 node (λ set. stays_in s0 m set c)
+pub stays_odd : (s0 s1 s2 : Shown) (m : MapFn) (c odd gone node : ℕ) → Grows s0 s1 → AreMapInside s0 m → odd < length s0.nodes → node_at m.odd c ≡ Some odd →
+    Means s1 gone (λ set. not (value_of s0 set m.rest)) → IsIteOfSets s1 s2 odd gone m.rest node → Means s2 node (λ set. stays_in s0 m set c)
 stays_odd s0 s1 s2 m c odd gone node g im inside at of_gone ite = record {
   inside = ite.inside;
   value = λ set.
@@ -69,22 +74,31 @@ stays_kept old new m set c g im =
     ap (λ b. if b then not (value_of new set m.rest) else value_of new set m.rest) (case_kept old new set m.odd c false false g im.odd refl)
     ∙ ap (λ b. if case_or old set m.odd c false then not b else b) (value_of_kept old new set m.rest g im.rest)
 
-kept_value : (s0 s1 s2 s3 : Shown) (carried : Carried) (m : MapFn) (c there stays kept : ℕ) → Grows s0 s1 → Grows s1 s2 → AreMapInside s0 m → Means s1 there (λ set. has_in s0 carried set c) → Means s2 stays (λ set. stays_in s1 m set c) → Means s3 kept (λ set. value_of s2 set there && value_of s2 set stays) → (set : List ℕ) → value_of s3 set kept ≡ has_in s0 carried set c && stays_in s0 m set c
+kept_value : (s0 s1 s2 s3 : Shown) (carried : Carried) (m : MapFn) (c there stays kept : ℕ) → Grows s0 s1 → Grows s1 s2 → AreMapInside s0 m →
+    Means s1 there (λ set. has_in s0 carried set c) → Means s2 stays (λ set. stays_in s1 m set c) →
+    Means s3 kept (λ set. value_of s2 set there && value_of s2 set stays) → (set : List ℕ) → value_of s3 set kept ≡ has_in s0 carried set c
+    && stays_in s0 m set c
 kept_value s0 s1 s2 s3 carried m c there stays kept g1 g2 im of_there of_stays of_kept set =
     of_kept.value set
     ∙ ap (λ b. b && value_of s2 set stays) (value_of_kept s1 s2 set there g2 of_there.inside ∙ of_there.value set)
     ∙ ap (λ b. has_in s0 carried set c && b) (of_stays.value set ∙ stays_kept s0 s1 m set c g1 im)
 
-pub carried_put : (s0 s1 s2 s3 s4 : Shown) (carried : Carried) (m : MapFn) (c there stays kept put node : ℕ) → Grows s0 s1 → Grows s1 s2 → Grows s2 s3 → AreMapInside s0 m → put < length s0.nodes → node_at m.present c ≡ Some put → Means s1 there (λ set. has_in s0 carried set c) → Means s2 stays (λ set. stays_in s1 m set c) → Means s3 kept (λ set. value_of s2 set there && value_of s2 set stays) → Means s4 node (λ set. value_of s3 set put || value_of s3 set kept) → Means s4 node (λ set. carries_on s0 carried m set c)
+pub carried_put : (s0 s1 s2 s3 s4 : Shown) (carried : Carried) (m : MapFn) (c there stays kept put node : ℕ) → Grows s0 s1 → Grows s1 s2 → Grows s2 s3 →
+    AreMapInside s0 m → put < length s0.nodes → node_at m.present c ≡ Some put → Means s1 there (λ set. has_in s0 carried set c) →
+    Means s2 stays (λ set. stays_in s1 m set c) → Means s3 kept (λ set. value_of s2 set there && value_of s2 set stays) →
+    Means s4 node (λ set. value_of s3 set put || value_of s3 set kept) → Means s4 node (λ set. carries_on s0 carried m set c)
 carried_put s0 s1 s2 s3 s4 carried m c there stays kept put node g1 g2 g3 im inside at of_there of_stays of_kept is = record {
   inside = is.inside;
   value = λ set.
       is.value set
-      ∙ ap (λ b. b || value_of s3 set kept) (value_of_kept s0 s3 set put (grows_trans s0 s2 s3 (grows_trans s0 s1 s2 g1 g2) g3) inside ∙ sym (case_at s0 set m.present c put false at))
+      ∙ ap (λ b. b || value_of s3 set kept) (value_of_kept s0 s3 set put (grows_trans s0 s2 s3 (grows_trans s0 s1 s2 g1 g2) g3) inside
+      ∙ sym (case_at s0 set m.present c put false at))
       ∙ ap (λ b. case_or s0 set m.present c false || b) (kept_value s0 s1 s2 s3 carried m c there stays kept g1 g2 im of_there of_stays of_kept set);
 }
 
-pub carried_kept : (s0 s1 s2 s3 : Shown) (carried : Carried) (m : MapFn) (c there stays kept : ℕ) → Grows s0 s1 → Grows s1 s2 → AreMapInside s0 m → node_at m.present c ≡ None → Means s1 there (λ set. has_in s0 carried set c) → Means s2 stays (λ set. stays_in s1 m set c) → Means s3 kept (λ set. value_of s2 set there && value_of s2 set stays) → Means s3 kept (λ set. carries_on s0 carried m set c)
+pub carried_kept : (s0 s1 s2 s3 : Shown) (carried : Carried) (m : MapFn) (c there stays kept : ℕ) → Grows s0 s1 → Grows s1 s2 → AreMapInside s0 m →
+    node_at m.present c ≡ None → Means s1 there (λ set. has_in s0 carried set c) → Means s2 stays (λ set. stays_in s1 m set c) →
+    Means s3 kept (λ set. value_of s2 set there && value_of s2 set stays) → Means s3 kept (λ set. carries_on s0 carried m set c)
 carried_kept s0 s1 s2 s3 carried m c there stays kept g1 g2 im at of_there of_stays of_kept = record {
   inside = of_kept.inside;
   value = λ set.
@@ -93,13 +107,15 @@ carried_kept s0 s1 s2 s3 carried m c there stays kept g1 g2 im at of_there of_st
 }
 
 -- in a store that has grown
-pub carries_kept : (old new : Shown) (carried : Carried) (m : MapFn) (set : List ℕ) (c : ℕ) → Grows old new → AreNodesInside old carried → AreMapInside old m → carries_on new carried m set c ≡ carries_on old carried m set c
+pub carries_kept : (old new : Shown) (carried : Carried) (m : MapFn) (set : List ℕ) (c : ℕ) → Grows old new → AreNodesInside old carried → AreMapInside old m →
+    carries_on new carried m set c ≡ carries_on old carried m set c
 carries_kept old new carried m set c g inside im =
     ap (λ b. b || (has_in new carried set c && stays_in new m set c)) (case_kept old new set m.present c false false g im.present refl)
     ∙ ap (λ b. case_or old set m.present c false || (b && stays_in new m set c)) (has_in_kept old new carried set c g inside)
     ∙ ap (λ b. case_or old set m.present c false || (has_in old carried set c && b)) (stays_kept old new m set c g im)
 
-pub tabled_as : (shown : Shown) (test test' : ℕ → List ℕ → Bool) (keys : List ℕ) (cases : List (ℕ × ℕ)) → ((k : ℕ) (set : List ℕ) → test k set ≡ test' k set) → IsTabled shown test keys cases → IsTabled shown test' keys cases
+pub tabled_as : (shown : Shown) (test test' : ℕ → List ℕ → Bool) (keys : List ℕ) (cases : List (ℕ × ℕ)) → ((k : ℕ) (set : List ℕ) → test k set ≡ test' k set) →
+    IsTabled shown test keys cases → IsTabled shown test' keys cases
 tabled_as shown test test' keys cases same table = record {
   inside = table.inside;
   keys_are = table.keys_are;
@@ -107,9 +123,12 @@ tabled_as shown test test' keys cases same table = record {
 }
 
 -- all communities with a node before the map, or named by it
-pub touched_are : (carried : Carried) (m : MapFn) (keys more all : List ℕ) → ((k : ℕ) → has keys k ≡ has [] k || has (keys_of carried.outs) k) → ((k : ℕ) → has more k ≡ has keys k || has (keys_of m.present) k) → ((k : ℕ) → has all k ≡ has more k || has (keys_of m.odd) k) → AreKeysTouched carried m all
+pub touched_are : (carried : Carried) (m : MapFn) (keys more all : List ℕ) → ((k : ℕ) → has keys k ≡ has [] k || has (keys_of carried.outs) k) →
+    ((k : ℕ) → has more k ≡ has keys k || has (keys_of m.present) k) → ((k : ℕ) → has all k ≡ has more k || has (keys_of m.odd) k) →
+    AreKeysTouched carried m all
 touched_are carried m keys more all first second third = record {
-  each = λ c. third c ∙ ap (λ b. b || has (keys_of m.odd) c) (second c ∙ ap (λ b. b || has (keys_of m.present) c) (first c)) ∙ assoc (has (keys_of carried.outs) c) (has (keys_of m.present) c) (has (keys_of m.odd) c);
+  each = λ c. third c ∙ ap (λ b. b || has (keys_of m.odd) c) (second c ∙ ap (λ b. b || has (keys_of m.present) c) (first c))
+      ∙ assoc (has (keys_of carried.outs) c) (has (keys_of m.present) c) (has (keys_of m.odd) c);
 }
   where
     assoc : (a b c : Bool) → (a || b) || c ≡ a || (b || c)
@@ -126,22 +145,26 @@ none_of_three true b c e = absurd cc
 none_of_three false true c e = absurd cc
 none_of_three false false c e = (refl, (refl, e))
 
-pub touched_known : (shown : Shown) (carried : Carried) (m : MapFn) (keys : List ℕ) → AreNodesInside shown carried → AreMapInside shown m → AreKeysTouched carried m keys → (c : ℕ) → has keys c ≡ true → has shown.universe c ≡ true
+pub touched_known : (shown : Shown) (carried : Carried) (m : MapFn) (keys : List ℕ) → AreNodesInside shown carried → AreMapInside shown m →
+    AreKeysTouched carried m keys → (c : ℕ) → has keys c ≡ true → has shown.universe c ≡ true
 touched_known shown carried m keys inside im touched c there = by (has (keys_of carried.outs) c) (has (keys_of m.present) c) refl refl
   where
     by : (a b : Bool) → has (keys_of carried.outs) c ≡ a → has (keys_of m.present) c ≡ b → has shown.universe c ≡ true
     by true b e e' = inside.known c e
     by false true e e' = im.present_known c e'
-    by false false e e' = im.odd_known c (one_of_three (has (keys_of carried.outs) c) (has (keys_of m.present) c) (has (keys_of m.odd) c) (sym (touched.each c) ∙ there) e e')
+    by false false e e' = im.odd_known c (one_of_three (has (keys_of carried.outs) c) (has (keys_of m.present) c) (has (keys_of m.odd) c)
+        (sym (touched.each c) ∙ there) e e')
 
-pub touched_within : (shown : Shown) (carried : Carried) (m : MapFn) (keys : List ℕ) → AreNodesInside shown carried → AreMapInside shown m → AreKeysTouched carried m keys → AreWithin shown.universe keys
+pub touched_within : (shown : Shown) (carried : Carried) (m : MapFn) (keys : List ℕ) → AreNodesInside shown carried → AreMapInside shown m →
+    AreKeysTouched carried m keys → AreWithin shown.universe keys
 touched_within shown carried m keys inside im touched = all_within shown.universe keys (touched_known shown carried m keys inside im touched)
 
 and_assoc : (a b c : Bool) → a && (b && c) ≡ (a && b) && c
 and_assoc true b c = refl
 and_assoc false b c = refl
 
-module _ (s0 s1 s2 s3 : Shown) (carried : Carried) (m : MapFn) (keys : List ℕ) (outs : List (ℕ × ℕ)) (rest others : ℕ) (g1 : Grows s0 s1) (g2 : Grows s1 s2) (g3 : Grows s2 s3) (inside : AreNodesInside s0 carried) (im : AreMapInside s0 m) (touched : AreKeysTouched carried m keys)
+module _ (s0 s1 s2 s3 : Shown) (carried : Carried) (m : MapFn) (keys : List ℕ) (outs : List (ℕ × ℕ)) (rest others : ℕ) (g1 : Grows s0 s1) (g2 : Grows s1 s2)
+    (g3 : Grows s2 s3) (inside : AreNodesInside s0 carried) (im : AreMapInside s0 m) (touched : AreKeysTouched carried m keys)
     (tabled : IsTabled s1 (λ k set. carries_on s0 carried m set k) keys outs)
     (of_rest : Means s2 rest (λ set. value_of s1 set carried.rest && value_of s1 set m.rest))
     (of_others : Means s3 others (λ set. value_of s2 set carried.others && value_of s2 set m.rest)) where
@@ -161,22 +184,28 @@ module _ (s0 s1 s2 s3 : Shown) (carried : Carried) (m : MapFn) (keys : List ℕ)
       ∙ ap (λ b. value_of s0 set carried.rest && b) (value_of_kept s0 s1 set m.rest g1 im.rest)
 
   -- a community that nothing names
-  untouched : (set : List ℕ) (c : ℕ) → has keys c ≡ false → has set c && (value_of s0 set carried.rest && value_of s0 set m.rest) ≡ carries_on s0 carried m set c
+  untouched : (set : List ℕ) (c : ℕ) → has keys c ≡ false →
+      has set c && (value_of s0 set carried.rest && value_of s0 set m.rest) ≡ carries_on s0 carried m set c
   untouched set c none =
       let parts = none_of_three (has (keys_of carried.outs) c) (has (keys_of m.present) c) (has (keys_of m.odd) c) (sym (touched.each c) ∙ none) in
       let e1 : case_or s0 set m.present c false ≡ false = case_absent s0 set m.present c false parts.1.0 in
-      let e2 : has_in s0 carried set c ≡ has set c && value_of s0 set carried.rest = case_absent s0 set carried.outs c (has set c && value_of s0 set carried.rest) parts.0 in
-      let e3 : stays_in s0 m set c ≡ value_of s0 set m.rest = ap (λ b. if b then not (value_of s0 set m.rest) else value_of s0 set m.rest) (case_absent s0 set m.odd c false parts.1.1) in
+      let e2 : has_in s0 carried set c ≡ has set c && value_of s0 set carried.rest =
+      case_absent s0 set carried.outs c (has set c && value_of s0 set carried.rest) parts.0 in
+      let e3 : stays_in s0 m set c ≡ value_of s0 set m.rest =
+      ap (λ b. if b then not (value_of s0 set m.rest) else value_of s0 set m.rest) (case_absent s0 set m.odd c false parts.1.1) in
       and_assoc (has set c) (value_of s0 set carried.rest) (value_of s0 set m.rest)
-      ∙ sym (ap (λ b. b || (has_in s0 carried set c && stays_in s0 m set c)) e1 ∙ ap (λ b. b && stays_in s0 m set c) e2 ∙ ap (λ b. (has set c && value_of s0 set carried.rest) && b) e3)
+      ∙ sym (ap (λ b. b || (has_in s0 carried set c && stays_in s0 m set c)) e1 ∙ ap (λ b. b && stays_in s0 m set c) e2
+      ∙ ap (λ b. (has set c && value_of s0 set carried.rest) && b) e3)
 
   there_is : (set : List ℕ) (c : ℕ) → case_or s3 set outs c (has set c && value_of s3 set rest) ≡ carries_on s0 carried m set c
   there_is set c =
-      case_kept s1 s3 set outs c (has set c && value_of s3 set rest) (has set c && (value_of s0 set carried.rest && value_of s0 set m.rest)) from1 tabled.inside (ap (λ b. has set c && b) (rest_is set))
+      case_kept s1 s3 set outs c (has set c && value_of s3 set rest) (has set c && (value_of s0 set carried.rest && value_of s0 set m.rest)) from1 tabled.inside
+      (ap (λ b. has set c && b) (rest_is set))
       ∙ tabled.value set c (has set c && (value_of s0 set carried.rest && value_of s0 set m.rest))
       ∙ by (has keys c) refl
     where
-      by : (b : Bool) → has keys c ≡ b → (if b then carries_on s0 carried m set c else has set c && (value_of s0 set carried.rest && value_of s0 set m.rest)) ≡ carries_on s0 carried m set c
+      by : (b : Bool) → has keys c ≡ b → (if b then carries_on s0 carried m set c else has set c
+          && (value_of s0 set carried.rest && value_of s0 set m.rest)) ≡ carries_on s0 carried m set c
       by true e = refl
       by false e = untouched set c e
 
@@ -186,7 +215,8 @@ module _ (s0 s1 s2 s3 : Shown) (carried : Carried) (m : MapFn) (keys : List ℕ)
       rest = grows_inside s2 s3 rest g3 of_rest.inside;
       others = of_others.inside;
       outs = cases_inside_kept s1 s3 outs from1 tabled.inside;
-      known = λ c there. ap (λ (u : List ℕ). has u c) to3.universe ∙ touched_known s0 carried m keys inside im touched c (ap (λ (l : List ℕ). has l c) (sym tabled.keys_are) ∙ there);
+      known = λ c there. ap (λ (u : List ℕ). has u c) to3.universe
+          ∙ touched_known s0 carried m keys inside im touched c (ap (λ (l : List ℕ). has l c) (sym tabled.keys_are) ∙ there);
     };
     others = λ set.
         of_others.value set
@@ -195,7 +225,8 @@ module _ (s0 s1 s2 s3 : Shown) (carried : Carried) (m : MapFn) (keys : List ℕ)
     there = there_is;
   }
 
-pub sent_all : (old new : Shown) (carried : Carried) (m : MapFn) (sends : Bool) (r : Carried) → sends ≡ true → IsAfter old new carried m r → IsSent old new carried m sends r
+pub sent_all : (old new : Shown) (carried : Carried) (m : MapFn) (sends : Bool) (r : Carried) → sends ≡ true → IsAfter old new carried m r →
+    IsSent old new carried m sends r
 sent_all old new carried m sends r on is = record {
   inside = is.inside;
   others = λ set. is.others set ∙ ap (λ b. b && (value_of old set carried.others && value_of old set m.rest)) (sym on);
@@ -206,7 +237,8 @@ and_false : (b : Bool) → b && false ≡ false
 and_false true = refl
 and_false false = refl
 
-pub sent_none : (shown : Shown) (carried : Carried) (m : MapFn) (sends : Bool) (never : ℕ) → sends ≡ false → Means shown never (λ _. false) → IsSent shown shown carried m sends (record { outs = []; rest = never; others = never })
+pub sent_none : (shown : Shown) (carried : Carried) (m : MapFn) (sends : Bool) (never : ℕ) → sends ≡ false → Means shown never (λ _. false) →
+    IsSent shown shown carried m sends (record { outs = []; rest = never; others = never })
 sent_none shown carried m sends never off is = record {
   inside = record { rest = is.inside; others = is.inside; outs = tt; known = λ c there. absurd cc };
   others = λ set. is.value set ∙ ap (λ b. b && (value_of shown set carried.others && value_of shown set m.rest)) (sym off);

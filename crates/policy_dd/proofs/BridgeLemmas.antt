@@ -110,45 +110,62 @@ same_answers false false f g = refl
 abbrev is_wanted : (wants set : List ℕ) → Bool
 is_wanted wants set = list_all (λ c. has set c) wants && list_all (λ c. has wants c) set
 
-exact_bridge : (universe set wants : List ℕ) (there : ℕ → Bool) (others : Bool) → IsSeenAs universe set there others → AreWithin universe wants → exact_by universe there others wants ≡ is_wanted wants set
+exact_bridge : (universe set wants : List ℕ) (there : ℕ → Bool) (others : Bool) → IsSeenAs universe set there others → AreWithin universe wants →
+    exact_by universe there others wants ≡ is_wanted wants set
 exact_bridge universe set wants there others seen known =
     both_true (exact_by universe there others wants) (is_wanted wants set)
     (λ e.
     let parts = and_true (not others) (exact_part there wants universe) e in
     let none : has_others universe set ≡ false = sym seen.others_is ∙ not_true others parts.0 in
-    let alike = λ (c : ℕ) (u : has universe c ≡ true). wanted_same (has wants c) (there c) (each_true (λ d. if has wants d then there d else not (there d)) universe c parts.1 u) ∙ seen.there_is c u in
-    rw (all_true (λ c. has set c) wants (λ c in_wants. sym (alike c (within_each universe wants c known in_wants)) ∙ in_wants), all_true (λ c. has wants c) set (λ c in_set. alike c (none_other universe set c none in_set) ∙ in_set)) refl)
+    let alike = λ (c : ℕ) (u : has universe c ≡ true).
+    wanted_same (has wants c) (there c) (each_true (λ d. if has wants d then there d else not (there d)) universe c parts.1 u) ∙ seen.there_is c u in
+    rw (
+      all_true (λ c. has set c) wants (λ c in_wants. sym (alike c (within_each universe wants c known in_wants)) ∙ in_wants),
+      all_true (λ c. has wants c) set (λ c in_set. alike c (none_other universe set c none in_set) ∙ in_set),
+    ) refl)
     (λ e.
     let parts = and_true (list_all (λ c. has set c) wants) (list_all (λ c. has wants c) set) e in
-    let inside : AreWithin universe set = all_within universe set (λ c in_set. within_each universe wants c known (each_true (λ d. has wants d) set c parts.1 in_set)) in
+    let inside : AreWithin universe set = all_within universe set
+    (λ c in_set. within_each universe wants c known (each_true (λ d. has wants d) set c parts.1 in_set)) in
     let o : others ≡ false = seen.others_is ∙ no_others universe set inside in
-    let all = all_true (λ d. if has wants d then there d else not (there d)) universe (λ c u. wanted_true (has wants c) (there c) (same_answers (has wants c) (has set c) (λ w. each_true (λ d. has set d) wants c parts.0 w) (λ s. each_true (λ d. has wants d) set c parts.1 s) ∙ sym (seen.there_is c u))) in
+    let all = all_true (λ d. if has wants d then there d else not (there d)) universe
+    (λ c u. wanted_true (has wants c) (there c)
+    (same_answers (has wants c) (has set c) (λ w. each_true (λ d. has set d) wants c parts.0 w) (λ s. each_true (λ d. has wants d) set c parts.1 s)
+    ∙ sym (seen.there_is c u))) in
     rw (o, all) refl)
 
-line_bridge : (universe set : List ℕ) (there : ℕ → Bool) (others exact : Bool) (line : CommunityLine) → IsSeenAs universe set there others → IsLineWithin universe line → line_by universe there others exact line ≡ (if exact then line_is set line else line_holds set line)
+line_bridge : (universe set : List ℕ) (there : ℕ → Bool) (others exact : Bool) (line : CommunityLine) → IsSeenAs universe set there others →
+    IsLineWithin universe line → line_by universe there others exact line ≡ (if exact then line_is set line else line_holds set line)
 line_bridge universe set there others true line seen known = exact_bridge universe set line.comms there others seen known
-line_bridge universe set there others false line seen known = all_agree there (λ c. has set c) line.comms (λ c in_line. seen.there_is c (within_each universe line.comms c known in_line))
+line_bridge universe set there others false line seen known =
+    all_agree there (λ c. has set c) line.comms (λ c in_line. seen.there_is c (within_each universe line.comms c known in_line))
 
-answer_bridge : (universe set : List ℕ) (there : ℕ → Bool) (others exact : Bool) (lines : List CommunityLine) → IsSeenAs universe set there others → AllByRecursion (IsLineWithin universe) lines → first_line_decides (line_by universe there others exact) lines ≡ first_line_decides (λ line. if exact then line_is set line else line_holds set line) lines
+answer_bridge : (universe set : List ℕ) (there : ℕ → Bool) (others exact : Bool) (lines : List CommunityLine) → IsSeenAs universe set there others →
+    AllByRecursion (IsLineWithin universe) lines →
+    first_line_decides (line_by universe there others exact) lines ≡ first_line_decides (λ line. if exact then line_is set line else line_holds set line) lines
 answer_bridge universe set there others exact [] seen known = refl
 answer_bridge universe set there others exact (line ∷ lines) seen known =
     rw (line_bridge universe set there others exact line seen known.0, answer_bridge universe set there others exact lines seen known.1) refl
 
-answer_is : (set : List ℕ) (exact : Bool) (list : CommunityList) → first_line_decides (λ line. if exact then line_is set line else line_holds set line) list.lines ≡ list_answer exact set list
+answer_is : (set : List ℕ) (exact : Bool) (list : CommunityList) →
+    first_line_decides (λ line. if exact then line_is set line else line_holds set line) list.lines ≡ list_answer exact set list
 answer_is set true list = refl
 answer_is set false list = refl
 
-lists_bridge : (universe set : List ℕ) (there : ℕ → Bool) (others exact : Bool) (lists : List CommunityList) → IsSeenAs universe set there others → AreListsWithin universe lists → list_any (list_by universe there others exact) lists ≡ list_any (list_answer exact set) lists
+lists_bridge : (universe set : List ℕ) (there : ℕ → Bool) (others exact : Bool) (lists : List CommunityList) → IsSeenAs universe set there others →
+    AreListsWithin universe lists → list_any (list_by universe there others exact) lists ≡ list_any (list_answer exact set) lists
 lists_bridge universe set there others exact [] seen known = refl
 lists_bridge universe set there others exact (list ∷ lists) seen known =
     let e1 = answer_bridge universe set there others exact list.lines seen known.0 ∙ answer_is set exact list in
     rw (e1, lists_bridge universe set there others exact lists seen known.1) refl
 
-matches_bridge : (universe set : List ℕ) (there : ℕ → Bool) (others exact : Bool) (lists : Option (List CommunityList)) → IsSeenAs universe set there others → IfSome lists (AreListsWithin universe) → lists_by universe there others exact lists ≡ lists_hold exact set lists
+matches_bridge : (universe set : List ℕ) (there : ℕ → Bool) (others exact : Bool) (lists : Option (List CommunityList)) → IsSeenAs universe set there others →
+    IfSome lists (AreListsWithin universe) → lists_by universe there others exact lists ≡ lists_hold exact set lists
 matches_bridge universe set there others exact None seen known = refl
 matches_bridge universe set there others exact (Some lists) seen known = lists_bridge universe set there others exact lists seen known
 
-pub entry_bridge : (universe set : List ℕ) (there : ℕ → Bool) (others : Bool) (entry : PlainEntry) → IsSeenAs universe set there others → IfSome entry.lists (AreListsWithin universe) → entry_by universe there others entry ≡ entry_holds set entry
+pub entry_bridge : (universe set : List ℕ) (there : ℕ → Bool) (others : Bool) (entry : PlainEntry) → IsSeenAs universe set there others →
+    IfSome entry.lists (AreListsWithin universe) → entry_by universe there others entry ≡ entry_holds set entry
 entry_bridge universe set there others entry seen known = matches_bridge universe set there others entry.exact entry.lists seen known
 
 -- the verdict is that of the entry that decides
@@ -160,6 +177,7 @@ pub verdict_is : (entries : List PlainEntry) (set : List ℕ) → verdict entrie
 verdict_is [] set = refl
 verdict_is (entry ∷ entries) set = by (entry_holds set entry) (verdict_is entries set)
   where
-    by : (b : Bool) → verdict entries set ≡ verdict_of (find (entry_holds set) entries) set → (if b then entry_verdict entry set else verdict entries set) ≡ verdict_of (if b then Some entry else find (entry_holds set) entries) set
+    by : (b : Bool) → verdict entries set ≡ verdict_of (find (entry_holds set) entries) set →
+        (if b then entry_verdict entry set else verdict entries set) ≡ verdict_of (if b then Some entry else find (entry_holds set) entries) set
     by true rest = refl
     by false rest = rest

@@ -33,18 +33,22 @@ use Rattle.policy_dd.proofs.ImportLemmas.{import_seen, found_fit}
 -- tests that agree on the universe decide alike
 module _ (universe : List ℕ) (p q : ℕ → Bool) (o : Bool) (same : (c : ℕ) → has universe c ≡ true → p c ≡ q c) where
   line_agree : (exact : Bool) (line : CommunityLine) → IsLineWithin universe line → line_by universe p o exact line ≡ line_by universe q o exact line
-  line_agree true line known = ap (λ b. not o && b) (all_agree (λ c. if has line.comms c then p c else not (p c)) (λ c. if has line.comms c then q c else not (q c)) universe (λ c u. rw (same c u) refl))
+  line_agree true line known = ap (λ b. not o && b)
+      (all_agree (λ c. if has line.comms c then p c else not (p c)) (λ c. if has line.comms c then q c else not (q c)) universe (λ c u. rw (same c u) refl))
   line_agree false line known = all_agree p q line.comms (λ c there. same c (within_each universe line.comms c known there))
 
-  answer_agree : (exact : Bool) (lines : List CommunityLine) → AllByRecursion (IsLineWithin universe) lines → first_line_decides (line_by universe p o exact) lines ≡ first_line_decides (line_by universe q o exact) lines
+  answer_agree : (exact : Bool) (lines : List CommunityLine) → AllByRecursion (IsLineWithin universe) lines →
+      first_line_decides (line_by universe p o exact) lines ≡ first_line_decides (line_by universe q o exact) lines
   answer_agree exact [] known = refl
   answer_agree exact (line ∷ lines) known = rw (line_agree exact line known.0, answer_agree exact lines known.1) refl
 
-  lists_agree : (exact : Bool) (lists : List CommunityList) → AreListsWithin universe lists → list_any (list_by universe p o exact) lists ≡ list_any (list_by universe q o exact) lists
+  lists_agree : (exact : Bool) (lists : List CommunityList) → AreListsWithin universe lists →
+      list_any (list_by universe p o exact) lists ≡ list_any (list_by universe q o exact) lists
   lists_agree exact [] known = refl
   lists_agree exact (list ∷ lists) known = rw (answer_agree exact list.lines known.0, lists_agree exact lists known.1) refl
 
-  matches_agree : (exact : Bool) (lists : Option (List CommunityList)) → IfSome lists (AreListsWithin universe) → lists_by universe p o exact lists ≡ lists_by universe q o exact lists
+  matches_agree : (exact : Bool) (lists : Option (List CommunityList)) → IfSome lists (AreListsWithin universe) →
+      lists_by universe p o exact lists ≡ lists_by universe q o exact lists
   matches_agree exact None known = refl
   matches_agree exact (Some lists) known = lists_agree exact lists known
 
@@ -52,15 +56,20 @@ module _ (universe : List ℕ) (p q : ℕ → Bool) (o : Bool) (same : (c : ℕ)
   first_agree [] fit = refl
   first_agree (entry ∷ entries) fit = rw (matches_agree entry.exact entry.lists fit.0.within.lists, first_agree entries fit.1) refl
 
-sent_agree : (universe : List ℕ) (p q : ℕ → Bool) (sends : Bool) (one : Option PlainEntry) → ((c : ℕ) → has universe c ≡ true → p c ≡ q c) → (c : ℕ) → has universe c ≡ true → there_sent sends one p c ≡ there_sent sends one q c
+sent_agree : (universe : List ℕ) (p q : ℕ → Bool) (sends : Bool) (one : Option PlainEntry) → ((c : ℕ) → has universe c ≡ true → p c ≡ q c) → (c : ℕ) →
+    has universe c ≡ true → there_sent sends one p c ≡ there_sent sends one q c
 sent_agree universe p q sends one same c u = rw (same c u) refl
 
-kept_agree : (universe : List ℕ) (p q : ℕ → Bool) (o : Bool) (out : List PlainEntry) (sends : Bool) (into : List PlainEntry) → ((c : ℕ) → has universe c ≡ true → p c ≡ q c) → AreFit universe out → AreFit universe into → others_kept universe out sends into p o ≡ others_kept universe out sends into q o
+kept_agree : (universe : List ℕ) (p q : ℕ → Bool) (o : Bool) (out : List PlainEntry) (sends : Bool) (into : List PlainEntry) →
+    ((c : ℕ) → has universe c ≡ true → p c ≡ q c) → AreFit universe out → AreFit universe into →
+    others_kept universe out sends into p o ≡ others_kept universe out sends into q o
 kept_agree universe p q o out sends into same fit fit' =
     let e1 = first_agree universe p q o same out fit in
-    let f : Option PlainEntry → Bool = λ one. others_after (first_of universe into (there_sent sends one p) (others_sent sends one o)) (others_sent sends one o) in
+    let f : Option PlainEntry → Bool = λ one. others_after (first_of universe into (there_sent sends one p) (others_sent sends one o)) (others_sent sends one o)
+    in
     let one : Option PlainEntry = first_of universe out q o in
-    let e2 = first_agree universe (there_sent sends one p) (there_sent sends one q) (others_sent sends one o) (sent_agree universe p q sends one same) into fit' in
+    let e2 = first_agree universe (there_sent sends one p) (there_sent sends one q) (others_sent sends one o) (sent_agree universe p q sends one same) into fit'
+    in
     ap f e1 ∙ ap (λ (two : Option PlainEntry). others_after two (others_sent sends one o)) e2
 
 keeps_permits : (found : Option PlainEntry) → decided leaves_rest found ≡ true → decided permits_it found ≡ true
@@ -77,9 +86,11 @@ all_three true true false e = absurd cc
 all_three true false c e = absurd cc
 all_three false b c e = absurd cc
 
-kept_accepts : (universe : List ℕ) (out : List PlainEntry) (sends : Bool) (into : List PlainEntry) (there : ℕ → Bool) → others_kept universe out sends into there true ≡ true → accepts universe out sends into there true ≡ true
+kept_accepts : (universe : List ℕ) (out : List PlainEntry) (sends : Bool) (into : List PlainEntry) (there : ℕ → Bool) →
+    others_kept universe out sends into there true ≡ true → accepts universe out sends into there true ≡ true
 kept_accepts universe out sends into there e =
-    let both = all_three sends (decided leaves_rest (first_of universe out there true)) (decided leaves_rest (second_deciding universe out sends into there true)) e in
+    let both = all_three sends (decided leaves_rest (first_of universe out there true))
+    (decided leaves_rest (second_deciding universe out sends into there true)) e in
     rw (keeps_permits (first_of universe out there true) both.0, keeps_permits (second_deciding universe out sends into there true) both.1) refl
 
 implied_and : (a k : Bool) → (k ≡ true → a ≡ true) → a && k ≡ k
@@ -101,10 +112,13 @@ others_of universe (d ∷ set) c there none = elim (cases_eq d c) [
 with_outside_has : (set : List ℕ) (c : ℕ) → has (with_number c set) c ≡ true
 with_outside_has set c = has-with_number c set c ∙ rw (same_number c c refl) refl
 
-with_outside_same : (universe set : List ℕ) (outside : ℕ) → has universe outside ≡ false → (c : ℕ) → has universe c ≡ true → has (with_number outside set) c ≡ has set c
-with_outside_same universe set outside none c u = has-with_number outside set c ∙ rw (other_number outside c (λ e. let known = ap (has universe) e in absurd cc)) refl
+with_outside_same : (universe set : List ℕ) (outside : ℕ) → has universe outside ≡ false → (c : ℕ) → has universe c ≡ true →
+    has (with_number outside set) c ≡ has set c
+with_outside_same universe set outside none c u = has-with_number outside set c
+    ∙ rw (other_number outside c (λ e. let known = ap (has universe) e in absurd cc)) refl
 
-puts_none : (universe : List ℕ) (c : ℕ) (found : Option PlainEntry) → ((e : PlainEntry) → found ≡ Some e → IsEntryFit universe e) → has universe c ≡ false → decided (puts c) found ≡ false
+puts_none : (universe : List ℕ) (c : ℕ) (found : Option PlainEntry) → ((e : PlainEntry) → found ≡ Some e → IsEntryFit universe e) → has universe c ≡ false →
+    decided (puts c) found ≡ false
 puts_none universe c None fits none = refl
 puts_none universe c (Some entry) fits none = by (has (put_by_change entry.change) c) entry.permit refl
   where
@@ -113,11 +127,13 @@ puts_none universe c (Some entry) fits none = by (has (put_by_change entry.chang
     by false true e = refl
     by false false e = refl
 
-leaves_alike : (universe : List ℕ) (c : ℕ) (found : Option PlainEntry) → ((e : PlainEntry) → found ≡ Some e → IsEntryFit universe e) → has universe c ≡ false → decided (leaves_it c) found ≡ decided leaves_rest found
+leaves_alike : (universe : List ℕ) (c : ℕ) (found : Option PlainEntry) → ((e : PlainEntry) → found ≡ Some e → IsEntryFit universe e) → has universe c ≡ false →
+    decided (leaves_it c) found ≡ decided leaves_rest found
 leaves_alike universe c None fits none = refl
 leaves_alike universe c (Some entry) fits none = ap (λ b. entry.permit && b) (leaves_outside universe c entry none (fits entry refl).within.delete)
 
-one_of : (v w : ℕ) (found : Option PlainEntry) (key : PlainEntry → ℕ) → decided (λ e. e.permit && nat_eq (key e) v) found ≡ true → decided (λ e. e.permit && nat_eq (key e) w) found ≡ true → v ≡ w
+one_of : (v w : ℕ) (found : Option PlainEntry) (key : PlainEntry → ℕ) → decided (λ e. e.permit && nat_eq (key e) v) found ≡ true →
+    decided (λ e. e.permit && nat_eq (key e) w) found ≡ true → v ≡ w
 one_of v w None key x y = absurd cc
 one_of v w (Some e) key x y = by e.permit x y
   where
@@ -143,14 +159,16 @@ gives_permits : (found : Option PlainEntry) (test : PlainEntry → Bool) → dec
 gives_permits None test e = absurd cc
 gives_permits (Some entry) test e = and_left entry.permit (test entry) e
 
-outside_there : (s h o k1 k2 a q1 q2 l1 l2 : Bool) → q1 ≡ false → q2 ≡ false → l1 ≡ k1 → l2 ≡ k2 → h ≡ true → o ≡ true → a ≡ true → q2 || ((s && (q1 || (h && l1))) && l2) ≡ h && (a && ((s && (o && k1)) && k2))
+outside_there : (s h o k1 k2 a q1 q2 l1 l2 : Bool) → q1 ≡ false → q2 ≡ false → l1 ≡ k1 → l2 ≡ k2 → h ≡ true → o ≡ true → a ≡ true →
+    q2 || ((s && (q1 || (h && l1))) && l2) ≡ h && (a && ((s && (o && k1)) && k2))
 outside_there s h o k1 k2 a q1 q2 l1 l2 e1 e2 f1 f2 e3 e4 e5 = rw (e1, e2, f1, f2, e3, e4, e5) refl
 
 outside_missing : (s h l1 l2 q1 q2 r : Bool) → q1 ≡ false → q2 ≡ false → h ≡ false → q2 || ((s && (q1 || (h && l1))) && l2) ≡ h && r
 outside_missing true h l1 l2 q1 q2 r e1 e2 e3 = rw (e1, e2, e3) refl
 outside_missing false h l1 l2 q1 q2 r e1 e2 e3 = rw (e2, e3) refl
 
-module _ (shown : Shown) (edge : EdgeFn) (out : Plain) (sends : Bool) (into : Plain) (fit : AreFit shown.universe out.entries) (fit' : AreFit shown.universe into.entries) (built : IsBuilt shown edge out.entries sends into.entries) where
+module _ (shown : Shown) (edge : EdgeFn) (out : Plain) (sends : Bool) (into : Plain) (fit : AreFit shown.universe out.entries)
+    (fit' : AreFit shown.universe into.entries) (built : IsBuilt shown edge out.entries sends into.entries) where
   outside_key : (c : ℕ) → has shown.universe c ≡ false → has (keys_of (by_number edge.outs)) c ≡ false
   outside_key c none = by (has (keys_of (by_number edge.outs)) c) refl
     where
@@ -159,40 +177,76 @@ module _ (shown : Shown) (edge : EdgeFn) (out : Plain) (sends : Bool) (into : Pl
       by false e = refl
 
   -- communities outside the universe
-  carried_outside : (set : List ℕ) (c : ℕ) → has shown.universe c ≡ false → is_carried shown edge set c ≡ has set c && (accepts shown.universe out.entries sends into.entries (has set) (has_others shown.universe set) && others_kept shown.universe out.entries sends into.entries (has set) true)
-  carried_outside set c none = case_absent shown set (by_number edge.outs) c (carried_by_rest shown edge.rest c set) (outside_key c none) ∙ ap (λ b. has set c && b) (built.rest set)
+  carried_outside : (set : List ℕ) (c : ℕ) → has shown.universe c ≡ false → is_carried shown edge set c ≡ has set c
+      && (accepts shown.universe out.entries sends into.entries (has set) (has_others shown.universe set)
+      && others_kept shown.universe out.entries sends into.entries (has set) true)
+  carried_outside set c none = case_absent shown set (by_number edge.outs) c (carried_by_rest shown edge.rest c set) (outside_key c none)
+      ∙ ap (λ b. has set c && b) (built.rest set)
 
   one_lp : (set : List ℕ) → IsOneOf shown edge.permit edge.lps set
   one_lp set = record {
-    one = λ v w x y. one_of v w (second_deciding shown.universe out.entries sends into.entries (has set) (has_others shown.universe set)) (λ e. unwrap_or e.lp 100) (and_right _ _ (sym (built.lps set v) ∙ x)) (and_right _ _ (sym (built.lps set w) ∙ y));
-    implied = λ v denied. built.lps set v ∙ both_false _ _ _ _ (sym (built.permit set) ∙ denied) (λ e. e) (λ e. gives_permits (second_deciding shown.universe out.entries sends into.entries (has set) (has_others shown.universe set)) (λ e. nat_eq (unwrap_or e.lp 100) v) e);
+    one = λ v w x y. one_of v w (second_deciding shown.universe out.entries sends into.entries (has set) (has_others shown.universe set))
+        (λ e. unwrap_or e.lp 100) (and_right _ _ (sym (built.lps set v) ∙ x)) (and_right _ _ (sym (built.lps set w) ∙ y));
+    implied = λ v denied. built.lps set v ∙ both_false _ _ _ _ (sym (built.permit set) ∙ denied) (λ e. e)
+        (λ e. gives_permits (second_deciding shown.universe out.entries sends into.entries (has set) (has_others shown.universe set))
+        (λ e. nat_eq (unwrap_or e.lp 100) v) e);
   }
 
   one_adds : (set : List ℕ) → IsOneOf shown edge.permit edge.adds set
   one_adds set = record {
-    one = λ v w x y. one_of v w (first_of shown.universe out.entries (has set) (has_others shown.universe set)) (λ e. e.adds) (and_left _ _ (sym (built.adds set v) ∙ x)) (and_left _ _ (sym (built.adds set w) ∙ y));
-    implied = λ v denied. built.adds set v ∙ both_false _ _ _ _ (sym (built.permit set) ∙ denied) (λ e. gives_permits (first_of shown.universe out.entries (has set) (has_others shown.universe set)) (λ e. nat_eq e.adds v) e) (λ e. e);
+    one = λ v w x y. one_of v w (first_of shown.universe out.entries (has set) (has_others shown.universe set)) (λ e. e.adds)
+        (and_left _ _ (sym (built.adds set v) ∙ x)) (and_left _ _ (sym (built.adds set w) ∙ y));
+    implied = λ v denied. built.adds set v ∙ both_false _ _ _ _ (sym (built.permit set) ∙ denied)
+        (λ e. gives_permits (first_of shown.universe out.entries (has set) (has_others shown.universe set)) (λ e. nat_eq e.adds v) e) (λ e. e);
   }
 
   -- an outside community of an accepted import
-  outside_given : (set : List ℕ) (c : ℕ) → has shown.universe c ≡ false → accepts shown.universe out.entries sends into.entries (has set) (has_others shown.universe set) ≡ true → carries shown.universe out.entries sends into.entries (has set) (has_others shown.universe set) c ≡ is_carried shown edge set c
+  outside_given : (set : List ℕ) (c : ℕ) → has shown.universe c ≡ false →
+      accepts shown.universe out.entries sends into.entries (has set) (has_others shown.universe set) ≡ true →
+      carries shown.universe out.entries sends into.entries (has set) (has_others shown.universe set) c ≡ is_carried shown edge set c
   outside_given set c none ok =
       let one : Option PlainEntry = first_of shown.universe out.entries (has set) (has_others shown.universe set) in
       let two : Option PlainEntry = second_deciding shown.universe out.entries sends into.entries (has set) (has_others shown.universe set) in
-      let fits1 = λ (e : PlainEntry) (found : one ≡ Some e). found_fit shown.universe (entry_by shown.universe (has set) (has_others shown.universe set)) out.entries e fit found in
-      let fits2 = λ (e : PlainEntry) (found : two ≡ Some e). found_fit shown.universe (entry_by shown.universe (there_sent sends one (has set)) (others_sent sends one (has_others shown.universe set))) into.entries e fit' found in
-      by (has set c) refl (puts_none shown.universe c one fits1 none) (puts_none shown.universe c two fits2 none) (leaves_alike shown.universe c one fits1 none) (leaves_alike shown.universe c two fits2 none) ∙ sym (carried_outside set c none)
+      let fits1 = λ (e : PlainEntry) (found : one ≡ Some e). found_fit shown.universe (entry_by shown.universe (has set) (has_others shown.universe set))
+      out.entries e fit found in
+      let fits2 = λ (e : PlainEntry) (found : two ≡ Some e). found_fit shown.universe
+      (entry_by shown.universe (there_sent sends one (has set)) (others_sent sends one (has_others shown.universe set))) into.entries e fit' found in
+      by (has set c) refl (puts_none shown.universe c one fits1 none) (puts_none shown.universe c two fits2 none) (leaves_alike shown.universe c one fits1 none)
+      (leaves_alike shown.universe c two fits2 none) ∙ sym (carried_outside set c none)
     where
-      by : (b : Bool) → has set c ≡ b → decided (puts c) (first_of shown.universe out.entries (has set) (has_others shown.universe set)) ≡ false → decided (puts c) (second_deciding shown.universe out.entries sends into.entries (has set) (has_others shown.universe set)) ≡ false → decided (leaves_it c) (first_of shown.universe out.entries (has set) (has_others shown.universe set)) ≡ decided leaves_rest (first_of shown.universe out.entries (has set) (has_others shown.universe set)) → decided (leaves_it c) (second_deciding shown.universe out.entries sends into.entries (has set) (has_others shown.universe set)) ≡ decided leaves_rest (second_deciding shown.universe out.entries sends into.entries (has set) (has_others shown.universe set)) → carries shown.universe out.entries sends into.entries (has set) (has_others shown.universe set) c ≡ has set c && (accepts shown.universe out.entries sends into.entries (has set) (has_others shown.universe set) && others_kept shown.universe out.entries sends into.entries (has set) true)
+      by : (b : Bool) → has set c ≡ b → decided (puts c) (first_of shown.universe out.entries (has set) (has_others shown.universe set)) ≡ false →
+          decided (puts c) (second_deciding shown.universe out.entries sends into.entries (has set) (has_others shown.universe set)) ≡ false →
+          decided (leaves_it c) (first_of shown.universe out.entries (has set) (has_others shown.universe set)) ≡ decided leaves_rest
+          (first_of shown.universe out.entries (has set) (has_others shown.universe set)) →
+          decided (leaves_it c) (second_deciding shown.universe out.entries sends into.entries (has set) (has_others shown.universe set)) ≡ decided leaves_rest
+          (second_deciding shown.universe out.entries sends into.entries (has set) (has_others shown.universe set)) →
+          carries shown.universe out.entries sends into.entries (has set) (has_others shown.universe set) c ≡ has set c
+          && (accepts shown.universe out.entries sends into.entries (has set) (has_others shown.universe set)
+          && others_kept shown.universe out.entries sends into.entries (has set) true)
       by true e p1 p2 l1 l2 =
           let o = others_of shown.universe set c e none in
           let k = ap (λ b. others_kept shown.universe out.entries sends into.entries (has set) b) (sym o) in
-          outside_there sends (has set c) (has_others shown.universe set) (decided leaves_rest (first_of shown.universe out.entries (has set) (has_others shown.universe set))) (decided leaves_rest (second_deciding shown.universe out.entries sends into.entries (has set) (has_others shown.universe set))) (accepts shown.universe out.entries sends into.entries (has set) (has_others shown.universe set)) (decided (puts c) (first_of shown.universe out.entries (has set) (has_others shown.universe set))) (decided (puts c) (second_deciding shown.universe out.entries sends into.entries (has set) (has_others shown.universe set))) (decided (leaves_it c) (first_of shown.universe out.entries (has set) (has_others shown.universe set))) (decided (leaves_it c) (second_deciding shown.universe out.entries sends into.entries (has set) (has_others shown.universe set))) p1 p2 l1 l2 e o ok
+          outside_there sends (has set c) (has_others shown.universe set)
+          (decided leaves_rest (first_of shown.universe out.entries (has set) (has_others shown.universe set)))
+          (decided leaves_rest (second_deciding shown.universe out.entries sends into.entries (has set) (has_others shown.universe set)))
+          (accepts shown.universe out.entries sends into.entries (has set) (has_others shown.universe set))
+          (decided (puts c) (first_of shown.universe out.entries (has set) (has_others shown.universe set)))
+          (decided (puts c) (second_deciding shown.universe out.entries sends into.entries (has set) (has_others shown.universe set)))
+          (decided (leaves_it c) (first_of shown.universe out.entries (has set) (has_others shown.universe set)))
+          (decided (leaves_it c) (second_deciding shown.universe out.entries sends into.entries (has set) (has_others shown.universe set))) p1 p2 l1 l2 e o
+          ok
           ∙ ap (λ b. has set c && (accepts shown.universe out.entries sends into.entries (has set) (has_others shown.universe set) && b)) (sym k)
       by false e p1 p2 l1 l2 =
-          outside_missing sends (has set c) (decided (leaves_it c) (first_of shown.universe out.entries (has set) (has_others shown.universe set))) (decided (leaves_it c) (second_deciding shown.universe out.entries sends into.entries (has set) (has_others shown.universe set))) (decided (puts c) (first_of shown.universe out.entries (has set) (has_others shown.universe set))) (decided (puts c) (second_deciding shown.universe out.entries sends into.entries (has set) (has_others shown.universe set))) (accepts shown.universe out.entries sends into.entries (has set) (has_others shown.universe set) && others_kept shown.universe out.entries sends into.entries (has set) true) p1 p2 e
+          outside_missing sends (has set c) (decided (leaves_it c) (first_of shown.universe out.entries (has set) (has_others shown.universe set)))
+          (decided (leaves_it c) (second_deciding shown.universe out.entries sends into.entries (has set) (has_others shown.universe set)))
+          (decided (puts c) (first_of shown.universe out.entries (has set) (has_others shown.universe set)))
+          (decided (puts c) (second_deciding shown.universe out.entries sends into.entries (has set) (has_others shown.universe set)))
+          (accepts shown.universe out.entries sends into.entries (has set) (has_others shown.universe set)
+          && others_kept shown.universe out.entries sends into.entries (has set) true) p1 p2 e
 
-  to_import : (set : List ℕ) (r : Option Imported) → GivenBy sends (first_of shown.universe out.entries (has set) (has_others shown.universe set)) (second_deciding shown.universe out.entries sends into.entries (has set) (has_others shown.universe set)) (has set) r → ImportIs shown edge set r
+  to_import : (set : List ℕ) (r : Option Imported) →
+      GivenBy sends (first_of shown.universe out.entries (has set) (has_others shown.universe set))
+      (second_deciding shown.universe out.entries sends into.entries (has set) (has_others shown.universe set)) (has set) r → ImportIs shown edge set r
   to_import set None given = built.permit set ∙ given
   to_import set (Some i) given =
       let ok : accepts shown.universe out.entries sends into.entries (has set) (has_others shown.universe set) ≡ true = rw (given.first, given.second) refl in
@@ -204,26 +258,35 @@ module _ (shown : Shown) (edge : EdgeFn) (out : Plain) (sends : Bool) (into : Pl
         comms = λ c. given.comms c ∙ by (has shown.universe c) c refl ok;
       }
     where
-      by : (b : Bool) (c : ℕ) → has shown.universe c ≡ b → accepts shown.universe out.entries sends into.entries (has set) (has_others shown.universe set) ≡ true → carries shown.universe out.entries sends into.entries (has set) (has_others shown.universe set) c ≡ is_carried shown edge set c
-      by true c u ok = sym (built.outs set c u ∙ ap (λ b. b && carries shown.universe out.entries sends into.entries (has set) (has_others shown.universe set) c) ok)
+      by : (b : Bool) (c : ℕ) → has shown.universe c ≡ b →
+          accepts shown.universe out.entries sends into.entries (has set) (has_others shown.universe set) ≡ true →
+          carries shown.universe out.entries sends into.entries (has set) (has_others shown.universe set) c ≡ is_carried shown edge set c
+      by true c u ok = sym (built.outs set c u
+          ∙ ap (λ b. b && carries shown.universe out.entries sends into.entries (has set) (has_others shown.universe set) c) ok)
       by false c u ok = outside_given set c u ok
 
-  rest_form : (set : List ℕ) (outside : ℕ) → has shown.universe outside ≡ false → value_of shown set edge.rest ≡ value_of shown set edge.permit && value_of shown (with_number outside set) edge.rest
+  rest_form : (set : List ℕ) (outside : ℕ) → has shown.universe outside ≡ false → value_of shown set edge.rest ≡ value_of shown set edge.permit
+      && value_of shown (with_number outside set) edge.rest
   rest_form set outside none =
       let more : List ℕ = with_number outside set in
       let o : has_others shown.universe more ≡ true = others_of shown.universe more outside (with_outside_has set outside) none in
       let k = kept_agree shown.universe (has more) (has set) true out.entries sends into.entries (with_outside_same shown.universe set outside none) fit fit' in
       let r : value_of shown more edge.rest ≡ others_kept shown.universe out.entries sends into.entries (has more) true =
-      built.rest more ∙ ap (λ b. accepts shown.universe out.entries sends into.entries (has more) b && others_kept shown.universe out.entries sends into.entries (has more) true) o
-      ∙ implied_and (accepts shown.universe out.entries sends into.entries (has more) true) (others_kept shown.universe out.entries sends into.entries (has more) true) (kept_accepts shown.universe out.entries sends into.entries (has more)) in
-      built.rest set ∙ ap (λ b. b && others_kept shown.universe out.entries sends into.entries (has set) true) (sym (built.permit set)) ∙ ap (λ b. value_of shown set edge.permit && b) (sym (r ∙ k))
+      built.rest more ∙ ap (λ b. accepts shown.universe out.entries sends into.entries (has more) b
+      && others_kept shown.universe out.entries sends into.entries (has more) true) o
+      ∙ implied_and (accepts shown.universe out.entries sends into.entries (has more) true)
+      (others_kept shown.universe out.entries sends into.entries (has more) true) (kept_accepts shown.universe out.entries sends into.entries (has more)) in
+      built.rest set ∙ ap (λ b. b && others_kept shown.universe out.entries sends into.entries (has set) true) (sym (built.permit set))
+      ∙ ap (λ b. value_of shown set edge.permit && b) (sym (r ∙ k))
 
   carried_denied : (set : List ℕ) (c : ℕ) → value_of shown set edge.permit ≡ false → is_carried shown edge set c ≡ false
   carried_denied set c denied = by (has shown.universe c) refl
     where
       by : (b : Bool) → has shown.universe c ≡ b → is_carried shown edge set c ≡ false
-      by true u = built.outs set c u ∙ ap (λ b. b && carries shown.universe out.entries sends into.entries (has set) (has_others shown.universe set) c) (sym (built.permit set) ∙ denied)
-      by false u = carried_outside set c u ∙ ap (λ b. has set c && (b && others_kept shown.universe out.entries sends into.entries (has set) true)) (sym (built.permit set) ∙ denied) ∙ and_no (has set c)
+      by true u = built.outs set c u ∙ ap (λ b. b && carries shown.universe out.entries sends into.entries (has set) (has_others shown.universe set) c)
+          (sym (built.permit set) ∙ denied)
+      by false u = carried_outside set c u ∙ ap (λ b. has set c && (b && others_kept shown.universe out.entries sends into.entries (has set) true))
+          (sym (built.permit set) ∙ denied) ∙ and_no (has set c)
         where
           and_no : (b : Bool) → b && false ≡ false
           and_no true = refl

@@ -44,11 +44,15 @@ test_at test key k set = elim (cases_eq key k) [
 ]
 
 -- one key more
-pub grown_by_key : (old mid new : Shown) (cases more all : List (ℕ × ℕ)) (done : List ℕ) (key node : ℕ) (test : ℕ → List ℕ → Bool) → IsTableGrown old mid cases more done (λ k set. has done k && test k set) → IsMoreBy mid new more all key node → ((set : List ℕ) → value_of mid set node ≡ test key set) → IsTableGrown old new cases all (done ++ key ∷ []) (λ k set. has (done ++ key ∷ []) k && test k set)
+pub grown_by_key : (old mid new : Shown) (cases more all : List (ℕ × ℕ)) (done : List ℕ) (key node : ℕ) (test : ℕ → List ℕ → Bool) →
+    IsTableGrown old mid cases more done (λ k set. has done k && test k set) → IsMoreBy mid new more all key node →
+    ((set : List ℕ) → value_of mid set node ≡ test key set) →
+    IsTableGrown old new cases all (done ++ key ∷ []) (λ k set. has (done ++ key ∷ []) k && test k set)
 grown_by_key old mid new cases more all done key node test before one is = record {
   inside = one.inside;
   ascending = λ up. one.ascending (before.ascending up);
-  keys_are = λ k. one.keys_are k ∙ ap (λ b. b || has (key ∷ []) k) (before.keys_are k) ∙ or_assoc (has (keys_of cases) k) (has done k) (has (key ∷ []) k) ∙ ap (λ b. has (keys_of cases) k || b) (sym (has-append done (key ∷ []) k));
+  keys_are = λ k. one.keys_are k ∙ ap (λ b. b || has (key ∷ []) k) (before.keys_are k) ∙ or_assoc (has (keys_of cases) k) (has done k) (has (key ∷ []) k)
+      ∙ ap (λ b. has (keys_of cases) k || b) (sym (has-append done (key ∷ []) k));
   value = λ set k.
       one.value set k
       ∙ ap (λ b. b || (nat_eq key k && value_of mid set node)) (before.value set k)
@@ -59,14 +63,20 @@ grown_by_key old mid new cases more all done key node test before one is = recor
 }
 
 -- a case of the other table, where none before decides
-pub unless_node : (old mid new : Shown) (cases : List (ℕ × ℕ)) (i key there unless node : ℕ) → Grows old mid → IsAscending (keys_of cases) → i < length cases → there < length old.nodes → unless < length old.nodes → key ≡ (get_or cases i (0, 0)).0 → there ≡ (get_or cases i (0, 0)).1 → Means new node (λ set. not (value_of mid set unless) && value_of mid set there) → (set : List ℕ) → value_of new set node ≡ not (value_of old set unless) && case_or old set cases key false
+pub unless_node : (old mid new : Shown) (cases : List (ℕ × ℕ)) (i key there unless node : ℕ) → Grows old mid → IsAscending (keys_of cases) → i < length cases →
+    there < length old.nodes → unless < length old.nodes → key ≡ (get_or cases i (0, 0)).0 → there ≡ (get_or cases i (0, 0)).1 →
+    Means new node (λ set. not (value_of mid set unless) && value_of mid set there) → (set : List ℕ) → value_of new set node ≡ not (value_of old set unless)
+    && case_or old set cases key false
 unless_node old mid new cases i key there unless node g up lt ti ui k f is set =
     is.value set
     ∙ ap (λ b. not b && value_of mid set there) (value_of_kept old mid set unless g ui)
     ∙ ap (λ b. not (value_of old set unless) && b)
-    (value_of_kept old mid set there g ti ∙ ap (value_of old set) f ∙ sym (case_of_index old set cases i false up lt) ∙ ap (λ n. case_or old set cases n false) (sym k))
+    (value_of_kept old mid set there g ti ∙ ap (value_of old set) f ∙ sym (case_of_index old set cases i false up lt)
+    ∙ ap (λ n. case_or old set cases n false) (sym k))
 
-pub grown_all : (old new : Shown) (cases more all : List (ℕ × ℕ)) (unless : ℕ) → IsTableGrown old new cases all (keys_of more) (λ k set. has (keys_of more) k && (not (value_of old set unless) && case_or old set more k false)) → IsTableGrown old new cases all (keys_of more) (λ k set. not (value_of old set unless) && case_or old set more k false)
+pub grown_all : (old new : Shown) (cases more all : List (ℕ × ℕ)) (unless : ℕ) →
+    IsTableGrown old new cases all (keys_of more) (λ k set. has (keys_of more) k && (not (value_of old set unless) && case_or old set more k false)) →
+    IsTableGrown old new cases all (keys_of more) (λ k set. not (value_of old set unless) && case_or old set more k false)
 grown_all old new cases more all unless grown = record {
   inside = grown.inside;
   ascending = grown.ascending;
@@ -78,12 +88,14 @@ grown_all old new cases more all unless grown = record {
     no_case b e true = sym e
     no_case b e false = refl
 
-    by : (set : List ℕ) (k : ℕ) (h : Bool) → has (keys_of more) k ≡ h → h && (not (value_of old set unless) && case_or old set more k false) ≡ not (value_of old set unless) && case_or old set more k false
+    by : (set : List ℕ) (k : ℕ) (h : Bool) → has (keys_of more) k ≡ h →
+        h && (not (value_of old set unless) && case_or old set more k false) ≡ not (value_of old set unless) && case_or old set more k false
     by set k true e = refl
     by set k false e = no_case (case_or old set more k false) (case_absent old set more k false e) (not (value_of old set unless))
 
 -- both parts of a map
-module _ (s0 s1 s2 s3 s4 s5 s6 s7 : Shown) (g1 : Grows s0 s1) (g2 : Grows s1 s2) (g3 : Grows s2 s3) (g4 : Grows s3 s4) (g5 : Grows s4 s5) (g6 : Grows s5 s6) (g7 : Grows s6 s7) (f l : MapFn) (before permit rest : ℕ) (lps adds present odd : List (ℕ × ℕ))
+module _ (s0 s1 s2 s3 s4 s5 s6 s7 : Shown) (g1 : Grows s0 s1) (g2 : Grows s1 s2) (g3 : Grows s2 s3) (g4 : Grows s3 s4) (g5 : Grows s4 s5) (g6 : Grows s5 s6)
+    (g7 : Grows s6 s7) (f l : MapFn) (before permit rest : ℕ) (lps adds present odd : List (ℕ × ℕ))
     (fi : AreMapInside s0 f) (li : AreMapInside s0 l)
     (of_before : Means s1 before (λ set. value_of s0 set f.before || value_of s0 set l.before))
     (of_permit : IsIteOfSets s1 s2 f.before f.permit l.permit permit)
@@ -122,16 +134,23 @@ module _ (s0 s1 s2 s3 s4 s5 s6 s7 : Shown) (g1 : Grows s0 s1) (g2 : Grows s1 s2)
   from1 : Grows s1 s7
   from1 = grows_trans s1 s2 s7 g2 from2
 
-  choice_between : (mid new : Shown) (there gone node : ℕ) → Grows s0 mid → Grows new s7 → there < length s0.nodes → gone < length s0.nodes → IsIteOfSets mid new f.before there gone node → Means s7 node (λ set. if value_of s0 set f.before then value_of s0 set there else value_of s0 set gone)
+  choice_between : (mid new : Shown) (there gone node : ℕ) → Grows s0 mid → Grows new s7 → there < length s0.nodes → gone < length s0.nodes →
+      IsIteOfSets mid new f.before there gone node → Means s7 node (λ set. if value_of s0 set f.before then value_of s0 set there else value_of s0 set gone)
   choice_between mid new there gone node g g' ti ni is =
       means_kept new s7 node (λ set. if value_of s0 set f.before then value_of s0 set there else value_of s0 set gone) g' (record {
         inside = is.inside;
-        value = λ set. is.value set ∙ rw (value_of_kept s0 mid set f.before g fi.before, value_of_kept s0 mid set there g ti, value_of_kept s0 mid set gone g ni) refl;
+        value = λ set. is.value set ∙ rw (
+          value_of_kept s0 mid set f.before g fi.before,
+          value_of_kept s0 mid set there g ti,
+          value_of_kept s0 mid set gone g ni,
+        ) refl;
       })
 
-  table_between : (mid new : Shown) (first last cases : List (ℕ × ℕ)) → Grows s0 mid → Grows new s7 → AllInside s0 first → AllInside s0 last → IsTableOfEither mid new f.before first last cases → IsTableOfEither s0 s7 f.before first last cases
+  table_between : (mid new : Shown) (first last cases : List (ℕ × ℕ)) → Grows s0 mid → Grows new s7 → AllInside s0 first → AllInside s0 last →
+      IsTableOfEither mid new f.before first last cases → IsTableOfEither s0 s7 f.before first last cases
   table_between mid new first last cases g g' inside inside' grown =
-      grown_between s0 mid new s7 first cases (keys_of last) (λ k set. not (value_of mid set f.before) && case_or mid set last k false) (λ k set. not (value_of s0 set f.before) && case_or s0 set last k false) g inside g' grown
+      grown_between s0 mid new s7 first cases (keys_of last) (λ k set. not (value_of mid set f.before) && case_or mid set last k false)
+      (λ k set. not (value_of s0 set f.before) && case_or s0 set last k false) g inside g' grown
       (λ k set. rw (value_of_kept s0 mid set f.before g fi.before, case_kept s0 mid set last k false false g inside' refl) refl)
 
   pub either_is : IsEither s0 s7 f l (record { before = before; permit = permit; rest = rest; lps = lps; adds = adds; present = present; odd = odd })
@@ -145,28 +164,33 @@ module _ (s0 s1 s2 s3 s4 s5 s6 s7 : Shown) (g1 : Grows s0 s1) (g2 : Grows s1 s2)
     odd = table_between s6 s7 f.odd l.odd odd to6 (grows_refl s7) fi.odd li.odd of_odd;
   }
 
-some_append : (test : PlainEntry → Bool) (front back : List PlainEntry) → is_some (find test (front ++ back)) ≡ is_some (find test front) || is_some (find test back)
+some_append : (test : PlainEntry → Bool) (front back : List PlainEntry) → is_some (find test (front ++ back)) ≡ is_some (find test front)
+    || is_some (find test back)
 some_append test front back = ap is_some (find-append test front back) ∙ by (find test front) (find test back)
   where
     by : (a b : Option PlainEntry) → is_some (option_or a b) ≡ is_some a || is_some b
     by (Some e) b = refl
     by None b = refl
 
-decided_append : (test tells : PlainEntry → Bool) (front back : List PlainEntry) → decided tells (find test (front ++ back)) ≡ (if is_some (find test front) then decided tells (find test front) else decided tells (find test back))
+decided_append : (test tells : PlainEntry → Bool) (front back : List PlainEntry) →
+    decided tells (find test (front ++ back)) ≡ (if is_some (find test front) then decided tells (find test front) else decided tells (find test back))
 decided_append test tells front back = ap (decided tells) (find-append test front back) ∙ by (find test front) (find test back)
   where
     by : (a b : Option PlainEntry) → decided tells (option_or a b) ≡ (if is_some a then decided tells a else decided tells b)
     by (Some e) b = refl
     by None b = refl
 
-decided_joined : (test tells : PlainEntry → Bool) (front back : List PlainEntry) → decided tells (find test front) || (not (is_some (find test front)) && decided tells (find test back)) ≡ decided tells (find test (front ++ back))
+decided_joined : (test tells : PlainEntry → Bool) (front back : List PlainEntry) → decided tells (find test front)
+    || (not (is_some (find test front)) && decided tells (find test back)) ≡ decided tells (find test (front ++ back))
 decided_joined test tells front back = by (find test front) (find test back) ∙ sym (ap (decided tells) (find-append test front back))
   where
     by : (a b : Option PlainEntry) → decided tells a || (not (is_some a) && decided tells b) ≡ decided tells (option_or a b)
     by (Some e) b = sym (or_false (tells e))
     by None b = refl
 
-keys_from : (P : ℕ → Type 0) (old new : Shown) (cases more : List (ℕ × ℕ)) (keys : List ℕ) (add : ℕ → List ℕ → Bool) → IsTableGrown old new cases more keys add → ((k : ℕ) → has (keys_of cases) k ≡ true → P k) → ((k : ℕ) → has keys k ≡ true → P k) → (k : ℕ) → has (keys_of more) k ≡ true → P k
+keys_from : (P : ℕ → Type 0) (old new : Shown) (cases more : List (ℕ × ℕ)) (keys : List ℕ) (add : ℕ → List ℕ → Bool) →
+    IsTableGrown old new cases more keys add → ((k : ℕ) → has (keys_of cases) k ≡ true → P k) → ((k : ℕ) → has keys k ≡ true → P k) → (k : ℕ) →
+    has (keys_of more) k ≡ true → P k
 keys_from P old new cases more keys add grown first last k there = by (has (keys_of cases) k) refl (sym (grown.keys_are k) ∙ there)
   where
     by : (b : Bool) → has (keys_of cases) k ≡ b → b || has keys k ≡ true → P k
@@ -176,7 +200,9 @@ keys_from P old new cases more keys add grown first last k there = by (has (keys
 pub tables_ascend : (old new : Shown) (carried : Carried) (entries : List PlainEntry) (m : MapFn) → IsMapFn old new carried entries m → AreTablesAscending m
 tables_ascend old new carried entries m is = record { lps = is.lps.ascending; adds = is.adds.ascending; present = is.present.ascending; odd = is.odd.ascending }
 
-module _ (old mid mid' new : Shown) (carried : Carried) (front back : List PlainEntry) (f l m : MapFn) (g : Grows old mid) (g' : Grows mid mid') (g'' : Grows mid' new) (inside : AreNodesInside old carried) (of_front : IsMapFn old mid carried front f) (of_back : IsMapFn mid mid' carried back l) (either : IsEither mid' new f l m) where
+module _ (old mid mid' new : Shown) (carried : Carried) (front back : List PlainEntry) (f l m : MapFn) (g : Grows old mid) (g' : Grows mid mid')
+    (g'' : Grows mid' new) (inside : AreNodesInside old carried) (of_front : IsMapFn old mid carried front f) (of_back : IsMapFn mid mid' carried back l)
+    (either : IsEither mid' new f l m) where
   test : List ℕ → PlainEntry → Bool
   test set = entry_by old.universe (has_in old carried set) (value_of old set carried.others)
 
@@ -186,12 +212,17 @@ module _ (old mid mid' new : Shown) (carried : Carried) (front back : List Plain
   sooner : (set : List ℕ) → value_of mid' set f.before ≡ is_some (deciding old carried set front)
   sooner set = value_of_kept mid mid' set f.before g' of_front.inside.before ∙ of_front.before set
 
-  choice_append : (set : List ℕ) (tells : PlainEntry → Bool) (x y : ℕ) → x < length mid.nodes → value_of mid set x ≡ decided tells (deciding old carried set front) → value_of mid' set y ≡ decided tells (deciding mid carried set back) → (if value_of mid' set f.before then value_of mid' set x else value_of mid' set y) ≡ decided tells (deciding old carried set (front ++ back))
+  choice_append : (set : List ℕ) (tells : PlainEntry → Bool) (x y : ℕ) → x < length mid.nodes →
+      value_of mid set x ≡ decided tells (deciding old carried set front) → value_of mid' set y ≡ decided tells (deciding mid carried set back) →
+      (if value_of mid' set f.before then value_of mid' set x else value_of mid' set y) ≡ decided tells (deciding old carried set (front ++ back))
   unfolding test
   choice_append set tells x y xi ex ey =
       rw (sooner set, value_of_kept mid mid' set x g' xi ∙ ex, ey ∙ ap (decided tells) (back_is set)) (sym (decided_append (test set) tells front back))
 
-  table_append : (xs ys zs : List (ℕ × ℕ)) (tells : ℕ → PlainEntry → Bool) → AllInside mid xs → IsTable mid xs (λ key set. decided (tells key) (deciding old carried set front)) → IsTable mid' ys (λ key set. decided (tells key) (deciding mid carried set back)) → IsTableOfEither mid' new f.before xs ys zs → IsTable new zs (λ key set. decided (tells key) (deciding old carried set (front ++ back)))
+  table_append : (xs ys zs : List (ℕ × ℕ)) (tells : ℕ → PlainEntry → Bool) → AllInside mid xs →
+      IsTable mid xs (λ key set. decided (tells key) (deciding old carried set front)) →
+      IsTable mid' ys (λ key set. decided (tells key) (deciding mid carried set back)) → IsTableOfEither mid' new f.before xs ys zs →
+      IsTable new zs (λ key set. decided (tells key) (deciding old carried set (front ++ back)))
   unfolding test
   table_append xs ys zs tells xi tx ty grown = record {
     ascending = grown.ascending tx.ascending;
@@ -199,13 +230,17 @@ module _ (old mid mid' new : Shown) (carried : Carried) (front back : List Plain
         grown.value set k
         ∙ ap (λ b. b || (not (value_of mid' set f.before) && case_or mid' set ys k false)) (case_kept mid mid' set xs k false false g' xi refl ∙ tx.value set k)
         ∙ ap (λ b. decided (tells k) (deciding old carried set front) || (not b && case_or mid' set ys k false)) (sooner set)
-        ∙ ap (λ b. decided (tells k) (deciding old carried set front) || (not (is_some (deciding old carried set front)) && b)) (ty.value set k ∙ ap (decided (tells k)) (back_is set))
+        ∙ ap (λ b. decided (tells k) (deciding old carried set front) || (not (is_some (deciding old carried set front)) && b))
+        (ty.value set k ∙ ap (decided (tells k)) (back_is set))
         ∙ decided_joined (test set) (tells k) front back;
   }
 
-  known : (first last cases : List (ℕ × ℕ)) → IsTableOfEither mid' new f.before first last cases → ((c : ℕ) → has (keys_of first) c ≡ true → has mid.universe c ≡ true) → ((c : ℕ) → has (keys_of last) c ≡ true → has mid'.universe c ≡ true) → (c : ℕ) → has (keys_of cases) c ≡ true → has new.universe c ≡ true
+  known : (first last cases : List (ℕ × ℕ)) → IsTableOfEither mid' new f.before first last cases →
+      ((c : ℕ) → has (keys_of first) c ≡ true → has mid.universe c ≡ true) → ((c : ℕ) → has (keys_of last) c ≡ true → has mid'.universe c ≡ true) → (c : ℕ) →
+      has (keys_of cases) c ≡ true → has new.universe c ≡ true
   known first last cases grown of_first of_last =
-      keys_from (λ c. has new.universe c ≡ true) mid' new first cases (keys_of last) (λ k set. not (value_of mid' set f.before) && case_or mid' set last k false) grown
+      keys_from (λ c. has new.universe c ≡ true) mid' new first cases (keys_of last)
+      (λ k set. not (value_of mid' set f.before) && case_or mid' set last k false) grown
       (λ c there. ap (λ (u : List ℕ). has u c) ((grows_trans mid mid' new g' g'').universe) ∙ of_first c there)
       (λ c there. ap (λ (u : List ℕ). has u c) g''.universe ∙ of_last c there)
 
@@ -220,7 +255,8 @@ module _ (old mid mid' new : Shown) (carried : Carried) (front back : List Plain
       adds = either.adds.inside;
       present = either.present.inside;
       odd = either.odd.inside;
-      adds_small = keys_from (λ k. k ≤ 255) mid' new f.adds m.adds (keys_of l.adds) (λ k set. not (value_of mid' set f.before) && case_or mid' set l.adds k false) either.adds of_front.inside.adds_small of_back.inside.adds_small;
+      adds_small = keys_from (λ k. k ≤ 255) mid' new f.adds m.adds (keys_of l.adds)
+          (λ k set. not (value_of mid' set f.before) && case_or mid' set l.adds k false) either.adds of_front.inside.adds_small of_back.inside.adds_small;
       present_known = known f.present l.present m.present either.present of_front.inside.present_known of_back.inside.present_known;
       odd_known = known f.odd l.odd m.odd either.odd of_front.inside.odd_known of_back.inside.odd_known;
     };

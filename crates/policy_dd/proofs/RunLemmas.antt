@@ -41,26 +41,32 @@ map_inside_kept old new m g i = record {
 }
 
 -- a table that has grown, seen from an earlier store and from a later one
-more_between : (s0 s1 s2 s3 : Shown) (cases more : List (ℕ × ℕ)) (keys : List ℕ) (add add' : ℕ → List ℕ → Bool) → Grows s0 s1 → AllInside s0 cases → Grows s2 s3 → IsTableGrown s1 s2 cases more keys add → ((k : ℕ) (set : List ℕ) → add k set ≡ add' k set) → IsMore s0 s3 cases more add'
+more_between : (s0 s1 s2 s3 : Shown) (cases more : List (ℕ × ℕ)) (keys : List ℕ) (add add' : ℕ → List ℕ → Bool) → Grows s0 s1 → AllInside s0 cases →
+    Grows s2 s3 → IsTableGrown s1 s2 cases more keys add → ((k : ℕ) (set : List ℕ) → add k set ≡ add' k set) → IsMore s0 s3 cases more add'
 more_between s0 s1 s2 s3 cases more keys add add' g inside g' grown same = record {
   ascending = grown.ascending;
-  value = λ set k. case_kept s2 s3 set more k false false g' grown.inside refl ∙ grown.value set k ∙ ap (λ b. b || add k set) (case_kept s0 s1 set cases k false false g inside refl) ∙ ap (λ b. case_or s0 set cases k false || b) (same k set);
+  value = λ set k. case_kept s2 s3 set more k false false g' grown.inside refl ∙ grown.value set k
+      ∙ ap (λ b. b || add k set) (case_kept s0 s1 set cases k false false g inside refl) ∙ ap (λ b. case_or s0 set cases k false || b) (same k set);
 }
 
-more_from : (s0 s1 s2 : Shown) (cases more : List (ℕ × ℕ)) (add add' : ℕ → List ℕ → Bool) → Grows s0 s1 → AllInside s0 cases → IsMore s1 s2 cases more add → ((k : ℕ) (set : List ℕ) → add k set ≡ add' k set) → IsMore s0 s2 cases more add'
+more_from : (s0 s1 s2 : Shown) (cases more : List (ℕ × ℕ)) (add add' : ℕ → List ℕ → Bool) → Grows s0 s1 → AllInside s0 cases → IsMore s1 s2 cases more add →
+    ((k : ℕ) (set : List ℕ) → add k set ≡ add' k set) → IsMore s0 s2 cases more add'
 more_from s0 s1 s2 cases more add add' g inside more_is same = record {
   ascending = more_is.ascending;
-  value = λ set k. more_is.value set k ∙ ap (λ b. b || add k set) (case_kept s0 s1 set cases k false false g inside refl) ∙ ap (λ b. case_or s0 set cases k false || b) (same k set);
+  value = λ set k. more_is.value set k ∙ ap (λ b. b || add k set) (case_kept s0 s1 set cases k false false g inside refl)
+      ∙ ap (λ b. case_or s0 set cases k false || b) (same k set);
 }
 
 or_false : (b : Bool) → b ≡ b || false
 or_false true = refl
 or_false false = refl
 
-more_none : (s0 s1 : Shown) (cases : List (ℕ × ℕ)) (add : ℕ → List ℕ → Bool) → Grows s0 s1 → AllInside s0 cases → ((k : ℕ) (set : List ℕ) → add k set ≡ false) → IsMore s0 s1 cases cases add
+more_none : (s0 s1 : Shown) (cases : List (ℕ × ℕ)) (add : ℕ → List ℕ → Bool) → Grows s0 s1 → AllInside s0 cases → ((k : ℕ) (set : List ℕ) → add k set ≡ false) →
+    IsMore s0 s1 cases cases add
 more_none s0 s1 cases add g inside none = record {
   ascending = λ up. up;
-  value = λ set k. case_kept s0 s1 set cases k false false g inside refl ∙ or_false (case_or s0 set cases k false) ∙ ap (λ b. case_or s0 set cases k false || b) (sym (none k set));
+  value = λ set k. case_kept s0 s1 set cases k false false g inside refl ∙ or_false (case_or s0 set cases k false)
+      ∙ ap (λ b. case_or s0 set cases k false || b) (sym (none k set));
 }
 
 -- the keys of a table that has grown
@@ -68,14 +74,17 @@ key_from : (a b : Bool) → a || b ≡ true → a ≡ false → b ≡ true
 key_from true b e f = absurd cc
 key_from false b e f = e
 
-grown_keys : (old new : Shown) (cases more : List (ℕ × ℕ)) (keys : List ℕ) (add : ℕ → List ℕ → Bool) → IsTableGrown old new cases more keys add → (u : List ℕ) → ((c : ℕ) → has (keys_of cases) c ≡ true → has u c ≡ true) → ((c : ℕ) → has keys c ≡ true → has u c ≡ true) → (c : ℕ) → has (keys_of more) c ≡ true → has u c ≡ true
+grown_keys : (old new : Shown) (cases more : List (ℕ × ℕ)) (keys : List ℕ) (add : ℕ → List ℕ → Bool) → IsTableGrown old new cases more keys add → (u : List ℕ) →
+    ((c : ℕ) → has (keys_of cases) c ≡ true → has u c ≡ true) → ((c : ℕ) → has keys c ≡ true → has u c ≡ true) → (c : ℕ) → has (keys_of more) c ≡ true →
+    has u c ≡ true
 grown_keys old new cases more keys add grown u before after c there = by (has (keys_of cases) c) refl
   where
     by : (b : Bool) → has (keys_of cases) c ≡ b → has u c ≡ true
     by true e = before c e
     by false e = after c (key_from (has (keys_of cases) c) (has keys c) (sym (grown.keys_are c) ∙ there) e)
 
-small_keys : (old new : Shown) (cases more : List (ℕ × ℕ)) (key node : ℕ) → IsMoreBy old new cases more key node → key ≤ 255 → ((k : ℕ) → has (keys_of cases) k ≡ true → k ≤ 255) → (k : ℕ) → has (keys_of more) k ≡ true → k ≤ 255
+small_keys : (old new : Shown) (cases more : List (ℕ × ℕ)) (key node : ℕ) → IsMoreBy old new cases more key node → key ≤ 255 →
+    ((k : ℕ) → has (keys_of cases) k ≡ true → k ≤ 255) → (k : ℕ) → has (keys_of more) k ≡ true → k ≤ 255
 small_keys old new cases more key node grown small before k there = by (has (keys_of cases) k) refl
   where
     by : (b : Bool) → has (keys_of cases) k ≡ b → k ≤ 255
@@ -103,11 +112,14 @@ named_within universe (Some Clear) within = tt
 named_within universe (Some (Replace by)) within = within
 named_within universe (Some (Append more)) within = within
 
-pub named_known : (universe : List ℕ) (entry : PlainEntry) → IsEntryWithin universe entry → (c : ℕ) → has (put_by_change entry.change) c ≡ true → has universe c ≡ true
+pub named_known : (universe : List ℕ) (entry : PlainEntry) → IsEntryWithin universe entry → (c : ℕ) → has (put_by_change entry.change) c ≡ true →
+    has universe c ≡ true
 named_known universe entry within c there = within_each universe (put_by_change entry.change) c (named_within universe entry.change within.change) there
 
-module _ (s0 s1 s2 s3 s4 s5 s6 : Shown) (g1 : Grows s0 s1) (g2 : Grows s1 s2) (g3 : Grows s2 s3) (g4 : Grows s3 s4) (g5 : Grows s4 s5) (g6 : Grows s5 s6) (m : MapFn) (before decides permit rest lp : ℕ) (lps adds present odd : List (ℕ × ℕ)) (left : Answers) (entry : PlainEntry)
-    (im : AreMapInside s0 m) (ib : before < length s0.nodes) (id : decides < length s0.nodes) (known : IsEntryWithin s0.universe entry) (is_left : IsLeftBy entry left) (lp_is : lp ≡ unwrap_or entry.lp 100) (small : entry.adds ≤ 255)
+module _ (s0 s1 s2 s3 s4 s5 s6 : Shown) (g1 : Grows s0 s1) (g2 : Grows s1 s2) (g3 : Grows s2 s3) (g4 : Grows s3 s4) (g5 : Grows s4 s5) (g6 : Grows s5 s6)
+    (m : MapFn) (before decides permit rest lp : ℕ) (lps adds present odd : List (ℕ × ℕ)) (left : Answers) (entry : PlainEntry)
+    (im : AreMapInside s0 m) (ib : before < length s0.nodes) (id : decides < length s0.nodes) (known : IsEntryWithin s0.universe entry)
+    (is_left : IsLeftBy entry left) (lp_is : lp ≡ unwrap_or entry.lp 100) (small : entry.adds ≤ 255)
     (of_permit : Means s1 permit (λ set. value_of s0 set m.permit || value_of s0 set decides))
     (of_rest : Means s2 rest (λ set. value_of s1 set m.rest || (value_of s1 set decides && left.all)))
     (of_lps : IsMoreBy s2 s3 m.lps lps lp decides)
@@ -151,11 +163,16 @@ module _ (s0 s1 s2 s3 s4 s5 s6 : Shown) (g1 : Grows s0 s1) (g2 : Grows s1 s2) (g
     present = cases_inside_kept s5 s6 present g6 of_present.inside;
     odd = of_odd.inside;
     adds_small = small_keys s3 s4 m.adds adds entry.adds decides of_adds small im.adds_small;
-    present_known = λ c there. ap (λ (u : List ℕ). has u c) g06.universe ∙ grown_keys s4 s5 m.present present (put_by_change entry.change) (λ k set. has (put_by_change entry.change) k && value_of s4 set decides) of_present s0.universe im.present_known (named_known s0.universe entry known) c there;
-    odd_known = λ c there. ap (λ (u : List ℕ). has u c) g06.universe ∙ grown_keys s5 s6 m.odd odd left.odd (λ k set. has left.odd k && value_of s5 set decides) of_odd s0.universe im.odd_known (odd_known s0.universe entry left is_left known.delete) c there;
+    present_known = λ c there. ap (λ (u : List ℕ). has u c) g06.universe
+        ∙ grown_keys s4 s5 m.present present (put_by_change entry.change) (λ k set. has (put_by_change entry.change) k && value_of s4 set decides) of_present
+        s0.universe im.present_known (named_known s0.universe entry known) c there;
+    odd_known = λ c there. ap (λ (u : List ℕ). has u c) g06.universe
+        ∙ grown_keys s5 s6 m.odd odd left.odd (λ k set. has left.odd k && value_of s5 set decides) of_odd s0.universe im.odd_known
+        (odd_known s0.universe entry left is_left known.delete) c there;
   }
 
-  pub taken_is : IsEntryTaken s0 s6 m (record { before = before; permit = permit; rest = rest; lps = lps; adds = adds; present = present; odd = odd }) before decides entry
+  pub taken_is : IsEntryTaken s0 s6 m (record { before = before; permit = permit; rest = rest; lps = lps; adds = adds; present = present; odd = odd }) before
+      decides entry
   taken_is = record {
     inside = taken_inside;
     before = λ set. value_of_kept s0 s6 set before g06 ib;
@@ -165,14 +182,20 @@ module _ (s0 s1 s2 s3 s4 s5 s6 : Shown) (g1 : Grows s0 s1) (g2 : Grows s1 s2) (g
         ∙ ap (λ b. b || (value_of s1 set decides && left.all)) (value_of_kept s0 s1 set m.rest g1 im.rest)
         ∙ ap (λ b. value_of s0 set m.rest || (b && left.all)) (value_of_kept s0 s1 set decides g1 id)
         ∙ ap (λ b. value_of s0 set m.rest || (value_of s0 set decides && b)) is_left.all_is;
-    lps = more_between s0 s2 s3 s6 m.lps lps (lp ∷ []) (λ k set. nat_eq lp k && value_of s2 set decides) (λ key set. nat_eq (unwrap_or entry.lp 100) key && value_of s0 set decides) g02 im.lps g36 of_lps
-        (λ k set. ap (λ n. nat_eq n k && value_of s2 set decides) lp_is ∙ ap (λ b. nat_eq (unwrap_or entry.lp 100) k && b) (value_of_kept s0 s2 set decides g02 id));
-    adds = more_between s0 s3 s4 s6 m.adds adds (entry.adds ∷ []) (λ k set. nat_eq entry.adds k && value_of s3 set decides) (λ key set. nat_eq entry.adds key && value_of s0 set decides) g03 im.adds g46 of_adds
+    lps = more_between s0 s2 s3 s6 m.lps lps (lp ∷ []) (λ k set. nat_eq lp k && value_of s2 set decides)
+        (λ key set. nat_eq (unwrap_or entry.lp 100) key && value_of s0 set decides) g02 im.lps g36 of_lps
+        (λ k set. ap (λ n. nat_eq n k && value_of s2 set decides) lp_is
+        ∙ ap (λ b. nat_eq (unwrap_or entry.lp 100) k && b) (value_of_kept s0 s2 set decides g02 id));
+    adds = more_between s0 s3 s4 s6 m.adds adds (entry.adds ∷ []) (λ k set. nat_eq entry.adds k && value_of s3 set decides)
+        (λ key set. nat_eq entry.adds key && value_of s0 set decides) g03 im.adds g46 of_adds
         (λ k set. ap (λ b. nat_eq entry.adds k && b) (value_of_kept s0 s3 set decides g03 id));
-    present = more_between s0 s4 s5 s6 m.present present (put_by_change entry.change) (λ k set. has (put_by_change entry.change) k && value_of s4 set decides) (λ key set. has (put_by_change entry.change) key && value_of s0 set decides) g04 im.present g6 of_present
+    present = more_between s0 s4 s5 s6 m.present present (put_by_change entry.change) (λ k set. has (put_by_change entry.change) k && value_of s4 set decides)
+        (λ key set. has (put_by_change entry.change) key && value_of s0 set decides) g04 im.present g6 of_present
         (λ k set. ap (λ b. has (put_by_change entry.change) k && b) (value_of_kept s0 s4 set decides g04 id));
-    odd = more_between s0 s5 s6 s6 m.odd odd left.odd (λ k set. has left.odd k && value_of s5 set decides) (λ key set. not (beq (leaves entry key) (leaves_unnamed entry)) && value_of s0 set decides) g05 im.odd (grows_refl s6) of_odd
-        (λ k set. ap (λ b. b && value_of s5 set decides) (odd_is entry left is_left k) ∙ ap (λ b. not (beq (leaves entry k) (leaves_unnamed entry)) && b) (value_of_kept s0 s5 set decides g05 id));
+    odd = more_between s0 s5 s6 s6 m.odd odd left.odd (λ k set. has left.odd k && value_of s5 set decides)
+        (λ key set. not (beq (leaves entry key) (leaves_unnamed entry)) && value_of s0 set decides) g05 im.odd (grows_refl s6) of_odd
+        (λ k set. ap (λ b. b && value_of s5 set decides) (odd_is entry left is_left k)
+        ∙ ap (λ b. not (beq (leaves entry k) (leaves_unnamed entry)) && b) (value_of_kept s0 s5 set decides g05 id));
   }
 
 idle_none : (d p b : Bool) → d && p ≡ false → d && (p && b) ≡ false
@@ -196,7 +219,8 @@ denied : (d p : Bool) → p ≡ false → d && p ≡ false
 denied true p e = e
 denied false p e = refl
 
-module _ (s0 s1 s2 s3 : Shown) (carried : Carried) (m : MapFn) (entry : PlainEntry) (here decides before : ℕ) (g1 : Grows s0 s1) (g2 : Grows s1 s2) (g3 : Grows s2 s3) (im : AreMapInside s0 m)
+module _ (s0 s1 s2 s3 : Shown) (carried : Carried) (m : MapFn) (entry : PlainEntry) (here decides before : ℕ) (g1 : Grows s0 s1) (g2 : Grows s1 s2)
+    (g3 : Grows s2 s3) (im : AreMapInside s0 m)
     (of_here : Means s1 here (λ set. entry_by s0.universe (has_in s0 carried set) (value_of s0 set carried.others) entry))
     (of_decides : Means s2 decides (λ set. not (value_of s1 set m.before) && value_of s1 set here))
     (of_before : Means s3 before (λ set. value_of s2 set m.before || value_of s2 set here)) where
@@ -212,7 +236,8 @@ module _ (s0 s1 s2 s3 : Shown) (carried : Carried) (m : MapFn) (entry : PlainEnt
       ∙ ap (λ b. not b && value_of s1 set here) (value_of_kept s0 s1 set m.before g1 im.before)
       ∙ ap (λ b. not (value_of s0 set m.before) && b) (of_here.value set)
 
-  before_is : (set : List ℕ) → value_of s3 set before ≡ value_of s0 set m.before || entry_by s0.universe (has_in s0 carried set) (value_of s0 set carried.others) entry
+  before_is : (set : List ℕ) → value_of s3 set before ≡ value_of s0 set m.before
+      || entry_by s0.universe (has_in s0 carried set) (value_of s0 set carried.others) entry
   before_is set =
       of_before.value set
       ∙ ap (λ b. b || value_of s2 set here) (value_of_kept s0 s2 set m.before to2 im.before)
@@ -223,14 +248,31 @@ module _ (s0 s1 s2 s3 : Shown) (carried : Carried) (m : MapFn) (entry : PlainEnt
   pushed_idle idle =
       let all = map_inside_kept s0 s3 m to3 im in
       record {
-        inside = record { before = of_before.inside; permit = all.permit; rest = all.rest; lps = all.lps; adds = all.adds; present = all.present; odd = all.odd; adds_small = all.adds_small; present_known = all.present_known; odd_known = all.odd_known };
+        inside = record {
+          before = of_before.inside;
+          permit = all.permit;
+          rest = all.rest;
+          lps = all.lps;
+          adds = all.adds;
+          present = all.present;
+          odd = all.odd;
+          adds_small = all.adds_small;
+          present_known = all.present_known;
+          odd_known = all.odd_known;
+        };
         before = before_is;
-        permit = λ set. value_of_kept s0 s3 set m.permit to3 im.permit ∙ or_false (value_of s0 set m.permit) ∙ ap (λ b. value_of s0 set m.permit || b) (sym (idle set));
-        rest = λ set. value_of_kept s0 s3 set m.rest to3 im.rest ∙ or_false (value_of s0 set m.rest) ∙ ap (λ b. value_of s0 set m.rest || b) (sym (idle_none (decides_by s0 carried m set entry) entry.permit (leaves_unnamed entry) (idle set)));
-        lps = more_none s0 s3 m.lps (λ key set. decides_by s0 carried m set entry && prefers key entry) to3 im.lps (λ k set. idle_none (decides_by s0 carried m set entry) entry.permit (nat_eq (unwrap_or entry.lp 100) k) (idle set));
-        adds = more_none s0 s3 m.adds (λ key set. decides_by s0 carried m set entry && adds_it key entry) to3 im.adds (λ k set. idle_none (decides_by s0 carried m set entry) entry.permit (nat_eq entry.adds k) (idle set));
-        present = more_none s0 s3 m.present (λ key set. decides_by s0 carried m set entry && puts key entry) to3 im.present (λ k set. idle_none (decides_by s0 carried m set entry) entry.permit (has (put_by_change entry.change) k) (idle set));
-        odd = more_none s0 s3 m.odd (λ key set. decides_by s0 carried m set entry && is_odd key entry) to3 im.odd (λ k set. idle_none (decides_by s0 carried m set entry) entry.permit (not (beq (leaves entry k) (leaves_unnamed entry))) (idle set));
+        permit = λ set. value_of_kept s0 s3 set m.permit to3 im.permit ∙ or_false (value_of s0 set m.permit)
+            ∙ ap (λ b. value_of s0 set m.permit || b) (sym (idle set));
+        rest = λ set. value_of_kept s0 s3 set m.rest to3 im.rest ∙ or_false (value_of s0 set m.rest)
+            ∙ ap (λ b. value_of s0 set m.rest || b) (sym (idle_none (decides_by s0 carried m set entry) entry.permit (leaves_unnamed entry) (idle set)));
+        lps = more_none s0 s3 m.lps (λ key set. decides_by s0 carried m set entry && prefers key entry) to3 im.lps
+            (λ k set. idle_none (decides_by s0 carried m set entry) entry.permit (nat_eq (unwrap_or entry.lp 100) k) (idle set));
+        adds = more_none s0 s3 m.adds (λ key set. decides_by s0 carried m set entry && adds_it key entry) to3 im.adds
+            (λ k set. idle_none (decides_by s0 carried m set entry) entry.permit (nat_eq entry.adds k) (idle set));
+        present = more_none s0 s3 m.present (λ key set. decides_by s0 carried m set entry && puts key entry) to3 im.present
+            (λ k set. idle_none (decides_by s0 carried m set entry) entry.permit (has (put_by_change entry.change) k) (idle set));
+        odd = more_none s0 s3 m.odd (λ key set. decides_by s0 carried m set entry && is_odd key entry) to3 im.odd
+            (λ k set. idle_none (decides_by s0 carried m set entry) entry.permit (not (beq (leaves entry k) (leaves_unnamed entry))) (idle set));
       }
 
   pub pushed_denied : entry.permit ≡ false → IsPushed s0 s3 carried m (record m { before = before }) entry
@@ -239,10 +281,12 @@ module _ (s0 s1 s2 s3 : Shown) (carried : Carried) (m : MapFn) (entry : PlainEnt
   pub pushed_never : ((set : List ℕ) → value_of s3 set decides ≡ false) → IsPushed s0 s3 carried m (record m { before = before }) entry
   pushed_never none = pushed_idle (λ set. ap (λ b. b && entry.permit) (sym (decides_is set) ∙ none set))
 
-  and_decides : (k : ℕ) (set : List ℕ) (test : Bool) → entry.permit ≡ true → test && value_of s3 set decides ≡ decides_by s0 carried m set entry && (entry.permit && test)
+  and_decides : (k : ℕ) (set : List ℕ) (test : Bool) → entry.permit ≡ true → test && value_of s3 set decides ≡ decides_by s0 carried m set entry
+      && (entry.permit && test)
   and_decides k set test on = ap (λ b. test && b) (decides_is set) ∙ and_some (decides_by s0 carried m set entry) entry.permit test on
 
-  pub pushed_taken : (s4 : Shown) (r : MapFn) → Grows s3 s4 → entry.permit ≡ true → IsEntryTaken s3 s4 m r before decides entry → IsPushed s0 s4 carried m r entry
+  pub pushed_taken : (s4 : Shown) (r : MapFn) → Grows s3 s4 → entry.permit ≡ true → IsEntryTaken s3 s4 m r before decides entry →
+      IsPushed s0 s4 carried m r entry
   pushed_taken s4 r g4 on taken = record {
     inside = taken.inside;
     before = λ set. taken.before set ∙ before_is set;
@@ -253,20 +297,31 @@ module _ (s0 s1 s2 s3 : Shown) (carried : Carried) (m : MapFn) (entry : PlainEnt
     rest = λ set.
         taken.rest set
         ∙ ap (λ b. b || (value_of s3 set decides && leaves_unnamed entry)) (value_of_kept s0 s3 set m.rest to3 im.rest)
-        ∙ ap (λ b. value_of s0 set m.rest || b) (ap (λ b. b && leaves_unnamed entry) (decides_is set) ∙ permitted_some (decides_by s0 carried m set entry) entry.permit (leaves_unnamed entry) on);
-    lps = more_from s0 s3 s4 m.lps r.lps (λ key set. nat_eq (unwrap_or entry.lp 100) key && value_of s3 set decides) (λ key set. decides_by s0 carried m set entry && prefers key entry) to3 im.lps taken.lps (λ k set. and_decides k set (nat_eq (unwrap_or entry.lp 100) k) on);
-    adds = more_from s0 s3 s4 m.adds r.adds (λ key set. nat_eq entry.adds key && value_of s3 set decides) (λ key set. decides_by s0 carried m set entry && adds_it key entry) to3 im.adds taken.adds (λ k set. and_decides k set (nat_eq entry.adds k) on);
-    present = more_from s0 s3 s4 m.present r.present (λ key set. has (put_by_change entry.change) key && value_of s3 set decides) (λ key set. decides_by s0 carried m set entry && puts key entry) to3 im.present taken.present (λ k set. and_decides k set (has (put_by_change entry.change) k) on);
-    odd = more_from s0 s3 s4 m.odd r.odd (λ key set. not (beq (leaves entry key) (leaves_unnamed entry)) && value_of s3 set decides) (λ key set. decides_by s0 carried m set entry && is_odd key entry) to3 im.odd taken.odd (λ k set. and_decides k set (not (beq (leaves entry k) (leaves_unnamed entry))) on);
+        ∙ ap (λ b. value_of s0 set m.rest || b) (ap (λ b. b && leaves_unnamed entry) (decides_is set)
+        ∙ permitted_some (decides_by s0 carried m set entry) entry.permit (leaves_unnamed entry) on);
+    lps = more_from s0 s3 s4 m.lps r.lps (λ key set. nat_eq (unwrap_or entry.lp 100) key && value_of s3 set decides)
+        (λ key set. decides_by s0 carried m set entry && prefers key entry) to3 im.lps taken.lps
+        (λ k set. and_decides k set (nat_eq (unwrap_or entry.lp 100) k) on);
+    adds = more_from s0 s3 s4 m.adds r.adds (λ key set. nat_eq entry.adds key && value_of s3 set decides)
+        (λ key set. decides_by s0 carried m set entry && adds_it key entry) to3 im.adds taken.adds (λ k set. and_decides k set (nat_eq entry.adds k) on);
+    present = more_from s0 s3 s4 m.present r.present (λ key set. has (put_by_change entry.change) key && value_of s3 set decides)
+        (λ key set. decides_by s0 carried m set entry && puts key entry) to3 im.present taken.present
+        (λ k set. and_decides k set (has (put_by_change entry.change) k) on);
+    odd = more_from s0 s3 s4 m.odd r.odd (λ key set. not (beq (leaves entry key) (leaves_unnamed entry)) && value_of s3 set decides)
+        (λ key set. decides_by s0 carried m set entry && is_odd key entry) to3 im.odd taken.odd
+        (λ k set. and_decides k set (not (beq (leaves entry k) (leaves_unnamed entry))) on);
   }
 
-pub entry_kept : (old mid : Shown) (carried : Carried) (set : List ℕ) → Grows old mid → AreNodesInside old carried → entry_by mid.universe (has_in mid carried set) (value_of mid set carried.others) ≡ entry_by old.universe (has_in old carried set) (value_of old set carried.others)
+pub entry_kept : (old mid : Shown) (carried : Carried) (set : List ℕ) → Grows old mid → AreNodesInside old carried →
+    entry_by mid.universe (has_in mid carried set) (value_of mid set carried.others) ≡ entry_by old.universe (has_in old carried set)
+    (value_of old set carried.others)
 entry_kept old mid carried set g inside =
     ap (λ (u : List ℕ). entry_by u (has_in mid carried set) (value_of mid set carried.others)) g.universe
     ∙ ap (λ (t : ℕ → Bool). entry_by old.universe t (value_of mid set carried.others)) (there_kept old mid carried set g inside)
     ∙ ap (λ (b : Bool). entry_by old.universe (has_in old carried set) b) (value_of_kept old mid set carried.others g inside.others)
 
-some_push : (test : PlainEntry → Bool) (done : List PlainEntry) (entry : PlainEntry) → is_some (find test (done ++ entry ∷ [])) ≡ is_some (find test done) || test entry
+some_push : (test : PlainEntry → Bool) (done : List PlainEntry) (entry : PlainEntry) → is_some (find test (done ++ entry ∷ [])) ≡ is_some (find test done)
+    || test entry
 some_push test done entry = ap is_some (find-append test done (entry ∷ [])) ∙ by (find test done) (test entry)
   where
     by : (found : Option PlainEntry) (b : Bool) → is_some (option_or found (if b then Some entry else None)) ≡ is_some found || b
@@ -274,30 +329,39 @@ some_push test done entry = ap is_some (find-append test done (entry ∷ [])) �
     by None true = refl
     by None false = refl
 
-decided_push : (test tells : PlainEntry → Bool) (done : List PlainEntry) (entry : PlainEntry) → decided tells (find test (done ++ entry ∷ [])) ≡ decided tells (find test done) || ((not (is_some (find test done)) && test entry) && tells entry)
+decided_push : (test tells : PlainEntry → Bool) (done : List PlainEntry) (entry : PlainEntry) →
+    decided tells (find test (done ++ entry ∷ [])) ≡ decided tells (find test done) || ((not (is_some (find test done)) && test entry) && tells entry)
 decided_push test tells done entry = ap (decided tells) (find-append test done (entry ∷ [])) ∙ by (find test done) (test entry)
   where
-    by : (found : Option PlainEntry) (b : Bool) → decided tells (option_or found (if b then Some entry else None)) ≡ decided tells found || ((not (is_some found) && b) && tells entry)
+    by : (found : Option PlainEntry) (b : Bool) → decided tells (option_or found (if b then Some entry else None)) ≡ decided tells found
+        || ((not (is_some found) && b) && tells entry)
     by (Some e) b = or_false (tells e)
     by None true = refl
     by None false = refl
 
-module _ (old mid new : Shown) (carried : Carried) (done : List PlainEntry) (entry : PlainEntry) (m r : MapFn) (g : Grows old mid) (inside : AreNodesInside old carried) (run : IsMapFn old mid carried done m) (pushed : IsPushed mid new carried m r entry) where
-  at_entry : (set : List ℕ) → entry_by mid.universe (has_in mid carried set) (value_of mid set carried.others) entry ≡ entry_by old.universe (has_in old carried set) (value_of old set carried.others) entry
+module _ (old mid new : Shown) (carried : Carried) (done : List PlainEntry) (entry : PlainEntry) (m r : MapFn) (g : Grows old mid)
+    (inside : AreNodesInside old carried) (run : IsMapFn old mid carried done m) (pushed : IsPushed mid new carried m r entry) where
+  at_entry : (set : List ℕ) → entry_by mid.universe (has_in mid carried set) (value_of mid set carried.others) entry ≡ entry_by old.universe
+      (has_in old carried set) (value_of old set carried.others) entry
   at_entry set = ap (λ (t : PlainEntry → Bool). t entry) (entry_kept old mid carried set g inside)
 
-  decides_at : (set : List ℕ) → decides_by mid carried m set entry ≡ not (is_some (deciding old carried set done)) && entry_by old.universe (has_in old carried set) (value_of old set carried.others) entry
+  decides_at : (set : List ℕ) → decides_by mid carried m set entry ≡ not (is_some (deciding old carried set done))
+      && entry_by old.universe (has_in old carried set) (value_of old set carried.others) entry
   decides_at set =
       ap (λ b. not b && entry_by mid.universe (has_in mid carried set) (value_of mid set carried.others) entry) (run.before set)
       ∙ ap (λ b. not (is_some (deciding old carried set done)) && b) (at_entry set)
 
-  push_value : (set : List ℕ) (tells : PlainEntry → Bool) (x : Bool) → x ≡ decided tells (deciding old carried set done) → x || (decides_by mid carried m set entry && tells entry) ≡ decided tells (deciding old carried set (done ++ entry ∷ []))
+  push_value : (set : List ℕ) (tells : PlainEntry → Bool) (x : Bool) → x ≡ decided tells (deciding old carried set done) →
+      x || (decides_by mid carried m set entry && tells entry) ≡ decided tells (deciding old carried set (done ++ entry ∷ []))
   push_value set tells x e =
       ap (λ b. b || (decides_by mid carried m set entry && tells entry)) e
       ∙ ap (λ b. decided tells (deciding old carried set done) || (b && tells entry)) (decides_at set)
       ∙ sym (decided_push (entry_by old.universe (has_in old carried set) (value_of old set carried.others)) tells done entry)
 
-  table_pushed : (cases more : List (ℕ × ℕ)) (tells : ℕ → PlainEntry → Bool) → IsTable mid cases (λ key set. decided (tells key) (deciding old carried set done)) → IsMore mid new cases more (λ key set. decides_by mid carried m set entry && tells key entry) → IsTable new more (λ key set. decided (tells key) (deciding old carried set (done ++ entry ∷ [])))
+  table_pushed : (cases more : List (ℕ × ℕ)) (tells : ℕ → PlainEntry → Bool) →
+      IsTable mid cases (λ key set. decided (tells key) (deciding old carried set done)) →
+      IsMore mid new cases more (λ key set. decides_by mid carried m set entry && tells key entry) →
+      IsTable new more (λ key set. decided (tells key) (deciding old carried set (done ++ entry ∷ [])))
   table_pushed cases more tells table grown = record {
     ascending = grown.ascending table.ascending;
     value = λ set k. grown.value set k ∙ push_value set (tells k) (case_or mid set cases k false) (table.value set k);
@@ -319,9 +383,21 @@ module _ (old mid new : Shown) (carried : Carried) (done : List PlainEntry) (ent
     odd = table_pushed m.odd r.odd is_odd run.odd pushed.odd;
   }
 
-pub run_none : (store : Shown) (carried : Carried) (never : ℕ) → Means store never (λ _. false) → IsMapFn store store carried [] (record { before = never; permit = never; rest = never; lps = []; adds = []; present = []; odd = [] })
+pub run_none : (store : Shown) (carried : Carried) (never : ℕ) → Means store never (λ _. false) →
+    IsMapFn store store carried [] (record { before = never; permit = never; rest = never; lps = []; adds = []; present = []; odd = [] })
 run_none store carried never is = record {
-  inside = record { before = is.inside; permit = is.inside; rest = is.inside; lps = tt; adds = tt; present = tt; odd = tt; adds_small = λ k there. absurd cc; present_known = λ c there. absurd cc; odd_known = λ c there. absurd cc };
+  inside = record {
+    before = is.inside;
+    permit = is.inside;
+    rest = is.inside;
+    lps = tt;
+    adds = tt;
+    present = tt;
+    odd = tt;
+    adds_small = λ k there. absurd cc;
+    present_known = λ c there. absurd cc;
+    odd_known = λ c there. absurd cc;
+  };
   before = is.value;
   permit = is.value;
   rest = is.value;

@@ -24,13 +24,15 @@ pub data IsAnswer (shown : Shown) (a : EdgeFn) (b : EdgeFn) (set : List ℕ) : T
   denied : value_of shown set a.permit ≡ false → value_of shown set b.permit ≡ false → IsAnswer shown a b set
   taken : (import : Imported) → GivesImport shown a set import → GivesImport shown b set import → IsAnswer shown a b set
 
-answer_at : (shown : Shown) (a b : EdgeFn) (set : List ℕ) (r s : Option Imported) → r ≡ s → ImportIs shown a set r → ImportIs shown b set s → IsAnswer shown a b set
+answer_at : (shown : Shown) (a b : EdgeFn) (set : List ℕ) (r s : Option Imported) → r ≡ s → ImportIs shown a set r → ImportIs shown b set s →
+    IsAnswer shown a b set
 answer_at shown a b set None None e ia ib = denied ia ib
 answer_at shown a b set None (Some i) e ia ib = absurd cc
 answer_at shown a b set (Some i) None e ia ib = absurd cc
 answer_at shown a b set (Some i) (Some j) e ia ib = let same : i ≡ j = cc in taken i ia (rw same ib)
 
-case_values : (shown : Shown) (p q : ℕ) (xs ys : List (ℕ × ℕ)) (set : List ℕ) (v w : ℕ) → IsOneOf shown p xs set → IsOneOf shown q ys set → case_or shown set xs v false ≡ true → case_or shown set ys v false ≡ true → case_or shown set xs w false ≡ case_or shown set ys w false
+case_values : (shown : Shown) (p q : ℕ) (xs ys : List (ℕ × ℕ)) (set : List ℕ) (v w : ℕ) → IsOneOf shown p xs set → IsOneOf shown q ys set →
+    case_or shown set xs v false ≡ true → case_or shown set ys v false ≡ true → case_or shown set xs w false ≡ case_or shown set ys w false
 case_values shown p q xs ys set v w one one' x y =
     both_true (case_or shown set xs w false) (case_or shown set ys w false)
     (λ t. let e : v ≡ w = one.one v w x t in rw e at y)
@@ -59,19 +61,23 @@ module _ (shown : Shown) (store : IsShown shown) (a b : EdgeFn) (f g : List ℕ 
   one_permit : AreOneImport f g → a.permit ≡ b.permit
   one_permit one = same_place_on_sets shown store a.permit b.permit of_a.permit_inside of_b.permit_inside (λ set up. permit_value set (answers one set up))
 
-not_key : (shown : Shown) (a : EdgeFn) (f : List ℕ → Option Imported) → IsEdgeFn shown a f → (b : Bool) → has (keys_of (by_number a.outs)) (outside_of shown.universe) ≡ b → has (keys_of (by_number a.outs)) (outside_of shown.universe) ≡ false
+not_key : (shown : Shown) (a : EdgeFn) (f : List ℕ → Option Imported) → IsEdgeFn shown a f → (b : Bool) →
+    has (keys_of (by_number a.outs)) (outside_of shown.universe) ≡ b → has (keys_of (by_number a.outs)) (outside_of shown.universe) ≡ false
 not_key shown a f is false e = e
 not_key shown a f is true e =
     let known = is.outs_known (outside_of shown.universe) e in
     let none = has_outside (outside_of shown.universe) shown.universe (all_below_outside shown.universe) in
     absurd cc
 
-outside_carried : (shown : Shown) (a : EdgeFn) (f : List ℕ → Option Imported) → IsEdgeFn shown a f → (set : List ℕ) → is_carried shown a (with_number (outside_of shown.universe) set) (outside_of shown.universe) ≡ value_of shown (with_number (outside_of shown.universe) set) a.rest
+outside_carried : (shown : Shown) (a : EdgeFn) (f : List ℕ → Option Imported) → IsEdgeFn shown a f → (set : List ℕ) →
+    is_carried shown a (with_number (outside_of shown.universe) set) (outside_of shown.universe) ≡ value_of shown (with_number (outside_of shown.universe) set)
+    a.rest
 outside_carried shown a f is set =
     let out = outside_of shown.universe in
     let none = not_key shown a f is (has (keys_of (by_number a.outs)) out) refl in
     let there : has (with_number (outside_of shown.universe) set) out ≡ true = has-with_number out set out ∙ rw (same_number out out refl) refl in
-    case_absent shown (with_number (outside_of shown.universe) set) (by_number a.outs) out (carried_by_rest shown a.rest out (with_number (outside_of shown.universe) set)) none ∙ rw there refl
+    case_absent shown (with_number (outside_of shown.universe) set) (by_number a.outs) out
+    (carried_by_rest shown a.rest out (with_number (outside_of shown.universe) set)) none ∙ rw there refl
 
 -- tables of communities with equal numbers are equal
 abbrev community_of : ℕ → Community
@@ -99,7 +105,8 @@ one_outs (x ∷ xs) (y ∷ ys) e =
     let rest : xs ≡ ys = one_outs xs ys (same_tails (x.0.0, x.1) (y.0.0, y.1) (by_number xs) (by_number ys) e) in
     ap (λ (h : Community × ℕ). h ∷ xs) first ∙ ap (λ (t : List (Community × ℕ)). y ∷ t) rest
 
-module _ (shown : Shown) (store : IsShown shown) (a b : EdgeFn) (f g : List ℕ → Option Imported) (of_a : IsEdgeFn shown a f) (of_b : IsEdgeFn shown b g) (one : AreOneImport f g) where
+module _ (shown : Shown) (store : IsShown shown) (a b : EdgeFn) (f g : List ℕ → Option Imported) (of_a : IsEdgeFn shown a f) (of_b : IsEdgeFn shown b g)
+    (one : AreOneImport f g) where
   rest_value : (set : List ℕ) → IsAscending set → value_of shown set a.rest ≡ value_of shown set b.rest
   rest_value set up =
       let out = outside_of shown.universe in
@@ -122,14 +129,17 @@ module _ (shown : Shown) (store : IsShown shown) (a b : EdgeFn) (f g : List ℕ 
   same_permit = one_permit shown store a b f g of_a of_b one
 
   pub same_lps : a.lps ≡ b.lps
-  same_lps = one_cases shown never a.lps b.lps store of_a.lps of_b.lps (record { same = λ key set up. lp_value shown store a b f g of_a of_b set key up (answers shown store a b f g of_a of_b one set up) })
+  same_lps = one_cases shown never a.lps b.lps store of_a.lps of_b.lps
+      (record { same = λ key set up. lp_value shown store a b f g of_a of_b set key up (answers shown store a b f g of_a of_b one set up) })
 
   pub same_adds : a.adds ≡ b.adds
-  same_adds = one_cases shown never a.adds b.adds store of_a.adds of_b.adds (record { same = λ key set up. adds_value shown store a b f g of_a of_b set key up (answers shown store a b f g of_a of_b one set up) })
+  same_adds = one_cases shown never a.adds b.adds store of_a.adds of_b.adds
+      (record { same = λ key set up. adds_value shown store a b f g of_a of_b set key up (answers shown store a b f g of_a of_b one set up) })
 
   pub same_outs : a.outs ≡ b.outs
   same_outs =
-      let outs : AreCases shown (carried_by_rest shown a.rest) (by_number b.outs) = subst (λ (r : ℕ). AreCases shown (carried_by_rest shown r) (by_number b.outs)) (sym same_rest) of_b.outs in
+      let outs : AreCases shown (carried_by_rest shown a.rest) (by_number b.outs) =
+      subst (λ (r : ℕ). AreCases shown (carried_by_rest shown r) (by_number b.outs)) (sym same_rest) of_b.outs in
       one_outs a.outs b.outs (one_cases shown (carried_by_rest shown a.rest) (by_number a.outs) (by_number b.outs) store of_a.outs outs (record {
         same = λ key set up.
             carried_value shown store a b f g of_a of_b set key up (answers shown store a b f g of_a of_b one set up)
@@ -143,11 +153,14 @@ imported_is : (i j : Imported) → i.lp ≡ j.lp → i.comms ≡ j.comms → i.a
 imported_is i j e1 e2 e3 = ap (λ x. made x i.comms i.adds) e1 ∙ ap (λ (x : List ℕ). made j.lp x i.adds) e2 ∙ ap (λ x. made j.lp j.comms x) e3
 
 -- diagrams give one import
-accept_one : (shown : Shown) (a : EdgeFn) (set : List ℕ) (i j : Imported) → IsOneOf shown a.permit a.lps set → IsOneOf shown a.permit a.adds set → GivesImport shown a set i → GivesImport shown a set j → i ≡ j
+accept_one : (shown : Shown) (a : EdgeFn) (set : List ℕ) (i j : Imported) → IsOneOf shown a.permit a.lps set → IsOneOf shown a.permit a.adds set →
+    GivesImport shown a set i → GivesImport shown a set j → i ≡ j
 accept_one shown a set i j lps adds x y =
-    imported_is i j (lps.one i.lp j.lp x.lp y.lp) (one_list i.comms j.comms x.ascending y.ascending (λ c. x.comms c ∙ sym (y.comms c))) (adds.one i.adds j.adds x.adds y.adds)
+    imported_is i j (lps.one i.lp j.lp x.lp y.lp) (one_list i.comms j.comms x.ascending y.ascending (λ c. x.comms c ∙ sym (y.comms c)))
+    (adds.one i.adds j.adds x.adds y.adds)
 
-pub import_one : (shown : Shown) (a : EdgeFn) (set : List ℕ) (r s : Option Imported) → IsOneOf shown a.permit a.lps set → IsOneOf shown a.permit a.adds set → ImportIs shown a set r → ImportIs shown a set s → r ≡ s
+pub import_one : (shown : Shown) (a : EdgeFn) (set : List ℕ) (r s : Option Imported) → IsOneOf shown a.permit a.lps set → IsOneOf shown a.permit a.adds set →
+    ImportIs shown a set r → ImportIs shown a set s → r ≡ s
 import_one shown a set None None lps adds x y = refl
 import_one shown a set None (Some j) lps adds x y = let e = y.permit in absurd cc
 import_one shown a set (Some i) None lps adds x y = let e = x.permit in absurd cc
@@ -162,13 +175,15 @@ edge_is a b e1 e2 e3 e4 e5 =
     ∙ ap (λ (x : List (ℕ × ℕ)). edge_made b.permit b.lps x a.outs a.rest) e3 ∙ ap (λ (x : List (Community × ℕ)). edge_made b.permit b.lps b.adds x a.rest) e4
     ∙ ap (λ x. edge_made b.permit b.lps b.adds b.outs x) e5
 
-pub one_import : (shown : Shown) (a b : EdgeFn) (f g : List ℕ → Option Imported) → IsEdgeFn shown a f → IsEdgeFn shown b g → HaveEqualParts a b → AreOneImport f g
+pub one_import : (shown : Shown) (a b : EdgeFn) (f g : List ℕ → Option Imported) → IsEdgeFn shown a f → IsEdgeFn shown b g → HaveEqualParts a b →
+    AreOneImport f g
 one_import shown a b f g of_a of_b parts =
     let e = edge_is a b parts.permit parts.lps parts.adds parts.outs parts.rest in
     let of_b' : IsEdgeFn shown a g = subst (λ (x : EdgeFn). IsEdgeFn shown x g) (sym e) of_b in
     record { same = λ set up. import_one shown a set (f set) (g set) (of_a.one_lp set up) (of_a.one_adds set up) (of_a.means set up) (of_b'.means set up) }
 
-pub equal_parts : (shown : Shown) → IsShown shown → (a b : EdgeFn) (f g : List ℕ → Option Imported) → IsEdgeFn shown a f → IsEdgeFn shown b g → AreOneImport f g → HaveEqualParts a b
+pub equal_parts : (shown : Shown) → IsShown shown → (a b : EdgeFn) (f g : List ℕ → Option Imported) → IsEdgeFn shown a f → IsEdgeFn shown b g →
+    AreOneImport f g → HaveEqualParts a b
 equal_parts shown store a b f g of_a of_b one = record {
   permit = same_permit shown store a b f g of_a of_b one;
   rest = same_rest shown store a b f g of_a of_b one;

@@ -32,14 +32,16 @@ above_key n [] i all inside = absurd (omega arith)
 above_key n (case ∷ cases) zero all inside = all.0
 above_key n (case ∷ cases) (suc i) all inside = above_key n cases i all.1 (omega arith)
 
-pub case_of_index : (shown : Shown) (set : List ℕ) (cases : List (ℕ × ℕ)) (i : ℕ) (other : Bool) → IsAscending (keys_of cases) → i < length cases → case_or shown set cases (get_or cases i (0, 0)).0 other ≡ value_of shown set (get_or cases i (0, 0)).1
+pub case_of_index : (shown : Shown) (set : List ℕ) (cases : List (ℕ × ℕ)) (i : ℕ) (other : Bool) → IsAscending (keys_of cases) → i < length cases →
+    case_or shown set cases (get_or cases i (0, 0)).0 other ≡ value_of shown set (get_or cases i (0, 0)).1
 case_of_index shown set [] i other up inside = absurd (omega arith)
 case_of_index shown set (case ∷ cases) zero other up inside = case_here shown set case cases case.0 other refl
 case_of_index shown set (case ∷ cases) (suc i) other up inside =
     let lt = above_key case.0 cases i up.0 (omega arith) in
     case_later shown set case cases (get_or cases i (0, 0)).0 other (omega arith) ∙ case_of_index shown set cases i other up.1 (omega arith)
 
-pub below_at : (cases : List (ℕ × ℕ)) (i : ℕ) → IsAscending (keys_of cases) → i < length cases → (k : ℕ) → has (keys_of (take i cases)) k ≡ true → k < (get_or cases i (0, 0)).0
+pub below_at : (cases : List (ℕ × ℕ)) (i : ℕ) → IsAscending (keys_of cases) → i < length cases → (k : ℕ) → has (keys_of (take i cases)) k ≡ true →
+    k < (get_or cases i (0, 0)).0
 below_at [] i up inside k there = absurd (omega arith)
 below_at (case ∷ cases) zero up inside k there = absurd cc
 below_at (case ∷ cases) (suc i) up inside k there = elim (cases_eq case.0 k) [
@@ -63,9 +65,11 @@ below_number (x ∷ xs) (suc i) up inside k there = elim (cases_eq x k) [
 pub has_key_at : (cases : List (ℕ × ℕ)) (i : ℕ) → i < length cases → has (keys_of cases) (get_or cases i (0, 0)).0 ≡ true
 has_key_at [] i inside = absurd (omega arith)
 has_key_at (case ∷ cases) zero inside = rw (same_number case.0 case.0 refl) refl
-has_key_at (case ∷ cases) (suc i) inside = or_there (nat_eq case.0 (get_or cases i (0, 0)).0) (has (keys_of cases) (get_or cases i (0, 0)).0) (has_key_at cases i (omega arith))
+has_key_at (case ∷ cases) (suc i) inside =
+    or_there (nat_eq case.0 (get_or cases i (0, 0)).0) (has (keys_of cases) (get_or cases i (0, 0)).0) (has_key_at cases i (omega arith))
 
-all_cases_append : (shown : Shown) (other : ℕ → List ℕ → Bool) (xs : List (ℕ × ℕ)) (y : ℕ × ℕ) → AllCases shown other xs → IsCase shown other y → AllCases shown other (xs ++ y ∷ [])
+all_cases_append : (shown : Shown) (other : ℕ → List ℕ → Bool) (xs : List (ℕ × ℕ)) (y : ℕ × ℕ) → AllCases shown other xs → IsCase shown other y →
+    AllCases shown other (xs ++ y ∷ [])
 all_cases_append shown other [] y all is = (is, tt)
 all_cases_append shown other (x ∷ xs) y all is = (all.0, all_cases_append shown other xs y all.1 is)
 
@@ -77,7 +81,8 @@ or_false : (b : Bool) → b || false ≡ b
 or_false true = refl
 or_false false = refl
 
-module _ (mid new : Shown) (other test : ℕ → List ℕ → Bool) (keys : List ℕ) (cases : List (ℕ × ℕ)) (key node plain : ℕ) (g : Grows mid new) (selection : IsSelection mid other test keys cases) (below : (k : ℕ) → has keys k ≡ true → k < key)
+module _ (mid new : Shown) (other test : ℕ → List ℕ → Bool) (keys : List ℕ) (cases : List (ℕ × ℕ)) (key node plain : ℕ) (g : Grows mid new)
+    (selection : IsSelection mid other test keys cases) (below : (k : ℕ) → has keys k ≡ true → k < key)
     (of_node : Means new node (λ set. test key set)) (of_plain : Means new plain (λ set. other key set)) where
   new_key : (b : Bool) → has keys key ≡ b → b ≡ false
   new_key true e = let lt = below key e in absurd (omega arith)
@@ -99,14 +104,17 @@ module _ (mid new : Shown) (other test : ℕ → List ℕ → Bool) (keys : List
   has_last : (k : ℕ) → has (keys ++ key ∷ []) k ≡ has keys k || nat_eq key k
   has_last k = has-append keys (key ∷ []) k ∙ ap (λ b. has keys k || b) (or_false (nat_eq key k))
 
-  value_left : ((set : List ℕ) → value_of new set node ≡ value_of new set plain) → (set : List ℕ) (k : ℕ) → (key ≡ k) ⊎ (key ≢ k) → (if has keys k then test k set else other k set) ≡ (if has keys k || nat_eq key k then test k set else other k set)
+  value_left : ((set : List ℕ) → value_of new set node ≡ value_of new set plain) → (set : List ℕ) (k : ℕ) → (key ≡ k) ⊎ (key ≢ k) →
+      (if has keys k then test k set else other k set) ≡ (if has keys k || nat_eq key k then test k set else other k set)
   value_left same set k (inl e) =
       let none : has keys k ≡ false = ap (has keys) (sym e) ∙ not_there in
-      let equal : other k set ≡ test k set = ap (λ n. other n set) (sym e) ∙ sym (of_plain.value set) ∙ sym (same set) ∙ of_node.value set ∙ ap (λ n. test n set) e in
+      let equal : other k set ≡ test k set = ap (λ n. other n set) (sym e) ∙ sym (of_plain.value set) ∙ sym (same set) ∙ of_node.value set
+      ∙ ap (λ n. test n set) e in
       rw (none, same_number key k e) equal
   value_left same set k (inr ne) = rw (other_number key k ne, or_false (has keys k)) refl
 
-  value_pushed : (set : List ℕ) (k : ℕ) → (key ≡ k) ⊎ (key ≢ k) → case_or new set cases k (if nat_eq key k then value_of new set node else other k set) ≡ (if has keys k || nat_eq key k then test k set else other k set)
+  value_pushed : (set : List ℕ) (k : ℕ) → (key ≡ k) ⊎ (key ≢ k) →
+      case_or new set cases k (if nat_eq key k then value_of new set node else other k set) ≡ (if has keys k || nat_eq key k then test k set else other k set)
   value_pushed set k (inl e) =
       let none : has keys k ≡ false = ap (has keys) (sym e) ∙ not_there in
       let absent : has (keys_of cases) k ≡ false = ap (has (keys_of cases)) (sym e) ∙ no_case in
@@ -127,9 +135,12 @@ module _ (mid new : Shown) (other test : ℕ → List ℕ → Bool) (keys : List
       ascending = differ.ascending;
       differ = λ same. differ.differ (same ∙ sym (of_plain.value differ.set));
     });
-    ascending = rw (keys-append cases ((key, node) ∷ [])) (ascending_push (keys_of cases) key selection.ascending (λ k there. below k (selection.keys_are k there)));
-    keys_are = λ k there. has_last k ∙ in_either k (has keys k) refl (sym (ap (λ (l : List ℕ). has l k) (keys-append cases ((key, node) ∷ [])) ∙ has-append (keys_of cases) (key ∷ []) k) ∙ there);
-    value = λ set k. case-append new set cases ((key, node) ∷ []) k (other k set) ∙ value_pushed set k (cases_eq key k) ∙ ap (λ b. if b then test k set else other k set) (sym (has_last k));
+    ascending = rw (keys-append cases ((key, node) ∷ []))
+        (ascending_push (keys_of cases) key selection.ascending (λ k there. below k (selection.keys_are k there)));
+    keys_are = λ k there. has_last k ∙ in_either k (has keys k) refl
+        (sym (ap (λ (l : List ℕ). has l k) (keys-append cases ((key, node) ∷ [])) ∙ has-append (keys_of cases) (key ∷ []) k) ∙ there);
+    value = λ set k. case-append new set cases ((key, node) ∷ []) k (other k set) ∙ value_pushed set k (cases_eq key k)
+        ∙ ap (λ b. if b then test k set else other k set) (sym (has_last k));
   })
     where
       in_either : (k : ℕ) (b : Bool) → has keys k ≡ b → has (keys_of cases) k || (nat_eq key k || false) ≡ true → b || nat_eq key k ≡ true
@@ -140,7 +151,8 @@ module _ (mid new : Shown) (other test : ℕ → List ℕ → Bool) (keys : List
           by true e' there' = let in_keys = selection.keys_are k e' in absurd cc
           by false e' there' = there'
 
-pub selection_cases : (shown : Shown) (other test : ℕ → List ℕ → Bool) (keys : List ℕ) (cases : List (ℕ × ℕ)) → IsSelection shown other test keys cases → AreCases shown other cases
+pub selection_cases : (shown : Shown) (other test : ℕ → List ℕ → Bool) (keys : List ℕ) (cases : List (ℕ × ℕ)) → IsSelection shown other test keys cases →
+    AreCases shown other cases
 selection_cases shown other test keys cases selection = record { ascending = selection.ascending; each = selection.each }
 
 pub has_index : (xs : List ℕ) (i : ℕ) → i < length xs → has xs (get_or xs i 0) ≡ true

@@ -14,7 +14,8 @@ use Rattle.policy_dd.specs.Import.{second_deciding, accepts, others_kept, carrie
 
 -- the two maps on what is known of each set: the set's communities, and a test that tells whether there
 -- are others
-pub record IsCrossed (shown : Shown) (universe : List ℕ) (others : List ℕ → Bool) (out : List PlainEntry) (sends : Bool) (into : List PlainEntry) (r : Crossing) : Type 0 where
+pub record IsCrossed (shown : Shown) (universe : List ℕ) (others : List ℕ → Bool) (out : List PlainEntry) (sends : Bool) (into : List PlainEntry)
+    (r : Crossing) : Type 0 where
   pub first_inside : AreMapInside shown r.first
   pub second_inside : AreMapInside shown r.second
   pub end_inside : AreNodesInside shown r.end
@@ -42,17 +43,20 @@ pub record IsOutPushed (old new : Shown) (outs : List (ℕ × ℕ)) (permit : �
 pub record AreOuts (old new : Shown) (permit : ℕ) (carried : Carried) (rest : ℕ) (outs : List (ℕ × ℕ)) : Type 0 where
   pub cases : AreCases new (carried_by_rest old rest) outs
   pub known : (c : ℕ) → has (keys_of outs) c ≡ true → has old.universe c ≡ true
-  pub value : (set : List ℕ) (c : ℕ) → has old.universe c ≡ true → case_or new set outs c (carried_by_rest old rest c set) ≡ value_of old set permit && has_in old carried set c
+  pub value : (set : List ℕ) (c : ℕ) → has old.universe c ≡ true → case_or new set outs c (carried_by_rest old rest c set) ≡ value_of old set permit
+      && has_in old carried set c
 
 -- the nodes of both maps put together, with one that tells whether a community more would be kept
 pub record IsPutTogether (old new : Shown) (seen : Crossing) (beyond : ℕ) (edge : EdgeFn) : Type 0 where
   pub permit_inside : edge.permit < length new.nodes
   pub rest_inside : edge.rest < length new.nodes
   pub permit : (set : List ℕ) → value_of new set edge.permit ≡ value_of old set seen.first.permit && value_of old set seen.second.permit
-  pub rest : (set : List ℕ) → value_of new set edge.rest ≡ (value_of old set seen.first.permit && value_of old set seen.second.permit) && value_of old set beyond
+  pub rest : (set : List ℕ) → value_of new set edge.rest ≡ (value_of old set seen.first.permit && value_of old set seen.second.permit)
+      && value_of old set beyond
   pub lps : (set : List ℕ) (k : ℕ) → case_or new set edge.lps k false ≡ case_or old set seen.second.lps k false && value_of old set seen.first.permit
   pub adds : (set : List ℕ) (k : ℕ) → case_or new set edge.adds k false ≡ case_or old set seen.first.adds k false && value_of old set seen.second.permit
-  pub outs : (set : List ℕ) (c : ℕ) → has new.universe c ≡ true → is_carried new edge set c ≡ (value_of old set seen.first.permit && value_of old set seen.second.permit) && has_in old seen.end set c
+  pub outs : (set : List ℕ) (c : ℕ) → has new.universe c ≡ true →
+      is_carried new edge set c ≡ (value_of old set seen.first.permit && value_of old set seen.second.permit) && has_in old seen.end set c
   pub lps_cases : AreCases new never edge.lps
   pub adds_cases : AreCases new never edge.adds
   pub outs_cases : AreCases new (carried_by_rest new edge.rest) (by_number edge.outs)
@@ -62,11 +66,18 @@ pub record IsBuilt (shown : Shown) (edge : EdgeFn) (out : List PlainEntry) (send
   pub permit_inside : edge.permit < length shown.nodes
   pub rest_inside : edge.rest < length shown.nodes
   pub permit : (set : List ℕ) → value_of shown set edge.permit ≡ accepts shown.universe out sends into (has set) (has_others shown.universe set)
-  pub lps : (set : List ℕ) (k : ℕ) → case_or shown set edge.lps k false ≡ decided permits_it (first_of shown.universe out (has set) (has_others shown.universe set)) && decided (prefers k) (second_deciding shown.universe out sends into (has set) (has_others shown.universe set))
-  pub adds : (set : List ℕ) (k : ℕ) → case_or shown set edge.adds k false ≡ decided (adds_it k) (first_of shown.universe out (has set) (has_others shown.universe set)) && decided permits_it (second_deciding shown.universe out sends into (has set) (has_others shown.universe set))
+  pub lps : (set : List ℕ) (k : ℕ) → case_or shown set edge.lps k false ≡ decided permits_it
+      (first_of shown.universe out (has set) (has_others shown.universe set))
+      && decided (prefers k) (second_deciding shown.universe out sends into (has set) (has_others shown.universe set))
+  pub adds : (set : List ℕ) (k : ℕ) → case_or shown set edge.adds k false ≡ decided (adds_it k)
+      (first_of shown.universe out (has set) (has_others shown.universe set))
+      && decided permits_it (second_deciding shown.universe out sends into (has set) (has_others shown.universe set))
   -- the run that makes `rest` has `true` in the place of `others`
-  pub rest : (set : List ℕ) → value_of shown set edge.rest ≡ accepts shown.universe out sends into (has set) (has_others shown.universe set) && others_kept shown.universe out sends into (has set) true
-  pub outs : (set : List ℕ) (c : ℕ) → has shown.universe c ≡ true → is_carried shown edge set c ≡ accepts shown.universe out sends into (has set) (has_others shown.universe set) && carries shown.universe out sends into (has set) (has_others shown.universe set) c
+  pub rest : (set : List ℕ) → value_of shown set edge.rest ≡ accepts shown.universe out sends into (has set) (has_others shown.universe set)
+      && others_kept shown.universe out sends into (has set) true
+  pub outs : (set : List ℕ) (c : ℕ) → has shown.universe c ≡ true →
+      is_carried shown edge set c ≡ accepts shown.universe out sends into (has set) (has_others shown.universe set)
+      && carries shown.universe out sends into (has set) (has_others shown.universe set) c
   pub lps_cases : AreCases shown never edge.lps
   pub adds_cases : AreCases shown never edge.adds
   pub outs_cases : AreCases shown (carried_by_rest shown edge.rest) (by_number edge.outs)

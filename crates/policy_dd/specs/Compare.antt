@@ -25,4 +25,5 @@ keys_differ xs ys = list_any (λ x. key_differs x.0 ys) xs
 
 -- functions in one store that import every set alike have the same nodes
 abbrev pub OneForm : Type 0
-OneForm = (shown : Shown) (a b : EdgeFn) (f g : List ℕ → Option Imported) → IsShown shown → IsEdgeFn shown a f → IsEdgeFn shown b g → AreOneImport f g → HaveEqualParts a b
+OneForm = (shown : Shown) (a b : EdgeFn) (f g : List ℕ → Option Imported) → IsShown shown → IsEdgeFn shown a f → IsEdgeFn shown b g → AreOneImport f g →
+    HaveEqualParts a b

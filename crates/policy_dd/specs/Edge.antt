@@ -85,4 +85,5 @@ pub record IsEdgeFn (shown : Shown) (edge : EdgeFn) (import : List ℕ → Optio
   pub outs : AreCases shown (carried_by_rest shown edge.rest) (by_number edge.outs)
   pub outs_known : (c : ℕ) → has (keys_of (by_number edge.outs)) c ≡ true → has shown.universe c ≡ true
   pub outs_implied : (set : List ℕ) (c : ℕ) → IsAscending set → value_of shown set edge.permit ≡ false → is_carried shown edge set c ≡ false
-  pub rest : (set : List ℕ) (outside : ℕ) → IsAscending set → has shown.universe outside ≡ false → value_of shown set edge.rest ≡ value_of shown set edge.permit && value_of shown (with_number outside set) edge.rest
+  pub rest : (set : List ℕ) (outside : ℕ) → IsAscending set → has shown.universe outside ≡ false → value_of shown set edge.rest ≡ value_of shown set edge.permit
+      && value_of shown (with_number outside set) edge.rest

@@ -24,7 +24,8 @@ pub record DifferInPreference (f g : List ℕ → Option Imported) : Type 0 wher
 
 -- all accepted imports of both have one preference
 pub record HaveOnePreference (f g : List ℕ → Option Imported) : Type 0 where
-  pub same : (set other : List ℕ) (first second : Imported) → IsAscending set → IsAscending other → f set ≡ Some first → g other ≡ Some second → first.lp ≡ second.lp
+  pub same : (set other : List ℕ) (first second : Imported) → IsAscending set → IsAscending other → f set ≡ Some first → g other ≡ Some second →
+      first.lp ≡ second.lp
 
 -- some set is accepted
 pub record AcceptsSome (f : List ℕ → Option Imported) : Type 0 where

@@ -74,7 +74,8 @@ decides_by old carried m set entry = not (value_of old set m.before) && entry_by
 -- one entry more
 pub record IsPushed (old new : Shown) (carried : Carried) (m r : MapFn) (entry : PlainEntry) : Type 0 where
   pub inside : AreMapInside new r
-  pub before : (set : List ℕ) → value_of new set r.before ≡ value_of old set m.before || entry_by old.universe (has_in old carried set) (value_of old set carried.others) entry
+  pub before : (set : List ℕ) → value_of new set r.before ≡ value_of old set m.before
+      || entry_by old.universe (has_in old carried set) (value_of old set carried.others) entry
   pub permit : (set : List ℕ) → value_of new set r.permit ≡ value_of old set m.permit || (decides_by old carried m set entry && permits_it entry)
   pub rest : (set : List ℕ) → value_of new set r.rest ≡ value_of old set m.rest || (decides_by old carried m set entry && leaves_rest entry)
   pub lps : IsMore old new m.lps r.lps (λ key set. decides_by old carried m set entry && prefers key entry)

@@ -32,7 +32,8 @@ same_bgp s b c stands = (tt, λ u. kept u)
     kept host_name = rw stands refl
     kept _ = rw stands refl
 
-bgp_takes : (l : TextLine) (b : BgpProcess) (r : Result RouterItem FormFault) → router_item_of scope.Bgp l.number l.words ≡ r → take_inner l (in_bgp b) ≡ (said_at l.number r >>= (λ (said : RouterItem). set_bgp l.number said b >>= (λ (c : BgpProcess). Ok (in_bgp c))))
+bgp_takes : (l : TextLine) (b : BgpProcess) (r : Result RouterItem FormFault) → router_item_of scope.Bgp l.number l.words ≡ r →
+    take_inner l (in_bgp b) ≡ (said_at l.number r >>= (λ (said : RouterItem). set_bgp l.number said b >>= (λ (c : BgpProcess). Ok (in_bgp c))))
 unfolding take_inner
 bgp_takes l b r read = rw read refl
 
@@ -50,7 +51,8 @@ unfolding has_network
 has_net b x (network q) = any_push (λ (net : NetLine). same_prefix net.prefix q) b.networks x
 has_net b x _ = refl
 
-has_peer : (b : BgpProcess) (n addr remote : ℕ) (p : Part) → bgp_has (record b { neighbors = b.neighbors ++ new_neighbor n addr remote ∷ [] }) p ≡ (same_part (remote_as addr) p || bgp_has b p)
+has_peer : (b : BgpProcess) (n addr remote : ℕ) (p : Part) →
+    bgp_has (record b { neighbors = b.neighbors ++ new_neighbor n addr remote ∷ [] }) p ≡ (same_part (remote_as addr) p || bgp_has b p)
 unfolding has_neighbor
 has_peer b n addr remote (remote_as a) = any_push (λ (p : Neighbor). p.addr == a) b.neighbors (new_neighbor n addr remote)
 has_peer b n addr remote (list_in a) = push_test has_list_in (new_neighbor n addr remote) refl b.neighbors a
@@ -69,38 +71,57 @@ abbrev peers_in : BgpProcess → List Neighbor → Stanza
 peers_in b peers = in_bgp (record b { neighbors = peers })
 
 -- the neighbour stands: the line is its first of this kind, or is repeated
-known_case : (past : List TextLine) (l : TextLine) (s : State) (b : BgpProcess) (addr : ℕ) (o : Option Part) (peers : List Neighbor) → Within past l s bgp (in_bgp b) → inner_says l (within bgp) ≡ Ok (peer_line addr o) → is_given past (part bgp (remote_as addr)) ≡ true
+known_case : (past : List TextLine) (l : TextLine) (s : State) (b : BgpProcess) (addr : ℕ) (o : Option Part) (peers : List Neighbor) →
+    Within past l s bgp (in_bgp b) → inner_says l (within bgp) ≡ Ok (peer_line addr o) → is_given past (part bgp (remote_as addr)) ≡ true
     → ((p : Part) → bgp_has (record b { neighbors = peers }) p ≡ (adds_part o p || bgp_has b p))
-    → (c : Bool) → take_inner l (in_bgp b) ≡ (once l.number c peers >>= (λ (ps : List Neighbor). Ok (peers_in b ps))) → repeated past l.number (of bgp o) ≡ when c (refusal.At l.number kind.Repeated) → Outcome past l s
+    → (c : Bool) → take_inner l (in_bgp b) ≡ (once l.number c peers >>= (λ (ps : List Neighbor). Ok (peers_in b ps))) →
+    repeated past l.number (of bgp o) ≡ when c (refusal.At l.number kind.Repeated) → Outcome past l s
 known_case past l s b addr o peers w told stands adds true takes again =
-    inl (refusal.At l.number kind.Repeated, inner_step s l (in_bgp b) w.inner w.stands ∙ rw takes refl, fault_within past l bgp (Ok (peer_line addr o)) w.inner w.opened told ∙ rw (stands, again) refl)
+    inl (
+      refusal.At l.number kind.Repeated,
+      inner_step s l (in_bgp b) w.inner w.stands
+          ∙ rw takes refl,
+      fault_within past l bgp (Ok (peer_line addr o)) w.inner w.opened told ∙ rw (stands, again) refl,
+    )
 known_case past l s b addr o peers w told stands adds false takes again =
-    goes_on past l s bgp (in_bgp b) (peers_in b peers) o (peer_line addr o) w told refl refl (fault_within past l bgp (Ok (peer_line addr o)) w.inner w.opened told ∙ rw (stands, again) refl) takes (same_bgp s b (record b { neighbors = peers }) w.stands) adds
+    goes_on past l s bgp (in_bgp b) (peers_in b peers) o (peer_line addr o) w told refl refl
+    (fault_within past l bgp (Ok (peer_line addr o)) w.inner w.opened told ∙ rw (stands, again) refl) takes
+    (same_bgp s b (record b { neighbors = peers }) w.stands) adds
 
 -- what a line of a neighbour does: it changes the neighbour where it passes no test yet
 abbrev Changes : ℕ → (Neighbor → Result Neighbor ReadRefusal) → (Neighbor → Bool) → (Neighbor → Neighbor) → Type 0
 Changes n change test put = (p : Neighbor) → change p ≡ once n (test p) (put p)
 
 regroup : (n : ℕ) (c : Bool) (b : BgpProcess) (peers : List Neighbor)
-    → ((once n c peers >>= (λ (ps : List Neighbor). Ok (record b { neighbors = ps }))) >>= (λ (d : BgpProcess). Ok (in_bgp d))) ≡ (once n c peers >>= (λ (ps : List Neighbor). Ok (peers_in b ps)))
+    → ((once n c peers >>= (λ (ps : List Neighbor). Ok (record b { neighbors = ps }))) >>= (λ (d : BgpProcess). Ok (in_bgp d))) ≡ (once n c peers >>=
+    (λ (ps : List Neighbor). Ok (peers_in b ps)))
 regroup n true b peers = refl
 regroup n false b peers = refl
 
-peer_case : (past : List TextLine) (l : TextLine) (s : State) (b : BgpProcess) (addr : ℕ) (o : Option Part) (said : RouterItem) (test : Neighbor → Bool) (put : Neighbor → Neighbor) → Within past l s bgp (in_bgp b) → inner_says l (within bgp) ≡ Ok (peer_line addr o)
-    → take_inner l (in_bgp b) ≡ ((at_neighbor l.number addr (set_neighbor l.number said) b.neighbors >>= (λ (ps : List Neighbor). Ok (record b { neighbors = ps }))) >>= (λ (d : BgpProcess). Ok (in_bgp d)))
+peer_case : (past : List TextLine) (l : TextLine) (s : State) (b : BgpProcess) (addr : ℕ) (o : Option Part) (said : RouterItem) (test : Neighbor → Bool)
+    (put : Neighbor → Neighbor) → Within past l s bgp (in_bgp b) → inner_says l (within bgp) ≡ Ok (peer_line addr o)
+    → take_inner l (in_bgp b) ≡ ((at_neighbor l.number addr (set_neighbor l.number said) b.neighbors >>=
+    (λ (ps : List Neighbor). Ok (record b { neighbors = ps }))) >>= (λ (d : BgpProcess). Ok (in_bgp d)))
     → Changes l.number (set_neighbor l.number said) test put
     → (has_neighbor b.neighbors addr ≡ true → (p : Part) → bgp_has (record b { neighbors = put_at addr put b.neighbors }) p ≡ (adds_part o p || bgp_has b p))
     → repeated past l.number (of bgp o) ≡ when (peer_has test b.neighbors addr) (refusal.At l.number kind.Repeated)
     → (c : Bool) → has_neighbor b.neighbors addr ≡ c → Outcome past l s
 peer_case past l s b addr o said test put w told takes changes adds again false has =
     let was : is_given past (part bgp (remote_as addr)) ≡ false = sym (w.parts (remote_as addr)) ∙ has in
-    inl (refusal.At l.number kind.Misplaced, inner_step s l (in_bgp b) w.inner w.stands ∙ rw (takes, at_stranger l.number addr (set_neighbor l.number said) b.neighbors has) refl, fault_within past l bgp (Ok (peer_line addr o)) w.inner w.opened told ∙ rw was refl)
+    inl (
+      refusal.At l.number kind.Misplaced,
+      inner_step s l (in_bgp b) w.inner w.stands
+          ∙ rw (takes, at_stranger l.number addr (set_neighbor l.number said) b.neighbors has) refl,
+      fault_within past l bgp (Ok (peer_line addr o)) w.inner w.opened told ∙ rw was refl,
+    )
 peer_case past l s b addr o said test put w told takes changes adds again true has =
     known_case past l s b addr o (put_at addr put b.neighbors) w told (sym (w.parts (remote_as addr)) ∙ has) (adds has) (peer_has test b.neighbors addr)
-    (takes ∙ rw (at_known l.number addr (set_neighbor l.number said) test put changes b.neighbors has) (regroup l.number (peer_has test b.neighbors addr) b (put_at addr put b.neighbors))) again
+    (takes ∙ rw (at_known l.number addr (set_neighbor l.number said) test put changes b.neighbors has)
+    (regroup l.number (peer_has test b.neighbors addr) b (put_at addr put b.neighbors))) again
 
 -- what is given a neighbour is repeated
-again_part : (past : List TextLine) (l : TextLine) (s : State) (b : BgpProcess) (q : Part) → Within past l s bgp (in_bgp b) → repeated past l.number (Some (part bgp q)) ≡ when (bgp_has b q) (refusal.At l.number kind.Repeated)
+again_part : (past : List TextLine) (l : TextLine) (s : State) (b : BgpProcess) (q : Part) → Within past l s bgp (in_bgp b) →
+    repeated past l.number (Some (part bgp q)) ≡ when (bgp_has b q) (refusal.At l.number kind.Repeated)
 again_part past l s b q w = rw (w.parts q) refl
 
 abbrev no_test : Neighbor → Bool
@@ -114,7 +135,8 @@ never n addr (p ∷ peers) = rw (never n addr peers) (alike (p.addr == addr))
     alike true = refl
     alike false = refl
 
-again_none : (past : List TextLine) (l : TextLine) (b : BgpProcess) (addr : ℕ) → repeated past l.number None ≡ when (peer_has no_test b.neighbors addr) (refusal.At l.number kind.Repeated)
+again_none : (past : List TextLine) (l : TextLine) (b : BgpProcess) (addr : ℕ) →
+    repeated past l.number None ≡ when (peer_has no_test b.neighbors addr) (refusal.At l.number kind.Repeated)
 again_none past l b addr = rw (never l.number addr b.neighbors) refl
 
 -- the five kinds of lines of a neighbour, by the parts that they give
@@ -158,33 +180,55 @@ put_map_out x p = record p { map_out = Some x }
 
 -- ---- each line of the process
 
-pub bgp_case : (past : List TextLine) (l : TextLine) (s : State) (b : BgpProcess) → Within past l s bgp (in_bgp b) → (r : Result RouterItem FormFault) → router_item_of scope.Bgp l.number l.words ≡ r → Outcome past l s
+pub bgp_case : (past : List TextLine) (l : TextLine) (s : State) (b : BgpProcess) → Within past l s bgp (in_bgp b) → (r : Result RouterItem FormFault) →
+    router_item_of scope.Bgp l.number l.words ≡ r → Outcome past l s
 unfolding set_bgp set_process set_neighbor
 bgp_case past l s b w (Err f) read = stops past l s bgp (in_bgp b) f w (bgp_says l _ read) (bgp_takes l b _ read)
 bgp_case past l s b w (Ok (item.Base x)) read =
-    gives_part past l s bgp (in_bgp b) preference in_bgp (record b { base = Some x }) w (bgp_says l _ read) (bgp_takes l b _ read) (same_bgp s b (record b { base = Some x }) w.stands) (has_base b x) (is_some b.base) refl
+    gives_part past l s bgp (in_bgp b) preference in_bgp (record b { base = Some x }) w (bgp_says l _ read) (bgp_takes l b _ read)
+    (same_bgp s b (record b { base = Some x }) w.stands) (has_base b x) (is_some b.base) refl
 bgp_case past l s b w (Ok (item.Network x)) read =
-    gives_part past l s bgp (in_bgp b) (network x.prefix) in_bgp (record b { networks = b.networks ++ x ∷ [] }) w (bgp_says l _ read) (bgp_takes l b _ read) (same_bgp s b (record b { networks = b.networks ++ x ∷ [] }) w.stands) (has_net b x) (has_network b.networks x.prefix) refl
+    gives_part past l s bgp (in_bgp b) (network x.prefix) in_bgp (record b { networks = b.networks ++ x ∷ [] }) w (bgp_says l _ read) (bgp_takes l b _ read)
+    (same_bgp s b (record b { networks = b.networks ++ x ∷ [] }) w.stands) (has_net b x) (has_network b.networks x.prefix) refl
 bgp_case past l s b w (Ok (item.RemoteAs addr remote)) read =
     let c : BgpProcess = record b { neighbors = b.neighbors ++ new_neighbor l.number addr remote ∷ [] } in
-    gives_part past l s bgp (in_bgp b) (remote_as addr) in_bgp c w (bgp_says l _ read) (bgp_takes l b _ read) (same_bgp s b c w.stands) (has_peer b l.number addr remote) (has_neighbor b.neighbors addr) refl
+    gives_part past l s bgp (in_bgp b) (remote_as addr) in_bgp c w (bgp_says l _ read) (bgp_takes l b _ read) (same_bgp s b c w.stands)
+    (has_peer b l.number addr remote) (has_neighbor b.neighbors addr) refl
 bgp_case past l s b w (Ok (item.PeerShut addr)) read =
-    let puts : Puts addr put_shut false false false false = record { same_addr = λ p. refl; lists_in = λ p. refl; lists_out = λ p. refl; maps_in = λ p. refl; maps_out = λ p. refl } in
-    peer_case past l s b addr None (item.PeerShut addr) no_test put_shut w (bgp_says l _ read) (bgp_takes l b _ read) (λ p. refl) (λ has p. put_parts b addr put_shut false false false false puts has p ∙ rw (of_none addr p) refl) (again_none past l b addr) (has_neighbor b.neighbors addr) refl
+    let puts : Puts addr put_shut false false false false =
+    record { same_addr = λ p. refl; lists_in = λ p. refl; lists_out = λ p. refl; maps_in = λ p. refl; maps_out = λ p. refl } in
+    peer_case past l s b addr None (item.PeerShut addr) no_test put_shut w (bgp_says l _ read) (bgp_takes l b _ read) (λ p. refl)
+    (λ has p. put_parts b addr put_shut false false false false puts has p ∙ rw (of_none addr p) refl) (again_none past l b addr)
+    (has_neighbor b.neighbors addr) refl
 bgp_case past l s b w (Ok (item.PeerSends addr)) read =
-    let puts : Puts addr put_sends false false false false = record { same_addr = λ p. refl; lists_in = λ p. refl; lists_out = λ p. refl; maps_in = λ p. refl; maps_out = λ p. refl } in
-    peer_case past l s b addr None (item.PeerSends addr) no_test put_sends w (bgp_says l _ read) (bgp_takes l b _ read) (λ p. refl) (λ has p. put_parts b addr put_sends false false false false puts has p ∙ rw (of_none addr p) refl) (again_none past l b addr) (has_neighbor b.neighbors addr) refl
+    let puts : Puts addr put_sends false false false false =
+    record { same_addr = λ p. refl; lists_in = λ p. refl; lists_out = λ p. refl; maps_in = λ p. refl; maps_out = λ p. refl } in
+    peer_case past l s b addr None (item.PeerSends addr) no_test put_sends w (bgp_says l _ read) (bgp_takes l b _ read) (λ p. refl)
+    (λ has p. put_parts b addr put_sends false false false false puts has p ∙ rw (of_none addr p) refl) (again_none past l b addr)
+    (has_neighbor b.neighbors addr) refl
 bgp_case past l s b w (Ok (item.PeerList addr x true)) read =
-    let puts : Puts addr (put_list_in x) true false false false = record { same_addr = λ p. refl; lists_in = λ p. refl; lists_out = λ p. refl; maps_in = λ p. refl; maps_out = λ p. refl } in
-    peer_case past l s b addr (Some (list_in addr)) (item.PeerList addr x true) has_list_in (put_list_in x) w (bgp_says l _ read) (bgp_takes l b _ read) (λ p. refl) (λ has p. put_parts b addr (put_list_in x) true false false false puts has p ∙ rw (of_list_in addr p) refl) (again_part past l s b (list_in addr) w) (has_neighbor b.neighbors addr) refl
+    let puts : Puts addr (put_list_in x) true false false false =
+    record { same_addr = λ p. refl; lists_in = λ p. refl; lists_out = λ p. refl; maps_in = λ p. refl; maps_out = λ p. refl } in
+    peer_case past l s b addr (Some (list_in addr)) (item.PeerList addr x true) has_list_in (put_list_in x) w (bgp_says l _ read) (bgp_takes l b _ read)
+    (λ p. refl) (λ has p. put_parts b addr (put_list_in x) true false false false puts has p ∙ rw (of_list_in addr p) refl)
+    (again_part past l s b (list_in addr) w) (has_neighbor b.neighbors addr) refl
 bgp_case past l s b w (Ok (item.PeerList addr x false)) read =
-    let puts : Puts addr (put_list_out x) false true false false = record { same_addr = λ p. refl; lists_in = λ p. refl; lists_out = λ p. refl; maps_in = λ p. refl; maps_out = λ p. refl } in
-    peer_case past l s b addr (Some (list_out addr)) (item.PeerList addr x false) has_list_out (put_list_out x) w (bgp_says l _ read) (bgp_takes l b _ read) (λ p. refl) (λ has p. put_parts b addr (put_list_out x) false true false false puts has p ∙ rw (of_list_out addr p) refl) (again_part past l s b (list_out addr) w) (has_neighbor b.neighbors addr) refl
+    let puts : Puts addr (put_list_out x) false true false false =
+    record { same_addr = λ p. refl; lists_in = λ p. refl; lists_out = λ p. refl; maps_in = λ p. refl; maps_out = λ p. refl } in
+    peer_case past l s b addr (Some (list_out addr)) (item.PeerList addr x false) has_list_out (put_list_out x) w (bgp_says l _ read) (bgp_takes l b _ read)
+    (λ p. refl) (λ has p. put_parts b addr (put_list_out x) false true false false puts has p ∙ rw (of_list_out addr p) refl)
+    (again_part past l s b (list_out addr) w) (has_neighbor b.neighbors addr) refl
 bgp_case past l s b w (Ok (item.PeerMap addr x true)) read =
-    let puts : Puts addr (put_map_in x) false false true false = record { same_addr = λ p. refl; lists_in = λ p. refl; lists_out = λ p. refl; maps_in = λ p. refl; maps_out = λ p. refl } in
-    peer_case past l s b addr (Some (map_in addr)) (item.PeerMap addr x true) has_map_in (put_map_in x) w (bgp_says l _ read) (bgp_takes l b _ read) (λ p. refl) (λ has p. put_parts b addr (put_map_in x) false false true false puts has p ∙ rw (of_map_in addr p) refl) (again_part past l s b (map_in addr) w) (has_neighbor b.neighbors addr) refl
+    let puts : Puts addr (put_map_in x) false false true false =
+    record { same_addr = λ p. refl; lists_in = λ p. refl; lists_out = λ p. refl; maps_in = λ p. refl; maps_out = λ p. refl } in
+    peer_case past l s b addr (Some (map_in addr)) (item.PeerMap addr x true) has_map_in (put_map_in x) w (bgp_says l _ read) (bgp_takes l b _ read) (λ p. refl)
+    (λ has p. put_parts b addr (put_map_in x) false false true false puts has p ∙ rw (of_map_in addr p) refl) (again_part past l s b (map_in addr) w)
+    (has_neighbor b.neighbors addr) refl
 bgp_case past l s b w (Ok (item.PeerMap addr x false)) read =
-    let puts : Puts addr (put_map_out x) false false false true = record { same_addr = λ p. refl; lists_in = λ p. refl; lists_out = λ p. refl; maps_in = λ p. refl; maps_out = λ p. refl } in
-    peer_case past l s b addr (Some (map_out addr)) (item.PeerMap addr x false) has_map_out (put_map_out x) w (bgp_says l _ read) (bgp_takes l b _ read) (λ p. refl) (λ has p. put_parts b addr (put_map_out x) false false false true puts has p ∙ rw (of_map_out addr p) refl) (again_part past l s b (map_out addr) w) (has_neighbor b.neighbors addr) refl
+    let puts : Puts addr (put_map_out x) false false false true =
+    record { same_addr = λ p. refl; lists_in = λ p. refl; lists_out = λ p. refl; maps_in = λ p. refl; maps_out = λ p. refl } in
+    peer_case past l s b addr (Some (map_out addr)) (item.PeerMap addr x false) has_map_out (put_map_out x) w (bgp_says l _ read) (bgp_takes l b _ read)
+    (λ p. refl) (λ has p. put_parts b addr (put_map_out x) false false false true puts has p ∙ rw (of_map_out addr p) refl)
+    (again_part past l s b (map_out addr) w) (has_neighbor b.neighbors addr) refl
 bgp_case past l s b w (Ok _) read =
     gives_none past l s bgp (in_bgp b) (in_bgp b) w (bgp_says l _ read) (bgp_takes l b _ read) (same_bgp s b b w.stands) (λ p. refl)

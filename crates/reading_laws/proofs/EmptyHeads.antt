@@ -122,5 +122,6 @@ by_class (Some class.Ignored) n words = tt
 by_class (Some (class.Router f)) n words = tt
 by_class (Some (class.Policy f)) n words = by_form f n words
 
-pub head_is_empty : (scope : PolicyScope) (n : ℕ) (words : List (List ℕ)) (name : List ℕ) (e : MapEntry) → policy_item_of scope n words ≡ Ok (item.MapHead name e) → (p : Part) → entry_has e p ≡ false
+pub head_is_empty : (scope : PolicyScope) (n : ℕ) (words : List (List ℕ)) (name : List ℕ) (e : MapEntry) →
+    policy_item_of scope n words ≡ Ok (item.MapHead name e) → (p : Part) → entry_has e p ≡ false
 head_is_empty scope n words name e read = subst OpensEmpty read (by_class (class_in (policy_heads_of scope) words) n words)

@@ -36,26 +36,30 @@ unread_things : (s : State) (u : Thing) → s.draft.stanza ≡ ignored → has_t
 unfolding with_closed
 unread_things s u stands = rw stands refl
 
-unread_case : (past : List TextLine) (l : TextLine) (s : State) → Agrees past s → is_top l ≡ false → s.draft.stanza ≡ ignored → open_of past ≡ unread → Outcome past l s
+unread_case : (past : List TextLine) (l : TextLine) (s : State) → Agrees past s → is_top l ≡ false → s.draft.stanza ≡ ignored → open_of past ≡ unread →
+    Outcome past l s
 unfolding take_inner
 unread_case past l s ag inner stands opened =
     inr (
       with_stanza s ignored,
       inner_step s l ignored inner stands,
       unread_fault past l inner opened,
-      agrees_next past l s (with_stanza s ignored) silent None ag (says_within past l unread (Ok silent) inner opened refl) refl refl tt (λ u. unread_things s u stands) (rw (open_inner past l inner, opened) refl),
+      agrees_next past l s (with_stanza s ignored) silent None ag (says_within past l unread (Ok silent) inner opened refl) refl refl tt
+          (λ u. unread_things s u stands) (rw (open_inner past l inner, opened) refl),
     )
 
 within_case : (past : List TextLine) (l : TextLine) (s : State) (t : Thing) (st : Stanza) → Within past l s t st → IsOf st t → Outcome past l s
 within_case past l s (interface name) (in_interface i) w is = interface_case past l s i name w is (router_item_of scope.Interface l.number l.words) refl
 within_case past l s bgp (in_bgp b) w is = bgp_case past l s b w (router_item_of scope.Bgp l.number l.words) refl
 within_case past l s ospf (in_ospf o) w is = ospf_case past l s o w (router_item_of scope.Ospf l.number l.words) refl
-within_case past l s (map_entry name seq) (in_entry map e) w is = entry_case past l s map e name seq w is.0 is.1 (policy_item_of policy_scope.Entry l.number l.words) refl
+within_case past l s (map_entry name seq) (in_entry map e) w is =
+    entry_case past l s map e name seq w is.0 is.1 (policy_item_of policy_scope.Entry l.number l.words) refl
 within_case past l s host_name closed w is = absurd is
 within_case past l s (prefix_entry name seq) closed w is = absurd is
 within_case past l s _ _ w is = absurd is
 
-inner_case : (past : List TextLine) (l : TextLine) (s : State) → Agrees past s → is_top l ≡ false → (o : Open) → open_of past ≡ o → SameOpen past s.draft.stanza o → Outcome past l s
+inner_case : (past : List TextLine) (l : TextLine) (s : State) → Agrees past s → is_top l ≡ false → (o : Open) → open_of past ≡ o →
+    SameOpen past s.draft.stanza o → Outcome past l s
 inner_case past l s ag inner nothing opened same = homeless_case past l s inner same opened
 inner_case past l s ag inner unread opened same = unread_case past l s ag inner same opened
 inner_case past l s ag inner (within t) opened same =
@@ -90,7 +94,8 @@ first_fault_decides ls = all_lines ls [] at_start start_agrees
 
 -- ---- a text
 
-either : (r : Result State ReadRefusal) (end : Result (Unit {0}) ReadRefusal) → fault_in {X = Network} (r >>= (λ (s : State). end >>= (λ _. Ok (record { routers = s.routers })))) ≡ or_else (fault_in r) (fault_in end)
+either : (r : Result State ReadRefusal) (end : Result (Unit {0}) ReadRefusal) →
+    fault_in {X = Network} (r >>= (λ (s : State). end >>= (λ _. Ok (record { routers = s.routers })))) ≡ or_else (fault_in r) (fault_in end)
 either (Err fault) end = refl
 either (Ok s) (Err fault) = refl
 either (Ok s) (Ok _) = refl

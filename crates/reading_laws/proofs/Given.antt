@@ -53,7 +53,8 @@ abbrev pub hits : Option What → What → Bool
 hits None w = false
 hits (Some v) w = same_what v w
 
-pub given_next : (past : List TextLine) (l : TextLine) (s : Saying) (o : Option What) (w : What) → says past l ≡ Ok s → s.gives ≡ o → s.ends ≡ false → is_given (l ∷ past) w ≡ (hits o w || is_given past w)
+pub given_next : (past : List TextLine) (l : TextLine) (s : Saying) (o : Option What) (w : What) → says past l ≡ Ok s → s.gives ≡ o → s.ends ≡ false →
+    is_given (l ∷ past) w ≡ (hits o w || is_given past w)
 unfolding is_given
 given_next past l s None w said gives goes_on = rw (said, goes_on, gives) refl
 given_next past l s (Some v) w said gives goes_on = rw (said, goes_on, gives) refl
@@ -165,14 +166,16 @@ other_part : (past : List TextLine) (t u : Thing) (b : Bool) → is_given past (
 other_part past t u false is not same = refl
 other_part past t u true is not same = let f : true ≡ false = sym is ∙ ap (λ (v : Thing). is_given past (whole v)) (same_is t u same) ∙ not in absurd cc
 
-fresh_next : (past : List TextLine) (o : Option What) → Owned past o → ((t : Thing) (p : Part) → is_given past (whole t) ≡ false → is_given past (part t p) ≡ false)
+fresh_next : (past : List TextLine) (o : Option What) → Owned past o →
+    ((t : Thing) (p : Part) → is_given past (whole t) ≡ false → is_given past (part t p) ≡ false)
     → (t : Thing) (p : Part) → (hits o (whole t) || is_given past (whole t)) ≡ false → (hits o (part t p) || is_given past (part t p)) ≡ false
 fresh_next past None owned fresh t p not = fresh t p not
 fresh_next past (Some (whole v)) owned fresh t p not = fresh t p (or_false (same_thing v t) (is_given past (whole t)) not).1
 fresh_next past (Some (part v q)) owned fresh t p not = rw (other_part past v t (same_thing v t) owned not refl, fresh t p not) refl
 
 -- the state after a line that ends no router
-pub agrees_next : (past : List TextLine) (l : TextLine) (s t : State) (sy : Saying) (o : Option What) → Agrees past s → says past l ≡ Ok sy → sy.gives ≡ o → sy.ends ≡ false → Owned past o
+pub agrees_next : (past : List TextLine) (l : TextLine) (s t : State) (sy : Saying) (o : Option What) → Agrees past s → says past l ≡ Ok sy → sy.gives ≡ o →
+    sy.ends ≡ false → Owned past o
     → ((u : Thing) → has_thing (with_closed t.draft) u ≡ (hits o (whole u) || has_thing (with_closed s.draft) u))
     → SameOpen (l ∷ past) t.draft.stanza (open_of (l ∷ past)) → Agrees (l ∷ past) t
 agrees_next past l s t sy o ag said gives goes_on owned has opened =
@@ -192,17 +195,20 @@ says_top past l r top told = rw (top, told) refl
 pub open_top : (past : List TextLine) (l : TextLine) (r : Result Saying FormFault) → is_top l ≡ true → top_says l ≡ r → open_of (l ∷ past) ≡ opens_of r
 open_top past l r top told = rw (top, told) refl
 
-pub fault_top : (past : List TextLine) (l : TextLine) (r : Result Saying FormFault) → is_top l ≡ true → top_says l ≡ r → fault_of past l ≡ saying_fault past l.number r
+pub fault_top : (past : List TextLine) (l : TextLine) (r : Result Saying FormFault) → is_top l ≡ true → top_says l ≡ r →
+    fault_of past l ≡ saying_fault past l.number r
 unfolding fault_of
 fault_top past l r top told = rw (says_top past l r top told, top) refl
 
-pub says_within : (past : List TextLine) (l : TextLine) (o : Open) (r : Result Saying FormFault) → is_top l ≡ false → open_of past ≡ o → inner_says l o ≡ r → says past l ≡ r
+pub says_within : (past : List TextLine) (l : TextLine) (o : Open) (r : Result Saying FormFault) → is_top l ≡ false → open_of past ≡ o → inner_says l o ≡ r →
+    says past l ≡ r
 unfolding says
 says_within past l o r top opened told = rw (top, opened, told) refl
 
 pub open_inner : (past : List TextLine) (l : TextLine) → is_top l ≡ false → open_of (l ∷ past) ≡ open_of past
 open_inner past l top = rw top refl
 
-pub fault_within : (past : List TextLine) (l : TextLine) (t : Thing) (r : Result Saying FormFault) → is_top l ≡ false → open_of past ≡ within t → inner_says l (within t) ≡ r → fault_of past l ≡ saying_fault past l.number r
+pub fault_within : (past : List TextLine) (l : TextLine) (t : Thing) (r : Result Saying FormFault) → is_top l ≡ false → open_of past ≡ within t →
+    inner_says l (within t) ≡ r → fault_of past l ≡ saying_fault past l.number r
 unfolding fault_of
 fault_within past l t r top opened told = rw (says_within past l (within t) r top opened told, top, opened) refl

@@ -18,13 +18,15 @@ put_at addr put (p ∷ peers) = if p.addr == addr then put p ∷ peers else p �
 
 -- ---- what reading a line does to the neighbours
 
-stranger_at : (n addr : ℕ) (change : Neighbor → Result Neighbor ReadRefusal) (p : Neighbor) (peers : List Neighbor) → (has_neighbor peers addr ≡ false → at_neighbor n addr change peers ≡ Err (refusal.At n kind.Misplaced))
+stranger_at : (n addr : ℕ) (change : Neighbor → Result Neighbor ReadRefusal) (p : Neighbor) (peers : List Neighbor) →
+    (has_neighbor peers addr ≡ false → at_neighbor n addr change peers ≡ Err (refusal.At n kind.Misplaced))
     → (b : Bool) → (p.addr == addr) ≡ b → (b || has_neighbor peers addr) ≡ false → at_neighbor n addr change (p ∷ peers) ≡ Err (refusal.At n kind.Misplaced)
 unfolding at_neighbor
 stranger_at n addr change p peers rest true is none = absurd cc
 stranger_at n addr change p peers rest false is none = rw (is, rest none) refl
 
-pub at_stranger : (n addr : ℕ) (change : Neighbor → Result Neighbor ReadRefusal) (peers : List Neighbor) → has_neighbor peers addr ≡ false → at_neighbor n addr change peers ≡ Err (refusal.At n kind.Misplaced)
+pub at_stranger : (n addr : ℕ) (change : Neighbor → Result Neighbor ReadRefusal) (peers : List Neighbor) → has_neighbor peers addr ≡ false →
+    at_neighbor n addr change peers ≡ Err (refusal.At n kind.Misplaced)
 unfolding at_neighbor has_neighbor
 at_stranger n addr change [] none = refl
 at_stranger n addr change (p ∷ peers) none = stranger_at n addr change p peers (at_stranger n addr change peers) (p.addr == addr) refl none
@@ -41,34 +43,41 @@ behind : (n : ℕ) (b : Bool) (p : Neighbor) (peers : List Neighbor) → (once n
 behind n true p peers = refl
 behind n false p peers = refl
 
-known_at : (n addr : ℕ) (change : Neighbor → Result Neighbor ReadRefusal) (test : Neighbor → Bool) (put : Neighbor → Neighbor) → Sets n change test put → (p : Neighbor) (peers : List Neighbor)
+known_at : (n addr : ℕ) (change : Neighbor → Result Neighbor ReadRefusal) (test : Neighbor → Bool) (put : Neighbor → Neighbor) → Sets n change test put →
+    (p : Neighbor) (peers : List Neighbor)
     → (has_neighbor peers addr ≡ true → at_neighbor n addr change peers ≡ once n (peer_has test peers addr) (put_at addr put peers))
-    → (b : Bool) → (p.addr == addr) ≡ b → (b || has_neighbor peers addr) ≡ true → at_neighbor n addr change (p ∷ peers) ≡ once n (peer_has test (p ∷ peers) addr) (put_at addr put (p ∷ peers))
+    → (b : Bool) → (p.addr == addr) ≡ b → (b || has_neighbor peers addr) ≡ true →
+    at_neighbor n addr change (p ∷ peers) ≡ once n (peer_has test (p ∷ peers) addr) (put_at addr put (p ∷ peers))
 unfolding at_neighbor
 known_at n addr change test put sets p peers rest true is stands = rw (is, sets p) (first_of n (test p) (put p) peers)
 known_at n addr change test put sets p peers rest false is stands = rw (is, rest stands) (behind n (peer_has test peers addr) p (put_at addr put peers))
 
-pub at_known : (n addr : ℕ) (change : Neighbor → Result Neighbor ReadRefusal) (test : Neighbor → Bool) (put : Neighbor → Neighbor) → Sets n change test put → (peers : List Neighbor) → has_neighbor peers addr ≡ true
+pub at_known : (n addr : ℕ) (change : Neighbor → Result Neighbor ReadRefusal) (test : Neighbor → Bool) (put : Neighbor → Neighbor) → Sets n change test put →
+    (peers : List Neighbor) → has_neighbor peers addr ≡ true
     → at_neighbor n addr change peers ≡ once n (peer_has test peers addr) (put_at addr put peers)
 unfolding at_neighbor has_neighbor
 at_known n addr change test put sets [] stands = absurd cc
-at_known n addr change test put sets (p ∷ peers) stands = known_at n addr change test put sets p peers (at_known n addr change test put sets peers) (p.addr == addr) refl stands
+at_known n addr change test put sets (p ∷ peers) stands =
+    known_at n addr change test put sets p peers (at_known n addr change test put sets peers) (p.addr == addr) refl stands
 
 -- ---- what the neighbours have then
 
-names_at : (addr : ℕ) (put : Neighbor → Neighbor) → ((p : Neighbor) → (put p).addr ≡ p.addr) → (p : Neighbor) (peers : List Neighbor) (a : ℕ) → has_neighbor (put_at addr put peers) a ≡ has_neighbor peers a
+names_at : (addr : ℕ) (put : Neighbor → Neighbor) → ((p : Neighbor) → (put p).addr ≡ p.addr) → (p : Neighbor) (peers : List Neighbor) (a : ℕ) →
+    has_neighbor (put_at addr put peers) a ≡ has_neighbor peers a
     → (b : Bool) → (p.addr == addr) ≡ b → has_neighbor (put_at addr put (p ∷ peers)) a ≡ ((p.addr == a) || has_neighbor peers a)
 unfolding has_neighbor
 names_at addr put same p peers a rest true is = rw (is, same p) refl
 names_at addr put same p peers a rest false is = rw (is, rest) refl
 
-put_names : (addr : ℕ) (put : Neighbor → Neighbor) → ((p : Neighbor) → (put p).addr ≡ p.addr) → (peers : List Neighbor) (a : ℕ) → has_neighbor (put_at addr put peers) a ≡ has_neighbor peers a
+put_names : (addr : ℕ) (put : Neighbor → Neighbor) → ((p : Neighbor) → (put p).addr ≡ p.addr) → (peers : List Neighbor) (a : ℕ) →
+    has_neighbor (put_at addr put peers) a ≡ has_neighbor peers a
 unfolding has_neighbor
 put_names addr put same [] a = refl
 put_names addr put same (p ∷ peers) a = names_at addr put same p peers a (put_names addr put same peers a) (p.addr == addr) refl
 
 -- the neighbour itself: the first one of its address
-test_here : (addr : ℕ) (put : Neighbor → Neighbor) (test : Neighbor → Bool) (c : Bool) (p : Neighbor) (peers : List Neighbor) (a : ℕ) → p.addr ≡ addr → (put p).addr ≡ p.addr → test (put p) ≡ (c || test p)
+test_here : (addr : ℕ) (put : Neighbor → Neighbor) (test : Neighbor → Bool) (c : Bool) (p : Neighbor) (peers : List Neighbor) (a : ℕ) → p.addr ≡ addr →
+    (put p).addr ≡ p.addr → test (put p) ≡ (c || test p)
     → (b : Bool) → (addr == a) ≡ b → peer_has test (put p ∷ peers) a ≡ ((c && (addr == a)) || peer_has test (p ∷ peers) a)
 test_here addr put test c p peers a here same sets true is =
     let new : ((put p).addr == a) ≡ true = ap (λ (x : ℕ). x == a) (same ∙ here) ∙ is in
@@ -88,7 +97,8 @@ test_here addr put test c p peers a here same sets false is =
     neither false y = refl
 
 -- a neighbour of another address
-test_there : (addr : ℕ) (test : Neighbor → Bool) (c : Bool) (p : Neighbor) (qs peers : List Neighbor) (a : ℕ) → (p.addr == addr) ≡ false → peer_has test qs a ≡ ((c && (addr == a)) || peer_has test peers a)
+test_there : (addr : ℕ) (test : Neighbor → Bool) (c : Bool) (p : Neighbor) (qs peers : List Neighbor) (a : ℕ) → (p.addr == addr) ≡ false →
+    peer_has test qs a ≡ ((c && (addr == a)) || peer_has test peers a)
     → (b : Bool) → (p.addr == a) ≡ b → peer_has test (p ∷ qs) a ≡ ((c && (addr == a)) || peer_has test (p ∷ peers) a)
 test_there addr test c p qs peers a other rest true is =
     let apart : (addr == a) ≡ false = apart_from p.addr addr a other (exact_unsigned_eq p.addr a is) (addr == a) refl in
@@ -103,19 +113,26 @@ test_there addr test c p qs peers a other rest true is =
     apart_from x y z e f true g = let t : true ≡ false = sym (eq-eqb x y (f ∙ sym (exact_unsigned_eq y z g))) ∙ e in absurd cc
 test_there addr test c p qs peers a other rest false is = rw (is, rest) refl
 
-test_at : (addr : ℕ) (put : Neighbor → Neighbor) (test : Neighbor → Bool) (c : Bool) → ((p : Neighbor) → (put p).addr ≡ p.addr) → ((p : Neighbor) → test (put p) ≡ (c || test p)) → (p : Neighbor) (peers : List Neighbor)
+test_at : (addr : ℕ) (put : Neighbor → Neighbor) (test : Neighbor → Bool) (c : Bool) → ((p : Neighbor) → (put p).addr ≡ p.addr) →
+    ((p : Neighbor) → test (put p) ≡ (c || test p)) → (p : Neighbor) (peers : List Neighbor)
     → (has_neighbor peers addr ≡ true → (a : ℕ) → peer_has test (put_at addr put peers) a ≡ ((c && (addr == a)) || peer_has test peers a))
-    → (b : Bool) → (p.addr == addr) ≡ b → (b || has_neighbor peers addr) ≡ true → (a : ℕ) → peer_has test (put_at addr put (p ∷ peers)) a ≡ ((c && (addr == a)) || peer_has test (p ∷ peers) a)
-test_at addr put test c same sets p peers rest true is stands a = rw is (test_here addr put test c p peers a (exact_unsigned_eq p.addr addr is) (same p) (sets p) (addr == a) refl)
-test_at addr put test c same sets p peers rest false is stands a = rw is (test_there addr test c p (put_at addr put peers) peers a is (rest stands a) (p.addr == a) refl)
+    → (b : Bool) → (p.addr == addr) ≡ b → (b || has_neighbor peers addr) ≡ true → (a : ℕ) →
+    peer_has test (put_at addr put (p ∷ peers)) a ≡ ((c && (addr == a)) || peer_has test (p ∷ peers) a)
+test_at addr put test c same sets p peers rest true is stands a =
+    rw is (test_here addr put test c p peers a (exact_unsigned_eq p.addr addr is) (same p) (sets p) (addr == a) refl)
+test_at addr put test c same sets p peers rest false is stands a =
+    rw is (test_there addr test c p (put_at addr put peers) peers a is (rest stands a) (p.addr == a) refl)
 
-put_test : (addr : ℕ) (put : Neighbor → Neighbor) (test : Neighbor → Bool) (c : Bool) → ((p : Neighbor) → (put p).addr ≡ p.addr) → ((p : Neighbor) → test (put p) ≡ (c || test p)) → (peers : List Neighbor) → has_neighbor peers addr ≡ true → (a : ℕ)
+put_test : (addr : ℕ) (put : Neighbor → Neighbor) (test : Neighbor → Bool) (c : Bool) → ((p : Neighbor) → (put p).addr ≡ p.addr) →
+    ((p : Neighbor) → test (put p) ≡ (c || test p)) → (peers : List Neighbor) → has_neighbor peers addr ≡ true → (a : ℕ)
     → peer_has test (put_at addr put peers) a ≡ ((c && (addr == a)) || peer_has test peers a)
 unfolding has_neighbor
 put_test addr put test c same sets [] stands a = absurd cc
-put_test addr put test c same sets (p ∷ peers) stands a = test_at addr put test c same sets p peers (put_test addr put test c same sets peers) (p.addr == addr) refl stands a
+put_test addr put test c same sets (p ∷ peers) stands a =
+    test_at addr put test c same sets p peers (put_test addr put test c same sets peers) (p.addr == addr) refl stands a
 
-pub push_test : (test : Neighbor → Bool) (new : Neighbor) → test new ≡ false → (peers : List Neighbor) (a : ℕ) → peer_has test (peers ++ new ∷ []) a ≡ peer_has test peers a
+pub push_test : (test : Neighbor → Bool) (new : Neighbor) → test new ≡ false → (peers : List Neighbor) (a : ℕ) →
+    peer_has test (peers ++ new ∷ []) a ≡ peer_has test peers a
 push_test test new none [] a = alone (new.addr == a)
   where
     alone : (b : Bool) → (if b then test new else false) ≡ false

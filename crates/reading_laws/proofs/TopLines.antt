@@ -55,8 +55,10 @@ names : (c : Draft) (h : Named) → c.stanza ≡ closed → Adds c (Some (whole 
 names c h e host_name = rw (closed_same (record c { name = Some h }) e) refl
 names c h e _ = rw (closed_same (record c { name = Some h }) e) refl
 
-lists : (c : Draft) (name : List ℕ) (x : PrefixEntry) → c.stanza ≡ closed → Adds c (Some (whole (prefix_entry name x.seq))) (record c { prefix_lists = with_prefix_entry name x c.prefix_lists })
-lists c name x e (prefix_entry n k) = rw (closed_same (record c { prefix_lists = with_prefix_entry name x c.prefix_lists }) e) (prefix_put name x c.prefix_lists n k)
+lists : (c : Draft) (name : List ℕ) (x : PrefixEntry) → c.stanza ≡ closed →
+    Adds c (Some (whole (prefix_entry name x.seq))) (record c { prefix_lists = with_prefix_entry name x c.prefix_lists })
+lists c name x e (prefix_entry n k) = rw (closed_same (record c { prefix_lists = with_prefix_entry name x c.prefix_lists }) e)
+    (prefix_put name x c.prefix_lists n k)
 lists c name x e _ = rw (closed_same (record c { prefix_lists = with_prefix_entry name x c.prefix_lists }) e) refl
 
 matches : (c : Draft) (cs : List CommunityList) → c.stanza ≡ closed → Adds c None (record c { community_lists = cs })
@@ -103,18 +105,21 @@ Opens t st (within u) = (u ≡ t) × IsOf st t × ((p : Part) → has_part st p 
 abbrev thing_line : Thing → Open → Saying
 thing_line t o = record { gives = Some (whole t); peer = None; opens = o; ends = false }
 
-opened_new : (past : List TextLine) (l : TextLine) (t : Thing) (st : Stanza) (o : Open) → says past l ≡ Ok (thing_line t o) → ((p : Part) → is_given past (part t p) ≡ false) → Opens t st o → SameOpen (l ∷ past) st o
+opened_new : (past : List TextLine) (l : TextLine) (t : Thing) (st : Stanza) (o : Open) → says past l ≡ Ok (thing_line t o) →
+    ((p : Part) → is_given past (part t p) ≡ false) → Opens t st o → SameOpen (l ∷ past) st o
 opened_new past l t st nothing said none opens = opens
 opened_new past l t st unread said none opens = absurd opens
 opened_new past l t st (within u) said none opens =
-    let next : (w : What) → is_given (l ∷ past) w ≡ (same_what (whole t) w || is_given past w) = λ w. given_next past l (thing_line t (within u)) (Some (whole t)) w said refl refl in
+    let next : (w : What) → is_given (l ∷ past) w ≡ (same_what (whole t) w || is_given past w) =
+    λ w. given_next past l (thing_line t (within u)) (Some (whole t)) w said refl refl in
     rw opens.0 (
       opens.1,
       rw (next (whole t), same_self t) refl,
       λ p. rw (opens.2 p, next (part t p), none p) refl,
     )
 
-gives_thing : (past : List TextLine) (l : TextLine) (s : State) (t : Thing) (o : Open) (d : Draft) → Agrees past s → is_top l ≡ true → top_says l ≡ Ok (thing_line t o)
+gives_thing : (past : List TextLine) (l : TextLine) (s : State) (t : Thing) (o : Open) (d : Draft) → Agrees past s → is_top l ≡ true →
+    top_says l ≡ Ok (thing_line t o)
     → step s l ≡ (once l.number (has_thing (with_closed s.draft) t) d >>= (λ (e : Draft). Ok (record { routers = s.routers; draft = e })))
     → Adds (with_closed s.draft) (Some (whole t)) d → Opens t d.stanza o → (b : Bool) → has_thing (with_closed s.draft) t ≡ b → Outcome past l s
 gives_thing past l s t o d ag top told stepped adds opens true has =
@@ -144,7 +149,8 @@ gives_nothing past l s o d ag top told stepped adds opens =
       next,
       stepped,
       fault_top past l (Ok (plain_line o)) top told,
-      agrees_next past l s next (plain_line o) None ag (says_top past l (Ok (plain_line o)) top told) refl refl tt adds (rw (open_top past l (Ok (plain_line o)) top told) opens),
+      agrees_next past l s next (plain_line o) None ag (says_top past l (Ok (plain_line o)) top told) refl refl tt adds
+          (rw (open_top past l (Ok (plain_line o)) top told) opens),
     )
 
 -- a router that is still to come has nothing
@@ -165,7 +171,8 @@ ended host d = record {
   route_maps = d.route_maps;
 }
 
-ends_case : (past : List TextLine) (l : TextLine) (s : State) → Agrees past s → is_top l ≡ true → top_says l ≡ Ok end_of_router → step s l ≡ end_router l.number (record { routers = s.routers; draft = with_closed s.draft })
+ends_case : (past : List TextLine) (l : TextLine) (s : State) → Agrees past s → is_top l ≡ true → top_says l ≡ Ok end_of_router →
+    step s l ≡ end_router l.number (record { routers = s.routers; draft = with_closed s.draft })
     → (o : Option Named) → (with_closed s.draft).name ≡ o → Outcome past l s
 ends_case past l s ag top told stepped None has =
     let was : is_given past (whole host_name) ≡ false = sym (ag.things host_name) ∙ ap (λ (h : Option Named). is_some h) has in
@@ -187,17 +194,21 @@ ends_case past l s ag top told stepped (Some h) has =
 
 -- ---- a line of the table of router lines
 
-router_says : (l : TextLine) (r : Result RouterItem FormFault) → is_policy_line l.words ≡ false → router_item_of scope.Top l.number l.words ≡ r → top_says l ≡ means top_saying r
+router_says : (l : TextLine) (r : Result RouterItem FormFault) → is_policy_line l.words ≡ false → router_item_of scope.Top l.number l.words ≡ r →
+    top_says l ≡ means top_saying r
 router_says l r plain read = rw (plain, read) refl
 
-router_steps : (s : State) (l : TextLine) (r : Result RouterItem FormFault) → is_top l ≡ true → is_policy_line l.words ≡ false → router_item_of scope.Top l.number l.words ≡ r
+router_steps : (s : State) (l : TextLine) (r : Result RouterItem FormFault) → is_top l ≡ true → is_policy_line l.words ≡ false →
+    router_item_of scope.Top l.number l.words ≡ r
     → step s l ≡ (said_at l.number r >>= (λ (said : RouterItem). take_top l.number said (record { routers = s.routers; draft = with_closed s.draft })))
 unfolding step step_router
 router_steps s l r top plain read = rw (top, plain, read) refl
 
 -- an item of another scope
-other_item : (past : List TextLine) (l : TextLine) (s : State) → Agrees past s → is_top l ≡ true → top_says l ≡ Ok silent → step s l ≡ Ok (record { routers = s.routers; draft = with_closed s.draft }) → Outcome past l s
-other_item past l s ag top told stepped = gives_nothing past l s nothing (with_closed s.draft) ag top told stepped (stays (with_closed s.draft) (closed_now s.draft)) (closed_now s.draft)
+other_item : (past : List TextLine) (l : TextLine) (s : State) → Agrees past s → is_top l ≡ true → top_says l ≡ Ok silent →
+    step s l ≡ Ok (record { routers = s.routers; draft = with_closed s.draft }) → Outcome past l s
+other_item past l s ag top told stepped =
+    gives_nothing past l s nothing (with_closed s.draft) ag top told stepped (stays (with_closed s.draft) (closed_now s.draft)) (closed_now s.draft)
 
 new_interface_has : (n : ℕ) (name : List ℕ) (p : Part) → has_part (in_interface (new_interface n name)) p ≡ false
 new_interface_has n name address = refl
@@ -209,44 +220,69 @@ unfolding has_network has_neighbor
 new_bgp_has n number address = refl
 new_bgp_has n number _ = refl
 
-router_case : (past : List TextLine) (l : TextLine) (s : State) → Agrees past s → is_top l ≡ true → is_policy_line l.words ≡ false → (r : Result RouterItem FormFault) → router_item_of scope.Top l.number l.words ≡ r → Outcome past l s
+router_case : (past : List TextLine) (l : TextLine) (s : State) → Agrees past s → is_top l ≡ true → is_policy_line l.words ≡ false →
+    (r : Result RouterItem FormFault) → router_item_of scope.Top l.number l.words ≡ r → Outcome past l s
 unfolding take_top take_line
-router_case past l s ag top plain (Err f) read = inl (refusal_of l.number f, router_steps s l _ top plain read, fault_top past l _ top (router_says l _ plain read))
+router_case past l s ag top plain (Err f) read =
+    inl (refusal_of l.number f, router_steps s l _ top plain read, fault_top past l _ top (router_says l _ plain read))
 router_case past l s ag top plain (Ok (item.Hostname name)) read =
     let h : Named = record { name = name; line = l.number } in
-    gives_thing past l s host_name nothing (record (with_closed s.draft) { name = Some h }) ag top (router_says l _ plain read) (router_steps s l _ top plain read) (names (with_closed s.draft) h (closed_now s.draft)) (closed_now s.draft) (is_some (with_closed s.draft).name) refl
+    gives_thing past l s host_name nothing (record (with_closed s.draft) { name = Some h }) ag top (router_says l _ plain read)
+    (router_steps s l _ top plain read) (names (with_closed s.draft) h (closed_now s.draft)) (closed_now s.draft) (is_some (with_closed s.draft).name) refl
 router_case past l s ag top plain (Ok (item.Interface name)) read =
     let i : Interface = new_interface l.number name in
-    gives_thing past l s (interface name) (within (interface name)) (record (with_closed s.draft) { stanza = in_interface i }) ag top (router_says l _ plain read) (router_steps s l _ top plain read) (adds_interface (with_closed s.draft) i) (refl, refl, new_interface_has l.number name) (has_interface (with_closed s.draft).interfaces name) refl
+    gives_thing past l s (interface name) (within (interface name)) (record (with_closed s.draft) { stanza = in_interface i }) ag top
+    (router_says l _ plain read) (router_steps s l _ top plain read) (adds_interface (with_closed s.draft) i) (refl, refl, new_interface_has l.number name)
+    (has_interface (with_closed s.draft).interfaces name) refl
 router_case past l s ag top plain (Ok (item.Bgp number)) read =
-    gives_thing past l s bgp (within bgp) (record (with_closed s.draft) { stanza = in_bgp (new_bgp l.number number) }) ag top (router_says l _ plain read) (router_steps s l _ top plain read) (adds_bgp (with_closed s.draft) (new_bgp l.number number)) (refl, tt, new_bgp_has l.number number) (is_some (with_closed s.draft).bgp) refl
+    gives_thing past l s bgp (within bgp) (record (with_closed s.draft) { stanza = in_bgp (new_bgp l.number number) }) ag top (router_says l _ plain read)
+    (router_steps s l _ top plain read) (adds_bgp (with_closed s.draft) (new_bgp l.number number)) (refl, tt, new_bgp_has l.number number)
+    (is_some (with_closed s.draft).bgp) refl
 router_case past l s ag top plain (Ok (item.Ospf number)) read =
-    gives_thing past l s ospf (within ospf) (record (with_closed s.draft) { stanza = in_ospf (new_ospf l.number number) }) ag top (router_says l _ plain read) (router_steps s l _ top plain read) (adds_ospf (with_closed s.draft) (new_ospf l.number number)) (refl, tt, λ p. refl) (is_some (with_closed s.draft).ospf) refl
-router_case past l s ag top plain (Ok item.End) read = ends_case past l s ag top (router_says l _ plain read) (router_steps s l _ top plain read) (with_closed s.draft).name refl
-router_case past l s ag top plain (Ok item.Ignored) read = gives_nothing past l s unread (record (with_closed s.draft) { stanza = ignored }) ag top (router_says l _ plain read) (router_steps s l _ top plain read) (skips (with_closed s.draft)) refl
+    gives_thing past l s ospf (within ospf) (record (with_closed s.draft) { stanza = in_ospf (new_ospf l.number number) }) ag top (router_says l _ plain read)
+    (router_steps s l _ top plain read) (adds_ospf (with_closed s.draft) (new_ospf l.number number)) (refl, tt, λ p. refl)
+    (is_some (with_closed s.draft).ospf) refl
+router_case past l s ag top plain (Ok item.End) read =
+    ends_case past l s ag top (router_says l _ plain read) (router_steps s l _ top plain read) (with_closed s.draft).name refl
+router_case past l s ag top plain (Ok item.Ignored) read =
+    gives_nothing past l s unread (record (with_closed s.draft) { stanza = ignored }) ag top (router_says l _ plain read) (router_steps s l _ top plain read)
+    (skips (with_closed s.draft)) refl
 router_case past l s ag top plain (Ok _) read = other_item past l s ag top (router_says l _ plain read) (router_steps s l _ top plain read)
 
 -- ---- a line of the table of lists and route maps
 
-policy_says : (l : TextLine) (r : Result PolicyItem FormFault) → is_policy_line l.words ≡ true → policy_item_of policy_scope.Top l.number l.words ≡ r → top_says l ≡ means list_saying r
+policy_says : (l : TextLine) (r : Result PolicyItem FormFault) → is_policy_line l.words ≡ true → policy_item_of policy_scope.Top l.number l.words ≡ r →
+    top_says l ≡ means list_saying r
 policy_says l r listed read = rw (listed, read) refl
 
-policy_steps : (s : State) (l : TextLine) (r : Result PolicyItem FormFault) → is_top l ≡ true → is_policy_line l.words ≡ true → policy_item_of policy_scope.Top l.number l.words ≡ r
-    → step s l ≡ (said_at l.number r >>= (λ (said : PolicyItem). take_policy l.number said (with_closed s.draft) >>= (λ (d : Draft). Ok (record { routers = s.routers; draft = d }))))
+policy_steps : (s : State) (l : TextLine) (r : Result PolicyItem FormFault) → is_top l ≡ true → is_policy_line l.words ≡ true →
+    policy_item_of policy_scope.Top l.number l.words ≡ r
+    → step s l ≡ (said_at l.number r >>= (λ (said : PolicyItem). take_policy l.number said (with_closed s.draft) >>=
+    (λ (d : Draft). Ok (record { routers = s.routers; draft = d }))))
 unfolding step step_policy
 policy_steps s l r top listed read = rw (top, listed, read) refl
 
-listed_case : (past : List TextLine) (l : TextLine) (s : State) → Agrees past s → is_top l ≡ true → is_policy_line l.words ≡ true → (r : Result PolicyItem FormFault) → policy_item_of policy_scope.Top l.number l.words ≡ r → Outcome past l s
+listed_case : (past : List TextLine) (l : TextLine) (s : State) → Agrees past s → is_top l ≡ true → is_policy_line l.words ≡ true →
+    (r : Result PolicyItem FormFault) → policy_item_of policy_scope.Top l.number l.words ≡ r → Outcome past l s
 unfolding take_policy
-listed_case past l s ag top listed (Err f) read = inl (refusal_of l.number f, policy_steps s l _ top listed read, fault_top past l _ top (policy_says l _ listed read))
+listed_case past l s ag top listed (Err f) read =
+    inl (refusal_of l.number f, policy_steps s l _ top listed read, fault_top past l _ top (policy_says l _ listed read))
 listed_case past l s ag top listed (Ok (policy.PrefixEntry name e)) read =
-    gives_thing past l s (prefix_entry name e.seq) nothing (record (with_closed s.draft) { prefix_lists = with_prefix_entry name e (with_closed s.draft).prefix_lists }) ag top (policy_says l _ listed read) (policy_steps s l _ top listed read) (lists (with_closed s.draft) name e (closed_now s.draft)) (closed_now s.draft) (has_prefix_entry (with_closed s.draft).prefix_lists name e.seq) refl
+    gives_thing past l s (prefix_entry name e.seq) nothing
+    (record (with_closed s.draft) { prefix_lists = with_prefix_entry name e (with_closed s.draft).prefix_lists }) ag top (policy_says l _ listed read)
+    (policy_steps s l _ top listed read) (lists (with_closed s.draft) name e (closed_now s.draft)) (closed_now s.draft)
+    (has_prefix_entry (with_closed s.draft).prefix_lists name e.seq) refl
 listed_case past l s ag top listed (Ok (policy.MapHead name e)) read =
-    gives_thing past l s (map_entry name e.seq) (within (map_entry name e.seq)) (record (with_closed s.draft) { stanza = in_entry name e }) ag top (policy_says l _ listed read) (policy_steps s l _ top listed read) (adds_entry (with_closed s.draft) name e) (refl, (refl, refl), head_is_empty policy_scope.Top l.number l.words name e read) (has_map_entry (with_closed s.draft).route_maps name e.seq) refl
+    gives_thing past l s (map_entry name e.seq) (within (map_entry name e.seq)) (record (with_closed s.draft) { stanza = in_entry name e }) ag top
+    (policy_says l _ listed read) (policy_steps s l _ top listed read) (adds_entry (with_closed s.draft) name e)
+    (refl, (refl, refl), head_is_empty policy_scope.Top l.number l.words name e read) (has_map_entry (with_closed s.draft).route_maps name e.seq) refl
 listed_case past l s ag top listed (Ok (policy.CommunityLine name line)) read =
     let cs : List CommunityList = with_community_line name line (with_closed s.draft).community_lists in
-    gives_nothing past l s nothing (record (with_closed s.draft) { community_lists = cs }) ag top (policy_says l _ listed read) (policy_steps s l _ top listed read) (matches (with_closed s.draft) cs (closed_now s.draft)) (closed_now s.draft)
-listed_case past l s ag top listed (Ok policy.Ignored) read = gives_nothing past l s unread (record (with_closed s.draft) { stanza = ignored }) ag top (policy_says l _ listed read) (policy_steps s l _ top listed read) (skips (with_closed s.draft)) refl
+    gives_nothing past l s nothing (record (with_closed s.draft) { community_lists = cs }) ag top (policy_says l _ listed read)
+    (policy_steps s l _ top listed read) (matches (with_closed s.draft) cs (closed_now s.draft)) (closed_now s.draft)
+listed_case past l s ag top listed (Ok policy.Ignored) read =
+    gives_nothing past l s unread (record (with_closed s.draft) { stanza = ignored }) ag top (policy_says l _ listed read) (policy_steps s l _ top listed read)
+    (skips (with_closed s.draft)) refl
 listed_case past l s ag top listed (Ok _) read = other_item past l s ag top (policy_says l _ listed read) (policy_steps s l _ top listed read)
 
 -- ---- all top lines

@@ -22,7 +22,8 @@ pub record Separating (old new : List ℕ) (movers : List Import) (names : ℕ �
   pub named : (class name : ℕ) → names class ≡ Some name → (fresh ≤ name) × (name < next)
   pub one : (a b name : ℕ) → names a ≡ Some name → names b ≡ Some name → a ≡ b
 
-pub separated : (old new : List ℕ) (movers : List Import) (names : ℕ → Option ℕ) (fresh next : ℕ) → Separating old new movers names fresh next → IsSeparated old new movers fresh next
+pub separated : (old new : List ℕ) (movers : List Import) (names : ℕ → Option ℕ) (fresh next : ℕ) → Separating old new movers names fresh next →
+    IsSeparated old new movers fresh next
 separated old new movers names fresh next so_far = record {
   total = so_far.total;
   low = so_far.low;
@@ -42,7 +43,8 @@ separated old new movers names fresh next so_far = record {
       so_far.one _ _ (slice_index new u) first (second ∙ ap (λ n. Some n) (sym same));
 }
 
-pub separating_none : (old : List ℕ) (movers : List Import) (names : ℕ → Option ℕ) (fresh : ℕ) → All (λ class. class < fresh) old → ((class : ℕ) → names class ≡ None) → Separating old old (take 0 movers) names fresh fresh
+pub separating_none : (old : List ℕ) (movers : List Import) (names : ℕ → Option ℕ) (fresh : ℕ) → All (λ class. class < fresh) old →
+    ((class : ℕ) → names class ≡ None) → Separating old old (take 0 movers) names fresh fresh
 separating_none old movers names fresh below none = record {
   total = refl;
   low = omega arith;
@@ -67,7 +69,8 @@ any_last movers mover u is =
     (length movers, mover, omega arith, get_or_push movers mover mover (length movers) refl, is)
 
 -- an importer that has moved already
-pub separating_again : (old new : List ℕ) (movers : List Import) (mover : Import) (names : ℕ → Option ℕ) (fresh next : ℕ) → Separating old new movers names fresh next → fresh ≤ slice_index new mover.importer → Separating old new (movers ++ mover ∷ []) names fresh next
+pub separating_again : (old new : List ℕ) (movers : List Import) (mover : Import) (names : ℕ → Option ℕ) (fresh next : ℕ) →
+    Separating old new movers names fresh next → fresh ≤ slice_index new mover.importer → Separating old new (movers ++ mover ∷ []) names fresh next
 separating_again old new movers mover names fresh next so_far at = record {
   total = so_far.total;
   low = so_far.low;
@@ -82,7 +85,11 @@ separating_again old new movers mover names fresh next so_far at = record {
 }
 
 -- an importer moves to the class of this name
-pub separating_more : (old new : List ℕ) (movers : List Import) (mover : Import) (names names' : ℕ → Option ℕ) (fresh next next' class name : ℕ) → Separating old new movers names fresh next → mover.importer < length new → slice_index new mover.importer ≡ class → class < fresh → names' class ≡ Some name → ((other : ℕ) → other ≢ class → names' other ≡ names other) → ((names class ≡ Some name) ⊎ ((names class ≡ None) × (name ≡ next))) → next ≤ next' → next' ≤ next + 1 → name < next' → Separating old (slice_set new mover.importer name) (movers ++ mover ∷ []) names' fresh next'
+pub separating_more : (old new : List ℕ) (movers : List Import) (mover : Import) (names names' : ℕ → Option ℕ) (fresh next next' class name : ℕ) →
+    Separating old new movers names fresh next → mover.importer < length new → slice_index new mover.importer ≡ class → class < fresh →
+    names' class ≡ Some name → ((other : ℕ) → other ≢ class → names' other ≡ names other) →
+    ((names class ≡ Some name) ⊎ ((names class ≡ None) × (name ≡ next))) → next ≤ next' → next' ≤ next + 1 → name < next' →
+    Separating old (slice_set new mover.importer name) (movers ++ mover ∷ []) names' fresh next'
 separating_more old new movers mover names names' fresh next next' class name so_far inside is under named others was le le' lt =
     let new' : List ℕ = slice_set new mover.importer name in
     let total = so_far.total in
@@ -106,7 +113,8 @@ separating_more old new movers mover names names' fresh next next' class name so
       few = let few = so_far.few in let more = length_push movers mover in omega arith;
       below = All-set (λ c. c < next') new mover.importer name lt (All-weaker (λ c. c < next) (λ c. c < next') (λ c l. omega arith) new so_far.below);
       moved = All-push (λ m. fresh ≤ slice_index new' m.importer) movers mover
-          (All-weaker (λ m. fresh ≤ slice_index new m.importer) (λ m. fresh ≤ slice_index new' m.importer) (λ m high. elim (cases_eq m.importer mover.importer) [
+          (All-weaker (λ m. fresh ≤ slice_index new m.importer) (λ m. fresh ≤ slice_index new' m.importer)
+          (λ m high. elim (cases_eq m.importer mover.importer) [
             | inl e ↦ let v = here_at m.importer e in omega arith
             | inr ne ↦ let v = there m.importer ne in omega arith
           ]) movers so_far.moved)
@@ -164,7 +172,9 @@ listed run act u one (k, m, inside, at, is) =
     subst (Contains run) same (k, inside, at)
 
 -- one more run of edges of one act, which no earlier one has
-alike_before : (before run : List Import) (act u v : ℕ) → All (λ a. a.act < act) before → All (λ a. a.act ≡ act) run → ((x : ℕ) → Contains (before ++ run) (record { importer = u; act = x }) → Contains (before ++ run) (record { importer = v; act = x })) → (x : ℕ) → Contains before (record { importer = u; act = x }) → Contains before (record { importer = v; act = x })
+alike_before : (before run : List Import) (act u v : ℕ) → All (λ a. a.act < act) before → All (λ a. a.act ≡ act) run →
+    ((x : ℕ) → Contains (before ++ run) (record { importer = u; act = x }) → Contains (before ++ run) (record { importer = v; act = x })) → (x : ℕ) →
+    Contains before (record { importer = u; act = x }) → Contains before (record { importer = v; act = x })
 alike_before before run act u v earlier one there x found =
     let lt : x < act = All-contains (λ a. a.act < act) before (record { importer = u; act = x }) earlier found in
     elim (Contains-append_cases before run _ (there x (Contains-append_left before run _ found))) [
@@ -173,7 +183,10 @@ alike_before before run act u v earlier one there x found =
     ]
 
 -- an importer of the run moves, so the run lists its act for each router that has what it has
-moves_too : (before run : List Import) (classes' : List ℕ) (next act u v : ℕ) → All (λ a. a.act < act) before → All (λ a. a.act ≡ act) run → All (λ m. next ≤ slice_index classes' m.importer) run → Any (λ m. m.importer ≡ u) run → ((x : ℕ) → Contains (before ++ run) (record { importer = u; act = x }) → Contains (before ++ run) (record { importer = v; act = x })) → next ≤ slice_index classes' v
+moves_too : (before run : List Import) (classes' : List ℕ) (next act u v : ℕ) → All (λ a. a.act < act) before → All (λ a. a.act ≡ act) run →
+    All (λ m. next ≤ slice_index classes' m.importer) run → Any (λ m. m.importer ≡ u) run →
+    ((x : ℕ) → Contains (before ++ run) (record { importer = u; act = x }) → Contains (before ++ run) (record { importer = v; act = x })) →
+    next ≤ slice_index classes' v
 moves_too before run classes' next act u v earlier one moved found there =
     elim (Contains-append_cases before run _ (there act (Contains-append_right before run _ (listed run act u one found)))) [
       | inl is ↦ let lt : act < act = All-contains (λ a. a.act < act) before (record { importer = v; act = act }) earlier is in absurd (omega arith)
@@ -181,7 +194,9 @@ moves_too before run classes' next act u v earlier one moved found there =
     ]
 
 -- what holds of the acts of earlier runs holds with this run, where both importers moved or neither
-alike_after : (before run : List Import) (act u v : ℕ) → All (λ a. a.act ≡ act) run → (Any (λ m. m.importer ≡ u) run → Any (λ m. m.importer ≡ v) run) → ((x : ℕ) → Contains before (record { importer = u; act = x }) → Contains before (record { importer = v; act = x })) → (x : ℕ) → Contains (before ++ run) (record { importer = u; act = x }) → Contains (before ++ run) (record { importer = v; act = x })
+alike_after : (before run : List Import) (act u v : ℕ) → All (λ a. a.act ≡ act) run → (Any (λ m. m.importer ≡ u) run → Any (λ m. m.importer ≡ v) run) →
+    ((x : ℕ) → Contains before (record { importer = u; act = x }) → Contains before (record { importer = v; act = x })) → (x : ℕ) →
+    Contains (before ++ run) (record { importer = u; act = x }) → Contains (before ++ run) (record { importer = v; act = x })
 alike_after before run act u v one moves there x found = elim (Contains-append_cases before run _ found) [
   | inl is ↦ Contains-append_left before run _ (there x is)
   | inr (k, inside, at) ↦
@@ -198,15 +213,19 @@ any_run : (before run : List Import) (u : ℕ) → Any (λ m. m.importer ≡ u) 
 any_run before run u (k, m, inside, at, is) =
     let (j, within, at') = Contains-append_right before run m (k, inside, at) in (j, m, within, at', is)
 
-pub classes_more : (numbers : List ℕ) (before run : List Import) (count : ℕ) (classes classes' : List ℕ) (next next' act : ℕ) → All (λ a. a.importer < length numbers) before → AreClasses numbers before count classes next → IsSeparated classes classes' run next next' → All (λ a. a.act < act) before → All (λ a. a.act ≡ act) run → AreClasses numbers (before ++ run) count classes' next'
+pub classes_more : (numbers : List ℕ) (before run : List Import) (count : ℕ) (classes classes' : List ℕ) (next next' act : ℕ) →
+    All (λ a. a.importer < length numbers) before → AreClasses numbers before count classes next → IsSeparated classes classes' run next next' →
+    All (λ a. a.act < act) before → All (λ a. a.act ≡ act) run → AreClasses numbers (before ++ run) count classes' next'
 classes_more numbers before run count classes classes' next next' act in_range are separated earlier one =
     let total = are.total in
-    let pre : (u v : ℕ) → u < length numbers → v < length numbers → slice_index classes' u ≡ slice_index classes' v → slice_index classes u ≡ slice_index classes v = λ u v hu hv same.
+    let pre : (u v : ℕ) → u < length numbers → v < length numbers → slice_index classes' u ≡ slice_index classes' v →
+    slice_index classes u ≡ slice_index classes v = λ u v hu hv same.
     elim (cases_lt (slice_index classes' u) next) [
       | inl low ↦ sym (separated.stay u (omega arith) low) ∙ same ∙ separated.stay v (omega arith) (omega arith)
       | inr high ↦ separated.apart u v (omega arith) (omega arith) high same
     ] in
-    let follows : (u v : ℕ) → u < length numbers → v < length numbers → slice_index classes' u ≡ slice_index classes' v → Any (λ m. m.importer ≡ u) run → Any (λ m. m.importer ≡ v) run = λ u v hu hv same found.
+    let follows : (u v : ℕ) → u < length numbers → v < length numbers → slice_index classes' u ≡ slice_index classes' v → Any (λ m. m.importer ≡ u) run →
+    Any (λ m. m.importer ≡ v) run = λ u v hu hv same found.
     let (k, m, inside, at, is) = found in
     let high : next ≤ slice_index classes' m.importer = subst (λ (x : Import). next ≤ slice_index classes' x.importer) at (separated.moved k m inside) in
     let e : slice_index classes' m.importer ≡ slice_index classes' u = ap (λ i. slice_index classes' i) is in
@@ -232,7 +251,8 @@ classes_more numbers before run count classes classes' next next' act in_range a
             | inl lt ↦ let e = separated.stay u (omega arith) lt in omega arith
             | inr high ↦ omega arith
           ])
-          (All-weaker (λ a. next ≤ slice_index classes' a.importer) (λ a. count ≤ slice_index classes' a.importer) (λ a high. let low = are.low in omega arith) run separated.moved);
+          (All-weaker (λ a. next ≤ slice_index classes' a.importer) (λ a. count ≤ slice_index classes' a.importer) (λ a high. let low = are.low in omega arith)
+          run separated.moved);
       together = λ u v hu hv same alike.
           let was : slice_index classes u ≡ slice_index classes v = are.together u v hu hv same (record {
             there = alike_before before run act u v earlier one alike.there;
@@ -241,9 +261,11 @@ classes_more numbers before run count classes classes' next next' act in_range a
           elim (cases_lt (slice_index classes' u) next) [
             | inl low ↦ elim (cases_lt (slice_index classes' v) next) [
               | inl low' ↦ separated.stay u (omega arith) low ∙ was ∙ sym (separated.stay v (omega arith) low')
-              | inr high' ↦ let high = moves_too before run classes' next act v u earlier one separated.moved (separated.only v (omega arith) high') alike.back in absurd (omega arith)
+              | inr high' ↦ let high = moves_too before run classes' next act v u earlier one separated.moved (separated.only v (omega arith) high')
+                  alike.back in absurd (omega arith)
             ]
-            | inr high ↦ separated.together u v (omega arith) (omega arith) high (moves_too before run classes' next act u v earlier one separated.moved (separated.only u (omega arith) high) alike.there) was
+            | inr high ↦ separated.together u v (omega arith) (omega arith) high
+                (moves_too before run classes' next act u v earlier one separated.moved (separated.only u (omega arith) high) alike.there) was
           ];
       same = λ u v hu hv e. are.same u v hu hv (pre u v hu hv e);
       alike = λ u v hu hv e.
@@ -254,7 +276,8 @@ classes_more numbers before run count classes classes' next next' act in_range a
           };
     }
 
-pub classes_start : (numbers : List ℕ) (arrivals : List Import) (count : ℕ) → All (λ n. n < count) numbers → AreClasses numbers (take 0 arrivals) count numbers count
+pub classes_start : (numbers : List ℕ) (arrivals : List Import) (count : ℕ) → All (λ n. n < count) numbers →
+    AreClasses numbers (take 0 arrivals) count numbers count
 classes_start numbers arrivals count below = record {
   total = refl;
   low = omega arith;
@@ -275,15 +298,24 @@ take_shorter (suc s) (suc n) (x ∷ xs) le = ap (λ (ys : List Import). x ∷ ys
 
 take_run : (s m n : ℕ) (xs : List Import) → n ≡ s + m → take n xs ≡ take s xs ++ take m (drop s xs)
 take_run s m n xs e =
-    ap (λ i. take i xs) e ∙ sym (take-append-drop s (take (s + m) xs)) ∙ ap (λ (ys : List Import). ys ++ drop s (take (s + m) xs)) (take_shorter s (s + m) xs (omega arith)) ∙ ap (λ (ys : List Import). take s xs ++ ys) (drop-take s m xs)
+    ap (λ i. take i xs) e ∙ sym (take-append-drop s (take (s + m) xs))
+    ∙ ap (λ (ys : List Import). ys ++ drop s (take (s + m) xs)) (take_shorter s (s + m) xs (omega arith))
+    ∙ ap (λ (ys : List Import). take s xs ++ ys) (drop-take s m xs)
 
 -- the run from `start` to `end`
-pub classes_to : (numbers : List ℕ) (arrivals : List Import) (count start end : ℕ) (classes classes' : List ℕ) (next next' : ℕ) → start < end → end ≤ length arrivals → All (λ a. a.importer < length numbers) arrivals → ((i j : ℕ) (d : Import) → i < start → start ≤ j → j < length arrivals → act_of_import (slice_index_or arrivals i d) < act_of_import (slice_index_or arrivals j d)) → ((i : ℕ) (d : Import) → start ≤ i → i < end → act_of_import (slice_index_or arrivals i d) ≡ act_of_import (slice_index_or arrivals start d)) → AreClasses numbers (take start arrivals) count classes next → IsSeparated classes classes' (take (end - start) (drop start arrivals)) next next' → AreClasses numbers (take end arrivals) count classes' next'
+pub classes_to : (numbers : List ℕ) (arrivals : List Import) (count start end : ℕ) (classes classes' : List ℕ) (next next' : ℕ) → start < end →
+    end ≤ length arrivals → All (λ a. a.importer < length numbers) arrivals →
+    ((i j : ℕ) (d : Import) → i < start → start ≤ j → j < length arrivals →
+    act_of_import (slice_index_or arrivals i d) < act_of_import (slice_index_or arrivals j d)) →
+    ((i : ℕ) (d : Import) → start ≤ i → i < end → act_of_import (slice_index_or arrivals i d) ≡ act_of_import (slice_index_or arrivals start d)) →
+    AreClasses numbers (take start arrivals) count classes next → IsSeparated classes classes' (take (end - start) (drop start arrivals)) next next' →
+    AreClasses numbers (take end arrivals) count classes' next'
 classes_to numbers arrivals count start end classes classes' next next' more within in_range apart same are separated =
     let none : Import = record { importer = 0; act = 0 } in
     let act : ℕ = act_of_import (slice_index_or arrivals start none) in
     let run : List Import = take (end - start) (drop start arrivals) in
-    let first : (d : Import) → act_of_import (slice_index_or arrivals start d) ≡ act = λ d. ap act_of_import (get_or_default arrivals start d none (omega arith)) in
+    let first : (d : Import) → act_of_import (slice_index_or arrivals start d) ≡ act =
+    λ d. ap act_of_import (get_or_default arrivals start d none (omega arith)) in
     let earlier : All (λ a. a.act < act) (take start arrivals) = λ k d inside.
     let size : length (take start arrivals) ≤ start = omega (arith, length-take start arrivals) in
     let lt = apart k start d (omega arith) (omega arith) (omega arith) in
@@ -296,4 +328,5 @@ classes_to numbers arrivals count start end classes classes' next next' more wit
     let is = same (start + k) d (omega arith) (omega arith) in
     at ∙ at' ∙ is ∙ first d in
     rw (take_run start (end - start) end arrivals (omega arith))
-    (classes_more numbers (take start arrivals) run count classes classes' next next' act (All-take (λ a. a.importer < length numbers) start arrivals in_range) are separated earlier one)
+    (classes_more numbers (take start arrivals) run count classes classes' next next' act (All-take (λ a. a.importer < length numbers) start arrivals in_range)
+    are separated earlier one)

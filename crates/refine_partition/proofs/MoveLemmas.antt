@@ -63,11 +63,13 @@ pub record Moving (numbers classes touched : List ℕ) (done : List Import) (bef
   pub one : (a b number : ℕ) → names a ≡ Some number → names b ≡ Some number → a ≡ b
   pub below : (class number : ℕ) → names class ≡ Some number → number < before + length origins
   pub back : (class number : ℕ) → names class ≡ Some number → IsNamer numbers classes before origins class number
-  pub all_left : (class number : ℕ) → names class ≡ Some number → number < before → class ≢ number → (u : ℕ) → u < length numbers → slice_index numbers u ≡ number → slice_index classes u ≢ number
+  pub all_left : (class number : ℕ) → names class ≡ Some number → number < before → class ≢ number → (u : ℕ) → u < length numbers →
+      slice_index numbers u ≡ number → slice_index classes u ≢ number
   pub used : (k : ℕ) → k < length origins → (u : ℕ) × (u < length numbers) × Arrives done u × (slice_index next u ≡ before + k)
   pub each : All (λ block. (class : ℕ) × (names class ≡ Some block)) touched
 
-pub moving_none : (numbers classes touched : List ℕ) (arrivals : List Import) (before : ℕ) (names : ClassNames) → AreStaying numbers classes touched names → All (λ n. n < before) numbers → Moving numbers classes touched (take 0 arrivals) before numbers [] (λ class. get nat_eq names class)
+pub moving_none : (numbers classes touched : List ℕ) (arrivals : List Import) (before : ℕ) (names : ClassNames) → AreStaying numbers classes touched names →
+    All (λ n. n < before) numbers → Moving numbers classes touched (take 0 arrivals) before numbers [] (λ class. get nat_eq names class)
 moving_none numbers classes touched arrivals before names staying low =
     let lower : (class number : ℕ) → get nat_eq names class ≡ Some number → number < before = λ class number found.
     let (u, hu, is, has) = (staying.only class number found).1.member in
@@ -88,13 +90,17 @@ moving_none numbers classes touched arrivals before names staying low =
     }
 
 -- the importer moves to the block of its class
-pub moving_known : (numbers classes touched : List ℕ) (done : List Import) (arrival : Import) (before : ℕ) (next next' origins : List ℕ) (names : ℕ → Option ℕ) (number : ℕ) → Moving numbers classes touched done before next origins names → arrival.importer < length numbers → names (slice_index classes arrival.importer) ≡ Some number → IsMoved next next' arrival.importer number → Moving numbers classes touched (done ++ arrival ∷ []) before next' origins names
+pub moving_known : (numbers classes touched : List ℕ) (done : List Import) (arrival : Import) (before : ℕ) (next next' origins : List ℕ) (names : ℕ → Option ℕ)
+    (number : ℕ) → Moving numbers classes touched done before next origins names → arrival.importer < length numbers →
+    names (slice_index classes arrival.importer) ≡ Some number → IsMoved next next' arrival.importer number →
+    Moving numbers classes touched (done ++ arrival ∷ []) before next' origins names
 moving_known numbers classes touched done arrival before next next' origins names number so_far inside known moved =
     let router : ℕ = arrival.importer in
     let at : (u : ℕ) → router ≡ u → slice_index next' u ≡ number = λ u e. ap (slice_index next') (sym e) ∙ moved.here in
     record {
       total = moved.total ∙ so_far.total;
-      rest = λ u hu none. moved.others u (λ e. none (arrives_last done arrival u (sym e))) ∙ so_far.rest u hu (λ found. none (arrives_before done arrival u found));
+      rest = λ u hu none. moved.others u (λ e. none (arrives_last done arrival u (sym e)))
+          ∙ so_far.rest u hu (λ found. none (arrives_before done arrival u found));
       named = λ u hu found. elim (cases_eq u router) [
         | inl e ↦ ap names (ap (slice_index classes) e) ∙ known ∙ ap (λ n. Some n) (sym (at u (sym e)))
         | inr ne ↦ elim (arrives_cases done arrival u found) [
@@ -113,7 +119,8 @@ moving_known numbers classes touched done arrival before next next' origins name
             arrives_before done arrival u found,
             elim (cases_eq u router) [
               | inl e ↦
-                  let named : names (slice_index classes router) ≡ Some (slice_index next u) = ap names (ap (slice_index classes) (sym e)) ∙ so_far.named u hu found in
+                  let named : names (slice_index classes router) ≡ Some (slice_index next u) = ap names (ap (slice_index classes) (sym e))
+                  ∙ so_far.named u hu found in
                   let same : number ≡ slice_index next u = cc in
                   at u (sym e) ∙ same ∙ is
               | inr ne ↦ moved.others u ne ∙ is
@@ -123,8 +130,14 @@ moving_known numbers classes touched done arrival before next next' origins name
     }
 
 -- the importer moves to a new block
-pub moving_new : (numbers classes touched : List ℕ) (done : List Import) (arrival : Import) (before : ℕ) (next next' origins origins' : List ℕ) (names names' : ℕ → Option ℕ) (number origin : ℕ) → Moving numbers classes touched done before next origins names → arrival.importer < length numbers → names (slice_index classes arrival.importer) ≡ None → number ≡ before + length origins → names' (slice_index classes arrival.importer) ≡ Some number → ((other : ℕ) → other ≢ slice_index classes arrival.importer → names' other ≡ names other) → origin ≡ slice_index next arrival.importer → origins' ≡ origins ++ origin ∷ [] → IsMoved next next' arrival.importer number → Moving numbers classes touched (done ++ arrival ∷ []) before next' origins' names'
-moving_new numbers classes touched done arrival before next next' origins origins' names names' number origin so_far inside none is_next named others origin_is pushed moved =
+pub moving_new : (numbers classes touched : List ℕ) (done : List Import) (arrival : Import) (before : ℕ) (next next' origins origins' : List ℕ)
+    (names names' : ℕ → Option ℕ) (number origin : ℕ) → Moving numbers classes touched done before next origins names → arrival.importer < length numbers →
+    names (slice_index classes arrival.importer) ≡ None → number ≡ before + length origins → names' (slice_index classes arrival.importer) ≡ Some number →
+    ((other : ℕ) → other ≢ slice_index classes arrival.importer → names' other ≡ names other) → origin ≡ slice_index next arrival.importer →
+    origins' ≡ origins ++ origin ∷ [] → IsMoved next next' arrival.importer number →
+    Moving numbers classes touched (done ++ arrival ∷ []) before next' origins' names'
+moving_new numbers classes touched done arrival before next next' origins origins' names names' number origin so_far inside none is_next named others origin_is
+    pushed moved =
     let router : ℕ = arrival.importer in
     let class : ℕ = slice_index classes router in
     let size : length origins' ≡ length origins + 1 = ap length pushed ∙ length_push origins origin in
@@ -137,13 +150,17 @@ moving_new numbers classes touched done arrival before next next' origins origin
       | inl e ↦ inl (e, let found' = ap names' (sym e) ∙ found in cc)
       | inr ne ↦ inr (ne, sym (others a ne) ∙ found)
     ] in
-    let prefix : (k : ℕ) → k < length origins → slice_index origins' k ≡ slice_index origins k = λ k within. ap (λ (xs : List ℕ). slice_index xs k) pushed ∙ get_or_append_left origins (origin ∷ []) 0 k within in
-    let last : (k : ℕ) → k ≡ length origins → slice_index origins' k ≡ origin = λ k e. ap (λ (xs : List ℕ). slice_index xs k) pushed ∙ get_or_push origins origin 0 k (sym e) in
+    let prefix : (k : ℕ) → k < length origins → slice_index origins' k ≡ slice_index origins k = λ k within. ap (λ (xs : List ℕ). slice_index xs k) pushed
+    ∙ get_or_append_left origins (origin ∷ []) 0 k within in
+    let last : (k : ℕ) → k ≡ length origins → slice_index origins' k ≡ origin = λ k e. ap (λ (xs : List ℕ). slice_index xs k) pushed
+    ∙ get_or_push origins origin 0 k (sym e) in
     record {
       total = moved.total ∙ so_far.total;
-      rest = λ u hu away. moved.others u (λ e. away (arrives_last done arrival u (sym e))) ∙ so_far.rest u hu (λ found. away (arrives_before done arrival u found));
+      rest = λ u hu away. moved.others u (λ e. away (arrives_last done arrival u (sym e)))
+          ∙ so_far.rest u hu (λ found. away (arrives_before done arrival u found));
       named = λ u hu found. elim (arrives_cases done arrival u found) [
-        | inl earlier ↦ others (slice_index classes u) (not_class u hu earlier) ∙ so_far.named u hu earlier ∙ ap (λ n. Some n) (sym (moved.others u (apart u earlier)))
+        | inl earlier ↦ others (slice_index classes u) (not_class u hu earlier) ∙ so_far.named u hu earlier
+            ∙ ap (λ n. Some n) (sym (moved.others u (apart u earlier)))
         | inr e ↦ ap names' (ap (slice_index classes) (sym e)) ∙ named ∙ ap (λ n. Some n) (sym (at u e))
       ];
       one = λ a b n first second. elim (by_class a n first) [
@@ -191,7 +208,9 @@ moving_new numbers classes touched done arrival before next next' origins origin
     }
 
 -- no block is empty while importers move
-pub moving_used : (numbers classes touched : List ℕ) (done : List Import) (before : ℕ) (next origins : List ℕ) (names : ℕ → Option ℕ) → Moving numbers classes touched done before next origins names → AreUsed before numbers → All (λ a. Contains touched (slice_index numbers a.importer)) done → AreUsed (before + length origins) next
+pub moving_used : (numbers classes touched : List ℕ) (done : List Import) (before : ℕ) (next origins : List ℕ) (names : ℕ → Option ℕ) →
+    Moving numbers classes touched done before next origins names → AreUsed before numbers → All (λ a. Contains touched (slice_index numbers a.importer)) done →
+    AreUsed (before + length origins) next
 moving_used numbers classes touched done before next origins names so_far used reached = λ number inside.
     let total = so_far.total in
     elim (cases_lt number before) [
@@ -199,7 +218,8 @@ moving_used numbers classes touched done before next origins names so_far used r
           let (u, hu, is) = used number old in
           elim (arrives_or_not done u) [
             | inl found ↦
-                let there : Contains touched number = subst (Contains touched) is (all_arrive (λ w. Contains touched (slice_index numbers w)) done u reached found) in
+                let there : Contains touched number = subst (Contains touched) is
+                (all_arrive (λ w. Contains touched (slice_index numbers w)) done u reached found) in
                 let (class, named) = All-contains (λ b. (c : ℕ) × (names c ≡ Some b)) touched number so_far.each there in
                 let namer = so_far.back class number named in
                 let w : ℕ = namer.router in
@@ -225,16 +245,21 @@ pub used_few : (count : ℕ) (numbers : List ℕ) → AreUsed count numbers → 
 used_few count numbers used = le-length_from_below numbers count (λ q inside. let (u, hu, is) = used q inside in any_at numbers q u hu is)
 
 -- all importers have moved
-pub moved_all : (numbers classes touched : List ℕ) (arrivals : List Import) (before class_count : ℕ) (next origins : List ℕ) (names : ℕ → Option ℕ) → Moving numbers classes touched arrivals before next origins names → AreClasses numbers arrivals before classes class_count → All (λ n. n < before) numbers → AreUsed before numbers → All (λ a. Contains touched (slice_index numbers a.importer)) arrivals → AreMoved numbers classes arrivals before next origins
+pub moved_all : (numbers classes touched : List ℕ) (arrivals : List Import) (before class_count : ℕ) (next origins : List ℕ) (names : ℕ → Option ℕ) →
+    Moving numbers classes touched arrivals before next origins names → AreClasses numbers arrivals before classes class_count → All (λ n. n < before) numbers →
+    AreUsed before numbers → All (λ a. Contains touched (slice_index numbers a.importer)) arrivals → AreMoved numbers classes arrivals before next origins
 moved_all numbers classes touched arrivals before class_count next origins names so_far are low used reached =
     let below : (u : ℕ) → u < length numbers → slice_index numbers u < before = λ u hu. All-get_or (λ n. n < before) numbers u 0 hu low in
-    let high : (u : ℕ) → Arrives arrivals u → before ≤ slice_index classes u = λ u found. all_arrive (λ w. before ≤ slice_index classes w) arrivals u are.moved found in
-    let mixed : (u v : ℕ) → u < length numbers → v < length numbers → Arrives arrivals u → ¬ Arrives arrivals v → slice_index next u ≡ slice_index next v → ⊥ = λ u v hu hv found none same.
+    let high : (u : ℕ) → Arrives arrivals u → before ≤ slice_index classes u =
+    λ u found. all_arrive (λ w. before ≤ slice_index classes w) arrivals u are.moved found in
+    let mixed : (u v : ℕ) → u < length numbers → v < length numbers → Arrives arrivals u → ¬ Arrives arrivals v → slice_index next u ≡ slice_index next v → ⊥ =
+    λ u v hu hv found none same.
     let lt = below v hv in
     let stays = so_far.rest v hv none in
     let named = so_far.named u hu found in
     let at = high u found in
-    so_far.all_left (slice_index classes u) (slice_index next u) named (omega arith) (λ e. omega arith) v hv (sym stays ∙ sym same) (are.stay v hv none ∙ sym stays ∙ sym same) in
+    so_far.all_left (slice_index classes u) (slice_index next u) named (omega arith) (λ e. omega arith) v hv (sym stays ∙ sym same)
+    (are.stay v hv none ∙ sym stays ∙ sym same) in
     record {
       total = so_far.total;
       rest = so_far.rest;
@@ -253,7 +278,8 @@ moved_all numbers classes touched arrivals before class_count next origins names
       ];
       apart = λ u v hu hv same. elim (arrives_or_not arrivals u) [
         | inl first ↦ elim (arrives_or_not arrivals v) [
-          | inl second ↦ so_far.one (slice_index classes u) (slice_index classes v) (slice_index next u) (so_far.named u hu first) (so_far.named v hv second ∙ ap (λ n. Some n) (sym same))
+          | inl second ↦ so_far.one (slice_index classes u) (slice_index classes v) (slice_index next u) (so_far.named u hu first)
+              (so_far.named v hv second ∙ ap (λ n. Some n) (sym same))
           | inr none ↦ absurd (mixed u v hu hv first none same)
         ]
         | inr none ↦ elim (arrives_or_not arrivals v) [
@@ -283,11 +309,14 @@ moved_all numbers classes touched arrivals before class_count next origins names
     }
 
 -- a router is listed in the block that it moves to
-pub listed_moved : (numbers numbers' : List ℕ) (lists : List (Vec ℕ Global)) (router number : ℕ) (list list' : Vec ℕ Global) → AreListed numbers lists → number < length lists → router < length numbers → IsMoved numbers numbers' router number → list ≡ slice_index_or lists number list → list'.items ≡ list.items ++ router ∷ [] → AreListed numbers' (slice_set lists number list')
+pub listed_moved : (numbers numbers' : List ℕ) (lists : List (Vec ℕ Global)) (router number : ℕ) (list list' : Vec ℕ Global) → AreListed numbers lists →
+    number < length lists → router < length numbers → IsMoved numbers numbers' router number → list ≡ slice_index_or lists number list →
+    list'.items ≡ list.items ++ router ∷ [] → AreListed numbers' (slice_set lists number list')
 listed_moved numbers numbers' lists router number list list' listed known inside moved read pushed =
     let size = length-set lists number list' in
     let total = moved.total in
-    let here : (b : ℕ) (d : Vec ℕ Global) → b ≡ number → slice_index_or (slice_set lists number list') b d ≡ list' = λ b d e. ap (λ i. slice_index_or (slice_set lists number list') i d) e ∙ get_or-set_same lists number list' d known in
+    let here : (b : ℕ) (d : Vec ℕ Global) → b ≡ number → slice_index_or (slice_set lists number list') b d ≡ list' =
+    λ b d e. ap (λ i. slice_index_or (slice_set lists number list') i d) e ∙ get_or-set_same lists number list' d known in
     record {
       below = λ u d hu. elim (cases_eq u router) [
         | inl e ↦ let at = get_or_default numbers' u d 0 hu in let is = ap (slice_index numbers') e ∙ moved.here in omega arith
@@ -299,18 +328,21 @@ listed_moved numbers numbers' lists router number list list' listed known inside
       ];
       routers = λ b d within. elim (cases_eq b number) [
         | inl e ↦
-            let was : All (λ u. u < length numbers) list.items = subst (λ (v : Vec ℕ Global). All (λ u. u < length numbers) v.items) (sym read) (listed.routers number list known) in
+            let was : All (λ u. u < length numbers) list.items =
+            subst (λ (v : Vec ℕ Global). All (λ u. u < length numbers) v.items) (sym read) (listed.routers number list known) in
             rw (here b d e, pushed, total) (All-push (λ u. u < length numbers) list.items router was inside)
         | inr ne ↦ rw (get_or-set_other lists number b list' d ne, total) (listed.routers b d (omega arith))
       ];
       members = λ u d hu. elim (cases_eq u router) [
-        | inl e ↦ rw (here (slice_index numbers' u) d (ap (slice_index numbers') e ∙ moved.here), pushed) (subst (Contains (list.items ++ router ∷ [])) (sym e) (Contains-push list.items router))
+        | inl e ↦ rw (here (slice_index numbers' u) d (ap (slice_index numbers') e ∙ moved.here), pushed)
+            (subst (Contains (list.items ++ router ∷ [])) (sym e) (Contains-push list.items router))
         | inr ne ↦
             let same = moved.others u ne in
             let was : Contains (slice_index_or lists (slice_index numbers' u) d).items u = rw same (listed.members u d (omega arith)) in
             elim (cases_eq (slice_index numbers' u) number) [
               | inl e ↦
-                  let was' : Contains list.items u = subst (λ (v : Vec ℕ Global). Contains v.items u) (ap (λ i. slice_index_or lists i list) (sym same ∙ e) ∙ sym read) (listed.members u list (omega arith)) in
+                  let was' : Contains list.items u = subst (λ (v : Vec ℕ Global). Contains v.items u)
+                  (ap (λ i. slice_index_or lists i list) (sym same ∙ e) ∙ sym read) (listed.members u list (omega arith)) in
                   rw (here (slice_index numbers' u) d e, pushed) (Contains-append_left list.items (router ∷ []) u was')
               | inr other ↦ rw (get_or-set_other lists number (slice_index numbers' u) list' d other) was
             ]
@@ -325,7 +357,8 @@ moved_here numbers router number inside = record {
 }
 
 -- a new, empty block
-pub listed_new : (numbers : List ℕ) (lists : List (Vec ℕ Global)) (empty : Vec ℕ Global) → AreListed numbers lists → empty.items ≡ [] → AreListed numbers (lists ++ empty ∷ [])
+pub listed_new : (numbers : List ℕ) (lists : List (Vec ℕ Global)) (empty : Vec ℕ Global) → AreListed numbers lists → empty.items ≡ [] →
+    AreListed numbers (lists ++ empty ∷ [])
 listed_new numbers lists empty listed none =
     let size = length_push lists empty in
     record {
@@ -340,29 +373,39 @@ listed_new numbers lists empty listed none =
     }
 
 -- the next importer moves
-pub moving_next : (numbers classes touched : List ℕ) (done : List Import) (arrival : Import) (before : ℕ) (next next' origins origins' : List ℕ) (names names' : ClassNames) (lists lists' : List (Vec ℕ Global)) (class number origin : ℕ) → Moving numbers classes touched done before next origins (λ c. get nat_eq names c) → length lists ≡ before + length origins → arrival.importer < length numbers → slice_index classes arrival.importer ≡ class → slice_index next arrival.importer ≡ origin → IsPieceOf names names' lists lists' origins origins' class origin number → IsMoved next next' arrival.importer number → Moving numbers classes touched (done ++ arrival ∷ []) before next' origins' (λ c. get nat_eq names' c)
-moving_next numbers classes touched done arrival before next next' origins origins' names names' lists lists' class number origin so_far size inside class_is origin_is piece moved = elim piece [
-  | inl (found, same_names, same_lists, same_origins) ↦
-      rw (same_names, same_origins) (moving_known numbers classes touched done arrival before next next' origins (λ c. get nat_eq names c) number so_far inside (ap (λ c. get nat_eq names c) class_is ∙ found) moved)
-  | inr new ↦
-      moving_new numbers classes touched done arrival before next next' origins origins' (λ c. get nat_eq names c) (λ c. get nat_eq names' c) number origin so_far inside
-      (ap (λ c. get nat_eq names c) class_is ∙ new.none)
-      (new.number_is ∙ size)
-      (ap (λ c. get nat_eq names' c) class_is ∙ new.named.named)
-      (λ other ne. new.named.others other (λ e. ne (e ∙ sym class_is)))
-      (sym origin_is)
-      new.origins_are
-      moved
-]
+pub moving_next : (numbers classes touched : List ℕ) (done : List Import) (arrival : Import) (before : ℕ) (next next' origins origins' : List ℕ)
+    (names names' : ClassNames) (lists lists' : List (Vec ℕ Global)) (class number origin : ℕ) →
+    Moving numbers classes touched done before next origins (λ c. get nat_eq names c) → length lists ≡ before + length origins →
+    arrival.importer < length numbers → slice_index classes arrival.importer ≡ class → slice_index next arrival.importer ≡ origin →
+    IsPieceOf names names' lists lists' origins origins' class origin number → IsMoved next next' arrival.importer number →
+    Moving numbers classes touched (done ++ arrival ∷ []) before next' origins' (λ c. get nat_eq names' c)
+moving_next numbers classes touched done arrival before next next' origins origins' names names' lists lists' class number origin so_far size inside class_is
+    origin_is piece moved = elim piece [
+      | inl (found, same_names, same_lists, same_origins) ↦
+          rw (same_names, same_origins) (moving_known numbers classes touched done arrival before next next' origins (λ c. get nat_eq names c) number so_far inside
+          (ap (λ c. get nat_eq names c) class_is ∙ found) moved)
+      | inr new ↦
+          moving_new numbers classes touched done arrival before next next' origins origins' (λ c. get nat_eq names c) (λ c. get nat_eq names' c) number origin
+          so_far inside
+          (ap (λ c. get nat_eq names c) class_is ∙ new.none)
+          (new.number_is ∙ size)
+          (ap (λ c. get nat_eq names' c) class_is ∙ new.named.named)
+          (λ other ne. new.named.others other (λ e. ne (e ∙ sym class_is)))
+          (sym origin_is)
+          new.origins_are
+          moved
+    ]
 
 -- the lists with the piece of a class
-pub piece_listed : (numbers : List ℕ) (names names' : ClassNames) (lists lists' : List (Vec ℕ Global)) (origins origins' : List ℕ) (class origin number : ℕ) → AreListed numbers lists → IsPieceOf names names' lists lists' origins origins' class origin number → AreListed numbers lists'
+pub piece_listed : (numbers : List ℕ) (names names' : ClassNames) (lists lists' : List (Vec ℕ Global)) (origins origins' : List ℕ) (class origin number : ℕ) →
+    AreListed numbers lists → IsPieceOf names names' lists lists' origins origins' class origin number → AreListed numbers lists'
 piece_listed numbers names names' lists lists' origins origins' class origin number listed piece = elim piece [
   | inl (found, same_names, same_lists, same_origins) ↦ rw same_lists listed
   | inr new ↦ let (empty, none, pushed) = new.list in rw pushed (listed_new numbers lists empty listed none)
 ]
 
-pub piece_size : (names names' : ClassNames) (lists lists' : List (Vec ℕ Global)) (origins origins' : List ℕ) (class origin number before : ℕ) → length lists ≡ before + length origins → IsPieceOf names names' lists lists' origins origins' class origin number → length lists' ≡ before + length origins'
+pub piece_size : (names names' : ClassNames) (lists lists' : List (Vec ℕ Global)) (origins origins' : List ℕ) (class origin number before : ℕ) →
+    length lists ≡ before + length origins → IsPieceOf names names' lists lists' origins origins' class origin number → length lists' ≡ before + length origins'
 piece_size names names' lists lists' origins origins' class origin number before size piece = elim piece [
   | inl (found, same_names, same_lists, same_origins) ↦ ap length same_lists ∙ size ∙ ap (λ (xs : List ℕ). before + length xs) (sym same_origins)
   | inr new ↦
@@ -372,7 +415,10 @@ piece_size names names' lists lists' origins origins' class origin number before
       omega arith
 ]
 
-pub piece_known : (numbers classes touched : List ℕ) (done : List Import) (before : ℕ) (next : List ℕ) (names names' : ClassNames) (lists lists' : List (Vec ℕ Global)) (origins origins' : List ℕ) (class origin number : ℕ) → Moving numbers classes touched done before next origins (λ c. get nat_eq names c) → length lists ≡ before + length origins → IsPieceOf names names' lists lists' origins origins' class origin number → number < length lists'
+pub piece_known : (numbers classes touched : List ℕ) (done : List Import) (before : ℕ) (next : List ℕ) (names names' : ClassNames)
+    (lists lists' : List (Vec ℕ Global)) (origins origins' : List ℕ) (class origin number : ℕ) →
+    Moving numbers classes touched done before next origins (λ c. get nat_eq names c) → length lists ≡ before + length origins →
+    IsPieceOf names names' lists lists' origins origins' class origin number → number < length lists'
 piece_known numbers classes touched done before next names names' lists lists' origins origins' class origin number so_far size piece = elim piece [
   | inl (found, same_names, same_lists, same_origins) ↦ let lt = so_far.below class number found in let e = ap length same_lists in omega arith
   | inr new ↦

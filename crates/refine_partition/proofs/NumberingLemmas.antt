@@ -32,10 +32,13 @@ newest : (numbers : List ℕ) (y u : ℕ) → u ≡ length numbers → slice_ind
 newest numbers y u e = get_or_push numbers y 0 u (sym e)
 
 -- an earlier router with this number stands before it in the longer list too
-found_earlier : (numbers : List ℕ) (y v group : ℕ) → v ≤ length numbers → ((u : ℕ) × (u < v) × (slice_index numbers u ≡ group)) → (u : ℕ) × (u < v) × (slice_index (numbers ++ y ∷ []) u ≡ group)
+found_earlier : (numbers : List ℕ) (y v group : ℕ) → v ≤ length numbers → ((u : ℕ) × (u < v) × (slice_index numbers u ≡ group)) →
+    (u : ℕ) × (u < v) × (slice_index (numbers ++ y ∷ []) u ≡ group)
 found_earlier numbers y v group inside (u, before, e) = (u, before, earlier numbers y u (omega arith) ∙ e)
 
-in_order_push : (numbers : List ℕ) (count more y : ℕ) → IsNumbered numbers count → ((group : ℕ) → group < y → (u : ℕ) × (u < length numbers) × (slice_index numbers u ≡ group)) → (v group : ℕ) → v < length (numbers ++ y ∷ []) → group < slice_index (numbers ++ y ∷ []) v → (u : ℕ) × (u < v) × (slice_index (numbers ++ y ∷ []) u ≡ group)
+in_order_push : (numbers : List ℕ) (count more y : ℕ) → IsNumbered numbers count →
+    ((group : ℕ) → group < y → (u : ℕ) × (u < length numbers) × (slice_index numbers u ≡ group)) → (v group : ℕ) → v < length (numbers ++ y ∷ []) →
+    group < slice_index (numbers ++ y ∷ []) v → (u : ℕ) × (u < v) × (slice_index (numbers ++ y ∷ []) u ≡ group)
 in_order_push numbers count more y numbered smaller v group inside below =
     elim (last_or_earlier numbers y v inside) [
       | inl hv ↦
@@ -48,7 +51,11 @@ in_order_push numbers count more y numbered smaller v group inside below =
     ]
 
 -- equal numbers and equal keys go together when a router of both is added
-apart_push : (numbers keys : List ℕ) (y : ℕ) → ((u v : ℕ) → u < length numbers → v < length numbers → slice_index numbers u ≡ slice_index numbers v → slice_index keys u ≡ slice_index keys v) → ((u : ℕ) → u < length numbers → slice_index numbers u ≡ y → slice_index keys u ≡ slice_index keys (length numbers)) → (u v : ℕ) → u < length (numbers ++ y ∷ []) → v < length (numbers ++ y ∷ []) → slice_index (numbers ++ y ∷ []) u ≡ slice_index (numbers ++ y ∷ []) v → slice_index keys u ≡ slice_index keys v
+apart_push : (numbers keys : List ℕ) (y : ℕ) →
+    ((u v : ℕ) → u < length numbers → v < length numbers → slice_index numbers u ≡ slice_index numbers v → slice_index keys u ≡ slice_index keys v) →
+    ((u : ℕ) → u < length numbers → slice_index numbers u ≡ y → slice_index keys u ≡ slice_index keys (length numbers)) → (u v : ℕ) →
+    u < length (numbers ++ y ∷ []) → v < length (numbers ++ y ∷ []) → slice_index (numbers ++ y ∷ []) u ≡ slice_index (numbers ++ y ∷ []) v →
+    slice_index keys u ≡ slice_index keys v
 apart_push numbers keys y apart new u v hu hv same =
     elim (last_or_earlier numbers y u hu) [
       | inl eu ↦ elim (last_or_earlier numbers y v hv) [
@@ -61,7 +68,11 @@ apart_push numbers keys y apart new u v hu hv same =
       ]
     ]
 
-together_push : (numbers keys : List ℕ) (y : ℕ) → ((u v : ℕ) → u < length numbers → v < length numbers → slice_index keys u ≡ slice_index keys v → slice_index numbers u ≡ slice_index numbers v) → ((u : ℕ) → u < length numbers → slice_index keys u ≡ slice_index keys (length numbers) → slice_index numbers u ≡ y) → (u v : ℕ) → u < length (numbers ++ y ∷ []) → v < length (numbers ++ y ∷ []) → slice_index keys u ≡ slice_index keys v → slice_index (numbers ++ y ∷ []) u ≡ slice_index (numbers ++ y ∷ []) v
+together_push : (numbers keys : List ℕ) (y : ℕ) →
+    ((u v : ℕ) → u < length numbers → v < length numbers → slice_index keys u ≡ slice_index keys v → slice_index numbers u ≡ slice_index numbers v) →
+    ((u : ℕ) → u < length numbers → slice_index keys u ≡ slice_index keys (length numbers) → slice_index numbers u ≡ y) → (u v : ℕ) →
+    u < length (numbers ++ y ∷ []) → v < length (numbers ++ y ∷ []) → slice_index keys u ≡ slice_index keys v →
+    slice_index (numbers ++ y ∷ []) u ≡ slice_index (numbers ++ y ∷ []) v
 together_push numbers keys y together new u v hu hv same =
     elim (last_or_earlier numbers y u hu) [
       | inl eu ↦ elim (last_or_earlier numbers y v hv) [
@@ -91,24 +102,30 @@ none_numbered keys names none = record {
   known = λ u inside. absurd (omega arith);
 }
 
-known_number : (keys numbers : List ℕ) (count u number : ℕ) → IsNumbering keys numbers count → u < length numbers → slice_index keys u ≡ slice_index keys (length numbers) → slice_index numbers u ≡ number → IsNumbering keys (numbers ++ number ∷ []) count
+known_number : (keys numbers : List ℕ) (count u number : ℕ) → IsNumbering keys numbers count → u < length numbers →
+    slice_index keys u ≡ slice_index keys (length numbers) → slice_index numbers u ≡ number → IsNumbering keys (numbers ++ number ∷ []) count
 known_number keys numbers count u number numbering inside same is = record {
   numbered = record {
-    below = All-push (λ g. g < count) numbers number numbering.numbered.below (subst (λ g. g < count) is (All-get_or (λ g. g < count) numbers u 0 inside numbering.numbered.below));
+    below = All-push (λ g. g < count) numbers number numbering.numbered.below
+        (subst (λ g. g < count) is (All-get_or (λ g. g < count) numbers u 0 inside numbering.numbered.below));
     used = λ group within. Contains-append_left numbers (number ∷ []) group (numbering.numbered.used group within);
-    in_order = in_order_push numbers count 0 number numbering.numbered (λ group below. let (w, before, e) = numbering.numbered.in_order u group inside (omega arith) in (w, omega arith, e));
+    in_order = in_order_push numbers count 0 number numbering.numbered
+        (λ group below. let (w, before, e) = numbering.numbered.in_order u group inside (omega arith) in (w, omega arith, e));
   };
   small = let more = length_push numbers number in let small = numbering.small in omega arith;
   apart = apart_push numbers keys number numbering.apart (λ w hw e. numbering.apart w u hw inside (e ∙ sym is) ∙ same);
   together = together_push numbers keys number numbering.together (λ w hw e. numbering.together w u hw inside (e ∙ sym same) ∙ is);
 }
 
-fresh_number : (keys numbers : List ℕ) (count : ℕ) → IsNumbering keys numbers count → ((u : ℕ) → u < length numbers → slice_index keys u ≢ slice_index keys (length numbers)) → IsNumbering keys (numbers ++ count ∷ []) (count + 1)
+fresh_number : (keys numbers : List ℕ) (count : ℕ) → IsNumbering keys numbers count →
+    ((u : ℕ) → u < length numbers → slice_index keys u ≢ slice_index keys (length numbers)) → IsNumbering keys (numbers ++ count ∷ []) (count + 1)
 fresh_number keys numbers count numbering new =
-    let smaller : (u : ℕ) → u < length numbers → slice_index numbers u < count = λ u inside. All-get_or (λ g. g < count) numbers u 0 inside numbering.numbered.below in
+    let smaller : (u : ℕ) → u < length numbers → slice_index numbers u < count =
+    λ u inside. All-get_or (λ g. g < count) numbers u 0 inside numbering.numbered.below in
     record {
       numbered = record {
-        below = All-push (λ g. g < count + 1) numbers count (All-weaker (λ g. g < count) (λ g. g < count + 1) (λ g lt. omega arith) numbers numbering.numbered.below) (omega arith);
+        below = All-push (λ g. g < count + 1) numbers count
+            (All-weaker (λ g. g < count) (λ g. g < count + 1) (λ g lt. omega arith) numbers numbering.numbered.below) (omega arith);
         used = λ group inside. elim (cases_lt group count) [
           | inl lt ↦ Contains-append_left numbers (count ∷ []) group (numbering.numbered.used group lt)
           | inr le ↦ let e : count ≡ group = omega arith in subst (λ (g : ℕ). Contains (numbers ++ count ∷ []) g) e (Contains-push numbers count)
@@ -121,7 +138,10 @@ fresh_number keys numbers count numbering new =
     }
 
 -- one more key
-pub numbered_next : (keys numbers : List ℕ) (count count' number : ℕ) (names names' : ℕ → Option ℕ) → Numbering keys numbers count names → names' (slice_index keys (length numbers)) ≡ Some number → ((other : ℕ) → other ≢ slice_index keys (length numbers) → names' other ≡ names other) → ((names (slice_index keys (length numbers)) ≡ Some number) ⊎ ((names (slice_index keys (length numbers)) ≡ None) × (number ≡ count))) → count' ≡ max count (number + 1) → Numbering keys (numbers ++ number ∷ []) count' names'
+pub numbered_next : (keys numbers : List ℕ) (count count' number : ℕ) (names names' : ℕ → Option ℕ) → Numbering keys numbers count names →
+    names' (slice_index keys (length numbers)) ≡ Some number → ((other : ℕ) → other ≢ slice_index keys (length numbers) → names' other ≡ names other) →
+    ((names (slice_index keys (length numbers)) ≡ Some number) ⊎ ((names (slice_index keys (length numbers)) ≡ None) × (number ≡ count))) →
+    count' ≡ max count (number + 1) → Numbering keys (numbers ++ number ∷ []) count' names'
 numbered_next keys numbers count count' number names names' so_far named others was counts =
     let key : ℕ = slice_index keys (length numbers) in
     let more = length_push numbers number in
@@ -135,7 +155,8 @@ numbered_next keys numbers count count' number names names' so_far named others 
         | inr new ↦
             let is : count ≡ number = sym new.1 in
             let e : count + 1 ≡ count' = omega arith in
-            let fresh = fresh_number keys numbers count so_far.numbering (λ u inside same. let known = so_far.known u inside in let known' : names key ≡ Some (slice_index numbers u) = ap names (sym same) ∙ known in let none = new.0 in absurd cc) in
+            let fresh = fresh_number keys numbers count so_far.numbering (λ u inside same. let known = so_far.known u inside in
+            let known' : names key ≡ Some (slice_index numbers u) = ap names (sym same) ∙ known in let none = new.0 in absurd cc) in
             subst (λ n. IsNumbering keys (numbers ++ number ∷ []) n) e (subst (λ y. IsNumbering keys (numbers ++ y ∷ []) (count + 1)) is fresh)
       ];
       named = λ other n found. elim (cases_eq other key) [

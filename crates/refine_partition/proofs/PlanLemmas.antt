@@ -32,7 +32,8 @@ contains_or_not (y ∷ ys) x = elim (cases_eq y x) [
     by y x ys ne none (zero, inside, at) = ne at
     by y x ys ne none (suc k, inside, at) = none (k, omega arith, at)
 
-pub arrivals_in_range : (graph : ActGraph) (numbers : List ℕ) (taken : ℕ) (arrivals : List Import) → length numbers ≡ graph.count → AreArrivals graph.edges numbers taken arrivals → All (λ a. a.importer < length numbers) arrivals
+pub arrivals_in_range : (graph : ActGraph) (numbers : List ℕ) (taken : ℕ) (arrivals : List Import) → length numbers ≡ graph.count →
+    AreArrivals graph.edges numbers taken arrivals → All (λ a. a.importer < length numbers) arrivals
 arrivals_in_range graph numbers taken arrivals total are = All-weaker (IsArrival graph.edges numbers taken) (λ a. a.importer < length numbers) (λ a arrival.
     let (k, e, inside, at, (importer, acts, into)) = arrival.has.edge in
     let below : e.importer < graph.count = subst (λ (x : Edge). x.importer < graph.count) at (graph.importers_in_range k e inside) in
@@ -44,21 +45,35 @@ queue_is numbers touched queue queued = record {
   in_order = queued.in_order;
 }
 
-pub planned : (graph : ActGraph) (taken : ℕ) (numbers : List ℕ) (blocks : List (Vec ℕ Global)) (arrivals : List Import) (classes touched queue next origins : List ℕ) (class_count : ℕ) → length numbers ≡ graph.count → AreNumbered numbers blocks → AreArrivals graph.edges numbers taken arrivals → AreClasses numbers arrivals (length blocks) classes class_count → IsStrictlyIncreasing touched → AreTouched numbers arrivals touched → IsQueue numbers touched queue → IsRenumbered numbers classes queue (length blocks) next origins → IsPlanned graph taken numbers (length blocks) next origins touched
+pub planned : (graph : ActGraph) (taken : ℕ) (numbers : List ℕ) (blocks : List (Vec ℕ Global)) (arrivals : List Import)
+    (classes touched queue next origins : List ℕ) (class_count : ℕ) → length numbers ≡ graph.count → AreNumbered numbers blocks →
+    AreArrivals graph.edges numbers taken arrivals → AreClasses numbers arrivals (length blocks) classes class_count → IsStrictlyIncreasing touched →
+    AreTouched numbers arrivals touched → IsQueue numbers touched queue → IsRenumbered numbers classes queue (length blocks) next origins →
+    IsPlanned graph taken numbers (length blocks) next origins touched
 planned graph taken numbers blocks arrivals classes touched queue next origins class_count total numbered arrived are rising touches queued renumbered =
     let before : ℕ = length blocks in
     let low : (u : ℕ) → u < graph.count → slice_index numbers u < before = λ u hu. numbered.below u 0 (omega arith) in
-    let in_queue : (u : ℕ) → u < graph.count → Contains touched (slice_index numbers u) → Contains queue u = λ u hu block. queued.all u (record { below = omega arith; block = block }) in
-    let not_in_queue : (u : ℕ) → ¬ Contains touched (slice_index numbers u) → ¬ Contains queue u = λ u none found. none (All-contains (IsInBlocks numbers touched) queue u queued.only found).block in
-    let rest : (u : ℕ) → u < graph.count → ¬ Contains touched (slice_index numbers u) → slice_index next u ≡ slice_index numbers u = λ u hu none. renumbered.rest u (omega arith) (not_in_queue u none) in
-    let listed : (u act : ℕ) → slice_index numbers u ≢ taken → HasAct graph.edges numbers taken u act → Contains touched (slice_index numbers u) = λ u act outside has.
-    All-contains (λ a. Contains touched (slice_index numbers a.importer)) arrivals (record { importer = u; act = act }) touches.all (arrived.all u act outside has) in
-    let acts : (u v : ℕ) → slice_index numbers u ≡ slice_index numbers v → SameArrivals arrivals u v → slice_index numbers u ≢ taken → (act : ℕ) → HasAct graph.edges numbers taken u act → HasAct graph.edges numbers taken v act = λ u v same alike outside act has.
-    (All-contains (IsArrival graph.edges numbers taken) arrivals (record { importer = v; act = act }) arrived.only (alike.there act (arrived.all u act outside has))).has in
-    let arrives : (u v : ℕ) → slice_index numbers u ≡ slice_index numbers v → (slice_index numbers u ≢ taken → (act : ℕ) → HasAct graph.edges numbers taken u act → HasAct graph.edges numbers taken v act) → (act : ℕ) → Contains arrivals (record { importer = u; act = act }) → Contains arrivals (record { importer = v; act = act }) = λ u v same there act found.
+    let in_queue : (u : ℕ) → u < graph.count → Contains touched (slice_index numbers u) → Contains queue u =
+    λ u hu block. queued.all u (record { below = omega arith; block = block }) in
+    let not_in_queue : (u : ℕ) → ¬ Contains touched (slice_index numbers u) → ¬ Contains queue u =
+    λ u none found. none (All-contains (IsInBlocks numbers touched) queue u queued.only found).block in
+    let rest : (u : ℕ) → u < graph.count → ¬ Contains touched (slice_index numbers u) → slice_index next u ≡ slice_index numbers u =
+    λ u hu none. renumbered.rest u (omega arith) (not_in_queue u none) in
+    let listed : (u act : ℕ) → slice_index numbers u ≢ taken → HasAct graph.edges numbers taken u act → Contains touched (slice_index numbers u) =
+    λ u act outside has.
+    All-contains (λ a. Contains touched (slice_index numbers a.importer)) arrivals (record { importer = u; act = act }) touches.all
+    (arrived.all u act outside has) in
+    let acts : (u v : ℕ) → slice_index numbers u ≡ slice_index numbers v → SameArrivals arrivals u v → slice_index numbers u ≢ taken → (act : ℕ) →
+    HasAct graph.edges numbers taken u act → HasAct graph.edges numbers taken v act = λ u v same alike outside act has.
+    (All-contains (IsArrival graph.edges numbers taken) arrivals (record { importer = v; act = act }) arrived.only
+    (alike.there act (arrived.all u act outside has))).has in
+    let arrives : (u v : ℕ) → slice_index numbers u ≡ slice_index numbers v →
+    (slice_index numbers u ≢ taken → (act : ℕ) → HasAct graph.edges numbers taken u act → HasAct graph.edges numbers taken v act) → (act : ℕ) →
+    Contains arrivals (record { importer = u; act = act }) → Contains arrivals (record { importer = v; act = act }) = λ u v same there act found.
     let arrival = All-contains (IsArrival graph.edges numbers taken) arrivals (record { importer = u; act = act }) arrived.only found in
     arrived.all v act (λ e. arrival.outside (same ∙ e)) (there arrival.outside act arrival.has) in
-    let mixed : (u v : ℕ) → u < graph.count → v < graph.count → Contains touched (slice_index numbers u) → ¬ Contains touched (slice_index numbers v) → slice_index next u ≡ slice_index next v → ⊥ = λ u v hu hv there none same.
+    let mixed : (u v : ℕ) → u < graph.count → v < graph.count → Contains touched (slice_index numbers u) → ¬ Contains touched (slice_index numbers v) →
+    slice_index next u ≡ slice_index next v → ⊥ = λ u v hu hv there none same.
     let stays = rest v hv none in
     let lt = low v hv in
     let kept = renumbered.kept u (in_queue u hu there) (omega arith) in

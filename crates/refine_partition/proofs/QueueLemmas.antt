@@ -24,20 +24,26 @@ members_rise numbers block = IsStrictlyIncreasing-filter _ (range_with_len 0 (le
     let second = get_or-range_with_len 0 (length numbers) (k + 1) 0 (omega arith) in
     omega arith)
 
-pub touched_more : (numbers : List ℕ) (arrivals : List Import) (arrival : Import) (blocks : List ℕ) → AreTouched numbers arrivals blocks → AreTouched numbers (arrivals ++ arrival ∷ []) (blocks ++ slice_index numbers arrival.importer ∷ [])
+pub touched_more : (numbers : List ℕ) (arrivals : List Import) (arrival : Import) (blocks : List ℕ) → AreTouched numbers arrivals blocks →
+    AreTouched numbers (arrivals ++ arrival ∷ []) (blocks ++ slice_index numbers arrival.importer ∷ [])
 touched_more numbers arrivals arrival blocks are = record {
   only = All-push (IsTouched numbers (arrivals ++ arrival ∷ [])) blocks _
-      (All-weaker (IsTouched numbers arrivals) (IsTouched numbers (arrivals ++ arrival ∷ [])) (λ b t. record { arrival = t.arrival; listed = Contains-append_left arrivals (arrival ∷ []) _ t.listed; is = t.is }) blocks are.only)
+      (All-weaker (IsTouched numbers arrivals) (IsTouched numbers (arrivals ++ arrival ∷ []))
+      (λ b t. record { arrival = t.arrival; listed = Contains-append_left arrivals (arrival ∷ []) _ t.listed; is = t.is }) blocks are.only)
       (record { arrival = arrival; listed = Contains-push arrivals arrival; is = refl });
   all = All-push (λ a. Contains (blocks ++ slice_index numbers arrival.importer ∷ []) (slice_index numbers a.importer)) arrivals arrival
-      (All-weaker (λ a. Contains blocks (slice_index numbers a.importer)) (λ a. Contains (blocks ++ slice_index numbers arrival.importer ∷ []) (slice_index numbers a.importer)) (λ a t. Contains-append_left blocks (slice_index numbers arrival.importer ∷ []) _ t) arrivals are.all)
+      (All-weaker (λ a. Contains blocks (slice_index numbers a.importer))
+      (λ a. Contains (blocks ++ slice_index numbers arrival.importer ∷ []) (slice_index numbers a.importer))
+      (λ a t. Contains-append_left blocks (slice_index numbers arrival.importer ∷ []) _ t) arrivals are.all)
       (Contains-push blocks (slice_index numbers arrival.importer));
 }
 
-pub touched_kept : (numbers : List ℕ) (arrivals : List Import) (before after : List ℕ) → AreTouched numbers arrivals before → ((P : ℕ → Type 0) → All P before → All P after) → ((x : ℕ) → Contains before x → Contains after x) → AreTouched numbers arrivals after
+pub touched_kept : (numbers : List ℕ) (arrivals : List Import) (before after : List ℕ) → AreTouched numbers arrivals before →
+    ((P : ℕ → Type 0) → All P before → All P after) → ((x : ℕ) → Contains before x → Contains after x) → AreTouched numbers arrivals after
 touched_kept numbers arrivals before after are all_kept kept = record {
   only = all_kept (IsTouched numbers arrivals) are.only;
-  all = All-weaker (λ a. Contains before (slice_index numbers a.importer)) (λ a. Contains after (slice_index numbers a.importer)) (λ a t. kept _ t) arrivals are.all;
+  all = All-weaker (λ a. Contains before (slice_index numbers a.importer)) (λ a. Contains after (slice_index numbers a.importer)) (λ a t. kept _ t) arrivals
+      are.all;
 }
 
 pub queue_none : (numbers blocks : List ℕ) → IsQueue numbers (take 0 blocks) []
@@ -47,15 +53,18 @@ queue_none numbers blocks = record {
   in_order = λ i j less inside. absurd (omega arith);
 }
 
-pub queue_more : (numbers blocks routers after : List ℕ) (block : ℕ) → IsQueue numbers blocks routers → All (λ b. b < block) blocks → after ≡ routers ++ members_of numbers block → IsQueue numbers (blocks ++ block ∷ []) after
+pub queue_more : (numbers blocks routers after : List ℕ) (block : ℕ) → IsQueue numbers blocks routers → All (λ b. b < block) blocks →
+    after ≡ routers ++ members_of numbers block → IsQueue numbers (blocks ++ block ∷ []) after
 queue_more numbers blocks routers after block queue earlier adds =
     let members : List ℕ = members_of numbers block in
     let size : length (routers ++ members) ≡ length routers + length members = length-append routers members in
     let are : All (IsMember numbers block) members = members_all numbers block in
     rw adds (record {
       only = All-append (IsInBlocks numbers (blocks ++ block ∷ [])) routers members
-          (All-weaker (IsInBlocks numbers blocks) (IsInBlocks numbers (blocks ++ block ∷ [])) (λ u w. record { below = w.below; block = Contains-append_left blocks (block ∷ []) _ w.block }) routers queue.only)
-          (All-weaker (IsMember numbers block) (IsInBlocks numbers (blocks ++ block ∷ [])) (λ u m. record { below = m.below; block = subst (Contains (blocks ++ block ∷ [])) (sym m.is) (Contains-push blocks block) }) members are);
+          (All-weaker (IsInBlocks numbers blocks) (IsInBlocks numbers (blocks ++ block ∷ []))
+          (λ u w. record { below = w.below; block = Contains-append_left blocks (block ∷ []) _ w.block }) routers queue.only)
+          (All-weaker (IsMember numbers block) (IsInBlocks numbers (blocks ++ block ∷ []))
+          (λ u m. record { below = m.below; block = subst (Contains (blocks ++ block ∷ [])) (sym m.is) (Contains-push blocks block) }) members are);
       all = λ router within. elim (Contains-push_cases blocks block _ within.block) [
         | inl old ↦ Contains-append_left routers members router (queue.all router (record { below = within.below; block = old }))
         | inr e ↦ Contains-append_right routers members router (member numbers block router within.below (sym e))
@@ -66,7 +75,8 @@ queue_more numbers blocks routers after block queue earlier adds =
             let at_j : slice_index (routers ++ members) j ≡ slice_index routers j = get_or_append_left routers members 0 j old in
             rw (at_i, at_j) (queue.in_order i j less old)
         | inr new ↦
-            let at_j : slice_index (routers ++ members) j ≡ slice_index members (j - length routers) = get_or-append_right routers members (length routers) j 0 refl new in
+            let at_j : slice_index (routers ++ members) j ≡ slice_index members (j - length routers) =
+            get_or-append_right routers members (length routers) j 0 refl new in
             let is_j = (are (j - length routers) 0 (omega arith)).is in
             elim (cases_lt i (length routers)) [
               | inl old ↦
@@ -75,9 +85,11 @@ queue_more numbers blocks routers after block queue earlier adds =
                   let lt : slice_index numbers (slice_index routers i) < block = subst (λ b. b < block) at (earlier k _ within) in
                   rw (at_i, at_j) (inl (omega arith))
               | inr new' ↦
-                  let at_i : slice_index (routers ++ members) i ≡ slice_index members (i - length routers) = get_or-append_right routers members (length routers) i 0 refl new' in
+                  let at_i : slice_index (routers ++ members) i ≡ slice_index members (i - length routers) =
+                  get_or-append_right routers members (length routers) i 0 refl new' in
                   let is_i = (are (i - length routers) 0 (omega arith)).is in
-                  let up : slice_index members (i - length routers) < slice_index members (j - length routers) = rising members (i - length routers) (j - length routers) (members_rise numbers block) (omega arith) (omega arith) in
+                  let up : slice_index members (i - length routers) < slice_index members (j - length routers) =
+                  rising members (i - length routers) (j - length routers) (members_rise numbers block) (omega arith) (omega arith) in
                   rw (at_i, at_j) (inr (is_i ∙ sym is_j, up))
             ]
       ];

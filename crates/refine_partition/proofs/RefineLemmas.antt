@@ -15,7 +15,8 @@ use Rattle.refine_partition.specs.Pending.{AreAllWaiting, AreMarked, IsWaiting, 
 use Rattle.refine_partition.specs.Numbering.{IsNumbering}
 use Rattle.refine_partition.proofs.MemberLemmas.{Contains-cons}
 
-pub refining_start : (graph : ActGraph) (numbers : List ℕ) (count : ℕ) (queue : List ℕ) → IsStart graph numbers count → ((block : ℕ) → block < count → Contains queue block) → All (λ block. block < count) queue → IsRefining graph numbers count queue
+pub refining_start : (graph : ActGraph) (numbers : List ℕ) (count : ℕ) (queue : List ℕ) → IsStart graph numbers count →
+    ((block : ℕ) → block < count → Contains queue block) → All (λ block. block < count) queue → IsRefining graph numbers count queue
 refining_start graph numbers count queue start waiting known =
     let total = start.total in
     record {
@@ -30,7 +31,9 @@ refining_start graph numbers count queue start waiting known =
 
 -- routers of an admissible partition that refines the blocks have edges of the same acts into a block
 -- that they are no members of
-acts_kept : (graph : ActGraph) (numbers others : List ℕ) (taken u v : ℕ) → IsAdmissibleOn graph others → Refines graph.count others numbers → u < graph.count → v < graph.count → slice_index others u ≡ slice_index others v → slice_index numbers u ≢ taken → (act : ℕ) → HasAct graph.edges numbers taken u act → HasAct graph.edges numbers taken v act
+acts_kept : (graph : ActGraph) (numbers others : List ℕ) (taken u v : ℕ) → IsAdmissibleOn graph others → Refines graph.count others numbers → u < graph.count →
+    v < graph.count → slice_index others u ≡ slice_index others v → slice_index numbers u ≢ taken → (act : ℕ) → HasAct graph.edges numbers taken u act →
+    HasAct graph.edges numbers taken v act
 unfolding IsMirroredAt
 acts_kept graph numbers others taken u v admissible refines hu hv same outside act has =
     let (k, e, inside, at, (importer, acts, into)) = has.edge in
@@ -42,7 +45,9 @@ acts_kept graph numbers others taken u v admissible refines hu hv same outside a
     record { edge = (j, twin, within, at', (importer', acts' ∙ acts, refines twin.exporter e.exporter exporter' exporter into' ∙ into)) }
 
 -- an undivided block has the members that it had
-undivided : (graph : ActGraph) (taken : ℕ) (numbers next origins : List ℕ) (before after : ℕ) (block u : ℕ) → AreParted graph taken numbers next before after origins → block < before → ¬ ((k : ℕ) × (k < length origins) × (slice_index origins k ≡ block)) → u < graph.count → slice_index numbers u ≡ block → slice_index next u ≡ block
+undivided : (graph : ActGraph) (taken : ℕ) (numbers next origins : List ℕ) (before after : ℕ) (block u : ℕ) →
+    AreParted graph taken numbers next before after origins → block < before → ¬ ((k : ℕ) × (k < length origins) × (slice_index origins k ≡ block)) →
+    u < graph.count → slice_index numbers u ≡ block → slice_index next u ≡ block
 undivided graph taken numbers next origins before after block u divided old whole hu is = elim (cases_lt (slice_index next u) before) [
   | inl low ↦ divided.kept u hu low ∙ is
   | inr high ↦
@@ -52,9 +57,13 @@ undivided graph taken numbers next origins before after block u divided old whol
       absurd (whole (slice_index next u - before, omega arith, from ∙ is))
 ]
 
-even_after : (graph : ActGraph) (taken : ℕ) (numbers next origins : List ℕ) (before after : ℕ) (block : ℕ) → AreParted graph taken numbers next before after origins → block < before → ¬ ((k : ℕ) × (k < length origins) × (slice_index origins k ≡ block)) → ((u v : ℕ) → u < graph.count → v < graph.count → slice_index next u ≡ slice_index next v → slice_index numbers u ≢ block → ActAlike graph.edges numbers block u v) → IsEven graph next block
+even_after : (graph : ActGraph) (taken : ℕ) (numbers next origins : List ℕ) (before after : ℕ) (block : ℕ) →
+    AreParted graph taken numbers next before after origins → block < before → ¬ ((k : ℕ) × (k < length origins) × (slice_index origins k ≡ block)) →
+    ((u v : ℕ) → u < graph.count → v < graph.count → slice_index next u ≡ slice_index next v → slice_index numbers u ≢ block →
+    ActAlike graph.edges numbers block u v) → IsEven graph next block
 even_after graph taken numbers next origins before after block divided old whole alike =
-    let there : (u : ℕ) → u < graph.count → slice_index numbers u ≡ block → slice_index next u ≡ block = λ u hu is. undivided graph taken numbers next origins before after block u divided old whole hu is in
+    let there : (u : ℕ) → u < graph.count → slice_index numbers u ≡ block → slice_index next u ≡ block =
+    λ u hu is. undivided graph taken numbers next origins before after block u divided old whole hu is in
     let back : (u : ℕ) → u < graph.count → slice_index next u ≡ block → slice_index numbers u ≡ block = λ u hu is. sym (divided.kept u hu (omega arith)) ∙ is in
     let after_has : (u act : ℕ) → HasAct graph.edges numbers block u act → HasAct graph.edges next block u act = λ u act has.
     let (k, e, inside, at, (importer, acts, into)) = has.edge in
@@ -74,7 +83,9 @@ even_after graph taken numbers next origins before after block divided old whole
     }
 
 -- a turn takes one block out of the queue
-pub refining_turn : (graph : ActGraph) (taken : ℕ) (numbers next origins queue left queue' : List ℕ) (before after : ℕ) → IsRefining graph numbers before queue → ((block : ℕ) → Contains queue block → (block ≡ taken) ⊎ Contains left block) → All (λ block. block < before) left → AreParted graph taken numbers next before after origins → ArePiecesWaiting left queue' before origins → IsRefining graph next after queue'
+pub refining_turn : (graph : ActGraph) (taken : ℕ) (numbers next origins queue left queue' : List ℕ) (before after : ℕ) →
+    IsRefining graph numbers before queue → ((block : ℕ) → Contains queue block → (block ≡ taken) ⊎ Contains left block) → All (λ block. block < before) left →
+    AreParted graph taken numbers next before after origins → ArePiecesWaiting left queue' before origins → IsRefining graph next after queue'
 refining_turn graph taken numbers next origins queue left queue' before after refining taken_out known divided waiting =
     let size = divided.size in
     record {
@@ -97,7 +108,8 @@ refining_turn graph taken numbers next origins queue left queue' before after re
             | inl lt ↦ lt
             | inr le ↦ absurd (none (subst (Contains queue') (omega arith) (waiting.further (block - before) (omega arith))))
           ] in
-          let whole : ¬ ((k : ℕ) × (k < length origins) × (slice_index origins k ≡ block)) = λ found. let (k, within, is) = found in none (subst (Contains queue') is (waiting.divided k within)) in
+          let whole : ¬ ((k : ℕ) × (k < length origins) × (slice_index origins k ≡ block)) = λ found. let (k, within, is) = found in
+          none (subst (Contains queue') is (waiting.divided k within)) in
           even_after graph taken numbers next origins before after block divided old whole (λ u v hu hv same outside.
           let stay = divided.apart u v hu hv same in
           elim (cases_eq block taken) [
@@ -106,7 +118,8 @@ refining_turn graph taken numbers next origins queue left queue' before after re
                 let still : ¬ Contains queue block = λ found. elim (taken_out block found) [ inl e ↦ ne e | inr there ↦ none (waiting.kept block there) ] in
                 (refining.even block old still).alike u v hu hv stay.same outside
           ]);
-      known = waiting.known after (λ k d inside. let lt = known k d inside in omega arith) (λ k d inside. let lt = divided.known k d inside in omega arith) (omega arith);
+      known = waiting.known after (λ k d inside. let lt = known k d inside in omega arith) (λ k d inside. let lt = divided.known k d inside in omega arith)
+          (omega arith);
     }
 
 -- where nothing waits the blocks are the coarsest partition
@@ -123,7 +136,8 @@ refining_end graph numbers count refining = record {
           let block : ℕ = slice_index numbers e.exporter in
           let even = refining.even block (refining.below e.exporter exporter) (λ found. let (j, within, at) = found in absurd (omega arith)) in
           let alike = even.alike u v hu hv same (λ is. leaves (sym is)) in
-          let has : HasAct graph.edges numbers block u e.act = record { edge = (k, e, inside, get_or_default graph.edges k e d inside, (imports, refl, refl)) } in
+          let has : HasAct graph.edges numbers block u e.act =
+          record { edge = (k, e, inside, get_or_default graph.edges k e d inside, (imports, refl, refl)) } in
           let (j, twin, within, at, (importer, acts, into)) = (alike.there e.act has).edge in
           (j, twin, within, at, (importer, acts, into));
     };
@@ -132,7 +146,8 @@ refining_end graph numbers count refining = record {
 }
 
 -- numbers that are equal where the blocks are give the same partition
-pub coarsest_by_number : (graph : ActGraph) (blocks numbers : List ℕ) (count : ℕ) → IsCoarsestOn graph blocks → length numbers ≡ length blocks → IsNumbering blocks numbers count → IsCoarsestOn graph numbers
+pub coarsest_by_number : (graph : ActGraph) (blocks numbers : List ℕ) (count : ℕ) → IsCoarsestOn graph blocks → length numbers ≡ length blocks →
+    IsNumbering blocks numbers count → IsCoarsestOn graph numbers
 coarsest_by_number graph blocks numbers count coarsest size numbering =
     let total : length numbers ≡ graph.count = size ∙ coarsest.admissible.total in
     let apart : Refines graph.count numbers blocks = λ u v hu hv same. numbering.apart u v (omega arith) (omega arith) same in
@@ -141,7 +156,8 @@ coarsest_by_number graph blocks numbers count coarsest size numbering =
       admissible = record {
         total = total;
         colors = λ u v hu hv same. coarsest.admissible.colors u v hu hv (apart u v hu hv same);
-        edges = λ u v hu hv same. mirrored_coarser _ blocks numbers graph.count u v graph.exporters_in_range together hu (coarsest.admissible.edges u v hu hv (apart u v hu hv same));
+        edges = λ u v hu hv same. mirrored_coarser _ blocks numbers graph.count u v graph.exporters_in_range together hu
+            (coarsest.admissible.edges u v hu hv (apart u v hu hv same));
       };
       refined = λ others admissible u v hu hv same. together u v hu hv (coarsest.refined others admissible u v hu hv same);
     }
@@ -169,11 +185,13 @@ waiting_first old new block e = rw e (record {
 pub waiting_already : (queue : List ℕ) (block : ℕ) → Contains queue block → IsWaiting queue queue block
 waiting_already queue block there = record { waits = there; kept = λ other found. found; only = λ other found. inl found; few = omega arith }
 
-pub marked_more : (old new : List ℕ) (waits : List Bool) (block : ℕ) → AreMarked old waits → IsWaiting old new block → AreMarked new (slice_set waits block true)
+pub marked_more : (old new : List ℕ) (waits : List Bool) (block : ℕ) → AreMarked old waits → IsWaiting old new block →
+    AreMarked new (slice_set waits block true)
 marked_more old new waits block marked waiting = record {
   marked = λ b inside is. elim (cases_eq b block) [
     | inl e ↦ subst (Contains new) (sym e) waiting.waits
-    | inr ne ↦ let size = length-set waits block true in waiting.kept b (marked.marked b (omega arith) (sym (get_or-set_other waits block b true false ne) ∙ is))
+    | inr ne ↦ let size = length-set waits block true in
+        waiting.kept b (marked.marked b (omega arith) (sym (get_or-set_other waits block b true false ne) ∙ is))
   ];
 }
 
@@ -185,10 +203,12 @@ marked_new queue waits waits' marked e = rw e (record {
   ];
 })
 
-pub marked_taken : (queue left : List ℕ) (waits : List Bool) (block : ℕ) → AreMarked queue waits → queue ≡ left ++ block ∷ [] → block < length waits → AreMarked left (slice_set waits block false)
+pub marked_taken : (queue left : List ℕ) (waits : List Bool) (block : ℕ) → AreMarked queue waits → queue ≡ left ++ block ∷ [] → block < length waits →
+    AreMarked left (slice_set waits block false)
 marked_taken queue left waits block marked e known = record {
   marked = λ b inside is. elim (cases_eq b block) [
-    | inl same ↦ let at : slice_index_or (slice_set waits block false) b false ≡ false = ap (λ i. slice_index_or (slice_set waits block false) i false) same ∙ get_or-set_same waits block false false known in absurd cc
+    | inl same ↦ let at : slice_index_or (slice_set waits block false) b false ≡ false = ap (λ i. slice_index_or (slice_set waits block false) i false) same
+        ∙ get_or-set_same waits block false false known in absurd cc
     | inr ne ↦
         let size = length-set waits block false in
         let found : Contains queue b = marked.marked b (omega arith) (sym (get_or-set_other waits block b false false ne) ∙ is) in
@@ -211,7 +231,8 @@ all_waiting_known old new block bound waiting all lt = λ k d inside. elim (wait
   | inr is ↦ omega arith
 ]
 
-pub pieces_more : (old queue middle new origins : List ℕ) (before origin piece : ℕ) → ArePiecesWaiting old queue before origins → IsWaiting queue middle origin → IsWaiting middle new piece → piece ≡ before + length origins → ArePiecesWaiting old new before (origins ++ origin ∷ [])
+pub pieces_more : (old queue middle new origins : List ℕ) (before origin piece : ℕ) → ArePiecesWaiting old queue before origins →
+    IsWaiting queue middle origin → IsWaiting middle new piece → piece ≡ before + length origins → ArePiecesWaiting old new before (origins ++ origin ∷ [])
 pieces_more old queue middle new origins before origin piece waiting first second is =
     let more = length_push origins origin in
     let kept : (other : ℕ) → Contains queue other → Contains new other = λ other found. second.kept other (first.kept other found) in
@@ -226,9 +247,11 @@ pieces_more old queue middle new origins before origin piece waiting first secon
       ];
       kept = λ other found. kept other (waiting.kept other found);
       known = λ bound olds all le.
-          let all' : All (λ b. b < bound) origins = λ k d inside. subst (λ b. b < bound) (get_or_append_left origins (origin ∷ []) d k inside) (all k d (omega arith)) in
+          let all' : All (λ b. b < bound) origins =
+          λ k d inside. subst (λ b. b < bound) (get_or_append_left origins (origin ∷ []) d k inside) (all k d (omega arith)) in
           let last : origin < bound = subst (λ b. b < bound) (get_or_push origins origin 0 (length origins) refl) (all (length origins) 0 (omega arith)) in
-          all_waiting_known middle new piece bound second (all_waiting_known queue middle origin bound first (waiting.known bound olds all' (omega arith)) last) (omega arith);
+          all_waiting_known middle new piece bound second (all_waiting_known queue middle origin bound first (waiting.known bound olds all' (omega arith)) last)
+          (omega arith);
       few = let few = waiting.few in let few' = first.few in let few'' = second.few in omega arith;
     }
 
@@ -244,9 +267,11 @@ left_known queue left block bound e all =
     )
 
 pub taken_or_left : (queue left : List ℕ) (taken : ℕ) → queue ≡ left ++ taken ∷ [] → (block : ℕ) → Contains queue block → (block ≡ taken) ⊎ Contains left block
-taken_or_left queue left taken e block found = elim (Contains-push_cases left taken block (subst (λ (q : List ℕ). Contains q block) e found)) [ inl there ↦ inr there | inr is ↦ inl (sym is) ]
+taken_or_left queue left taken e block found =
+    elim (Contains-push_cases left taken block (subst (λ (q : List ℕ). Contains q block) e found)) [ inl there ↦ inr there | inr is ↦ inl (sym is) ]
 
-pub all_more : (count : ℕ) (queue : List ℕ) (waits : List Bool) → AreAllWaiting count queue waits → AreAllWaiting (count + 1) (queue ++ count ∷ []) (waits ++ true ∷ [])
+pub all_more : (count : ℕ) (queue : List ℕ) (waits : List Bool) → AreAllWaiting count queue waits →
+    AreAllWaiting (count + 1) (queue ++ count ∷ []) (waits ++ true ∷ [])
 all_more count queue waits all = record {
   size = let size = all.size in let more = length_push waits true in omega arith;
   few = let few = all.few in let more = length_push queue count in omega arith;

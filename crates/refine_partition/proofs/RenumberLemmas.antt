@@ -25,7 +25,8 @@ first_least numbers block u below is =
     ]
 
 -- the first member of a block that has one
-pub first_member : (numbers : List ℕ) (block u : ℕ) → u < length numbers → slice_index numbers u ≡ block → IsMember numbers block (slice_index (members_of numbers block) 0)
+pub first_member : (numbers : List ℕ) (block u : ℕ) → u < length numbers → slice_index numbers u ≡ block →
+    IsMember numbers block (slice_index (members_of numbers block) 0)
 first_member numbers block u below is =
     let (k, inside, at) = member numbers block u below is in
     members_all numbers block 0 0 (omega arith)
@@ -42,9 +43,11 @@ pub record Renumbering (numbers classes done : List ℕ) (before : ℕ) (next or
   pub origin : (u k : ℕ) → Contains done u → slice_index next u ≡ before + k → slice_index origins k ≡ slice_index numbers u
   pub least : (v : ℕ) → v < length numbers → ((u : ℕ) → u < v → slice_index numbers u ≢ slice_index numbers v) → slice_index next v ≡ slice_index numbers v
   pub used : (k : ℕ) → k < length origins → (u : ℕ) × Contains done u × (slice_index next u ≡ before + k)
-  pub in_order : (i number : ℕ) → i < length done → before ≤ number → number < slice_index next (slice_index done i) → (j : ℕ) × (j < i) × (slice_index next (slice_index done j) ≡ number)
+  pub in_order : (i number : ℕ) → i < length done → before ≤ number → number < slice_index next (slice_index done i) →
+      (j : ℕ) × (j < i) × (slice_index next (slice_index done j) ≡ number)
 
-pub renumbered_all : (numbers classes queue : List ℕ) (before : ℕ) (next origins : List ℕ) (names : ℕ → Option ℕ) → Renumbering numbers classes queue before next origins names → IsRenumbered numbers classes queue before next origins
+pub renumbered_all : (numbers classes queue : List ℕ) (before : ℕ) (next origins : List ℕ) (names : ℕ → Option ℕ) →
+    Renumbering numbers classes queue before next origins names → IsRenumbered numbers classes queue before next origins
 renumbered_all numbers classes queue before next origins names so_far = record {
   total = so_far.total;
   rest = so_far.rest;
@@ -58,7 +61,8 @@ renumbered_all numbers classes queue before next origins names so_far = record {
   in_order = so_far.in_order;
 }
 
-pub renumbered_none : (numbers classes queue : List ℕ) (before : ℕ) (names : ℕ → Option ℕ) → ((class : ℕ) → names class ≡ None) → All (λ n. n < before) numbers → Renumbering numbers classes (take 0 queue) before numbers [] names
+pub renumbered_none : (numbers classes queue : List ℕ) (before : ℕ) (names : ℕ → Option ℕ) → ((class : ℕ) → names class ≡ None) →
+    All (λ n. n < before) numbers → Renumbering numbers classes (take 0 queue) before numbers [] names
 renumbered_none numbers classes queue before names none below = record {
   total = refl;
   rest = λ u hu away. refl;
@@ -83,7 +87,9 @@ any_at (x ∷ xs) q (suc k) inside at = by (nat_eq q x) (any_at xs q k (omega ar
     by false found = found
 
 -- no more numbers than routers
-pub few_numbers : (numbers classes done : List ℕ) (blocks : List (Vec ℕ Global)) (class_count : ℕ) (next origins : List ℕ) (names : ℕ → Option ℕ) → IsRefined numbers blocks classes class_count → All (λ u. u < length numbers) done → Renumbering numbers classes done (length blocks) next origins names → length blocks + length origins ≤ length numbers
+pub few_numbers : (numbers classes done : List ℕ) (blocks : List (Vec ℕ Global)) (class_count : ℕ) (next origins : List ℕ) (names : ℕ → Option ℕ) →
+    IsRefined numbers blocks classes class_count → All (λ u. u < length numbers) done → Renumbering numbers classes done (length blocks) next origins names →
+    length blocks + length origins ≤ length numbers
 few_numbers numbers classes done blocks class_count next origins names given below so_far =
     let total = so_far.total in
     let bound : length blocks + length origins ≤ length next = le-length_from_below next (length blocks + length origins) (λ q inside.
@@ -104,8 +110,19 @@ few_numbers numbers classes done blocks class_count next origins names given bel
     omega arith
 
 -- one more router takes this number
-pub renumbered_more : (numbers classes done : List ℕ) (before : ℕ) (next origins origins' : List ℕ) (names names' : ℕ → Option ℕ) (router class number : ℕ) → Renumbering numbers classes done before next origins names → router < length numbers → ((w : ℕ) → Contains done w → StandsBefore numbers w router) → slice_index classes router ≡ class → names' class ≡ Some number → ((other : ℕ) → other ≢ class → names' other ≡ names other) → ((names class ≡ Some number) ⊎ ((names class ≡ None) × ((w : ℕ) → Contains done w → slice_index next w ≢ number))) → (number < before → number ≡ slice_index numbers router) → number < before + length origins' → ((k : ℕ) → number ≡ before + k → slice_index origins' k ≡ slice_index numbers router) → length origins ≤ length origins' → ((k : ℕ) → k < length origins → slice_index origins' k ≡ slice_index origins k) → ((k : ℕ) → length origins ≤ k → k < length origins' → number ≡ before + k) → (((u : ℕ) → u < router → slice_index numbers u ≢ slice_index numbers router) → number ≡ slice_index numbers router) → ((q : ℕ) → before ≤ q → q < number → (j : ℕ) × (j < length done) × (slice_index next (slice_index done j) ≡ q)) → Renumbering numbers classes (done ++ router ∷ []) before (slice_set next router number) origins' names'
-renumbered_more numbers classes done before next origins origins' names names' router class number so_far inside stands is named others was kept below origin longer prefix new least earlier =
+pub renumbered_more : (numbers classes done : List ℕ) (before : ℕ) (next origins origins' : List ℕ) (names names' : ℕ → Option ℕ) (router class number : ℕ) →
+    Renumbering numbers classes done before next origins names → router < length numbers → ((w : ℕ) → Contains done w → StandsBefore numbers w router) →
+    slice_index classes router ≡ class → names' class ≡ Some number → ((other : ℕ) → other ≢ class → names' other ≡ names other) →
+    ((names class ≡ Some number) ⊎ ((names class ≡ None) × ((w : ℕ) → Contains done w → slice_index next w ≢ number))) →
+    (number < before → number ≡ slice_index numbers router) → number < before + length origins' →
+    ((k : ℕ) → number ≡ before + k → slice_index origins' k ≡ slice_index numbers router) → length origins ≤ length origins' →
+    ((k : ℕ) → k < length origins → slice_index origins' k ≡ slice_index origins k) →
+    ((k : ℕ) → length origins ≤ k → k < length origins' → number ≡ before + k) →
+    (((u : ℕ) → u < router → slice_index numbers u ≢ slice_index numbers router) → number ≡ slice_index numbers router) →
+    ((q : ℕ) → before ≤ q → q < number → (j : ℕ) × (j < length done) × (slice_index next (slice_index done j) ≡ q)) →
+    Renumbering numbers classes (done ++ router ∷ []) before (slice_set next router number) origins' names'
+renumbered_more numbers classes done before next origins origins' names names' router class number so_far inside stands is named others was kept below origin
+    longer prefix new least earlier =
     let next' : List ℕ = slice_set next router number in
     let total = so_far.total in
     let here : slice_index next' router ≡ number = get_or-set_same next router number 0 (omega arith) in
@@ -128,7 +145,8 @@ renumbered_more numbers classes done before next origins origins' names names' r
     ] in
     record {
       total = length-set next router number ∙ total;
-      rest = λ u hu away. there u (λ e. away (subst (Contains (done ++ router ∷ [])) (sym e) (Contains-push done router))) ∙ so_far.rest u hu (λ found. away (Contains-append_left done (router ∷ []) u found));
+      rest = λ u hu away. there u (λ e. away (subst (Contains (done ++ router ∷ [])) (sym e) (Contains-push done router)))
+          ∙ so_far.rest u hu (λ found. away (Contains-append_left done (router ∷ []) u found));
       named = λ u found. elim (cases u found) [
         | inl earlier' ↦
             let was_named = so_far.named u earlier' in
@@ -185,18 +203,27 @@ renumbered_more numbers classes done before next origins origins' names names' r
                 let at_i : slice_index (done ++ router ∷ []) i ≡ slice_index done i = get_or_append_left done (router ∷ []) 0 i lt in
                 let v = old (slice_index done i) (Contains-get_or done i 0 lt) in
                 let high' : q < slice_index next (slice_index done i) = subst (λ n. q < n) (ap (slice_index next') at_i ∙ v) high in
-                let (j, less, at) = so_far.in_order i q lt low high' in
-                (j, less, ap (slice_index next') (get_or_append_left done (router ∷ []) 0 j (omega arith)) ∙ old (slice_index done j) (Contains-get_or done j 0 (omega arith)) ∙ at)
+                let (j, less, at) = so_far.in_order i q lt low high' in (
+                  j,
+                  less,
+                  ap (slice_index next') (get_or_append_left done (router ∷ []) 0 j (omega arith))
+                      ∙ old (slice_index done j) (Contains-get_or done j 0 (omega arith)) ∙ at,
+                )
             | inr le ↦
                 let at_i : slice_index (done ++ router ∷ []) i ≡ router = get_or_push done router 0 i (omega arith) in
                 let high' : q < number = subst (λ n. q < n) (ap (slice_index next') at_i ∙ here) high in
-                let (j, less, at) = earlier q low high' in
-                (j, omega arith, ap (slice_index next') (get_or_append_left done (router ∷ []) 0 j less) ∙ old (slice_index done j) (Contains-get_or done j 0 less) ∙ at)
+                let (j, less, at) = earlier q low high' in (
+                  j,
+                  omega arith,
+                  ap (slice_index next') (get_or_append_left done (router ∷ []) 0 j less)
+                      ∙ old (slice_index done j) (Contains-get_or done j 0 less) ∙ at,
+                )
           ];
     }
 
 -- the first routers of a queue stand before the next one
-stands_before : (numbers queue : List ℕ) (k w : ℕ) → IsQueueOf numbers queue → k < length queue → Contains (take k queue) w → StandsBefore numbers w (slice_index queue k)
+stands_before : (numbers queue : List ℕ) (k w : ℕ) → IsQueueOf numbers queue → k < length queue → Contains (take k queue) w →
+    StandsBefore numbers w (slice_index queue k)
 stands_before numbers queue k w queued here (i, inside, at) =
     let size = length-take k queue in
     let less : i < k = omega arith in
@@ -220,7 +247,8 @@ renumbered_next numbers classes queue before k next origins origins' names names
     let done : List ℕ = take k queue in
     let inside : router < length numbers = queued.below k 0 here in
     let stands : (w : ℕ) → Contains done w → StandsBefore numbers w router = λ w found. stands_before numbers queue k w queued here found in
-    let in_range : (w : ℕ) → Contains done w → w < length numbers = λ w found. All-contains (λ u. u < length numbers) done w (All-take (λ u. u < length numbers) k queue queued.below) found in
+    let in_range : (w : ℕ) → Contains done w → w < length numbers =
+    λ w found. All-contains (λ u. u < length numbers) done w (All-take (λ u. u < length numbers) k queue queued.below) found in
     let not_first : (w : ℕ) → Contains done w → slice_index numbers w ≡ slice_index numbers router → w < router = λ w found same. elim (stands w found) [
       | inl lt ↦ absurd (omega arith)
       | inr e ↦ e.1

@@ -29,7 +29,8 @@ list_at [] k h = absurd (omega arith)
 list_at (v ∷ vs) zero h = record { list = v; is = refl; items = refl }
 list_at (v ∷ vs) (suc k) h = let at = list_at vs k (omega arith) in record { list = at.list; is = at.is; items = at.items }
 
-pub list_of_block : (blocks : List (Vec ℕ Global)) (k : ℕ) (v : Vec ℕ Global) → k < length blocks → v ≡ get_or blocks k v → v.items ≡ get_or (lists_of blocks) k []
+pub list_of_block : (blocks : List (Vec ℕ Global)) (k : ℕ) (v : Vec ℕ Global) → k < length blocks → v ≡ get_or blocks k v →
+    v.items ≡ get_or (lists_of blocks) k []
 list_of_block [] k v h e = absurd (omega arith)
 list_of_block (w ∷ ws) zero v h e = ap (λ (x : Vec ℕ Global). x.items) e
 list_of_block (w ∷ ws) (suc k) v h e = list_of_block ws k v (omega arith) e
@@ -45,7 +46,8 @@ blocks_are numbers blocks are =
     let at = list_at blocks k (omega arith) in
     at.items ∙ ap (λ (v : Vec ℕ Global). v.items) (sym at.is) ∙ are.each k at.list (omega arith) ∙ sym (block_at numbers n k inside))
 
-pub own_numbers : (count : ℕ) (numbers : List ℕ) (blocks : List (Vec ℕ Global)) → length numbers ≡ count → AreNumbered numbers blocks → AreNumbersOf count (lists_of blocks) numbers
+pub own_numbers : (count : ℕ) (numbers : List ℕ) (blocks : List (Vec ℕ Global)) → length numbers ≡ count → AreNumbered numbers blocks →
+    AreNumbersOf count (lists_of blocks) numbers
 own_numbers count numbers blocks total numbered =
     let size = lists_size blocks in
     record {
@@ -61,7 +63,8 @@ no_longer a b n same below = elim (cases_lt (length b) (length a)) [
       let u : ℕ = length b in
       let block : ℕ = slice_index a u in
       let inside : block < n = below u 0 lt in
-      let members : members_of a block ≡ members_of b block = sym (block_at a n block inside) ∙ ap (λ (bs : List (List ℕ)). get_or bs block []) same ∙ block_at b n block inside in
+      let members : members_of a block ≡ members_of b block = sym (block_at a n block inside) ∙ ap (λ (bs : List (List ℕ)). get_or bs block []) same
+      ∙ block_at b n block inside in
       let found : Contains (members_of b block) u = subst (λ (ms : List ℕ). Contains ms u) members (member a block u lt refl) in
       let is = All-contains (IsMember b block) (members_of b block) u (members_all b block) found in
       let lt' = is.below in
@@ -70,7 +73,8 @@ no_longer a b n same below = elim (cases_lt (length b) (length a)) [
 ]
 
 -- the routers of the blocks are those of the graph
-pub all_routers : (graph : ActGraph) (numbers : List ℕ) (blocks : List (Vec ℕ Global)) (lists : List (List ℕ)) → AreNumbered numbers blocks → lists_of blocks ≡ lists → IsSplittingOf graph lists → length numbers ≡ graph.count
+pub all_routers : (graph : ActGraph) (numbers : List ℕ) (blocks : List (Vec ℕ Global)) (lists : List (List ℕ)) → AreNumbered numbers blocks →
+    lists_of blocks ≡ lists → IsSplittingOf graph lists → length numbers ≡ graph.count
 all_routers graph numbers blocks lists numbered is splitting =
     let n : ℕ = length lists in
     let own = own_numbers (length numbers) numbers blocks refl numbered in
@@ -83,14 +87,16 @@ all_routers graph numbers blocks lists numbered is splitting =
     let total = others.total in
     omega arith
 
-pub numbered_blocks : (numbers : List ℕ) (count : ℕ) (blocks : List (Vec ℕ Global)) → IsNumbered numbers count → length blocks ≡ count → AreBlocks numbers blocks → AreNumbered numbers blocks
+pub numbered_blocks : (numbers : List ℕ) (count : ℕ) (blocks : List (Vec ℕ Global)) → IsNumbered numbers count → length blocks ≡ count →
+    AreBlocks numbers blocks → AreNumbered numbers blocks
 numbered_blocks numbers count blocks numbered size are = record {
   members = are;
   below = λ k d inside. let lt = numbered.below k d inside in omega arith;
   nonempty = λ block inside. place_of numbers block (numbered.used block (omega arith));
 }
 
-pub started : (graph : ActGraph) (numbers : List ℕ) (count : ℕ) (blocks : List (Vec ℕ Global)) → length numbers ≡ graph.count → IsNumbering graph.colors numbers count → length blocks ≡ count → AreBlocks numbers blocks → IsStartOf graph (lists_of blocks)
+pub started : (graph : ActGraph) (numbers : List ℕ) (count : ℕ) (blocks : List (Vec ℕ Global)) → length numbers ≡ graph.count →
+    IsNumbering graph.colors numbers count → length blocks ≡ count → AreBlocks numbers blocks → IsStartOf graph (lists_of blocks)
 started graph numbers count blocks total numbering size are =
     let size' : count ≡ length (lists_of blocks) = sym size ∙ sym (lists_size blocks) in
     let small = numbering.small in
@@ -106,11 +112,14 @@ started graph numbers count blocks total numbering size are =
       });
     }
 
-pub split_of : (graph : ActGraph) (taken : ℕ) (numbers next : List ℕ) (blocks after : List (Vec ℕ Global)) → length numbers ≡ graph.count → AreNumbered numbers blocks → AreNumbered next after → IsSplit graph taken numbers next (length blocks) (length after) → IsSplitOf graph taken (lists_of blocks) (lists_of after)
+pub split_of : (graph : ActGraph) (taken : ℕ) (numbers next : List ℕ) (blocks after : List (Vec ℕ Global)) → length numbers ≡ graph.count →
+    AreNumbered numbers blocks → AreNumbered next after → IsSplit graph taken numbers next (length blocks) (length after) →
+    IsSplitOf graph taken (lists_of blocks) (lists_of after)
 split_of graph taken numbers next blocks after total numbered numbered' split = record {
   old_numbers = numbers;
   new_numbers = next;
   old_are = own_numbers graph.count numbers blocks total numbered;
   new_are = own_numbers graph.count next after split.total numbered';
-  split = subst (λ n. IsSplit graph taken numbers next n (length (lists_of after))) (sym (lists_size blocks)) (subst (IsSplit graph taken numbers next (length blocks)) (sym (lists_size after)) split);
+  split = subst (λ n. IsSplit graph taken numbers next n (length (lists_of after))) (sym (lists_size blocks))
+      (subst (IsSplit graph taken numbers next (length blocks)) (sym (lists_size after)) split);
 }

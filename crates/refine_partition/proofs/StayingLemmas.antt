@@ -39,19 +39,26 @@ not_first gone u list ne (zero, inside, at) = absurd (ne at)
 not_first gone u list ne (suc k, inside, at) = (k, omega arith, at)
 
 -- a router that has left the block is dropped
-pub looking_dropped : (numbers classes old list list' : List ℕ) (block place gone : ℕ) → Looking numbers classes old list block place → place < length list → gone ≡ slice_index_or list place gone → list' ≡ swap_remove list place gone → slice_index numbers gone ≢ block → Looking numbers classes old list' block place
+pub looking_dropped : (numbers classes old list list' : List ℕ) (block place gone : ℕ) → Looking numbers classes old list block place → place < length list →
+    gone ≡ slice_index_or list place gone → list' ≡ swap_remove list place gone → slice_index numbers gone ≢ block →
+    Looking numbers classes old list' block place
 looking_dropped numbers classes old list list' block place gone looking inside read items left =
     let last : ℕ = slice_index_or list (length list - 1) gone in
-    let size : length list' + 1 ≡ length list = let taken = ap length items ∙ length-take (length list - 1) (slice_set list place last) in let set = length-set list place last in omega arith in
+    let size : length list' + 1 ≡ length list = let taken = ap length items ∙ length-take (length list - 1) (slice_set list place last) in let set =
+    length-set list place last in omega arith in
     let same : (k : ℕ) → k ≢ place → k + 1 < length list → slice_index list' k ≡ slice_index list k = λ k ne less.
-    ap (λ (xs : List ℕ). slice_index xs k) items ∙ get_or-take (length list - 1) (slice_set list place last) k 0 (omega arith) ∙ get_or-set_other list place k last 0 ne in
-    let moved : IsPermutation list (gone ∷ list') = subst (λ (xs : List ℕ). IsPermutation list (gone ∷ xs)) (sym items) (IsPermutation-swap_remove list place gone inside read) in
+    ap (λ (xs : List ℕ). slice_index xs k) items ∙ get_or-take (length list - 1) (slice_set list place last) k 0 (omega arith)
+    ∙ get_or-set_other list place k last 0 ne in
+    let moved : IsPermutation list (gone ∷ list') =
+    subst (λ (xs : List ℕ). IsPermutation list (gone ∷ xs)) (sym items) (IsPermutation-swap_remove list place gone inside read) in
     let all : All (λ u. u < length numbers) (gone ∷ list') = All-permutation (λ u. u < length numbers) list (gone ∷ list') moved looking.routers in
     record {
       within = omega arith;
       routers = λ k d within. all (suc k) d (omega arith);
-      members = λ u found is. not_first gone u list' (λ e. left (ap (slice_index numbers) e ∙ is)) (Contains-permutation list (gone ∷ list') u moved (looking.members u found is));
-      only = λ u found. looking.only u (Contains-permutation (gone ∷ list') list u (IsPermutation-sym list (gone ∷ list') moved) (Contains-cons gone list' u found));
+      members = λ u found is. not_first gone u list' (λ e. left (ap (slice_index numbers) e ∙ is))
+          (Contains-permutation list (gone ∷ list') u moved (looking.members u found is));
+      only = λ u found. looking.only u (Contains-permutation (gone ∷ list') list u (IsPermutation-sym list (gone ∷ list') moved)
+          (Contains-cons gone list' u found));
       looked = λ i less.
           let at : slice_index list' i ≡ slice_index list i = same i (λ e. omega arith) (omega arith) in
           let was = looking.looked i less in
@@ -59,7 +66,9 @@ looking_dropped numbers classes old list list' block place gone looking inside r
     }
 
 -- a member that edges reach stays in the list
-pub looking_more : (numbers classes old list : List ℕ) (block place router : ℕ) → Looking numbers classes old list block place → place < length list → slice_index list place ≡ router → slice_index numbers router ≡ block → slice_index classes router ≢ block → Looking numbers classes old list block (place + 1)
+pub looking_more : (numbers classes old list : List ℕ) (block place router : ℕ) → Looking numbers classes old list block place → place < length list →
+    slice_index list place ≡ router → slice_index numbers router ≡ block → slice_index classes router ≢ block →
+    Looking numbers classes old list block (place + 1)
 looking_more numbers classes old list block place router looking inside at is other = record {
   within = omega arith;
   routers = looking.routers;
@@ -77,19 +86,22 @@ pub still_listed : (numbers classes old list : List ℕ) (block place : ℕ) →
 still_listed numbers classes old list block place looking = record { routers = looking.routers; members = looking.members }
 
 -- a member that no edge reaches
-pub looking_found : (numbers classes old list : List ℕ) (block place router : ℕ) → Looking numbers classes old list block place → place < length list → slice_index list place ≡ router → slice_index numbers router ≡ block → slice_index classes router ≡ block → IsStayingClass numbers classes block old block
+pub looking_found : (numbers classes old list : List ℕ) (block place router : ℕ) → Looking numbers classes old list block place → place < length list →
+    slice_index list place ≡ router → slice_index numbers router ≡ block → slice_index classes router ≡ block → IsStayingClass numbers classes block old block
 looking_found numbers classes old list block place router looking inside at is class = record {
   member = (router, looking.only router (subst (Contains list) at (Contains-get_or list place 0 inside)), is, class);
   all_left = λ ne. absurd (ne refl);
 }
 
 -- a list that still has a member
-pub looking_some : (numbers classes old list : List ℕ) (block place : ℕ) → Looking numbers classes old list block place → HasMember numbers block old → 0 < length list
+pub looking_some : (numbers classes old list : List ℕ) (block place : ℕ) → Looking numbers classes old list block place → HasMember numbers block old →
+    0 < length list
 looking_some numbers classes old list block place looking (u, found, is) =
     let (k, inside, at) = looking.members u found is in omega arith
 
 -- edges reach all members
-pub looking_end : (numbers classes old list : List ℕ) (block place class : ℕ) → Looking numbers classes old list block place → length list ≤ place → HasMember numbers block old → slice_index classes (slice_index list 0) ≡ class → IsStayingClass numbers classes block old class
+pub looking_end : (numbers classes old list : List ℕ) (block place class : ℕ) → Looking numbers classes old list block place → length list ≤ place →
+    HasMember numbers block old → slice_index classes (slice_index list 0) ≡ class → IsStayingClass numbers classes block old class
 looking_end numbers classes old list block place class looking all some is =
     let more = looking_some numbers classes old list block place looking some in
     let first = looking.looked 0 (omega arith) in
@@ -102,55 +114,71 @@ looking_end numbers classes old list block place class looking all some is =
     }
 
 -- the list of one block is another, which still has its members
-pub listed_set : (numbers : List ℕ) (lists : List (Vec ℕ Global)) (block : ℕ) (list list' : Vec ℕ Global) → AreListed numbers lists → block < length lists → list ≡ slice_index_or lists block list → IsStillListed numbers block list.items list'.items → AreListed numbers (slice_set lists block list')
+pub listed_set : (numbers : List ℕ) (lists : List (Vec ℕ Global)) (block : ℕ) (list list' : Vec ℕ Global) → AreListed numbers lists → block < length lists →
+    list ≡ slice_index_or lists block list → IsStillListed numbers block list.items list'.items → AreListed numbers (slice_set lists block list')
 listed_set numbers lists block list list' listed known read still =
     let size = length-set lists block list' in
     record {
       below = All-weaker (λ n. n < length lists) (λ n. n < length (slice_set lists block list')) (λ n lt. omega arith) numbers listed.below;
       routers = λ b d inside. elim (cases_eq b block) [
         | inl e ↦
-            let here : slice_index_or (slice_set lists block list') b d ≡ list' = ap (λ i. slice_index_or (slice_set lists block list') i d) e ∙ get_or-set_same lists block list' d known in
+            let here : slice_index_or (slice_set lists block list') b d ≡ list' = ap (λ i. slice_index_or (slice_set lists block list') i d) e
+            ∙ get_or-set_same lists block list' d known in
             rw here still.routers
         | inr ne ↦ rw (get_or-set_other lists block b list' d ne) (listed.routers b d (omega arith))
       ];
       members = λ u d hu. elim (cases_eq (slice_index numbers u) block) [
         | inl e ↦
-            let here : slice_index_or (slice_set lists block list') (slice_index numbers u) d ≡ list' = ap (λ i. slice_index_or (slice_set lists block list') i d) e ∙ get_or-set_same lists block list' d known in
-            let was : Contains list.items u = subst (λ (v : Vec ℕ Global). Contains v.items u) (ap (λ i. slice_index_or lists i list) e ∙ sym read) (listed.members u list hu) in
+            let here : slice_index_or (slice_set lists block list') (slice_index numbers u) d ≡ list' =
+            ap (λ i. slice_index_or (slice_set lists block list') i d) e ∙ get_or-set_same lists block list' d known in
+            let was : Contains list.items u = subst (λ (v : Vec ℕ Global). Contains v.items u) (ap (λ i. slice_index_or lists i list) e ∙ sym read)
+            (listed.members u list hu) in
             rw here (still.members u was e)
         | inr ne ↦ rw (get_or-set_other lists block (slice_index numbers u) list' d ne) (listed.members u d hu)
       ];
     }
 
-pub has_member : (numbers : List ℕ) (lists : List (Vec ℕ Global)) (block : ℕ) (list : Vec ℕ Global) → AreListed numbers lists → AreUsed (length lists) numbers → block < length lists → list ≡ slice_index_or lists block list → HasMember numbers block list.items
+pub has_member : (numbers : List ℕ) (lists : List (Vec ℕ Global)) (block : ℕ) (list : Vec ℕ Global) → AreListed numbers lists → AreUsed (length lists) numbers →
+    block < length lists → list ≡ slice_index_or lists block list → HasMember numbers block list.items
 has_member numbers lists block list listed used known read =
     let (u, hu, is) = used block known in
     (u, subst (λ (v : Vec ℕ Global). Contains v.items u) (ap (λ i. slice_index_or lists i list) is ∙ sym read) (listed.members u list hu), is)
 
-pub routers_of : (numbers : List ℕ) (lists : List (Vec ℕ Global)) (block : ℕ) (list : Vec ℕ Global) → AreListed numbers lists → block < length lists → list ≡ slice_index_or lists block list → All (λ u. u < length numbers) list.items
-routers_of numbers lists block list listed known read = subst (λ (v : Vec ℕ Global). All (λ u. u < length numbers) v.items) (sym read) (listed.routers block list known)
+pub routers_of : (numbers : List ℕ) (lists : List (Vec ℕ Global)) (block : ℕ) (list : Vec ℕ Global) → AreListed numbers lists → block < length lists →
+    list ≡ slice_index_or lists block list → All (λ u. u < length numbers) list.items
+routers_of numbers lists block list listed known read =
+    subst (λ (v : Vec ℕ Global). All (λ u. u < length numbers) v.items) (sym read) (listed.routers block list known)
 
-staying_of : (numbers classes : List ℕ) (lists : List (Vec ℕ Global)) (block class : ℕ) (list : Vec ℕ Global) → AreListed numbers lists → block < length lists → list ≡ slice_index_or lists block list → IsStayingClass numbers classes block list.items class → IsStaying numbers classes block class
+staying_of : (numbers classes : List ℕ) (lists : List (Vec ℕ Global)) (block class : ℕ) (list : Vec ℕ Global) → AreListed numbers lists → block < length lists →
+    list ≡ slice_index_or lists block list → IsStayingClass numbers classes block list.items class → IsStaying numbers classes block class
 staying_of numbers classes lists block class list listed known read staying =
     let (u, found, is, has) = staying.member in
     record {
       member = (u, All-contains (λ w. w < length numbers) list.items u (routers_of numbers lists block list listed known read) found, is, has);
-      all_left = λ ne w hw in_block. staying.all_left ne w (subst (λ (v : Vec ℕ Global). Contains v.items w) (ap (λ i. slice_index_or lists i list) in_block ∙ sym read) (listed.members w list hw)) in_block;
+      all_left = λ ne w hw in_block. staying.all_left ne w
+          (subst (λ (v : Vec ℕ Global). Contains v.items w) (ap (λ i. slice_index_or lists i list) in_block ∙ sym read) (listed.members w list hw)) in_block;
     }
 
 -- the class of one more block, which is none of the earlier ones
-pub staying_more : (numbers classes blocks : List ℕ) (lists : List (Vec ℕ Global)) (names names' : ClassNames) (block class : ℕ) (list : Vec ℕ Global) → AreStaying numbers classes blocks names → AreFiner numbers classes → ¬ Contains blocks block → AreListed numbers lists → block < length lists → list ≡ slice_index_or lists block list → IsStayingClass numbers classes block list.items class → IsNamedAs names names' class block → AreStaying numbers classes (blocks ++ block ∷ []) names'
+pub staying_more : (numbers classes blocks : List ℕ) (lists : List (Vec ℕ Global)) (names names' : ClassNames) (block class : ℕ) (list : Vec ℕ Global) →
+    AreStaying numbers classes blocks names → AreFiner numbers classes → ¬ Contains blocks block → AreListed numbers lists → block < length lists →
+    list ≡ slice_index_or lists block list → IsStayingClass numbers classes block list.items class → IsNamedAs names names' class block →
+    AreStaying numbers classes (blocks ++ block ∷ []) names'
 staying_more numbers classes blocks lists names names' block class list are finer new listed known read staying named =
     let own : IsStaying numbers classes block class = staying_of numbers classes lists block class list listed known read staying in
     let (u, hu, is, has) = own.member in
-    let by_class : (a n : ℕ) → get nat_eq names' a ≡ Some n → ((a ≡ class) × (n ≡ block)) ⊎ ((a ≢ class) × (get nat_eq names a ≡ Some n)) = λ a n found. elim (cases_eq a class) [
+    let by_class : (a n : ℕ) → get nat_eq names' a ≡ Some n → ((a ≡ class) × (n ≡ block)) ⊎ ((a ≢ class) × (get nat_eq names a ≡ Some n)) =
+    λ a n found. elim (cases_eq a class) [
       | inl e ↦ inl (e, let found' = ap (λ i. get nat_eq names' i) (sym e) ∙ found in let named' = named.named in cc)
       | inr ne ↦ inr (ne, sym (named.others a ne) ∙ found)
     ] in
     let no_other : (a : ℕ) → get nat_eq names a ≡ Some block → ⊥ = λ a found. new (are.only a block found).0 in
     record {
       only = λ a n found. elim (by_class a n found) [
-        | inl e ↦ (subst (Contains (blocks ++ block ∷ [])) (sym e.1) (Contains-push blocks block), subst (λ b. IsStaying numbers classes b a) (sym e.1) (subst (IsStaying numbers classes block) (sym e.0) own))
+        | inl e ↦ (
+          subst (Contains (blocks ++ block ∷ [])) (sym e.1) (Contains-push blocks block),
+          subst (λ b. IsStaying numbers classes b a) (sym e.1) (subst (IsStaying numbers classes block) (sym e.0) own),
+        )
         | inr o ↦ let was = are.only a n o.1 in (Contains-append_left blocks (block ∷ []) n was.0, was.1)
       ];
       one = λ a b n first second. elim (by_class a n first) [
@@ -174,7 +202,8 @@ staying_more numbers classes blocks lists names names' block class list are fine
           (class, named.named);
     }
 
-pub staying_none : (numbers classes blocks : List ℕ) (names : ClassNames) → ((class : ℕ) → get nat_eq names class ≡ None) → AreStaying numbers classes (take 0 blocks) names
+pub staying_none : (numbers classes blocks : List ℕ) (names : ClassNames) → ((class : ℕ) → get nat_eq names class ≡ None) →
+    AreStaying numbers classes (take 0 blocks) names
 staying_none numbers classes blocks names none = record {
   only = λ class number is. let no = none class in absurd cc;
   one = λ a b number is. let no = none a in absurd cc;
@@ -182,13 +211,15 @@ staying_none numbers classes blocks names none = record {
 }
 
 -- a filter keeps the members of the block
-pub members_kept : (numbers list list' : List ℕ) (block : ℕ) → All (λ u. u < length numbers) list → list' ≡ filter (is_numbered numbers block) list → IsStillListed numbers block list list' × All (λ u. slice_index numbers u ≡ block) list'
+pub members_kept : (numbers list list' : List ℕ) (block : ℕ) → All (λ u. u < length numbers) list → list' ≡ filter (is_numbered numbers block) list →
+    IsStillListed numbers block list list' × All (λ u. slice_index numbers u ≡ block) list'
 members_kept numbers list list' block routers is =
     let passes = filter_passes (is_numbered numbers block) list in
     rw is (
       record {
         routers = All-filter (is_numbered numbers block) (λ u. u < length numbers) list routers;
-        members = λ u found e. filter_contains (is_numbered numbers block) list u (rw (lt-ltb u (length numbers) (All-contains (λ w. w < length numbers) list u routers found)) (same_test (slice_index numbers u) block e)) found;
+        members = λ u found e. filter_contains (is_numbered numbers block) list u
+            (rw (lt-ltb u (length numbers) (All-contains (λ w. w < length numbers) list u routers found)) (same_test (slice_index numbers u) block e)) found;
       },
       λ k d inside. number_of (slice_index_or (filter (is_numbered numbers block) list) k d) (passes k d inside),
     )
@@ -200,20 +231,24 @@ members_kept numbers list list' block routers is =
     number_of : (u : ℕ) → is_numbered numbers block u ≡ true → slice_index numbers u ≡ block
     number_of u pass = test_same (slice_index numbers u) block (second (nat_lt u (length numbers)) (nat_eq (slice_index numbers u) block) pass)
 
-pub members_in : (numbers : List ℕ) (lists : List (Vec ℕ Global)) (block : ℕ) (list list' : Vec ℕ Global) → AreListed numbers lists → block < length lists → list ≡ slice_index_or lists block list → list'.items ≡ filter (is_numbered numbers block) list.items → (d : Vec ℕ Global) → AreMembers numbers block (slice_index_or (slice_set lists block list') block d).items
+pub members_in : (numbers : List ℕ) (lists : List (Vec ℕ Global)) (block : ℕ) (list list' : Vec ℕ Global) → AreListed numbers lists → block < length lists →
+    list ≡ slice_index_or lists block list → list'.items ≡ filter (is_numbered numbers block) list.items → (d : Vec ℕ Global) →
+    AreMembers numbers block (slice_index_or (slice_set lists block list') block d).items
 members_in numbers lists block list list' listed known read is d =
     let kept = members_kept numbers list.items list'.items block (routers_of numbers lists block list listed known read) is in
     rw (get_or-set_same lists block list' d known) (record {
       below = kept.0.routers;
       only = kept.1;
-      all = λ u hu e. kept.0.members u (subst (λ (v : Vec ℕ Global). Contains v.items u) (ap (λ i. slice_index_or lists i list) e ∙ sym read) (listed.members u list hu)) e;
+      all = λ u hu e. kept.0.members u (subst (λ (v : Vec ℕ Global). Contains v.items u) (ap (λ i. slice_index_or lists i list) e ∙ sym read)
+          (listed.members u list hu)) e;
     })
 
 pub listed_first : (numbers : List ℕ) (lists : List (Vec ℕ Global)) → AreBlocks numbers lists → All (λ n. n < length lists) numbers → AreListed numbers lists
 listed_first numbers lists are below = record {
   below = below;
   routers = λ b d inside. let all = members_all numbers b in rw (are.each b d inside) (λ k e within. (all k e within).below);
-  members = λ u d hu. let lt : slice_index numbers u < length lists = All-get_or (λ n. n < length lists) numbers u 0 hu below in rw (are.each (slice_index numbers u) d lt) (member numbers (slice_index numbers u) u hu refl);
+  members = λ u d hu. let lt : slice_index numbers u < length lists = All-get_or (λ n. n < length lists) numbers u 0 hu below in
+      rw (are.each (slice_index numbers u) d lt) (member numbers (slice_index numbers u) u hu refl);
 }
 
 -- a block stands once among blocks in ascending order

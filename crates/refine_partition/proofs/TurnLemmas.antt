@@ -23,15 +23,22 @@ acts_listed : (graph : ActGraph) (taken : ℕ) (numbers : List ℕ) (arrivals : 
     slice_index numbers u ≢ taken → ((act : ℕ) → Contains arrivals (record { importer = u; act = act }) →
     Contains arrivals (record { importer = v; act = act })) → (act : ℕ) → HasAct graph.edges numbers taken u act → HasAct graph.edges numbers taken v act
 acts_listed graph taken numbers arrivals u v arrived outside there act has =
-    (All-contains (IsArrival graph.edges numbers taken) arrivals (record { importer = v; act = act }) arrived.only (there act (arrived.all u act outside has))).has
+    (All-contains (IsArrival graph.edges numbers taken) arrivals (record { importer = v; act = act }) arrived.only
+    (there act (arrived.all u act outside has))).has
 
-listed_acts : (graph : ActGraph) (taken : ℕ) (numbers : List ℕ) (arrivals : List Import) (u v : ℕ) → AreArrivals graph.edges numbers taken arrivals → slice_index numbers u ≡ slice_index numbers v → (slice_index numbers u ≢ taken → (act : ℕ) → HasAct graph.edges numbers taken u act → HasAct graph.edges numbers taken v act) → (act : ℕ) → Contains arrivals (record { importer = u; act = act }) → Contains arrivals (record { importer = v; act = act })
+listed_acts : (graph : ActGraph) (taken : ℕ) (numbers : List ℕ) (arrivals : List Import) (u v : ℕ) → AreArrivals graph.edges numbers taken arrivals →
+    slice_index numbers u ≡ slice_index numbers v →
+    (slice_index numbers u ≢ taken → (act : ℕ) → HasAct graph.edges numbers taken u act → HasAct graph.edges numbers taken v act) → (act : ℕ) →
+    Contains arrivals (record { importer = u; act = act }) → Contains arrivals (record { importer = v; act = act })
 listed_acts graph taken numbers arrivals u v arrived same there act found =
     let arrival = All-contains (IsArrival graph.edges numbers taken) arrivals (record { importer = u; act = act }) arrived.only found in
     arrived.all v act (λ e. arrival.outside (same ∙ e)) (there arrival.outside act arrival.has)
 
 -- a turn divides the blocks by the acts of their members' edges
-pub parted : (graph : ActGraph) (taken : ℕ) (numbers classes next origins : List ℕ) (arrivals : List Import) (before after class_count : ℕ) → length numbers ≡ graph.count → All (λ n. n < before) numbers → AreArrivals graph.edges numbers taken arrivals → AreClasses numbers arrivals before classes class_count → AreMoved numbers classes arrivals before next origins → after ≡ before + length origins → AreParted graph taken numbers next before after origins
+pub parted : (graph : ActGraph) (taken : ℕ) (numbers classes next origins : List ℕ) (arrivals : List Import) (before after class_count : ℕ) →
+    length numbers ≡ graph.count → All (λ n. n < before) numbers → AreArrivals graph.edges numbers taken arrivals →
+    AreClasses numbers arrivals before classes class_count → AreMoved numbers classes arrivals before next origins → after ≡ before + length origins →
+    AreParted graph taken numbers next before after origins
 parted graph taken numbers classes next origins arrivals before after class_count total low arrived are moved size =
     let next_total = moved.total in
     record {
@@ -74,10 +81,13 @@ divided graph taken numbers classes next origins arrivals before after class_cou
       (subst (λ n. AreUsed n next) (sym size) moved.used);
 }
 
-pub finer : (numbers classes : List ℕ) (arrivals : List Import) (before class_count : ℕ) → AreClasses numbers arrivals before classes class_count → AreFiner numbers classes
+pub finer : (numbers classes : List ℕ) (arrivals : List Import) (before class_count : ℕ) → AreClasses numbers arrivals before classes class_count →
+    AreFiner numbers classes
 finer numbers classes arrivals before class_count are = λ u v hu hv same. are.same u v hu hv same
 
-pub unreached : (numbers classes next origins : List ℕ) (arrivals : List Import) (before class_count : ℕ) → AreClasses numbers arrivals before classes class_count → AreMoved numbers classes arrivals before next origins → (u : ℕ) → u < length next → ¬ Any (λ a. a.importer ≡ u) arrivals → slice_index classes u ≡ slice_index next u
+pub unreached : (numbers classes next origins : List ℕ) (arrivals : List Import) (before class_count : ℕ) →
+    AreClasses numbers arrivals before classes class_count → AreMoved numbers classes arrivals before next origins → (u : ℕ) → u < length next →
+    ¬ Any (λ a. a.importer ≡ u) arrivals → slice_index classes u ≡ slice_index next u
 unreached numbers classes next origins arrivals before class_count are moved u hu none =
     let total = moved.total in
     are.stay u (omega arith) none ∙ sym (moved.rest u (omega arith) none)
@@ -87,32 +97,40 @@ abbrev pub IsSettled : List ℕ → List ℕ → List ℕ → List Import → �
 IsSettled old classes numbers done u =
     (slice_index classes u ≡ slice_index numbers u) ⊎ ((slice_index classes u ≡ slice_index old u) × (¬ Any (λ a. a.importer ≡ u) done))
 
-pub settled_more : (old classes numbers : List ℕ) (done : List Import) (arrival : Import) (u : ℕ) → arrival.importer < length classes → IsSettled old classes numbers done u → IsSettled old (slice_set classes arrival.importer (slice_index numbers arrival.importer)) numbers (done ++ arrival ∷ []) u
+pub settled_more : (old classes numbers : List ℕ) (done : List Import) (arrival : Import) (u : ℕ) → arrival.importer < length classes →
+    IsSettled old classes numbers done u → IsSettled old (slice_set classes arrival.importer (slice_index numbers arrival.importer)) numbers
+    (done ++ arrival ∷ []) u
 settled_more old classes numbers done arrival u inside so_far =
     let value : ℕ = slice_index numbers arrival.importer in
     elim (cases_eq u arrival.importer) [
-      | inl e ↦ inl (ap (slice_index (slice_set classes arrival.importer value)) e ∙ get_or-set_same classes arrival.importer value 0 inside ∙ ap (slice_index numbers) (sym e))
+      | inl e ↦ inl (ap (slice_index (slice_set classes arrival.importer value)) e ∙ get_or-set_same classes arrival.importer value 0 inside
+          ∙ ap (slice_index numbers) (sym e))
       | inr ne ↦
-          let same : slice_index (slice_set classes arrival.importer value) u ≡ slice_index classes u = get_or-set_other classes arrival.importer u value 0 ne in
+          let same : slice_index (slice_set classes arrival.importer value) u ≡ slice_index classes u =
+          get_or-set_other classes arrival.importer u value 0 ne in
           elim so_far [
             | inl is ↦ inl (same ∙ is)
             | inr (was, none) ↦ inr (same ∙ was, λ found. by done arrival u none ne found)
           ]
     ]
   where
-    by : (done : List Import) (arrival : Import) (u : ℕ) → ¬ Any (λ a. a.importer ≡ u) done → u ≢ arrival.importer → Any (λ a. a.importer ≡ u) (done ++ arrival ∷ []) → ⊥
+    by : (done : List Import) (arrival : Import) (u : ℕ) → ¬ Any (λ a. a.importer ≡ u) done → u ≢ arrival.importer →
+        Any (λ a. a.importer ≡ u) (done ++ arrival ∷ []) → ⊥
     by done arrival u none ne (k, a, inside, at, is) = elim (Contains-push_cases done arrival a (k, inside, at)) [
       | inl (j, within, at') ↦ none (j, a, within, at', is)
       | inr e ↦ ne (sym (ap (λ (b : Import). b.importer) e ∙ is))
     ]
 
-pub settled_all : (old classes numbers : List ℕ) (arrivals : List Import) → length classes ≡ length numbers → ((u : ℕ) → IsSettled old classes numbers arrivals u) → ((u : ℕ) → u < length numbers → ¬ Any (λ a. a.importer ≡ u) arrivals → slice_index old u ≡ slice_index numbers u) → classes ≡ numbers
+pub settled_all : (old classes numbers : List ℕ) (arrivals : List Import) → length classes ≡ length numbers →
+    ((u : ℕ) → IsSettled old classes numbers arrivals u) →
+    ((u : ℕ) → u < length numbers → ¬ Any (λ a. a.importer ≡ u) arrivals → slice_index old u ≡ slice_index numbers u) → classes ≡ numbers
 settled_all old classes numbers arrivals size settled rest = ext_get_or 0 classes numbers size (λ u inside. elim (settled u) [
   | inl is ↦ is
   | inr (was, none) ↦ was ∙ rest u (omega arith) none
 ])
 
-pub first_settled : (numbers classes : List ℕ) (lists : List (Vec ℕ Global)) (count : ℕ) → IsNumbered numbers count → length lists ≡ count → AreBlocks numbers lists → classes ≡ numbers → AreSettled numbers classes lists
+pub first_settled : (numbers classes : List ℕ) (lists : List (Vec ℕ Global)) (count : ℕ) → IsNumbered numbers count → length lists ≡ count →
+    AreBlocks numbers lists → classes ≡ numbers → AreSettled numbers classes lists
 first_settled numbers classes lists count numbered size are is = record {
   listed = listed_first numbers lists are (λ k d inside. let lt = numbered.below k d inside in omega arith);
   used = λ block inside. place_of numbers block (numbered.used block (omega arith));

@@ -24,8 +24,10 @@ pub record IsSeparated (old new : List ℕ) (movers : List Import) (fresh next :
   pub moved : All (λ m. fresh ≤ slice_index new m.importer) movers
   pub only : (u : ℕ) → u < length old → fresh ≤ slice_index new u → Any (λ m. m.importer ≡ u) movers
   pub stay : (u : ℕ) → u < length old → slice_index new u < fresh → slice_index new u ≡ slice_index old u
-  pub together : (u v : ℕ) → u < length old → v < length old → fresh ≤ slice_index new u → fresh ≤ slice_index new v → slice_index old u ≡ slice_index old v → slice_index new u ≡ slice_index new v
-  pub apart : (u v : ℕ) → u < length old → v < length old → fresh ≤ slice_index new u → slice_index new u ≡ slice_index new v → slice_index old u ≡ slice_index old v
+  pub together : (u v : ℕ) → u < length old → v < length old → fresh ≤ slice_index new u → fresh ≤ slice_index new v → slice_index old u ≡ slice_index old v →
+      slice_index new u ≡ slice_index new v
+  pub apart : (u v : ℕ) → u < length old → v < length old → fresh ≤ slice_index new u → slice_index new u ≡ slice_index new v →
+      slice_index old u ≡ slice_index old v
 
 -- the same acts are listed for both routers
 pub record SameArrivals (arrivals : List Import) (u v : ℕ) : Type 0 where
@@ -41,6 +43,7 @@ pub record AreClasses (numbers : List ℕ) (arrivals : List Import) (count : ℕ
   pub below : All (λ class. class < next) classes
   pub stay : (u : ℕ) → u < length numbers → ¬ Any (λ a. a.importer ≡ u) arrivals → slice_index classes u ≡ slice_index numbers u
   pub moved : All (λ a. count ≤ slice_index classes a.importer) arrivals
-  pub together : (u v : ℕ) → u < length numbers → v < length numbers → slice_index numbers u ≡ slice_index numbers v → SameArrivals arrivals u v → slice_index classes u ≡ slice_index classes v
+  pub together : (u v : ℕ) → u < length numbers → v < length numbers → slice_index numbers u ≡ slice_index numbers v → SameArrivals arrivals u v →
+      slice_index classes u ≡ slice_index classes v
   pub same : (u v : ℕ) → u < length numbers → v < length numbers → slice_index classes u ≡ slice_index classes v → slice_index numbers u ≡ slice_index numbers v
   pub alike : (u v : ℕ) → u < length numbers → v < length numbers → slice_index classes u ≡ slice_index classes v → SameArrivals arrivals u v

@@ -11,4 +11,5 @@ import_from exporter edge =
 
 -- for each exporter the imports over its edges
 pub record IsImportIndex (edges : List Edge) (lists : List (Vec Import Global)) : Type 0 where
-  pub each : (exporter : ℕ) (d : Vec Import Global) → exporter < length lists → (slice_index_or lists exporter d).items ≡ filter_map (import_from exporter) edges
+  pub each : (exporter : ℕ) (d : Vec Import Global) → exporter < length lists →
+      (slice_index_or lists exporter d).items ≡ filter_map (import_from exporter) edges

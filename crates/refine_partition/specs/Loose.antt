@@ -19,7 +19,8 @@ AreUsed count numbers = (block : ℕ) → block < count → (u : ℕ) × (u < le
 
 -- routers of one class are in one block
 abbrev pub AreFiner : List ℕ → List ℕ → Type 0
-AreFiner numbers classes = (u v : ℕ) → u < length numbers → v < length numbers → slice_index classes u ≡ slice_index classes v → slice_index numbers u ≡ slice_index numbers v
+AreFiner numbers classes = (u v : ℕ) → u < length numbers → v < length numbers → slice_index classes u ≡ slice_index classes v →
+    slice_index numbers u ≡ slice_index numbers v
 
 -- the list has a member of the block
 abbrev pub HasMember : List ℕ → ℕ → List ℕ → Type 0

@@ -30,12 +30,14 @@ pub record ArePiecesWaiting (old new : List ℕ) (before : ℕ) (origins : List 
   pub further : (k : ℕ) → k < length origins → Contains new (before + k)
   pub divided : (k : ℕ) → k < length origins → Contains new (slice_index origins k)
   pub kept : (other : ℕ) → Contains old other → Contains new other
-  pub known : (bound : ℕ) → All (λ block. block < bound) old → All (λ block. block < bound) origins → before + length origins ≤ bound → All (λ block. block < bound) new
+  pub known : (bound : ℕ) → All (λ block. block < bound) old → All (λ block. block < bound) origins → before + length origins ≤ bound →
+      All (λ block. block < bound) new
   pub few : length new ≤ length old + 2 * length origins
 
 -- the members of each other block have edges of the same acts into this one
 pub record IsEven (graph : ActGraph) (numbers : List ℕ) (block : ℕ) : Type 0 where
-  pub alike : (u v : ℕ) → u < graph.count → v < graph.count → slice_index numbers u ≡ slice_index numbers v → slice_index numbers u ≢ block → ActAlike graph.edges numbers block u v
+  pub alike : (u v : ℕ) → u < graph.count → v < graph.count → slice_index numbers u ≡ slice_index numbers v → slice_index numbers u ≢ block →
+      ActAlike graph.edges numbers block u v
 
 -- Between turns: each block has one color, every admissible partition refines the blocks, and where a
 -- block does not wait all others are even towards it.

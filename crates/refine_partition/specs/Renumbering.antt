@@ -45,7 +45,8 @@ pub record IsRenumbered (numbers classes queue : List ℕ) (before : ℕ) (next 
   pub origin : (u k : ℕ) → Contains queue u → slice_index next u ≡ before + k → slice_index origins k ≡ slice_index numbers u
   pub least : (v : ℕ) → v < length numbers → ((u : ℕ) → u < v → slice_index numbers u ≢ slice_index numbers v) → slice_index next v ≡ slice_index numbers v
   pub used : (k : ℕ) → k < length origins → (u : ℕ) × Contains queue u × (slice_index next u ≡ before + k)
-  pub in_order : (i number : ℕ) → i < length queue → before ≤ number → number < slice_index next (slice_index queue i) → (j : ℕ) × (j < i) × (slice_index next (slice_index queue j) ≡ number)
+  pub in_order : (i number : ℕ) → i < length queue → before ≤ number → number < slice_index next (slice_index queue i) →
+      (j : ℕ) × (j < i) × (slice_index next (slice_index queue j) ≡ number)
 
 -- classes that divide numbered blocks, none of which is empty
 pub record IsRefined (numbers : List ℕ) (blocks : List (Vec ℕ Global)) (classes : List ℕ) (class_count : ℕ) : Type 0 where

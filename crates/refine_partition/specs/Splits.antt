@@ -37,7 +37,8 @@ pub record IsSplit (graph : ActGraph) (taken : ℕ) (old new : List ℕ) (before
   pub more : before ≤ after
   pub below : (v : ℕ) → v < graph.count → slice_index new v < after
   pub used : (number : ℕ) → before ≤ number → number < after → (u : ℕ) × (u < graph.count) × (slice_index new u ≡ number)
-  pub in_order : (v number : ℕ) → v < graph.count → before ≤ number → number < slice_index new v → (u : ℕ) × (u < graph.count) × StandsBefore old u v × (slice_index new u ≡ number)
+  pub in_order : (v number : ℕ) → v < graph.count → before ≤ number → number < slice_index new v → (u : ℕ) × (u < graph.count) × StandsBefore old u v
+      × (slice_index new u ≡ number)
 
 -- The blocks before the first split: one per color, numbered from 0 by their least members.
 pub record IsStart (graph : ActGraph) (numbers : List ℕ) (count : ℕ) : Type 0 where

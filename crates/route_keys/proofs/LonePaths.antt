@@ -68,7 +68,8 @@ has_push (x ∷ xs) number n = ap (λ (b : Bool). nat_eq x n || b) (has_push xs 
 taken_more : (path : List ℕ) (i number : ℕ) → i < length path → number ≡ get_or path i number → take (i + 1) path ≡ take i path ++ number ∷ []
 taken_more path i number lt is = ap (λ (k : ℕ). take k path) (add-one i) ∙ take-suc path i number lt ∙ ap (λ (x : ℕ). take i path ++ x ∷ []) (sym is)
 
-module _ (test : ℕ → Bool) (path found : List ℕ) (i number : ℕ) (inside : i < length path) (is : number ≡ get_or path i number) (so_far : (n : ℕ) → has found n ≡ test n && is_on n (take i path)) where
+module _ (test : ℕ → Bool) (path found : List ℕ) (i number : ℕ) (inside : i < length path) (is : number ≡ get_or path i number)
+    (so_far : (n : ℕ) → has found n ≡ test n && is_on n (take i path)) where
   on_more : (n : ℕ) → is_on n (take (i + 1) path) ≡ is_on n (take i path) || nat_eq number n
   on_more n = ap (is_on n) (taken_more path i number inside is) ∙ has_push (take i path) number n
 

@@ -12,8 +12,10 @@ above n (x ∷ xs) h = (h 0 (omega arith), above n xs (λ k lt. h (suc k) (omega
 
 pub ascends : (xs : List ℕ) → IsStrictlyIncreasing xs → IsAscending xs
 ascends [] up = tt
-ascends (x ∷ xs) up =
-    (above x xs (λ k lt. AllPairs-from_increasing (x ∷ xs) up 0 (suc k) 0 (omega arith) (omega arith)), ascends xs (λ k lt. AllPairs-from_increasing (x ∷ xs) up (suc k) (suc (k + 1)) 0 (omega arith) (omega arith)))
+ascends (x ∷ xs) up = (
+  above x xs (λ k lt. AllPairs-from_increasing (x ∷ xs) up 0 (suc k) 0 (omega arith) (omega arith)),
+  ascends xs (λ k lt. AllPairs-from_increasing (x ∷ xs) up (suc k) (suc (k + 1)) 0 (omega arith) (omega arith)),
+)
 
 later : (x n : ℕ) (xs : List ℕ) → Contains xs n → Contains (x ∷ xs) n
 later x n xs h = let lt = h.1 in (suc h.0, omega arith, h.2)

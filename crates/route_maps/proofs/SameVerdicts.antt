@@ -42,7 +42,8 @@ one_option (Some m) None e = absurd cc
 one_option (Some m) (Some n) e = ap (λ (k : ℕ). Some k) (one_number m n e)
 
 -- lines that hold alike decide alike
-decide : (test : List ℕ → Bool) (xs ys : List CommunityLine) → same_items same_line xs ys ≡ true → first_line_decides (λ l. test l.comms) xs ≡ first_line_decides (λ l. test l.comms) ys
+decide : (test : List ℕ → Bool) (xs ys : List CommunityLine) → same_items same_line xs ys ≡ true →
+    first_line_decides (λ l. test l.comms) xs ≡ first_line_decides (λ l. test l.comms) ys
 decide test [] [] e = refl
 decide test [] (y ∷ ys) e = absurd cc
 decide test (x ∷ xs) [] e = absurd cc
@@ -58,7 +59,8 @@ answers_alike : (exact : Bool) (comms : List ℕ) (a b : CommunityList) → same
 answers_alike true comms a b e = decide (λ c. list_all (λ d. has comms d) c && list_all (λ d. has c d) comms) a.lines b.lines e
 answers_alike false comms a b e = permits_alike comms a b e
 
-any_alike : (exact : Bool) (comms : List ℕ) (xs ys : List CommunityList) → same_items same_list xs ys ≡ true → list_any (list_answer exact comms) xs ≡ list_any (list_answer exact comms) ys
+any_alike : (exact : Bool) (comms : List ℕ) (xs ys : List CommunityList) → same_items same_list xs ys ≡ true →
+    list_any (list_answer exact comms) xs ≡ list_any (list_answer exact comms) ys
 any_alike exact comms [] [] e = refl
 any_alike exact comms [] (y ∷ ys) e = absurd cc
 any_alike exact comms (x ∷ xs) [] e = absurd cc
@@ -82,7 +84,9 @@ deletions_alike : (comms : List ℕ) (a b : Option CommunityList) → option_eq 
 deletions_alike comms None None e = refl
 deletions_alike comms None (Some b) e = absurd cc
 deletions_alike comms (Some a) None e = absurd cc
-deletions_alike comms (Some a) (Some b) e = filters_alike (λ c. not (community_list_permits a (c ∷ []))) (λ c. not (community_list_permits b (c ∷ []))) comms (λ c. ap not (permits_alike (c ∷ []) a b e))
+deletions_alike comms (Some a) (Some b) e =
+    filters_alike (λ c. not (community_list_permits a (c ∷ []))) (λ c. not (community_list_permits b (c ∷ []))) comms
+    (λ c. ap not (permits_alike (c ∷ []) a b e))
 
 one_change : (a b : Change) → same_change a b ≡ true → a ≡ b
 one_change Clear Clear e = refl
@@ -117,8 +121,10 @@ entries_alike comms (x ∷ xs) (y ∷ ys) e =
     let p4 = and_parts (option_eq nat_eq x.lp y.lp) _ p3.1 in
     let p5 = and_parts (option_eq same_change x.change y.change) _ p4.1 in
     let p6 = and_parts (option_eq same_list x.delete y.delete) _ p5.1 in
-    let after : comms_after x comms ≡ comms_after y comms = λ i. after_change (changes_alike x.change y.change p5.0 i) (deletions_alike comms x.delete y.delete p6.0 i) in
-    let here : entry_verdict x comms ≡ entry_verdict y comms = λ i. said (one_bool x.permit y.permit p2.0 i) (one_option x.lp y.lp p4.0 i) (after i) (one_number x.adds y.adds p6.1 i) in
+    let after : comms_after x comms ≡ comms_after y comms =
+    λ i. after_change (changes_alike x.change y.change p5.0 i) (deletions_alike comms x.delete y.delete p6.0 i) in
+    let here : entry_verdict x comms ≡ entry_verdict y comms =
+    λ i. said (one_bool x.permit y.permit p2.0 i) (one_option x.lp y.lp p4.0 i) (after i) (one_number x.adds y.adds p6.1 i) in
     λ i. cond (holds_alike comms x.exact y.exact x.lists y.lists p3.0 i) (here i) (entries_alike comms xs ys p.1 i)
 
 -- such maps say the same of every set of communities

@@ -16,7 +16,8 @@ module _ (P Q : Problem) (same : ProblemsAlike P Q) where
   lone_same = λ i n. has_marked_number (same.lone i) (same.numbers i) n
 
   pub chosen_same : (L : List (Option Route)) (u : ℕ) → AreLabels P L → chosen_label P L u ≡ chosen_label Q L u
-  chosen_same L u fits = ap (λ t. chosen_of t (candidates P L u) (label L u)) lone_same ∙ ap (λ (all : List Candidate). chosen_of (is_lone_number Q) all (label L u)) (same_candidates P Q same L fits u)
+  chosen_same L u fits = ap (λ t. chosen_of t (candidates P L u) (label L u)) lone_same
+      ∙ ap (λ (all : List Candidate). chosen_of (is_lone_number Q) all (label L u)) (same_candidates P Q same L fits u)
 
   none_same : no_labels P ≡ no_labels Q
   none_same = ap (λ (numbers : List ℕ). replicate (length numbers) None) same.numbers

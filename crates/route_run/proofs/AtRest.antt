@@ -22,7 +22,8 @@ empty_list [] h = refl
 empty_list (k ∷ list) h = absurd (h k (inl refl))
 
 -- what is chosen is a candidate of best key
-pub chosen_best : (P : Problem) (L : List (Option Route)) (u : ℕ) (r : Route) → chosen_label P L u ≡ Some r → IsBestCandidate (is_lone_number P) (candidates P L u) r
+pub chosen_best : (P : Problem) (L : List (Option Route)) (u : ℕ) (r : Route) → chosen_label P L u ≡ Some r →
+    IsBestCandidate (is_lone_number P) (candidates P L u) r
 chosen_best P L u r e = chosen_some (is_lone_number P) (candidates P L u) (label L u) r e
 
 pub settled_keeps : (P : Problem) (L : List (Option Route)) (u : ℕ) → IsSettled P L u → chosen_label P L u ≡ label L u
@@ -37,7 +38,8 @@ settled_keeps P L u s = elim (cases_label (label L u)) [
         same = h.2;
         unbeaten = λ d i. beats_none (compare_keys (key_of P d.route) (key_of P full.0)) (s.best full.0 d full.1 (contains_in all d i));
       } in
-      ap (Rattle.route_run.specs.Activations.chosen_of (is_lone_number P) (candidates P L u)) full.1 ∙ best_chosen (is_lone_number P) (candidates P L u) full.0 best ∙ sym full.1
+      ap (Rattle.route_run.specs.Activations.chosen_of (is_lone_number P) (candidates P L u)) full.1
+      ∙ best_chosen (is_lone_number P) (candidates P L u) full.0 best ∙ sym full.1
 ]
 
 pub keeps_settled : (P : Problem) (L : List (Option Route)) (u : ℕ) → chosen_label P L u ≡ label L u → IsSettled P L u
@@ -65,7 +67,8 @@ pub kept_same : (P : Problem) (L : List (Option Route)) (u : ℕ) → chosen_lab
 kept_same P L u e = ap (set L u) e ∙ set-get_or L u None
 
 -- a label afterwards is the chosen one, or an old one
-pub at_activated : (P : Problem) (L : List (Option Route)) (u v : ℕ) (r : Route) → label (activated P L u) v ≡ Some r → ((v ≡ u) × (chosen_label P L u ≡ Some r)) ⊎ (label L v ≡ Some r)
+pub at_activated : (P : Problem) (L : List (Option Route)) (u v : ℕ) (r : Route) → label (activated P L u) v ≡ Some r →
+    ((v ≡ u) × (chosen_label P L u ≡ Some r)) ⊎ (label L v ≡ Some r)
 at_activated P L u v r e = elim (cases_eq v u) [
   | inl same ↦
       let inside = label_in (activated P L u) v r e in
@@ -76,7 +79,8 @@ at_activated P L u v r e = elim (cases_eq v u) [
 
 module _ (P : Problem) (good : IsProblem P) where
   pub chosen_candidate : (L : List (Option Route)) (u : ℕ) (r : Route) → chosen_label P L u ≡ Some r → IsCandidate P L u r
-  chosen_candidate L u r e = let b = chosen_best P L u r e in subst (IsCandidate P L u) b.same (candidates_sound P L u b.candidate (contains_in (candidates P L u) b.candidate b.inside))
+  chosen_candidate L u r e = let b = chosen_best P L u r e in
+      subst (IsCandidate P L u) b.same (candidates_sound P L u b.candidate (contains_in (candidates P L u) b.candidate b.inside))
 
   pub chosen_route : (L : List (Option Route)) (u : ℕ) (r : Route) → AreLabels P L → chosen_label P L u ≡ Some r → IsRouteOf P.protocol r
   chosen_route L u r fits e = offer_route P good u r (candidate_offer P good L u r fits (chosen_candidate L u r e))
@@ -97,7 +101,8 @@ no_labels_fit P = record { total = length-replicate (count P) None; routes = λ 
 -- ---- at rest
 
 pub rest_stable : (P : Problem) (L : List (Option Route)) → AreLabels P L → IsAtRest P L → IsStable P L
-rest_stable P L fits rest = keeps_stable P L fits (λ u h. sym (activated_here P L u (omega (arith, h, fits.total))) ∙ ap (λ (l : List (Option Route)). label l u) (rest.unchanged u h))
+rest_stable P L fits rest = keeps_stable P L fits (λ u h. sym (activated_here P L u (omega (arith, h, fits.total)))
+    ∙ ap (λ (l : List (Option Route)). label l u) (rest.unchanged u h))
 
 pub stable_rest : (P : Problem) (L : List (Option Route)) → IsStable P L → IsAtRest P L
 stable_rest P L st = record { unchanged = λ u h. kept_same P L u (stable_keeps P L st u h) }

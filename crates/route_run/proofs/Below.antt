@@ -23,11 +23,13 @@ use Rattle.route_run.proofs.Runs.{after_append}
 -- a candidate that stands on labels below the size alone
 pub data Early (P : Problem) (E : List (Option Route)) (s u : ℕ) (c : Route) : Type 0 where
   early_init : initial P u ≡ Some c → Early P E s u c
-  early_edge : (e : Edge) → Contains P.edges e → e.importer ≡ u → (from : Route) → label E e.exporter ≡ Some from → size_of from < s → step_over P e from ≡ Some c → is_on (number P e.importer) (path_of c) ≡ false → Early P E s u c
+  early_edge : (e : Edge) → Contains P.edges e → e.importer ≡ u → (from : Route) → label E e.exporter ≡ Some from → size_of from < s →
+      step_over P e from ≡ Some c → is_on (number P e.importer) (path_of c) ≡ false → Early P E s u c
 
 pub early_candidate : (P : Problem) (E : List (Option Route)) (s u : ℕ) (c : Route) → Early P E s u c → IsCandidate P E u c
 early_candidate P E s u c (early_init e) = of_init e
-early_candidate P E s u c (early_edge e i imp from lab small step passes) = of_edge e i imp (record { from = from; labelled = lab; stepped = step; passes = passes })
+early_candidate P E s u c (early_edge e i imp from lab small step passes) =
+    of_edge e i imp (record { from = from; labelled = lab; stepped = step; passes = passes })
 
 pub record IsBest (P : Problem) (E : List (Option Route)) (s u : ℕ) (r : Route) : Type 0 where
   pub early : Early P E s u r
@@ -62,7 +64,8 @@ best_same P E E' s u r same b = record { early = early_same P E E' s u r same b.
 settled_same : (P : Problem) (E E' : List (Option Route)) (s : ℕ) → SameBelow E E' s → IsSettledBelow P E s → IsSettledBelow P E' s
 settled_same P E E' s same settled = record {
   best = λ u r h e small. best_same P E E' s u r same (settled.best u r h (same.back u r e small) small);
-  late = λ u c h prem x. settled.late u c h (λ r e. elim (cases_lt (size_of r) s) [ inl small ↦ prem r (same.forth u r e small) | inr large ↦ large ]) (early_same P E' E s u c (turned E E' s same) x);
+  late = λ u c h prem x. settled.late u c h (λ r e. elim (cases_lt (size_of r) s) [ inl small ↦ prem r (same.forth u r e small) | inr large ↦ large ])
+      (early_same P E' E s u c (turned E E' s same) x);
 }
 
 done_same : (P : Problem) (E E' : List (Option Route)) (s u : ℕ) → SameBelow E E' s → label E' u ≡ label E u → IsDoneAt P E s u → IsDoneAt P E' s u
@@ -76,30 +79,36 @@ pub settled_below_0 : (P : Problem) (E : List (Option Route)) → IsSettledBelow
 settled_below_0 P E = record { best = λ u r h e small. absurd (omega arith); late = λ u c h prem x. omega arith }
 
 -- a label that is a candidate of best key is kept
-pub best_keeps : (P : Problem) (E : List (Option Route)) (u : ℕ) (r : Route) → label E u ≡ Some r → IsCandidate P E u r → ((c : Route) → IsCandidate P E u c → compare_keys (key_of P c) (key_of P r) ≢ Less) → chosen_label P E u ≡ label E u
+pub best_keeps : (P : Problem) (E : List (Option Route)) (u : ℕ) (r : Route) → label E u ≡ Some r → IsCandidate P E u r →
+    ((c : Route) → IsCandidate P E u c → compare_keys (key_of P c) (key_of P r) ≢ Less) → chosen_label P E u ≡ label E u
 best_keeps P E u r lab held best = settled_keeps P E u (record {
   none = λ e. absurd (cc);
   held = λ r' e. (let same : r ≡ r' = cc in candidates_complete P E u r' (subst (IsCandidate P E u) same held));
-  best = λ r' k e i. (let same : r ≡ r' = cc in subst (λ (x : Route). compare_keys (key_of P k.route) (key_of P x) ≢ Less) same (best k.route (candidates_sound P E u k i)));
+  best = λ r' k e i. (let same : r ≡ r' = cc in
+      subst (λ (x : Route). compare_keys (key_of P k.route) (key_of P x) ≢ Less) same (best k.route (candidates_sound P E u k i)));
 })
 
 -- what is chosen is as good as each candidate
-pub chosen_over : (P : Problem) (E : List (Option Route)) (u : ℕ) (r c : Route) → chosen_label P E u ≡ Some r → IsCandidate P E u c → compare_keys (key_of P c) (key_of P r) ≢ Less
+pub chosen_over : (P : Problem) (E : List (Option Route)) (u : ℕ) (r c : Route) → chosen_label P E u ≡ Some r → IsCandidate P E u c →
+    compare_keys (key_of P c) (key_of P r) ≢ Less
 chosen_over P E u r c e cand =
     let k = candidates_complete P E u c cand in
-    subst (λ (x : Route). compare_keys (key_of P x) (key_of P r) ≢ Less) k.2 (not_less (compare_keys (key_of P k.0.route) (key_of P r)) ((chosen_best P E u r e).unbeaten k.0 (in_contains (candidates P E u) k.0 k.1)))
+    subst (λ (x : Route). compare_keys (key_of P x) (key_of P r) ≢ Less) k.2
+    (not_less (compare_keys (key_of P k.0.route) (key_of P r)) ((chosen_best P E u r e).unbeaten k.0 (in_contains (candidates P E u) k.0 k.1)))
 
 -- where there is a candidate, some label is chosen
 pub chosen_there : (P : Problem) (E : List (Option Route)) (u : ℕ) (c : Route) → IsCandidate P E u c → (r : Route) × (chosen_label P E u ≡ Some r)
 chosen_there P E u c cand = elim (cases_label (chosen_label P E u)) [
-  | inl none ↦ (let k = candidates_complete P E u c cand in absurd (chosen_nothing (is_lone_number P) (candidates P E u) (label E u) none k.0 (in_contains (candidates P E u) k.0 k.1)))
+  | inl none ↦ (let k = candidates_complete P E u c cand in
+      absurd (chosen_nothing (is_lone_number P) (candidates P E u) (label E u) none k.0 (in_contains (candidates P E u) k.0 k.1)))
   | inr some ↦ some
 ]
 
 module _ (P : Problem) (good : IsProblem P) (none_lone : HasNoLone P) where
   -- of two offers the shorter is the better
   longer_worse : (u : ℕ) (c d : Route) → u < count P → Offer P u c → Offer P u d → size_of c < size_of d → compare_keys (key_of P d) (key_of P c) ≢ Less
-  longer_worse u c d h oc od less = not_better (key_of P c) (key_of P d) (shorter (key_of P c) (key_of P d) (one_preference P good u c d h (none_lone u h) oc od) less)
+  longer_worse u c d h oc od less = not_better (key_of P c) (key_of P d)
+      (shorter (key_of P c) (key_of P d) (one_preference P good u c d h (none_lone u h) oc od) less)
 
   pub as_long : (u : ℕ) (c d : Route) → u < count P → Offer P u c → Offer P u d → compare_keys (key_of P d) (key_of P c) ≢ Less → size_of c ≤ size_of d
   as_long u c d h oc od lacking = not_longer (key_of P c) (key_of P d) (one_preference P good u c d h (none_lone u h) oc od) lacking
@@ -138,7 +147,11 @@ module _ (P : Problem) (good : IsProblem P) (none_lone : HasNoLone P) where
             late = λ c prem x. (let l = prem r lab in absurd (omega arith));
           } in
           record {
-            same = record { forth = λ u q e less. ap (λ (l : List (Option Route)). label l u) is ∙ e; back = λ u q e less. sym (ap (λ (l : List (Option Route)). label l u) is) ∙ e };
+            same = record {
+              forth = λ u q e less. ap (λ (l : List (Option Route)). label l u) is ∙ e;
+              back =
+                  λ u q e less. sym (ap (λ (l : List (Option Route)). label l u) is) ∙ e;
+            };
             done = subst (λ (l : List (Option Route)). IsDoneAt P l s v) (sym is) here;
           }
 
@@ -169,14 +182,16 @@ module _ (P : Problem) (good : IsProblem P) (none_lone : HasNoLone P) where
                 (let c : chosen_label P E v ≡ Some r = sym here ∙ e in
                 elim (early_or_long E v r (chosen_candidate P good E v r c)) [
                   | inr long ↦ absurd (omega arith)
-                  | inl early ↦ best_same P E (activated P E v) s v r same_early (record { early = early; best = λ d x. chosen_over P E v r d c (early_candidate P E s v d x) })
+                  | inl early ↦ best_same P E (activated P E v) s v r same_early
+                      (record { early = early; best = λ d x. chosen_over P E v r d c (early_candidate P E s v d x) })
                 ]);
             late = λ c prem x.
                 (let early : Early P E s v c = early_same P (activated P E v) E s v c (turned E (activated P E v) s same_early) x in
                 let cand = early_candidate P E s v c early in
                 let some = chosen_there P E v c cand in
                 let l = prem some.0 (here ∙ some.1) in
-                let le = as_long v some.0 c h (own_offer some.0 (chosen_candidate P good E v some.0 some.1)) (own_offer c cand) (chosen_over P E v some.0 c some.1 cand) in
+                let le = as_long v some.0 c h (own_offer some.0 (chosen_candidate P good E v some.0 some.1)) (own_offer c cand)
+                (chosen_over P E v some.0 c some.1 cand) in
                 omega arith);
           };
         }
@@ -197,11 +212,13 @@ module _ (P : Problem) (good : IsProblem P) (none_lone : HasNoLone P) where
       kept : (u : ℕ) → IsDoneAt P E s u → IsDoneAt P E' s u
       done : (u : ℕ) → In run u → IsDoneAt P E' s u
 
-    runs : (run : List ℕ) (E : List (Option Route)) → AreLabels P E → IsSettledBelow P E s → ((u : ℕ) → In run u → u < count P) → IsRun E (labels_after P E run) run
+    runs : (run : List ℕ) (E : List (Option Route)) → AreLabels P E → IsSettledBelow P E s → ((u : ℕ) → In run u → u < count P) →
+        IsRun E (labels_after P E run) run
     runs [] E fits settled inside = record { fits = fits; settled = settled; kept = λ u d. d; done = λ u i. absurd i }
     runs (v ∷ run) E fits settled inside =
         let t = step E fits settled v (inside v (inl refl)) in
-        let rest = runs run (activated P E v) (activated_labels P good E v fits) (settled_same P E (activated P E v) s t.same settled) (λ u i. inside u (inr i)) in
+        let rest = runs run (activated P E v) (activated_labels P good E v fits) (settled_same P E (activated P E v) s t.same settled) (λ u i. inside u (inr i))
+        in
         record {
           fits = rest.fits;
           settled = rest.settled;
@@ -235,15 +252,18 @@ module _ (P : Problem) (good : IsProblem P) (none_lone : HasNoLone P) where
             early = wider E u r b.early;
             best = λ c x. elim (narrower E u c x) [
               | inl early ↦ b.best c early
-              | inr long ↦ longer_worse u r c h (candidate_offer P good E u r fits (early_candidate P E s u r b.early)) (candidate_offer P good E u c fits (early_candidate P E (s + 1) u c x)) (omega arith)
+              | inr long ↦ longer_worse u r c h (candidate_offer P good E u r fits (early_candidate P E s u r b.early))
+                  (candidate_offer P good E u c fits (early_candidate P E (s + 1) u c x)) (omega arith)
             ];
           });
       late = λ u c h prem x. elim (narrower E u c x) [ inl early ↦ (done u h).late c prem early | inr long ↦ long ];
     }
 
   -- so many rounds settle so many sizes
-  pub rounds_settle : (k s : ℕ) (run : List ℕ) (E : List (Option Route)) → AreLabels P E → IsSettledBelow P E s → ((u : ℕ) → In run u → u < count P) → HasRounds P k run → IsSettledBelow P (labels_after P E run) (s + k)
-  rounds_settle zero s run E fits settled inside has = let same : s ≡ s + 0 = omega arith in subst (IsSettledBelow P (labels_after P E run)) same (runs s run E fits settled inside).settled
+  pub rounds_settle : (k s : ℕ) (run : List ℕ) (E : List (Option Route)) → AreLabels P E → IsSettledBelow P E s → ((u : ℕ) → In run u → u < count P) →
+      HasRounds P k run → IsSettledBelow P (labels_after P E run) (s + k)
+  rounds_settle zero s run E fits settled inside has = let same : s ≡ s + 0 = omega arith in
+      subst (IsSettledBelow P (labels_after P E run)) same (runs s run E fits settled inside).settled
   rounds_settle (suc k) s run E fits settled inside has =
       let piece = has.0 in
       let rest = has.1 in
@@ -254,10 +274,12 @@ module _ (P : Problem) (good : IsProblem P) (none_lone : HasNoLone P) where
       let next = all_done s (labels_after P E has.0) one.fits (λ u h. one.done u (in_contains has.0 u (has.3 u h))) in
       let more = rounds_settle k (s + 1) has.1 (labels_after P E has.0) one.fits next in_rest has.4 in
       let same : s + 1 + k ≡ s + suc k = omega arith in
-      subst (IsSettledBelow P (labels_after P E run)) same (subst (λ (l : List (Option Route)). IsSettledBelow P l (s + 1 + k)) (sym (ap (labels_after P E) split ∙ after_append P E has.0 has.1)) more)
+      subst (IsSettledBelow P (labels_after P E run)) same
+      (subst (λ (l : List (Option Route)). IsSettledBelow P l (s + 1 + k)) (sym (ap (labels_after P E) split ∙ after_append P E has.0 has.1)) more)
 
   -- where all labels and candidates are below the size, labels are stable
-  pub settled_stable_below : (E : List (Option Route)) (s : ℕ) → AreLabels P E → IsSettledBelow P E s → ((u : ℕ) (r : Route) → label E u ≡ Some r → size_of r < s) → ((u : ℕ) (c : Route) → u < count P → IsCandidate P E u c → size_of c < s) → IsStable P E
+  pub settled_stable_below : (E : List (Option Route)) (s : ℕ) → AreLabels P E → IsSettledBelow P E s →
+      ((u : ℕ) (r : Route) → label E u ≡ Some r → size_of r < s) → ((u : ℕ) (c : Route) → u < count P → IsCandidate P E u c → size_of c < s) → IsStable P E
   settled_stable_below E s fits settled short all_short = record {
     fitting = fits;
     none = λ u c h e cand. (let l = settled.late u c h (λ r e'. absurd (cc)) (early u c cand) in let less = all_short u c h cand in omega arith);

@@ -25,7 +25,8 @@ pass_all test [] x e i = absurd i
 pass_all test (y ∷ ys) x e (inl same) = ap test (sym same) ∙ (and_parts (test y) (list_all test ys) e).0
 pass_all test (y ∷ ys) x e (inr i) = pass_all test ys x (and_parts (test y) (list_all test ys) e).1 i
 
-any_by : {X : Type 0} (test : X → Bool) (y : X) (ys : List X) (b : Bool) → test y ≡ b → b || list_any test ys ≡ true → (list_any test ys ≡ true → (x : X) × In ys x × (test x ≡ true)) → (x : X) × In (y ∷ ys) x × (test x ≡ true)
+any_by : {X : Type 0} (test : X → Bool) (y : X) (ys : List X) (b : Bool) → test y ≡ b → b || list_any test ys ≡ true →
+    (list_any test ys ≡ true → (x : X) × In ys x × (test x ≡ true)) → (x : X) × In (y ∷ ys) x × (test x ≡ true)
 any_by test y ys true t e later = (y, inl refl, t)
 any_by test y ys false t e later = let l = later e in (l.0, inr l.1, l.2)
 
@@ -46,7 +47,8 @@ passes_some test [] x i e = absurd i
 passes_some test (y ∷ ys) x (inl same) e = any_first (test y) (list_any test ys) (ap test same ∙ e)
 passes_some test (y ∷ ys) x (inr i) e = any_later (test y) (list_any test ys) (passes_some test ys x i e)
 
-find_by : {X : Type 0} (test : X → Bool) (y : X) (ys : List X) (x : X) (b : Bool) → test y ≡ b → cond b (Some y) (find test ys) ≡ Some x → (find test ys ≡ Some x → In ys x × (test x ≡ true)) → In (y ∷ ys) x × (test x ≡ true)
+find_by : {X : Type 0} (test : X → Bool) (y : X) (ys : List X) (x : X) (b : Bool) → test y ≡ b → cond b (Some y) (find test ys) ≡ Some x →
+    (find test ys ≡ Some x → In ys x × (test x ≡ true)) → In (y ∷ ys) x × (test x ≡ true)
 find_by test y ys x true t e later = let same : y ≡ x = cc in (inl same, ap test (sym same) ∙ t)
 find_by test y ys x false t e later = let l = later e in (inr l.0, l.1)
 
@@ -55,10 +57,12 @@ found test [] x e = absurd cc
 found test (y ∷ ys) x e = find_by test y ys x (test y) refl e (found test ys x)
 
 -- the first one that passes is found
-find_first : {X : Type 0} (test : X → Bool) (xs : List X) (k : ℕ) (d : X) → k < length xs → test (get_or xs k d) ≡ true → ((j : ℕ) → j < k → test (get_or xs j d) ≡ false) → find test xs ≡ Some (get_or xs k d)
+find_first : {X : Type 0} (test : X → Bool) (xs : List X) (k : ℕ) (d : X) → k < length xs → test (get_or xs k d) ≡ true →
+    ((j : ℕ) → j < k → test (get_or xs j d) ≡ false) → find test xs ≡ Some (get_or xs k d)
 find_first test [] k d less t before = absurd (omega arith)
 find_first test (x ∷ xs) zero d less t before = cond-true (test x) (Some x) (find test xs) t
-find_first test (x ∷ xs) (suc k) d less t before = cond-false (test x) (Some x) (find test xs) (before 0 (omega arith)) ∙ find_first test xs k d (omega arith) t (λ j lt. before (suc j) (omega arith))
+find_first test (x ∷ xs) (suc k) d less t before = cond-false (test x) (Some x) (find test xs) (before 0 (omega arith))
+    ∙ find_first test xs k d (omega arith) t (λ j lt. before (suc j) (omega arith))
 
 -- ---- unbeaten routes
 
@@ -96,7 +100,8 @@ module _ (test : ℕ → Bool) (all : List Candidate) (place : ℕ) (best : IsBe
 
   -- a route that the best one does not beat is unbeaten
   pub unbeaten_too : (r : Route) → beats test (get_or all place d).route r ≡ false → is_unbeaten test all r ≡ true
-  unbeaten_too r e = unbeaten_by test all r (λ c i. false_from_ne_true (beats test c.route r) (λ t. true≢false (sym (beats_too test (get_or all place d).route c.route r (best_unbeaten c i) t) ∙ e)))
+  unbeaten_too r e = unbeaten_by test all r
+      (λ c i. false_from_ne_true (beats test c.route r) (λ t. true≢false (sym (beats_too test (get_or all place d).route c.route r (best_unbeaten c i) t) ∙ e)))
 
   pub beaten_too : (r : Route) → beats test (get_or all place d).route r ≡ true → is_unbeaten test all r ≡ false
   beaten_too r e = beaten_by test all r (get_or all place d) (at_place all place d best.0) e
@@ -104,7 +109,8 @@ module _ (test : ℕ → Bool) (all : List Candidate) (place : ℕ) (best : IsBe
   pub best_kept : is_still_best test all (Some (get_or all place d).route) ≡ true
   best_kept =
       and_from (is_held all (get_or all place d).route) (is_unbeaten test all (get_or all place d).route)
-      (passes_some (λ (c : Candidate). same_route c.route (get_or all place d).route) all (get_or all place d) (at_place all place d best.0) (same_self (get_or all place d).route))
+      (passes_some (λ (c : Candidate). same_route c.route (get_or all place d).route) all (get_or all place d) (at_place all place d best.0)
+      (same_self (get_or all place d).route))
       (unbeaten_by test all (get_or all place d).route best_unbeaten)
 
 -- where there is a candidate, there is a first best one
@@ -118,7 +124,8 @@ pub chosen_kept : (test : ℕ → Bool) (all : List Candidate) (label : Option R
 unfolding chosen_of
 chosen_kept test all label e = cond-true (is_still_best test all label) label (first_best test all) e
 
-pub chosen_first : (test : ℕ → Bool) (all : List Candidate) (label : Option Route) → is_still_best test all label ≡ false → chosen_of test all label ≡ first_best test all
+pub chosen_first : (test : ℕ → Bool) (all : List Candidate) (label : Option Route) → is_still_best test all label ≡ false →
+    chosen_of test all label ≡ first_best test all
 unfolding chosen_of
 chosen_first test all label e = cond-false (is_still_best test all label) label (first_best test all) e
 
@@ -144,7 +151,8 @@ kept_best test all r e =
     let held = some_passes (λ (c : Candidate). same_route c.route r) all parts.0 in
     record { candidate = held.0; inside = held.1; same = same_true held.0.route r held.2; unbeaten = by_unbeaten test all r parts.1 }
 
-first_by : (test : ℕ → Bool) (all : List Candidate) (o : Option Candidate) (r : Route) → find (λ (c : Candidate). is_unbeaten test all c.route) all ≡ o → option_map (λ (c : Candidate). c.route) o ≡ Some r → IsBestCandidate test all r
+first_by : (test : ℕ → Bool) (all : List Candidate) (o : Option Candidate) (r : Route) → find (λ (c : Candidate). is_unbeaten test all c.route) all ≡ o →
+    option_map (λ (c : Candidate). c.route) o ≡ Some r → IsBestCandidate test all r
 first_by test all None r is e = absurd cc
 first_by test all (Some c) r is e =
     let f = found (λ (c : Candidate). is_unbeaten test all c.route) all c is in
@@ -160,15 +168,19 @@ chosen_some test all label r e = elim (cases_Bool (is_still_best test all label)
 -- where none is chosen there is no candidate
 pub chosen_nothing : (test : ℕ → Bool) (all : List Candidate) (label : Option Route) → chosen_of test all label ≡ None → (c : Candidate) → ¬ In all c
 chosen_nothing test all label e c i = elim (cases_Bool (is_still_best test all label)) [
-  | inl kept ↦ (let none : is_still_best test all None ≡ true = subst (λ (o : Option Route). is_still_best test all o ≡ true) (sym (chosen_kept test all label kept) ∙ e) kept in cc)
-  | inr other ↦ (let b = best_place test all c i in let some : Some (get_or all b.0 c).route ≡ None = sym (first_best_is test all b.0 b.1 c) ∙ sym (chosen_first test all label other) ∙ e in cc)
+  | inl kept ↦ (let none : is_still_best test all None ≡ true =
+      subst (λ (o : Option Route). is_still_best test all o ≡ true) (sym (chosen_kept test all label kept) ∙ e) kept in cc)
+  | inr other ↦ (let b = best_place test all c i in let some : Some (get_or all b.0 c).route ≡ None = sym (first_best_is test all b.0 b.1 c)
+      ∙ sym (chosen_first test all label other) ∙ e in cc)
 ]
 
 -- a label that is a candidate that none beats is chosen
 pub best_chosen : (test : ℕ → Bool) (all : List Candidate) (r : Route) → IsBestCandidate test all r → chosen_of test all (Some r) ≡ Some r
 best_chosen test all r best =
     chosen_kept test all (Some r)
-    (and_from (is_held all r) (is_unbeaten test all r) (passes_some (λ (c : Candidate). same_route c.route r) all best.candidate best.inside (ap (λ (x : Route). same_route x r) best.same ∙ same_self r)) (unbeaten_by test all r best.unbeaten))
+    (and_from (is_held all r) (is_unbeaten test all r)
+    (passes_some (λ (c : Candidate). same_route c.route r) all best.candidate best.inside (ap (λ (x : Route). same_route x r) best.same ∙ same_self r))
+    (unbeaten_by test all r best.unbeaten))
 
 -- ---- as code tests it
 
@@ -181,8 +193,10 @@ pub held_kept : (test : ℕ → Bool) (all : List Candidate) (r : Route) → is_
 held_kept test all r e = and_true (is_held all r) (is_unbeaten test all r) e
 
 -- the first best candidate is taken where the label is not kept, and is another one
-pub best_taken : (test : ℕ → Bool) (all : List Candidate) (place : ℕ) → IsBestUpto test all (length all) place → (label : Option Route) (c : Candidate) → is_still_best test all label ≡ false → c ≡ get_or all place c → (chosen_of test all label ≡ Some c.route) × (Some c.route ≢ label)
+pub best_taken : (test : ℕ → Bool) (all : List Candidate) (place : ℕ) → IsBestUpto test all (length all) place → (label : Option Route) (c : Candidate) →
+    is_still_best test all label ≡ false → c ≡ get_or all place c → (chosen_of test all label ≡ Some c.route) × (Some c.route ≢ label)
 best_taken test all place best label c kept is = (
   chosen_first test all label kept ∙ first_best_is test all place best c ∙ ap (λ (x : Candidate). Some x.route) (sym is),
-  (λ e. true≢false (sym (subst (λ (o : Option Route). is_still_best test all o ≡ true) (ap (λ (x : Candidate). Some x.route) (sym is) ∙ e) (best_kept test all place best c)) ∙ kept)),
+  (λ e. true≢false (sym (subst (λ (o : Option Route). is_still_best test all o ≡ true) (ap (λ (x : Candidate). Some x.route) (sym is) ∙ e)
+      (best_kept test all place best c)) ∙ kept)),
 )

@@ -53,7 +53,13 @@ module _ (L : List (Option Route)) where
     kept : (v : ℕ) → In xs v → In run v
 
   put : (u : ℕ) (xs : List ℕ) → ¬ In xs u → IsOrdered (StandsBefore L) xs → HasPut u xs
-  put u [] new o = record { run = u ∷ []; ordered = ((λ v i. absurd i), tt); from = λ v i. elim i [ inl e ↦ inl (sym e) | inr j ↦ absurd j ]; own = inl refl; kept = λ v i. absurd i }
+  put u [] new o = record {
+    run = u ∷ [];
+    ordered = ((λ v i. absurd i), tt);
+    from = λ v i. elim i [ inl e ↦ inl (sym e) | inr j ↦ absurd j ];
+    own = inl refl;
+    kept = λ v i. absurd i;
+  }
   put u (x ∷ xs) new o = elim (one_first (label L u) (label L x) u x (λ e. new (inl (sym e)))) [
     | inl first ↦ record {
       run = u ∷ x ∷ xs;

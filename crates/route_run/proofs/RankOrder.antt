@@ -26,7 +26,8 @@ ByRouter a b = a.router < b.router
 abbrev Before : Rank → Rank → Type 0
 Before a b = (a.size < b.size) ⊎ ((a.size ≡ b.size) × (a.router < b.router))
 
-stands : (o p : Option Route) (u v : ℕ) → ((s : Route) → p ≡ Some s → size_of s < 2 ^ 64) → (size_or_last o < size_or_last p) ⊎ ((size_or_last o ≡ size_or_last p) × (u < v)) → StandsFirst o p u v
+stands : (o p : Option Route) (u v : ℕ) → ((s : Route) → p ≡ Some s → size_of s < 2 ^ 64) → (size_or_last o < size_or_last p)
+    ⊎ ((size_or_last o ≡ size_or_last p) × (u < v)) → StandsFirst o p u v
 stands (Some r) (Some s) u v short h = h
 stands (Some r) None u v short h = tt
 stands None (Some s) u v short (inl less) = let b = short s refl in omega arith
@@ -81,7 +82,8 @@ module _ (labels : List (Option Route)) where
   by_router a (suc n) = ((λ other h. behind a n other h), by_router (a + 1) n)
 
   in_all : (n u : ℕ) → u < n → In (map (rank_at labels) (range_with_len 0 n)) (rank_at labels u)
-  in_all n u h = in_map (rank_at labels) (range_with_len 0 n) u (let Q : ℕ → Type 0 = λ m. In (range_with_len 0 n) m in let same : 0 + u ≡ u = omega arith in subst Q same (in_range 0 n u h))
+  in_all n u h = in_map (rank_at labels) (range_with_len 0 n) u (let Q : ℕ → Type 0 = λ m. In (range_with_len 0 n) m in let same : 0 + u ≡ u = omega arith in
+      subst Q same (in_range 0 n u h))
 
   record IsRank (n : ℕ) (rank : Rank) : Type 0 where
     inside : rank.router < n
@@ -94,18 +96,24 @@ module _ (labels : List (Option Route)) where
       let r = range_in 0 n w.0 w.1 in
       record { inside = omega arith; size = sym (ap rank_size w.2) ∙ ap (λ (k : ℕ). size_or_last (label labels k)) e }
 
-  pub order_is : (P : Problem) (n : ℕ) (first sorted : List Rank) → n ≡ count P → AreShort labels → first ≡ map (rank_at labels) (range_with_len 0 n) → ((k : ℕ) → All (λ (rank : Rank). rank.size < k) first → sorted ≡ by_key rank_size k first) → IsOrderOf P labels (map (λ (rank : Rank). rank.router) sorted)
+  pub order_is : (P : Problem) (n : ℕ) (first sorted : List Rank) → n ≡ count P → AreShort labels → first ≡ map (rank_at labels) (range_with_len 0 n) →
+      ((k : ℕ) → All (λ (rank : Rank). rank.size < k) first → sorted ≡ by_key rank_size k first) →
+      IsOrderOf P labels (map (λ (rank : Rank). rank.router) sorted)
   order_is P n first sorted total short is sort =
       let all = map (rank_at labels) (range_with_len 0 n) in
       let k = bound_of all in
       let s : sorted ≡ by_key rank_size (bound_of (map (rank_at labels) (range_with_len 0 n))) (map (rank_at labels) (range_with_len 0 n)) =
-      sort (bound_of (map (rank_at labels) (range_with_len 0 n))) (subst (All (λ (rank : Rank). rank.size < bound_of (map (rank_at labels) (range_with_len 0 n)))) (sym is) (all_from (λ (rank : Rank). rank.size < k) all (λ rank h. below_bound all rank h)))
+      sort (bound_of (map (rank_at labels) (range_with_len 0 n)))
+      (subst (All (λ (rank : Rank). rank.size < bound_of (map (rank_at labels) (range_with_len 0 n)))) (sym is)
+      (all_from (λ (rank : Rank). rank.size < k) all (λ rank h. below_bound all rank h)))
       ∙ ap (by_key rank_size (bound_of (map (rank_at labels) (range_with_len 0 n)))) is in
-      let inside : (rank : Rank) → In sorted rank → In (map (rank_at labels) (range_with_len 0 n)) rank = λ rank h. by_key_in rank_size k all rank (subst (λ (rs : List Rank). In rs rank) s h) in
+      let inside : (rank : Rank) → In sorted rank → In (map (rank_at labels) (range_with_len 0 n)) rank =
+      λ rank h. by_key_in rank_size k all rank (subst (λ (rs : List Rank). In rs rank) s h) in
       let ordered : IsOrdered Before sorted = subst (IsOrdered Before) (sym s)
       (ordered_keys rank_size Before all
       (λ v. ordered_as ByRouter Before (with_key rank_size all v)
-      (λ x y i j less. (let a = (key_is rank_size all v x i).1 in let b = (key_is rank_size all v y j).1 in let equal : x.size ≡ y.size = omega arith in inr (equal, less)))
+      (λ x y i j less. (let a = (key_is rank_size all v x i).1 in let b = (key_is rank_size all v y j).1 in let equal : x.size ≡ y.size = omega arith in
+      inr (equal, less)))
       (ordered_filter ByRouter (λ (rank : Rank). Rattle.std.specs.Prelude.nat_eq rank.size v) all (by_router 0 n)))
       (λ x y less. inl less) 0 k) in
       let standing : IsOrdered (λ (a b : Rank). StandsBefore labels a.router b.router) sorted =
@@ -113,20 +121,25 @@ module _ (labels : List (Option Route)) where
       (λ x y i j before. (let a = rank_is n x (inside x i) in let b = rank_is n y (inside y j) in by_sizes x y a.size b.size before)) ordered in
       record {
         each = λ u h.
-            (let here = subst (λ (rs : List Rank). In rs (rank_at labels u)) (sym s) (in_by_key rank_size k all (rank_at labels u) (in_all n u (omega arith)) (below_bound all (rank_at labels u) (in_all n u (omega arith)))) in
+            (let here = subst (λ (rs : List Rank). In rs (rank_at labels u)) (sym s)
+            (in_by_key rank_size k all (rank_at labels u) (in_all n u (omega arith)) (below_bound all (rank_at labels u) (in_all n u (omega arith)))) in
             contains_in (map (λ (rank : Rank). rank.router) sorted) u (in_map (λ (rank : Rank). rank.router) sorted (rank_at labels u) here));
         only = all_from (λ u. u < count P) (map (λ (rank : Rank). rank.router) sorted) (λ u h.
             let w = map_in (λ (rank : Rank). rank.router) sorted u h in let r = (rank_is n w.0 (inside w.0 w.1)).inside in let e = w.2 in omega arith);
-        sorted = ordered_pairs (StandsBefore labels) (map (λ (rank : Rank). rank.router) sorted) (ordered_map (StandsBefore labels) (λ (rank : Rank). rank.router) sorted standing);
+        sorted = ordered_pairs (StandsBefore labels) (map (λ (rank : Rank). rank.router) sorted)
+            (ordered_map (StandsBefore labels) (λ (rank : Rank). rank.router) sorted standing);
       }
     where
-      by_sizes : (x y : Rank) → x.size ≡ size_or_last (label labels x.router) → y.size ≡ size_or_last (label labels y.router) → Before x y → StandsBefore labels x.router y.router
+      by_sizes : (x y : Rank) → x.size ≡ size_or_last (label labels x.router) → y.size ≡ size_or_last (label labels y.router) → Before x y →
+          StandsBefore labels x.router y.router
       by_sizes x y a b (inl less) = stands (label labels x.router) (label labels y.router) x.router y.router (λ s e. short y.router s e) (inl (omega arith))
-      by_sizes x y a b (inr same) = (let e = same.0 in stands (label labels x.router) (label labels y.router) x.router y.router (λ s e. short y.router s e) (inr (omega arith, same.1)))
+      by_sizes x y a b (inr same) = (let e = same.0 in
+          stands (label labels x.router) (label labels y.router) x.router y.router (λ s e. short y.router s e) (inr (omega arith, same.1)))
 
 -- ---- as code makes them
 
-pub ranks_more : (labels : List (Option Route)) (n : ℕ) (ranks more : List Rank) (l : Option Route) (size : ℕ) → n < length labels → l ≡ get_or labels n l → size ≡ size_or_last l → ranks ≡ map (rank_at labels) (range_with_len 0 n)
+pub ranks_more : (labels : List (Option Route)) (n : ℕ) (ranks more : List Rank) (l : Option Route) (size : ℕ) → n < length labels → l ≡ get_or labels n l →
+    size ≡ size_or_last l → ranks ≡ map (rank_at labels) (range_with_len 0 n)
     → more ≡ ranks ++ record { router = n; size = size } ∷ [] → more ≡ map (rank_at labels) (range_with_len 0 (n + 1))
 ranks_more labels n ranks more l size inside read is so_far next =
     let own : size ≡ size_or_last (label labels n) = is ∙ ap size_or_last (get_or_read labels n l inside read None) in
@@ -134,14 +147,17 @@ ranks_more labels n ranks more l size inside read is so_far next =
     ∙ ap (λ (k : ℕ). map (rank_at labels) (range_with_len 0 n) ++ record { router = n; size = k } ∷ []) own
     ∙ sym (map_range_next (rank_at labels) n)
 
-pub short_more : (labels : List (Option Route)) (n : ℕ) (l : Option Route) → n < length labels → l ≡ get_or labels n l → ((r : Route) → l ≡ Some r → size_of r < 2 ^ 64) → ((u : ℕ) (r : Route) → u < n → label labels u ≡ Some r → size_of r < 2 ^ 64)
+pub short_more : (labels : List (Option Route)) (n : ℕ) (l : Option Route) → n < length labels → l ≡ get_or labels n l →
+    ((r : Route) → l ≡ Some r → size_of r < 2 ^ 64) → ((u : ℕ) (r : Route) → u < n → label labels u ≡ Some r → size_of r < 2 ^ 64)
     → (u : ℕ) (r : Route) → u < n + 1 → label labels u ≡ Some r → size_of r < 2 ^ 64
 short_more labels n l inside read own before u r less e = elim (cases_lt u n) [
   | inl below ↦ before u r below e
   | inr here ↦ (let same : u ≡ n = omega arith in own r (get_or_read labels n l inside read None ∙ ap (label labels) (sym same) ∙ e))
 ]
 
-pub order_by : (P : Problem) (L L' : List (Option Route)) (sorted read : List Rank) (schedule : List Activation) → L ≡ L' → read ≡ sorted → schedule ≡ map (λ (rank : Rank). One rank.router) read → IsOrderOf P L (map (λ (rank : Rank). rank.router) sorted) → IsOrderOf P L' (run_of (count P) schedule)
+pub order_by : (P : Problem) (L L' : List (Option Route)) (sorted read : List Rank) (schedule : List Activation) → L ≡ L' → read ≡ sorted →
+    schedule ≡ map (λ (rank : Rank). One rank.router) read → IsOrderOf P L (map (λ (rank : Rank). rank.router) sorted) →
+    IsOrderOf P L' (run_of (count P) schedule)
 order_by P L L' sorted read schedule labels same is order =
     subst (λ (l : List (Option Route)). IsOrderOf P l (run_of (count P) schedule)) labels
     (subst (IsOrderOf P L) (sym (ap (run_of (count P)) is ∙ activations_run (count P) read ∙ ap (map (λ (rank : Rank). rank.router)) same)) order)

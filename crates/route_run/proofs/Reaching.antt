@@ -80,18 +80,23 @@ module _ (P : Problem) (good : IsProblem P) (L : List (Option Route)) (st : IsSt
     filled = λ v s h e out. absurd (out (in_contains run v (order.each v h)));
   }
 
-  better_none : (E : List (Option Route)) → IsGood P P (λ u v. u ≡ v × (u < count P)) E L → (u : ℕ) (c : Route) → u < count P → IsCandidate P E u c → AsGood P L u c
-  better_none E fine u c h cand = no_better P P (λ u v. u ≡ v × (u < count P)) itself good good L st even.held E fine.supported.fitting fine.tied.held u u c (refl, h) cand
+  better_none : (E : List (Option Route)) → IsGood P P (λ u v. u ≡ v × (u < count P)) E L → (u : ℕ) (c : Route) → u < count P → IsCandidate P E u c →
+      AsGood P L u c
+  better_none E fine u c h cand = no_better P P (λ u v. u ≡ v × (u < count P)) itself good good L st even.held E fine.supported.fitting fine.tied.held u u c
+      (refl, h) cand
 
   -- a candidate of the key of the solution's label
-  as_given : (E : List (Option Route)) → IsGood P P (λ u v. u ≡ v × (u < count P)) E L → (u : ℕ) (s : Route) → u < count P → label L u ≡ Some s → label E u ≡ None → IsFilled (λ u v. u ≡ v × (u < count P)) E L (size_of s) → IsCandidate P L u s → (c : Route) × IsCandidate P E u c × (key_of P c ≡ key_of P s)
+  as_given : (E : List (Option Route)) → IsGood P P (λ u v. u ≡ v × (u < count P)) E L → (u : ℕ) (s : Route) → u < count P → label L u ≡ Some s →
+      label E u ≡ None → IsFilled (λ u v. u ≡ v × (u < count P)) E L (size_of s) → IsCandidate P L u s → (c : Route) × IsCandidate P E u c
+      × (key_of P c ≡ key_of P s)
   as_given E fine u s h lab empty before (of_init e) = (s, of_init e, refl)
   as_given E fine u s h lab empty before (of_edge e i imp over) =
       let o = offered_over P P (λ u v. u ≡ v × (u < count P)) itself good good L st even E fine u u s (refl, h) lab empty before e i imp over in
       (o.route, of_edge o.edge o.edge_in o.importer o.over, o.keyed)
 
   -- the router takes a route of that key
-  takes : (E : List (Option Route)) → IsGood P P (λ u v. u ≡ v × (u < count P)) E L → (u : ℕ) (s : Route) → u < count P → label L u ≡ Some s → label E u ≡ None → IsFilled (λ u v. u ≡ v × (u < count P)) E L (size_of s)
+  takes : (E : List (Option Route)) → IsGood P P (λ u v. u ≡ v × (u < count P)) E L → (u : ℕ) (s : Route) → u < count P → label L u ≡ Some s →
+      label E u ≡ None → IsFilled (λ u v. u ≡ v × (u < count P)) E L (size_of s)
       → (c : Route) × (chosen_label P E u ≡ Some c) × IsCandidate P E u c × (key_of P c ≡ key_of P s)
   takes E fine u s h lab empty before =
       let g = as_given E fine u s h lab empty before (st.held u s h lab) in
@@ -104,8 +109,10 @@ module _ (P : Problem) (good : IsProblem P) (L : List (Option Route)) (st : IsSt
             let cand = chosen_candidate P good E u some.0 some.1 in
             let as_good = better_none E fine u some.0 h cand in
             let same : as_good.route ≡ s = (let l = as_good.labelled in cc) in
-            let above : compare_keys (key_of P some.0) (key_of P s) ≢ Less = subst (λ (r : Route). compare_keys (key_of P some.0) (key_of P r) ≢ Less) same as_good.as_good in
-            let first : compare_keys (key_of P k.0.route) (key_of P some.0) ≢ Less = not_less (compare_keys (key_of P k.0.route) (key_of P some.0)) (best.unbeaten k.0 (in_contains (candidates P E u) k.0 k.1)) in
+            let above : compare_keys (key_of P some.0) (key_of P s) ≢ Less =
+            subst (λ (r : Route). compare_keys (key_of P some.0) (key_of P r) ≢ Less) same as_good.as_good in
+            let first : compare_keys (key_of P k.0.route) (key_of P some.0) ≢ Less =
+            not_less (compare_keys (key_of P k.0.route) (key_of P some.0)) (best.unbeaten k.0 (in_contains (candidates P E u) k.0 k.1)) in
             let key : key_of P k.0.route ≡ key_of P s = ap (key_of P) k.2 ∙ g.2 in
             let below : compare_keys (key_of P s) (key_of P some.0) ≢ Less = subst (λ q. compare_keys q (key_of P some.0) ≢ Less) key first in
             (some.0, some.1, cand, neither_better (key_of P some.0) (key_of P s) above below)
@@ -162,7 +169,8 @@ module _ (P : Problem) (good : IsProblem P) (L : List (Option Route)) (st : IsSt
           let is : activated P E u ≡ set E u (Some t.0) = ap (set E u) t.1 in
           let total = now.fine.supported.fitting.total in
           record {
-            fine = subst (λ (l : List (Option Route)). IsGood P P (λ u v. u ≡ v × (u < count P)) l L) (sym is) (set_good P P (λ u v. u ≡ v × (u < count P)) itself good good L st even E now.fine u u t.0 some.0 (refl, inside) some.1 bare t.2 t.3);
+            fine = subst (λ (l : List (Option Route)). IsGood P P (λ u v. u ≡ v × (u < count P)) l L) (sym is)
+                (set_good P P (λ u v. u ≡ v × (u < count P)) itself good good L st even E now.fine u u t.0 some.0 (refl, inside) some.1 bare t.2 t.3);
             empty = still_empty;
             filled = λ v s h e lacking. elim (cases_eq v u) [
               | inl same ↦ (t.0, ap (label (activated P E u)) same ∙ activated_here P E u (omega (arith, inside, total)) ∙ t.1)

@@ -34,30 +34,38 @@ pub map_range_next : {X : Type 0} (f : ℕ → X) (n : ℕ) → map f (range_wit
 map_range_next f n = ap (map f) (range_next n) ∙ map_push f (range_with_len 0 n) n
 
 -- one run after the other
-pub after_append : (P : Problem) (L : List (Option Route)) (first second : List ℕ) → labels_after P L (first ++ second) ≡ labels_after P (labels_after P L first) second
+pub after_append : (P : Problem) (L : List (Option Route)) (first second : List ℕ) →
+    labels_after P L (first ++ second) ≡ labels_after P (labels_after P L first) second
 after_append P L [] second = refl
 after_append P L (u ∷ first) second = after_append P (activated P L u) first second
 
 -- one router more of a round
-pub after_next : (P : Problem) (L now new : List (Option Route)) (n : ℕ) → now ≡ labels_after P L (range_with_len 0 n) → new ≡ activated P now n → new ≡ labels_after P L (range_with_len 0 (n + 1))
+pub after_next : (P : Problem) (L now new : List (Option Route)) (n : ℕ) → now ≡ labels_after P L (range_with_len 0 n) → new ≡ activated P now n →
+    new ≡ labels_after P L (range_with_len 0 (n + 1))
 after_next P L now new n so_far next =
-    next ∙ ap (λ (l : List (Option Route)). activated P l n) so_far ∙ sym (after_append P L (range_with_len 0 n) (n ∷ [])) ∙ sym (ap (labels_after P L) (range_next n))
+    next ∙ ap (λ (l : List (Option Route)). activated P l n) so_far ∙ sym (after_append P L (range_with_len 0 n) (n ∷ []))
+    ∙ sym (ap (labels_after P L) (range_next n))
 
-run_more : (count : ℕ) (schedule : List Activation) (i : ℕ) (a : Activation) → i < length schedule → a ≡ get_or schedule i a → run_of count (take (i + 1) schedule) ≡ run_of count (take i schedule) ++ routers_of count a
+run_more : (count : ℕ) (schedule : List Activation) (i : ℕ) (a : Activation) → i < length schedule → a ≡ get_or schedule i a →
+    run_of count (take (i + 1) schedule) ≡ run_of count (take i schedule) ++ routers_of count a
 run_more count schedule i a less is =
     ap (run_of count) (take_more schedule i a less ∙ ap (λ (x : Activation). take i schedule ++ x ∷ []) (sym is))
     ∙ flat_map-append (routers_of count) (take i schedule) (a ∷ [])
     ∙ ap (λ (xs : List ℕ). run_of count (take i schedule) ++ xs) (append-nil (routers_of count a))
 
 -- one activation more of a schedule
-pub schedule_next : (P : Problem) (L now new : List (Option Route)) (schedule : List Activation) (i : ℕ) (a : Activation) → i < length schedule → a ≡ get_or schedule i a
-    → now ≡ labels_after P L (run_of (count P) (take i schedule)) → new ≡ labels_after P now (routers_of (count P) a) → new ≡ labels_after P L (run_of (count P) (take (i + 1) schedule))
+pub schedule_next : (P : Problem) (L now new : List (Option Route)) (schedule : List Activation) (i : ℕ) (a : Activation) → i < length schedule →
+    a ≡ get_or schedule i a
+    → now ≡ labels_after P L (run_of (count P) (take i schedule)) → new ≡ labels_after P now (routers_of (count P) a) →
+    new ≡ labels_after P L (run_of (count P) (take (i + 1) schedule))
 schedule_next P L now new schedule i a less is so_far next =
-    next ∙ ap (λ (l : List (Option Route)). labels_after P l (routers_of (count P) a)) so_far ∙ sym (after_append P L (run_of (count P) (take i schedule)) (routers_of (count P) a))
+    next ∙ ap (λ (l : List (Option Route)). labels_after P l (routers_of (count P) a)) so_far
+    ∙ sym (after_append P L (run_of (count P) (take i schedule)) (routers_of (count P) a))
     ∙ sym (ap (labels_after P L) (run_more (count P) schedule i a less is))
 
 -- the routers of an activation are those of the run
-pub routers_inside : (count : ℕ) (schedule : List Activation) (i : ℕ) (a : Activation) → i < length schedule → a ≡ get_or schedule i a → All (λ u. u < count) (run_of count schedule) → All (λ u. u < count) (routers_of count a)
+pub routers_inside : (count : ℕ) (schedule : List Activation) (i : ℕ) (a : Activation) → i < length schedule → a ≡ get_or schedule i a →
+    All (λ u. u < count) (run_of count schedule) → All (λ u. u < count) (routers_of count a)
 routers_inside count schedule i a less is all =
     all_from (λ u. u < count) (routers_of count a)
     (λ u h. all_in (λ u. u < count) (run_of count schedule) u all (in_flat_map (routers_of count) schedule a u (in_at schedule a i less (sym is)) h))

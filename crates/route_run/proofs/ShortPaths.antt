@@ -30,7 +30,8 @@ abbrev others : ℕ → List ℕ → List ℕ
 others d [] = []
 others d (y ∷ ys) = cond (nat_eq y d) (others d ys) (y ∷ others d ys)
 
-length_by : (d y : ℕ) (ys : List ℕ) (b : Bool) → nat_eq y d ≡ b → length ys ≡ length (others d ys) + times d ys → length (y ∷ ys) ≡ length (others d (y ∷ ys)) + times d (y ∷ ys)
+length_by : (d y : ℕ) (ys : List ℕ) (b : Bool) → nat_eq y d ≡ b → length ys ≡ length (others d ys) + times d ys →
+    length (y ∷ ys) ≡ length (others d (y ∷ ys)) + times d (y ∷ ys)
 length_by d y ys true e rest = rw e (omega (arith, rest))
 length_by d y ys false e rest = rw e (omega (arith, rest))
 
@@ -38,7 +39,8 @@ length_parts : (d : ℕ) (l : List ℕ) → length l ≡ length (others d l) + t
 length_parts d [] = refl
 length_parts d (y ∷ ys) = length_by d y ys (nat_eq y d) refl (length_parts d ys)
 
-others_by : (d y x : ℕ) (ys : List ℕ) (b : Bool) → nat_eq y d ≡ b → (In (others d ys) x → In ys x × (x ≢ d)) → In (others d (y ∷ ys)) x → In (y ∷ ys) x × (x ≢ d)
+others_by : (d y x : ℕ) (ys : List ℕ) (b : Bool) → nat_eq y d ≡ b → (In (others d ys) x → In ys x × (x ≢ d)) → In (others d (y ∷ ys)) x →
+    In (y ∷ ys) x × (x ≢ d)
 others_by d y x ys true e rest i = let w : In (others d ys) x = rw e at i in let r = rest w in (inr r.0, r.1)
 others_by d y x ys false e rest i = let w : In (y ∷ others d ys) x = rw e at i in elim w [
   | inl same ↦ (inl same, λ xd. eqb-false y d e (same ∙ xd))
@@ -49,7 +51,8 @@ in_others : (d x : ℕ) (l : List ℕ) → In (others d l) x → In l x × (x �
 in_others d x [] i = absurd i
 in_others d x (y ∷ ys) i = others_by d y x ys (nat_eq y d) refl (in_others d x ys) i
 
-fewer_by : (d y x : ℕ) (ys : List ℕ) (b c : Bool) → nat_eq y d ≡ b → nat_eq y x ≡ c → times x (others d ys) ≤ times x ys → times x (others d (y ∷ ys)) ≤ times x (y ∷ ys)
+fewer_by : (d y x : ℕ) (ys : List ℕ) (b c : Bool) → nat_eq y d ≡ b → nat_eq y x ≡ c → times x (others d ys) ≤ times x ys →
+    times x (others d (y ∷ ys)) ≤ times x (y ∷ ys)
 fewer_by d y x ys true true e f rest = rw (e, f) (omega (arith, rest))
 fewer_by d y x ys true false e f rest = rw (e, f) rest
 fewer_by d y x ys false true e f rest = rw e (rw f (omega (arith, rest)))
@@ -79,13 +82,16 @@ counting (d ∷ D) l k among few =
 
 times_more : (x a m : ℕ) (path : List ℕ) → x ≢ a → times x (prepended m a path) ≡ times x path
 times_more x a zero path differ = refl
-times_more x a (suc m) path differ = cond-false (nat_eq a x) (suc (times x (prepended m a path))) (times x (prepended m a path)) (ne_eqb a x (λ e. differ (sym e))) ∙ times_more x a m path differ
+times_more x a (suc m) path differ = cond-false (nat_eq a x) (suc (times x (prepended m a path))) (times x (prepended m a path))
+    (ne_eqb a x (λ e. differ (sym e))) ∙ times_more x a m path differ
 
 times_own : (a m : ℕ) (path : List ℕ) → times a (prepended m a path) ≡ m + times a path
 times_own a zero path = omega arith
-times_own a (suc m) path = cond-true (nat_eq a a) (suc (times a (prepended m a path))) (times a (prepended m a path)) (eq-eqb a a refl) ∙ (let r = times_own a m path in omega arith)
+times_own a (suc m) path = cond-true (nat_eq a a) (suc (times a (prepended m a path))) (times a (prepended m a path)) (eq-eqb a a refl)
+    ∙ (let r = times_own a m path in omega arith)
 
-not_on_by : (a y : ℕ) (path : List ℕ) (b : Bool) → nat_eq y a ≡ b → is_on a (y ∷ path) ≡ false → (is_on a path ≡ false → times a path ≡ 0) → times a (y ∷ path) ≡ 0
+not_on_by : (a y : ℕ) (path : List ℕ) (b : Bool) → nat_eq y a ≡ b → is_on a (y ∷ path) ≡ false → (is_on a path ≡ false → times a path ≡ 0) →
+    times a (y ∷ path) ≡ 0
 not_on_by a y path true e off rest = absurd (let w = rw e at off in cc)
 not_on_by a y path false e off rest = let w : is_on a path ≡ false = rw e at off in rw e (rest w)
 
@@ -118,7 +124,8 @@ no_step : (cost number lp : ℕ) (path comms : List ℕ) (c : Route) → step_by
 unfolding step_by
 no_step cost number lp path comms c e = cc
 
-step_prepends : (P : Problem) (p : ℕ) → PrependsAtMost P p → (e : Edge) (act : Act) (from c : Route) → act_of P e ≡ act → Contains P.edges e → IsRouteOf OverBgp from → step_by act (number P e.exporter) from ≡ Some c → Prepends P e from c p
+step_prepends : (P : Problem) (p : ℕ) → PrependsAtMost P p → (e : Edge) (act : Act) (from c : Route) → act_of P e ≡ act → Contains P.edges e →
+    IsRouteOf OverBgp from → step_by act (number P e.exporter) from ≡ Some c → Prepends P e from c p
 step_prepends P p most e (Import out sends into) (Bgp lp path comms) c is i fits step =
     let a = arrives out sends into (number P e.exporter) lp path comms c step in
     record {
@@ -145,7 +152,8 @@ module _ (P : Problem) (good : IsProblem P) (bgp : P.protocol ≡ OverBgp) (p : 
         few = λ x. (let t = ap (times x) empty in omega arith);
       }
 
-  pub plain_candidate : (E : List (Option Route)) (u : ℕ) (c : Route) → AreLabels P E → ((v : ℕ) (r : Route) → label E v ≡ Some r → IsPlain P p v r) → IsCandidate P E u c → IsPlain P p u c
+  pub plain_candidate : (E : List (Option Route)) (u : ℕ) (c : Route) → AreLabels P E → ((v : ℕ) (r : Route) → label E v ≡ Some r → IsPlain P p v r) →
+      IsCandidate P E u c → IsPlain P p u c
   plain_candidate E u c fits plain (of_init e) = plain_init u c e
   plain_candidate E u c fits plain (of_edge e i imp over) =
       let from = plain e.exporter over.from over.labelled in
@@ -172,7 +180,8 @@ module _ (P : Problem) (good : IsProblem P) (bgp : P.protocol ≡ OverBgp) (p : 
             ]);
       }
 
-  pub plain_after : (run : List ℕ) (E : List (Option Route)) → AreLabels P E → ((v : ℕ) (r : Route) → label E v ≡ Some r → IsPlain P p v r) → (v : ℕ) (r : Route) → label (labels_after P E run) v ≡ Some r → IsPlain P p v r
+  pub plain_after : (run : List ℕ) (E : List (Option Route)) → AreLabels P E → ((v : ℕ) (r : Route) → label E v ≡ Some r → IsPlain P p v r) →
+      (v : ℕ) (r : Route) → label (labels_after P E run) v ≡ Some r → IsPlain P p v r
   plain_after [] E fits plain = plain
   plain_after (u ∷ run) E fits plain = plain_after run (activated P E u) (activated_labels P good E u fits) (λ v r e. elim (at_activated P E u v r e) [
     | inl new ↦ subst (λ w. IsPlain P p w r) (sym new.0) (plain_candidate E u r fits plain (chosen_candidate P good E u r new.1))
@@ -185,12 +194,18 @@ module _ (P : Problem) (good : IsProblem P) (bgp : P.protocol ≡ OverBgp) (p : 
       elim (cases_lt w u) [
         | inl below ↦
             let at = get_or-remove_below numbers u (get_or numbers w 0) w below inside in
-            in_contains (remove numbers u) (get_or numbers w 0) (w, omega arith, at ∙ Rattle.std.proofs.lemmas.List.get_or_default numbers w (get_or numbers w 0) 0 there)
+            in_contains (remove numbers u) (get_or numbers w 0)
+            (w, omega arith, at ∙ Rattle.std.proofs.lemmas.List.get_or_default numbers w (get_or numbers w 0) 0 there)
         | inr above ↦
             let k = w - 1 in
             let next : w - 1 + 1 ≡ w = omega (arith, above, differ_lt u w differ above) in
             let at = get_or-remove_above numbers u (get_or numbers w 0) (w - 1) (omega (arith, above, differ_lt u w differ above)) inside in
-            in_contains (remove numbers u) (get_or numbers w 0) (w - 1, omega (arith, total, above, differ_lt u w differ above), at ∙ ap (λ j. get_or numbers j (get_or numbers w 0)) next ∙ Rattle.std.proofs.lemmas.List.get_or_default numbers w (get_or numbers w 0) 0 there)
+            in_contains (remove numbers u) (get_or numbers w 0) (
+              w - 1,
+              omega (arith, total, above, differ_lt u w differ above),
+              at
+                  ∙ ap (λ j. get_or numbers j (get_or numbers w 0)) next ∙ Rattle.std.proofs.lemmas.List.get_or_default numbers w (get_or numbers w 0) 0 there,
+            )
       ]
     where
       differ_lt : (u w : ℕ) → w ≢ u → u ≤ w → u < w
@@ -211,5 +226,7 @@ module _ (P : Problem) (good : IsProblem P) (bgp : P.protocol ≡ OverBgp) (p : 
       true_not_false : true ≡ false → ⊥
       true_not_false e = cc
 
-  pub candidate_short : (E : List (Option Route)) (u : ℕ) (c : Route) → u < count P → IsRouteOf P.protocol c → IsPlain P p u c → size_of c ≤ (count P - 1) * (p + 1)
-  candidate_short E u c h fits plain = let size = bgp_size c (subst (λ q. IsRouteOf q c) bgp fits) in subst (λ m. m ≤ (count P - 1) * (p + 1)) (sym size) (plain_length u c h plain)
+  pub candidate_short : (E : List (Option Route)) (u : ℕ) (c : Route) → u < count P → IsRouteOf P.protocol c → IsPlain P p u c →
+      size_of c ≤ (count P - 1) * (p + 1)
+  candidate_short E u c h fits plain = let size = bgp_size c (subst (λ q. IsRouteOf q c) bgp fits) in
+      subst (λ m. m ≤ (count P - 1) * (p + 1)) (sym size) (plain_length u c h plain)

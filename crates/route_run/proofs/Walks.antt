@@ -43,7 +43,8 @@ in_or_not (v ∷ l) u = elim (cases_eq v u) [
 
 not_in_times : (l : List ℕ) (x : ℕ) → ¬ In l x → times x l ≡ 0
 not_in_times [] x lacking = refl
-not_in_times (y ∷ l) x lacking = cond-false (nat_eq y x) (suc (times x l)) (times x l) (ne_eqb y x (λ e. lacking (inl e))) ∙ not_in_times l x (λ i. lacking (inr i))
+not_in_times (y ∷ l) x lacking = cond-false (nat_eq y x) (suc (times x l)) (times x l) (ne_eqb y x (λ e. lacking (inl e)))
+    ∙ not_in_times l x (λ i. lacking (inr i))
 
 apart_times : (l : List ℕ) (x : ℕ) → Apart l → times x l ≤ 1
 apart_times [] x apart = omega arith
@@ -56,7 +57,8 @@ apart_times (y ∷ l) x apart = elim (cases_eq y x) [
       let few = apart_times l x apart.1 in omega arith
 ]
 
-step_monotone : (act : Act) (n : ℕ) (b b' c : Route) → IsActOf OverOspf act → IsRouteOf OverOspf b → IsRouteOf OverOspf b' → size_of b' ≤ size_of b → step_by act n b ≡ Some c → (c' : Route) × (step_by act n b' ≡ Some c') × (size_of c' ≤ size_of c)
+step_monotone : (act : Act) (n : ℕ) (b b' c : Route) → IsActOf OverOspf act → IsRouteOf OverOspf b → IsRouteOf OverOspf b' → size_of b' ≤ size_of b →
+    step_by act n b ≡ Some c → (c' : Route) × (step_by act n b' ≡ Some c') × (size_of c' ≤ size_of c)
 step_monotone (Import out sends into) n b b' c is f f' le e = absurd is
 step_monotone (Cost w) n (Bgp lp path comms) b' c is f f' le e = absurd f
 step_monotone (Cost w) n (Ospf x) (Bgp lp path comms) c is f f' le e = absurd f'
@@ -77,10 +79,13 @@ module _ (P : Problem) (good : IsProblem P) (none_lone : HasNoLone P) (ospf : P.
 
   walk_route : (l : List ℕ) (u : ℕ) (c : Route) → WalkOf P l u c → IsRouteOf P.protocol c
   walk_route [] u c w = good.starts.routes u c w.1
-  walk_route (v ∷ l) u c w = Rattle.srp_core.proofs.Steps.step_route P.protocol (act_of P w.0) (number P w.0.exporter) w.1 c (edge_keeps P good w.0 w.2) (walk_route l v w.1 w.6) w.5
+  walk_route (v ∷ l) u c w = Rattle.srp_core.proofs.Steps.step_route P.protocol (act_of P w.0) (number P w.0.exporter) w.1 c (edge_keeps P good w.0 w.2)
+      (walk_route l v w.1 w.6) w.5
 
-  over_less : (e : Edge) (b b' c : Route) → Contains P.edges e → IsRouteOf P.protocol b → IsRouteOf P.protocol b' → size_of b' ≤ size_of b → step_over P e b ≡ Some c → (c' : Route) × (step_over P e b' ≡ Some c') × (size_of c' ≤ size_of c)
-  over_less e b b' c i f f' le s = step_monotone (act_of P e) (number P e.exporter) b b' c (subst (λ q. IsActOf q (act_of P e)) ospf (edge_act P good e i)) (fit b f) (fit b' f') le s
+  over_less : (e : Edge) (b b' c : Route) → Contains P.edges e → IsRouteOf P.protocol b → IsRouteOf P.protocol b' → size_of b' ≤ size_of b →
+      step_over P e b ≡ Some c → (c' : Route) × (step_over P e b' ≡ Some c') × (size_of c' ≤ size_of c)
+  over_less e b b' c i f f' le s = step_monotone (act_of P e) (number P e.exporter) b b' c (subst (λ q. IsActOf q (act_of P e)) ospf (edge_act P good e i))
+      (fit b f) (fit b' f') le s
 
   record Shorter (u : ℕ) (c : Route) : Type 0 where
     through : List ℕ
@@ -108,8 +113,16 @@ module _ (P : Problem) (good : IsProblem P) (none_lone : HasNoLone P) (ospf : P.
       let o = over_less w.0 w.1 s.route c w.2 (walk_route l v w.1 w.6) (walk_route s.through v s.route s.walk) s.less w.5 in
       let g = grows P good w.0 w.1 c w.2 w.5 in
       elim (in_or_not (v ∷ s.through) u) [
-        | inr lacking ↦ record { through = v ∷ s.through; route = o.0; walk = (w.0, s.route, w.2, w.3, w.4, o.1, s.walk); apart = (lacking, s.apart); less = o.2 }
-        | inl i ↦ (let p = part_of s.through v u s.route s.walk s.apart i in let less = p.less in record { through = p.through; route = p.route; walk = p.walk; apart = p.apart; less = omega arith })
+        | inr lacking ↦ record {
+          through = v ∷ s.through;
+          route = o.0;
+          walk = (w.0, s.route, w.2, w.3, w.4, o.1, s.walk);
+          apart = (lacking, s.apart);
+          less =
+              o.2;
+        }
+        | inl i ↦ (let p = part_of s.through v u s.route s.walk s.apart i in let less = p.less in
+            record { through = p.through; route = p.route; walk = p.walk; apart = p.apart; less = omega arith })
       ]
 
   walk_inside : (l : List ℕ) (u : ℕ) (c : Route) → WalkOf P l u c → (x : ℕ) → In (u ∷ l) x → x < count P
@@ -121,7 +134,8 @@ module _ (P : Problem) (good : IsProblem P) (none_lone : HasNoLone P) (ospf : P.
   walk_short : (l : List ℕ) (u : ℕ) (c : Route) → WalkOf P l u c → Apart (u ∷ l) → length l < count P
   walk_short l u c w apart =
       let few = counting (range_with_len 0 (count P)) (u ∷ l) 1
-      (λ x i. (let inside = walk_inside l u c w x i in let Q : ℕ → Type 0 = λ m. In (range_with_len 0 (count P)) m in let same : 0 + x ≡ x = omega arith in subst Q same (in_range 0 (count P) x inside)))
+      (λ x i. (let inside = walk_inside l u c w x i in let Q : ℕ → Type 0 = λ m. In (range_with_len 0 (count P)) m in let same : 0 + x ≡ x = omega arith in
+      subst Q same (in_range 0 (count P) x inside)))
       (λ x. apart_times (u ∷ l) x apart) in
       let total = range_length 0 (count P) in
       omega arith
@@ -138,25 +152,44 @@ module _ (P : Problem) (good : IsProblem P) (none_lone : HasNoLone P) (ospf : P.
   abbrev AreWalks : List (Option Route) → Type 0
   AreWalks E = (u : ℕ) (r : Route) → label E u ≡ Some r → (l : List ℕ) × WalkOf P l u r
 
-  candidate_walk : (E : List (Option Route)) (u : ℕ) (c : Route) → u < count P → ((v : ℕ) (r : Route) → label E v ≡ Some r → (l : List ℕ) × WalkOf P l v r) → IsCandidate P E u c → (l : List ℕ) × WalkOf P l u c
+  candidate_walk : (E : List (Option Route)) (u : ℕ) (c : Route) → u < count P → ((v : ℕ) (r : Route) → label E v ≡ Some r → (l : List ℕ) × WalkOf P l v r) →
+      IsCandidate P E u c → (l : List ℕ) × WalkOf P l u c
   candidate_walk E u c h walks (of_init e) = ([], (h, e))
-  candidate_walk E u c h walks (of_edge e i imp over) = let w = walks e.exporter over.from over.labelled in (e.exporter ∷ w.0, (e, over.from, i, imp, refl, over.stepped, w.1))
+  candidate_walk E u c h walks (of_edge e i imp over) = let w = walks e.exporter over.from over.labelled in
+      (e.exporter ∷ w.0, (e, over.from, i, imp, refl, over.stepped, w.1))
 
   -- what is chosen costs no more than a candidate
-  chosen_least : (E : List (Option Route)) (u : ℕ) (c : Route) → AreLabels P E → u < count P → IsCandidate P E u c → (b : Route) × (chosen_label P E u ≡ Some b) × (size_of b ≤ size_of c)
+  chosen_least : (E : List (Option Route)) (u : ℕ) (c : Route) → AreLabels P E → u < count P → IsCandidate P E u c → (b : Route) × (chosen_label P E u ≡ Some b)
+      × (size_of b ≤ size_of c)
   chosen_least E u c fits h cand =
-      let some = chosen_there P E u c cand in
-      (some.0, some.1, as_long P good none_lone u some.0 c h (candidate_offer P good E u some.0 fits (chosen_candidate P good E u some.0 some.1)) (candidate_offer P good E u c fits cand) (chosen_over P E u some.0 c some.1 cand))
+      let some = chosen_there P E u c cand in (
+        some.0,
+        some.1,
+        as_long P good none_lone u some.0 c h (candidate_offer P good E u some.0 fits (chosen_candidate P good E u some.0 some.1))
+            (candidate_offer P good E u c fits cand) (chosen_over P E u some.0 c some.1 cand),
+      )
 
-  candidate_by : (E : List (Option Route)) (t : ℕ) → AreLabels P E → ((v : ℕ) → HasBest E t v) → (l : List ℕ) (u : ℕ) (c : Route) → WalkOf P l u c → Apart (u ∷ l) → length l < t + 1 → (c' : Route) × IsCandidate P E u c' × (size_of c' ≤ size_of c)
+  candidate_by : (E : List (Option Route)) (t : ℕ) → AreLabels P E → ((v : ℕ) → HasBest E t v) → (l : List ℕ) (u : ℕ) (c : Route) → WalkOf P l u c →
+      Apart (u ∷ l) → length l < t + 1 → (c' : Route) × IsCandidate P E u c' × (size_of c' ≤ size_of c)
   candidate_by E t fits best [] u c w apart less = (c, of_init w.1, omega arith)
   candidate_by E t fits best (v ∷ l) u c w apart less =
       let b = best v l w.1 w.6 apart.1 (omega arith) in
       let o = over_less w.0 w.1 b.0 c w.2 (walk_route l v w.1 w.6) (fits.routes v b.0 b.1) b.2 w.5 in
-      let route : IsRouteOf P.protocol o.0 = Rattle.srp_core.proofs.Steps.step_route P.protocol (act_of P w.0) (number P w.0.exporter) b.0 o.0 (edge_keeps P good w.0 w.2) (fits.routes v b.0 b.1) o.1 in
-      (o.0, of_edge w.0 w.2 w.3 (record { from = b.0; labelled = ap (label E) w.4 ∙ b.1; stepped = o.1; passes = ospf_passes (number P w.0.importer) o.0 (fit o.0 route) }), o.2)
+      let route : IsRouteOf P.protocol o.0 = Rattle.srp_core.proofs.Steps.step_route P.protocol (act_of P w.0) (number P w.0.exporter) b.0 o.0
+      (edge_keeps P good w.0 w.2) (fits.routes v b.0 b.1) o.1 in (
+        o.0,
+        of_edge w.0 w.2 w.3 (record {
+          from = b.0;
+          labelled = ap (label E) w.4 ∙ b.1;
+          stepped = o.1;
+          passes =
+              ospf_passes (number P w.0.importer) o.0 (fit o.0 route);
+        }),
+        o.2,
+      )
 
-  chosen_by : (E : List (Option Route)) (t : ℕ) → AreLabels P E → ((v : ℕ) → HasBest E t v) → (u : ℕ) → u < count P → (l : List ℕ) (c : Route) → WalkOf P l u c → Apart (u ∷ l) → length l < t + 1 → (b : Route) × (label (activated P E u) u ≡ Some b) × (size_of b ≤ size_of c)
+  chosen_by : (E : List (Option Route)) (t : ℕ) → AreLabels P E → ((v : ℕ) → HasBest E t v) → (u : ℕ) → u < count P → (l : List ℕ) (c : Route) →
+      WalkOf P l u c → Apart (u ∷ l) → length l < t + 1 → (b : Route) × (label (activated P E u) u ≡ Some b) × (size_of b ≤ size_of c)
   chosen_by E t fits best u h l c w apart less =
       let k = candidate_by E t fits best l u c w apart less in
       let b = chosen_least E u k.0 fits h k.1 in
@@ -180,7 +213,8 @@ module _ (P : Problem) (good : IsProblem P) (none_lone : HasNoLone P) (ospf : P.
     kept : (u : ℕ) → HasBest E (t + 1) u → HasBest E' (t + 1) u
     done : (u : ℕ) → In run u → HasBest E' (t + 1) u
 
-  walked : (t : ℕ) (run : List ℕ) (E : List (Option Route)) → AreLabels P E → ((u : ℕ) (r : Route) → label E u ≡ Some r → (l : List ℕ) × WalkOf P l u r) → ((u : ℕ) → HasBest E t u) → ((u : ℕ) → In run u → u < count P) → IsWalked E (labels_after P E run) t run
+  walked : (t : ℕ) (run : List ℕ) (E : List (Option Route)) → AreLabels P E → ((u : ℕ) (r : Route) → label E u ≡ Some r → (l : List ℕ) × WalkOf P l u r) →
+      ((u : ℕ) → HasBest E t u) → ((u : ℕ) → In run u → u < count P) → IsWalked E (labels_after P E run) t run
   walked t [] E fits walks best inside = record { fits = fits; walks = walks; best = best; kept = λ u b. b; done = λ u i. absurd i }
   walked t (v ∷ run) E fits walks best inside =
       let h = inside v (inl refl) in
@@ -207,17 +241,26 @@ module _ (P : Problem) (good : IsProblem P) (none_lone : HasNoLone P) (ospf : P.
     walks : (u : ℕ) (r : Route) → label E u ≡ Some r → (l : List ℕ) × WalkOf P l u r
     best : (u : ℕ) → HasBest E t u
 
-  rounds_walk : (k t : ℕ) (run : List ℕ) (E : List (Option Route)) → IsWalkedTo E t → ((u : ℕ) → In run u → u < count P) → HasRounds P k run → IsWalkedTo (labels_after P E run) (t + k)
+  rounds_walk : (k t : ℕ) (run : List ℕ) (E : List (Option Route)) → IsWalkedTo E t → ((u : ℕ) → In run u → u < count P) → HasRounds P k run →
+      IsWalkedTo (labels_after P E run) (t + k)
   rounds_walk zero t run E now inside has =
       let w = walked t run E now.fits now.walks now.best inside in
       let same : t ≡ t + 0 = omega arith in
       subst (IsWalkedTo (labels_after P E run)) same (record { fits = w.fits; walks = w.walks; best = w.best })
   rounds_walk (suc k) t run E now inside has =
       let w = walked t has.0 E now.fits now.walks now.best (λ u i. inside u (subst (λ (l : List ℕ). In l u) (sym has.2) (in_left has.0 has.1 u i))) in
-      let next : IsWalkedTo (labels_after P E has.0) (t + 1) = record { fits = w.fits; walks = w.walks; best = λ u l c x apart less. w.done u (in_contains has.0 u (has.3 u (walk_inside l u c x u (inl refl)))) l c x apart less } in
-      let more = rounds_walk k (t + 1) has.1 (labels_after P E has.0) next (λ u i. inside u (subst (λ (l : List ℕ). In l u) (sym has.2) (in_right has.0 has.1 u i))) has.4 in
+      let next : IsWalkedTo (labels_after P E has.0) (t + 1) =
+      record {
+        fits = w.fits;
+        walks = w.walks;
+        best =
+            λ u l c x apart less. w.done u (in_contains has.0 u (has.3 u (walk_inside l u c x u (inl refl)))) l c x apart less;
+      } in
+      let more = rounds_walk k (t + 1) has.1 (labels_after P E has.0) next
+      (λ u i. inside u (subst (λ (l : List ℕ). In l u) (sym has.2) (in_right has.0 has.1 u i))) has.4 in
       let same : t + 1 + k ≡ t + suc k = omega arith in
-      subst (IsWalkedTo (labels_after P E run)) same (subst (λ (l : List (Option Route)). IsWalkedTo l (t + 1 + k)) (sym (ap (labels_after P E) has.2 ∙ after_append P E has.0 has.1)) more)
+      subst (IsWalkedTo (labels_after P E run)) same
+      (subst (λ (l : List (Option Route)). IsWalkedTo l (t + 1 + k)) (sym (ap (labels_after P E) has.2 ∙ after_append P E has.0 has.1)) more)
 
   -- where walks through all routers are counted, the labels are stable
   walked_stable : (E : List (Option Route)) (t : ℕ) → IsWalkedTo E t → count P ≤ t → IsStable P E
@@ -237,7 +280,8 @@ module _ (P : Problem) (good : IsProblem P) (none_lone : HasNoLone P) (ospf : P.
       route : (u : ℕ) (c : Route) → IsCandidate P E u c → IsRouteOf P.protocol c
       route u c cand = offer_route P good u c (candidate_offer P good E u c now.fits cand)
 
-      zero_both : (c r : Route) → IsRouteOf P.protocol c → IsRouteOf P.protocol r → Rattle.srp_core.specs.Routes.preference_of c ≡ Rattle.srp_core.specs.Routes.preference_of r
+      zero_both : (c r : Route) → IsRouteOf P.protocol c → IsRouteOf P.protocol r →
+          Rattle.srp_core.specs.Routes.preference_of c ≡ Rattle.srp_core.specs.Routes.preference_of r
       zero_both c r f g = Rattle.srp_core.proofs.Steps.ospf_zero c (fit c f) ∙ sym (Rattle.srp_core.proofs.Steps.ospf_zero r (fit r g))
 
       by_walk : (l : List ℕ) (u : ℕ) (c : Route) → WalkOf P l u c → (b : Route) × (label E u ≡ Some b) × (size_of b ≤ size_of c)
@@ -257,8 +301,10 @@ module _ (P : Problem) (good : IsProblem P) (none_lone : HasNoLone P) (ospf : P.
       held u r h e (v ∷ l) w =
           let b = by_walk l v w.1 w.6 in
           let o = over_less w.0 w.1 b.0 r w.2 (walk_route l v w.1 w.6) (now.fits.routes v b.0 b.1) b.2 w.5 in
-          let path : IsRouteOf P.protocol o.0 = Rattle.srp_core.proofs.Steps.step_route P.protocol (act_of P w.0) (number P w.0.exporter) b.0 o.0 (edge_keeps P good w.0 w.2) (now.fits.routes v b.0 b.1) o.1 in
-          let cand : IsCandidate P E u o.0 = of_edge w.0 w.2 w.3 (record { from = b.0; labelled = ap (label E) w.4 ∙ b.1; stepped = o.1; passes = ospf_passes (number P w.0.importer) o.0 (fit o.0 path) }) in
+          let path : IsRouteOf P.protocol o.0 = Rattle.srp_core.proofs.Steps.step_route P.protocol (act_of P w.0) (number P w.0.exporter) b.0 o.0
+          (edge_keeps P good w.0 w.2) (now.fits.routes v b.0 b.1) o.1 in
+          let cand : IsCandidate P E u o.0 = of_edge w.0 w.2 w.3
+          (record { from = b.0; labelled = ap (label E) w.4 ∙ b.1; stepped = o.1; passes = ospf_passes (number P w.0.importer) o.0 (fit o.0 path) }) in
           let k = least u o.0 h cand in
           let same : k.0 ≡ r = (let l = k.1 in cc) in
           let size = ap size_of same in
@@ -267,7 +313,8 @@ module _ (P : Problem) (good : IsProblem P) (none_lone : HasNoLone P) (ospf : P.
           subst (IsCandidate P E u) (ospf_same o.0 r (fit o.0 path) (fit r (now.fits.routes u r e)) (omega arith)) cand
 
   -- no labels are what no walk costs
-  pub ospf_rounds : (k : ℕ) (run : List ℕ) (E : List (Option Route)) → AreLabels P E → ((u : ℕ) (r : Route) → label E u ≡ Some r → ⊥) → ((u : ℕ) → In run u → u < count P) → count P ≤ k → HasRounds P k run → IsStable P (labels_after P E run)
+  pub ospf_rounds : (k : ℕ) (run : List ℕ) (E : List (Option Route)) → AreLabels P E → ((u : ℕ) (r : Route) → label E u ≡ Some r → ⊥) →
+      ((u : ℕ) → In run u → u < count P) → count P ≤ k → HasRounds P k run → IsStable P (labels_after P E run)
   ospf_rounds k run E fits empty inside enough has =
       let start : IsWalkedTo E 0 = record { fits = fits; walks = λ u r e. absurd (empty u r e); best = λ u l c w apart less. absurd (omega arith) } in
       let end = rounds_walk k 0 run E start inside has in

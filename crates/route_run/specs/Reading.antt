@@ -17,4 +17,5 @@ answer_with names done line words later = preceded done (schedule_of_words names
 -- the line is refused by one of its words, or for want of memory
 abbrev pub RefusesLine : List (List ℕ) → List Activation → ℕ → List (List ℕ) → ScheduleRefusal → Type 0
 RefusesLine names done line words schedule_refusal.Memory = Unit {0}
-RefusesLine names done line words (schedule_refusal.UnknownRouter at) = (later : List LineWord) → answer_with names done line words later ≡ Err (schedule_refusal.UnknownRouter at)
+RefusesLine names done line words (schedule_refusal.UnknownRouter at) = (later : List LineWord) →
+    answer_with names done line words later ≡ Err (schedule_refusal.UnknownRouter at)

@@ -21,7 +21,8 @@ HasNoLone problem = (u : ℕ) → u < count problem → is_lone problem u ≡ fa
 
 -- no import over an edge prepends more numbers
 pub record PrependsAtMost (problem : Problem) (bound : ℕ) : Type 0 where
-  pub most : (edge : Edge) (comms : List ℕ) (imported : Imported) → Contains problem.edges edge → IsAscending comms → import_by (act_of problem edge) comms ≡ Some imported → imported.adds ≤ bound
+  pub most : (edge : Edge) (comms : List ℕ) (imported : Imported) → Contains problem.edges edge → IsAscending comms →
+      import_by (act_of problem edge) comms ≡ Some imported → imported.adds ≤ bound
 
 -- so many rounds are enough, where no import prepends more numbers; in OSPF none prepends
 abbrev pub enough_rounds : Problem → ℕ → ℕ

@@ -26,7 +26,8 @@ is_less Greater e = absurd (true≢false (sym e))
 
 -- ---- some of a list
 
-any_by : {X : Type 0} (test : X → Bool) (x : X) (xs : List X) (b : Bool) → test x ≡ b → (list_any test xs ≡ true → (y : X) × In xs y × (test y ≡ true)) → list_any test (x ∷ xs) ≡ true → (y : X) × In (x ∷ xs) y × (test y ≡ true)
+any_by : {X : Type 0} (test : X → Bool) (x : X) (xs : List X) (b : Bool) → test x ≡ b → (list_any test xs ≡ true → (y : X) × In xs y × (test y ≡ true)) →
+    list_any test (x ∷ xs) ≡ true → (y : X) × In (x ∷ xs) y × (test y ≡ true)
 any_by test x xs true t rest e = (x, inl refl, t)
 any_by test x xs false t rest e = let r = rest (sym (ap (λ (b : Bool). b || list_any test xs) t) ∙ e) in (r.0, inr r.1, r.2)
 
@@ -58,7 +59,13 @@ over_candidate P L e c h =
     let a = then_some (label L e.exporter) (λ from. option_and_then (passed (number P e.importer)) (step_over P e from)) c h in
     let b = then_some (step_over P e a.0) (passed (number P e.importer)) c a.2 in
     let d = passed_is b.0 c (is_on (number P e.importer) (path_of b.0)) b.2 in
-    record { from = a.0; labelled = a.1; stepped = b.1 ∙ ap (λ (r : Route). Some r) d.1; passes = ap (λ (r : Route). is_on (number P e.importer) (path_of r)) (sym d.1) ∙ d.0 }
+    record {
+      from = a.0;
+      labelled = a.1;
+      stepped = b.1 ∙ ap (λ (r : Route). Some r) d.1;
+      passes =
+          ap (λ (r : Route). is_on (number P e.importer) (path_of r)) (sym d.1) ∙ d.0;
+    }
 
 candidate_over : (P : Problem) (L : List (Option Route)) (e : Edge) (c : Route) → IsCandidateOver P L e c → over P L e ≡ Some c
 candidate_over P L e c o =
@@ -90,10 +97,16 @@ module _ (P : Problem) (L : List (Option Route)) (u : ℕ) (own : List Edge) (ar
 
   pub listed : (c : Route) → IsCandidate P L u c → In (routes_of P L u own) c
   listed c (of_init e) = in_cons (initial P u) (filter_map (over P L) own) c (inl e)
-  listed c (of_edge edge i imp o) = in_cons (initial P u) (filter_map (over P L) own) c (inr (in_filter_map (over P L) own edge c (in_contains own edge (are.all edge i imp)) (candidate_over P L edge c o)))
+  listed c (of_edge edge i imp o) = in_cons (initial P u) (filter_map (over P L) own) c
+      (inr (in_filter_map (over P L) own edge c (in_contains own edge (are.all edge i imp)) (candidate_over P L edge c o)))
 
   pub not_held : (r : Route) → label L u ≡ Some r → list_any (is_label r) (routes_of P L u own) ≡ false → HasNoCandidate P L u
-  not_held r e none = record { route = r; labelled = e; other = λ c. true≢false (sym (same_self r) ∙ none_in (is_label r) (routes_of P L u own) r none (listed r c)) }
+  not_held r e none = record {
+    route = r;
+    labelled = e;
+    other =
+        λ c. true≢false (sym (same_self r) ∙ none_in (is_label r) (routes_of P L u own) r none (listed r c));
+  }
 
   pub held : (r : Route) → list_any (is_label r) (routes_of P L u own) ≡ true → IsCandidate P L u r
   held r some =
@@ -124,7 +137,8 @@ module _ (P : Problem) (L : List (Option Route)) (u : ℕ) (own : List Edge) (ar
   one_label : (r s : Route) → label L u ≡ Some r → label L u ≡ Some s → r ≡ s
   one_label r s e e' = cc
 
-  pub fine_with : (r : Route) → label L u ≡ Some r → list_any (is_label r) (routes_of P L u own) ≡ true → list_any (beats P r) (routes_of P L u own) ≡ false → HoldsBest P L u
+  pub fine_with : (r : Route) → label L u ≡ Some r → list_any (is_label r) (routes_of P L u own) ≡ true → list_any (beats P r) (routes_of P L u own) ≡ false →
+      HoldsBest P L u
   fine_with r e some none = record {
     none = λ c e'. absurd (let x : Some r ≡ None = sym e ∙ e' in cc);
     held = λ s e'. subst (IsCandidate P L u) (one_label r s e e') (held r some);
@@ -136,7 +150,8 @@ module _ (P : Problem) (L : List (Option Route)) (u : ℕ) (own : List Edge) (ar
 
 -- ---- origins
 
-origin_by : (protocol : Protocol) (start held : Option Route) → is_wrong_origin protocol start held ≡ true → (protocol ≡ OverBgp) × ((r : Route) × (start ≡ Some r) × (held ≢ Some r))
+origin_by : (protocol : Protocol) (start held : Option Route) → is_wrong_origin protocol start held ≡ true → (protocol ≡ OverBgp)
+    × ((r : Route) × (start ≡ Some r) × (held ≢ Some r))
 origin_by OverBgp None held e = absurd (true≢false (sym e))
 origin_by OverBgp (Some r) None e = (refl, (r, refl, λ h. cc))
 origin_by OverBgp (Some r) (Some s) e = (refl, (r, refl, λ h. true≢false (sym e ∙ ap not (ap (same_route r) (let x : s ≡ r = cc in x) ∙ same_self r))))
@@ -145,7 +160,8 @@ origin_by OverOspf start held e = absurd (true≢false (sym e))
 pub wrong_start : (P : Problem) (L : List (Option Route)) (u : ℕ) → is_wrong_origin P.protocol (initial P u) (label L u) ≡ true → HasWrongOrigin P L u
 wrong_start P L u e = let o = origin_by P.protocol (initial P u) (label L u) e in record { protocol = o.0; route = o.1.0; starts = o.1.1; other = o.1.2 }
 
-right_by : (protocol : Protocol) (start held : Option Route) (r : Route) → is_wrong_origin protocol start held ≡ false → protocol ≡ OverBgp → start ≡ Some r → held ≡ Some r
+right_by : (protocol : Protocol) (start held : Option Route) (r : Route) → is_wrong_origin protocol start held ≡ false → protocol ≡ OverBgp → start ≡ Some r →
+    held ≡ Some r
 right_by OverBgp None held r e p s = absurd (cc)
 right_by OverBgp (Some q) None r e p s = absurd (true≢false e)
 right_by OverBgp (Some q) (Some t) r e p s = ap (λ (x : Route). Some x) (sym (same_true q t (turned (same_route q t) e)) ∙ (let x : q ≡ r = cc in x))

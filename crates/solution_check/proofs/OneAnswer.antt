@@ -30,7 +30,14 @@ module _ (P Q : Problem) (same : ProblemsAlike P Q) (L : List (Option Route)) (f
   no_candidate w = record { route = w.route; labelled = w.labelled; other = λ is. w.other (carry_back w.route is) }
 
   better : HasBetterCandidate P L u → HasBetterCandidate Q L u
-  better w = record { route = w.route; labelled = w.labelled; candidate = w.candidate; is_candidate = carry w.candidate w.is_candidate; beats = one_order w.candidate w.route ∙ w.beats }
+  better w = record {
+    route = w.route;
+    labelled = w.labelled;
+    candidate = w.candidate;
+    is_candidate = carry w.candidate w.is_candidate;
+    beats =
+        one_order w.candidate w.route ∙ w.beats;
+  }
 
   lacks : LacksLabel P L u → LacksLabel Q L u
   lacks w = record { none = w.none; candidate = w.candidate; is_candidate = carry w.candidate w.is_candidate }
@@ -138,5 +145,6 @@ module _ (P : Problem) (rules : IsProblem P) (L : List (Option Route)) where
   one_of (Not u m) Stable x y = absurd (holds_or_breaks u m (stable_holds y u x.inside) x.breaks)
   one_of (Not u m) (Not v n) x y = one_first u v m n x y (cases u v)
 
-pub one_answer : (P Q : Problem) (L : List (Option Route)) → IsProblem P → ProblemsAlike P Q → AreLabels P L → (a b : Answer) → Judges P L a → Judges Q L b → a ≡ b
+pub one_answer : (P Q : Problem) (L : List (Option Route)) → IsProblem P → ProblemsAlike P Q → AreLabels P L → (a b : Answer) → Judges P L a → Judges Q L b →
+    a ≡ b
 one_answer P Q L rules same fit a b x y = one_of P rules L a b x (judges Q P (turned P Q same) L (same_labels P Q same L fit) b y)

@@ -16,7 +16,8 @@ before_importer : (a b : Edge) → Precedes a b → a.importer ≤ b.importer
 before_importer a b (inl less) = omega arith
 before_importer a b (inr same) = let e = same.0 in omega arith
 
-importers_rise : (edges : List Edge) → AreOrdered edges → (i j : ℕ) (d : Edge) → i ≤ j → j < length edges → (slice_index_or edges i d).importer ≤ (slice_index_or edges j d).importer
+importers_rise : (edges : List Edge) → AreOrdered edges → (i j : ℕ) (d : Edge) → i ≤ j → j < length edges →
+    (slice_index_or edges i d).importer ≤ (slice_index_or edges j d).importer
 importers_rise [] up i j d le h = absurd (omega arith)
 importers_rise (e ∷ edges) up zero zero d le h = omega arith
 importers_rise (e ∷ edges) up zero (suc j) d le h = before_importer e (slice_index_or edges j d) (up.0 j d (omega arith))
@@ -38,7 +39,8 @@ passed_more edges router first end s k d le lt = elim (cases_lt k first) [
   | inr here ↦ (let h = s.own k d here lt in omega arith)
 ]
 
-pub left_more : (edges : List Edge) (router first end : ℕ) → AreOrdered edges → Stand edges router first end → AllWithin (λ edge. router + 1 ≤ edge.importer) edges end (length edges)
+pub left_more : (edges : List Edge) (router first end : ℕ) → AreOrdered edges → Stand edges router first end →
+    AllWithin (λ edge. router + 1 ≤ edge.importer) edges end (length edges)
 left_more edges router first end up s k d le lt =
     let here : end < length edges = omega arith in
     let at = s.left end d s.forward here in
@@ -52,21 +54,26 @@ left_more edges router first end up s k d le lt =
 abbrev own_of : List Edge → ℕ → ℕ → List Edge
 own_of edges first end = take (end - first) (drop first edges)
 
-own_at : (edges : List Edge) (first end k : ℕ) (d : Edge) → end ≤ length edges → first + k < end → get_or (own_of edges first end) k d ≡ get_or edges (first + k) d
+own_at : (edges : List Edge) (first end k : ℕ) (d : Edge) → end ≤ length edges → first + k < end →
+    get_or (own_of edges first end) k d ≡ get_or edges (first + k) d
 own_at edges first end k d le lt = get_or-take (end - first) (drop first edges) k d (omega arith) ∙ get_or-drop first edges k d
 
 own_length : (edges : List Edge) (first end : ℕ) → first ≤ end → end ≤ length edges → length (own_of edges first end) ≡ end - first
 own_length edges first end fw le = omega (arith, length-take (end - first) (drop first edges), length-drop first edges)
 
-pub own_are : (P : Problem) (edges : List Edge) (router first end : ℕ) → edges ≡ P.edges → AreOrdered edges → Stand edges router first end → AreOwn P router (own_of edges first end)
+pub own_are : (P : Problem) (edges : List Edge) (router first end : ℕ) → edges ≡ P.edges → AreOrdered edges → Stand edges router first end →
+    AreOwn P router (own_of edges first end)
 own_are P edges router first end same up s = record {
   only = λ edge h.
       (let total = own_length edges first end s.forward s.inside in
       let k = h.0 in
       let inside = h.1 in
       let lt : first + k < end = omega (arith, total, inside) in
-      let at : get_or edges (first + k) edge ≡ edge = sym (own_at edges first end k edge s.inside lt) ∙ h.2 in
-      (subst (λ (l : List Edge). Contains l edge) same (first + k, omega (arith, s.inside), at), ap (λ (e : Edge). e.importer) (sym at) ∙ s.own (first + k) edge (omega arith) lt));
+      let at : get_or edges (first + k) edge ≡ edge = sym (own_at edges first end k edge s.inside lt) ∙ h.2 in (
+        subst (λ (l : List Edge). Contains l edge) same (first + k, omega (arith, s.inside), at),
+        ap (λ (e : Edge). e.importer) (sym at)
+            ∙ s.own (first + k) edge (omega arith) lt,
+      ));
   all = λ edge i imp.
       (let j = subst (λ (l : List Edge). Contains l edge) (sym same) i in
       let k = j.0 in

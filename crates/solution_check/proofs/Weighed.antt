@@ -27,7 +27,8 @@ or_none : (b : Bool) → b || false ≡ b
 or_none true = refl
 or_none false = refl
 
-weighs_one : (P : Problem) (route candidate : Route) (found : Option Route) (w : Weight) → found ≡ Some candidate → w.held ≡ is_label route candidate → w.beaten ≡ beats P route candidate → WeighsAs P route (one found) w
+weighs_one : (P : Problem) (route candidate : Route) (found : Option Route) (w : Weight) → found ≡ Some candidate → w.held ≡ is_label route candidate →
+    w.beaten ≡ beats P route candidate → WeighsAs P route (one found) w
 weighs_one P route candidate found w is held beaten = record {
   held = held ∙ sym (or_none (is_label route candidate)) ∙ sym (ap (λ (o : Option Route). list_any (is_label route) (one o)) is);
   beaten = beaten ∙ sym (or_none (beats P route candidate)) ∙ sym (ap (λ (o : Option Route). list_any (beats P route) (one o)) is);
@@ -41,13 +42,18 @@ route_key : (P : Problem) (route : Route) (other : List ℕ) → other ≡ chose
 route_key P route other is = ap (key_with route) is
 
 -- a route without a path
-pub bare_weighs : (P : Problem) (route candidate : Route) (found : Option Route) (other : List ℕ) → found ≡ Some candidate → path_of candidate ≡ [] → other ≡ chosen (is_lone_number P) (path_of route)
-    → (w : Weight) → (w.held ≡ is_label route candidate) × (w.beaten ≡ is_lt (compare_keys (key_with candidate []) (key_with route other))) → WeighsAs P route (one found) w
+pub bare_weighs : (P : Problem) (route candidate : Route) (found : Option Route) (other : List ℕ) → found ≡ Some candidate → path_of candidate ≡ [] →
+    other ≡ chosen (is_lone_number P) (path_of route)
+    → (w : Weight) → (w.held ≡ is_label route candidate) × (w.beaten ≡ is_lt (compare_keys (key_with candidate []) (key_with route other))) →
+    WeighsAs P route (one found) w
 bare_weighs P route candidate found other is empty others w weighs =
-    let first : key_with candidate [] ≡ key_of P candidate = ap (key_with candidate) (sym (ap (chosen (is_lone_number P)) empty ∙ none_chosen (is_lone_number P))) in
-    weighs_one P route candidate found w is weighs.0 (weighs.1 ∙ ap (λ (k : Key). is_lt (compare_keys k (key_with route other))) first ∙ ap (λ (k : Key). is_lt (compare_keys (key_of P candidate) k)) (route_key P route other others))
+    let first : key_with candidate [] ≡ key_of P candidate =
+    ap (key_with candidate) (sym (ap (chosen (is_lone_number P)) empty ∙ none_chosen (is_lone_number P))) in
+    weighs_one P route candidate found w is weighs.0 (weighs.1 ∙ ap (λ (k : Key). is_lt (compare_keys k (key_with route other))) first
+    ∙ ap (λ (k : Key). is_lt (compare_keys (key_of P candidate) k)) (route_key P route other others))
 
-pub nothing_weighs : (P : Problem) (route : Route) (found : Option Route) (w : Weight) → found ≡ None → w.held ≡ false → w.beaten ≡ false → WeighsAs P route (one found) w
+pub nothing_weighs : (P : Problem) (route : Route) (found : Option Route) (w : Weight) → found ≡ None → w.held ≡ false → w.beaten ≡ false →
+    WeighsAs P route (one found) w
 nothing_weighs P route found w is held beaten = record {
   held = held ∙ sym (ap (λ (o : Option Route). list_any (is_label route) (one o)) is);
   beaten = beaten ∙ sym (ap (λ (o : Option Route). list_any (beats P route) (one o)) is);
@@ -65,7 +71,9 @@ or_twice false b = refl
 
 with_twice : (n : ℕ) (xs : List ℕ) → IsAscending xs → with_number n (with_number n xs) ≡ with_number n xs
 with_twice n xs up =
-    one_list (with_number n (with_number n xs)) (with_number n xs) (ascending_with n (with_number n xs) (ascending_with n xs up)) (ascending_with n xs up) (λ c. has-with_number n (with_number n xs) c ∙ ap (λ (b : Bool). nat_eq n c || b) (has-with_number n xs c) ∙ or_twice (nat_eq n c) (has xs c) ∙ sym (has-with_number n xs c))
+    one_list (with_number n (with_number n xs)) (with_number n xs) (ascending_with n (with_number n xs) (ascending_with n xs up)) (ascending_with n xs up)
+    (λ c. has-with_number n (with_number n xs) c ∙ ap (λ (b : Bool). nat_eq n c || b) (has-with_number n xs c) ∙ or_twice (nat_eq n c) (has xs c)
+    ∙ sym (has-with_number n xs c))
 
 lone_twice : (b : Bool) (n : ℕ) (xs : List ℕ) → IsAscending xs → with_lone b n (with_lone b n xs) ≡ with_lone b n xs
 lone_twice true n xs up = with_twice n xs up
@@ -74,20 +82,29 @@ lone_twice false n xs up = refl
 lone_longer : (test : ℕ → Bool) (k number : ℕ) (path : List ℕ) → chosen test (prepended (suc k) number path) ≡ with_lone (test number) number (chosen test path)
 unfolding chosen
 lone_longer test zero number path = refl
-lone_longer test (suc k) number path = ap (with_lone (test number) number) (lone_longer test k number path) ∙ lone_twice (test number) number (chosen test path) (chosen_ascends test path)
+lone_longer test (suc k) number path = ap (with_lone (test number) number) (lone_longer test k number path)
+    ∙ lone_twice (test number) number (chosen test path) (chosen_ascends test path)
 
 -- its key, by the lone numbers on the path before
-arrived_key : (P : Problem) (number : ℕ) (path : List ℕ) (imported : Imported) (is_lone : Bool) (rest : List ℕ) → is_lone ≡ is_lone_number P number → rest ≡ chosen (is_lone_number P) path
+arrived_key : (P : Problem) (number : ℕ) (path : List ℕ) (imported : Imported) (is_lone : Bool) (rest : List ℕ) → is_lone ≡ is_lone_number P number →
+    rest ≡ chosen (is_lone_number P) path
     → key imported.lp (length path + suc imported.adds) imported.comms (with_lone is_lone number rest) ≡ key_of P (arrived number path imported)
 arrived_key P number path imported is_lone rest lone rests =
     ap (λ (n : ℕ). key imported.lp n imported.comms (with_lone is_lone number rest)) (sym (longer (suc imported.adds) number path))
-    ∙ ap (λ (l : List ℕ). key imported.lp (length (prepended (suc imported.adds) number path)) imported.comms l) (ap (λ (b : Bool). with_lone b number rest) lone ∙ ap (with_lone (is_lone_number P number) number) rests ∙ sym (lone_longer (is_lone_number P) imported.adds number path))
+    ∙ ap (λ (l : List ℕ). key imported.lp (length (prepended (suc imported.adds) number path)) imported.comms l)
+    (ap (λ (b : Bool). with_lone b number rest) lone ∙ ap (with_lone (is_lone_number P number) number) rests
+    ∙ sym (lone_longer (is_lone_number P) imported.adds number path))
 
-pub import_weighs : (P : Problem) (route : Route) (found : Option Route) (other : List ℕ) (number : ℕ) (path : List ℕ) (imported : Imported) (is_lone : Bool) (rest : List ℕ) → found ≡ Some (arrived number path imported)
+pub import_weighs : (P : Problem) (route : Route) (found : Option Route) (other : List ℕ) (number : ℕ) (path : List ℕ) (imported : Imported) (is_lone : Bool)
+    (rest : List ℕ) → found ≡ Some (arrived number path imported)
     → is_lone ≡ is_lone_number P number → rest ≡ chosen (is_lone_number P) path → other ≡ chosen (is_lone_number P) (path_of route)
-    → (w : Weight) → (w.held ≡ is_label route (arrived number path imported)) × (w.beaten ≡ is_lt (compare_keys (key imported.lp (length path + suc imported.adds) imported.comms (with_lone is_lone number rest)) (key_with route other))) → WeighsAs P route (one found) w
+    → (w : Weight) → (w.held ≡ is_label route (arrived number path imported))
+    × (w.beaten ≡ is_lt (compare_keys (key imported.lp (length path + suc imported.adds) imported.comms (with_lone is_lone number rest))
+    (key_with route other))) → WeighsAs P route (one found) w
 import_weighs P route found other number path imported is_lone rest is lone rests others w weighs =
-    weighs_one P route (arrived number path imported) found w is weighs.0 (weighs.1 ∙ ap (λ (k : Key). is_lt (compare_keys k (key_with route other))) (arrived_key P number path imported is_lone rest lone rests) ∙ ap (λ (k : Key). is_lt (compare_keys (key_of P (arrived number path imported)) k)) (route_key P route other others))
+    weighs_one P route (arrived number path imported) found w is weighs.0
+    (weighs.1 ∙ ap (λ (k : Key). is_lt (compare_keys k (key_with route other))) (arrived_key P number path imported is_lone rest lone rests)
+    ∙ ap (λ (k : Key). is_lt (compare_keys (key_of P (arrived number path imported)) k)) (route_key P route other others))
 
 -- ---- some candidates more
 
@@ -95,22 +112,28 @@ or_all : (a b c : Bool) → (a || b) || c ≡ a || (b || c)
 or_all true b c = refl
 or_all false b c = refl
 
-any_cons : (test : Route → Bool) (found : Option Route) (routes : List Route) → list_any test (cons_option found routes) ≡ list_any test (one found) || list_any test routes
+any_cons : (test : Route → Bool) (found : Option Route) (routes : List Route) → list_any test (cons_option found routes) ≡ list_any test (one found)
+    || list_any test routes
 any_cons test None routes = refl
 any_cons test (Some r) routes = ap (λ (b : Bool). b || list_any test routes) (sym (or_none (test r)))
 
-pub more_weighed : (test : Route → Bool) (before mine all : Bool) (found : Option Route) (routes : List Route) → mine ≡ list_any test (one found) → before || list_any test (cons_option found routes) ≡ all → (before || mine) || list_any test routes ≡ all
+pub more_weighed : (test : Route → Bool) (before mine all : Bool) (found : Option Route) (routes : List Route) → mine ≡ list_any test (one found) →
+    before || list_any test (cons_option found routes) ≡ all → (before || mine) || list_any test routes ≡ all
 more_weighed test before mine all found routes is so_far =
-    or_all before mine (list_any test routes) ∙ ap (λ (b : Bool). before || (b || list_any test routes)) is ∙ ap (λ (b : Bool). before || b) (sym (any_cons test found routes)) ∙ so_far
+    or_all before mine (list_any test routes) ∙ ap (λ (b : Bool). before || (b || list_any test routes)) is
+    ∙ ap (λ (b : Bool). before || b) (sym (any_cons test found routes)) ∙ so_far
 
-pub all_weighed : (test : Route → Bool) (before all : Bool) (found : Option Route) (routes : List Route) → before ≡ list_any test (one found) → all ≡ before || list_any test routes → all ≡ list_any test (cons_option found routes)
+pub all_weighed : (test : Route → Bool) (before all : Bool) (found : Option Route) (routes : List Route) → before ≡ list_any test (one found) →
+    all ≡ before || list_any test routes → all ≡ list_any test (cons_option found routes)
 all_weighed test before all found routes first rest = rest ∙ ap (λ (b : Bool). b || list_any test routes) first ∙ sym (any_cons test found routes)
 
 -- ---- the lone numbers on the path of a label
 
-pub lone_label : (P : Problem) (L : List (Option Route)) (paths : List (List ℕ)) (u : ℕ) (rest : List ℕ) (r : Route) → u < length L → paths ≡ map (lone_of P) L → rest ≡ get_or paths u rest → label L u ≡ Some r → rest ≡ chosen (is_lone_number P) (path_of r)
+pub lone_label : (P : Problem) (L : List (Option Route)) (paths : List (List ℕ)) (u : ℕ) (rest : List ℕ) (r : Route) → u < length L →
+    paths ≡ map (lone_of P) L → rest ≡ get_or paths u rest → label L u ≡ Some r → rest ≡ chosen (is_lone_number P) (path_of r)
 lone_label P L paths u rest r inside are is labelled =
     is ∙ ap (λ (ps : List (List ℕ)). get_or ps u rest) are ∙ get_or-map (lone_of P) L u None rest inside ∙ ap (lone_of P) labelled
 
-pub lone_at : (P : Problem) (L : List (Option Route)) (paths : List (List ℕ)) (u : ℕ) (rest : List ℕ) (lp : ℕ) (path comms : List ℕ) → u < length L → paths ≡ map (lone_of P) L → rest ≡ get_or paths u rest → label L u ≡ Some (Bgp lp path comms) → rest ≡ chosen (is_lone_number P) path
+pub lone_at : (P : Problem) (L : List (Option Route)) (paths : List (List ℕ)) (u : ℕ) (rest : List ℕ) (lp : ℕ) (path comms : List ℕ) → u < length L →
+    paths ≡ map (lone_of P) L → rest ≡ get_or paths u rest → label L u ≡ Some (Bgp lp path comms) → rest ≡ chosen (is_lone_number P) path
 lone_at P L paths u rest lp path comms inside are is labelled = lone_label P L paths u rest (Bgp lp path comms) inside are is labelled

@@ -41,7 +41,8 @@ pub record LacksLabel (problem : Problem) (labels : List (Option Route)) (router
 pub data BreaksBy (problem : Problem) (labels : List (Option Route)) (router : ℕ) : ℕ → Type 0 where
   wrong_origin : HasWrongOrigin problem labels router → BreaksBy problem labels router 1
   not_a_candidate : ¬ HasWrongOrigin problem labels router → HasNoCandidate problem labels router → BreaksBy problem labels router 2
-  better_candidate : ¬ HasWrongOrigin problem labels router → ¬ HasNoCandidate problem labels router → HasBetterCandidate problem labels router → BreaksBy problem labels router 3
+  better_candidate : ¬ HasWrongOrigin problem labels router → ¬ HasNoCandidate problem labels router → HasBetterCandidate problem labels router →
+      BreaksBy problem labels router 3
   none_with_candidate : ¬ HasWrongOrigin problem labels router → LacksLabel problem labels router → BreaksBy problem labels router 4
 
 -- a router without a candidate has no label, and each other holds a candidate that none beats

@@ -44,24 +44,29 @@ quotient_size S Q groups count adm q numbered = elim (cases_lt (count_of Q) coun
 apart : (q : Protocol) → q ≡ OverBgp → q ≡ OverOspf → ⊥
 apart q bgp ospf = let one : OverBgp ≡ OverOspf = sym bgp ∙ ospf in cc
 
-pub folding_of_routes : (S Q : Problem) (groups : List ℕ) (labels lower : List (Option Route)) → S.protocol ≡ OverBgp → IsStable Q lower → Corresponds S Q groups labels lower → IsFold S Q groups labels lower → IsFolding S Q groups labels lower
+pub folding_of_routes : (S Q : Problem) (groups : List ℕ) (labels lower : List (Option Route)) → S.protocol ≡ OverBgp → IsStable Q lower →
+    Corresponds S Q groups labels lower → IsFold S Q groups labels lower → IsFolding S Q groups labels lower
 folding_of_routes S Q groups labels lower bgp stable corresponds is =
     record { stable = stable; corresponds = corresponds; routes = λ over. is; costs = λ ospf u h. absurd (apart S.protocol bgp ospf) }
 
-pub lifting_of_routes : (S Q : Problem) (groups : List ℕ) (lower labels : List (Option Route)) → S.protocol ≡ OverBgp → IsStable S labels → Corresponds S Q groups labels lower → IsLift S Q groups lower labels → IsLifting S Q groups lower labels
+pub lifting_of_routes : (S Q : Problem) (groups : List ℕ) (lower labels : List (Option Route)) → S.protocol ≡ OverBgp → IsStable S labels →
+    Corresponds S Q groups labels lower → IsLift S Q groups lower labels → IsLifting S Q groups lower labels
 lifting_of_routes S Q groups lower labels bgp stable corresponds is =
     record { stable = stable; corresponds = corresponds; routes = λ over. is; costs = λ ospf u h. absurd (apart S.protocol bgp ospf) }
 
-pub folding_of_costs : (S Q : Problem) (groups : List ℕ) (labels lower : List (Option Route)) → S.protocol ≡ OverOspf → IsStable Q lower → Corresponds S Q groups labels lower → ((u : ℕ) → u < count_of S → label lower (group_of groups u) ≡ label labels u) → IsFolding S Q groups labels lower
+pub folding_of_costs : (S Q : Problem) (groups : List ℕ) (labels lower : List (Option Route)) → S.protocol ≡ OverOspf → IsStable Q lower →
+    Corresponds S Q groups labels lower → ((u : ℕ) → u < count_of S → label lower (group_of groups u) ≡ label labels u) → IsFolding S Q groups labels lower
 folding_of_costs S Q groups labels lower ospf stable corresponds costs =
     record { stable = stable; corresponds = corresponds; routes = λ bgp. absurd (apart S.protocol bgp ospf); costs = λ over. costs }
 
-pub lifting_of_costs : (S Q : Problem) (groups : List ℕ) (lower labels : List (Option Route)) → S.protocol ≡ OverOspf → IsStable S labels → Corresponds S Q groups labels lower → ((u : ℕ) → u < count_of S → label labels u ≡ label lower (group_of groups u)) → IsLifting S Q groups lower labels
+pub lifting_of_costs : (S Q : Problem) (groups : List ℕ) (lower labels : List (Option Route)) → S.protocol ≡ OverOspf → IsStable S labels →
+    Corresponds S Q groups labels lower → ((u : ℕ) → u < count_of S → label labels u ≡ label lower (group_of groups u)) → IsLifting S Q groups lower labels
 lifting_of_costs S Q groups lower labels ospf stable corresponds costs =
     record { stable = stable; corresponds = corresponds; routes = λ bgp. absurd (apart S.protocol bgp ospf); costs = λ over. costs }
 
 -- the costs of first members are those of all members
-pub member_costs : (S Q : Problem) (groups : List ℕ) (count : ℕ) (labels lower : List (Option Route)) → IsAdmissible S groups → IsNumbered groups count → S.protocol ≡ OverOspf → IsStable S labels
+pub member_costs : (S Q : Problem) (groups : List ℕ) (count : ℕ) (labels lower : List (Option Route)) → IsAdmissible S groups → IsNumbered groups count →
+    S.protocol ≡ OverOspf → IsStable S labels
     → ((u v : ℕ) → u < count_of S → v < count_of S → group_of groups u ≡ group_of groups v → HaveSameKeys S S (label labels u) (label labels v))
     → ((g : ℕ) → g < count → label lower g ≡ label labels (first_member groups g)) → (u : ℕ) → u < count_of S → label lower (group_of groups u) ≡ label labels u
 member_costs S Q groups count labels lower adm numbered ospf stable even costs u h =

@@ -24,7 +24,9 @@ module _ (q : Protocol) (es : List Edge) (links : List QLink) where
       let rest = flat_map (edges_of_link q es links) (enumerate_from (place + 1) (drop (place + 1) links)) in
       let into_low = listed (option_map (lower_edge es place l.low l.high) (edge_into q links l.low l)) in
       let into_high = listed (option_map (lower_edge es place l.high l.low) (edge_into q links l.high l)) in
-      let now : second ≡ (found ++ into_low) ++ into_high = b ∙ (λ i. (a ∙ ap (λ (o : Option ℕ). found ++ listed (option_map (lower_edge es place l.low l.high) o)) lows) i ++ listed (option_map (lower_edge es place l.high l.low) (highs i))) in
+      let now : second ≡ (found ++ into_low) ++ into_high =
+      b ∙ (λ i. (a ∙ ap (λ (o : Option ℕ). found ++ listed (option_map (lower_edge es place l.low l.high) o)) lows) i
+      ++ listed (option_map (lower_edge es place l.high l.low) (highs i))) in
       let next : drop place links ≡ l ∷ drop (place + 1) links = drop_more links place l inside ∙ ap (λ (m : QLink). m ∷ drop (place + 1) links) (sym at) in
       ap (λ (xs : List Edge). xs ++ rest) (now ∙ append_assoc found into_low into_high)
       ∙ append_assoc found (into_low ++ into_high) rest
@@ -39,9 +41,12 @@ module _ (q : Protocol) (es : List Edge) (links : List QLink) where
   one_inside count m l e within at =
       let less = within.ordered in
       let high = within.inside in
-      elim (append_in (listed (option_map (lower_edge es m l.low l.high) (edge_into q links l.low l))) (listed (option_map (lower_edge es m l.high l.low) (edge_into q links l.high l))) e at) [
-        | inl a ↦ (let x = is_lower (edge_into q links l.low l) l.low l.high a in let i = x.0 in let j = x.1 in record { importer = omega arith; exporter = omega arith })
-        | inr b ↦ (let x = is_lower (edge_into q links l.high l) l.high l.low b in let i = x.0 in let j = x.1 in record { importer = omega arith; exporter = omega arith })
+      elim (append_in (listed (option_map (lower_edge es m l.low l.high) (edge_into q links l.low l)))
+      (listed (option_map (lower_edge es m l.high l.low) (edge_into q links l.high l))) e at) [
+        | inl a ↦ (let x = is_lower (edge_into q links l.low l) l.low l.high a in let i = x.0 in let j = x.1 in
+            record { importer = omega arith; exporter = omega arith })
+        | inr b ↦ (let x = is_lower (edge_into q links l.high l) l.high l.low b in let i = x.0 in let j = x.1 in
+            record { importer = omega arith; exporter = omega arith })
       ]
     where
       is_lower : (o : Option ℕ) (g h : ℕ) → In (listed (option_map (lower_edge es m g h) o)) e → (e.importer ≡ g) × (e.exporter ≡ h)
@@ -56,12 +61,17 @@ module _ (q : Protocol) (es : List Edge) (links : List QLink) where
       one_inside count t.0.0 t.0.1 e (All-contains (IsBelow count) links t.0.1 within (contains_in links t.0.1 (get_in links n.0 t.0.1 n.2))) t.2
 
   -- what two stable sorts make of them
-  pub sorted_are : (found by_exporters by_importers : List Edge) (count : ℕ) → All (IsBelow count) links → found ≡ flat_map (edges_of_link q es links) (enumerate_from 0 links) → ((n : ℕ) → All (λ (e : Edge). e.exporter < n) found → by_exporters ≡ by_key exporter_of n found)
-      → ((n : ℕ) → All (λ (e : Edge). e.importer < n) by_exporters → by_importers ≡ by_key importer_of n by_exporters) → by_importers ≡ quotient_edges q es count links
+  pub sorted_are : (found by_exporters by_importers : List Edge) (count : ℕ) → All (IsBelow count) links →
+      found ≡ flat_map (edges_of_link q es links) (enumerate_from 0 links) →
+      ((n : ℕ) → All (λ (e : Edge). e.exporter < n) found → by_exporters ≡ by_key exporter_of n found)
+      → ((n : ℕ) → All (λ (e : Edge). e.importer < n) by_exporters → by_importers ≡ by_key importer_of n by_exporters) →
+      by_importers ≡ quotient_edges q es count links
   unfolding quotient_edges
   sorted_are found by_exporters by_importers count within is sort_exporters sort_importers =
       let all = flat_map (edges_of_link q es links) (enumerate_from 0 links) in
       let exporters = all_from (λ (e : Edge). e.exporter < count) all (λ e at. (inside count within e at).exporter) in
-      let first : by_exporters ≡ by_key exporter_of count all = sort_exporters count (subst (All (λ (e : Edge). e.exporter < count)) (sym is) exporters) ∙ ap (by_key exporter_of count) is in
-      let importers = all_from (λ (e : Edge). e.importer < count) (by_key exporter_of count all) (λ e at. (inside count within e (by_key_in exporter_of count all e at)).importer) in
+      let first : by_exporters ≡ by_key exporter_of count all = sort_exporters count (subst (All (λ (e : Edge). e.exporter < count)) (sym is) exporters)
+      ∙ ap (by_key exporter_of count) is in
+      let importers = all_from (λ (e : Edge). e.importer < count) (by_key exporter_of count all)
+      (λ e at. (inside count within e (by_key_in exporter_of count all e at)).importer) in
       sort_importers count (subst (All (λ (e : Edge). e.importer < count)) (sym first) importers) ∙ ap (by_key importer_of count) first

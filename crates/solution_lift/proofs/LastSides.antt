@@ -22,7 +22,8 @@ last_push ks None = ap last_of (append-nil ks)
 last_push [] (Some k) = refl
 last_push (j ∷ ks) (Some k) = ap (λ (o : Option ℕ). or_else o (Some j)) (last_push ks (Some k))
 
-chosen : (a b : Bool) (low high last : Option ℕ) → (a ≡ true → b ≡ true → ⊥) → cond b (or_else high (cond a (or_else low last) last)) (cond a (or_else low last) last) ≡ or_else (cond a low (cond b high None)) last
+chosen : (a b : Bool) (low high last : Option ℕ) → (a ≡ true → b ≡ true → ⊥) →
+    cond b (or_else high (cond a (or_else low last) last)) (cond a (or_else low last) last) ≡ or_else (cond a low (cond b high None)) last
 chosen true true low high last h = absurd (h refl refl)
 chosen true false low high last h = refl
 chosen false true low high last h = refl
@@ -31,8 +32,10 @@ chosen false false low high last h = refl
 one_way : (l : QLink) (g h : ℕ) → l.low < l.high → (nat_eq l.low g && nat_eq l.high h) ≡ true → (nat_eq l.high g && nat_eq l.low h) ≡ true → ⊥
 one_way l g h less a b = absurd (grind (arith, nat_tests))
 
-pub last_more : (links : List QLink) (i : ℕ) (l : QLink) (g h : ℕ) (old middle new : Option ℕ) → i < length links → l ≡ get_or links i l → l.low < l.high → old ≡ last_between g h (take i links)
-    → middle ≡ (if nat_eq l.low g && nat_eq l.high h then or_else l.to_low old else old) → new ≡ (if nat_eq l.high g && nat_eq l.low h then or_else l.to_high middle else middle) → new ≡ last_between g h (take (i + 1) links)
+pub last_more : (links : List QLink) (i : ℕ) (l : QLink) (g h : ℕ) (old middle new : Option ℕ) → i < length links → l ≡ get_or links i l → l.low < l.high →
+    old ≡ last_between g h (take i links)
+    → middle ≡ (if nat_eq l.low g && nat_eq l.high h then or_else l.to_low old else old) →
+    new ≡ (if nat_eq l.high g && nat_eq l.low h then or_else l.to_high middle else middle) → new ≡ last_between g h (take (i + 1) links)
 last_more links i l g h old middle new inside at less before first second =
     second
     ∙ ap (λ (o : Option ℕ). if nat_eq l.high g && nat_eq l.low h then or_else l.to_high o else o) first
@@ -44,16 +47,21 @@ last_more links i l g h old middle new inside at less before first second =
 
 -- ---- the last edge of a pair
 
-pairs : (links : List QLink) (l : QLink) (g h : ℕ) → AreApart links → ((m : QLink) → m.low < m.high → (if same_pair l m then side_of g m else None) ≡ carried g h m) → filter_map (side_of g) (filter (same_pair l) links) ≡ filter_map (carried g h) links
+pairs : (links : List QLink) (l : QLink) (g h : ℕ) → AreApart links →
+    ((m : QLink) → m.low < m.high → (if same_pair l m then side_of g m else None) ≡ carried g h m) →
+    filter_map (side_of g) (filter (same_pair l) links) ≡ filter_map (carried g h) links
 pairs [] l g h all each = refl
 pairs (m ∷ links) l g h all each =
-    kept (same_pair l m) ∙ (λ i. cons_option (each m (All-head (λ (k : QLink). k.low < k.high) m links all) i) (pairs links l g h (All-tail (λ (k : QLink). k.low < k.high) m links all) each i))
+    kept (same_pair l m) ∙ (λ i. cons_option (each m (All-head (λ (k : QLink). k.low < k.high) m links all) i)
+    (pairs links l g h (All-tail (λ (k : QLink). k.low < k.high) m links all) each i))
   where
-    kept : (b : Bool) → filter_map (side_of g) (cond b (m ∷ filter (same_pair l) links) (filter (same_pair l) links)) ≡ cons_option (cond b (side_of g m) None) (filter_map (side_of g) (filter (same_pair l) links))
+    kept : (b : Bool) → filter_map (side_of g) (cond b (m ∷ filter (same_pair l) links) (filter (same_pair l) links)) ≡ cons_option (cond b (side_of g m) None)
+        (filter_map (side_of g) (filter (same_pair l) links))
     kept true = refl
     kept false = refl
 
-test_low : (l m : QLink) (a b c d : Bool) → m.low < m.high → l.low < l.high → (nat_eq l.low m.low && nat_eq l.high m.high) ≡ a → nat_eq m.low l.low ≡ b → (nat_eq m.low l.low && nat_eq m.high l.high) ≡ c → (nat_eq m.high l.low && nat_eq m.low l.high) ≡ d
+test_low : (l m : QLink) (a b c d : Bool) → m.low < m.high → l.low < l.high → (nat_eq l.low m.low && nat_eq l.high m.high) ≡ a → nat_eq m.low l.low ≡ b →
+    (nat_eq m.low l.low && nat_eq m.high l.high) ≡ c → (nat_eq m.high l.low && nat_eq m.low l.high) ≡ d
     → cond a (cond b m.to_low m.to_high) None ≡ cond c m.to_low (cond d m.to_high None)
 test_low l m true true true d hm hl e f g h = refl
 test_low l m true false c d hm hl e f g h = absurd (grind (arith, nat_tests, e, f))
@@ -62,7 +70,8 @@ test_low l m false b true d hm hl e f g h = absurd (grind (arith, nat_tests, e, 
 test_low l m false b false true hm hl e f g h = absurd (grind (arith, nat_tests, h))
 test_low l m false b false false hm hl e f g h = refl
 
-test_high : (l m : QLink) (a b c d : Bool) → m.low < m.high → l.low < l.high → (nat_eq l.low m.low && nat_eq l.high m.high) ≡ a → nat_eq m.low l.high ≡ b → (nat_eq m.low l.high && nat_eq m.high l.low) ≡ c → (nat_eq m.high l.high && nat_eq m.low l.low) ≡ d
+test_high : (l m : QLink) (a b c d : Bool) → m.low < m.high → l.low < l.high → (nat_eq l.low m.low && nat_eq l.high m.high) ≡ a → nat_eq m.low l.high ≡ b →
+    (nat_eq m.low l.high && nat_eq m.high l.low) ≡ c → (nat_eq m.high l.high && nat_eq m.low l.low) ≡ d
     → cond a (cond b m.to_low m.to_high) None ≡ cond c m.to_low (cond d m.to_high None)
 test_high l m true true c d hm hl e f g h = absurd (grind (arith, nat_tests, e, f))
 test_high l m true false true d hm hl e f g h = absurd (grind (arith, nat_tests, g))
@@ -85,13 +94,15 @@ own_high : (l : QLink) → l.low < l.high → side_of l.high l ≡ l.to_high
 own_high l less = ap (λ (b : Bool). if b then l.to_low else l.to_high) (let t : nat_eq l.low l.high ≡ false = grind (arith, nat_tests) in t)
 
 -- what stands at a link for the direction into its lower group
-pub stands_low : (q : Protocol) (links : List QLink) (l : QLink) (last : Option ℕ) → AreApart links → l.low < l.high → last ≡ last_between l.low l.high links → standing q last l.to_low ≡ edge_into q links l.low l
+pub stands_low : (q : Protocol) (links : List QLink) (l : QLink) (last : Option ℕ) → AreApart links → l.low < l.high → last ≡ last_between l.low l.high links →
+    standing q last l.to_low ≡ edge_into q links l.low l
 unfolding edge_into
 stands_low OverBgp links l last all less is = sym (own_low l)
 stands_low OverOspf links l last all less is = λ i. or_else (sym (own_low l) i) ((is ∙ sym (last_low links l all less)) i)
 
 -- what stands at a link for the direction into its higher group
-pub stands_high : (q : Protocol) (links : List QLink) (l : QLink) (last : Option ℕ) → AreApart links → l.low < l.high → last ≡ last_between l.high l.low links → standing q last l.to_high ≡ edge_into q links l.high l
+pub stands_high : (q : Protocol) (links : List QLink) (l : QLink) (last : Option ℕ) → AreApart links → l.low < l.high → last ≡ last_between l.high l.low links →
+    standing q last l.to_high ≡ edge_into q links l.high l
 unfolding edge_into
 stands_high OverBgp links l last all less is = sym (own_high l less)
 stands_high OverOspf links l last all less is = λ i. or_else (sym (own_high l less) i) ((is ∙ sym (last_high links l all less)) i)

@@ -15,9 +15,11 @@ use Rattle.solution_lift.specs.declared.tasks.Task.{Task}
 use Rattle.solution_lift.specs.Carrying.{Sources, source_of, IsTaken, IsNext, task_of, IsOrder}
 use Rattle.solution_lift.proofs.TasksDone.{IsSoFar, some_route, cases_route}
 
-module _ (S Q : Problem) (groups : List ℕ) (lower : List (Option Route)) (tasks : List Task) (order : IsOrder lower groups tasks) (total : length groups ≡ count S) where
+module _ (S Q : Problem) (groups : List ℕ) (lower : List (Option Route)) (tasks : List Task) (order : IsOrder lower groups tasks)
+    (total : length groups ≡ count S) where
   -- the router of the next task is the next one to lift
-  pub next_task : (E : List (Option Route)) (i : ℕ) (task : Task) → IsLiftedPart S Q groups lower E → IsSoFar tasks E i → slice_get tasks i ≡ Some task → (m : Route) × IsNextToLift S Q groups lower E task.place m
+  pub next_task : (E : List (Option Route)) (i : ℕ) (task : Task) → IsLiftedPart S Q groups lower E → IsSoFar tasks E i → slice_get tasks i ≡ Some task →
+      (m : Route) × IsNextToLift S Q groups lower E task.place m
   next_task E i task part so_far g =
       let e = order.each i task g in
       let w = some_route task.place (label lower (group_of groups task.place)) task e.1 in (
@@ -31,7 +33,8 @@ module _ (S Q : Problem) (groups : List ℕ) (lower : List (Option Route)) (task
                 elim (cases_lt k.0 i) [
                   | inl earlier ↦ so_far.done k.0 (task_of u n) earlier k.1
                   | inr later ↦ elim (cases_eq k.0 i) [
-                    | inl same ↦ absurd (let one : Some (task_of u n) ≡ Some task = sym k.1 ∙ ap (slice_get tasks) same ∙ g in let is : task_of u n ≡ task = cc in let s = ap (λ (t : Task). t.size) is in omega arith)
+                    | inl same ↦ absurd (let one : Some (task_of u n) ≡ Some task = sym k.1 ∙ ap (slice_get tasks) same ∙ g in let is : task_of u n ≡ task =
+                        cc in let s = ap (λ (t : Task). t.size) is in omega arith)
                     | inr differ ↦ absurd (let s = order.rising i k.0 task (task_of u n) (omega arith) g k.1 in omega arith)
                   ]
                 ]);
@@ -43,14 +46,17 @@ module _ (S Q : Problem) (groups : List ℕ) (lower : List (Option Route)) (task
       )
 
   -- where all tasks are done, all that ask have labels
-  pub all_done : (E : List (Option Route)) (i : ℕ) → IsSoFar tasks E i → length tasks ≤ i → (u : ℕ) (m : Route) → u < count S → label lower (group_of groups u) ≡ Some m → (r : Route) × (label E u ≡ Some r)
+  pub all_done : (E : List (Option Route)) (i : ℕ) → IsSoFar tasks E i → length tasks ≤ i → (u : ℕ) (m : Route) → u < count S →
+      label lower (group_of groups u) ≡ Some m → (r : Route) × (label E u ≡ Some r)
   all_done E i so_far past u m h asked =
       let k = order.all u (task_of u m) (omega arith) (ap (option_map (task_of u)) asked) in
       let inside = slice_get_within tasks k.0 (task_of u m) k.1 in
       so_far.done k.0 (task_of u m) (omega arith) k.1
 
 -- what is taken where something fits is taken as lifting asks for
-pub taken_from : (S Q : Problem) (groups : List ℕ) (E : List (Option Route)) (u source : ℕ) (m : Route) (route : Option Route) → key_of S m ≡ key_of Q m → IsTaken S groups E u source (key_of S m) route → (r : Route) × TakesFrom S Q groups E u source r m → (r : Route) × (route ≡ Some r) × TakesFrom S Q groups E u source r m
+pub taken_from : (S Q : Problem) (groups : List ℕ) (E : List (Option Route)) (u source : ℕ) (m : Route) (route : Option Route) → key_of S m ≡ key_of Q m →
+    IsTaken S groups E u source (key_of S m) route → (r : Route) × TakesFrom S Q groups E u source r m → (r : Route) × (route ≡ Some r)
+    × TakesFrom S Q groups E u source r m
 taken_from S Q groups E u source m None agree none (r, t) = absurd (none.none t.edge r t.edge_in t.importer t.exporter t.over (t.keyed ∙ sym agree))
 taken_from S Q groups E u source m (Some r) agree t found = (
   r,
@@ -67,11 +73,13 @@ taken_from S Q groups E u source m (Some r) agree t found = (
 )
 
 -- labels with what the next router gets are a part of what lifting asks for
-pub next_part : (S Q : Problem) (groups : List ℕ) (lower E : List (Option Route)) (u : ℕ) (m : Route) (sources : Sources) (route : Option Route) → IsNextToLift S Q groups lower E u m
+pub next_part : (S Q : Problem) (groups : List ℕ) (lower E : List (Option Route)) (u : ℕ) (m : Route) (sources : Sources) (route : Option Route) →
+    IsNextToLift S Q groups lower E u m
     → ((i : Route) → initial S u ≡ Some i → IsLiftedPart S Q groups lower (slice_set E u (Some i)))
     → (initial S u ≡ None → (s : ℕ) × IsFirstOn Q (path_of m) s)
     → ((s : ℕ) → initial S u ≡ None → IsFirstOn Q (path_of m) s → (r : Route) × TakesFrom S Q groups E u s r m)
-    → ((s : ℕ) (r : Route) → initial S u ≡ None → IsFirstOn Q (path_of m) s → TakesFrom S Q groups E u s r m → IsLiftedPart S Q groups lower (slice_set E u (Some r)))
+    → ((s : ℕ) (r : Route) → initial S u ≡ None → IsFirstOn Q (path_of m) s → TakesFrom S Q groups E u s r m →
+    IsLiftedPart S Q groups lower (slice_set E u (Some r)))
     → key_of S m ≡ key_of Q m → ((s : ℕ) → IsFirstOn Q (path_of m) s → source_of sources m ≡ Some s) → IsNext S lower groups groups sources E u route
     → (r : Route) × (route ≡ Some r) × IsLiftedPart S Q groups lower (slice_set E u (Some r))
 next_part S Q groups lower E u m sources route next started source found taken agree sourced is = elim (cases_route (initial S u)) [

@@ -13,7 +13,8 @@ use Rattle.solution_lift.specs.Members.{number_among}
 
 shifted : (p : ℕ → Bool) (a b n : ℕ) → b ≡ suc a → filter p (range_with_len b n) ≡ map suc (filter (λ r. p (suc r)) (range_with_len a n))
 shifted p a b zero e = refl
-shifted p a b (suc n) e = ap (λ (k : ℕ). cond (p k) (k ∷ filter p (range_with_len (b + 1) n)) (filter p (range_with_len (b + 1) n))) e ∙ step (p (suc a)) (filter p (range_with_len (b + 1) n)) (filter (λ r. p (suc r)) (range_with_len (a + 1) n)) (shifted p (a + 1) (b + 1) n (omega arith))
+shifted p a b (suc n) e = ap (λ (k : ℕ). cond (p k) (k ∷ filter p (range_with_len (b + 1) n)) (filter p (range_with_len (b + 1) n))) e
+    ∙ step (p (suc a)) (filter p (range_with_len (b + 1) n)) (filter (λ r. p (suc r)) (range_with_len (a + 1) n)) (shifted p (a + 1) (b + 1) n (omega arith))
   where
     step : (c : Bool) (us vs : List ℕ) → us ≡ map suc vs → cond c (suc a ∷ us) us ≡ map suc (cond c (a ∷ vs) vs)
     step true us vs h = ap (λ (xs : List ℕ). suc a ∷ xs) h
@@ -33,7 +34,8 @@ none_among : (ms : List ℕ) → number_among [] ms ≡ 0
 none_among [] = refl
 none_among (m ∷ ms) = none_among ms
 
-first_step : (n : ℕ) (ns ms : List ℕ) (b c : Bool) (rest : ℕ) → nat_eq n 0 ≡ c → number_among ns ms ≡ rest → number_among (n ∷ ns) (one_more b ms) ≡ (if b && not c then n else rest)
+first_step : (n : ℕ) (ns ms : List ℕ) (b c : Bool) (rest : ℕ) → nat_eq n 0 ≡ c → number_among ns ms ≡ rest →
+    number_among (n ∷ ns) (one_more b ms) ≡ (if b && not c then n else rest)
 first_step n ns ms true true rest e h = ap (λ (d : Bool). if d then number_among (n ∷ ns) (map suc ms) else n) e ∙ among_later n ns ms ∙ h
 first_step n ns ms true false rest e h = ap (λ (d : Bool). if d then number_among (n ∷ ns) (map suc ms) else n) e
 first_step n ns ms false c rest e h = among_later n ns ms ∙ h
@@ -42,7 +44,8 @@ pub among_members : (numbers groups : List ℕ) (g : ℕ) → number_among numbe
 unfolding first_number
 among_members [] groups g = none_among (members_of groups g)
 among_members (n ∷ ns) [] g = refl
-among_members (n ∷ ns) (x ∷ xs) g = ap (number_among (n ∷ ns)) (members_cons x xs g) ∙ first_step n ns (members_of xs g) (x == g) (nat_eq n 0) (first_number ns xs g) refl (among_members ns xs g)
+among_members (n ∷ ns) (x ∷ xs) g = ap (number_among (n ∷ ns)) (members_cons x xs g)
+    ∙ first_step n ns (members_of xs g) (x == g) (nat_eq n 0) (first_number ns xs g) refl (among_members ns xs g)
 
 head_step : (b : Bool) (ms : List ℕ) (k : ℕ) → (b ≡ false → slice_get ms 0 ≡ Some k) → slice_get (one_more b ms) 0 ≡ Some (if b then 0 else suc k)
 head_step true ms k h = refl
@@ -58,7 +61,8 @@ behind x g xs (inr later) other = later
 
 first_in : (groups : List ℕ) (g : ℕ) → In groups g → slice_get (members_of groups g) 0 ≡ Some (first_member groups g)
 first_in [] g at = absurd at
-first_in (x ∷ xs) g at = ap (λ (ms : List ℕ). slice_get ms 0) (members_cons x xs g) ∙ head_step (x == g) (members_of xs g) (first_member xs g) (λ other. first_in xs g (behind x g xs at other))
+first_in (x ∷ xs) g at = ap (λ (ms : List ℕ). slice_get ms 0) (members_cons x xs g)
+    ∙ head_step (x == g) (members_of xs g) (first_member xs g) (λ other. first_in xs g (behind x g xs at other))
 
 pub first_of_members : (groups : List ℕ) (g : ℕ) → Contains groups g → slice_get (members_of groups g) 0 ≡ Some (first_member groups g)
 first_of_members groups g has = first_in groups g (in_contains groups g has)

@@ -32,13 +32,15 @@ module _ (P : Problem) (E : List (Option Route)) where
   passes_at own c r true e h = absurd cc
   passes_at own c r false e h = let same : c ≡ r = cc in (same, ap (λ (x : Route). is_on own (path_of x)) (sym same) ∙ e)
 
-  stepped_at : (e : Edge) (from r : Route) (s : Option Route) → label E e.exporter ≡ Some from → step_over P e from ≡ s → option_and_then (passed (number P e.importer)) s ≡ Some r → IsCandidateOver P E e r
+  stepped_at : (e : Edge) (from r : Route) (s : Option Route) → label E e.exporter ≡ Some from → step_over P e from ≡ s →
+      option_and_then (passed (number P e.importer)) s ≡ Some r → IsCandidateOver P E e r
   stepped_at e from r None l s h = absurd cc
   stepped_at e from r (Some c) l s h =
       let p = passes_at (number P e.importer) c r (is_on (number P e.importer) (path_of c)) refl h in
       record { from = from; labelled = l; stepped = s ∙ ap Some p.0; passes = p.1 }
 
-  labelled_at : (e : Edge) (r : Route) (o : Option Route) → label E e.exporter ≡ o → option_and_then (λ from. option_and_then (passed (number P e.importer)) (step_over P e from)) o ≡ Some r → IsCandidateOver P E e r
+  labelled_at : (e : Edge) (r : Route) (o : Option Route) → label E e.exporter ≡ o →
+      option_and_then (λ from. option_and_then (passed (number P e.importer)) (step_over P e from)) o ≡ Some r → IsCandidateOver P E e r
   labelled_at e r None l h = absurd cc
   labelled_at e r (Some from) l h = stepped_at e from r (step_over P e from) l refl h
 
@@ -59,7 +61,8 @@ module _ (P : Problem) (E : List (Option Route)) where
     abbrev here : Bool → ℕ → Option Route → List Candidate
     here b place o = if b then candidate_of (Some place) o else []
 
-    listed_here : (e : Edge) (es : List Edge) (place : ℕ) (k : Candidate) (b : Bool) (o : Option Route) → nat_eq e.importer u ≡ b → over P E e ≡ o → In (here b place o) k → IsListed (e ∷ es) place k
+    listed_here : (e : Edge) (es : List Edge) (place : ℕ) (k : Candidate) (b : Bool) (o : Option Route) → nat_eq e.importer u ≡ b → over P E e ≡ o →
+        In (here b place o) k → IsListed (e ∷ es) place k
     listed_here e es place k false o t g at = absurd at
     listed_here e es place k true None t g at = absurd at
     listed_here e es place k true (Some r) t g (inr none) = absurd none
@@ -79,13 +82,22 @@ module _ (P : Problem) (E : List (Option Route)) where
       | inl first ↦ listed_here e es place k (nat_eq e.importer u) (over P E e) refl refl first
       | inr later ↦
           let l = in_over_edges es (place + 1) k later in
-          record { j = suc l.j; edge = l.edge; at = l.at; place_is = l.place_is ∙ ap Some (let z : place + 1 + l.j ≡ place + suc l.j = omega arith in z); importer = l.importer; over_it = l.over_it }
+          record {
+            j = suc l.j;
+            edge = l.edge;
+            at = l.at;
+            place_is = l.place_is ∙ ap Some (let z : place + 1 + l.j ≡ place + suc l.j = omega arith in z);
+            importer = l.importer;
+            over_it = l.over_it;
+          }
     ]
 
     at_here : (place : ℕ) (r : Route) (b : Bool) (o : Option Route) → b ≡ true → o ≡ Some r → In (here b place o) (record { edge = Some place; route = r })
-    at_here place r b o t g = subst (λ (c : Bool). In (here c place o) (record { edge = Some place; route = r })) (sym t) (subst (λ (p : Option Route). In (candidate_of (Some place) p) (record { edge = Some place; route = r })) (sym g) (inl refl))
+    at_here place r b o t g = subst (λ (c : Bool). In (here c place o) (record { edge = Some place; route = r })) (sym t)
+        (subst (λ (p : Option Route). In (candidate_of (Some place) p) (record { edge = Some place; route = r })) (sym g) (inl refl))
 
-    over_edges_in : (edges : List Edge) (place j : ℕ) (e : Edge) (r : Route) → slice_get edges j ≡ Some e → e.importer ≡ u → over P E e ≡ Some r → In (over_edges P E u place edges) (record { edge = Some (place + j); route = r })
+    over_edges_in : (edges : List Edge) (place j : ℕ) (e : Edge) (r : Route) → slice_get edges j ≡ Some e → e.importer ≡ u → over P E e ≡ Some r →
+        In (over_edges P E u place edges) (record { edge = Some (place + j); route = r })
     unfolding over_edges
     over_edges_in [] place j e r at imp g = absurd cc
     over_edges_in (x ∷ es) place zero e r at imp g =
@@ -93,7 +105,8 @@ module _ (P : Problem) (E : List (Option Route)) where
         let z : place ≡ place + 0 = omega arith in
         let test : nat_eq x.importer u ≡ true = (let i = ap (λ (y : Edge). y.importer) same in grind (arith, nat_tests)) in
         subst (λ (n : ℕ). In (here (nat_eq x.importer u) place (over P E x) ++ over_edges P E u (place + 1) es) (record { edge = Some n; route = r })) z
-        (in_left (here (nat_eq x.importer u) place (over P E x)) (over_edges P E u (place + 1) es) _ (at_here place r (nat_eq x.importer u) (over P E x) test (ap (over P E) same ∙ g)))
+        (in_left (here (nat_eq x.importer u) place (over P E x)) (over_edges P E u (place + 1) es) _
+        (at_here place r (nat_eq x.importer u) (over P E x) test (ap (over P E) same ∙ g)))
     over_edges_in (x ∷ es) place (suc j) e r at imp g =
         let z : place + 1 + j ≡ place + suc j = omega arith in
         in_right (here (nat_eq x.importer u) place (over P E x)) (over_edges P E u (place + 1) es) _
@@ -118,7 +131,8 @@ module _ (P : Problem) (E : List (Option Route)) where
     unfolding over_edges EdgeBefore
     by_edges [] place = tt
     by_edges (e ∷ es) place =
-        ordered_append EdgeBefore (here (nat_eq e.importer u) place (over P E e)) (over_edges P E u (place + 1) es) (one_listed (nat_eq e.importer u) place (over P E e)) (by_edges es (place + 1))
+        ordered_append EdgeBefore (here (nat_eq e.importer u) place (over P E e)) (over_edges P E u (place + 1) es)
+        (one_listed (nat_eq e.importer u) place (over P E e)) (by_edges es (place + 1))
         (λ x y i j p q a b.
         (let first : Some p ≡ Some place = sym a ∙ edge_here (nat_eq e.importer u) place (over P E e) x i in
         let l = in_over_edges es (place + 1) y j in
@@ -138,7 +152,8 @@ module _ (P : Problem) (E : List (Option Route)) where
 
     candidates_by_edges : IsOrdered EdgeBefore (candidates P E u)
     unfolding candidates EdgeBefore
-    candidates_by_edges = ordered_append EdgeBefore (candidate_of None (initial P u)) (over_edges P E u 0 P.edges) (start_listed (initial P u)) (by_edges P.edges 0)
+    candidates_by_edges = ordered_append EdgeBefore (candidate_of None (initial P u)) (over_edges P E u 0 P.edges) (start_listed (initial P u))
+        (by_edges P.edges 0)
         (λ x y i j p q a b. (let none = no_edge (initial P u) x i in absurd (cc)))
 
     over_edge : (k : Candidate) (p : ℕ) → In (candidates P E u) k → k.edge ≡ Some p → IsListed P.edges 0 k
@@ -148,14 +163,16 @@ module _ (P : Problem) (E : List (Option Route)) where
       | inr later ↦ in_over_edges P.edges 0 k later
     ]
 
-    candidate_in : (j : ℕ) (e : Edge) (r : Route) → slice_get P.edges j ≡ Some e → e.importer ≡ u → IsCandidateOver P E e r → In (candidates P E u) (record { edge = Some (0 + j); route = r })
+    candidate_in : (j : ℕ) (e : Edge) (r : Route) → slice_get P.edges j ≡ Some e → e.importer ≡ u → IsCandidateOver P E e r →
+        In (candidates P E u) (record { edge = Some (0 + j); route = r })
     unfolding candidates
     candidate_in j e r at imp o = in_right (candidate_of None (initial P u)) (over_edges P E u 0 P.edges) _ (over_edges_in P.edges 0 j e r at imp (given e r o))
 
     -- ---- the first that fits
 
     module _ (sides : List ℕ) (source : ℕ) (key : Key) where
-      from_side : (j : ℕ) (e : Edge) (r : Route) → slice_get P.edges j ≡ Some e → slice_index sides e.exporter ≡ source → is_from P.edges sides source (record { edge = Some (0 + j); route = r }) ≡ true
+      from_side : (j : ℕ) (e : Edge) (r : Route) → slice_get P.edges j ≡ Some e → slice_index sides e.exporter ≡ source →
+          is_from P.edges sides source (record { edge = Some (0 + j); route = r }) ≡ true
       from_side j e r at x =
           ap (λ (n : ℕ). is_edge_from P.edges sides source (Some n)) (let z : 0 + j ≡ j = omega arith in z)
           ∙ ap (λ (o : Option Edge). option_map_or (λ (edge : Edge). nat_eq (slice_index sides edge.exporter) source) o false) at
@@ -176,16 +193,29 @@ module _ (P : Problem) (E : List (Option Route)) where
           let l = over_edge k p at e in
           let same : Some p ≡ Some (0 + l.j) = sym e ∙ l.place_is in
           let is : p ≡ l.j = (let z : p ≡ 0 + l.j = cc in omega arith) in
-          let there : nat_eq (slice_index sides l.edge.exporter) source ≡ true = ap (λ (o : Option Edge). option_map_or (λ (edge : Edge). nat_eq (slice_index sides edge.exporter) source) o false) (sym (ap (slice_get P.edges) is ∙ l.at)) ∙ f in
-          record { j = l.j; place = e ∙ ap Some is; edge = l.edge; at = l.at; importer = l.importer; exporter = grind (arith, nat_tests); over_it = gives l.edge k.route l.over_it }
+          let there : nat_eq (slice_index sides l.edge.exporter) source ≡ true =
+          ap (λ (o : Option Edge). option_map_or (λ (edge : Edge). nat_eq (slice_index sides edge.exporter) source) o false)
+          (sym (ap (slice_get P.edges) is ∙ l.at)) ∙ f in
+          record {
+            j = l.j;
+            place = e ∙ ap Some is;
+            edge = l.edge;
+            at = l.at;
+            importer = l.importer;
+            exporter = grind (arith, nat_tests);
+            over_it =
+                gives l.edge k.route l.over_it;
+          }
 
       came : (k : Candidate) → In (candidates P E u) k → is_from P.edges sides source k ≡ true → Came k
       came k at f = came_at k k.edge at refl f
 
-      edges_by_exporter : (edges : List Edge) (i j : ℕ) (a b : Edge) → AreOrdered edges → i < j → slice_get edges i ≡ Some a → slice_get edges j ≡ Some b → Precedes a b
+      edges_by_exporter : (edges : List Edge) (i j : ℕ) (a b : Edge) → AreOrdered edges → i < j → slice_get edges i ≡ Some a → slice_get edges j ≡ Some b →
+          Precedes a b
       edges_by_exporter [] i j a b o less at to = absurd cc
       edges_by_exporter (x ∷ xs) zero zero a b o less at to = absurd (omega arith)
-      edges_by_exporter (x ∷ xs) zero (suc j) a b o less at to = subst (λ y. Precedes y b) (let same : x ≡ a = cc in same) (All-contains (Precedes x) xs b o.0 (contains_in xs b (get_in xs j b to)))
+      edges_by_exporter (x ∷ xs) zero (suc j) a b o less at to =
+          subst (λ y. Precedes y b) (let same : x ≡ a = cc in same) (All-contains (Precedes x) xs b o.0 (contains_in xs b (get_in xs j b to)))
       edges_by_exporter (x ∷ xs) (suc i) zero a b o less at to = absurd (omega arith)
       edges_by_exporter (x ∷ xs) (suc i) (suc j) a b o less at to = edges_by_exporter xs i j a b o.1 (omega arith) at to
 
@@ -197,7 +227,8 @@ module _ (P : Problem) (E : List (Option Route)) where
       abbrev NoneBefore : ℕ → Type 0
       NoneBefore i = (k : ℕ) (c : Candidate) → k < i → slice_get (candidates P E u) k ≡ Some c → is_from P.edges sides source c ≡ true → key_of P c.route ≢ key
 
-      pub found : AreOrdered P.edges → (i : ℕ) (c : Candidate) → slice_get (candidates P E u) i ≡ Some c → is_from P.edges sides source c ≡ true → key_of P c.route ≡ key → NoneBefore i → Takes P sides E u source key c.route
+      pub found : AreOrdered P.edges → (i : ℕ) (c : Candidate) → slice_get (candidates P E u) i ≡ Some c → is_from P.edges sides source c ≡ true →
+          key_of P c.route ≡ key → NoneBefore i → Takes P sides E u source key c.route
       unfolding EdgeBefore
       found ordered i c at f k before =
           let w = came c (get_in (candidates P E u) i c at) f in
@@ -242,14 +273,20 @@ module _ (P : Problem) (E : List (Option Route)) where
       }
 
       -- the same by a list that is that of the candidates
-      pub takes_first : (list : List Candidate) → list ≡ candidates P E u → AreOrdered P.edges → (i : ℕ) (c : Candidate) (r : Route) → slice_get list i ≡ Some c → is_from P.edges sides source c ≡ true → key_of P c.route ≡ key → r ≡ c.route
-          → ((k : ℕ) (d : Candidate) → k < i → slice_get list k ≡ Some d → is_from P.edges sides source d ≡ true → key_of P d.route ≢ key) → Takes P sides E u source key r
+      pub takes_first : (list : List Candidate) → list ≡ candidates P E u → AreOrdered P.edges → (i : ℕ) (c : Candidate) (r : Route) →
+          slice_get list i ≡ Some c → is_from P.edges sides source c ≡ true → key_of P c.route ≡ key → r ≡ c.route
+          → ((k : ℕ) (d : Candidate) → k < i → slice_get list k ≡ Some d → is_from P.edges sides source d ≡ true → key_of P d.route ≢ key) →
+          Takes P sides E u source key r
       takes_first list is ordered i c r at f k same before =
           subst (Takes P sides E u source key) (sym same)
-          (found ordered i c (sym (ap (λ (ks : List Candidate). slice_get ks i) is) ∙ at) f k (λ j d less g. before j d less (ap (λ (ks : List Candidate). slice_get ks j) is ∙ g)))
+          (found ordered i c (sym (ap (λ (ks : List Candidate). slice_get ks i) is) ∙ at) f k
+          (λ j d less g. before j d less (ap (λ (ks : List Candidate). slice_get ks j) is ∙ g)))
 
-      pub takes_none : (list : List Candidate) → list ≡ candidates P E u → ((k : ℕ) (d : Candidate) → k < length list → slice_get list k ≡ Some d → is_from P.edges sides source d ≡ true → key_of P d.route ≢ key) → TakesNone P sides E u source key
-      takes_none list is before = not_found (λ j d less g. before j d (let l = ap (length {A = Candidate}) is in omega arith) (ap (λ (ks : List Candidate). slice_get ks j) is ∙ g))
+      pub takes_none : (list : List Candidate) → list ≡ candidates P E u →
+          ((k : ℕ) (d : Candidate) → k < length list → slice_get list k ≡ Some d → is_from P.edges sides source d ≡ true → key_of P d.route ≢ key) →
+          TakesNone P sides E u source key
+      takes_none list is before = not_found (λ j d less g. before j d (let l = ap (length {A = Candidate}) is in omega arith)
+          (ap (λ (ks : List Candidate). slice_get ks j) is ∙ g))
 
 pub get_is : {X : Type 0} (xs : List X) (k : ℕ) (x : X) → k < length xs → x ≡ get_or xs k x → slice_get xs k ≡ Some x
 get_is [] k x h e = absurd (omega arith)
@@ -257,7 +294,9 @@ get_is (y ∷ ys) zero x h e = ap Some (sym e)
 get_is (y ∷ ys) (suc k) x h e = get_is ys k x (omega arith) e
 
 -- one candidate more does not fit
-pub none_more : (Fits : ℕ → Candidate → Type 0) (list : List Candidate) (i : ℕ) (c : Candidate) → slice_get list i ≡ Some c → ((k : ℕ) (d : Candidate) → k < i → slice_get list k ≡ Some d → Fits k d) → Fits i c → (k : ℕ) (d : Candidate) → k < i + 1 → slice_get list k ≡ Some d → Fits k d
+pub none_more : (Fits : ℕ → Candidate → Type 0) (list : List Candidate) (i : ℕ) (c : Candidate) → slice_get list i ≡ Some c →
+    ((k : ℕ) (d : Candidate) → k < i → slice_get list k ≡ Some d → Fits k d) → Fits i c → (k : ℕ) (d : Candidate) → k < i + 1 → slice_get list k ≡ Some d →
+    Fits k d
 none_more Fits list i c at before here k d less g = elim (cases_lt k i) [
   | inl earlier ↦ before k d earlier g
   | inr more ↦

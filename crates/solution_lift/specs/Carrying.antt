@@ -22,11 +22,13 @@ pub record Takes (problem : Problem) (sides : List ℕ) (labels : List (Option R
   pub exporter : slice_index sides edge.exporter ≡ source
   pub over : IsCandidateOver problem labels edge route
   pub keyed : key_of problem route ≡ key
-  pub least : (other : Edge) (candidate : Route) → Contains problem.edges other → other.importer ≡ router → slice_index sides other.exporter ≡ source → IsCandidateOver problem labels other candidate → key_of problem candidate ≡ key → edge.exporter ≤ other.exporter
+  pub least : (other : Edge) (candidate : Route) → Contains problem.edges other → other.importer ≡ router → slice_index sides other.exporter ≡ source →
+      IsCandidateOver problem labels other candidate → key_of problem candidate ≡ key → edge.exporter ≤ other.exporter
 
 -- no edge from that side gives the router a route of that key
 pub record TakesNone (problem : Problem) (sides : List ℕ) (labels : List (Option Route)) (router source : ℕ) (key : Key) : Type 0 where
-  pub none : (edge : Edge) (candidate : Route) → Contains problem.edges edge → edge.importer ≡ router → slice_index sides edge.exporter ≡ source → IsCandidateOver problem labels edge candidate → key_of problem candidate ≢ key
+  pub none : (edge : Edge) (candidate : Route) → Contains problem.edges edge → edge.importer ≡ router → slice_index sides edge.exporter ≡ source →
+      IsCandidateOver problem labels edge candidate → key_of problem candidate ≢ key
 
 abbrev pub IsTaken : Problem → List ℕ → List (Option Route) → ℕ → ℕ → Key → Option Route → Type 0
 IsTaken problem sides labels router source key None = TakesNone problem sides labels router source key
@@ -41,9 +43,11 @@ abbrev pub source_of : Sources → Route → Option ℕ
 source_of sources route = option_and_then (map.get nat_eq sources) (slice_get (path_of route) 0)
 
 -- what the router gets: its initial route, or what it takes from the source of the label asked for
-pub record IsNext (problem : Problem) (asked : List (Option Route)) (at sides : List ℕ) (sources : Sources) (labels : List (Option Route)) (router : ℕ) (next : Option Route) : Type 0 where
+pub record IsNext (problem : Problem) (asked : List (Option Route)) (at sides : List ℕ) (sources : Sources) (labels : List (Option Route)) (router : ℕ)
+    (next : Option Route) : Type 0 where
   pub started : (i : Route) → initial problem router ≡ Some i → next ≡ Some i
-  pub taken : (wanted : Route) (source : ℕ) → initial problem router ≡ None → label asked (slice_index at router) ≡ Some wanted → source_of sources wanted ≡ Some source → IsTaken problem sides labels router source (key_of problem wanted) next
+  pub taken : (wanted : Route) (source : ℕ) → initial problem router ≡ None → label asked (slice_index at router) ≡ Some wanted →
+      source_of sources wanted ≡ Some source → IsTaken problem sides labels router source (key_of problem wanted) next
 
 abbrev pub task_of : ℕ → Route → Task
 task_of router route = record { place = router; size = size_of route }

@@ -7,9 +7,11 @@ use Rattle.srp_core.specs.Stability.{IsStable}
 use Rattle.solution_lift.specs.Carried.{IsFolding, IsLifting}
 
 abbrev pub FoldingIsOne : Type 0
-FoldingIsOne = (problem small : Problem) (groups : List ℕ) (labels : List (Option Route)) → IsProblem problem → IsProblem small → IsAdmissible problem groups → IsQuotient problem groups small → IsStable problem labels
+FoldingIsOne = (problem small : Problem) (groups : List ℕ) (labels : List (Option Route)) → IsProblem problem → IsProblem small → IsAdmissible problem groups →
+    IsQuotient problem groups small → IsStable problem labels
     → (first second : List (Option Route)) → IsFolding problem small groups labels first → IsFolding problem small groups labels second → first ≡ second
 
 abbrev pub LiftingIsOne : Type 0
-LiftingIsOne = (problem small : Problem) (groups : List ℕ) (lower : List (Option Route)) → IsProblem problem → IsProblem small → IsAdmissible problem groups → IsQuotient problem groups small → IsStable small lower
+LiftingIsOne = (problem small : Problem) (groups : List ℕ) (lower : List (Option Route)) → IsProblem problem → IsProblem small → IsAdmissible problem groups →
+    IsQuotient problem groups small → IsStable small lower
     → (first second : List (Option Route)) → IsLifting problem small groups lower first → IsLifting problem small groups lower second → first ≡ second

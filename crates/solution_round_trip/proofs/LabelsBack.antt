@@ -25,7 +25,8 @@ above_back bound c more range =
     let high : nat_lt c 4294901760 ≡ true = grind (arith, nat_tests) in
     rw (community_back c range, low, high) refl
 
-communities_back : (bound : ℕ) (comms : List ℕ) → AllAbove bound comms → IsAscending comms → AllByRecursion (IsBetween 1 4294901759) comms → communities_above bound (map community_text comms) ≡ Some comms
+communities_back : (bound : ℕ) (comms : List ℕ) → AllAbove bound comms → IsAscending comms → AllByRecursion (IsBetween 1 4294901759) comms →
+    communities_above bound (map community_text comms) ≡ Some comms
 unfolding communities_above
 communities_back bound [] above ascending each = refl
 communities_back bound (c ∷ comms) above ascending each = rw (above_back bound c above.0 each.0, communities_back c comms ascending.0 ascending.1 each.1) refl
@@ -53,14 +54,16 @@ abbrev pub more_words : List (List ℕ) → List (List ℕ)
 more_words [] = []
 more_words (word ∷ words) = words
 
-label_back : (protocol : Protocol) (label : Option Route) → IsLabelInRange protocol label → label_form (first_word (label_words label)) (more_words (label_words label)) ≡ Some label
+label_back : (protocol : Protocol) (label : Option Route) → IsLabelInRange protocol label →
+    label_form (first_word (label_words label)) (more_words (label_words label)) ≡ Some label
 unfolding label_form
 label_back protocol None range = refl
 label_back protocol (Some (Ospf cost)) range = rw (number_back cost range.1) refl
 label_back protocol (Some (Bgp lp path comms)) range = rw (bgp_back lp path comms range.1) refl
 
 -- the words of a line
-pub words_back : (protocol : Protocol) (name : List ℕ) (label : Option Route) → is_router_name name ≡ true → IsLabelInRange protocol label → named_label_of (name ∷ label_words label) ≡ Some (saying name label)
+pub words_back : (protocol : Protocol) (name : List ℕ) (label : Option Route) → is_router_name name ≡ true → IsLabelInRange protocol label →
+    named_label_of (name ∷ label_words label) ≡ Some (saying name label)
 unfolding named_label_of
 words_back protocol name None named range = rw (named, label_back protocol None range) refl
 words_back protocol name (Some (Ospf cost)) named range = rw (named, label_back protocol (Some (Ospf cost)) range) refl

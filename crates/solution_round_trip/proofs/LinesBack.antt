@@ -44,7 +44,8 @@ runs_print : (runs : List (ℕ × ℕ)) → AreRuns runs → Print (flat_map run
 runs_print [] are = tt
 runs_print ((n, count) ∷ runs) are =
     both_print (run_words (n, count)) (flat_map run_words runs)
-    (both_print (replicate (count / 11) (piece_word n 11)) (rest_words n (count % 11)) (several_print (count / 11) (piece_word n 11) (piece_prints n 11 are.0 (omega arith))) (rest_prints n (count % 11) are.0 (omega arith)))
+    (both_print (replicate (count / 11) (piece_word n 11)) (rest_words n (count % 11))
+    (several_print (count / 11) (piece_word n 11) (piece_prints n 11 are.0 (omega arith))) (rest_prints n (count % 11) are.0 (omega arith)))
     (runs_print runs are.1)
 
 path_prints : (path : List ℕ) → AllByRecursion IsAs path → Print (path_words path)
@@ -69,11 +70,14 @@ label_prints protocol (Some (Bgp lp path comms)) range = (
   ),
 )
 
-line_prints : (protocol : Protocol) (name : List ℕ) (label : Option Route) → is_router_name name ≡ true → IsLabelInRange protocol label → IsPrintedLine (label_line (name, label))
+line_prints : (protocol : Protocol) (name : List ℕ) (label : Option Route) → is_router_name name ≡ true → IsLabelInRange protocol label →
+    IsPrintedLine (label_line (name, label))
 line_prints protocol name label named range = record { some = omega arith; words = (router_name_prints name named, label_prints protocol label range) }
 
-pub lines_print : (protocol : Protocol) (names : List (List ℕ)) (labels : List (Option Route)) → AllByRecursion (λ (name : List ℕ). is_router_name name ≡ true) names → AllByRecursion (IsLabelInRange protocol) labels
+pub lines_print : (protocol : Protocol) (names : List (List ℕ)) (labels : List (Option Route)) →
+    AllByRecursion (λ (name : List ℕ). is_router_name name ≡ true) names → AllByRecursion (IsLabelInRange protocol) labels
     → AllByRecursion IsPrintedLine (label_lines names labels)
 lines_print protocol [] labels named range = tt
 lines_print protocol (name ∷ names) [] named range = tt
-lines_print protocol (name ∷ names) (label ∷ labels) named range = (line_prints protocol name label named.0 range.0, lines_print protocol names labels named.1 range.1)
+lines_print protocol (name ∷ names) (label ∷ labels) named range =
+    (line_prints protocol name label named.0 range.0, lines_print protocol names labels named.1 range.1)

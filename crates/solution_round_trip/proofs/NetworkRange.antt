@@ -42,7 +42,8 @@ row_cost : (row : Option (List ℕ × ℕ)) (cost : ℕ) → IfSome row IsRow �
 row_cost None cost is e = cc
 row_cost (Some row) cost is e = subst IsNumber (same_some row.1 cost e) is
 
-given_cost : (x : Interface) (given : Option ℕ) (cost : ℕ) → IfSome given (IsBetween 1 65535) → cond (is_some given) given (default_cost_of (type_of x)) ≡ Some cost → IsNumber cost
+given_cost : (x : Interface) (given : Option ℕ) (cost : ℕ) → IfSome given (IsBetween 1 65535) →
+    cond (is_some given) given (default_cost_of (type_of x)) ≡ Some cost → IsNumber cost
 given_cost x None cost is e = row_cost (find (is_row_of (type_of x)) default_costs) cost (found_holds IsRow (is_row_of (type_of x)) default_costs rows) e
 given_cost x (Some given) cost is e = (let high = is.1 in subst IsNumber (same_some given cost e) (omega (arith, high)))
 
@@ -50,7 +51,8 @@ interface_cost : (x : Option Interface) (cost : ℕ) → IfSome x IsWellFormedIn
 interface_cost None cost is e = cc
 interface_cost (Some x) cost is e = given_cost x x.cost cost is.cost (same_some (cost_of_interface x) (Some cost) e)
 
-process_cost : (router : Router) (bgp : Option BgpProcess) (p : Prefix) (cost : ℕ) → IsWellFormedRouter router → route_by_process router bgp p ≡ Some (Some cost) → IsNumber cost
+process_cost : (router : Router) (bgp : Option BgpProcess) (p : Prefix) (cost : ℕ) → IsWellFormedRouter router →
+    route_by_process router bgp p ≡ Some (Some cost) → IsNumber cost
 process_cost router (Some process) p cost is e = step (is_announced router process p) e
   where
     step : (b : Bool) → cond b (Some None) None ≡ Some (Some cost) → IsNumber cost
@@ -58,13 +60,16 @@ process_cost router (Some process) p cost is e = step (is_announced router proce
     step false e = cc
 process_cost router None p cost is e = interface_cost _ cost (found_holds IsWellFormedInterface _ router.interfaces is.interfaces) e
 
-started : (router : Router) (p : Prefix) (o : Option (Option ℕ)) (r : Route) → IsWellFormedRouter router → initial_route router p ≡ o → option_map (route_from router) o ≡ Some r → IsInRange r
+started : (router : Router) (p : Prefix) (o : Option (Option ℕ)) (r : Route) → IsWellFormedRouter router → initial_route router p ≡ o →
+    option_map (route_from router) o ≡ Some r → IsInRange r
 started router p None r is given e = cc
 started router p (Some None) r is given e =
     subst IsInRange (same_some (route_from router None) r e) (record { preference = preference_number router is; numbers = tt; communities = tt; is_set = tt })
-started router p (Some (Some cost)) r is given e = subst IsInRange (same_some (route_from router (Some cost)) r e) (process_cost router router.bgp p cost is given)
+started router p (Some (Some cost)) r is given e =
+    subst IsInRange (same_some (route_from router (Some cost)) r e) (process_cost router router.bgp p cost is given)
 
-start_range : (p : Prefix) (routers : List Router) → AllByRecursion IsWellFormedRouter routers → (u : ℕ) (r : Route) → slice_index_or (map (start_route p) routers) u None ≡ Some r → IsInRange r
+start_range : (p : Prefix) (routers : List Router) → AllByRecursion IsWellFormedRouter routers → (u : ℕ) (r : Route) →
+    slice_index_or (map (start_route p) routers) u None ≡ Some r → IsInRange r
 start_range p [] are u r e = cc
 start_range p (router ∷ routers) are zero r e = started router p (initial_route router p) r are.0 refl e
 start_range p (router ∷ routers) are (suc u) r e = start_range p routers are.1 u r e
@@ -86,9 +91,11 @@ number_at (n ∷ numbers) (suc u) each = number_at numbers u each.1
 
 -- ---- sessions
 
-received_range : (o : Option Received) (i : Imported) → ((received : Received) → o ≡ Some received → IsReceived received) → option_map imported_as o ≡ Some i → IsNumber i.lp × AreComms i.comms
+received_range : (o : Option Received) (i : Imported) → ((received : Received) → o ≡ Some received → IsReceived received) → option_map imported_as o ≡ Some i →
+    IsNumber i.lp × AreComms i.comms
 received_range None i range e = cc
-received_range (Some received) i range e = subst (λ (j : Imported). IsNumber j.lp × AreComms j.comms) (same_some (imported_as received) i e) (range received refl)
+received_range (Some received) i range e =
+    subst (λ (j : Imported). IsNumber j.lp × AreComms j.comms) (same_some (imported_as received) i e) (range received refl)
 
 module _ (n : Network) (p : Prefix) (are : (router : Router) → Contains n.routers router → IsWellFormedRouter router) where
   at_place : (place : ℕ) (router : Router) → slice_get n.routers place ≡ Some router → IsWellFormedRouter router
@@ -99,11 +106,13 @@ module _ (n : Network) (p : Prefix) (are : (router : Router) → Contains n.rout
   means_range d (Import out sends into) means comms ascending each i e =
       let ends = means.ends in
       received_range (import_of_session p ends.exporter ends.exporter_line ends.importer ends.importer_line comms) i
-      (λ received. session_range p ends.exporter ends.importer ends.exporter_line ends.importer_line comms received (at_place d.exporter ends.exporter ends.exporter_at) (at_place d.importer ends.importer ends.importer_at) each)
+      (λ received. session_range p ends.exporter ends.importer ends.exporter_line ends.importer_line comms received
+      (at_place d.exporter ends.exporter ends.exporter_at) (at_place d.importer ends.importer ends.importer_at) each)
       (sym (means.same comms ascending) ∙ e)
   means_range d (Cost cost) means comms ascending each i e = cc
 
-pub network_range : (n : Network) (p : Prefix) (P : Problem) → AllByRecursion IsWellFormedRouter n.routers → ((router : Router) → Contains n.routers router → IsWellFormedRouter router) → IsProblemOf n p P → HasRange P
+pub network_range : (n : Network) (p : Prefix) (P : Problem) → AllByRecursion IsWellFormedRouter n.routers →
+    ((router : Router) → Contains n.routers router → IsWellFormedRouter router) → IsProblemOf n p P → HasRange P
 network_range n p P each are of = record {
   starts = λ u r e. start_range p n.routers each u r (ap (λ (l : List (Option Route)). slice_index_or l u None) (sym of.init) ∙ e);
   exporters = λ edge edge_in. number_at P.numbers edge.exporter (subst (AllByRecursion IsNumber) (sym of.numbers) (numbers_range n.routers each));

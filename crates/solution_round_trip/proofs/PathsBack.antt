@@ -15,7 +15,8 @@ use Rattle.solution_text.specs.Printed.{with_run, runs_of, piece_word, rest_word
 
 -- ---- the star of a word
 
-first_place : (test : ℕ → Bool) (xs : List ℕ) (y : ℕ) (ys : List ℕ) → AllByRecursion (λ x. test x ≡ false) xs → test y ≡ true → position_or_len test (xs ++ y ∷ ys) ≡ length xs
+first_place : (test : ℕ → Bool) (xs : List ℕ) (y : ℕ) (ys : List ℕ) → AllByRecursion (λ x. test x ≡ false) xs → test y ≡ true →
+    position_or_len test (xs ++ y ∷ ys) ≡ length xs
 first_place test [] y ys none here = rw here refl
 first_place test (x ∷ xs) y ys none here = rw (none.0) (ap (λ n. 1 + n) (first_place test xs y ys none.1 here) ∙ omega arith)
 
@@ -41,7 +42,8 @@ wide : (n : ℕ) → n ≤ 4294967295 → n < 2 ^ 64
 wide n le = omega arith
 
 no_star : (n : ℕ) → n ≤ 4294967295 → AllByRecursion (λ b. is_star b ≡ false) (decimal n)
-no_star n le = all_weaker IsDigit (λ b. is_star b ≡ false) (λ b is. ne_eqb b 42 (λ e. let low = is.0 in omega arith)) (decimal n) (decimal_digits n (wide n le)).digits
+no_star n le = all_weaker IsDigit (λ b. is_star b ≡ false) (λ b is. ne_eqb b 42 (λ e. let low = is.0 in omega arith)) (decimal n)
+    (decimal_digits n (wide n le)).digits
 
 -- ---- one word
 
@@ -61,7 +63,8 @@ piece_not_comms : (n count : ℕ) → IsAs n → is_comms (piece_word n count) �
 piece_not_comms n count range = step (nat_le count 1) refl
   where
     step : (b : Bool) → nat_le count 1 ≡ b → is_comms (piece_word n count) ≡ false
-    step true e = rw e (ap is_comms (sym (append_nil (decimal n))) ∙ not_comms (decimal n) (decimal_digits n (wide n range.1)).some (decimal_digits n (wide n range.1)).digits [])
+    step true e = rw e (ap is_comms (sym (append_nil (decimal n)))
+        ∙ not_comms (decimal n) (decimal_digits n (wide n range.1)).some (decimal_digits n (wide n range.1)).digits [])
     step false e = rw e (not_comms (decimal n) (decimal_digits n (wide n range.1)).some (decimal_digits n (wide n range.1)).digits (42 ∷ decimal count))
 
 one_back : (n : ℕ) → IsAs n → piece_of (decimal n) ≡ Some (n ∷ [])
@@ -72,7 +75,13 @@ several_back : (n count : ℕ) → IsAs n → IsBetween 2 11 count → piece_of 
 unfolding piece_of
 several_back n count range few =
     let most : count ≤ 4294967295 = let high = few.1 in omega arith in
-    rw (has_star (decimal n) (decimal count), before_star (decimal n) (decimal count) (no_star n range.1), after_star (decimal n) (decimal count) (no_star n range.1), as_number_back n range, between_back 2 11 count most few) refl
+    rw (
+      has_star (decimal n) (decimal count),
+      before_star (decimal n) (decimal count) (no_star n range.1),
+      after_star (decimal n) (decimal count) (no_star n range.1),
+      as_number_back n range,
+      between_back 2 11 count most few,
+    ) refl
 
 one_count : (n count : ℕ) → 1 ≤ count → nat_le count 1 ≡ true → n ∷ [] ≡ replicate count n
 one_count n count some e =
@@ -103,7 +112,8 @@ before_both : (a b : List ℕ) (r : Read) → before a (before b r) ≡ before (
 before_both a b None = refl
 before_both a b (Some (path, rest)) = ap (λ (p : List ℕ). Some (p, rest)) (sym (append_assoc a b path))
 
-word_back : (n count : ℕ) (words : List (List ℕ)) → IsAs n → IsBetween 1 11 count → path_of_words (piece_word n count ∷ words) ≡ before (replicate count n) (path_of_words words)
+word_back : (n count : ℕ) (words : List (List ℕ)) → IsAs n → IsBetween 1 11 count →
+    path_of_words (piece_word n count ∷ words) ≡ before (replicate count n) (path_of_words words)
 unfolding path_of_words
 word_back n count words range few = rw (piece_not_comms n count range, piece_back n count range few) refl
 
@@ -115,7 +125,8 @@ replicate_both (suc a) b n =
     let more : suc (a + b) ≡ suc a + b = omega arith in
     ap (λ (p : List ℕ). n ∷ p) (replicate_both a b n) ∙ ap (λ (k : ℕ). replicate k n) more
 
-full_back : (times n : ℕ) (words : List (List ℕ)) → IsAs n → path_of_words (replicate times (piece_word n 11) ++ words) ≡ before (replicate (times * 11) n) (path_of_words words)
+full_back : (times n : ℕ) (words : List (List ℕ)) → IsAs n →
+    path_of_words (replicate times (piece_word n 11) ++ words) ≡ before (replicate (times * 11) n) (path_of_words words)
 full_back zero n words range = sym (before_none (path_of_words words))
 full_back (suc times) n words range =
     let more : suc times * 11 ≡ 11 + times * 11 = omega arith in
@@ -124,11 +135,13 @@ full_back (suc times) n words range =
     ∙ before_both (replicate 11 n) (replicate (times * 11) n) (path_of_words words)
     ∙ ap (λ (p : List ℕ). before p (path_of_words words)) (replicate_both 11 (times * 11) n ∙ ap (λ (k : ℕ). replicate k n) (sym more))
 
-rest_back : (n count : ℕ) (words : List (List ℕ)) → IsAs n → count ≤ 10 → path_of_words (rest_words n count ++ words) ≡ before (replicate count n) (path_of_words words)
+rest_back : (n count : ℕ) (words : List (List ℕ)) → IsAs n → count ≤ 10 →
+    path_of_words (rest_words n count ++ words) ≡ before (replicate count n) (path_of_words words)
 rest_back n count words range few = step (nat_eq count 0) refl
   where
     step : (b : Bool) → nat_eq count 0 ≡ b → path_of_words (rest_words n count ++ words) ≡ before (replicate count n) (path_of_words words)
-    step true e = (let none : 0 ≡ count = sym (eqb-true count 0 e) in rw e (sym (before_none (path_of_words words)) ∙ ap (λ (k : ℕ). before (replicate k n) (path_of_words words)) none))
+    step true e = (let none : 0 ≡ count = sym (eqb-true count 0 e) in
+        rw e (sym (before_none (path_of_words words)) ∙ ap (λ (k : ℕ). before (replicate k n) (path_of_words words)) none))
     step false e = rw e (word_back n count words range (grind (arith, nat_tests), omega arith))
 
 run_back : (n count : ℕ) (words : List (List ℕ)) → IsAs n → path_of_words (run_words (n, count) ++ words) ≡ before (replicate count n) (path_of_words words)
@@ -178,7 +191,8 @@ numbers_back : (path : List ℕ) → numbers_of (runs_of path) ≡ path
 numbers_back [] = refl
 numbers_back (n ∷ path) = numbers_with n (runs_of path) ∙ ap (λ (p : List ℕ). n ∷ p) (numbers_back path)
 
-runs_back : (runs : List (ℕ × ℕ)) (words : List (List ℕ)) → AreRuns runs → path_of_words (flat_map run_words runs ++ words) ≡ before (numbers_of runs) (path_of_words words)
+runs_back : (runs : List (ℕ × ℕ)) (words : List (List ℕ)) → AreRuns runs →
+    path_of_words (flat_map run_words runs ++ words) ≡ before (numbers_of runs) (path_of_words words)
 runs_back [] words are = sym (before_none (path_of_words words))
 runs_back ((n, count) ∷ runs) words are =
     ap path_of_words (append_assoc (run_words (n, count)) (flat_map run_words runs) words)

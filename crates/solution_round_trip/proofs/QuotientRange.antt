@@ -19,7 +19,8 @@ first_range (n ∷ numbers) (group ∷ groups) g each = step (nat_eq group g && 
     step true more = each.0
     step false more = more
 
-pub quotient_range : (P small : Problem) (groups : List ℕ) → AllByRecursion IsNumber P.numbers → HasRange P → IsProblem small → IsQuotient P groups small → HasRange small
+pub quotient_range : (P small : Problem) (groups : List ℕ) → AllByRecursion IsNumber P.numbers → HasRange P → IsProblem small → IsQuotient P groups small →
+    HasRange small
 quotient_range P small groups each range rules is = record {
   starts = λ g r e. (
       let inside : g < length small.init = label_in small.init g r e in
@@ -28,9 +29,12 @@ quotient_range P small groups each range rules is = record {
       let same : initial small g ≡ initial P member.0 = ap (λ (h : ℕ). initial small h) (sym member.2) ∙ is.origins member.0 member.1 in
       range.starts member.0 r (sym same ∙ e)
       );
-  exporters = λ lower lower_in. subst IsNumber (sym (is.numbers lower.exporter (rules.edges.inside lower lower_in).exporter_in (IsUsed.exports lower lower_in refl))) (first_range P.numbers groups lower.exporter each);
+  exporters = λ lower lower_in. subst IsNumber
+      (sym (is.numbers lower.exporter (rules.edges.inside lower lower_in).exporter_in (IsUsed.exports lower lower_in refl)))
+      (first_range P.numbers groups lower.exporter each);
   imports = λ lower lower_in. (
       let below = is.down lower lower_in in
-      λ comms ascending each i e. range.imports below.0 below.1 comms ascending each i (imports_alike (act_of P below.0) (act_of small lower) below.2.alike comms ascending ∙ e)
+      λ comms ascending each i e. range.imports below.0 below.1 comms ascending each i
+      (imports_alike (act_of P below.0) (act_of small lower) below.2.alike comms ascending ∙ e)
       );
 }

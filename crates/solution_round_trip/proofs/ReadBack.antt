@@ -64,7 +64,8 @@ printed_say protocol (name ∷ names) (label ∷ labels) [] named range same = c
 printed_say protocol (name ∷ names) (label ∷ labels) (l ∷ ls) named range same =
     let here : l.words ≡ name ∷ label_words label = first_of l.words (name ∷ label_words label) (words_of ls) (words_of (label_lines names labels)) same in (
       (ap named_label_of here ∙ words_back protocol name label named.0 range.0, ap are_some here),
-      printed_say protocol names labels ls named.1 range.1 (rest_of l.words (name ∷ label_words label) (words_of ls) (words_of (label_lines names labels)) same),
+      printed_say protocol names labels ls named.1 range.1
+          (rest_of l.words (name ∷ label_words label) (words_of ls) (words_of (label_lines names labels)) same),
     )
 
 all_kept : (ls : List TextLine) (ss : List NamedLabel) → Say ls ss → filter has_words ls ≡ ls
@@ -102,11 +103,13 @@ all_known : (names : List (List ℕ)) → AreKnown names names
 all_known [] = tt
 all_known (name ∷ names) = (rw (own name) refl, known_more name names names (all_known names))
 
-others_first : (name other : List ℕ) (names : List (List ℕ)) (b : Bool) → bytes_eq name other ≡ b → list_any (bytes_eq name) (other ∷ names) ≡ false → bytes_eq name other ≡ false
+others_first : (name other : List ℕ) (names : List (List ℕ)) (b : Bool) → bytes_eq name other ≡ b → list_any (bytes_eq name) (other ∷ names) ≡ false →
+    bytes_eq name other ≡ false
 others_first name other names true e none = cc
 others_first name other names false e none = e
 
-others_rest : (name other : List ℕ) (names : List (List ℕ)) (b : Bool) → bytes_eq name other ≡ b → list_any (bytes_eq name) (other ∷ names) ≡ false → list_any (bytes_eq name) names ≡ false
+others_rest : (name other : List ℕ) (names : List (List ℕ)) (b : Bool) → bytes_eq name other ≡ b → list_any (bytes_eq name) (other ∷ names) ≡ false →
+    list_any (bytes_eq name) names ≡ false
 others_rest name other names true e none = cc
 others_rest name other names false e none = sym (rw e refl) ∙ none
 
@@ -142,19 +145,23 @@ no_fault protocol all earlier (name ∷ names) (label ∷ labels) (l ∷ ls) say
 
 -- ---- each name has its label
 
-said_other : (name : List ℕ) (label : Option Route) (ss : List NamedLabel) (names : List (List ℕ)) → list_any (bytes_eq name) names ≡ false → map (said_of (saying name label ∷ ss)) names ≡ map (said_of ss) names
+said_other : (name : List ℕ) (label : Option Route) (ss : List NamedLabel) (names : List (List ℕ)) → list_any (bytes_eq name) names ≡ false →
+    map (said_of (saying name label ∷ ss)) names ≡ map (said_of ss) names
 said_other name label ss [] none = refl
 said_other name label ss (other ∷ names) none =
     rw (others_first name other names (bytes_eq name other) refl none)
-    (ap (λ (more : List (Option (Option Route))). said_of ss other ∷ more) (said_other name label ss names (others_rest name other names (bytes_eq name other) refl none)))
+    (ap (λ (more : List (Option (Option Route))). said_of ss other ∷ more)
+    (said_other name label ss names (others_rest name other names (bytes_eq name other) refl none)))
 
-given_front : (x : Option (Option Route)) (label : Option Route) (xs : List (Option (Option Route))) (labels : List (Option Route)) → x ≡ Some label → all_given xs ≡ Some labels → all_given (x ∷ xs) ≡ Some (label ∷ labels)
+given_front : (x : Option (Option Route)) (label : Option Route) (xs : List (Option (Option Route))) (labels : List (Option Route)) → x ≡ Some label →
+    all_given xs ≡ Some labels → all_given (x ∷ xs) ≡ Some (label ∷ labels)
 given_front x label xs labels here more = rw (here, more) refl
 
 said_own : (name : List ℕ) (label : Option Route) (ss : List NamedLabel) → said_of (saying name label ∷ ss) name ≡ Some label
 said_own name label ss = rw (own name) refl
 
-all_labels : (names : List (List ℕ)) (labels : List (Option Route)) → length labels ≡ length names → AreApart names → all_given (map (said_of (says_of names labels)) names) ≡ Some labels
+all_labels : (names : List (List ℕ)) (labels : List (Option Route)) → length labels ≡ length names → AreApart names →
+    all_given (map (said_of (says_of names labels)) names) ≡ Some labels
 all_labels [] [] total apart = refl
 all_labels [] (label ∷ labels) total apart = absurd (omega (arith, total))
 all_labels (name ∷ names) [] total apart = absurd (omega (arith, total))
@@ -165,11 +172,13 @@ all_labels (name ∷ names) (label ∷ labels) total apart =
 
 -- ---- the text
 
-labels_as : (says : List NamedLabel) (names : List (List ℕ)) (labels : List (Option Route)) → all_given (map (said_of says) names) ≡ Some labels → labels_by says names ≡ Some labels
+labels_as : (says : List NamedLabel) (names : List (List ℕ)) (labels : List (Option Route)) → all_given (map (said_of says) names) ≡ Some labels →
+    labels_by says names ≡ Some labels
 unfolding labels_by
 labels_as says names labels given = given
 
-text_as : (protocol : Protocol) (names : List (List ℕ)) (labels : List (Option Route)) (bs : List ℕ) → first_fault protocol names [] (solution_lines bs) ≡ None → labels_by (named_labels (solution_lines bs)) names ≡ Some labels
+text_as : (protocol : Protocol) (names : List (List ℕ)) (labels : List (Option Route)) (bs : List ℕ) →
+    first_fault protocol names [] (solution_lines bs) ≡ None → labels_by (named_labels (solution_lines bs)) names ≡ Some labels
     → labels_of_text protocol names bs ≡ Ok labels
 unfolding labels_of_text
 text_as protocol names labels bs none given = rw (none, given) refl
@@ -178,7 +187,8 @@ lines_as : (bs : List ℕ) (ss : List NamedLabel) → Say (map (text_line bs) (a
 unfolding solution_lines
 lines_as bs ss say = all_kept (map (text_line bs) (all_lines_of bs)) ss say
 
-read_text : (protocol : Protocol) (names : List (List ℕ)) (labels : List (Option Route)) → AreNames names → length labels ≡ length names → AllByRecursion (IsLabelInRange protocol) labels
+read_text : (protocol : Protocol) (names : List (List ℕ)) (labels : List (Option Route)) → AreNames names → length labels ≡ length names →
+    AllByRecursion (IsLabelInRange protocol) labels
     → labels_of_text protocol names (lines_text (label_lines names labels)) ≡ Ok labels
 read_text protocol names labels are total range =
     let bs = lines_text (label_lines names labels) in
@@ -188,7 +198,8 @@ read_text protocol names labels are total range =
     let lines = lines_as bs (says_of names labels) say in
     text_as protocol names labels bs
     (ap (first_fault protocol names []) lines ∙ no_fault protocol names [] names labels ls say (all_known names) (all_new names) are.apart range)
-    (labels_as (named_labels (solution_lines bs)) names labels (ap (λ (ks : List TextLine). all_given (map (said_of (named_labels ks)) names)) lines ∙ ap (λ (ss : List NamedLabel). all_given (map (said_of ss) names)) (all_said ls (says_of names labels) say) ∙ all_labels names labels total are.apart))
+    (labels_as (named_labels (solution_lines bs)) names labels (ap (λ (ks : List TextLine). all_given (map (said_of (named_labels ks)) names)) lines
+    ∙ ap (λ (ss : List NamedLabel). all_given (map (said_of ss) names)) (all_said ls (says_of names labels) say) ∙ all_labels names labels total are.apart))
 
 pub printed_is_read_back : PrintedIsReadBack
 unfolding labels_text

@@ -62,24 +62,33 @@ changed (Some Clear) comms is each = tt
 changed (Some (Replace by)) comms is each = is.each
 changed (Some (Append more)) comms is each = with_more more comms is.each each
 
-entry_range : (router : Router) (entry : MapEntry) (comms : List ℕ) (permitted : Permitted) → IsWellFormedMapEntry entry → AreComms comms → permitted_by_entry router comms entry ≡ Some permitted → IsInRange permitted
+entry_range : (router : Router) (entry : MapEntry) (comms : List ℕ) (permitted : Permitted) → IsWellFormedMapEntry entry → AreComms comms →
+    permitted_by_entry router comms entry ≡ Some permitted → IsInRange permitted
 entry_range router entry comms permitted is each = step entry.permit
   where
     made : Permitted
     made = record { lp = entry.lp; comms = comms_set router entry comms; adds = prepend_count entry.prepend }
 
     made_range : IsInRange made
-    made_range = record { lp = is.lp; comms = changed entry.change (without_deleted_by (deletion_list router entry.delete) comms) is.change (without_deleted (deletion_list router entry.delete) comms each) }
+    made_range = record {
+      lp = is.lp;
+      comms =
+          changed entry.change (without_deleted_by (deletion_list router entry.delete) comms) is.change
+          (without_deleted (deletion_list router entry.delete) comms each);
+    }
 
     step : (b : Bool) → cond b (Some made) None ≡ Some permitted → IsInRange permitted
     step true e = subst IsInRange (same_some made permitted e) made_range
     step false e = cc
 
-verdict_range : (router : Router) (p : Prefix) (entries : List MapEntry) (comms : List ℕ) (permitted : Permitted) → AllByRecursion IsWellFormedMapEntry entries → AreComms comms → verdict_of router p entries comms ≡ Some permitted → IsInRange permitted
+verdict_range : (router : Router) (p : Prefix) (entries : List MapEntry) (comms : List ℕ) (permitted : Permitted) →
+    AllByRecursion IsWellFormedMapEntry entries → AreComms comms → verdict_of router p entries comms ≡ Some permitted → IsInRange permitted
 verdict_range router p [] comms permitted are each e = cc
-verdict_range router p (entry ∷ entries) comms permitted are each e = step (map_entry_holds router p comms entry) (verdict_range router p entries comms permitted are.1 each) e
+verdict_range router p (entry ∷ entries) comms permitted are each e =
+    step (map_entry_holds router p comms entry) (verdict_range router p entries comms permitted are.1 each) e
   where
-    step : (b : Bool) → (verdict_of router p entries comms ≡ Some permitted → IsInRange permitted) → cond b (permitted_by_entry router comms entry) (verdict_of router p entries comms) ≡ Some permitted → IsInRange permitted
+    step : (b : Bool) → (verdict_of router p entries comms ≡ Some permitted → IsInRange permitted) →
+        cond b (permitted_by_entry router comms entry) (verdict_of router p entries comms) ≡ Some permitted → IsInRange permitted
     step true more e = entry_range router entry comms permitted are.0 each e
     step false more e = more e
 
@@ -88,12 +97,15 @@ named_map : (router : Router) (p : Prefix) (comms : List ℕ) (permitted : Permi
 named_map router p comms permitted None is each e = cc
 named_map router p comms permitted (Some map) is each e = verdict_range router p map.entries comms permitted is.entries each e
 
-map_range : (router : Router) (p : Prefix) (name : Option (List ℕ)) (comms : List ℕ) (permitted : Permitted) → IsWellFormedRouter router → AreComms comms → passed_by_map router p name comms ≡ Some permitted → IsInRange permitted
+map_range : (router : Router) (p : Prefix) (name : Option (List ℕ)) (comms : List ℕ) (permitted : Permitted) → IsWellFormedRouter router → AreComms comms →
+    passed_by_map router p name comms ≡ Some permitted → IsInRange permitted
 map_range router p None comms permitted is each e = subst IsInRange (same_some (permitted_as_is comms) permitted e) (record { lp = tt; comms = each })
 map_range router p (Some name) comms permitted is each e =
-    named_map router p comms permitted (route_map_named router name) (found_holds IsWellFormedRouteMap (λ (m : RouteMap). bytes_eq m.name name) router.route_maps is.route_maps) each e
+    named_map router p comms permitted (route_map_named router name)
+    (found_holds IsWellFormedRouteMap (λ (m : RouteMap). bytes_eq m.name name) router.route_maps is.route_maps) each e
 
-passed_range : (router : Router) (p : Prefix) (list map : Option (List ℕ)) (comms : List ℕ) (permitted : Permitted) → IsWellFormedRouter router → AreComms comms → passed_by router p list map comms ≡ Some permitted → IsInRange permitted
+passed_range : (router : Router) (p : Prefix) (list map : Option (List ℕ)) (comms : List ℕ) (permitted : Permitted) → IsWellFormedRouter router →
+    AreComms comms → passed_by router p list map comms ≡ Some permitted → IsInRange permitted
 passed_range router p list map comms permitted is each e = step (passes_list router p list) e
   where
     step : (b : Bool) → cond b (passed_by_map router p map comms) None ≡ Some permitted → IsInRange permitted
@@ -104,7 +116,8 @@ base_number : (base : Option Base) → IfSome base IsWellFormedBase → IsNumber
 base_number None is = omega arith
 base_number (Some base) is = is
 
-default_number : (bgp : Option BgpProcess) → IfSome bgp IsWellFormedBgp → IsNumber (option_map_or (λ (process : BgpProcess). option_map_or (λ (b : Base). b.value) process.base 100) bgp 100)
+default_number : (bgp : Option BgpProcess) → IfSome bgp IsWellFormedBgp →
+    IsNumber (option_map_or (λ (process : BgpProcess). option_map_or (λ (b : Base). b.value) process.base 100) bgp 100)
 default_number None is = omega arith
 default_number (Some process) is = base_number process.base is.base
 
@@ -120,26 +133,31 @@ set_number (Some lp) default is number = is
 abbrev pub IsReceived : Received → Type 0
 IsReceived received = IsNumber received.lp × AreComms received.comms
 
-given_range : (importer : Router) (adds : ℕ) (taken : Option Permitted) (received : Received) → IsWellFormedRouter importer → ((permitted : Permitted) → taken ≡ Some permitted → IsInRange permitted)
+given_range : (importer : Router) (adds : ℕ) (taken : Option Permitted) (received : Received) → IsWellFormedRouter importer →
+    ((permitted : Permitted) → taken ≡ Some permitted → IsInRange permitted)
     → option_map (received_as importer adds) taken ≡ Some received → IsReceived received
 given_range importer adds None received is range e = cc
 given_range importer adds (Some permitted) received is range e =
     let in_range = range permitted refl in
-    subst IsReceived (same_some (received_as importer adds permitted) received e) (set_number permitted.lp (default_preference importer) in_range.lp (preference_number importer is), in_range.comms)
+    subst IsReceived (same_some (received_as importer adds permitted) received e)
+    (set_number permitted.lp (default_preference importer) in_range.lp (preference_number importer is), in_range.comms)
 
 sent_comms : (sends : Bool) (comms : List ℕ) → AreComms comms → AreComms (cond sends comms [])
 sent_comms true comms each = each
 sent_comms false comms each = tt
 
-sent_range : (p : Prefix) (out into : Neighbor) (importer : Router) (sent : Option Permitted) (received : Received) → IsWellFormedRouter importer → ((permitted : Permitted) → sent ≡ Some permitted → IsInRange permitted)
+sent_range : (p : Prefix) (out into : Neighbor) (importer : Router) (sent : Option Permitted) (received : Received) → IsWellFormedRouter importer →
+    ((permitted : Permitted) → sent ≡ Some permitted → IsInRange permitted)
     → option_and_then (received_by importer into p out.sends) sent ≡ Some received → IsReceived received
 sent_range p out into importer None received is range e = cc
 sent_range p out into importer (Some sent) received is range e =
     let comms = cond out.sends sent.comms [] in
     given_range importer sent.adds (passed_by importer p (name_of into.list_in) (name_of into.map_in) comms) received is
-    (λ permitted taken. passed_range importer p (name_of into.list_in) (name_of into.map_in) comms permitted is (sent_comms out.sends sent.comms (range sent refl).comms) taken) e
+    (λ permitted taken. passed_range importer p (name_of into.list_in) (name_of into.map_in) comms permitted is
+    (sent_comms out.sends sent.comms (range sent refl).comms) taken) e
 
-pub session_range : (p : Prefix) (exporter importer : Router) (out into : Neighbor) (comms : List ℕ) (received : Received) → IsWellFormedRouter exporter → IsWellFormedRouter importer → AreComms comms
+pub session_range : (p : Prefix) (exporter importer : Router) (out into : Neighbor) (comms : List ℕ) (received : Received) → IsWellFormedRouter exporter →
+    IsWellFormedRouter importer → AreComms comms
     → import_of_session p exporter out importer into comms ≡ Some received → IsReceived received
 session_range p exporter importer out into comms received is other each e =
     sent_range p out into importer (passed_by exporter p (name_of out.list_out) (name_of out.map_out) comms) received other

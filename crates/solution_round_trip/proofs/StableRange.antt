@@ -41,7 +41,8 @@ prepended_range zero n path range each = each
 prepended_range (suc times) n path range each = (range, prepended_range times n path range each)
 
 -- a route that arrives
-arrived_range : (n : ℕ) (lp : ℕ) (path comms : List ℕ) (o : Option Imported) (r : Route) → IsAs n → IsRouteOf OverBgp r → ((i : Imported) → o ≡ Some i → IsNumber i.lp × AreComms i.comms) → IsBgpInRange lp path comms
+arrived_range : (n : ℕ) (lp : ℕ) (path comms : List ℕ) (o : Option Imported) (r : Route) → IsAs n → IsRouteOf OverBgp r →
+    ((i : Imported) → o ≡ Some i → IsNumber i.lp × AreComms i.comms) → IsBgpInRange lp path comms
     → option_map (arrived n path) o ≡ Some r → IsInRange r
 arrived_range n lp path comms None r range fits imports from e = cc
 arrived_range n lp path comms (Some i) r range fits imports from e =
@@ -60,7 +61,8 @@ summed_range sum false r test e =
     let few : sum ≤ 4294967295 = grind (arith, nat_tests) in
     subst IsInRange (same_some (Ospf sum) r e) few
 
-step_range : (protocol : Protocol) (act : Act) (n : ℕ) (from r : Route) → (protocol ≡ OverBgp → IsAs n) → IsRouteOf protocol from → IsRouteOf protocol r → ImportsInRange act → IsInRange from → step_by act n from ≡ Some r → IsInRange r
+step_range : (protocol : Protocol) (act : Act) (n : ℕ) (from r : Route) → (protocol ≡ OverBgp → IsAs n) → IsRouteOf protocol from → IsRouteOf protocol r →
+    ImportsInRange act → IsInRange from → step_by act n from ≡ Some r → IsInRange r
 unfolding step_by
 step_range OverBgp (Import out sends into) n (Bgp lp path comms) r range was fits imports from e =
     arrived_range n lp path comms (import_by (Import out sends into) comms) r (range refl) fits (λ i given. imports comms was from.communities i given) from e
@@ -80,7 +82,8 @@ module _ (P : Problem) (rules : IsProblem P) (range : HasRange P) (L : List (Opt
       positive (suc n) some le = (omega arith, le)
 
   -- each label is made of one of less size
-  by_candidate : (bound u : ℕ) (r : Route) → size_of r < suc bound → label L u ≡ Some r → IsCandidate P L u r → ((v : ℕ) (s : Route) → size_of s < bound → label L v ≡ Some s → IsInRange s) → IsInRange r
+  by_candidate : (bound u : ℕ) (r : Route) → size_of r < suc bound → label L u ≡ Some r → IsCandidate P L u r →
+      ((v : ℕ) (s : Route) → size_of s < bound → label L v ≡ Some s → IsInRange s) → IsInRange r
   by_candidate bound u r small labelled (IsCandidate.of_init e) less = range.starts u r e
   by_candidate bound u r small labelled (IsCandidate.of_edge edge edge_in importer over) less =
       let more = grows P rules edge over.from r edge_in over.stepped in
@@ -96,7 +99,8 @@ module _ (P : Problem) (rules : IsProblem P) (range : HasRange P) (L : List (Opt
   one_range u None labelled = tt
   one_range u (Some r) labelled = (stable.fitting.routes u r labelled, by_size (suc (size_of r)) u r (omega arith) labelled)
 
-each_label : (protocol : Protocol) (labels : List (Option Route)) → ((u : ℕ) → IsLabelInRange protocol (label labels u)) → AllByRecursion (IsLabelInRange protocol) labels
+each_label : (protocol : Protocol) (labels : List (Option Route)) → ((u : ℕ) → IsLabelInRange protocol (label labels u)) →
+    AllByRecursion (IsLabelInRange protocol) labels
 each_label protocol [] each = tt
 each_label protocol (o ∷ labels) each = (each 0, each_label protocol labels (λ u. each (suc u)))
 

@@ -42,15 +42,18 @@ pub record AreNames (names : List (List ℕ)) : Type 0 where
 
 -- The text of labels of the protocol in range, one for each name, gives these labels.
 abbrev pub PrintedIsReadBack : Type 0
-PrintedIsReadBack = (protocol : Protocol) (names : List (List ℕ)) (labels : List (Option Route)) → AreNames names → length labels ≡ length names → AllByRecursion (IsLabelInRange protocol) labels
+PrintedIsReadBack = (protocol : Protocol) (names : List (List ℕ)) (labels : List (Option Route)) → AreNames names → length labels ≡ length names →
+    AllByRecursion (IsLabelInRange protocol) labels
     → labels_of_text protocol names (labels_text names labels) ≡ Ok labels
 
 -- The labels of every stable solution of the problem of a network that a text gives are in range.
 abbrev pub StableIsInRange : Type 0
-StableIsInRange = (network : Network) → ∥ IsGiven network ∥₁ → (prefix : Prefix) (problem : Problem) (labels : List (Option Route)) → IsProblemOf network prefix problem → IsStable problem labels
+StableIsInRange = (network : Network) → ∥ IsGiven network ∥₁ → (prefix : Prefix) (problem : Problem) (labels : List (Option Route)) →
+    IsProblemOf network prefix problem → IsStable problem labels
     → AllByRecursion (IsLabelInRange problem.protocol) labels
 
 -- So are those of every stable solution of the problem of its groups.
 abbrev pub StableOfGroupsIsInRange : Type 0
-StableOfGroupsIsInRange = (network : Network) → ∥ IsGiven network ∥₁ → (prefix : Prefix) (problem small : Problem) (groups : List ℕ) (labels : List (Option Route)) → IsProblemOf network prefix problem
+StableOfGroupsIsInRange = (network : Network) → ∥ IsGiven network ∥₁ →
+    (prefix : Prefix) (problem small : Problem) (groups : List ℕ) (labels : List (Option Route)) → IsProblemOf network prefix problem
     → IsProblem small → IsQuotient problem groups small → IsStable small labels → AllByRecursion (IsLabelInRange small.protocol) labels

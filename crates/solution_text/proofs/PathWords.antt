@@ -19,11 +19,13 @@ pub path_ended : (path word : List ℕ) (words : List (List ℕ)) → is_comms w
 unfolding path_of_words
 path_ended path word words e = rw e (ap (λ (xs : List ℕ). Some (xs, words)) (append-nil path))
 
-pub path_longer : (path piece word : List ℕ) (words : List (List ℕ)) → is_comms word ≡ false → piece_of word ≡ Some piece → behind_path path (path_of_words (word ∷ words)) ≡ behind_path (path ++ piece) (path_of_words words)
+pub path_longer : (path piece word : List ℕ) (words : List (List ℕ)) → is_comms word ≡ false → piece_of word ≡ Some piece →
+    behind_path path (path_of_words (word ∷ words)) ≡ behind_path (path ++ piece) (path_of_words words)
 unfolding path_of_words
 path_longer path piece word words e p = rw (e, p) (behind_both path piece (path_of_words words))
 
-pub path_broken : (path word : List ℕ) (words : List (List ℕ)) → is_comms word ≡ false → piece_of word ≡ None → behind_path path (path_of_words (word ∷ words)) ≡ None
+pub path_broken : (path word : List ℕ) (words : List (List ℕ)) → is_comms word ≡ false → piece_of word ≡ None →
+    behind_path path (path_of_words (word ∷ words)) ≡ None
 unfolding path_of_words
 path_broken path word words e p = rw (e, p) refl
 
@@ -40,11 +42,13 @@ set_both : (set : List ℕ) (c : ℕ) (found : Option (List ℕ)) → behind_set
 set_both set c None = refl
 set_both set c (Some rest) = ap Some (sym (append_assoc set (c ∷ []) rest))
 
-pub set_longer : (set word : List ℕ) (words : List (List ℕ)) (bound c : ℕ) → community_above bound word ≡ Some c → behind_set set (communities_above bound (word ∷ words)) ≡ behind_set (set ++ c ∷ []) (communities_above c words)
+pub set_longer : (set word : List ℕ) (words : List (List ℕ)) (bound c : ℕ) → community_above bound word ≡ Some c →
+    behind_set set (communities_above bound (word ∷ words)) ≡ behind_set (set ++ c ∷ []) (communities_above c words)
 unfolding communities_above
 set_longer set word words bound c e = rw e (set_both set c (communities_above c words))
 
-pub set_broken : (set word : List ℕ) (words : List (List ℕ)) (bound : ℕ) → community_above bound word ≡ None → behind_set set (communities_above bound (word ∷ words)) ≡ None
+pub set_broken : (set word : List ℕ) (words : List (List ℕ)) (bound : ℕ) → community_above bound word ≡ None →
+    behind_set set (communities_above bound (word ∷ words)) ≡ None
 unfolding communities_above
 set_broken set word words bound e = rw e refl
 

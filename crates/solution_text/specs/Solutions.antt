@@ -62,7 +62,8 @@ first_at_line line (Some kind) later = Some (At line kind)
 unfoldable pub first_fault : Protocol → List (List ℕ) → List (List ℕ) → List TextLine → Option SolRefusal
 first_fault protocol names earlier [] = None
 first_fault protocol names earlier (l ∷ ls) =
-    first_at_line l.number (kind_of protocol names earlier (named_label_of l.words)) (first_fault protocol names (named_too (named_label_of l.words) earlier) ls)
+    first_at_line l.number (kind_of protocol names earlier (named_label_of l.words))
+    (first_fault protocol names (named_too (named_label_of l.words) earlier) ls)
 
 -- ---- labels
 

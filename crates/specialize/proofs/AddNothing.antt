@@ -32,22 +32,27 @@ second_false true b is none = absurd (cc)
 second_false false b is none = refl
 
 -- a map under a name that no prepending map has does not prepend
-clear_map : (router : Router) (name : List ℕ) (m : RouteMap) → has_prepending_map router name ≡ false → Contains router.route_maps m → bytes_eq m.name name ≡ true → prepends_in_map m ≡ false
+clear_map : (router : Router) (name : List ℕ) (m : RouteMap) → has_prepending_map router name ≡ false → Contains router.route_maps m →
+    bytes_eq m.name name ≡ true → prepends_in_map m ≡ false
 clear_map router name m none contained named =
     let test = λ (other : RouteMap). prepends_in_map other && bytes_eq name other.name in
-    second_false (prepends_in_map m) (bytes_eq name m.name) (nat_list_eq_equiv.symm name m.name ∙ named) (contained_holds (λ (other : RouteMap). test other ≡ false) router.route_maps m (none_pass test router.route_maps none) contained)
+    second_false (prepends_in_map m) (bytes_eq name m.name) (nat_list_eq_equiv.symm name m.name ∙ named)
+    (contained_holds (λ (other : RouteMap). test other ≡ false) router.route_maps m (none_pass test router.route_maps none) contained)
 
-named_adds_nothing : (router : Router) (own : Option ℕ) (named : Option Named) → line_naming (has_prepending_map router) named ≡ [] → HoldsOfEntries IsUnadded router own (name_of named)
+named_adds_nothing : (router : Router) (own : Option ℕ) (named : Option Named) → line_naming (has_prepending_map router) named ≡ [] →
+    HoldsOfEntries IsUnadded router own (name_of named)
 named_adds_nothing router own None none m given entry in_map = absurd given.named
 named_adds_nothing router own (Some named) none m given entry in_map =
     let clear = clear_map router named.name m (unless_given (has_prepending_map router named.name) named.line none) given.contained given.named in
     let test = λ (other : MapEntry). is_some other.prepend in
     no_count entry.prepend (contained_holds (λ (other : MapEntry). test other ≡ false) m.entries entry (none_pass test m.entries clear) in_map)
 
-pub in_maps_add_nothing : (network : Network) (router : Router) (line : Neighbor) → prepend_in_lines network ≡ [] → Contains network.routers router → Contains (neighbors_of router) line → (p : Prefix) → AddsNothing (in_map p router line)
+pub in_maps_add_nothing : (network : Network) (router : Router) (line : Neighbor) → prepend_in_lines network ≡ [] → Contains network.routers router →
+    Contains (neighbors_of router) line → (p : Prefix) → AddsNothing (in_map p router line)
 unfolding prepend_in_lines
 in_maps_add_nothing network router line none in_network in_router p =
     let in_router_none = contained_empty prepending_maps_in_of network.routers router none in_network in
     let in_line_none = contained_empty (map_in_naming (has_prepending_map router)) (neighbors_of router) line in_router_none in_router in
     All-from_recursion IsUnadded (in_map p router line).entries
-    (plain_holds IsUnadded router (name_of line.map_in) (name_of line.list_in) p true refl (named_adds_nothing router (own_preference router true) line.map_in in_line_none))
+    (plain_holds IsUnadded router (name_of line.map_in) (name_of line.list_in) p true refl
+    (named_adds_nothing router (own_preference router true) line.map_in in_line_none))

@@ -17,7 +17,8 @@ found_holds P test (item ∷ items) all = step (test item) (found_holds P test i
 pub found_passes : {X : Type 0} (test : X → Bool) (items : List X) → IfSome (find test items) (λ item. test item ≡ true)
 found_passes test [] = tt
 found_passes {X} test (item ∷ items) = step (test item) refl (found_passes test items) where
-  step : (b : Bool) → test item ≡ b → IfSome (find test items) (λ (x : X). test x ≡ true) → IfSome (cond b (Some item) (find test items)) (λ (x : X). test x ≡ true)
+  step : (b : Bool) → test item ≡ b → IfSome (find test items) (λ (x : X). test x ≡ true) →
+      IfSome (cond b (Some item) (find test items)) (λ (x : X). test x ≡ true)
   step true is rest = is
   step false is rest = rest
 

@@ -34,32 +34,43 @@ printable_list : (list : CommunityList) → IsWellFormedCommunityList list → I
 printable_list list form = record { some = form.some; lines = form.lines }
 
 -- a name that the router does not lack is found
-found_named : (name : List ℕ) (lists : List CommunityList) → not (list_any (λ (list : CommunityList). bytes_eq name list.name) lists) ≡ false → is_some (find (λ (list : CommunityList). bytes_eq list.name name) lists) ≡ true
+found_named : (name : List ℕ) (lists : List CommunityList) → not (list_any (λ (list : CommunityList). bytes_eq name list.name) lists) ≡ false →
+    is_some (find (λ (list : CommunityList). bytes_eq list.name name) lists) ≡ true
 found_named name [] defined = absurd (cc)
 found_named name (list ∷ lists) defined =
     let later = found_named name lists in
-    subst (λ (b : Bool). is_some (cond b (Some list) (find (λ (l : CommunityList). bytes_eq l.name name) lists)) ≡ true) (nat_list_eq_equiv.symm name list.name) (step later (bytes_eq name list.name) defined) where
-      step : (not (list_any (λ (l : CommunityList). bytes_eq name l.name) lists) ≡ false → is_some (find (λ (l : CommunityList). bytes_eq l.name name) lists) ≡ true) → (b : Bool)
-          → not (b || list_any (λ (l : CommunityList). bytes_eq name l.name) lists) ≡ false → is_some (cond b (Some list) (find (λ (l : CommunityList). bytes_eq l.name name) lists)) ≡ true
+    subst (λ (b : Bool). is_some (cond b (Some list) (find (λ (l : CommunityList). bytes_eq l.name name) lists)) ≡ true) (nat_list_eq_equiv.symm name list.name)
+    (step later (bytes_eq name list.name) defined) where
+      step : (not (list_any (λ (l : CommunityList). bytes_eq name l.name) lists) ≡ false →
+          is_some (find (λ (l : CommunityList). bytes_eq l.name name) lists) ≡ true) → (b : Bool)
+          → not (b || list_any (λ (l : CommunityList). bytes_eq name l.name) lists) ≡ false →
+          is_some (cond b (Some list) (find (λ (l : CommunityList). bytes_eq l.name name) lists)) ≡ true
       step later true here = refl
       step later false there = later there
 
-all_found : (router : Router) (names : List (List ℕ)) → AllByRecursion (λ name. lacks_community_list router name ≡ false) names → length (filter_map (community_list_named router) names) ≡ length names
+all_found : (router : Router) (names : List (List ℕ)) → AllByRecursion (λ name. lacks_community_list router name ≡ false) names →
+    length (filter_map (community_list_named router) names) ≡ length names
 all_found router [] defined = refl
-all_found router (name ∷ names) defined = step (community_list_named router name) (found_named name router.community_lists defined.0) (all_found router names defined.1) where
-  step : (o : Option CommunityList) → is_some o ≡ true → length (filter_map (community_list_named router) names) ≡ length names → length (cons_option o (filter_map (community_list_named router) names)) ≡ length (name ∷ names)
-  step None found rest = absurd (cc)
-  step (Some list) found rest = omega arith
+all_found router (name ∷ names) defined =
+    step (community_list_named router name) (found_named name router.community_lists defined.0) (all_found router names defined.1) where
+      step : (o : Option CommunityList) → is_some o ≡ true → length (filter_map (community_list_named router) names) ≡ length names →
+          length (cons_option o (filter_map (community_list_named router) names)) ≡ length (name ∷ names)
+      step None found rest = absurd (cc)
+      step (Some list) found rest = omega arith
 
-all_printable : (router : Router) (names : List (List ℕ)) → IsWellFormedRouter router → AllByRecursion IsPrintableList (filter_map (community_list_named router) names)
+all_printable : (router : Router) (names : List (List ℕ)) → IsWellFormedRouter router →
+    AllByRecursion IsPrintableList (filter_map (community_list_named router) names)
 all_printable router [] form = tt
 all_printable router (name ∷ names) form =
-    step (community_list_named router name) (found_holds IsWellFormedCommunityList (λ (list : CommunityList). bytes_eq list.name name) router.community_lists form.community_lists) (all_printable router names form) where
-      step : (o : Option CommunityList) → IfSome o IsWellFormedCommunityList → AllByRecursion IsPrintableList (filter_map (community_list_named router) names) → AllByRecursion IsPrintableList (cons_option o (filter_map (community_list_named router) names))
+    step (community_list_named router name) (found_holds IsWellFormedCommunityList (λ (list : CommunityList). bytes_eq list.name name) router.community_lists
+    form.community_lists) (all_printable router names form) where
+      step : (o : Option CommunityList) → IfSome o IsWellFormedCommunityList → AllByRecursion IsPrintableList (filter_map (community_list_named router) names) →
+          AllByRecursion IsPrintableList (cons_option o (filter_map (community_list_named router) names))
       step None found rest = rest
       step (Some list) found rest = (printable_list list found, rest)
 
-printable_lists : (router : Router) (comms : Option NameLine) → IsWellFormedRouter router → match_line_naming (lacks_community_list router) comms ≡ [] → IfSome comms IsWellFormedNameLine → IfSome (lists_named router comms) ArePrintableLists
+printable_lists : (router : Router) (comms : Option NameLine) → IsWellFormedRouter router → match_line_naming (lacks_community_list router) comms ≡ [] →
+    IfSome comms IsWellFormedNameLine → IfSome (lists_named router comms) ArePrintableLists
 printable_lists router None form defined named = tt
 printable_lists router (Some line) form defined named =
     let each = none_pass (lacks_community_list router) line.names (unless_given (list_any (lacks_community_list router) line.names) line.line defined) in
@@ -76,30 +87,36 @@ one_of line form single =
     let some : 1 ≤ length line.comms = form.count.0 in
     grind (arith, nat_tests)
 
-all_alone : (lines : List CommunityLine) → AllByRecursion IsWellFormedCommunityLine lines → AllByRecursion (λ line. several_at line ≡ []) lines → AllByRecursion NamesOne lines
+all_alone : (lines : List CommunityLine) → AllByRecursion IsWellFormedCommunityLine lines → AllByRecursion (λ line. several_at line ≡ []) lines →
+    AllByRecursion NamesOne lines
 all_alone [] forms single = tt
 all_alone (line ∷ lines) forms single = (one_of line forms.0 single.0, all_alone lines forms.1 single.1)
 
 -- a list that the router has, and that an entry names, is a deletion list of the router
-deleted_by : (router : Router) (m : RouteMap) (entry : MapEntry) (named : Named) (list : CommunityList) → Contains router.route_maps m → Contains m.entries entry → entry.delete ≡ Some named → bytes_eq list.name named.name ≡ true → is_deleted router list.name ≡ true
+deleted_by : (router : Router) (m : RouteMap) (entry : MapEntry) (named : Named) (list : CommunityList) → Contains router.route_maps m →
+    Contains m.entries entry → entry.delete ≡ Some named → bytes_eq list.name named.name ≡ true → is_deleted router list.name ≡ true
 deleted_by router m entry named list in_router in_map is same =
     any_contained (is_deleted_in list.name) router.route_maps m in_router
     (any_contained (λ (e : MapEntry). is_name list.name e.delete) m.entries entry in_map (ap (is_name list.name) is ∙ same))
 
-printable_deletion : (router : Router) (m : RouteMap) (entry : MapEntry) → HasPrintableMaps router → Contains router.route_maps m → Contains m.entries entry → IfSome (deletion_list router entry.delete) IsPrintableDeletion
+printable_deletion : (router : Router) (m : RouteMap) (entry : MapEntry) → HasPrintableMaps router → Contains router.route_maps m → Contains m.entries entry →
+    IfSome (deletion_list router entry.delete) IsPrintableDeletion
 printable_deletion router m entry has in_router in_map = by_name entry.delete refl where
-  of_list : (named : Named) (list : CommunityList) → entry.delete ≡ Some named → IsWellFormedCommunityList list → Contains router.community_lists list → bytes_eq list.name named.name ≡ true → IsPrintableDeletion list
+  of_list : (named : Named) (list : CommunityList) → entry.delete ≡ Some named → IsWellFormedCommunityList list → Contains router.community_lists list →
+      bytes_eq list.name named.name ≡ true → IsPrintableDeletion list
   of_list named list is form contained same =
       let none : several_in (is_deleted router) list ≡ [] = contained_empty (several_in (is_deleted router)) router.community_lists list has.single contained in
       let deleted = deleted_by router m entry named list in_router in_map is same in
       let single : flat_map several_at list.lines ≡ [] = subst (λ (b : Bool). cond b (flat_map several_at list.lines) [] ≡ []) deleted none in
       record { printable = printable_list list form; alone = all_alone list.lines form.lines (each_empty several_at list.lines single) }
 
-  found : (named : Named) (o : Option CommunityList) → entry.delete ≡ Some named → IfSome o IsWellFormedCommunityList → IfSome o (Contains router.community_lists) → IfSome o (λ (list : CommunityList). bytes_eq list.name named.name ≡ true) → IfSome o IsPrintableDeletion
+  found : (named : Named) (o : Option CommunityList) → entry.delete ≡ Some named → IfSome o IsWellFormedCommunityList →
+      IfSome o (Contains router.community_lists) → IfSome o (λ (list : CommunityList). bytes_eq list.name named.name ≡ true) → IfSome o IsPrintableDeletion
   found named None is form contained same = tt
   found named (Some list) is form contained same = of_list named list is form contained same
 
-  by_name : (delete : Option Named) → entry.delete ≡ delete → IfSome (option_and_then (λ (named : Named). community_list_named router named.name) delete) IsPrintableDeletion
+  by_name : (delete : Option Named) → entry.delete ≡ delete →
+      IfSome (option_and_then (λ (named : Named). community_list_named router named.name) delete) IsPrintableDeletion
   by_name None is = tt
   by_name (Some named) is =
       let test = λ (list : CommunityList). bytes_eq list.name named.name in
@@ -117,7 +134,8 @@ fits_default router form = by_process router.bgp form.bgp where
   by_base None fits = omega arith
   by_base (Some base) fits = fits
 
-  by_process : (bgp : Option BgpProcess) → IfSome bgp IsWellFormedBgp → IsNumber (option_map_or (λ (b : BgpProcess). option_map_or (λ (base : Base). base.value) b.base 100) bgp 100)
+  by_process : (bgp : Option BgpProcess) → IfSome bgp IsWellFormedBgp →
+      IsNumber (option_map_or (λ (b : BgpProcess). option_map_or (λ (base : Base). base.value) b.base 100) bgp 100)
   by_process None fits = omega arith
   by_process (Some b) fits = by_base b.base fits.base
 
@@ -140,16 +158,20 @@ few_added None form = omega arith
 few_added (Some line) form = let few : length line.numbers ≤ 10 = form.count.1 in omega arith
 
 -- the names of the community lists that an entry matches are defined
-comms_defined : (router : Router) (m : RouteMap) (entry : MapEntry) → HasPrintableMaps router → Contains router.route_maps m → Contains m.entries entry → match_line_naming (lacks_community_list router) entry.comms ≡ []
+comms_defined : (router : Router) (m : RouteMap) (entry : MapEntry) → HasPrintableMaps router → Contains router.route_maps m → Contains m.entries entry →
+    match_line_naming (lacks_community_list router) entry.comms ≡ []
 comms_defined router m entry has in_router in_map =
     let prefixes = lacks_prefix_list router in
     let comms = lacks_community_list router in
-    let in_maps = second_empty (flat_map (list_lines_naming prefixes) (neighbors_of router)) (flat_map (lines_in_map_naming prefixes comms) router.route_maps) has.defined in
+    let in_maps = second_empty (flat_map (list_lines_naming prefixes) (neighbors_of router)) (flat_map (lines_in_map_naming prefixes comms) router.route_maps)
+    has.defined in
     let in_entries = contained_empty (lines_in_map_naming prefixes comms) router.route_maps m in_maps in_router in
     let in_entry = contained_empty (entry_lines_naming prefixes comms) m.entries entry in_entries in_map in
-    second_empty (match_line_naming prefixes entry.prefixes) (match_line_naming comms entry.comms) (first_empty (match_line_naming prefixes entry.prefixes ++ match_line_naming comms entry.comms) (line_naming comms entry.delete) in_entry)
+    second_empty (match_line_naming prefixes entry.prefixes) (match_line_naming comms entry.comms)
+    (first_empty (match_line_naming prefixes entry.prefixes ++ match_line_naming comms entry.comms) (line_naming comms entry.delete) in_entry)
 
-printable_entry : (router : Router) (own : Option ℕ) (m : RouteMap) (entry : MapEntry) → IfSome own IsNumber → HasPrintableMaps router → Contains router.route_maps m → Contains m.entries entry → IsWellFormedMapEntry entry → IsPrintableEntry (plain_entry router own entry)
+printable_entry : (router : Router) (own : Option ℕ) (m : RouteMap) (entry : MapEntry) → IfSome own IsNumber → HasPrintableMaps router →
+    Contains router.route_maps m → Contains m.entries entry → IsWellFormedMapEntry entry → IsPrintableEntry (plain_entry router own entry)
 printable_entry router own m entry own_fits has in_router in_map form = record {
   seq = form.seq;
   lists = printable_lists router entry.comms has.well_formed (comms_defined router m entry has in_router in_map) form.comms;
@@ -161,30 +183,40 @@ printable_entry router own m entry own_fits has in_router in_map form = record {
 
 -- ---- a map
 
-above_kept : (router : Router) (own : Option ℕ) (p : Prefix) (n : ℕ) (entries : List MapEntry) → AllAbove n (map_seqs entries) → AllAbove n (plain_seqs (plain_entries router own p entries))
+above_kept : (router : Router) (own : Option ℕ) (p : Prefix) (n : ℕ) (entries : List MapEntry) → AllAbove n (map_seqs entries) →
+    AllAbove n (plain_seqs (plain_entries router own p entries))
 above_kept router own p n [] above = tt
 above_kept router own p n (entry ∷ entries) above = step (prefixes_match router p entry.prefixes) (above_kept router own p n entries above.1) where
   step : (b : Bool) → AllAbove n (plain_seqs (plain_entries router own p entries))
-      → AllAbove n (plain_seqs (map (plain_entry router own) (cond b (entry ∷ filter (λ (e : MapEntry). prefixes_match router p e.prefixes) entries) (filter (λ (e : MapEntry). prefixes_match router p e.prefixes) entries))))
+      → AllAbove n (plain_seqs (map (plain_entry router own)
+      (cond b (entry ∷ filter (λ (e : MapEntry). prefixes_match router p e.prefixes) entries)
+      (filter (λ (e : MapEntry). prefixes_match router p e.prefixes) entries))))
   step true rest = (above.0, rest)
   step false rest = rest
 
-ascending_kept : (router : Router) (own : Option ℕ) (p : Prefix) (entries : List MapEntry) → IsAscending (map_seqs entries) → IsAscending (plain_seqs (plain_entries router own p entries))
+ascending_kept : (router : Router) (own : Option ℕ) (p : Prefix) (entries : List MapEntry) → IsAscending (map_seqs entries) →
+    IsAscending (plain_seqs (plain_entries router own p entries))
 ascending_kept router own p [] up = tt
 ascending_kept router own p (entry ∷ entries) up = step (prefixes_match router p entry.prefixes) (ascending_kept router own p entries up.1) where
   step : (b : Bool) → IsAscending (plain_seqs (plain_entries router own p entries))
-      → IsAscending (plain_seqs (map (plain_entry router own) (cond b (entry ∷ filter (λ (e : MapEntry). prefixes_match router p e.prefixes) entries) (filter (λ (e : MapEntry). prefixes_match router p e.prefixes) entries))))
+      → IsAscending (plain_seqs (map (plain_entry router own)
+      (cond b (entry ∷ filter (λ (e : MapEntry). prefixes_match router p e.prefixes) entries)
+      (filter (λ (e : MapEntry). prefixes_match router p e.prefixes) entries))))
   step true rest = (above_kept router own p entry.seq entries up.0, rest)
   step false rest = rest
 
-ascending_entries : (router : Router) (own : Option ℕ) (p : Prefix) (name : Option (List ℕ)) → IsWellFormedRouter router → IsAscending (plain_seqs (entries_for router own p name))
+ascending_entries : (router : Router) (own : Option ℕ) (p : Prefix) (name : Option (List ℕ)) → IsWellFormedRouter router →
+    IsAscending (plain_seqs (entries_for router own p name))
 ascending_entries router own p None form = (tt, tt)
-ascending_entries router own p (Some name) form = step (route_map_named router name) (found_holds IsWellFormedRouteMap (λ (m : RouteMap). bytes_eq m.name name) router.route_maps form.route_maps) where
-  step : (o : Option RouteMap) → IfSome o IsWellFormedRouteMap → IsAscending (plain_seqs (option_map_or (λ (m : RouteMap). plain_entries router own p m.entries) o []))
-  step None found = tt
-  step (Some m) found = ascending_kept router own p m.entries found.ascending
+ascending_entries router own p (Some name) form =
+    step (route_map_named router name) (found_holds IsWellFormedRouteMap (λ (m : RouteMap). bytes_eq m.name name) router.route_maps form.route_maps) where
+      step : (o : Option RouteMap) → IfSome o IsWellFormedRouteMap →
+          IsAscending (plain_seqs (option_map_or (λ (m : RouteMap). plain_entries router own p m.entries) o []))
+      step None found = tt
+      step (Some m) found = ascending_kept router own p m.entries found.ascending
 
-ascending_plain : (router : Router) (name list : Option (List ℕ)) (p : Prefix) (inbound : Bool) → IsWellFormedRouter router → IsAscending (plain_seqs (plain_of router name list p inbound).entries)
+ascending_plain : (router : Router) (name list : Option (List ℕ)) (p : Prefix) (inbound : Bool) → IsWellFormedRouter router →
+    IsAscending (plain_seqs (plain_of router name list p inbound).entries)
 ascending_plain router name list p inbound form = step (passes_list router p list) where
   step : (b : Bool) → IsAscending (plain_seqs (cond b (entries_for router (own_preference router inbound) p name) []))
   step true = ascending_entries router (own_preference router inbound) p name form
@@ -193,7 +225,8 @@ ascending_plain router name list p inbound form = step (passes_list router p lis
 printable_whole : (own : Option ℕ) → IfSome own IsNumber → IsPrintableEntry (whole_entry own)
 printable_whole own fits = record { seq = omega arith; lists = tt; lp = fits; change = tt; delete = tt; adds = omega arith }
 
-pub printable_plain : (router : Router) (name list : Option (List ℕ)) (p : Prefix) (inbound : Bool) → HasPrintableMaps router → IsPrintable (plain_of router name list p inbound)
+pub printable_plain : (router : Router) (name list : Option (List ℕ)) (p : Prefix) (inbound : Bool) → HasPrintableMaps router →
+    IsPrintable (plain_of router name list p inbound)
 printable_plain router name list p inbound has =
     let own = own_preference router inbound in
     let fits = fits_own router inbound has.well_formed in
@@ -204,7 +237,8 @@ printable_plain router name list p inbound has =
       ascending = ascending_plain router name list p inbound has.well_formed;
     }
 
-pub printable_maps : (network : Network) (router : Router) → IsWellFormed network → undefined_list_lines network ≡ [] → delete_list_lines network ≡ [] → Contains network.routers router → HasPrintableMaps router
+pub printable_maps : (network : Network) (router : Router) → IsWellFormed network → undefined_list_lines network ≡ [] → delete_list_lines network ≡ [] →
+    Contains network.routers router → HasPrintableMaps router
 unfolding undefined_list_lines delete_list_lines
 printable_maps network router form defined single contained = record {
   well_formed = contained_holds IsWellFormedRouter network.routers router form.routers contained;

@@ -26,17 +26,22 @@ own_or_default router (Some lp) = refl
 own_or_default router None = default_written (default_preference router)
 
 -- what the importer makes of what was sent
-accepted_as : (importer : Router) (adds : ℕ) (passed : Option Permitted) → accepted adds (verdict_with (own_preference importer true) passed) ≡ option_map imported_as (option_map (received_as importer adds) passed)
+accepted_as : (importer : Router) (adds : ℕ) (passed : Option Permitted) →
+    accepted adds (verdict_with (own_preference importer true) passed) ≡ option_map imported_as (option_map (received_as importer adds) passed)
 accepted_as importer adds None = refl
 accepted_as importer adds (Some permitted) = ap (λ lp. Some (record { lp = lp; comms = permitted.comms; adds = adds })) (own_or_default importer permitted.lp)
 
-pub imports_as_session : (p : Prefix) (exporter : Router) (out : Neighbor) (importer : Router) (into : Neighbor) → IsWellFormedRouter exporter → IsWellFormedRouter importer → ImportAsSession p exporter out importer into
+pub imports_as_session : (p : Prefix) (exporter : Router) (out : Neighbor) (importer : Router) (into : Neighbor) → IsWellFormedRouter exporter →
+    IsWellFormedRouter importer → ImportAsSession p exporter out importer into
 imports_as_session p exporter out importer into well other comms =
-    ap (received out.sends (in_map p importer into).entries) (verdict_kept exporter (name_of out.map_out) (name_of out.list_out) p false (prepends_few exporter (name_of out.map_out) well) comms)
+    ap (received out.sends (in_map p importer into).entries)
+    (verdict_kept exporter (name_of out.map_out) (name_of out.list_out) p false (prepends_few exporter (name_of out.map_out) well) comms)
     ∙ step (passed_by exporter p (name_of out.list_out) (name_of out.map_out) comms) where
-      step : (passed : Option Permitted) → received out.sends (in_map p importer into).entries (verdict_with None passed) ≡ option_map imported_as (option_and_then (received_by importer into p out.sends) passed)
+      step : (passed : Option Permitted) → received out.sends (in_map p importer into).entries (verdict_with None passed) ≡ option_map imported_as
+          (option_and_then (received_by importer into p out.sends) passed)
       step None = refl
       step (Some sent) =
           let arrived = cond out.sends sent.comms [] in
-          ap (accepted sent.adds) (verdict_kept importer (name_of into.map_in) (name_of into.list_in) p true (prepends_few importer (name_of into.map_in) other) arrived)
+          ap (accepted sent.adds) (verdict_kept importer (name_of into.map_in) (name_of into.list_in) p true (prepends_few importer (name_of into.map_in) other)
+          arrived)
           ∙ accepted_as importer sent.adds (passed_by importer p (name_of into.list_in) (name_of into.map_in) arrived)

@@ -25,7 +25,8 @@ any_named router exact comms [] = refl
 any_named router exact comms (name ∷ names) = step (community_list_named router name) (any_named router exact comms names) where
   step : (o : Option CommunityList)
       → list_any (list_answer exact comms) (filter_map (community_list_named router) names) ≡ list_any (comms_permitted_by router exact comms) names
-      → list_any (list_answer exact comms) (cons_option o (filter_map (community_list_named router) names)) ≡ (option_map_or (list_answer exact comms) o false || list_any (comms_permitted_by router exact comms) names)
+      → list_any (list_answer exact comms) (cons_option o (filter_map (community_list_named router) names)) ≡ (option_map_or (list_answer exact comms) o false
+      || list_any (comms_permitted_by router exact comms) names)
   step None rest = rest
   step (Some list) rest = ap (λ b. list_answer exact comms list || b) rest
 
@@ -49,21 +50,25 @@ entries_said : (router : Router) (own : Option ℕ) (p : Prefix) (comms : List �
     → verdict (plain_entries router own p entries) comms ≡ verdict_with own (verdict_of router p entries comms)
 entries_said router own p comms [] few = refl
 entries_said router own p comms (entry ∷ entries) few =
-    step (prefixes_match router p entry.prefixes) (communities_match router entry.exact comms entry.comms) refl (entries_said router own p comms entries few.1) where
-      first : entry_verdict (plain_entry router own entry) comms ≡ verdict_with own (permitted_by_entry router comms entry)
-      first = entry_said router own comms entry entry.permit few.0
+    step (prefixes_match router p entry.prefixes) (communities_match router entry.exact comms entry.comms) refl (entries_said router own p comms entries few.1)
+  where
+    first : entry_verdict (plain_entry router own entry) comms ≡ verdict_with own (permitted_by_entry router comms entry)
+    first = entry_said router own comms entry entry.permit few.0
 
-      step : (a h : Bool) → communities_match router entry.exact comms entry.comms ≡ h
-          → verdict (plain_entries router own p entries) comms ≡ verdict_with own (verdict_of router p entries comms)
-          → verdict (map (plain_entry router own) (cond a (entry ∷ filter (λ (e : MapEntry). prefixes_match router p e.prefixes) entries) (filter (λ (e : MapEntry). prefixes_match router p e.prefixes) entries))) comms
-          ≡ verdict_with own (cond (a && h) (permitted_by_entry router comms entry) (verdict_of router p entries comms))
-      step false h holds rest = rest
-      step true true holds rest =
-          ap (λ b. cond b (entry_verdict (plain_entry router own entry) comms) (verdict (plain_entries router own p entries) comms)) (matches_named router entry.exact comms entry.comms ∙ holds)
-          ∙ first
-      step true false holds rest =
-          ap (λ b. cond b (entry_verdict (plain_entry router own entry) comms) (verdict (plain_entries router own p entries) comms)) (matches_named router entry.exact comms entry.comms ∙ holds)
-          ∙ rest
+    step : (a h : Bool) → communities_match router entry.exact comms entry.comms ≡ h
+        → verdict (plain_entries router own p entries) comms ≡ verdict_with own (verdict_of router p entries comms)
+        → verdict (map (plain_entry router own) (cond a (entry ∷ filter (λ (e : MapEntry). prefixes_match router p e.prefixes) entries)
+        (filter (λ (e : MapEntry). prefixes_match router p e.prefixes) entries))) comms
+        ≡ verdict_with own (cond (a && h) (permitted_by_entry router comms entry) (verdict_of router p entries comms))
+    step false h holds rest = rest
+    step true true holds rest =
+        ap (λ b. cond b (entry_verdict (plain_entry router own entry) comms) (verdict (plain_entries router own p entries) comms))
+        (matches_named router entry.exact comms entry.comms ∙ holds)
+        ∙ first
+    step true false holds rest =
+        ap (λ b. cond b (entry_verdict (plain_entry router own entry) comms) (verdict (plain_entries router own p entries) comms))
+        (matches_named router entry.exact comms entry.comms ∙ holds)
+        ∙ rest
 
 map_said : (router : Router) (own : Option ℕ) (p : Prefix) (map : Option (List ℕ)) (comms : List ℕ) → MapPrependsFew router map
     → verdict (entries_for router own p map) comms ≡ verdict_with own (passed_by_map router p map comms)
@@ -71,7 +76,8 @@ map_said router own p None comms few = refl
 map_said router own p (Some name) comms few =
     step (route_map_named router name) few where
       step : (o : Option RouteMap) → IfSome o (λ m. AllByRecursion PrependsFew m.entries)
-          → verdict (option_map_or (λ (m : RouteMap). plain_entries router own p m.entries) o []) comms ≡ verdict_with own (option_and_then (λ (m : RouteMap). verdict_of router p m.entries comms) o)
+          → verdict (option_map_or (λ (m : RouteMap). plain_entries router own p m.entries) o []) comms ≡ verdict_with own
+          (option_and_then (λ (m : RouteMap). verdict_of router p m.entries comms) o)
       step None found = refl
       step (Some m) found = entries_said router own p comms m.entries found
 
@@ -79,7 +85,8 @@ pub verdict_kept : (router : Router) (map list : Option (List ℕ)) (p : Prefix)
     → KeepsVerdict router map list p inbound (plain_of router map list p inbound)
 verdict_kept router map list p inbound few comms = step (passes_list router p list) where
   step : (b : Bool)
-      → verdict (cond b (entries_for router (own_preference router inbound) p map) []) comms ≡ verdict_with (own_preference router inbound) (cond b (passed_by_map router p map comms) None)
+      → verdict (cond b (entries_for router (own_preference router inbound) p map) []) comms ≡ verdict_with (own_preference router inbound)
+      (cond b (passed_by_map router p map comms) None)
   step true = map_said router (own_preference router inbound) p map comms few
   step false = refl
 

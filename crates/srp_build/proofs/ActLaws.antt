@@ -33,15 +33,24 @@ record FirstAt (edges : List Edge) (act : ℕ) : Type 0 where
 
 find_first : (edges : List Edge) (act k : ℕ) (edge : Edge) → slice_get edges k ≡ Some edge → edge.act ≡ act → FirstAt edges act
 find_first [] act k edge at same = absurd cc
-find_first (x ∷ xs) act zero edge at same = record { place = zero; edge = edge; at = at; same = same; first = record { first = λ earlier other less there. absurd (omega arith) } }
+find_first (x ∷ xs) act zero edge at same =
+    record { place = zero; edge = edge; at = at; same = same; first = record { first = λ earlier other less there. absurd (omega arith) } }
 find_first (x ∷ xs) act (suc k) edge at same = elim (cases_eq x.act act) [
   | inl here ↦ record { place = zero; edge = x; at = refl; same = here; first = record { first = λ earlier other less there. absurd (omega arith) } }
   | inr not_here ↦ (
       let later = find_first xs act k edge at same in
-      record { place = suc later.place; edge = later.edge; at = later.at; same = later.same; first = record { first = before x xs act later.place not_here later.first } })
+      record {
+        place = suc later.place;
+        edge = later.edge;
+        at = later.at;
+        same = later.same;
+        first =
+            record { first = before x xs act later.place not_here later.first };
+      })
 ]
   where
-    before : (x : Edge) (xs : List Edge) (act place : ℕ) → x.act ≢ act → IsFirstWith xs place act → (earlier : ℕ) (other : Edge) → earlier < suc place → slice_get (x ∷ xs) earlier ≡ Some other → other.act ≢ act
+    before : (x : Edge) (xs : List Edge) (act place : ℕ) → x.act ≢ act → IsFirstWith xs place act → (earlier : ℕ) (other : Edge) → earlier < suc place →
+        slice_get (x ∷ xs) earlier ≡ Some other → other.act ≢ act
     before x xs act place not_here later zero other less there = λ e. not_here (ap (λ (y : Edge). y.act) (let one : x ≡ other = cc in one) ∙ e)
     before x xs act place not_here later (suc earlier) other less there = later.first earlier other (omega arith) there
 
@@ -55,7 +64,8 @@ read_at (x ∷ xs) zero act at = cc
 read_at (x ∷ xs) (suc k) act at = read_at xs k act at
 
 -- an act of a problem is that of the lines at the ends of an edge
-of_lines : (n : Network) (p : Prefix) (problem : Problem) → AreActsByFirstUse problem → HasFirstActs n p problem → (P : Act → Type 0) → ((d : Direction) (act : Act) → IsActOfLines n p d act → P act) → AllByRecursion P problem.acts
+of_lines : (n : Network) (p : Prefix) (problem : Problem) → AreActsByFirstUse problem → HasFirstActs n p problem → (P : Act → Type 0) →
+    ((d : Direction) (act : Act) → IsActOfLines n p d act → P act) → AllByRecursion P problem.acts
 of_lines n p problem order firsts P of_lines_there = all_by P problem.acts (λ k act at. (
     let used = order.used k (within_get problem.acts k act at) in
     let first = find_first problem.edges k used.earlier used.edge used.at used.same in
@@ -71,8 +81,10 @@ acts_print n p problem form defined single order firsts = of_lines n p problem o
   where
     print : (d : Direction) (act : Act) → IsActOfLines n p d act → HasMapsThatPrint act
     print d (Import out sends into) of = (
-      subst IsPrintable (sym of.out_is) (printable_plain of.ends.exporter (name_of of.ends.exporter_line.map_out) (name_of of.ends.exporter_line.list_out) p false (printable_maps n of.ends.exporter form defined single (router_in n d.exporter of.ends.exporter of.ends.exporter_at))),
-      subst IsPrintable (sym of.into_is) (printable_plain of.ends.importer (name_of of.ends.importer_line.map_in) (name_of of.ends.importer_line.list_in) p true (printable_maps n of.ends.importer form defined single (router_in n d.importer of.ends.importer of.ends.importer_at))),
+      subst IsPrintable (sym of.out_is) (printable_plain of.ends.exporter (name_of of.ends.exporter_line.map_out) (name_of of.ends.exporter_line.list_out) p
+          false (printable_maps n of.ends.exporter form defined single (router_in n d.exporter of.ends.exporter of.ends.exporter_at))),
+      subst IsPrintable (sym of.into_is) (printable_plain of.ends.importer (name_of of.ends.importer_line.map_in) (name_of of.ends.importer_line.list_in) p true
+          (printable_maps n of.ends.importer form defined single (router_in n d.importer of.ends.importer of.ends.importer_at))),
     )
     print d (Cost cost) of = tt
 
@@ -81,7 +93,11 @@ acts_stay_within n p problem order firsts = of_lines n p problem order firsts (H
   where
     within : (d : Direction) (act : Act) → IsActOfLines n p d act → HasMapsWithin (communities_of n) act
     within d (Import out sends into) of = (
-      subst (IsMapWithin (communities_of n)) (sym of.out_is) (maps_stay_within n of.ends.exporter (router_in n d.exporter of.ends.exporter of.ends.exporter_at) (name_of of.ends.exporter_line.map_out) (name_of of.ends.exporter_line.list_out) p false),
-      subst (IsMapWithin (communities_of n)) (sym of.into_is) (maps_stay_within n of.ends.importer (router_in n d.importer of.ends.importer of.ends.importer_at) (name_of of.ends.importer_line.map_in) (name_of of.ends.importer_line.list_in) p true),
+      subst (IsMapWithin (communities_of n)) (sym of.out_is)
+          (maps_stay_within n of.ends.exporter (router_in n d.exporter of.ends.exporter of.ends.exporter_at) (name_of of.ends.exporter_line.map_out)
+          (name_of of.ends.exporter_line.list_out) p false),
+      subst (IsMapWithin (communities_of n)) (sym of.into_is)
+          (maps_stay_within n of.ends.importer (router_in n d.importer of.ends.importer of.ends.importer_at) (name_of of.ends.importer_line.map_in)
+          (name_of of.ends.importer_line.list_in) p true),
     )
     within d (Cost cost) of = tt

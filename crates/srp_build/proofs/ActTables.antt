@@ -26,22 +26,27 @@ put_by true old x e = in_right old (x ∷ []) x (inl refl)
 put_by false old x e = absurd cc
 
 -- one more act, which is put at its nodes
-pub listed_next : (old new : Index ℕ) (acts : List BgpAct) (act : BgpAct) (number : ℕ) → AreListed old acts → number ≡ length acts → PushesAt old new (nodes_of act.function) number → AreListed new (acts ++ act ∷ [])
+pub listed_next : (old new : Index ℕ) (acts : List BgpAct) (act : BgpAct) (number : ℕ) → AreListed old acts → number ≡ length acts →
+    PushesAt old new (nodes_of act.function) number → AreListed new (acts ++ act ∷ [])
 listed_next old new acts act number listed next pushes = record {
   each = λ place other at. elim (front_or_last acts act place other at) [
     | inl before ↦ (
         let q = nodes_of other.function in
-        contains_in (bucket new q) place (subst (λ (l : List ℕ). In l place) (sym (pushes.each q)) (kept_by (same_pair (nodes_of act.function) q) (bucket old q) number place (in_contains (bucket old q) place (listed.each place other before)))))
+        contains_in (bucket new q) place (subst (λ (l : List ℕ). In l place) (sym (pushes.each q))
+        (kept_by (same_pair (nodes_of act.function) q) (bucket old q) number place (in_contains (bucket old q) place (listed.each place other before)))))
     | inr last ↦ (
         let q = nodes_of act.function in
-        let here : In (bucket new q) number = subst (λ (l : List ℕ). In l number) (sym (pushes.each q)) (put_by (same_pair q q) (bucket old q) number (same_pair_is q)) in
+        let here : In (bucket new q) number = subst (λ (l : List ℕ). In l number) (sym (pushes.each q))
+        (put_by (same_pair q q) (bucket old q) number (same_pair_is q)) in
         let there : In (bucket new q) place = subst (λ (k : ℕ). In (bucket new q) k) (next ∙ sym last.0) here in
         subst (λ (a : BgpAct). Contains (bucket new (nodes_of a.function)) place) last.1 (contains_in (bucket new q) place there))
   ];
 }
 
 -- a function unlike those that are found by its nodes is unlike all
-pub unlike_all : OneForm → (shown : Shown) → IsShown shown → (index : Index ℕ) (acts : List BgpAct) (function : EdgeFn) → AreListed index acts → AreUnlike shown acts (bucket index (nodes_of function)) function → (other : ℕ) (act : BgpAct) → slice_get acts other ≡ Some act → AreApart shown function act.function
+pub unlike_all : OneForm → (shown : Shown) → IsShown shown → (index : Index ℕ) (acts : List BgpAct) (function : EdgeFn) → AreListed index acts →
+    AreUnlike shown acts (bucket index (nodes_of function)) function → (other : ℕ) (act : BgpAct) → slice_get acts other ≡ Some act →
+    AreApart shown function act.function
 unlike_all one_form shown is index acts function listed unlike other act at = record {
   differ = λ F G of_function of_act one.
       let parts = one_form shown function act.function F G is of_function of_act one in

@@ -40,7 +40,8 @@ use Rattle.srp_build.proofs.OwnNumbers.{HasAt, one_router}
 use Rattle.srp_build.proofs.SessionMaps.{session_is_at, line_numbered, map_at_line, out_at_ends, sends_at_ends, in_at_ends}
 use Rattle.srp_build.proofs.SortedEdges.{from, importer_in, exporter_in, ends_differ, ordered, one_of_link}
 
-module _ (n : Network) (first p : Prefix) (init : List (Option Route)) (lone : List Bool) (maps : LineMaps) (shown : Shown) (found : BgpEdges) (parts : AreBgpParts n first p init lone maps shown found) where
+module _ (n : Network) (first p : Prefix) (init : List (Option Route)) (lone : List Bool) (maps : LineMaps) (shown : Shown) (found : BgpEdges)
+    (parts : AreBgpParts n first p init lone maps shown found) where
   abbrev pub problem : Problem
   problem = made n first p init lone maps shown found parts
 
@@ -83,8 +84,11 @@ module _ (n : Network) (first p : Prefix) (init : List (Option Route)) (lone : L
   act_adds_nothing act at =
       let place = in_get the_acts act at in
       let session = session_is_at n.routers maps act.first act.session (parts.edges.over place.0 act place.1) in
-      let line = line_numbered first true maps.maps n.routers maps.ins parts.lines.ins act.first.importer act.first.importer_item act.session.into session.into in
-      let nothing = parts.add_nothing n line.router line.line parts.bgp.nothing_added (router_in n first p init lone maps shown found parts act.first.importer line.router line.at) (contains_in (neighbors_of line.router) line.line (get_in (neighbors_of line.router) act.first.importer_item line.line line.line_at)) first in
+      let line = line_numbered first true maps.maps n.routers maps.ins parts.lines.ins act.first.importer act.first.importer_item act.session.into session.into
+      in
+      let nothing = parts.add_nothing n line.router line.line parts.bgp.nothing_added
+      (router_in n first p init lone maps shown found parts act.first.importer line.router line.at)
+      (contains_in (neighbors_of line.router) line.line (get_in (neighbors_of line.router) act.first.importer_item line.line line.line_at)) first in
       subst AddsNothing (sym (map_at_line first n.routers true act.first.importer act.first.importer_item line.router line.line line.at line.line_at)) nothing
 
   act_fits : (act : Act) → In (map writes the_acts) act → IsActOf OverBgp act
@@ -93,17 +97,21 @@ module _ (n : Network) (first p : Prefix) (init : List (Option Route)) (lone : L
   imports_alike : (x y : BgpAct) → ActsAlike (writes x) (writes y) → ImportsAlike (writes x) (writes y)
   imports_alike x y alike = alike
 
-  acts_differ : (i j : ℕ) → i < length (map writes the_acts) → j < length (map writes the_acts) → ActsAlike (slice_index_or (map writes the_acts) i (Cost 0)) (slice_index_or (map writes the_acts) j (Cost 0)) → i ≡ j
+  acts_differ : (i j : ℕ) → i < length (map writes the_acts) → j < length (map writes the_acts) →
+      ActsAlike (slice_index_or (map writes the_acts) i (Cost 0)) (slice_index_or (map writes the_acts) j (Cost 0)) → i ≡ j
   acts_differ i j i_in j_in alike =
       let lengths : length (map writes the_acts) ≡ length the_acts = length-map the_acts writes in
       let a = there the_acts i (omega arith) in
       let b = there the_acts j (omega arith) in
       let first_is = read_act n first p init lone maps shown found parts i a.0 a.1 in
       let second_is = read_act n first p init lone maps shown found parts j b.0 b.1 in
-      let both : ActsAlike (writes a.0) (writes b.0) = subst (λ (x : Act). ActsAlike x (writes b.0)) first_is (subst (λ (y : Act). ActsAlike (slice_index_or (map writes the_acts) i (Cost 0)) y) second_is alike) in
+      let both : ActsAlike (writes a.0) (writes b.0) =
+      subst (λ (x : Act). ActsAlike x (writes b.0)) first_is
+      (subst (λ (y : Act). ActsAlike (slice_index_or (map writes the_acts) i (Cost 0)) y) second_is alike) in
       parts.edges.right.acts.differ i j a.0 b.0 a.1 b.1 (record {
         same = λ set ascending.
-            sym (written_import n first p init lone maps shown found parts i a.0 a.1 set) ∙ (imports_alike a.0 b.0 both).same set ascending ∙ written_import n first p init lone maps shown found parts j b.0 b.1 set;
+            sym (written_import n first p init lone maps shown found parts i a.0 a.1 set) ∙ (imports_alike a.0 b.0 both).same set ascending
+            ∙ written_import n first p init lone maps shown found parts j b.0 b.1 set;
       })
 
   -- ---- starts and numbers
@@ -124,15 +132,18 @@ module _ (n : Network) (first p : Prefix) (init : List (Option Route)) (lone : L
   importer_numbered edge inside =
       let f = from n Has Left ends_same found.edges parts.edges.each edge inside in
       let ends = hop_ends n parts.bgp f.hop f.of in
-      subst (λ (k : ℕ). number problem k ≢ 0) (sym (ap (λ (e : Edge). e.importer) f.same)) (numbered f.hop.importer ends.importer ends.importer_at (line_process ends.importer f.hop.importer_item ends.importer_line ends.importer_line_at))
+      subst (λ (k : ℕ). number problem k ≢ 0) (sym (ap (λ (e : Edge). e.importer) f.same))
+      (numbered f.hop.importer ends.importer ends.importer_at (line_process ends.importer f.hop.importer_item ends.importer_line ends.importer_line_at))
 
   exporter_numbered : (edge : Edge) → Contains found.edges edge → number problem edge.exporter ≢ 0
   exporter_numbered edge inside =
       let f = from n Has Left ends_same found.edges parts.edges.each edge inside in
       let ends = hop_ends n parts.bgp f.hop f.of in
-      subst (λ (k : ℕ). number problem k ≢ 0) (sym (ap (λ (e : Edge). e.exporter) f.same)) (numbered f.hop.exporter ends.exporter ends.exporter_at (line_process ends.exporter f.hop.exporter_item ends.exporter_line ends.exporter_line_at))
+      subst (λ (k : ℕ). number problem k ≢ 0) (sym (ap (λ (e : Edge). e.exporter) f.same))
+      (numbered f.hop.exporter ends.exporter ends.exporter_at (line_process ends.exporter f.hop.exporter_item ends.exporter_line ends.exporter_line_at))
 
-  process_of : (u : ℕ) (router : Router) (o : Option BgpProcess) → slice_get n.routers u ≡ Some router → router.bgp ≡ o → option_map_or (λ (process : BgpProcess). process.number) o 0 ≢ 0 → (process : BgpProcess) × HasAt n.routers u process
+  process_of : (u : ℕ) (router : Router) (o : Option BgpProcess) → slice_get n.routers u ≡ Some router → router.bgp ≡ o →
+      option_map_or (λ (process : BgpProcess). process.number) o 0 ≢ 0 → (process : BgpProcess) × HasAt n.routers u process
   process_of u router None at is some = absurd (some refl)
   process_of u router (Some process) at is some = (process, record { router = router; at = at; is = is })
 
@@ -167,7 +178,8 @@ module _ (n : Network) (first p : Prefix) (init : List (Option Route)) (lone : L
     };
     acts = record { fit = all_from (IsActOf OverBgp) (map writes the_acts) act_fits; keep = keeps; differ = acts_differ };
     starts = record {
-      routes = λ u r h. (let s = start_at u r h in let is = (start_is_bgp n parts.bgp s.router (start_is u r h) p r s.is).is in subst (λ (x : Route). IsRouteOf OverBgp x) (sym is) tt);
+      routes = λ u r h. (let s = start_at u r h in let is = (start_is_bgp n parts.bgp s.router (start_is u r h) p r s.is).is in
+          subst (λ (x : Route). IsRouteOf OverBgp x) (sym is) tt);
       paths = λ u r h. (let s = start_at u r h in ap path_of (start_is_bgp n parts.bgp s.router (start_is u r h) p r s.is).is);
       bare = λ u r h. (let s = start_at u r h in ap comms_of (start_is_bgp n parts.bgp s.router (start_is u r h) p r s.is).is);
       unoriginated = λ e edge inside. (
@@ -193,7 +205,8 @@ module _ (n : Network) (first p : Prefix) (init : List (Option Route)) (lone : L
     names = refl;
     numbers = refl;
     init = parts.starts;
-    edges_stand = λ edge inside. (let f = from n Has Left ends_same found.edges parts.edges.each edge inside in (direction_of f.hop, stands n first p init lone maps shown found parts f.hop edge f.has f.of));
+    edges_stand = λ edge inside. (let f = from n Has Left ends_same found.edges parts.edges.each edge inside in
+        (direction_of f.hop, stands n first p init lone maps shown found parts f.hop edge f.has f.of));
     edges_all = λ d is carries. edge_for n first p init lone maps shown found parts d is carries;
   }
 
@@ -216,11 +229,12 @@ module _ (n : Network) (first p : Prefix) (init : List (Option Route)) (lone : L
         record {
           d = direction_of f.hop;
           stands = stands n first p init lone maps shown found parts f.hop edge f.has f.of;
-          act = subst (λ (a : Act). IsActOfLines n p (direction_of f.hop) a) (sym (read_act n first p init lone maps shown found parts edge.act act.act act.at)) (subst (λ (h : Hop). IsActOfLines n p (direction_of f.hop) (act_of_hop first n.routers h)) (sym one) (record {
-            ends = ends;
-            out_is = out_at_ends n first f.hop ends ∙ out_for n first p init lone maps shown found parts f.hop ends;
-            sends_is = sends_at_ends n f.hop ends;
-            into_is = in_at_ends n first f.hop ends ∙ in_for n first p init lone maps shown found parts f.hop ends;
-          }));
+          act = subst (λ (a : Act). IsActOfLines n p (direction_of f.hop) a) (sym (read_act n first p init lone maps shown found parts edge.act act.act act.at))
+              (subst (λ (h : Hop). IsActOfLines n p (direction_of f.hop) (act_of_hop first n.routers h)) (sym one) (record {
+                ends = ends;
+                out_is = out_at_ends n first f.hop ends ∙ out_for n first p init lone maps shown found parts f.hop ends;
+                sends_is = sends_at_ends n f.hop ends;
+                into_is = in_at_ends n first f.hop ends ∙ in_for n first p init lone maps shown found parts f.hop ends;
+              }));
         });
   }

@@ -23,13 +23,16 @@ ospf_line (Some b) o = either (nat_lt b.line o.line)
     either true = inr (inl refl)
     either false = inl refl
 
-with_ospf : (lines : List ProtocolLine) → ((l : ProtocolLine) → In lines l → l.protocol ≡ protocol.Bgp) → (bgp : Option BgpProcess) (ospf : Option OspfProcess) → ((l : ProtocolLine) → In (lines_in_order bgp ospf) l → In lines l) → is_some ospf ≡ false
+with_ospf : (lines : List ProtocolLine) → ((l : ProtocolLine) → In lines l → l.protocol ≡ protocol.Bgp) →
+    (bgp : Option BgpProcess) (ospf : Option OspfProcess) → ((l : ProtocolLine) → In (lines_in_order bgp ospf) l → In lines l) → is_some ospf ≡ false
 with_ospf lines all bgp None inside = refl
 with_ospf lines all bgp (Some o) inside = let e = all (of_ospf o) (inside (of_ospf o) (ospf_line bgp o)) in absurd cc
 
-no_ospf : (n : Network) → protocol_of n ≡ Some protocol.Bgp → mixed_protocol_lines n ≡ [] → (router : Router) → In n.routers router → is_some router.ospf ≡ false
+no_ospf : (n : Network) → protocol_of n ≡ Some protocol.Bgp → mixed_protocol_lines n ≡ [] → (router : Router) → In n.routers router →
+    is_some router.ospf ≡ false
 unfolding mixed_protocol_lines
-no_ospf n first none router at = with_ospf (protocol_lines n) (all_like_first protocol.Bgp (protocol_lines n) first none) router.bgp router.ospf (λ l inside. in_flat_map protocol_lines_of n.routers router l at inside)
+no_ospf n first none router at = with_ospf (protocol_lines n) (all_like_first protocol.Bgp (protocol_lines n) first none) router.bgp router.ospf
+    (λ l inside. in_flat_map protocol_lines_of n.routers router l at inside)
 
 -- a BGP network without faults, as the grammar has it
 pub is_bgp : (n : Network) → IsWellFormed n → IsFaultless n → length n.routers ≤ 4096 → protocol_of n ≡ Some protocol.Bgp → IsBgp n

@@ -33,7 +33,8 @@ never_active n bgp p at a active =
 
 no_adjacency : (n : Network) → IsBgp n → (l : Link) → IsJoining interfaces_of are_adjacent n l → ⊥
 no_adjacency n bgp l at =
-    let both = both_some (active_address at.low) (active_address at.high) (and_second (nat_lt at.low.router at.high.router) (share_area_subnet at.low at.high) at.joined) in
+    let both = both_some (active_address at.low) (active_address at.high)
+    (and_second (nat_lt at.low.router at.high.router) (share_area_subnet at.low at.high) at.joined) in
     never_active n bgp at.low at.low_at both.0.0 both.0.1
 
 link_session : (n : Network) → IsBgp n → (l : Link) → In (links_of n) l → IsJoining neighbors_of is_session n l
@@ -94,7 +95,8 @@ pub record HasProcess (router : Router) : Type 0 where
   pub process : BgpProcess
   pub is : router.bgp ≡ Some process
 
-process_by : (router : Router) (o : Option BgpProcess) (item : ℕ) (line : Neighbor) → router.bgp ≡ o → slice_get (option_map_or (λ (process : BgpProcess). process.neighbors) o []) item ≡ Some line → HasProcess router
+process_by : (router : Router) (o : Option BgpProcess) (item : ℕ) (line : Neighbor) → router.bgp ≡ o →
+    slice_get (option_map_or (λ (process : BgpProcess). process.neighbors) o []) item ≡ Some line → HasProcess router
 process_by router None item line is at = absurd cc
 process_by router (Some process) item line is at = record { process = process; is = is }
 

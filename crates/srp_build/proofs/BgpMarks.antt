@@ -25,7 +25,8 @@ use Rattle.srp_build.proofs.SortedEdges.{from}
 pub first_decides : (f g h : List ℕ → Option Imported) → AcceptsSome f → HaveOnePreference f g → HaveOnePreference f h → HaveOnePreference g h
 first_decides f g h some with_g with_h = record {
   same = λ set other first second a b is_first is_second.
-      sym (with_g.same some.set set some.import first some.ascending a some.is is_first) ∙ with_h.same some.set other some.import second some.ascending b some.is is_second;
+      sym (with_g.same some.set set some.import first some.ascending a some.is is_first)
+      ∙ with_h.same some.set other some.import second some.ascending b some.is is_second;
 }
 
 pub there : {X : Type 0} (xs : List X) (k : ℕ) → k < length xs → (x : X) × (slice_get xs k ≡ Some x)
@@ -41,7 +42,8 @@ option_cases : (o : Option ℕ) → (o ≡ None) ⊎ ((k : ℕ) × (o ≡ Some k
 option_cases None = inl refl
 option_cases (Some k) = inr (k, refl)
 
-module _ (n : Network) (first p : Prefix) (init : List (Option Route)) (lone : List Bool) (maps : LineMaps) (shown : Shown) (found : BgpEdges) (parts : AreBgpParts n first p init lone maps shown found) where
+module _ (n : Network) (first p : Prefix) (init : List (Option Route)) (lone : List Bool) (maps : LineMaps) (shown : Shown) (found : BgpEdges)
+    (parts : AreBgpParts n first p init lone maps shown found) where
   abbrev the_acts : List BgpAct
   the_acts = found.acts.acts.items
 
@@ -55,18 +57,22 @@ module _ (n : Network) (first p : Prefix) (init : List (Option Route)) (lone : L
 
   edge_act : (edge : Edge) → Contains found.edges edge → IsActAt edge.act
   edge_act edge inside =
-      let f = from n (HasEdge n first p init lone maps shown found parts) (IsLeft n first p init lone maps shown found parts) (same_ends n first p init lone maps shown found parts) found.edges parts.edges.each edge inside in
+      let f = from n (HasEdge n first p init lone maps shown found parts) (IsLeft n first p init lone maps shown found parts)
+      (same_ends n first p init lone maps shown found parts) found.edges parts.edges.each edge inside in
       record { act = f.has.act.act; at = f.has.act.at }
 
   act_with : (u number : ℕ) → HasEdgeWith found.edges u number → IsActAt number
   act_with u number has = subst IsActAt has.same (edge_act has.edge has.edge_in)
 
-  problem_act : (edge : Edge) (number : ℕ) (act : BgpAct) → edge.act ≡ number → slice_get the_acts number ≡ Some act → (comms : List ℕ) → import_by (act_of (made n first p init lone maps shown found parts) edge) comms ≡ Imports act comms
+  problem_act : (edge : Edge) (number : ℕ) (act : BgpAct) → edge.act ≡ number → slice_get the_acts number ≡ Some act → (comms : List ℕ) →
+      import_by (act_of (made n first p init lone maps shown found parts) edge) comms ≡ Imports act comms
   problem_act edge number act same at comms = edge_import n first p init lone maps shown found parts edge act (ap (slice_get the_acts) same ∙ at) comms
 
   -- ---- a marked router is lone
 
-  accepts : (u number : ℕ) (has : HasEdgeWith found.edges u number) (act : BgpAct) → slice_get the_acts number ≡ Some act → (set : List ℕ) (imported : Imported) → IsAscending set → Imports act set ≡ Some imported → Accepts (made n first p init lone maps shown found parts) u imported.lp
+  accepts : (u number : ℕ) (has : HasEdgeWith found.edges u number) (act : BgpAct) → slice_get the_acts number ≡ Some act →
+      (set : List ℕ) (imported : Imported) → IsAscending set → Imports act set ≡ Some imported →
+      Accepts (made n first p init lone maps shown found parts) u imported.lp
   accepts u number has act at set imported ascending is = record {
     edge = has.edge;
     edge_in = has.edge_in;
@@ -80,7 +86,8 @@ module _ (n : Network) (first p : Prefix) (init : List (Option Route)) (lone : L
 
   unoriginated : (u number : ℕ) → HasEdgeWith found.edges u number → slice_index_or init u None ≡ None
   unoriginated u number has =
-      let f = from n (HasEdge n first p init lone maps shown found parts) (IsLeft n first p init lone maps shown found parts) (same_ends n first p init lone maps shown found parts) found.edges parts.edges.each has.edge has.edge_in in
+      let f = from n (HasEdge n first p init lone maps shown found parts) (IsLeft n first p init lone maps shown found parts)
+      (same_ends n first p init lone maps shown found parts) found.edges parts.edges.each has.edge has.edge_in in
       let same : f.hop.importer ≡ u = sym (ap (λ (e : Edge). e.importer) f.same) ∙ has.importer in
       ap (λ (k : ℕ). slice_index_or init k None) (sym same) ∙ closed_to n first p init lone maps shown found parts f.hop.importer f.has.open_to
 
@@ -88,7 +95,8 @@ module _ (n : Network) (first p : Prefix) (init : List (Option Route)) (lone : L
   two_are_lone u two =
       let a = act_with u two.first two.first_there in
       let b = act_with u two.second two.second_there in
-      let d = two.differ.differ a.act b.act (Imports a.act) (Imports b.act) a.at b.at (parts.edges.right.acts.functions two.first a.act a.at) (parts.edges.right.acts.functions two.second b.act b.at) in
+      let d = two.differ.differ a.act b.act (Imports a.act) (Imports b.act) a.at b.at (parts.edges.right.acts.functions two.first a.act a.at)
+      (parts.edges.right.acts.functions two.second b.act b.at) in
       record {
         unoriginated = unoriginated u two.first two.first_there;
         first = d.first.lp;
@@ -101,7 +109,8 @@ module _ (n : Network) (first p : Prefix) (init : List (Option Route)) (lone : L
   marked : (u : ℕ) (mark : Mark) → slice_get parts.marks.marks u ≡ Some mark → is_lone (made n first p init lone maps shown found parts) u ≡ mark.lone
   marked u mark at = ap (λ (l : List Bool). slice_index_or l u false) parts.marks.read ∙ read_map (λ (m : Mark). m.lone) parts.marks.marks u mark false at
 
-  pub only_lone : (u : ℕ) → u < length n.routers → is_lone (made n first p init lone maps shown found parts) u ≡ true → IsLone (made n first p init lone maps shown found parts) u
+  pub only_lone : (u : ℕ) → u < length n.routers → is_lone (made n first p init lone maps shown found parts) u ≡ true →
+      IsLone (made n first p init lone maps shown found parts) u
   only_lone u inside h =
       let total = parts.marks.are.total in
       let mark = there parts.marks.marks u (omega arith) in
@@ -112,28 +121,34 @@ module _ (n : Network) (first p : Prefix) (init : List (Option Route)) (lone : L
   edge_with_act : (u : ℕ) (edge : Edge) → Contains found.edges edge → edge.importer ≡ u → HasEdgeWith found.edges u edge.act
   edge_with_act u edge inside importer = record { edge = edge; edge_in = inside; importer = importer; same = refl }
 
-  one_preference : (u : ℕ) (mark : Mark) → IsMark shown the_acts found.edges u mark → mark.lone ≡ false → (e f : Edge) → Contains found.edges e → Contains found.edges f → e.importer ≡ u → f.importer ≡ u
+  one_preference : (u : ℕ) (mark : Mark) → IsMark shown the_acts found.edges u mark → mark.lone ≡ false → (e f : Edge) → Contains found.edges e →
+      Contains found.edges f → e.importer ≡ u → f.importer ≡ u
       → (a b : BgpAct) → slice_get the_acts e.act ≡ Some a → slice_get the_acts f.act ≡ Some b → HaveOnePreference (Imports a) (Imports b)
   one_preference u mark is alone e f e_in f_in e_at f_at a b at at' = elim (option_cases mark.first) [
     | inl none ↦ absurd (is.none none e.act (edge_with_act u e e_in e_at))
     | inr some ↦ (
         let zero_act = act_with u some.0 (is.some some.0 some.1) in
-        let with_a = (is.alone alone some.0 e.act some.1 (edge_with_act u e e_in e_at)).one zero_act.act a (Imports zero_act.act) (Imports a) zero_act.at at (parts.edges.right.acts.functions some.0 zero_act.act zero_act.at) (parts.edges.right.acts.functions e.act a at) in
-        let with_b = (is.alone alone some.0 f.act some.1 (edge_with_act u f f_in f_at)).one zero_act.act b (Imports zero_act.act) (Imports b) zero_act.at at' (parts.edges.right.acts.functions some.0 zero_act.act zero_act.at) (parts.edges.right.acts.functions f.act b at') in
+        let with_a = (is.alone alone some.0 e.act some.1 (edge_with_act u e e_in e_at)).one zero_act.act a (Imports zero_act.act) (Imports a) zero_act.at at
+        (parts.edges.right.acts.functions some.0 zero_act.act zero_act.at) (parts.edges.right.acts.functions e.act a at) in
+        let with_b = (is.alone alone some.0 f.act some.1 (edge_with_act u f f_in f_at)).one zero_act.act b (Imports zero_act.act) (Imports b) zero_act.at at'
+        (parts.edges.right.acts.functions some.0 zero_act.act zero_act.at) (parts.edges.right.acts.functions f.act b at') in
         first_decides (Imports zero_act.act) (Imports a) (Imports b) (parts.edges.right.acts.accept some.0 zero_act.act zero_act.at) with_a with_b)
   ]
 
-  not_alone : (u : ℕ) (mark : Mark) → IsMark shown the_acts found.edges u mark → mark.lone ≡ false → IsLone (made n first p init lone maps shown found parts) u → ⊥
+  not_alone : (u : ℕ) (mark : Mark) → IsMark shown the_acts found.edges u mark → mark.lone ≡ false →
+      IsLone (made n first p init lone maps shown found parts) u → ⊥
   not_alone u mark is alone is_lone_there =
       let x = is_lone_there.first_accepted in
       let y = is_lone_there.second_accepted in
       let a = edge_act x.edge x.edge_in in
       let b = edge_act y.edge y.edge_in in
       let one = one_preference u mark is alone x.edge y.edge x.edge_in y.edge_in x.importer y.importer a.act b.act a.at b.at in
-      let same = one.same x.comms y.comms x.imported y.imported x.is_set y.is_set (sym (problem_act x.edge x.edge.act a.act refl a.at x.comms) ∙ x.accepted) (sym (problem_act y.edge y.edge.act b.act refl b.at y.comms) ∙ y.accepted) in
+      let same = one.same x.comms y.comms x.imported y.imported x.is_set y.is_set (sym (problem_act x.edge x.edge.act a.act refl a.at x.comms) ∙ x.accepted)
+      (sym (problem_act y.edge y.edge.act b.act refl b.at y.comms) ∙ y.accepted) in
       is_lone_there.differ (sym x.preferred ∙ same ∙ y.preferred)
 
-  pub all_lone : (u : ℕ) → u < length n.routers → IsLone (made n first p init lone maps shown found parts) u → is_lone (made n first p init lone maps shown found parts) u ≡ true
+  pub all_lone : (u : ℕ) → u < length n.routers → IsLone (made n first p init lone maps shown found parts) u →
+      is_lone (made n first p init lone maps shown found parts) u ≡ true
   all_lone u inside is =
       let total = parts.marks.are.total in
       let mark = there parts.marks.marks u (omega arith) in

@@ -42,14 +42,17 @@ use Rattle.srp_build.proofs.SortedHops.{IsHopOf}
 
 -- the maps of both ends import what a session does
 abbrev pub SessionsImport : Type 0
-SessionsImport = (p : Prefix) (exporter importer : Router) (out into : Neighbor) → IsWellFormedRouter exporter → IsWellFormedRouter importer → ImportAsSession p exporter out importer into
+SessionsImport = (p : Prefix) (exporter importer : Router) (out into : Neighbor) → IsWellFormedRouter exporter → IsWellFormedRouter importer →
+    ImportAsSession p exporter out importer into
 
 -- in maps put no AS numbers before a path
 abbrev pub InMapsAddNothing : Type 0
-InMapsAddNothing = (network : Network) (router : Router) (line : Neighbor) → prepend_in_lines network ≡ [] → Contains network.routers router → Contains (neighbors_of router) line → (p : Prefix) → AddsNothing (in_map p router line)
+InMapsAddNothing = (network : Network) (router : Router) (line : Neighbor) → prepend_in_lines network ≡ [] → Contains network.routers router →
+    Contains (neighbors_of router) line → (p : Prefix) → AddsNothing (in_map p router line)
 
 -- The parts of the problem for a prefix, whose maps were written out for another prefix of its class.
-pub record AreBgpParts (n : Network) (first p : Prefix) (init : List (Option Route)) (lone : List Bool) (maps : LineMaps) (shown : Shown) (found : BgpEdges) : Type 0 where
+pub record AreBgpParts (n : Network) (first p : Prefix) (init : List (Option Route)) (lone : List Bool) (maps : LineMaps) (shown : Shown)
+    (found : BgpEdges) : Type 0 where
   pub bgp : IsBgp n
   pub sessions_import : SessionsImport
   pub add_nothing : InMapsAddNothing
@@ -57,7 +60,8 @@ pub record AreBgpParts (n : Network) (first p : Prefix) (init : List (Option Rou
   pub lines : AreLineMaps first n.routers maps
   pub edges : AreEdgesOfSessions shown n.routers init maps (sorted_of n) found
   pub marks : AreLone shown found.acts.acts.items (length n.routers) found.edges lone
-  pub alike : (router : Router) → Contains n.routers router → (name list : Option (List ℕ)) (inbound : Bool) → plain_of router name list first inbound ≡ plain_of router name list p inbound
+  pub alike : (router : Router) → Contains n.routers router → (name list : Option (List ℕ)) (inbound : Bool) →
+      plain_of router name list first inbound ≡ plain_of router name list p inbound
   pub few : length (sorted_of n) < 2 ^ 32
 
 -- an initial route stands at a router that has it
@@ -66,12 +70,14 @@ pub record StartsAt (p : Prefix) (routers : List Router) (place : ℕ) (route : 
   pub at : slice_get routers place ≡ Some router
   pub is : start_route p router ≡ Some route
 
-pub starts_at : (p : Prefix) (routers : List Router) (place : ℕ) (route : Route) → slice_index_or (map (start_route p) routers) place None ≡ Some route → StartsAt p routers place route
+pub starts_at : (p : Prefix) (routers : List Router) (place : ℕ) (route : Route) → slice_index_or (map (start_route p) routers) place None ≡ Some route →
+    StartsAt p routers place route
 starts_at p [] place route h = absurd cc
 starts_at p (router ∷ routers) zero route h = record { router = router; at = refl; is = h }
 starts_at p (router ∷ routers) (suc place) route h = let r = starts_at p routers place route h in record { router = r.router; at = r.at; is = r.is }
 
-module _ (n : Network) (first p : Prefix) (init : List (Option Route)) (lone : List Bool) (maps : LineMaps) (shown : Shown) (found : BgpEdges) (parts : AreBgpParts n first p init lone maps shown found) where
+module _ (n : Network) (first p : Prefix) (init : List (Option Route)) (lone : List Bool) (maps : LineMaps) (shown : Shown) (found : BgpEdges)
+    (parts : AreBgpParts n first p init lone maps shown found) where
   abbrev pub acts : List BgpAct
   acts = found.acts.acts.items
 
@@ -101,38 +107,44 @@ module _ (n : Network) (first p : Prefix) (init : List (Option Route)) (lone : L
   -- ---- imports
 
   -- an act imports what its session does
-  pub written_import : (number : ℕ) (act : BgpAct) → slice_get acts number ≡ Some act → (comms : List ℕ) → import_by (written act) comms ≡ import_over maps.maps act.session comms
+  pub written_import : (number : ℕ) (act : BgpAct) → slice_get acts number ≡ Some act → (comms : List ℕ) →
+      import_by (written act) comms ≡ import_over maps.maps act.session comms
   unfolding import_by
   written_import number act at comms = sym (import_at_hop n first maps parts.lines act.first act.session (parts.edges.over number act at) comms)
 
   pub read_act : (number : ℕ) (act : BgpAct) → slice_get acts number ≡ Some act → slice_index_or (map written acts) number (Cost 0) ≡ written act
   read_act number act at = read_map written acts number act (Cost 0) at
 
-  pub edge_import : (edge : Edge) (act : BgpAct) → slice_get acts edge.act ≡ Some act → (comms : List ℕ) → import_by (act_of made edge) comms ≡ import_over maps.maps act.session comms
+  pub edge_import : (edge : Edge) (act : BgpAct) → slice_get acts edge.act ≡ Some act → (comms : List ℕ) →
+      import_by (act_of made edge) comms ≡ import_over maps.maps act.session comms
   edge_import edge act at comms = ap (λ (a : Act). import_by a comms) (read_act edge.act act at) ∙ written_import edge.act act at comms
 
   pub router_in : (place : ℕ) (router : Router) → slice_get n.routers place ≡ Some router → Contains n.routers router
   router_in place router at = contains_in n.routers router (get_in n.routers place router at)
 
   -- the maps of the ends for this prefix
-  pub out_for : (hop : Hop) (ends : SessionEnds n (direction_of hop)) → out_map first ends.exporter ends.exporter_line ≡ out_map p ends.exporter ends.exporter_line
+  pub out_for : (hop : Hop) (ends : SessionEnds n (direction_of hop)) →
+      out_map first ends.exporter ends.exporter_line ≡ out_map p ends.exporter ends.exporter_line
   out_for hop ends = parts.alike ends.exporter (router_in hop.exporter ends.exporter ends.exporter_at) _ _ false
 
   pub in_for : (hop : Hop) (ends : SessionEnds n (direction_of hop)) → in_map first ends.importer ends.importer_line ≡ in_map p ends.importer ends.importer_line
   in_for hop ends = parts.alike ends.importer (router_in hop.importer ends.importer ends.importer_at) _ _ true
 
   -- a session imports what the lines at its ends do
-  pub import_at_ends : (hop : Hop) (session : Session) → session_at n.routers maps hop ≡ Some session → (ends : SessionEnds n (direction_of hop)) → (comms : List ℕ)
+  pub import_at_ends : (hop : Hop) (session : Session) → session_at n.routers maps hop ≡ Some session → (ends : SessionEnds n (direction_of hop)) →
+      (comms : List ℕ)
       → import_over maps.maps session comms ≡ session_import p ends.exporter ends.exporter_line ends.importer ends.importer_line comms
   import_at_ends hop session e ends comms =
       import_at_hop n first maps parts.lines hop session e comms
-      ∙ (λ j. import_of ((out_at_ends n first hop ends ∙ out_for hop ends) j) (sends_at_ends n hop ends j) ((in_at_ends n first hop ends ∙ in_for hop ends) j) comms)
+      ∙ (λ j. import_of ((out_at_ends n first hop ends ∙ out_for hop ends) j) (sends_at_ends n hop ends j) ((in_at_ends n first hop ends ∙ in_for hop ends) j)
+      comms)
       ∙ parts.sessions_import p ends.exporter ends.importer ends.exporter_line ends.importer_line
       (well_formed n parts.bgp ends.exporter (get_in n.routers hop.exporter ends.exporter ends.exporter_at))
       (well_formed n parts.bgp ends.importer (get_in n.routers hop.importer ends.importer ends.importer_at)) comms
 
   pub start_there : (place : ℕ) (router : Router) → slice_get n.routers place ≡ Some router → slice_index_or init place None ≡ start_route p router
-  start_there place router at = ap (λ (l : List (Option Route)). slice_index_or l place None) parts.starts ∙ read_map (start_route p) n.routers place router None at
+  start_there place router at = ap (λ (l : List (Option Route)). slice_index_or l place None) parts.starts
+      ∙ read_map (start_route p) n.routers place router None at
 
   pub closed_to : (place : ℕ) → originates init place ≡ false → slice_index_or init place None ≡ None
   closed_to place open_to = none_is (slice_index_or init place None) open_to
@@ -158,7 +170,8 @@ module _ (n : Network) (first p : Prefix) (init : List (Option Route)) (lone : L
   unfolding import_by
   means_session hop edge has ends = record {
     ends = ends;
-    same = λ comms ascending. written_import edge.act has.act.act has.act.at comms ∙ sym (has.act.one.same comms ascending) ∙ import_at_ends hop has.session has.session_is ends comms;
+    same = λ comms ascending. written_import edge.act has.act.act has.act.at comms ∙ sym (has.act.one.same comms ascending)
+        ∙ import_at_ends hop has.session has.session_is ends comms;
   }
 
   pub stands : (hop : Hop) (edge : Edge) → HasEdge hop edge → IsHopOf (links_of n) hop → StandsFor made n p edge (direction_of hop)

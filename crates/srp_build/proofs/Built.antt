@@ -57,8 +57,10 @@ priced_hop : (n : Network) → IsOspf n → (hop : Hop) → IsHopOf (links_of n)
 priced_hop n ospf hop of =
     let ends = link_ends n ospf of.link (get_in (links_of n) hop.link of.link of.at) in
     elim of.is [
-      | inl low ↦ subst (λ (h : Hop). IsPriced n h.importer h.importer_item (cost_of_hop n.routers h)) (sym low) (as_priced of.link.low of.link.low_item ends.low_cost ends.low)
-      | inr high ↦ subst (λ (h : Hop). IsPriced n h.importer h.importer_item (cost_of_hop n.routers h)) (sym high) (as_priced of.link.high of.link.high_item ends.high_cost ends.high)
+      | inl low ↦ subst (λ (h : Hop). IsPriced n h.importer h.importer_item (cost_of_hop n.routers h)) (sym low)
+          (as_priced of.link.low of.link.low_item ends.low_cost ends.low)
+      | inr high ↦ subst (λ (h : Hop). IsPriced n h.importer h.importer_item (cost_of_hop n.routers h)) (sym high)
+          (as_priced of.link.high of.link.high_item ends.high_cost ends.high)
     ]
   where
     as_priced : (place item cost : ℕ) → IsPriced n place item cost → IsPriced n place item (cost_at n.routers place item)
@@ -116,11 +118,15 @@ module _ (n : Network) (p : Prefix) (init : List (Option Route)) (costs : List �
       mapped (c ∷ cs) fits (inl same) = subst (λ (a : Act). IsActOf OverOspf a) same (fits c (inl refl))
       mapped (c ∷ cs) fits (inr h) = mapped cs (λ cost i. fits cost (inr i)) h
 
-  acts_differ : (i j : ℕ) → i < length (map Cost costs) → j < length (map Cost costs) → ActsAlike (slice_index_or (map Cost costs) i (Cost 0)) (slice_index_or (map Cost costs) j (Cost 0)) → i ≡ j
+  acts_differ : (i j : ℕ) → i < length (map Cost costs) → j < length (map Cost costs) →
+      ActsAlike (slice_index_or (map Cost costs) i (Cost 0)) (slice_index_or (map Cost costs) j (Cost 0)) → i ≡ j
   acts_differ i j a b alike =
       let acts : length (map Cost costs) ≡ length costs = length-map costs Cost in
-      let both : ActsAlike (Cost (slice_index_or costs i 0)) (Cost (slice_index_or costs j 0)) = subst (λ (x : Act). ActsAlike x (Cost (slice_index_or costs j 0))) (act_at costs i) (subst (λ (y : Act). ActsAlike (slice_index_or (map Cost costs) i (Cost 0)) y) (act_at costs j) alike) in
-      parts.distinct.one_place i j (slice_index_or costs i 0) (cost_there costs i (omega arith)) (cost_there costs j (omega arith) ∙ ap (λ (c : ℕ). Some c) (sym both))
+      let both : ActsAlike (Cost (slice_index_or costs i 0)) (Cost (slice_index_or costs j 0)) =
+      subst (λ (x : Act). ActsAlike x (Cost (slice_index_or costs j 0))) (act_at costs i)
+      (subst (λ (y : Act). ActsAlike (slice_index_or (map Cost costs) i (Cost 0)) y) (act_at costs j) alike) in
+      parts.distinct.one_place i j (slice_index_or costs i 0) (cost_there costs i (omega arith))
+      (cost_there costs j (omega arith) ∙ ap (λ (c : ℕ). Some c) (sym both))
 
   start_cost : (u : ℕ) (r : Route) → initial made u ≡ Some r → IsCostRoute r
   start_cost u r h =
@@ -174,7 +180,8 @@ module _ (n : Network) (p : Prefix) (init : List (Option Route)) (costs : List �
         link = ap (λ (e : Edge). e.link) has.same;
         importer = ap (λ (e : Edge). e.importer) has.same;
         exporter = ap (λ (e : Edge). e.exporter) has.same;
-        means = subst (MeansAs hop) (sym (act_at costs edge.act ∙ ap Cost (read_cost costs edge.act (cost_of_hop n.routers hop) has.cost))) (record { importer = priced.router; importer_at = priced.at; same = priced.is });
+        means = subst (MeansAs hop) (sym (act_at costs edge.act ∙ ap Cost (read_cost costs edge.act (cost_of_hop n.routers hop) has.cost)))
+            (record { importer = priced.router; importer_at = priced.at; same = priced.is });
       }
 
   edge_for : (d : Direction) → IsDirection n d → (edge : Edge) × Contains edges edge × StandsFor made n p edge d
@@ -192,17 +199,21 @@ module _ (n : Network) (p : Prefix) (init : List (Option Route)) (costs : List �
     names = refl;
     numbers = refl;
     init = parts.starts;
-    edges_stand = λ edge has. (let f = from n HasCost never_left same_ends edges parts.numbers.each edge has in (direction_of f.hop, edge_stands f.hop edge f.has f.of));
+    edges_stand = λ edge has. (let f = from n HasCost never_left same_ends edges parts.numbers.each edge has in
+        (direction_of f.hop, edge_stands f.hop edge f.has f.of));
     edges_all = λ d is carries. edge_for d is;
   }
 
 -- the parts, as the code makes them
-pub parts_of : (n : Network) (p : Prefix) (routers : List Router) (origins class_origins : List Origin) (init : List (Option Route)) (costs : List ℕ) (edges : List Edge)
-    → IsOspf n → routers ≡ n.routers → origins ≡ class_origins → starts_from 0 class_origins n.routers ≡ map (start_route p) n.routers → init ≡ starts_from 0 origins routers
+pub parts_of : (n : Network) (p : Prefix) (routers : List Router) (origins class_origins : List Origin) (init : List (Option Route)) (costs : List ℕ)
+    (edges : List Edge)
+    → IsOspf n → routers ≡ n.routers → origins ≡ class_origins → starts_from 0 class_origins n.routers ≡ map (start_route p) n.routers →
+    init ≡ starts_from 0 origins routers
     → NumbersHops n.routers costs (sorted_of n) edges → AreDistinct costs → length (sorted_of n) < 2 ^ 32 → AreParts n p init costs edges
 parts_of n p routers origins class_origins init costs edges ospf routers_are origins_are starts init_is numbers distinct few = record {
   ospf = ospf;
-  starts = init_is ∙ ap (λ (o : List Origin). starts_from 0 o routers) origins_are ∙ ap (λ (r : List Router). starts_from 0 class_origins r) routers_are ∙ starts;
+  starts = init_is ∙ ap (λ (o : List Origin). starts_from 0 o routers) origins_are ∙ ap (λ (r : List Router). starts_from 0 class_origins r) routers_are
+      ∙ starts;
   numbers = numbers;
   distinct = distinct;
   few = few;

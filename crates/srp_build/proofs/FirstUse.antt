@@ -31,7 +31,8 @@ take_next {X} (y ∷ ys) (suc k) x d within at = ap (λ (l : List X). y ∷ l) (
 pub take_more : {X : Type 0} (xs : List X) (i : ℕ) (x d : X) → i < length xs → get_or xs i d ≡ x → take (i + 1) xs ≡ take i xs ++ x ∷ []
 take_more {X} xs i x d within at = ap (λ (m : ℕ). take m xs) (let one : i + 1 ≡ suc i = omega arith in one) ∙ take_next xs i x d within at
 
-pub front_or_last : {X : Type 0} (xs : List X) (x : X) (k : ℕ) (y : X) → slice_get (xs ++ x ∷ []) k ≡ Some y → (slice_get xs k ≡ Some y) ⊎ ((k ≡ length xs) × (x ≡ y))
+pub front_or_last : {X : Type 0} (xs : List X) (x : X) (k : ℕ) (y : X) → slice_get (xs ++ x ∷ []) k ≡ Some y → (slice_get xs k ≡ Some y)
+    ⊎ ((k ≡ length xs) × (x ≡ y))
 front_or_last [] x zero y e = inr (refl, cc)
 front_or_last [] x (suc k) y e = absurd cc
 front_or_last (z ∷ xs) x zero y e = inl e
@@ -41,7 +42,8 @@ front_or_last (z ∷ xs) x (suc k) y e = elim (front_or_last xs x k y e) [
 ]
 
 pub later_place : (edges : List Edge) (place later act : ℕ) → place ≤ later → HasEarlier edges place act → HasEarlier edges later act
-later_place edges place later act le has = record { earlier = has.earlier; before = let b = has.before in omega arith; edge = has.edge; at = has.at; same = has.same }
+later_place edges place later act le has =
+    record { earlier = has.earlier; before = let b = has.before in omega arith; edge = has.edge; at = has.at; same = has.same }
 
 earlier_kept : (edges more : List Edge) (place later act : ℕ) → place ≤ later → HasEarlier edges place act → HasEarlier (edges ++ more) later act
 earlier_kept edges more place later act le has = record {
@@ -65,10 +67,12 @@ oldest old new act (inl k) other less = let a = k.1 in omega arith
 oldest old new act (inr k) other less = let a = k.1 in omega arith
 
 -- one more edge
-pub first_use_next : (old new : ℕ) (edges : List Edge) (last : Edge) → AreByFirstUse edges old → IsOldOrNext old new last.act → AreByFirstUse (edges ++ last ∷ []) new
+pub first_use_next : (old new : ℕ) (edges : List Edge) (last : Edge) → AreByFirstUse edges old → IsOldOrNext old new last.act →
+    AreByFirstUse (edges ++ last ∷ []) new
 first_use_next old new edges last order known =
     let total = length_last edges last in
-    let old_used : (other : ℕ) → other < old → HasEarlier (edges ++ last ∷ []) (length edges) other = λ other below. earlier_kept edges (last ∷ []) (length edges) (length edges) other (omega arith) (order.used other below) in
+    let old_used : (other : ℕ) → other < old → HasEarlier (edges ++ last ∷ []) (length edges) other =
+    λ other below. earlier_kept edges (last ∷ []) (length edges) (length edges) other (omega arith) (order.used other below) in
     record {
       used = λ other below. elim (cases_lt other old) [
         | inl less ↦ later_place (edges ++ last ∷ []) (length edges) (length (edges ++ last ∷ [])) other (omega arith) (old_used other less)
@@ -82,7 +86,8 @@ first_use_next old new edges last order known =
       ];
       in_order = λ place other edge e less. elim (front_or_last edges last place edge e) [
         | inl front ↦ earlier_kept edges (last ∷ []) place place other (omega arith) (order.in_order place other edge front less)
-        | inr is_last ↦ later_place (edges ++ last ∷ []) (length edges) place other (let a = is_last.0 in omega arith) (old_used other (oldest old new last.act known other (let same = ap (λ (x : Edge). x.act) is_last.1 in omega arith)))
+        | inr is_last ↦ later_place (edges ++ last ∷ []) (length edges) place other (let a = is_last.0 in omega arith)
+            (old_used other (oldest old new last.act known other (let same = ap (λ (x : Edge). x.act) is_last.1 in omega arith)))
       ];
     }
 

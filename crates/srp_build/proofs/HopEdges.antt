@@ -11,7 +11,8 @@ use Rattle.srp_build.proofs.SortedHops.{BeforeHop}
 
 module _ (HasEdge : Hop → Edge → Type 0) (IsLeft : Hop → Type 0) where
   -- the direction of an edge
-  pub edge_hop : (hops : List Hop) (edges : List Edge) → AreEdgesOf HasEdge IsLeft hops edges → (edge : Edge) → In edges edge → (hop : Hop) × In hops hop × HasEdge hop edge
+  pub edge_hop : (hops : List Hop) (edges : List Edge) → AreEdgesOf HasEdge IsLeft hops edges → (edge : Edge) → In edges edge → (hop : Hop) × In hops hop
+      × HasEdge hop edge
   edge_hop [] [] all edge at = absurd at
   edge_hop [] (e ∷ es) all edge at = absurd all
   edge_hop (h ∷ hs) [] all edge at = absurd at
@@ -44,7 +45,8 @@ module _ (HasEdge : Hop → Edge → Type 0) (IsLeft : Hop → Type 0) where
   few_edges (h ∷ hs) (e ∷ es) (inr left) = let r = few_edges hs (e ∷ es) left.1 in omega arith
 
   -- one more direction, with its edge
-  pub edge_last : (hop : Hop) (edge : Edge) → HasEdge hop edge → (hops : List Hop) (edges : List Edge) → AreEdgesOf HasEdge IsLeft hops edges → AreEdgesOf HasEdge IsLeft (hops ++ hop ∷ []) (edges ++ edge ∷ [])
+  pub edge_last : (hop : Hop) (edge : Edge) → HasEdge hop edge → (hops : List Hop) (edges : List Edge) → AreEdgesOf HasEdge IsLeft hops edges →
+      AreEdgesOf HasEdge IsLeft (hops ++ hop ∷ []) (edges ++ edge ∷ [])
   edge_last hop edge has [] [] all = inl (has, tt)
   edge_last hop edge has [] (e ∷ es) all = absurd all
   edge_last hop edge has (h ∷ hs) [] all = inr (all.0, edge_last hop edge has hs [] all.1)
@@ -52,7 +54,8 @@ module _ (HasEdge : Hop → Edge → Type 0) (IsLeft : Hop → Type 0) where
   edge_last hop edge has (h ∷ hs) (e ∷ es) (inr left) = inr (left.0, edge_last hop edge has hs (e ∷ es) left.1)
 
   -- one more direction, which is left out
-  pub left_last : (hop : Hop) → IsLeft hop → (hops : List Hop) (edges : List Edge) → AreEdgesOf HasEdge IsLeft hops edges → AreEdgesOf HasEdge IsLeft (hops ++ hop ∷ []) edges
+  pub left_last : (hop : Hop) → IsLeft hop → (hops : List Hop) (edges : List Edge) → AreEdgesOf HasEdge IsLeft hops edges →
+      AreEdgesOf HasEdge IsLeft (hops ++ hop ∷ []) edges
   left_last hop left [] [] all = (left, tt)
   left_last hop left [] (e ∷ es) all = absurd all
   left_last hop left (h ∷ hs) [] all = (all.0, left_last hop left hs [] all.1)
@@ -60,7 +63,8 @@ module _ (HasEdge : Hop → Edge → Type 0) (IsLeft : Hop → Type 0) where
   left_last hop left (h ∷ hs) (e ∷ es) (inr skipped) = inr (skipped.0, left_last hop left hs (e ∷ es) skipped.1)
 
   -- edges stand in the order of their directions
-  pub edges_in_order : ((hop : Hop) (edge : Edge) → HasEdge hop edge → edge ≡ edge_with edge.act hop) → (hops : List Hop) (edges : List Edge) → AreEdgesOf HasEdge IsLeft hops edges → IsOrdered BeforeHop hops → AreOrdered edges
+  pub edges_in_order : ((hop : Hop) (edge : Edge) → HasEdge hop edge → edge ≡ edge_with edge.act hop) → (hops : List Hop) (edges : List Edge) →
+      AreEdgesOf HasEdge IsLeft hops edges → IsOrdered BeforeHop hops → AreOrdered edges
   edges_in_order is [] [] all ordered = tt
   edges_in_order is [] (e ∷ es) all ordered = absurd all
   edges_in_order is (h ∷ hs) [] all ordered = tt
@@ -74,7 +78,8 @@ module _ (HasEdge : Hop → Edge → Type 0) (IsLeft : Hop → Type 0) where
   edges_in_order is (h ∷ hs) (e ∷ es) (inr left) ordered = edges_in_order is hs (e ∷ es) left.1 ordered.1
 
 -- what an edge has may become more
-pub edges_as : (HasEdge HasMore : Hop → Edge → Type 0) (IsLeft : Hop → Type 0) → ((hop : Hop) (edge : Edge) → HasEdge hop edge → HasMore hop edge) → (hops : List Hop) (edges : List Edge) → AreEdgesOf HasEdge IsLeft hops edges → AreEdgesOf HasMore IsLeft hops edges
+pub edges_as : (HasEdge HasMore : Hop → Edge → Type 0) (IsLeft : Hop → Type 0) → ((hop : Hop) (edge : Edge) → HasEdge hop edge → HasMore hop edge) →
+    (hops : List Hop) (edges : List Edge) → AreEdgesOf HasEdge IsLeft hops edges → AreEdgesOf HasMore IsLeft hops edges
 edges_as HasEdge HasMore IsLeft more [] [] all = tt
 edges_as HasEdge HasMore IsLeft more [] (e ∷ es) all = all
 edges_as HasEdge HasMore IsLeft more (h ∷ hs) [] all = (all.0, edges_as HasEdge HasMore IsLeft more hs [] all.1)

@@ -50,7 +50,8 @@ table_at f (numbers ∷ table) (suc router) item = table_at f table router item
 
 session_parts : (f : ℕ → ℕ) (sends : Bool) (out into : Option ℕ) (session : Session)
     → option_and_then (λ (o : ℕ). option_map (λ (i : ℕ). (let s : Session = record { out = o; sends = sends; into = i } in s)) into) out ≡ Some session
-    → option_and_then (λ (o : ℕ). option_map (λ (i : ℕ). (let s : Session = record { out = o; sends = sends; into = i } in s)) (option_map f into)) (option_map f out) ≡ Some (record { out = f session.out; sends = session.sends; into = f session.into })
+    → option_and_then (λ (o : ℕ). option_map (λ (i : ℕ). (let s : Session = record { out = o; sends = sends; into = i } in s)) (option_map f into))
+    (option_map f out) ≡ Some (record { out = f session.out; sends = session.sends; into = f session.into })
 session_parts f sends None into session e = absurd cc
 session_parts f sends (Some o) None session e = absurd cc
 session_parts f sends (Some o) (Some i) session e =
@@ -58,15 +59,19 @@ session_parts f sends (Some o) (Some i) session e =
     ap (λ (s : Session). Some (let t : Session = record { out = f s.out; sends = s.sends; into = f s.into } in t)) same
 
 -- the session of a direction has the numbers of the maps of its kinds
-pub session_numbered : (routers : List Router) (kinds : Kinds) (maps : KindMaps) (hop : Hop) (session : Session) → session_of routers kinds.outs kinds.ins hop ≡ Some session → session_at routers (line_maps kinds maps) hop ≡ Some (with_maps maps.numbers.items session)
+pub session_numbered : (routers : List Router) (kinds : Kinds) (maps : KindMaps) (hop : Hop) (session : Session) →
+    session_of routers kinds.outs kinds.ins hop ≡ Some session → session_at routers (line_maps kinds maps) hop ≡ Some (with_maps maps.numbers.items session)
 session_numbered routers kinds maps hop session e =
     let f = number_of maps.numbers.items in
     let sends = sends_at routers hop.exporter hop.exporter_item in
-    (λ j. option_and_then (λ (o : ℕ). option_map (λ (i : ℕ). (let s : Session = record { out = o; sends = sends; into = i } in s)) (table_at f kinds.ins hop.importer hop.importer_item j)) (table_at f kinds.outs hop.exporter hop.exporter_item j))
+    (λ j. option_and_then (λ (o : ℕ). option_map (λ (i : ℕ). (let s : Session = record { out = o; sends = sends; into = i } in s))
+    (table_at f kinds.ins hop.importer hop.importer_item j)) (table_at f kinds.outs hop.exporter hop.exporter_item j))
     ∙ session_parts f sends (number_at kinds.outs hop.exporter hop.exporter_item) (number_at kinds.ins hop.importer hop.importer_item) session e
 
 -- one more session
-pub sessions_next : (routers : List Router) (kinds : Kinds) (outs ins : List (List ℕ)) (hops : List Hop) (i : ℕ) (hop d : Hop) (sessions : List Session) (session : Session) → outs ≡ kinds.outs → ins ≡ kinds.ins → i < length hops → get_or hops i d ≡ hop → AreSessionsOf routers kinds (take i hops) sessions → session_of routers outs ins hop ≡ Some session → AreSessionsOf routers kinds (take (i + 1) hops) (sessions ++ session ∷ [])
+pub sessions_next : (routers : List Router) (kinds : Kinds) (outs ins : List (List ℕ)) (hops : List Hop) (i : ℕ) (hop d : Hop) (sessions : List Session)
+    (session : Session) → outs ≡ kinds.outs → ins ≡ kinds.ins → i < length hops → get_or hops i d ≡ hop → AreSessionsOf routers kinds (take i hops) sessions →
+    session_of routers outs ins hop ≡ Some session → AreSessionsOf routers kinds (take (i + 1) hops) (sessions ++ session ∷ [])
 sessions_next routers kinds outs ins hops i hop d sessions session outs_are ins_are inside at so_far is =
     subst (λ (h : List Hop). AreSessionsOf routers kinds h (sessions ++ session ∷ [])) (sym (take_more hops i hop d inside at)) (record {
       total = (let a = length_last (take i hops) hop in let b = length_last sessions session in let c = so_far.total in omega arith);
@@ -84,7 +89,10 @@ sessions_next routers kinds outs ins hops i hop d sessions session outs_are ins_
 
 -- ---- the maps of kinds, one after another
 
-pub maps_next : (p : Prefix) (routers : List Router) (kinds : List LinePlace) (i : ℕ) (kind d : LinePlace) (maps more : List Plain) (numbers : List ℕ) (number : ℕ) → i < length kinds → get_or kinds i d ≡ kind → AreMapsOfKinds p routers (take i kinds) maps numbers → IsNumberOf more number (map_of_place p routers kind) → IsGrownBy maps more (map_of_place p routers kind) number → AreMapsOfKinds p routers (take (i + 1) kinds) more (numbers ++ number ∷ [])
+pub maps_next : (p : Prefix) (routers : List Router) (kinds : List LinePlace) (i : ℕ) (kind d : LinePlace) (maps more : List Plain) (numbers : List ℕ)
+    (number : ℕ) → i < length kinds → get_or kinds i d ≡ kind → AreMapsOfKinds p routers (take i kinds) maps numbers →
+    IsNumberOf more number (map_of_place p routers kind) → IsGrownBy maps more (map_of_place p routers kind) number →
+    AreMapsOfKinds p routers (take (i + 1) kinds) more (numbers ++ number ∷ [])
 maps_next p routers kinds i kind d maps more numbers number inside at so_far is grown =
     subst (λ (k : List LinePlace). AreMapsOfKinds p routers k more (numbers ++ number ∷ [])) (sym (take_more kinds i kind d inside at)) (record {
       total = (let a = length_last (take i kinds) kind in let b = length_last numbers number in let c = so_far.total in omega arith);
@@ -95,43 +103,68 @@ maps_next p routers kinds i kind d maps more numbers number inside at so_far is 
         ]
         | inr here ↦ elim (front_or_last numbers number place other other_at) [
           | inl there ↦ absurd (let a = within_get numbers place other there in let b = so_far.total in let c = here.0 in omega arith)
-          | inr last ↦ subst (λ (x : LinePlace). IsNumberOf more other (map_of_place p routers x)) here.1 (subst (λ (m : ℕ). IsNumberOf more m (map_of_place p routers kind)) last.1 is)
+          | inr last ↦ subst (λ (x : LinePlace). IsNumberOf more other (map_of_place p routers x)) here.1
+              (subst (λ (m : ℕ). IsNumberOf more m (map_of_place p routers kind)) last.1 is)
         ]
       ];
       made = came grown;
     })
   where
-    kept : IsGrownBy maps more (map_of_place p routers kind) number → (other : ℕ) (k : LinePlace) → IsNumberOf maps other (map_of_place p routers k) → IsNumberOf more other (map_of_place p routers k)
+    kept : IsGrownBy maps more (map_of_place p routers kind) number → (other : ℕ) (k : LinePlace) → IsNumberOf maps other (map_of_place p routers k) →
+        IsNumberOf more other (map_of_place p routers k)
     kept (inl same) other k of = subst (λ (l : List Plain). IsNumberOf l other (map_of_place p routers k)) (sym same) of
-    kept (inr last) other k of = record { other = of.other; at = ap (λ (l : List Plain). slice_get l other) last.0 ∙ get_front maps (map_of_place p routers kind ∷ []) other of.other of.at; same = of.same }
+    kept (inr last) other k of = record {
+      other = of.other;
+      at = ap (λ (l : List Plain). slice_get l other) last.0
+          ∙ get_front maps (map_of_place p routers kind ∷ []) other of.other of.at;
+      same = of.same;
+    }
 
-    came : IsGrownBy maps more (map_of_place p routers kind) number → (other : ℕ) (plain : Plain) → slice_get more other ≡ Some plain → IsMapOfPlace p routers plain
+    came : IsGrownBy maps more (map_of_place p routers kind) number → (other : ℕ) (plain : Plain) → slice_get more other ≡ Some plain →
+        IsMapOfPlace p routers plain
     came (inl same) other plain at = so_far.made other plain (ap (λ (l : List Plain). slice_get l other) (sym same) ∙ at)
-    came (inr last) other plain at = elim (front_or_last maps (map_of_place p routers kind) other plain (ap (λ (l : List Plain). slice_get l other) (sym last.0) ∙ at)) [
-      | inl before ↦ so_far.made other plain before
-      | inr here ↦ record { inbound = kind.inbound; router = kind.router; item = kind.item; is = sym here.1 }
-    ]
+    came (inr last) other plain at = elim (front_or_last maps (map_of_place p routers kind) other plain
+        (ap (λ (l : List Plain). slice_get l other) (sym last.0) ∙ at)) [
+          | inl before ↦ so_far.made other plain before
+          | inr here ↦ record { inbound = kind.inbound; router = kind.router; item = kind.item; is = sym here.1 }
+        ]
 
 -- ---- the maps of lines
 
-module _ (p : Prefix) (all : List Router) (kinds : List LinePlace) (maps : List Plain) (numbers : List ℕ) (of_kinds : AreMapsOfKinds p all kinds maps numbers) (inbound : Bool) where
-  line_number : (router : Router) (line : Neighbor) (number : ℕ) → IsKindOf all kinds router inbound line number → IsNumberOf maps (number_of numbers number) (map_of_line p router inbound line)
+module _ (p : Prefix) (all : List Router) (kinds : List LinePlace) (maps : List Plain) (numbers : List ℕ) (of_kinds : AreMapsOfKinds p all kinds maps numbers)
+    (inbound : Bool) where
+  line_number : (router : Router) (line : Neighbor) (number : ℕ) → IsKindOf all kinds router inbound line number →
+      IsNumberOf maps (number_of numbers number) (map_of_line p router inbound line)
   line_number router line number of =
       let inside = within_get kinds number of.first of.at in
       let total = of_kinds.total in
       let there = of_kinds.each number (number_of numbers number) of.first of.at (some_at numbers number 0 (omega arith)) in
-      record { other = there.other; at = there.at; same = says_too there.other (map_of_place p all of.first) (map_of_line p router inbound line) there.same (of.same p) }
+      record {
+        other = there.other;
+        at = there.at;
+        same =
+            says_too there.other (map_of_place p all of.first) (map_of_line p router inbound line) there.same (of.same p);
+      }
 
-  router_numbers : (router : Router) (of : List ℕ) → AreKindsOf all router inbound kinds (neighbors_of router) of → AreNumbersOf p router inbound maps (neighbors_of router) (map (number_of numbers) of)
+  router_numbers : (router : Router) (of : List ℕ) → AreKindsOf all router inbound kinds (neighbors_of router) of →
+      AreNumbersOf p router inbound maps (neighbors_of router) (map (number_of numbers) of)
   router_numbers router of are place number at = by_kind (slice_get of place) refl (sym (get_map (number_of numbers) of place) ∙ at)
     where
-      by_kind : (o : Option ℕ) → slice_get of place ≡ o → option_map (number_of numbers) o ≡ Some number → IsNumberOfLine p router inbound maps (neighbors_of router) place number
+      by_kind : (o : Option ℕ) → slice_get of place ≡ o → option_map (number_of numbers) o ≡ Some number →
+          IsNumberOfLine p router inbound maps (neighbors_of router) place number
       by_kind None none e = absurd cc
       by_kind (Some kind) some e =
           let there = are place kind some in
-          record { line = there.line; at = there.at; is = subst (λ (m : ℕ). IsNumberOf maps m (map_of_line p router inbound there.line)) (let same : number_of numbers kind ≡ number = cc in same) (line_number router there.line kind there.is) }
+          record {
+            line = there.line;
+            at = there.at;
+            is =
+                subst (λ (m : ℕ). IsNumberOf maps m (map_of_line p router inbound there.line)) (let same : number_of numbers kind ≡ number = cc in same)
+                (line_number router there.line kind there.is);
+          }
 
-  have_numbers : (routers : List Router) (table : List (List ℕ)) → HaveKinds all inbound kinds routers table → HaveNumbers p inbound maps routers (map (map (number_of numbers)) table)
+  have_numbers : (routers : List Router) (table : List (List ℕ)) → HaveKinds all inbound kinds routers table →
+      HaveNumbers p inbound maps routers (map (map (number_of numbers)) table)
   have_numbers [] [] have = tt
   have_numbers [] (of ∷ table) have = absurd have
   have_numbers (router ∷ routers) [] have = absurd have
@@ -140,7 +173,8 @@ module _ (p : Prefix) (all : List Router) (kinds : List LinePlace) (maps : List 
     have_numbers routers table have.1,
   )
 
-pub line_maps_are : (p : Prefix) (routers : List Router) (kinds : Kinds) (maps : KindMaps) → AreKinds routers kinds → AreMapsOfKinds p routers kinds.firsts.items maps.maps.items maps.numbers.items → AreLineMaps p routers (line_maps kinds maps)
+pub line_maps_are : (p : Prefix) (routers : List Router) (kinds : Kinds) (maps : KindMaps) → AreKinds routers kinds →
+    AreMapsOfKinds p routers kinds.firsts.items maps.maps.items maps.numbers.items → AreLineMaps p routers (line_maps kinds maps)
 line_maps_are p routers kinds maps are of_kinds = record {
   outs = have_numbers p routers kinds.firsts.items maps.maps.items maps.numbers.items of_kinds false routers kinds.outs are.outs;
   ins = have_numbers p routers kinds.firsts.items maps.maps.items maps.numbers.items of_kinds true routers kinds.ins are.ins;
@@ -149,16 +183,23 @@ line_maps_are p routers kinds maps are of_kinds = record {
 
 -- ---- the numbers of sessions are places of maps
 
-below : (p : Prefix) (inbound : Bool) (maps : List Plain) (routers : List Router) (table : List (List ℕ)) → HaveNumbers p inbound maps routers table → (router item number : ℕ) → number_at table router item ≡ Some number → number < length maps
-below p inbound maps routers table have router item number at = let line = line_numbered p inbound maps routers table have router item number at in within_get maps number line.is.other line.is.at
+below : (p : Prefix) (inbound : Bool) (maps : List Plain) (routers : List Router) (table : List (List ℕ)) → HaveNumbers p inbound maps routers table →
+    (router item number : ℕ) → number_at table router item ≡ Some number → number < length maps
+below p inbound maps routers table have router item number at = let line = line_numbered p inbound maps routers table have router item number at in
+    within_get maps number line.is.other line.is.at
 
-pub inside_are : (p : Prefix) (routers : List Router) (kinds : Kinds) (maps : KindMaps) (hops : List Hop) (sessions : List Session) → AreLineMaps p routers (line_maps kinds maps) → AreSessionsOf routers kinds hops sessions → AreInside maps sessions
+pub inside_are : (p : Prefix) (routers : List Router) (kinds : Kinds) (maps : KindMaps) (hops : List Hop) (sessions : List Session) →
+    AreLineMaps p routers (line_maps kinds maps) → AreSessionsOf routers kinds hops sessions → AreInside maps sessions
 inside_are p routers kinds maps hops sessions lines are place session at =
     let inside = within_get sessions place session at in
     let total = are.total in
     let hop = has_item hops place (omega arith) in
-    let at_hop : IsSessionAt routers (line_maps kinds maps) hop.item (with_maps maps.numbers.items session) = session_is_at routers (line_maps kinds maps) hop.item (with_maps maps.numbers.items session) (session_numbered routers kinds maps hop.item session (are.each place hop.item session hop.at at)) in
+    let at_hop : IsSessionAt routers (line_maps kinds maps) hop.item (with_maps maps.numbers.items session) =
+    session_is_at routers (line_maps kinds maps) hop.item (with_maps maps.numbers.items session)
+    (session_numbered routers kinds maps hop.item session (are.each place hop.item session hop.at at)) in
     record {
-      out = below p false maps.maps.items routers (line_maps kinds maps).outs lines.outs hop.item.exporter hop.item.exporter_item (number_of maps.numbers.items session.out) at_hop.out;
-      into = below p true maps.maps.items routers (line_maps kinds maps).ins lines.ins hop.item.importer hop.item.importer_item (number_of maps.numbers.items session.into) at_hop.into;
+      out = below p false maps.maps.items routers (line_maps kinds maps).outs lines.outs hop.item.exporter hop.item.exporter_item
+          (number_of maps.numbers.items session.out) at_hop.out;
+      into = below p true maps.maps.items routers (line_maps kinds maps).ins lines.ins hop.item.importer hop.item.importer_item
+          (number_of maps.numbers.items session.into) at_hop.into;
     }

@@ -50,12 +50,22 @@ both_some (Some a) (Some b) h = ((a, refl), (b, refl))
 both_some (Some a) None h = absurd cc
 both_some None u h = absurd cc
 
-priced_at : (n : Network) → IsOspf n → (p : Place Interface) → IsPlace interfaces_of n p → (a : Address) → active_address p ≡ Some a → (cost : ℕ) × IsPriced n p.router p.item cost
+priced_at : (n : Network) → IsOspf n → (p : Place Interface) → IsPlace interfaces_of n p → (a : Address) → active_address p ≡ Some a →
+    (cost : ℕ) × IsPriced n p.router p.item cost
 priced_at n ospf p at a active =
     let is_active = picked (is_active_interface p.owner p.value) p.value.address a active in
     let in_area = and_first (is_in_area_interface p.owner p.value) _ is_active in
-    let has = ospf.priced p.owner p.value (contains_in n.routers p.owner (get_in n.routers p.router p.owner at.at)) (contains_in p.owner.interfaces p.value (get_in p.owner.interfaces p.item p.value at.item)) in_area in
-    (has.cost, record { router = p.owner; at = at.at; is = ap (λ (o : Option Interface). option_and_then cost_of_interface o) at.item ∙ has.is; positive = has.positive })
+    let has = ospf.priced p.owner p.value (contains_in n.routers p.owner (get_in n.routers p.router p.owner at.at))
+    (contains_in p.owner.interfaces p.value (get_in p.owner.interfaces p.item p.value at.item)) in_area in (
+      has.cost,
+      record {
+        router = p.owner;
+        at = at.at;
+        is = ap (λ (o : Option Interface). option_and_then cost_of_interface o) at.item ∙ has.is;
+        positive =
+            has.positive;
+      },
+    )
 
 -- both ends of a link: two routers, and the costs of their interfaces
 pub record HasEnds (n : Network) (l : Link) : Type 0 where
@@ -65,7 +75,8 @@ pub record HasEnds (n : Network) (l : Link) : Type 0 where
   pub high_cost : ℕ
   pub high : IsPriced n l.high l.high_item high_cost
 
-ends_of : (n : Network) → IsOspf n → (p q : Place Interface) → IsPlace interfaces_of n p → IsPlace interfaces_of n q → are_adjacent p q ≡ true → HasEnds n (link_between p q)
+ends_of : (n : Network) → IsOspf n → (p q : Place Interface) → IsPlace interfaces_of n p → IsPlace interfaces_of n q → are_adjacent p q ≡ true →
+    HasEnds n (link_between p q)
 ends_of n ospf p q p_at q_at joined =
     let less : nat_lt p.router q.router ≡ true = and_first (nat_lt p.router q.router) (share_area_subnet p q) joined in
     let both = both_some (active_address p) (active_address q) (and_second (nat_lt p.router q.router) (share_area_subnet p q) joined) in

@@ -34,7 +34,8 @@ place_at {X} items n p h =
     let place : item.0 ≡ p.item = (let a : made.0.0 ≡ item.0 = (let e = item.1 in omega arith) in sym a ∙ ap (λ (q : Place X). q.item) made.2) in
     record {
       at = sym (ap (slice_get n.routers) number) ∙ router.2 ∙ ap (λ (r : Router). Some r) owner;
-      item = ap (λ (r : Router). slice_get (items r) p.item) (sym owner) ∙ sym (ap (slice_get (items on.0.1)) place) ∙ item.2 ∙ ap (λ (x : X). Some x) (ap (λ (q : Place X). q.value) made.2);
+      item = ap (λ (r : Router). slice_get (items r) p.item) (sym owner) ∙ sym (ap (slice_get (items on.0.1)) place) ∙ item.2
+          ∙ ap (λ (x : X). Some x) (ap (λ (q : Place X). q.value) made.2);
     }
 
 -- a link that joins two places
@@ -46,7 +47,8 @@ pub record IsJoining {X : Type 0} (items : Router → List X) (joins : Place X �
   pub joined : joins low high ≡ true
   pub is : link_between low high ≡ l
 
-joining : {X : Type 0} (items : Router → List X) (joins : Place X → Place X → Bool) (n : Network) (l : Link) → In (links_joining joins (places items n)) l → IsJoining items joins n l
+joining : {X : Type 0} (items : Router → List X) (joins : Place X → Place X → Bool) (n : Network) (l : Link) → In (links_joining joins (places items n)) l →
+    IsJoining items joins n l
 joining {X} items joins n l h =
     let at = flat_map_in (links_from joins (places items n)) (places items n) l h in
     let made = map_in (link_between at.0) (filter (joins at.0) (places items n)) l at.2 in
@@ -74,10 +76,12 @@ pub record IsBetweenRouters (n : Network) (l : Link) : Type 0 where
   pub apart : l.low < l.high
   pub inside : l.high < length n.routers
 
-between : {X : Type 0} (items : Router → List X) (joins : Place X → Place X → Bool) (n : Network) (l : Link) → ((p q : Place X) → joins p q ≡ true → nat_lt p.router q.router ≡ true) → IsJoining items joins n l → IsBetweenRouters n l
+between : {X : Type 0} (items : Router → List X) (joins : Place X → Place X → Bool) (n : Network) (l : Link) →
+    ((p q : Place X) → joins p q ≡ true → nat_lt p.router q.router ≡ true) → IsJoining items joins n l → IsBetweenRouters n l
 between items joins n l later at =
     let less : nat_lt at.low.router at.high.router ≡ true = later at.low at.high at.joined in
-    let here : IsBetweenRouters n (link_between at.low at.high) = record { apart = grind (arith, nat_tests); inside = within_get n.routers at.high.router at.high.owner at.high_at.at } in
+    let here : IsBetweenRouters n (link_between at.low at.high) =
+    record { apart = grind (arith, nat_tests); inside = within_get n.routers at.high.router at.high.owner at.high_at.at } in
     subst (IsBetweenRouters n) at.is here
 
 pub link_between_routers : (n : Network) (l : Link) → In (links_of n) l → IsBetweenRouters n l
@@ -90,7 +94,14 @@ link_between_routers n l h = elim (append_in (sessions_of n) (adjacencies_of n) 
 -- ---- directions
 
 abbrev pub direction_of : Hop → Direction
-direction_of hop = record { link = hop.link; importer = hop.importer; exporter = hop.exporter; importer_item = hop.importer_item; exporter_item = hop.exporter_item }
+direction_of hop = record {
+  link = hop.link;
+  importer = hop.importer;
+  exporter = hop.exporter;
+  importer_item = hop.importer_item;
+  exporter_item =
+      hop.exporter_item;
+}
 
 abbrev pub hop_for : Direction → Hop
 hop_for d = record { importer = d.importer; exporter = d.exporter; link = d.link; importer_item = d.importer_item; exporter_item = d.exporter_item }
@@ -123,8 +134,10 @@ direction_hop n d (inr high) = high_hop (links_of n) d.link (high_imports d) hig
 
 pub all_inside : (n : Network) → AreInside (length n.routers) (hops_of (links_of n))
 all_inside n = record {
-  importers = all_from (λ (hop : Hop). hop.importer < length n.routers) (hops_of (links_of n)) (λ hop at. (is_between n hop (hop_of (links_of n) hop at)).importer_in);
-  exporters = all_from (λ (hop : Hop). hop.exporter < length n.routers) (hops_of (links_of n)) (λ hop at. (is_between n hop (hop_of (links_of n) hop at)).exporter_in);
+  importers = all_from (λ (hop : Hop). hop.importer < length n.routers) (hops_of (links_of n))
+      (λ hop at. (is_between n hop (hop_of (links_of n) hop at)).importer_in);
+  exporters = all_from (λ (hop : Hop). hop.exporter < length n.routers) (hops_of (links_of n))
+      (λ hop at. (is_between n hop (hop_of (links_of n) hop at)).exporter_in);
 }
 
 -- the directions of a network, sorted by their ends
@@ -149,10 +162,12 @@ one_hop n x y a b importer link =
     elim a.is [
       | inl low ↦ elim b.is [
         | inl low' ↦ low ∙ ap (λ (k : ℕ). into_low (k, a.link)) link ∙ ap (λ (l : Link). into_low (y.link, l)) one ∙ sym low'
-        | inr high' ↦ (let e : a.link.low ≡ x.importer = ap (λ (h : Hop). h.importer) (sym low) in let f : b.link.high ≡ y.importer = ap (λ (h : Hop). h.importer) (sym high') in let g = ap (λ (l : Link). l.high) one in absurd (omega arith))
+        | inr high' ↦ (let e : a.link.low ≡ x.importer = ap (λ (h : Hop). h.importer) (sym low) in let f : b.link.high ≡ y.importer =
+            ap (λ (h : Hop). h.importer) (sym high') in let g = ap (λ (l : Link). l.high) one in absurd (omega arith))
       ]
       | inr high ↦ elim b.is [
-        | inl low' ↦ (let e : a.link.high ≡ x.importer = ap (λ (h : Hop). h.importer) (sym high) in let f : b.link.low ≡ y.importer = ap (λ (h : Hop). h.importer) (sym low') in let g = ap (λ (l : Link). l.low) one in absurd (omega arith))
+        | inl low' ↦ (let e : a.link.high ≡ x.importer = ap (λ (h : Hop). h.importer) (sym high) in let f : b.link.low ≡ y.importer =
+            ap (λ (h : Hop). h.importer) (sym low') in let g = ap (λ (l : Link). l.low) one in absurd (omega arith))
         | inr high' ↦ high ∙ ap (λ (k : ℕ). into_high (k, a.link)) link ∙ ap (λ (l : Link). into_high (y.link, l)) one ∙ sym high'
       ]
     ]

@@ -7,7 +7,8 @@ use Rattle.srp_build.specs.ListPlaces.{HavePlaces}
 use Rattle.srp_build.proofs.FirstUse.{front_or_last, take_more, length_last, within_get}
 
 -- one more router
-pub places_next : (routers : List Router) (i : ℕ) (router d : Router) (places : List Places) (own : Places) → i < length routers → get_or routers i d ≡ router → HavePlaces (take i routers) places → ArePlacesOfRouter router own → HavePlaces (take (i + 1) routers) (places ++ own ∷ [])
+pub places_next : (routers : List Router) (i : ℕ) (router d : Router) (places : List Places) (own : Places) → i < length routers → get_or routers i d ≡ router →
+    HavePlaces (take i routers) places → ArePlacesOfRouter router own → HavePlaces (take (i + 1) routers) (places ++ own ∷ [])
 places_next routers i router d places own inside at so_far is =
     subst (λ (r : List Router). HavePlaces r (places ++ own ∷ [])) (sym (take_more routers i router d inside at)) (record {
       total = (let a = length_last (take i routers) router in let b = length_last places own in let c = so_far.total in omega arith);

@@ -29,9 +29,11 @@ map_agree f g (y ∷ ys) x e (inr at) = map_agree f g ys x (let rest : map f ys 
 module _ (network : Network) (p q : Prefix) (same : answers_of network p ≡ answers_of network q) (r : Router) (r_in : In network.routers r) where
   permits_alike : (list : PrefixList) → In r.prefix_lists list → prefix_list_permits list p ≡ prefix_list_permits list q
   unfolding answers_of
-  permits_alike list at = map_agree (λ (l : PrefixList). prefix_list_permits l p) (λ (l : PrefixList). prefix_list_permits l q) (flat_map lists_on network.routers) list same (in_flat_map lists_on network.routers r list r_in at)
+  permits_alike list at = map_agree (λ (l : PrefixList). prefix_list_permits l p) (λ (l : PrefixList). prefix_list_permits l q)
+      (flat_map lists_on network.routers) list same (in_flat_map lists_on network.routers r list r_in at)
 
-  by_list : (name : List ℕ) (o : Option PrefixList) → prefix_list_named r name ≡ o → option_map_or (λ (l : PrefixList). prefix_list_permits l p) o false ≡ option_map_or (λ (l : PrefixList). prefix_list_permits l q) o false
+  by_list : (name : List ℕ) (o : Option PrefixList) → prefix_list_named r name ≡ o →
+      option_map_or (λ (l : PrefixList). prefix_list_permits l p) o false ≡ option_map_or (λ (l : PrefixList). prefix_list_permits l q) o false
   by_list name None e = refl
   by_list name (Some list) e = permits_alike list (found (λ (l : PrefixList). bytes_eq l.name name) r.prefix_lists list e).0
 
@@ -59,18 +61,22 @@ module _ (network : Network) (p q : Prefix) (same : answers_of network p ≡ ans
   pub same_plain : (name list : Option (List ℕ)) (inbound : Bool) → plain_of r name list p inbound ≡ plain_of r name list q inbound
   same_plain name list inbound = λ j. with_entries (if same_passes list j then same_for (own_preference r inbound) name j else [])
 
-answers_in : (network : Network) (class : DestClass) (q p : Prefix) → class_of network q ≡ class → In class.prefixes p → answers_of network q ≡ answers_of network p
+answers_in : (network : Network) (class : DestClass) (q p : Prefix) → class_of network q ≡ class → In class.prefixes p →
+    answers_of network q ≡ answers_of network p
 answers_in network class q p is at =
     let among : In (class_of network q).prefixes p = subst (λ (c : DestClass). In c.prefixes p) (sym is) at in
     (one_class network q p (filter_in (is_same_class network q) (originated network) p among).1).answers
 
 -- the lists answer alike to two prefixes of a class
-pub answers_of_class : (network : Network) (class : DestClass) (p q : Prefix) → Contains (classes_of network) class → Contains class.prefixes p → Contains class.prefixes q → answers_of network p ≡ answers_of network q
+pub answers_of_class : (network : Network) (class : DestClass) (p q : Prefix) → Contains (classes_of network) class → Contains class.prefixes p →
+    Contains class.prefixes q → answers_of network p ≡ answers_of network q
 unfolding classes_of
 answers_of_class network class p q has at also =
     let of = map_in (class_of network) (filter (is_least network) (originated network)) class (in_contains _ class has) in
     sym (answers_in network class of.0 p of.2 (in_contains class.prefixes p at)) ∙ answers_in network class of.0 q of.2 (in_contains class.prefixes q also)
 
-pub maps_of_class : (network : Network) (class : DestClass) (p q : Prefix) → Contains (classes_of network) class → Contains class.prefixes p → Contains class.prefixes q → (r : Router) → Contains network.routers r
+pub maps_of_class : (network : Network) (class : DestClass) (p q : Prefix) → Contains (classes_of network) class → Contains class.prefixes p →
+    Contains class.prefixes q → (r : Router) → Contains network.routers r
     → (name list : Option (List ℕ)) (inbound : Bool) → plain_of r name list p inbound ≡ plain_of r name list q inbound
-maps_of_class network class p q has at also r r_in name list inbound = same_plain network p q (answers_of_class network class p q has at also) r (in_contains network.routers r r_in) name list inbound
+maps_of_class network class p q has at also r r_in name list inbound =
+    same_plain network p q (answers_of_class network class p q has at also) r (in_contains network.routers r r_in) name list inbound

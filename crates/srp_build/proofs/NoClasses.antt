@@ -35,7 +35,8 @@ in_no_area r p none = find_none _ r.interfaces (λ x. ap (λ (b : Bool). b && is
 
 no_route : (r : Router) (p : Prefix) → r.bgp ≡ None → r.ospf ≡ None → is_some (initial_route r p) ≡ false
 no_route r p no_bgp no_ospf =
-    ap (λ (b : Option BgpProcess). is_some (route_by_process r b p)) no_bgp ∙ ap (λ (x : Option Interface). is_some (option_map cost_of_interface x)) (in_no_area r p no_ospf)
+    ap (λ (b : Option BgpProcess). is_some (route_by_process r b p)) no_bgp
+    ∙ ap (λ (x : Option Interface). is_some (option_map cost_of_interface x)) (in_no_area r p no_ospf)
 
 originates_nothing : (r : Router) → r.bgp ≡ None → r.ospf ≡ None → originated_by r ≡ []
 originates_nothing r no_bgp no_ospf = filter_none _ (filter_map up_subnet r.interfaces) (λ p. no_route r p no_bgp no_ospf)
@@ -43,7 +44,8 @@ originates_nothing r no_bgp no_ospf = filter_none _ (filter_map up_subnet r.inte
 abbrev first_protocol : List ProtocolLine → Option Protocol
 first_protocol lines = option_map (λ (l : ProtocolLine). l.protocol) (slice_get lines 0)
 
-two_lines : (b : BgpProcess) (o : OspfProcess) (less : Bool) (more : List ProtocolLine) → first_protocol (cond less (of_bgp b ∷ of_ospf o ∷ []) (of_ospf o ∷ of_bgp b ∷ []) ++ more) ≡ None → ⊥
+two_lines : (b : BgpProcess) (o : OspfProcess) (less : Bool) (more : List ProtocolLine) →
+    first_protocol (cond less (of_bgp b ∷ of_ospf o ∷ []) (of_ospf o ∷ of_bgp b ∷ []) ++ more) ≡ None → ⊥
 two_lines b o true more none = cc
 two_lines b o false more none = cc
 

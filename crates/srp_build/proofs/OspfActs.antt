@@ -27,10 +27,13 @@ ospf_first_acts n p problem ospf of = record {
       record {
         d = stands.0;
         stands = stands.1;
-        act = cost_says_all n p stands.0 (act_of problem edge) (subst (λ (q : Protocol). IsActOf q (act_of problem edge)) ospf (edge_act problem of.rules edge has));
+        act = cost_says_all n p stands.0 (act_of problem edge)
+            (subst (λ (q : Protocol). IsActOf q (act_of problem edge)) ospf (edge_act problem of.rules edge has));
       });
 }
 
-pub ospf_first : {E : Type 0} (n : Network) (class : DestClass) (r : Result Problem E) → IfOk r (λ problem. (p : Prefix) → Contains class.prefixes p → IsProblemOf n p problem) → IfOk r (λ problem. problem.protocol ≡ OverOspf) → IfOk r (λ problem. (p : Prefix) → Contains class.prefixes p → HasFirstActs n p problem)
+pub ospf_first : {E : Type 0} (n : Network) (class : DestClass) (r : Result Problem E) →
+    IfOk r (λ problem. (p : Prefix) → Contains class.prefixes p → IsProblemOf n p problem) → IfOk r (λ problem. problem.protocol ≡ OverOspf) →
+    IfOk r (λ problem. (p : Prefix) → Contains class.prefixes p → HasFirstActs n p problem)
 ospf_first n class (Ok problem) of ospf = λ p at. ospf_first_acts n p problem ospf (of p at)
 ospf_first n class (Err e) of ospf = tt

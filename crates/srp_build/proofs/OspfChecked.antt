@@ -42,13 +42,15 @@ bool_cases true = inl refl
 bool_cases false = inr refl
 
 -- all `router` lines are of the protocol of the first
-pub all_like_first : (q : Protocol) (lines : List ProtocolLine) → option_map (λ (l : ProtocolLine). l.protocol) (slice_get lines 0) ≡ Some q → map line_of_protocol (unlike_first same_protocol lines) ≡ [] → (l : ProtocolLine) → In lines l → l.protocol ≡ q
+pub all_like_first : (q : Protocol) (lines : List ProtocolLine) → option_map (λ (l : ProtocolLine). l.protocol) (slice_get lines 0) ≡ Some q →
+    map line_of_protocol (unlike_first same_protocol lines) ≡ [] → (l : ProtocolLine) → In lines l → l.protocol ≡ q
 all_like_first q [] first none l at = absurd at
 all_like_first q (m ∷ lines) first none l (inl same) = ap (λ (k : ProtocolLine). k.protocol) (sym same) ∙ (let e : m.protocol ≡ q = cc in e)
 all_like_first q (m ∷ lines) first none l (inr at) =
     let is : m.protocol ≡ q = cc in
     elim (bool_cases (not (same_protocol m l))) [
-      | inl unlike ↦ absurd (none_in (map line_of_protocol (filter (λ k. not (same_protocol m k)) lines)) l.line none (in_map line_of_protocol (filter (λ k. not (same_protocol m k)) lines) l (in_filter (λ k. not (same_protocol m k)) lines l at unlike)))
+      | inl unlike ↦ absurd (none_in (map line_of_protocol (filter (λ k. not (same_protocol m k)) lines)) l.line none
+          (in_map line_of_protocol (filter (λ k. not (same_protocol m k)) lines) l (in_filter (λ k. not (same_protocol m k)) lines l at unlike)))
       | inr like ↦ same_as q l.protocol (ap (λ (p : Protocol). not (is_same_protocol p l.protocol)) (sym is) ∙ like)
     ]
 
@@ -60,13 +62,16 @@ bgp_line b (Some o) = either (nat_lt b.line o.line)
     either true = inl refl
     either false = inr (inl refl)
 
-with_bgp : (lines : List ProtocolLine) → ((l : ProtocolLine) → In lines l → l.protocol ≡ protocol.Ospf) → (bgp : Option BgpProcess) (ospf : Option OspfProcess) → ((l : ProtocolLine) → In (lines_in_order bgp ospf) l → In lines l) → is_some bgp ≡ false
+with_bgp : (lines : List ProtocolLine) → ((l : ProtocolLine) → In lines l → l.protocol ≡ protocol.Ospf) →
+    (bgp : Option BgpProcess) (ospf : Option OspfProcess) → ((l : ProtocolLine) → In (lines_in_order bgp ospf) l → In lines l) → is_some bgp ≡ false
 with_bgp lines all None ospf inside = refl
 with_bgp lines all (Some b) ospf inside = let e = all (of_bgp b) (inside (of_bgp b) (bgp_line b ospf)) in absurd cc
 
-pub no_bgp : (n : Network) → protocol_of n ≡ Some protocol.Ospf → mixed_protocol_lines n ≡ [] → (router : Router) → In n.routers router → is_some router.bgp ≡ false
+pub no_bgp : (n : Network) → protocol_of n ≡ Some protocol.Ospf → mixed_protocol_lines n ≡ [] → (router : Router) → In n.routers router →
+    is_some router.bgp ≡ false
 unfolding mixed_protocol_lines
-no_bgp n first none router at = with_bgp (protocol_lines n) (all_like_first protocol.Ospf (protocol_lines n) first none) router.bgp router.ospf (λ l inside. in_flat_map protocol_lines_of n.routers router l at inside)
+no_bgp n first none router at = with_bgp (protocol_lines n) (all_like_first protocol.Ospf (protocol_lines n) first none) router.bgp router.ospf
+    (λ l inside. in_flat_map protocol_lines_of n.routers router l at inside)
 
 -- ---- a cost
 
@@ -74,18 +79,22 @@ address_up : (o : Option Address) (f : Address → Bool) → option_map_or f o f
 address_up None f e = absurd cc
 address_up (Some a) f e = (a, refl)
 
-no_cost_at : (router : Router) (x : Interface) (a : Address) → up_address x ≡ Some a → (area cost : Bool) → is_in_area_interface router x ≡ area → is_some (cost_of_interface x) ≡ cost → area ≡ true → cost ≡ false → area_address_with has_no_cost router x ≡ Some a
+no_cost_at : (router : Router) (x : Interface) (a : Address) → up_address x ≡ Some a → (area cost : Bool) → is_in_area_interface router x ≡ area →
+    is_some (cost_of_interface x) ≡ cost → area ≡ true → cost ≡ false → area_address_with has_no_cost router x ≡ Some a
 no_cost_at router x a up area cost is_area is_cost e f =
     ap (λ b. cond (b && has_no_cost x) (up_address x) None) (is_area ∙ e) ∙ ap (λ c. cond (not c) (up_address x) None) (is_cost ∙ f) ∙ up
 
-pub has_cost : (n : Network) → no_cost_lines n ≡ [] → (router : Router) (x : Interface) → In n.routers router → In router.interfaces x → is_in_area_interface router x ≡ true → is_some (cost_of_interface x) ≡ true
+pub has_cost : (n : Network) → no_cost_lines n ≡ [] → (router : Router) (x : Interface) → In n.routers router → In router.interfaces x →
+    is_in_area_interface router x ≡ true → is_some (cost_of_interface x) ≡ true
 unfolding no_cost_lines
 has_cost n none router x at inside area = elim (bool_cases (is_some (cost_of_interface x))) [
   | inl some ↦ some
   | inr without ↦ (
       let up = address_up (up_address x) (process_has_address router.ospf) area in
-      let fault = in_filter_map (area_address_with has_no_cost router) router.interfaces x up.0 inside (no_cost_at router x up.0 up.1 (is_in_area_interface router x) (is_some (cost_of_interface x)) refl refl area without) in
-      let lines = in_map address_line (flat_map (area_addresses_with has_no_cost) n.routers) up.0 (in_flat_map (area_addresses_with has_no_cost) n.routers router up.0 at fault) in
+      let fault = in_filter_map (area_address_with has_no_cost router) router.interfaces x up.0 inside
+      (no_cost_at router x up.0 up.1 (is_in_area_interface router x) (is_some (cost_of_interface x)) refl refl area without) in
+      let lines = in_map address_line (flat_map (area_addresses_with has_no_cost) n.routers) up.0
+      (in_flat_map (area_addresses_with has_no_cost) n.routers router up.0 at fault) in
       absurd (none_in (map address_line (flat_map (area_addresses_with has_no_cost) n.routers)) up.0.line none lines))
 ]
 

@@ -17,7 +17,8 @@ use Rattle.srp_build.specs.Costs.{cost_at}
 use Rattle.srp_build.specs.Ospf.{IsOspf, IsPriced}
 use Rattle.srp_build.specs.Starts.{none_lone}
 
-found_step : {X : Type 0} (p : X → Bool) (y : X) (ys : List X) (x : X) (b : Bool) → p y ≡ b → (find p ys ≡ Some x → In ys x × (p x ≡ true)) → cond b (Some y) (find p ys) ≡ Some x → In (y ∷ ys) x × (p x ≡ true)
+found_step : {X : Type 0} (p : X → Bool) (y : X) (ys : List X) (x : X) (b : Bool) → p y ≡ b → (find p ys ≡ Some x → In ys x × (p x ≡ true)) →
+    cond b (Some y) (find p ys) ≡ Some x → In (y ∷ ys) x × (p x ≡ true)
 found_step p y ys x true e rest h = (inl cc, ap p (let same : x ≡ y = cc in same) ∙ e)
 found_step p y ys x false e rest h = let r = rest h in (inr r.0, r.1)
 
@@ -38,18 +39,22 @@ route_of_cost : (router : Router) (o : Option ℕ) (c : ℕ) (route : Route) →
 route_of_cost router None c route e h = absurd cc
 route_of_cost router (Some cost) c route e h = record { cost = cost; is = sym h }
 
-start_of : (n : Network) → IsOspf n → (router : Router) → In n.routers router → (p : Prefix) (route : Route) (o : Option Interface) → area_interface_in router p ≡ o → option_map (route_from router) (option_map cost_of_interface o) ≡ Some route → IsCostRoute route
+start_of : (n : Network) → IsOspf n → (router : Router) → In n.routers router → (p : Prefix) (route : Route) (o : Option Interface) →
+    area_interface_in router p ≡ o → option_map (route_from router) (option_map cost_of_interface o) ≡ Some route → IsCostRoute route
 start_of n ospf router at p route None e h = absurd cc
 start_of n ospf router at p route (Some x) e h =
     let f = found (λ (y : Interface). is_in_area_interface router y && is_up_in p y) router.interfaces x e in
-    let has = ospf.priced router x (contains_in n.routers router at) (contains_in router.interfaces x f.0) (and_first (is_in_area_interface router x) (is_up_in p x) f.1) in
+    let has = ospf.priced router x (contains_in n.routers router at) (contains_in router.interfaces x f.0)
+    (and_first (is_in_area_interface router x) (is_up_in p x) f.1) in
     route_of_cost router (cost_of_interface x) has.cost route has.is (let same : route_from router (cost_of_interface x) ≡ route = cc in same)
 
 -- an initial route of an OSPF network is a cost
-pub start_is_cost : (n : Network) → IsOspf n → (router : Router) → In n.routers router → (p : Prefix) (route : Route) → start_route p router ≡ Some route → IsCostRoute route
+pub start_is_cost : (n : Network) → IsOspf n → (router : Router) → In n.routers router → (p : Prefix) (route : Route) → start_route p router ≡ Some route →
+    IsCostRoute route
 start_is_cost n ospf router at p route h =
     let none = ospf.unmixed router (contains_in n.routers router at) in
-    let plain : start_route p router ≡ option_map (route_from router) (option_map cost_of_interface (area_interface_in router p)) = ap (λ (b : Option BgpProcess). option_map (route_from router) (origin_from router b p)) none in
+    let plain : start_route p router ≡ option_map (route_from router) (option_map cost_of_interface (area_interface_in router p)) =
+    ap (λ (b : Option BgpProcess). option_map (route_from router) (origin_from router b p)) none in
     start_of n ospf router at p route (area_interface_in router p) refl (sym plain ∙ h)
 
 -- an initial route stands at a router that has it
@@ -58,7 +63,8 @@ pub record IsStartOf (p : Prefix) (routers : List Router) (route : Route) : Type
   pub router_in : In routers router
   pub is : start_route p router ≡ Some route
 
-pub start_at : (p : Prefix) (routers : List Router) (u : ℕ) (route : Route) → slice_index_or (map (start_route p) routers) u None ≡ Some route → IsStartOf p routers route
+pub start_at : (p : Prefix) (routers : List Router) (u : ℕ) (route : Route) → slice_index_or (map (start_route p) routers) u None ≡ Some route →
+    IsStartOf p routers route
 start_at p [] u route h = absurd cc
 start_at p (router ∷ routers) zero route h = record { router = router; router_in = inl refl; is = h }
 start_at p (router ∷ routers) (suc u) route h = let r = start_at p routers u route h in record { router = r.router; router_in = inr r.router_in; is = r.is }
@@ -69,4 +75,5 @@ none_marked (router ∷ routers) zero = refl
 none_marked (router ∷ routers) (suc u) = none_marked routers u
 
 pub priced_cost : (n : Network) (place item cost : ℕ) → IsPriced n place item cost → cost_at n.routers place item ≡ cost
-priced_cost n place item cost priced = ap (λ (o : Option Router). unwrap_or (option_and_then (λ (r : Router). cost_of r item) o) 0) priced.at ∙ ap (λ (o : Option ℕ). unwrap_or o 0) priced.is
+priced_cost n place item cost priced = ap (λ (o : Option Router). unwrap_or (option_and_then (λ (r : Router). cost_of r item) o) 0) priced.at
+    ∙ ap (λ (o : Option ℕ). unwrap_or o 0) priced.is

@@ -18,15 +18,18 @@ or_true true b e = refl
 or_true false b e = e
 
 -- the past has the number, so no later process has
-none_later : (number : ℕ) (past ps : List BgpProcess) → repeats_after same_as_number past ps ≡ [] → list_any (λ (b : BgpProcess). nat_eq number b.number) past ≡ true → (q : BgpProcess) → In ps q → q.number ≡ number → ⊥
+none_later : (number : ℕ) (past ps : List BgpProcess) → repeats_after same_as_number past ps ≡ [] →
+    list_any (λ (b : BgpProcess). nat_eq number b.number) past ≡ true → (q : BgpProcess) → In ps q → q.number ≡ number → ⊥
 none_later number past [] none met q at same = absurd at
 none_later number past (z ∷ zs) none met q (inl here) same =
     let alone = (fresh (list_any (same_as_number z) past) z (repeats_after same_as_number (z ∷ past) zs) none).0 in
     let is : z.number ≡ number = ap (λ (b : BgpProcess). b.number) here ∙ same in
-    let also : list_any (λ (b : BgpProcess). nat_eq z.number b.number) past ≡ true = ap (λ (m : ℕ). list_any (λ (b : BgpProcess). nat_eq m b.number) past) is ∙ met in
+    let also : list_any (λ (b : BgpProcess). nat_eq z.number b.number) past ≡ true = ap (λ (m : ℕ). list_any (λ (b : BgpProcess). nat_eq m b.number) past) is
+    ∙ met in
     absurd cc
 none_later number past (z ∷ zs) none met q (inr at) same =
-    none_later number (z ∷ past) zs (fresh (list_any (same_as_number z) past) z (repeats_after same_as_number (z ∷ past) zs) none).1 (or_true (nat_eq number z.number) (list_any (λ (b : BgpProcess). nat_eq number b.number) past) met) q at same
+    none_later number (z ∷ past) zs (fresh (list_any (same_as_number z) past) z (repeats_after same_as_number (z ∷ past) zs) none).1
+    (or_true (nat_eq number z.number) (list_any (λ (b : BgpProcess). nat_eq number b.number) past) met) q at same
 
 -- the router at a place has the process
 pub record HasAt (routers : List Router) (place : ℕ) (process : BgpProcess) : Type 0 where
@@ -46,23 +49,27 @@ at_first r rs process has = ap (λ (x : Router). x.bgp) (let same : r ≡ has.ro
 met_first : (p : BgpProcess) (past : List BgpProcess) → list_any (λ (b : BgpProcess). nat_eq p.number b.number) (p ∷ past) ≡ true
 met_first p past = ap (λ (b : Bool). b || list_any (λ (x : BgpProcess). nat_eq p.number x.number) past) (same_number p.number p.number refl)
 
-rest_of : (o : Option BgpProcess) (past ps : List BgpProcess) → repeats_after same_as_number past (cons_option o ps) ≡ [] → (more : List BgpProcess) × (repeats_after same_as_number more ps ≡ [])
+rest_of : (o : Option BgpProcess) (past ps : List BgpProcess) → repeats_after same_as_number past (cons_option o ps) ≡ [] → (more : List BgpProcess)
+    × (repeats_after same_as_number more ps ≡ [])
 rest_of None past ps none = (past, none)
 rest_of (Some b) past ps none = (b ∷ past, (fresh (list_any (same_as_number b) past) b (repeats_after same_as_number (b ∷ past) ps) none).1)
 
-first_apart : (r : Router) (rs : List Router) (past : List BgpProcess) (o : Option BgpProcess) (p q : BgpProcess) (v : ℕ) → o ≡ Some p → repeats_after same_as_number past (cons_option o (filter_map bgp_of rs)) ≡ [] → HasAt rs v q → p.number ≡ q.number → ⊥
+first_apart : (r : Router) (rs : List Router) (past : List BgpProcess) (o : Option BgpProcess) (p q : BgpProcess) (v : ℕ) → o ≡ Some p →
+    repeats_after same_as_number past (cons_option o (filter_map bgp_of rs)) ≡ [] → HasAt rs v q → p.number ≡ q.number → ⊥
 first_apart r rs past None p q v is none has same = absurd cc
 first_apart r rs past (Some b) p q v is none has same =
     let one : b ≡ p = cc in
     let later = (fresh (list_any (same_as_number b) past) b (repeats_after same_as_number (b ∷ past) (filter_map bgp_of rs)) none).1 in
     none_later b.number (b ∷ past) (filter_map bgp_of rs) later (met_first b past) q (among rs v q has) (sym same ∙ ap (λ (x : BgpProcess). x.number) (sym one))
 
-one_place : (routers : List Router) (past : List BgpProcess) → repeats_after same_as_number past (filter_map bgp_of routers) ≡ [] → (u v : ℕ) (p q : BgpProcess) → HasAt routers u p → HasAt routers v q → p.number ≡ q.number → u ≡ v
+one_place : (routers : List Router) (past : List BgpProcess) → repeats_after same_as_number past (filter_map bgp_of routers) ≡ [] →
+    (u v : ℕ) (p q : BgpProcess) → HasAt routers u p → HasAt routers v q → p.number ≡ q.number → u ≡ v
 one_place [] past none u v p q a b same = let none_there = a.at in absurd cc
 one_place (r ∷ rs) past none zero zero p q a b same = refl
 one_place (r ∷ rs) past none zero (suc v) p q a b same = absurd (first_apart r rs past r.bgp p q v (at_first r rs p a) none (at_next r rs v q b) same)
 one_place (r ∷ rs) past none (suc u) zero p q a b same = absurd (first_apart r rs past r.bgp q p u (at_first r rs q b) none (at_next r rs u p a) (sym same))
-one_place (r ∷ rs) past none (suc u) (suc v) p q a b same = let more = rest_of r.bgp past (filter_map bgp_of rs) none in ap suc (one_place rs more.0 more.1 u v p q (at_next r rs u p a) (at_next r rs v q b) same)
+one_place (r ∷ rs) past none (suc u) (suc v) p q a b same = let more = rest_of r.bgp past (filter_map bgp_of rs) none in
+    ap suc (one_place rs more.0 more.1 u v p q (at_next r rs u p a) (at_next r rs v q b) same)
 
 map_nil : {X Y : Type 0} (f : X → Y) (xs : List X) → map f xs ≡ [] → xs ≡ []
 map_nil f [] e = refl

@@ -32,10 +32,15 @@ pub record HasNumberAt (p : Prefix) (inbound : Bool) (maps : List Plain) (router
   pub line_at : slice_get (neighbors_of router) item ≡ Some line
   pub is : IsNumberOf maps number (map_of_line p router inbound line)
 
-line_of : (p : Prefix) (inbound : Bool) (maps : List Plain) (router : Router) (routers : List Router) (numbers : List ℕ) → HasNumbers p router inbound maps numbers → (item number : ℕ) → slice_get numbers item ≡ Some number → HasNumberAt p inbound maps (router ∷ routers) zero item number
-line_of p inbound maps router routers numbers has item number at = let line = has.each item number at in record { router = router; at = refl; line = line.line; line_at = line.at; is = line.is }
+line_of : (p : Prefix) (inbound : Bool) (maps : List Plain) (router : Router) (routers : List Router) (numbers : List ℕ) →
+    HasNumbers p router inbound maps numbers → (item number : ℕ) → slice_get numbers item ≡ Some number →
+    HasNumberAt p inbound maps (router ∷ routers) zero item number
+line_of p inbound maps router routers numbers has item number at = let line = has.each item number at in
+    record { router = router; at = refl; line = line.line; line_at = line.at; is = line.is }
 
-pub line_numbered : (p : Prefix) (inbound : Bool) (maps : List Plain) (routers : List Router) (table : List (List ℕ)) → HaveNumbers p inbound maps routers table → (place item number : ℕ) → number_at table place item ≡ Some number → HasNumberAt p inbound maps routers place item number
+pub line_numbered : (p : Prefix) (inbound : Bool) (maps : List Plain) (routers : List Router) (table : List (List ℕ)) →
+    HaveNumbers p inbound maps routers table → (place item number : ℕ) → number_at table place item ≡ Some number →
+    HasNumberAt p inbound maps routers place item number
 line_numbered p inbound maps [] [] have place item number at = absurd cc
 line_numbered p inbound maps [] (numbers ∷ table) have place item number at = absurd have
 line_numbered p inbound maps (router ∷ routers) [] have place item number at = absurd have
@@ -50,7 +55,9 @@ some_within (x ∷ xs) zero h none = cc
 some_within (x ∷ xs) (suc k) h none = some_within xs k (omega arith) none
 
 -- each line has a number
-pub line_has_number : (p : Prefix) (inbound : Bool) (maps : List Plain) (routers : List Router) (table : List (List ℕ)) → HaveNumbers p inbound maps routers table → (place item : ℕ) (router : Router) (line : Neighbor) → slice_get routers place ≡ Some router → slice_get (neighbors_of router) item ≡ Some line → number_at table place item ≡ None → ⊥
+pub line_has_number : (p : Prefix) (inbound : Bool) (maps : List Plain) (routers : List Router) (table : List (List ℕ)) →
+    HaveNumbers p inbound maps routers table → (place item : ℕ) (router : Router) (line : Neighbor) → slice_get routers place ≡ Some router →
+    slice_get (neighbors_of router) item ≡ Some line → number_at table place item ≡ None → ⊥
 line_has_number p inbound maps [] table have place item router line at line_at none = absurd cc
 line_has_number p inbound maps (r ∷ routers) [] have place item router line at line_at none = absurd have
 line_has_number p inbound maps (r ∷ routers) (numbers ∷ table) have zero item router line at line_at none =
@@ -59,7 +66,8 @@ line_has_number p inbound maps (r ∷ routers) (numbers ∷ table) have zero ite
     let total = have.0.total in
     let lengths = ap (λ (x : Router). length (neighbors_of x)) same in
     some_within numbers item (omega arith) none
-line_has_number p inbound maps (r ∷ routers) (numbers ∷ table) have (suc place) item router line at line_at none = line_has_number p inbound maps routers table have.1 place item router line at line_at none
+line_has_number p inbound maps (r ∷ routers) (numbers ∷ table) have (suc place) item router line at line_at none =
+    line_has_number p inbound maps routers table have.1 place item router line at line_at none
 
 -- ---- imports
 
@@ -68,7 +76,8 @@ same_received sends into other same Deny = refl
 same_received sends into other same (Permit lp comms adds) = ap (accepted adds) (same.verdicts (if sends then comms else []))
 
 -- maps that say the same import the same
-pub same_import : (out other_out into other_into : Plain) (sends : Bool) → SayTheSame out other_out → SayTheSame into other_into → (comms : List ℕ) → import_of out sends into comms ≡ import_of other_out sends other_into comms
+pub same_import : (out other_out into other_into : Plain) (sends : Bool) → SayTheSame out other_out → SayTheSame into other_into → (comms : List ℕ) →
+    import_of out sends into comms ≡ import_of other_out sends other_into comms
 same_import out other_out into other_into sends first second comms =
     ap (received sends into.entries) (first.verdicts comms) ∙ same_received sends into other_into second (verdict other_out.entries comms)
 
@@ -81,20 +90,25 @@ says : (maps : List Plain) (number : ℕ) (map : Plain) → IsNumberOf maps numb
 says maps number map of = subst (λ (m : Plain). SayTheSame m map) (sym (numbered_is maps number of.other of.at)) of.same
 
 -- the map at the place of a line
-pub map_at_line : (p : Prefix) (routers : List Router) (inbound : Bool) (place item : ℕ) (router : Router) (line : Neighbor) → slice_get routers place ≡ Some router → slice_get (neighbors_of router) item ≡ Some line → map_at p routers inbound place item ≡ map_of_line p router inbound line
+pub map_at_line : (p : Prefix) (routers : List Router) (inbound : Bool) (place item : ℕ) (router : Router) (line : Neighbor) →
+    slice_get routers place ≡ Some router → slice_get (neighbors_of router) item ≡ Some line →
+    map_at p routers inbound place item ≡ map_of_line p router inbound line
 map_at_line p routers inbound place item router line at line_at =
     ap (λ (o : Option Router). option_map_or (λ (r : Router). option_map_or (map_of_line p r inbound) (slice_get (neighbors_of r) item) closed) o closed) at
     ∙ ap (λ (o : Option Neighbor). option_map_or (map_of_line p router inbound) o closed) line_at
 
-pub sends_at_line : (routers : List Router) (place item : ℕ) (router : Router) (line : Neighbor) → slice_get routers place ≡ Some router → slice_get (neighbors_of router) item ≡ Some line → sends_at routers place item ≡ line.sends
+pub sends_at_line : (routers : List Router) (place item : ℕ) (router : Router) (line : Neighbor) → slice_get routers place ≡ Some router →
+    slice_get (neighbors_of router) item ≡ Some line → sends_at routers place item ≡ line.sends
 sends_at_line routers place item router line at line_at =
     ap (λ (o : Option Router). option_map_or (λ (r : Router). option_map_or (λ (l : Neighbor). l.sends) (slice_get (neighbors_of r) item) false) o false) at
     ∙ ap (λ (o : Option Neighbor). option_map_or (λ (l : Neighbor). l.sends) o false) line_at
 
-says_at : (p : Prefix) (inbound : Bool) (maps : List Plain) (routers : List Router) (table : List (List ℕ)) → HaveNumbers p inbound maps routers table → (place item number : ℕ) → number_at table place item ≡ Some number → SayTheSame (map_numbered maps number) (map_at p routers inbound place item)
+says_at : (p : Prefix) (inbound : Bool) (maps : List Plain) (routers : List Router) (table : List (List ℕ)) → HaveNumbers p inbound maps routers table →
+    (place item number : ℕ) → number_at table place item ≡ Some number → SayTheSame (map_numbered maps number) (map_at p routers inbound place item)
 says_at p inbound maps routers table have place item number at =
     let line = line_numbered p inbound maps routers table have place item number at in
-    subst (λ (m : Plain). SayTheSame (map_numbered maps number) m) (sym (map_at_line p routers inbound place item line.router line.line line.at line.line_at)) (says maps number (map_of_line p line.router inbound line.line) line.is)
+    subst (λ (m : Plain). SayTheSame (map_numbered maps number) m) (sym (map_at_line p routers inbound place item line.router line.line line.at line.line_at))
+    (says maps number (map_of_line p line.router inbound line.line) line.is)
 
 -- the numbers of a session are those of its ends
 pub record IsSessionAt (routers : List Router) (maps : LineMaps) (hop : Hop) (session : Session) : Type 0 where
@@ -102,19 +116,25 @@ pub record IsSessionAt (routers : List Router) (maps : LineMaps) (hop : Hop) (se
   pub sends : session.sends ≡ sends_at routers hop.exporter hop.exporter_item
   pub into : number_at maps.ins hop.importer hop.importer_item ≡ Some session.into
 
-session_parts : (sends : Bool) (out into : Option ℕ) (session : Session) → option_and_then (λ (o : ℕ). option_map (λ (i : ℕ). (let s : Session = record { out = o; sends = sends; into = i } in s)) into) out ≡ Some session → (out ≡ Some session.out) × (session.sends ≡ sends) × (into ≡ Some session.into)
+session_parts : (sends : Bool) (out into : Option ℕ) (session : Session) →
+    option_and_then (λ (o : ℕ). option_map (λ (i : ℕ). (let s : Session = record { out = o; sends = sends; into = i } in s)) into) out ≡ Some session →
+    (out ≡ Some session.out) × (session.sends ≡ sends) × (into ≡ Some session.into)
 session_parts sends None into session e = absurd cc
 session_parts sends (Some o) None session e = absurd cc
 session_parts sends (Some o) (Some i) session e =
     let same : (let s : Session = record { out = o; sends = sends; into = i } in s) ≡ session = cc in
     (ap (λ (s : Session). Some s.out) same, sym (ap (λ (s : Session). s.sends) same), ap (λ (s : Session). Some s.into) same)
 
-pub session_is_at : (routers : List Router) (maps : LineMaps) (hop : Hop) (session : Session) → session_at routers maps hop ≡ Some session → IsSessionAt routers maps hop session
+pub session_is_at : (routers : List Router) (maps : LineMaps) (hop : Hop) (session : Session) → session_at routers maps hop ≡ Some session →
+    IsSessionAt routers maps hop session
 session_is_at routers maps hop session e =
-    let parts = session_parts (sends_at routers hop.exporter hop.exporter_item) (number_at maps.outs hop.exporter hop.exporter_item) (number_at maps.ins hop.importer hop.importer_item) session e in
+    let parts = session_parts (sends_at routers hop.exporter hop.exporter_item) (number_at maps.outs hop.exporter hop.exporter_item)
+    (number_at maps.ins hop.importer hop.importer_item) session e in
     record { out = parts.0; sends = parts.1; into = parts.2 }
 
-none_missing : (sends : Bool) (out into : Option ℕ) → option_and_then (λ (o : ℕ). option_map (λ (i : ℕ). (let s : Session = record { out = o; sends = sends; into = i } in s)) into) out ≡ None → (out ≡ None → ⊥) → (into ≡ None → ⊥) → ⊥
+none_missing : (sends : Bool) (out into : Option ℕ) →
+    option_and_then (λ (o : ℕ). option_map (λ (i : ℕ). (let s : Session = record { out = o; sends = sends; into = i } in s)) into) out ≡ None →
+    (out ≡ None → ⊥) → (into ≡ None → ⊥) → ⊥
 none_missing sends None into e first second = first refl
 none_missing sends (Some o) None e first second = second refl
 none_missing sends (Some o) (Some i) e first second = cc
@@ -123,26 +143,35 @@ module _ (n : Network) (p : Prefix) (maps : LineMaps) (are : AreLineMaps p n.rou
   -- a direction with both ends has a session
   pub has_session : (hop : Hop) → SessionEnds n (direction_of hop) → session_at n.routers maps hop ≡ None → ⊥
   has_session hop ends none =
-      none_missing (sends_at n.routers hop.exporter hop.exporter_item) (number_at maps.outs hop.exporter hop.exporter_item) (number_at maps.ins hop.importer hop.importer_item) none
-      (line_has_number p false maps.maps n.routers maps.outs are.outs hop.exporter hop.exporter_item ends.exporter ends.exporter_line ends.exporter_at ends.exporter_line_at)
-      (line_has_number p true maps.maps n.routers maps.ins are.ins hop.importer hop.importer_item ends.importer ends.importer_line ends.importer_at ends.importer_line_at)
+      none_missing (sends_at n.routers hop.exporter hop.exporter_item) (number_at maps.outs hop.exporter hop.exporter_item)
+      (number_at maps.ins hop.importer hop.importer_item) none
+      (line_has_number p false maps.maps n.routers maps.outs are.outs hop.exporter hop.exporter_item ends.exporter ends.exporter_line ends.exporter_at
+      ends.exporter_line_at)
+      (line_has_number p true maps.maps n.routers maps.ins are.ins hop.importer hop.importer_item ends.importer ends.importer_line ends.importer_at
+      ends.importer_line_at)
 
   -- a session imports what the maps at its ends do
   pub import_at_hop : (hop : Hop) (session : Session) → session_at n.routers maps hop ≡ Some session → (comms : List ℕ)
-      → import_over maps.maps session comms ≡ import_of (map_at p n.routers false hop.exporter hop.exporter_item) (sends_at n.routers hop.exporter hop.exporter_item) (map_at p n.routers true hop.importer hop.importer_item) comms
+      → import_over maps.maps session comms ≡ import_of (map_at p n.routers false hop.exporter hop.exporter_item)
+      (sends_at n.routers hop.exporter hop.exporter_item) (map_at p n.routers true hop.importer hop.importer_item) comms
   import_at_hop hop session e comms =
       let at = session_is_at n.routers maps hop session e in
       let first = says_at p false maps.maps n.routers maps.outs are.outs hop.exporter hop.exporter_item session.out at.out in
       let second = says_at p true maps.maps n.routers maps.ins are.ins hop.importer hop.importer_item session.into at.into in
-      same_import (map_numbered maps.maps session.out) (map_at p n.routers false hop.exporter hop.exporter_item) (map_numbered maps.maps session.into) (map_at p n.routers true hop.importer hop.importer_item) session.sends first second comms
-      ∙ ap (λ (b : Bool). import_of (map_at p n.routers false hop.exporter hop.exporter_item) b (map_at p n.routers true hop.importer hop.importer_item) comms) at.sends
+      same_import (map_numbered maps.maps session.out) (map_at p n.routers false hop.exporter hop.exporter_item) (map_numbered maps.maps session.into)
+      (map_at p n.routers true hop.importer hop.importer_item) session.sends first second comms
+      ∙ ap (λ (b : Bool). import_of (map_at p n.routers false hop.exporter hop.exporter_item) b (map_at p n.routers true hop.importer hop.importer_item) comms)
+      at.sends
 
 -- the parts of an act are those of the lines at the ends
-pub out_at_ends : (n : Network) (p : Prefix) (hop : Hop) (ends : SessionEnds n (direction_of hop)) → map_at p n.routers false hop.exporter hop.exporter_item ≡ out_map p ends.exporter ends.exporter_line
+pub out_at_ends : (n : Network) (p : Prefix) (hop : Hop) (ends : SessionEnds n (direction_of hop)) →
+    map_at p n.routers false hop.exporter hop.exporter_item ≡ out_map p ends.exporter ends.exporter_line
 out_at_ends n p hop ends = map_at_line p n.routers false hop.exporter hop.exporter_item ends.exporter ends.exporter_line ends.exporter_at ends.exporter_line_at
 
-pub sends_at_ends : (n : Network) (hop : Hop) (ends : SessionEnds n (direction_of hop)) → sends_at n.routers hop.exporter hop.exporter_item ≡ ends.exporter_line.sends
+pub sends_at_ends : (n : Network) (hop : Hop) (ends : SessionEnds n (direction_of hop)) →
+    sends_at n.routers hop.exporter hop.exporter_item ≡ ends.exporter_line.sends
 sends_at_ends n hop ends = sends_at_line n.routers hop.exporter hop.exporter_item ends.exporter ends.exporter_line ends.exporter_at ends.exporter_line_at
 
-pub in_at_ends : (n : Network) (p : Prefix) (hop : Hop) (ends : SessionEnds n (direction_of hop)) → map_at p n.routers true hop.importer hop.importer_item ≡ in_map p ends.importer ends.importer_line
+pub in_at_ends : (n : Network) (p : Prefix) (hop : Hop) (ends : SessionEnds n (direction_of hop)) →
+    map_at p n.routers true hop.importer hop.importer_item ≡ in_map p ends.importer ends.importer_line
 in_at_ends n p hop ends = map_at_line p n.routers true hop.importer hop.importer_item ends.importer ends.importer_line ends.importer_at ends.importer_line_at

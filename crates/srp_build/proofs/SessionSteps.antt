@@ -31,14 +31,18 @@ acts_kept kept old new maps acts grows are = record {
 }
 
 -- while the store grows, what holds of acts and sessions stays
-pub right_kept : EdgeKept → (old new : Shown) (maps : List Plain) (table : Acts) (sessions : Sessions) → Grows old new → AreRight old maps table sessions → AreRight new maps table sessions
-right_kept kept old new maps table sessions grows right = record { acts = acts_kept kept old new maps table.acts.items grows right.acts; listed = right.listed; met = right.met }
+pub right_kept : EdgeKept → (old new : Shown) (maps : List Plain) (table : Acts) (sessions : Sessions) → Grows old new → AreRight old maps table sessions →
+    AreRight new maps table sessions
+right_kept kept old new maps table sessions grows right =
+    record { acts = acts_kept kept old new maps table.acts.items grows right.acts; listed = right.listed; met = right.met }
 
-for_kept : (maps : List Plain) (old new : List BgpAct) (session : Session) (act : Option ℕ) → ((k : ℕ) (a : BgpAct) → slice_get old k ≡ Some a → slice_get new k ≡ Some a) → IsActFor maps old session act → IsActFor maps new session act
+for_kept : (maps : List Plain) (old new : List BgpAct) (session : Session) (act : Option ℕ) →
+    ((k : ℕ) (a : BgpAct) → slice_get old k ≡ Some a → slice_get new k ≡ Some a) → IsActFor maps old session act → IsActFor maps new session act
 for_kept maps old new session None kept is = is
 for_kept maps old new session (Some number) kept is = record { act = is.act; at = kept number is.act is.at; one = is.one }
 
-module _ (shown : Shown) (maps : List Plain) (old : List BgpAct) (are : AreActs shown maps old) (hop : Hop) (session : Session) (function : EdgeFn) (of_function : IsEdgeFn shown function (import_over maps session)) where
+module _ (shown : Shown) (maps : List Plain) (old : List BgpAct) (are : AreActs shown maps old) (hop : Hop) (session : Session) (function : EdgeFn)
+    (of_function : IsEdgeFn shown function (import_over maps session)) where
   abbrev Imports : BgpAct → List ℕ → Option Imported
   Imports act = import_over maps act.session
 
@@ -55,26 +59,36 @@ module _ (shown : Shown) (maps : List Plain) (old : List BgpAct) (are : AreActs 
   found : (number : ℕ) → IsLike shown old function number → Steps old (Some number)
   found number like = record {
     acts = are;
-    is = record { act = like.act; at = like.at; one = like.alike.one (import_over maps session) (Imports like.act) of_function (are.functions number like.act like.at) };
+    is = record {
+      act = like.act;
+      at = like.at;
+      one =
+          like.alike.one (import_over maps session) (Imports like.act) of_function (are.functions number like.act like.at);
+    };
     came = inl refl;
     kept = λ k a at. at;
   }
 
-  module _ (number : ℕ) (some : AcceptsAny shown function) (act : BgpAct) (first : act.first ≡ hop) (over : act.session ≡ session) (function_is : act.function ≡ function) (apart : (other : ℕ) (a : BgpAct) → slice_get old other ≡ Some a → (F G : List ℕ → Option Imported) → IsEdgeFn shown function F → IsEdgeFn shown a.function G → AreOneImport F G → ⊥) where
+  module _ (number : ℕ) (some : AcceptsAny shown function) (act : BgpAct) (first : act.first ≡ hop) (over : act.session ≡ session)
+      (function_is : act.function ≡ function) (apart : (other : ℕ) (a : BgpAct) → slice_get old other ≡ Some a → (F G : List ℕ → Option Imported) →
+      IsEdgeFn shown function F → IsEdgeFn shown a.function G → AreOneImport F G → ⊥) where
     abbrev new : List BgpAct
     new = old ++ act ∷ []
 
     own_function : IsEdgeFn shown act.function (Imports act)
-    own_function = subst (λ (f : EdgeFn). IsEdgeFn shown f (Imports act)) (sym function_is) (subst (λ (s : Session). IsEdgeFn shown function (import_over maps s)) (sym over) of_function)
+    own_function = subst (λ (f : EdgeFn). IsEdgeFn shown f (Imports act)) (sym function_is)
+        (subst (λ (s : Session). IsEdgeFn shown function (import_over maps s)) (sym over) of_function)
 
     own_import : Imports act ≡ import_over maps session
     own_import = ap (import_over maps) over
 
     -- the new act imports as no old one
     never : (other : ℕ) (a : BgpAct) → slice_get old other ≡ Some a → AreOneImport (Imports act) (Imports a) → ⊥
-    never other a at one = apart other a at (import_over maps session) (Imports a) of_function (are.functions other a at) (subst (λ (f : List ℕ → Option Imported). AreOneImport f (Imports a)) own_import one)
+    never other a at one = apart other a at (import_over maps session) (Imports a) of_function (are.functions other a at)
+        (subst (λ (f : List ℕ → Option Imported). AreOneImport f (Imports a)) own_import one)
 
-    of_new : (P : ℕ → BgpAct → Type 0) → ((k : ℕ) (a : BgpAct) → slice_get old k ≡ Some a → P k a) → P (length old) act → (k : ℕ) (a : BgpAct) → slice_get new k ≡ Some a → P k a
+    of_new : (P : ℕ → BgpAct → Type 0) → ((k : ℕ) (a : BgpAct) → slice_get old k ≡ Some a → P k a) → P (length old) act → (k : ℕ) (a : BgpAct) →
+        slice_get new k ≡ Some a → P k a
     of_new P olds last k a at = elim (front_or_last old act k a at) [
       | inl before ↦ olds k a before
       | inr is_last ↦ subst (λ (m : ℕ). P m a) (sym is_last.0) (subst (P (length old)) is_last.1 last)
@@ -84,7 +98,8 @@ module _ (shown : Shown) (maps : List Plain) (old : List BgpAct) (are : AreActs 
     differ i j a b at at' one = elim (front_or_last old act i a at) [
       | inl before ↦ elim (front_or_last old act j b at') [
         | inl before' ↦ are.differ i j a b before before' one
-        | inr last' ↦ absurd (never i a before (one_sym (Imports a) (Imports act) (subst (λ (x : BgpAct). AreOneImport (Imports a) (Imports x)) (sym last'.1) one)))
+        | inr last' ↦ absurd (never i a before (one_sym (Imports a) (Imports act)
+            (subst (λ (x : BgpAct). AreOneImport (Imports a) (Imports x)) (sym last'.1) one)))
       ]
       | inr last ↦ elim (front_or_last old act j b at') [
         | inl before' ↦ absurd (never j b before' (subst (λ (x : BgpAct). AreOneImport (Imports x) (Imports b)) (sym last.1) one))
@@ -96,7 +111,8 @@ module _ (shown : Shown) (maps : List Plain) (old : List BgpAct) (are : AreActs 
     came_new next = record {
       acts = record {
         functions = of_new (λ k a. IsEdgeFn shown a.function (Imports a)) are.functions own_function;
-        accept = of_new (λ k a. AcceptsSome (Imports a)) are.accept (subst (λ (s : Session). AcceptsSome (import_over maps s)) (sym over) (some.some (import_over maps session) of_function));
+        accept = of_new (λ k a. AcceptsSome (Imports a)) are.accept
+            (subst (λ (s : Session). AcceptsSome (import_over maps s)) (sym over) (some.some (import_over maps session) of_function));
         differ = differ;
       };
       is = record { act = act; at = ap (slice_get new) next ∙ get_last old act; one = record { same = λ set ascending. (λ j. sym own_import j set) } };
@@ -115,8 +131,10 @@ module _ (shown : Shown) (maps : List Plain) (old : List BgpAct) (are : AreActs 
   step more (Some number) (some, inr is_new) = new_step more number some is_new
 
 -- one more session that was met
-pub right_next : (shown : Shown) (maps : List Plain) (old new : Acts) (sessions more : Sessions) (met : Met) → AreRight shown maps old sessions → AreListed new.by_nodes new.acts.items → AreActs shown maps new.acts.items
-    → ((k : ℕ) (a : BgpAct) → slice_get old.acts.items k ≡ Some a → slice_get new.acts.items k ≡ Some a) → IsActFor maps new.acts.items met.session met.act → more.met.items ≡ sessions.met.items ++ met ∷ [] → AreRight shown maps new more
+pub right_next : (shown : Shown) (maps : List Plain) (old new : Acts) (sessions more : Sessions) (met : Met) → AreRight shown maps old sessions →
+    AreListed new.by_nodes new.acts.items → AreActs shown maps new.acts.items
+    → ((k : ℕ) (a : BgpAct) → slice_get old.acts.items k ≡ Some a → slice_get new.acts.items k ≡ Some a) → IsActFor maps new.acts.items met.session met.act →
+    more.met.items ≡ sessions.met.items ++ met ∷ [] → AreRight shown maps new more
 right_next shown maps old new sessions more met right listed acts kept is last = record {
   acts = acts;
   listed = listed;
@@ -127,15 +145,18 @@ right_next shown maps old new sessions more met right listed acts kept is last =
 }
 
 -- a session that was met
-pub met_before : (maps : List Plain) (acts : List BgpAct) (met : List Met) (m : Met) (session : Session) → AreMet maps acts met → Contains met m → m.session ≡ session → IsActFor maps acts session m.act
-met_before maps acts met m session are has same = subst (λ (s : Session). IsActFor maps acts s m.act) same (are has.0 m (slice_get_read met (length met) has.0 m refl has.1 (sym has.2)))
+pub met_before : (maps : List Plain) (acts : List BgpAct) (met : List Met) (m : Met) (session : Session) → AreMet maps acts met → Contains met m →
+    m.session ≡ session → IsActFor maps acts session m.act
+met_before maps acts met m session are has same =
+    subst (λ (s : Session). IsActFor maps acts s m.act) same (are has.0 m (slice_get_read met (length met) has.0 m refl has.1 (sym has.2)))
 
 -- nothing came for a session that was met
 pub none_came : (acts : List BgpAct) (hop : Hop) (session : Session) (act : Option ℕ) → IsMaybeNew acts acts hop session act
 none_came acts hop session None = refl
 none_came acts hop session (Some number) = inl refl
 
-pub right_at_first : (shown : Shown) (maps : List Plain) (table : Acts) (sessions : Sessions) → table.acts.items ≡ [] → sessions.met.items ≡ [] → AreRight shown maps table sessions
+pub right_at_first : (shown : Shown) (maps : List Plain) (table : Acts) (sessions : Sessions) → table.acts.items ≡ [] → sessions.met.items ≡ [] →
+    AreRight shown maps table sessions
 right_at_first shown maps table sessions no_acts no_sessions = record {
   acts = record {
     functions = λ number act at. nothing number act at;

@@ -19,14 +19,18 @@ never_before e f a b c (inr (same, inl less)) = absurd (omega arith)
 never_before e f a b c (inr (same, inr (other, less))) = absurd (omega arith)
 
 -- of ordered edges no two have the same ends and link
-one_of_ends : (edges : List Edge) → AreOrdered edges → (e f : Edge) → In edges e → In edges f → e.importer ≡ f.importer → e.exporter ≡ f.exporter → e.link ≡ f.link → e ≡ f
+one_of_ends : (edges : List Edge) → AreOrdered edges → (e f : Edge) → In edges e → In edges f → e.importer ≡ f.importer → e.exporter ≡ f.exporter →
+    e.link ≡ f.link → e ≡ f
 one_of_ends [] ordered e f at at' a b c = absurd at
 one_of_ends (x ∷ xs) ordered e f (inl same) (inl same') a b c = sym same ∙ same'
-one_of_ends (x ∷ xs) ordered e f (inl same) (inr at) a b c = absurd (never_before e f a b c (subst (λ (y : Edge). Precedes y f) same (All-contains (Precedes x) xs f ordered.0 (contains_in xs f at))))
-one_of_ends (x ∷ xs) ordered e f (inr at) (inl same) a b c = absurd (never_before f e (sym a) (sym b) (sym c) (subst (λ (y : Edge). Precedes y e) same (All-contains (Precedes x) xs e ordered.0 (contains_in xs e at))))
+one_of_ends (x ∷ xs) ordered e f (inl same) (inr at) a b c =
+    absurd (never_before e f a b c (subst (λ (y : Edge). Precedes y f) same (All-contains (Precedes x) xs f ordered.0 (contains_in xs f at))))
+one_of_ends (x ∷ xs) ordered e f (inr at) (inl same) a b c =
+    absurd (never_before f e (sym a) (sym b) (sym c) (subst (λ (y : Edge). Precedes y e) same (All-contains (Precedes x) xs e ordered.0 (contains_in xs e at))))
 one_of_ends (x ∷ xs) ordered e f (inr at) (inr at') a b c = one_of_ends xs ordered.1 e f at at' a b c
 
-module _ (n : Network) (HasEdge : Hop → Edge → Type 0) (IsLeft : Hop → Type 0) (is : (hop : Hop) (edge : Edge) → HasEdge hop edge → edge ≡ edge_with edge.act hop) (edges : List Edge) (all : AreEdgesOf HasEdge IsLeft (sorted_of n) edges) where
+module _ (n : Network) (HasEdge : Hop → Edge → Type 0) (IsLeft : Hop → Type 0) (is : (hop : Hop) (edge : Edge) → HasEdge hop edge →
+    edge ≡ edge_with edge.act hop) (edges : List Edge) (all : AreEdgesOf HasEdge IsLeft (sorted_of n) edges) where
   -- the direction of an edge
   pub record IsFrom (edge : Edge) : Type 0 where
     pub hop : Hop
@@ -52,7 +56,8 @@ module _ (n : Network) (HasEdge : Hop → Edge → Type 0) (IsLeft : Hop → Typ
   ends_differ edge inside e = let f = from edge inside in f.ends.differ (sym (ap (λ (x : Edge). x.importer) f.same) ∙ e ∙ ap (λ (x : Edge). x.exporter) f.same)
 
   pub ordered : AreOrdered edges
-  ordered = edges_in_order HasEdge IsLeft is (sorted_of n) edges all (sorted_stand (links_of n) (length n.routers) (λ link at. (link_between_routers n link at).apart))
+  ordered = edges_in_order HasEdge IsLeft is (sorted_of n) edges all
+      (sorted_stand (links_of n) (length n.routers) (λ link at. (link_between_routers n link at).apart))
 
   pub one_of_link : (edge other : Edge) → Contains edges edge → Contains edges other → edge.importer ≡ other.importer → edge.link ≡ other.link → edge ≡ other
   one_of_link edge other inside also importer link =
@@ -61,5 +66,6 @@ module _ (n : Network) (HasEdge : Hop → Edge → Type 0) (IsLeft : Hop → Typ
       let first : f.hop.importer ≡ g.hop.importer = sym (ap (λ (e : Edge). e.importer) f.same) ∙ importer ∙ ap (λ (e : Edge). e.importer) g.same in
       let second : f.hop.link ≡ g.hop.link = sym (ap (λ (e : Edge). e.link) f.same) ∙ link ∙ ap (λ (e : Edge). e.link) g.same in
       let one : f.hop ≡ g.hop = one_hop n f.hop g.hop f.of g.of first second in
-      let exporter : edge.exporter ≡ other.exporter = ap (λ (e : Edge). e.exporter) f.same ∙ ap (λ (h : Hop). h.exporter) one ∙ sym (ap (λ (e : Edge). e.exporter) g.same) in
+      let exporter : edge.exporter ≡ other.exporter = ap (λ (e : Edge). e.exporter) f.same ∙ ap (λ (h : Hop). h.exporter) one
+      ∙ sym (ap (λ (e : Edge). e.exporter) g.same) in
       one_of_ends edges ordered edge other (in_contains edges edge inside) (in_contains edges other also) importer exporter link

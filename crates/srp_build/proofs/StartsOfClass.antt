@@ -25,7 +25,8 @@ from_less : (m n : ℕ) (origins : List Origin) → m ≤ n → AllFrom n origin
 from_less m n [] le all = tt
 from_less m n (origin ∷ origins) le all = (let first = all.0 in omega arith, from_less m n origins le all.1)
 
-from_option : (n : ℕ) (o : Option (Option ℕ)) (more : List Origin) → AllFrom (n + 1) more → AllFrom n (cons_option (option_map (λ (cost : Option ℕ). let origin : Origin = record { router = n; cost = cost } in origin) o) more)
+from_option : (n : ℕ) (o : Option (Option ℕ)) (more : List Origin) → AllFrom (n + 1) more →
+    AllFrom n (cons_option (option_map (λ (cost : Option ℕ). let origin : Origin = record { router = n; cost = cost } in origin) o) more)
 from_option n None more all = from_less n (n + 1) more (omega arith) all
 from_option n (Some cost) more all = (omega arith, from_less n (n + 1) more (omega arith) all)
 
@@ -35,22 +36,27 @@ later p n (router ∷ routers) = from_option n (initial_route router p) (filter_
 
 first_later : (place : ℕ) (more : List Origin) → AllFrom (place + 1) more → first_at place more ≡ None
 first_later place [] all = refl
-first_later place (origin ∷ origins) all = ap (λ (b : Bool). cond b (Some origin.cost) None) (other_number origin.router place (λ e. let first = all.0 in absurd (omega arith)))
+first_later place (origin ∷ origins) all =
+    ap (λ (b : Bool). cond b (Some origin.cost) None) (other_number origin.router place (λ e. let first = all.0 in absurd (omega arith)))
 
 behind_later : (place : ℕ) (more : List Origin) → AllFrom (place + 1) more → behind place more ≡ more
 behind_later place [] all = refl
-behind_later place (origin ∷ origins) all = ap (λ (b : Bool). cond b origins (origin ∷ origins)) (other_number origin.router place (λ e. let first = all.0 in absurd (omega arith)))
+behind_later place (origin ∷ origins) all =
+    ap (λ (b : Bool). cond b origins (origin ∷ origins)) (other_number origin.router place (λ e. let first = all.0 in absurd (omega arith)))
 
 start_step : (place : ℕ) (router : Router) (routers : List Router) (o : Option (Option ℕ)) (more : List Origin) → AllFrom (place + 1) more
-    → starts_from place (cons_option (option_map (λ (cost : Option ℕ). let origin : Origin = record { router = place; cost = cost } in origin) o) more) (router ∷ routers) ≡ option_map (route_from router) o ∷ starts_from (place + 1) more routers
+    → starts_from place (cons_option (option_map (λ (cost : Option ℕ). let origin : Origin = record { router = place; cost = cost } in origin) o) more)
+    (router ∷ routers) ≡ option_map (route_from router) o ∷ starts_from (place + 1) more routers
 start_step place router routers None more all =
     ap (λ (o : Option (Option ℕ)). option_map (route_from router) o ∷ starts_from (place + 1) (behind place more) routers) (first_later place more all)
     ∙ ap (λ (l : List Origin). None ∷ starts_from (place + 1) l routers) (behind_later place more all)
 start_step place router routers (Some cost) more all =
-    ap (λ (b : Bool). option_map (route_from router) (cond b (Some cost) None) ∷ starts_from (place + 1) (cond b more ((let origin : Origin = record { router = place; cost = cost } in origin) ∷ more)) routers) (same_number place place refl)
+    ap (λ (b : Bool). option_map (route_from router) (cond b (Some cost) None) ∷ starts_from (place + 1)
+    (cond b more ((let origin : Origin = record { router = place; cost = cost } in origin) ∷ more)) routers) (same_number place place refl)
 
 -- the origins of a prefix give the initial routes to it
-starts_are : (p : Prefix) (place : ℕ) (routers : List Router) → starts_from place (filter_map (origin_at p) (enumerate_from place routers)) routers ≡ map (start_route p) routers
+starts_are : (p : Prefix) (place : ℕ) (routers : List Router) →
+    starts_from place (filter_map (origin_at p) (enumerate_from place routers)) routers ≡ map (start_route p) routers
 starts_are p place [] = refl
 starts_are p place (router ∷ routers) =
     start_step place router routers (initial_route router p) (filter_map (origin_at p) (enumerate_from (place + 1) routers)) (later p (place + 1) routers)
@@ -60,21 +66,25 @@ starts_of_prefix : (network : Network) (p : Prefix) → starts_from 0 (origins_o
 unfolding origins_of
 starts_of_prefix network p = starts_are p 0 network.routers
 
-origins_of_class : (network : Network) (class : DestClass) (q p : Prefix) → class_of network q ≡ class → In class.prefixes p → class.origins ≡ origins_of network p
+origins_of_class : (network : Network) (class : DestClass) (q p : Prefix) → class_of network q ≡ class → In class.prefixes p →
+    class.origins ≡ origins_of network p
 origins_of_class network class q p is at =
     let among : In (class_of network q).prefixes p = subst (λ (c : DestClass). In c.prefixes p) (sym is) at in
     let same = filter_in (is_same_class network q) (originated network) p among in
     sym (ap (λ (c : DestClass). c.origins) is) ∙ (one_class network q p same.1).origins
 
 -- the origins of a class give the initial routes to each of its prefixes
-pub starts_of_class : (network : Network) (class : DestClass) (p : Prefix) → Contains (classes_of network) class → Contains class.prefixes p → starts_from 0 class.origins network.routers ≡ map (start_route p) network.routers
+pub starts_of_class : (network : Network) (class : DestClass) (p : Prefix) → Contains (classes_of network) class → Contains class.prefixes p →
+    starts_from 0 class.origins network.routers ≡ map (start_route p) network.routers
 unfolding classes_of
 starts_of_class network class p has at =
     let of = map_in (class_of network) (filter (is_least network) (originated network)) class (in_contains _ class has) in
-    ap (λ (l : List Origin). starts_from 0 l network.routers) (origins_of_class network class of.0 p of.2 (in_contains class.prefixes p at)) ∙ starts_of_prefix network p
+    ap (λ (l : List Origin). starts_from 0 l network.routers) (origins_of_class network class of.0 p of.2 (in_contains class.prefixes p at))
+    ∙ starts_of_prefix network p
 
 -- the origins of a class give the initial routes to some prefix
-pub starts_of_some : (network : Network) (class : DestClass) → Contains (classes_of network) class → (q : Prefix) × (starts_from 0 class.origins network.routers ≡ map (start_route q) network.routers)
+pub starts_of_some : (network : Network) (class : DestClass) → Contains (classes_of network) class →
+    (q : Prefix) × (starts_from 0 class.origins network.routers ≡ map (start_route q) network.routers)
 unfolding classes_of
 starts_of_some network class has =
     let of = map_in (class_of network) (filter (is_least network) (originated network)) class (in_contains _ class has) in

@@ -31,7 +31,8 @@ some_as : {X : Type 0} (P Q : X → Type 0) → ((x : X) → P x → Q x) → (o
 some_as P Q more None is = tt
 some_as P Q more (Some x) is = more x is
 
-found_step : (more : List ℕ) (x c : ℕ) (rest b : Bool) → nat_eq x c ≡ b → has more x ≡ true → (rest ≡ true → has more c ≡ true) → b || rest ≡ true → has more c ≡ true
+found_step : (more : List ℕ) (x c : ℕ) (rest b : Bool) → nat_eq x c ≡ b → has more x ≡ true → (rest ≡ true → has more c ≡ true) → b || rest ≡ true →
+    has more c ≡ true
 found_step more x c rest true e here later found = subst (λ (y : ℕ). has more y ≡ true) (let same : x ≡ c = grind (arith, nat_tests) in same) here
 found_step more x c rest false e here later found = later found
 
@@ -66,27 +67,34 @@ module _ (set more : List ℕ) (within : AreWithin more set) where
 
 -- the plain maps of a network's routers stay within its communities
 abbrev pub MapsStayWithin : Type 0
-MapsStayWithin = (network : Network) (router : Router) → Contains network.routers router → (name list : Option (List ℕ)) (p : Prefix) (inbound : Bool) → IsMapWithin (communities_of network) (plain_of router name list p inbound)
+MapsStayWithin = (network : Network) (router : Router) → Contains network.routers router → (name list : Option (List ℕ)) (p : Prefix) (inbound : Bool) →
+    IsMapWithin (communities_of network) (plain_of router name list p inbound)
 
-line_within : MapsStayWithin → (n : Network) (p : Prefix) (router : Router) → Contains n.routers router → (inbound : Bool) (line : Neighbor) → IsMapWithin (communities_of n) (map_of_line p router inbound line)
+line_within : MapsStayWithin → (n : Network) (p : Prefix) (router : Router) → Contains n.routers router → (inbound : Bool) (line : Neighbor) →
+    IsMapWithin (communities_of n) (map_of_line p router inbound line)
 line_within stay n p router has true line = stay n router has _ _ p true
 line_within stay n p router has false line = stay n router has _ _ p false
 
 closed_within : (set : List ℕ) → IsMapWithin set closed
 closed_within set = tt
 
-place_within : MapsStayWithin → (n : Network) (p : Prefix) (inbound : Bool) (router item : ℕ) → IsMapWithin (communities_of n) (map_at p n.routers inbound router item)
+place_within : MapsStayWithin → (n : Network) (p : Prefix) (inbound : Bool) (router item : ℕ) →
+    IsMapWithin (communities_of n) (map_at p n.routers inbound router item)
 place_within stay n p inbound router item = by_router (slice_get n.routers router) refl
   where
     by_line : (r : Router) → Contains n.routers r → (o : Option Neighbor) → IsMapWithin (communities_of n) (option_map_or (map_of_line p r inbound) o closed)
     by_line r has None = closed_within (communities_of n)
     by_line r has (Some line) = line_within stay n p r has inbound line
 
-    by_router : (o : Option Router) → slice_get n.routers router ≡ o → IsMapWithin (communities_of n) (option_map_or (λ (r : Router). option_map_or (map_of_line p r inbound) (slice_get (neighbors_of r) item) closed) o closed)
+    by_router : (o : Option Router) → slice_get n.routers router ≡ o →
+        IsMapWithin (communities_of n) (option_map_or (λ (r : Router). option_map_or (map_of_line p r inbound) (slice_get (neighbors_of r) item) closed) o
+        closed)
     by_router None none = closed_within (communities_of n)
     by_router (Some r) some = by_line r (contains_in n.routers r (get_in n.routers router r some)) (slice_get (neighbors_of r) item)
 
-pub maps_within : MapsStayWithin → (n : Network) (p : Prefix) (universe : List ℕ) (maps : LineMaps) → AreWithin universe (communities_of n) → AreLineMaps p n.routers maps → AreMapsWithin universe maps.maps
+pub maps_within : MapsStayWithin → (n : Network) (p : Prefix) (universe : List ℕ) (maps : LineMaps) → AreWithin universe (communities_of n) →
+    AreLineMaps p n.routers maps → AreMapsWithin universe maps.maps
 maps_within stay n p universe maps known are number map at =
     let made = are.made number map at in
-    map_within (communities_of n) universe known map (subst (IsMapWithin (communities_of n)) (sym made.is) (place_within stay n p made.inbound made.router made.item))
+    map_within (communities_of n) universe known map
+    (subst (IsMapWithin (communities_of n)) (sym made.is) (place_within stay n p made.inbound made.router made.item))

@@ -30,7 +30,8 @@ pub record IsLike (shown : Shown) (acts : List BgpAct) (function : EdgeFn) (numb
 
 -- no act with one of the numbers has a function like this one
 abbrev pub AreUnlike : Shown → List BgpAct → List ℕ → EdgeFn → Type 0
-AreUnlike shown acts numbers function = (number : ℕ) (act : BgpAct) → Contains numbers number → slice_get acts number ≡ Some act → AreApart shown function act.function
+AreUnlike shown acts numbers function = (number : ℕ) (act : BgpAct) → Contains numbers number → slice_get acts number ≡ Some act →
+    AreApart shown function act.function
 
 -- each act is found by its nodes
 pub record AreListed (index : Index ℕ) (acts : List BgpAct) : Type 0 where

@@ -81,10 +81,12 @@ pub record IsFirstOf (acts : List BgpAct) (edge : Edge) : Type 0 where
 
 -- The edges of directions, in order, and their acts: each is that of the session in the direction of the
 -- first edge that has it.
-pub record AreEdgesOfSessions (shown : Shown) (routers : List Router) (init : List (Option Route)) (maps : LineMaps) (hops : List Hop) (found : BgpEdges) : Type 0 where
+pub record AreEdgesOfSessions (shown : Shown) (routers : List Router) (init : List (Option Route)) (maps : LineMaps) (hops : List Hop) (found : BgpEdges) : Type
+    0 where
   pub right : AreRight shown maps.maps found.acts found.sessions
   pub over : (number : ℕ) (act : BgpAct) → slice_get found.acts.acts.items number ≡ Some act → session_at routers maps act.first ≡ Some act.session
   pub within : (number : ℕ) (act : BgpAct) → slice_get found.acts.acts.items number ≡ Some act → Contains hops act.first
   pub each : AreEdgesOf (IsEdgeOfSession routers init maps found.acts.acts.items) (IsLeftOut routers init maps) hops found.edges
   pub in_order : AreByFirstUse found.edges (length found.acts.acts.items)
-  pub first : (place : ℕ) (edge : Edge) → slice_get found.edges place ≡ Some edge → IsFirstWith found.edges place edge.act → IsFirstOf found.acts.acts.items edge
+  pub first : (place : ℕ) (edge : Edge) → slice_get found.edges place ≡ Some edge → IsFirstWith found.edges place edge.act →
+      IsFirstOf found.acts.acts.items edge

@@ -34,4 +34,5 @@ pub record IsAsWritten (network : Network) (prefix : Prefix) (problem : Problem)
 
 -- each act is that of the lines at the ends of the first edge that has it
 pub record HasFirstActs (network : Network) (prefix : Prefix) (problem : Problem) : Type 0 where
-  pub each : (place : ℕ) (edge : Edge) → slice_get problem.edges place ≡ Some edge → IsFirstWith problem.edges place edge.act → IsAsWritten network prefix problem edge
+  pub each : (place : ℕ) (edge : Edge) → slice_get problem.edges place ≡ Some edge → IsFirstWith problem.edges place edge.act →
+      IsAsWritten network prefix problem edge

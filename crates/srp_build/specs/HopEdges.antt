@@ -12,4 +12,5 @@ abbrev pub AreEdgesOf : (Hop → Edge → Type 0) → (Hop → Type 0) → List 
 AreEdgesOf HasEdge IsLeft [] [] = Unit {0}
 AreEdgesOf HasEdge IsLeft [] (edge ∷ edges) = ⊥
 AreEdgesOf HasEdge IsLeft (hop ∷ hops) [] = IsLeft hop × AreEdgesOf HasEdge IsLeft hops []
-AreEdgesOf HasEdge IsLeft (hop ∷ hops) (edge ∷ edges) = (HasEdge hop edge × AreEdgesOf HasEdge IsLeft hops edges) ⊎ (IsLeft hop × AreEdgesOf HasEdge IsLeft hops (edge ∷ edges))
+AreEdgesOf HasEdge IsLeft (hop ∷ hops) (edge ∷ edges) = (HasEdge hop edge × AreEdgesOf HasEdge IsLeft hops edges)
+    ⊎ (IsLeft hop × AreEdgesOf HasEdge IsLeft hops (edge ∷ edges))

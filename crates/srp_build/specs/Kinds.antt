@@ -20,7 +20,8 @@ use Rattle.srp_build.specs.Plains.{SayTheSame, IsAsEarlier, session_of}
 
 -- no entry of the map under that name matches prefix lists
 abbrev pub names_no_list : Router → List ℕ → Bool
-names_no_list router name = option_map_or (λ (map : RouteMap). list_all (λ (entry : MapEntry). is_none entry.prefixes) map.entries) (route_map_named router name) true
+names_no_list router name = option_map_or (λ (map : RouteMap). list_all (λ (entry : MapEntry). is_none entry.prefixes) map.entries)
+    (route_map_named router name) true
 
 -- the map of the line is the same for every prefix
 abbrev pub IsFixed : Router → Bool → Neighbor → Type 0
@@ -38,13 +39,15 @@ pub record IsKindOf (routers : List Router) (firsts : List LinePlace) (router : 
   pub same : (p : Prefix) → SayTheSame (map_of_place p routers first) (map_of_line p router inbound line)
 
 -- the number at a place is that of the kind of the line at that place
-pub record IsKindOfLine (routers : List Router) (router : Router) (inbound : Bool) (firsts : List LinePlace) (lines : List Neighbor) (place number : ℕ) : Type 0 where
-  pub line : Neighbor
-  pub at : slice_get lines place ≡ Some line
-  pub is : IsKindOf routers firsts router inbound line number
+pub record IsKindOfLine (routers : List Router) (router : Router) (inbound : Bool) (firsts : List LinePlace) (lines : List Neighbor) (place number : ℕ) : Type 0
+  where
+    pub line : Neighbor
+    pub at : slice_get lines place ≡ Some line
+    pub is : IsKindOf routers firsts router inbound line number
 
 abbrev pub AreKindsOf : List Router → Router → Bool → List LinePlace → List Neighbor → List ℕ → Type 0
-AreKindsOf routers router inbound firsts lines numbers = (place number : ℕ) → slice_get numbers place ≡ Some number → IsKindOfLine routers router inbound firsts lines place number
+AreKindsOf routers router inbound firsts lines numbers = (place number : ℕ) → slice_get numbers place ≡ Some number →
+    IsKindOfLine routers router inbound firsts lines place number
 
 -- the numbers of the kinds of all lines of a router
 pub record HasKinds (routers : List Router) (router : Router) (inbound : Bool) (firsts : List LinePlace) (numbers : List ℕ) : Type 0 where
@@ -78,7 +81,8 @@ pub record JoinsLines (routers : List Router) (hop : Hop) : Type 0 where
 -- the sessions are those of the directions, by the numbers of the kinds of their lines
 pub record AreSessionsOf (routers : List Router) (kinds : Kinds) (hops : List Hop) (sessions : List Session) : Type 0 where
   pub total : length sessions ≡ length hops
-  pub each : (place : ℕ) (hop : Hop) (session : Session) → slice_get hops place ≡ Some hop → slice_get sessions place ≡ Some session → session_of routers kinds.outs kinds.ins hop ≡ Some session
+  pub each : (place : ℕ) (hop : Hop) (session : Session) → slice_get hops place ≡ Some hop → slice_get sessions place ≡ Some session →
+      session_of routers kinds.outs kinds.ins hop ≡ Some session
 
 -- ---- how kinds are numbered
 
@@ -95,7 +99,8 @@ pub record IsAlwaysOf (routers : List Router) (firsts : List LinePlace) (number 
 -- each map stands beside its kind, which has it for every prefix
 pub record AreFixed (routers : List Router) (table : KindTable) : Type 0 where
   pub total : length table.kinds.items ≡ length table.fixed.maps.items
-  pub each : (place number : ℕ) (plain : Plain) → slice_get table.kinds.items place ≡ Some number → slice_get table.fixed.maps.items place ≡ Some plain → IsAlwaysOf routers table.firsts.items number plain
+  pub each : (place number : ℕ) (plain : Plain) → slice_get table.kinds.items place ≡ Some number → slice_get table.fixed.maps.items place ≡ Some plain →
+      IsAlwaysOf routers table.firsts.items number plain
 
 -- the line stands at the place
 pub record IsLineAt (routers : List Router) (place : LinePlace) (router : Router) (line : Neighbor) : Type 0 where
@@ -125,8 +130,10 @@ pub record IsFixedKind (old new : KindTable) (first : LinePlace) (plain : Plain)
 pub record IsKindNumber (old new : KindTable) (place : LinePlace) (router : Router) (line : Neighbor) (number : ℕ) : Type 0 where
   pub kept : KindsKept old.firsts.items new.firsts.items
   pub fixed : (routers : List Router) → IsLineAt routers place router line → AreFixed routers old → AreFixed routers new
-  pub is : (routers : List Router) → IsLineAt routers place router line → AreFixed routers old → IsKindOf routers new.firsts.items router place.inbound line number
+  pub is : (routers : List Router) → IsLineAt routers place router line → AreFixed routers old →
+      IsKindOf routers new.firsts.items router place.inbound line number
 
 -- an earlier line has the number and names the same map and list, or the line was numbered
 abbrev pub IsSeenOrNumbered : KindTable → KindTable → LinePlace → Router → List ℕ → Neighbor → ℕ → Type 0
-IsSeenOrNumbered old new place router numbers line number = ((new ≡ old) × IsAsEarlier place.inbound (neighbors_of router) numbers line number) ⊎ IsKindNumber old new place router line number
+IsSeenOrNumbered old new place router numbers line number = ((new ≡ old) × IsAsEarlier place.inbound (neighbors_of router) numbers line number)
+    ⊎ IsKindNumber old new place router line number

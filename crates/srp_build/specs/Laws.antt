@@ -26,7 +26,8 @@ NoClassWithoutProcess = (n : Network) → protocol_of n ≡ None → classes_of 
 
 -- The maps of a router mean the same for all prefixes of a class.
 abbrev pub MapsOfClass : Type 0
-MapsOfClass = (n : Network) (class : DestClass) (p q : Prefix) → Contains (classes_of n) class → Contains class.prefixes p → Contains class.prefixes q → (router : Router) → Contains n.routers router
+MapsOfClass = (n : Network) (class : DestClass) (p q : Prefix) → Contains (classes_of n) class → Contains class.prefixes p → Contains class.prefixes q →
+    (router : Router) → Contains n.routers router
     → (name list : Option (List ℕ)) (inbound : Bool) → plain_of router name list p inbound ≡ plain_of router name list q inbound
 
 -- Where a first import accepts something, and all routes that it and another accept have one preference,
@@ -48,8 +49,10 @@ HasMapsWithin set (Cost cost) = Unit {0}
 -- The acts of a problem that are those of first edges can be printed, if the network names only lists
 -- that it defines, and its deletion lists have one community a line.
 abbrev pub ActsPrint : Type 0
-ActsPrint = (n : Network) (p : Prefix) (problem : Problem) → IsWellFormed n → undefined_list_lines n ≡ [] → delete_list_lines n ≡ [] → AreActsByFirstUse problem → HasFirstActs n p problem → AllByRecursion HasMapsThatPrint problem.acts
+ActsPrint = (n : Network) (p : Prefix) (problem : Problem) → IsWellFormed n → undefined_list_lines n ≡ [] → delete_list_lines n ≡ [] →
+    AreActsByFirstUse problem → HasFirstActs n p problem → AllByRecursion HasMapsThatPrint problem.acts
 
 -- They name only communities that the network names.
 abbrev pub ActsStayWithin : Type 0
-ActsStayWithin = (n : Network) (p : Prefix) (problem : Problem) → AreActsByFirstUse problem → HasFirstActs n p problem → AllByRecursion (HasMapsWithin (communities_of n)) problem.acts
+ActsStayWithin = (n : Network) (p : Prefix) (problem : Problem) → AreActsByFirstUse problem → HasFirstActs n p problem →
+    AllByRecursion (HasMapsWithin (communities_of n)) problem.acts

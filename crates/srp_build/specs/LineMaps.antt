@@ -25,7 +25,8 @@ pub record AreLineMaps (p : Prefix) (routers : List Router) (maps : LineMaps) : 
 -- the numbers are those of the maps of kinds, whose first lines stand at these places
 pub record AreMapsOfKinds (p : Prefix) (routers : List Router) (firsts : List LinePlace) (maps : List Plain) (numbers : List ℕ) : Type 0 where
   pub total : length numbers ≡ length firsts
-  pub each : (place number : ℕ) (first : LinePlace) → slice_get firsts place ≡ Some first → slice_get numbers place ≡ Some number → IsNumberOf maps number (map_of_place p routers first)
+  pub each : (place number : ℕ) (first : LinePlace) → slice_get firsts place ≡ Some first → slice_get numbers place ≡ Some number →
+      IsNumberOf maps number (map_of_place p routers first)
   pub made : (number : ℕ) (map : Plain) → slice_get maps number ≡ Some map → IsMapOfPlace p routers map
 
 -- the number of the map of a kind

@@ -32,12 +32,15 @@ closed = record { entries = [] }
 
 -- the plain map of the line at a place of a router; the closed one where there is no line
 abbrev pub map_at : Prefix → List Router → Bool → ℕ → ℕ → Plain
-map_at p routers inbound router item = option_map_or (λ (r : Router). option_map_or (map_of_line p r inbound) (slice_get (neighbors_of r) item) closed) (slice_get routers router) closed
+map_at p routers inbound router item = option_map_or (λ (r : Router). option_map_or (map_of_line p r inbound) (slice_get (neighbors_of r) item) closed)
+    (slice_get routers router) closed
 
 -- whether the line at a place of a router sends communities
 abbrev pub sends_at : List Router → ℕ → ℕ → Bool
-sends_at routers router item = option_map_or (λ (r : Router). option_map_or (λ (line : Neighbor). line.sends) (slice_get (neighbors_of r) item) false) (slice_get routers router) false
+sends_at routers router item = option_map_or (λ (r : Router). option_map_or (λ (line : Neighbor). line.sends) (slice_get (neighbors_of r) item) false)
+    (slice_get routers router) false
 
 -- what the importer takes in a direction
 abbrev pub act_of_hop : Prefix → List Router → Hop → Act
-act_of_hop p routers hop = Import (map_at p routers false hop.exporter hop.exporter_item) (sends_at routers hop.exporter hop.exporter_item) (map_at p routers true hop.importer hop.importer_item)
+act_of_hop p routers hop = Import (map_at p routers false hop.exporter hop.exporter_item) (sends_at routers hop.exporter hop.exporter_item)
+    (map_at p routers true hop.importer hop.importer_item)

@@ -10,11 +10,13 @@ use Rattle.srp_build.specs.declared.lone.Mark.{Mark}
 
 -- some routes that both acts accept have different preferences
 pub record Differ (shown : Shown) (acts : List BgpAct) (a b : ℕ) : Type 0 where
-  pub differ : (f g : BgpAct) (F G : List ℕ → Option Imported) → slice_get acts a ≡ Some f → slice_get acts b ≡ Some g → IsEdgeFn shown f.function F → IsEdgeFn shown g.function G → DifferInPreference F G
+  pub differ : (f g : BgpAct) (F G : List ℕ → Option Imported) → slice_get acts a ≡ Some f → slice_get acts b ≡ Some g → IsEdgeFn shown f.function F →
+      IsEdgeFn shown g.function G → DifferInPreference F G
 
 -- all routes that both acts accept have one preference
 pub record Agree (shown : Shown) (acts : List BgpAct) (a b : ℕ) : Type 0 where
-  pub one : (f g : BgpAct) (F G : List ℕ → Option Imported) → slice_get acts a ≡ Some f → slice_get acts b ≡ Some g → IsEdgeFn shown f.function F → IsEdgeFn shown g.function G → HaveOnePreference F G
+  pub one : (f g : BgpAct) (F G : List ℕ → Option Imported) → slice_get acts a ≡ Some f → slice_get acts b ≡ Some g → IsEdgeFn shown f.function F →
+      IsEdgeFn shown g.function G → HaveOnePreference F G
 
 -- the mark says whether the acts differ
 pub record TellsApart (shown : Shown) (acts : List BgpAct) (a b : ℕ) (mark : Mark) : Type 0 where

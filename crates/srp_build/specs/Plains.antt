@@ -50,7 +50,8 @@ pub record IsNumberOfLine (p : Prefix) (router : Router) (inbound : Bool) (maps 
   pub is : IsNumberOf maps number (map_of_line p router inbound line)
 
 abbrev pub AreNumbersOf : Prefix → Router → Bool → List Plain → List Neighbor → List ℕ → Type 0
-AreNumbersOf p router inbound maps lines numbers = (place number : ℕ) → slice_get numbers place ≡ Some number → IsNumberOfLine p router inbound maps lines place number
+AreNumbersOf p router inbound maps lines numbers = (place number : ℕ) → slice_get numbers place ≡ Some number →
+    IsNumberOfLine p router inbound maps lines place number
 
 -- the numbers of the maps of all lines of a router
 pub record HasNumbers (p : Prefix) (router : Router) (inbound : Bool) (maps : List Plain) (numbers : List ℕ) : Type 0 where
@@ -70,7 +71,9 @@ number_at table router item = option_and_then (λ (numbers : List ℕ). slice_ge
 
 -- the numbers of both maps of a direction, and whether communities are sent
 abbrev pub session_of : List Router → List (List ℕ) → List (List ℕ) → Hop → Option Session
-session_of routers outs ins hop = option_and_then (λ (out : ℕ). option_map (λ (into : ℕ). record { out = out; sends = sends_at routers hop.exporter hop.exporter_item; into = into }) (number_at ins hop.importer hop.importer_item)) (number_at outs hop.exporter hop.exporter_item)
+session_of routers outs ins hop = option_and_then (λ (out : ℕ).
+    option_map (λ (into : ℕ). record { out = out; sends = sends_at routers hop.exporter hop.exporter_item; into = into })
+    (number_at ins hop.importer hop.importer_item)) (number_at outs hop.exporter hop.exporter_item)
 
 -- the map with a number
 abbrev pub map_numbered : List Plain → ℕ → Plain

@@ -18,7 +18,8 @@ use Rattle.srp_build.specs.Plains.{import_over}
 pub record AreActs (shown : Shown) (maps : List Plain) (acts : List BgpAct) : Type 0 where
   pub functions : (number : ℕ) (act : BgpAct) → slice_get acts number ≡ Some act → IsEdgeFn shown act.function (import_over maps act.session)
   pub accept : (number : ℕ) (act : BgpAct) → slice_get acts number ≡ Some act → AcceptsSome (import_over maps act.session)
-  pub differ : (i j : ℕ) (a b : BgpAct) → slice_get acts i ≡ Some a → slice_get acts j ≡ Some b → AreOneImport (import_over maps a.session) (import_over maps b.session) → i ≡ j
+  pub differ : (i j : ℕ) (a b : BgpAct) → slice_get acts i ≡ Some a → slice_get acts j ≡ Some b →
+      AreOneImport (import_over maps a.session) (import_over maps b.session) → i ≡ j
 
 -- the act with the number imports as the session does
 pub record IsActOver (maps : List Plain) (acts : List BgpAct) (session : Session) (number : ℕ) : Type 0 where

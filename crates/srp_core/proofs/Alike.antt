@@ -56,7 +56,15 @@ turned_edges P Q (e ∷ es) (f ∷ fs) same = (
 )
 
 pub turned : (P Q : Problem) → ProblemsAlike P Q → ProblemsAlike Q P
-turned P Q same = record { protocol = sym same.protocol; names = sym same.names; numbers = sym same.numbers; init = sym same.init; lone = sym same.lone; edges = turned_edges P Q P.edges Q.edges same.edges }
+turned P Q same = record {
+  protocol = sym same.protocol;
+  names = sym same.names;
+  numbers = sym same.numbers;
+  init = sym same.init;
+  lone = sym same.lone;
+  edges =
+      turned_edges P Q P.edges Q.edges same.edges;
+}
 
 joined_edges : (P Q S : Problem) (es fs gs : List Edge) → AllEdgesAlike P Q es fs → AllEdgesAlike Q S fs gs → AllEdgesAlike P S es gs
 joined_edges P Q S [] [] [] a b = tt
@@ -65,12 +73,26 @@ joined_edges P Q S [] (f ∷ fs) gs a b = absurd a
 joined_edges P Q S (e ∷ es) [] gs a b = absurd a
 joined_edges P Q S (e ∷ es) (f ∷ fs) [] a b = absurd b
 joined_edges P Q S (e ∷ es) (f ∷ fs) (g ∷ gs) a b = (
-  record { importer = a.0.importer ∙ b.0.importer; exporter = a.0.exporter ∙ b.0.exporter; link = a.0.link ∙ b.0.link; acts = alike_trans (act_of P e) (act_of Q f) (act_of S g) a.0.acts b.0.acts },
+  record {
+    importer = a.0.importer ∙ b.0.importer;
+    exporter = a.0.exporter ∙ b.0.exporter;
+    link = a.0.link ∙ b.0.link;
+    acts =
+        alike_trans (act_of P e) (act_of Q f) (act_of S g) a.0.acts b.0.acts;
+  },
   joined_edges P Q S es fs gs a.1 b.1,
 )
 
 pub joined : (P Q S : Problem) → ProblemsAlike P Q → ProblemsAlike Q S → ProblemsAlike P S
-joined P Q S a b = record { protocol = a.protocol ∙ b.protocol; names = a.names ∙ b.names; numbers = a.numbers ∙ b.numbers; init = a.init ∙ b.init; lone = a.lone ∙ b.lone; edges = joined_edges P Q S P.edges Q.edges S.edges a.edges b.edges }
+joined P Q S a b = record {
+  protocol = a.protocol ∙ b.protocol;
+  names = a.names ∙ b.names;
+  numbers = a.numbers ∙ b.numbers;
+  init = a.init ∙ b.init;
+  lone =
+      a.lone ∙ b.lone;
+  edges = joined_edges P Q S P.edges Q.edges S.edges a.edges b.edges;
+}
 
 match_in : (P Q : Problem) (es fs : List Edge) → AllEdgesAlike P Q es fs → (e : Edge) → In es e → (f : Edge) × In fs f × EdgesAlike P Q e f
 match_in P Q [] fs same e i = absurd i
@@ -105,13 +127,15 @@ module _ (P Q : Problem) (same : ProblemsAlike P Q) where
   same_labels L fit = record { total = fit.total ∙ one_count; routes = λ u r e. subst (λ (p : Protocol). IsRouteOf p r) same.protocol (fit.routes u r e) }
 
   same_step : (e f : Edge) → EdgesAlike P Q e f → (r : Route) → HasSet (Some r) → step_over P e r ≡ step_over Q f r
-  same_step e f is r set = steps_alike (act_of P e) (act_of Q f) is.acts (number P e.exporter) r set ∙ ap (λ (n : ℕ). step_by (act_of Q f) n r) (one_number e.exporter ∙ ap (number Q) is.exporter)
+  same_step e f is r set = steps_alike (act_of P e) (act_of Q f) is.acts (number P e.exporter) r set
+      ∙ ap (λ (n : ℕ). step_by (act_of Q f) n r) (one_number e.exporter ∙ ap (number Q) is.exporter)
 
   own_number : (e f : Edge) → EdgesAlike P Q e f → number P e.importer ≡ number Q f.importer
   own_number e f is = one_number e.importer ∙ ap (number Q) is.importer
 
   over_from : (L : List (Option Route)) → AreLabels P L → (e f : Edge) → EdgesAlike P Q e f → (o : Option Route) → label L e.exporter ≡ o
-      → option_and_then (λ (from : Route). option_and_then (passed (number P e.importer)) (step_over P e from)) o ≡ option_and_then (λ (from : Route). option_and_then (passed (number Q f.importer)) (step_over Q f from)) o
+      → option_and_then (λ (from : Route). option_and_then (passed (number P e.importer)) (step_over P e from))
+      o ≡ option_and_then (λ (from : Route). option_and_then (passed (number Q f.importer)) (step_over Q f from)) o
   over_from L fit e f is None at = refl
   over_from L fit e f is (Some r) at =
       let s = same_step e f is r (route_set P.protocol r (fit.routes e.exporter r at)) in
@@ -123,7 +147,8 @@ module _ (P Q : Problem) (same : ProblemsAlike P Q) where
       over_from L fit e f is (label L e.exporter) refl
       ∙ ap (λ (x : ℕ). option_and_then (λ (from : Route). option_and_then (passed (number Q f.importer)) (step_over Q f from)) (label L x)) is.exporter
 
-  same_over_edges : (L : List (Option Route)) → AreLabels P L → (u place : ℕ) (es fs : List Edge) → AllEdgesAlike P Q es fs → over_edges P L u place es ≡ over_edges Q L u place fs
+  same_over_edges : (L : List (Option Route)) → AreLabels P L → (u place : ℕ) (es fs : List Edge) → AllEdgesAlike P Q es fs →
+      over_edges P L u place es ≡ over_edges Q L u place fs
   unfolding over_edges
   same_over_edges L fit u place [] [] a = refl
   same_over_edges L fit u place [] (f ∷ fs) a = absurd a
@@ -141,7 +166,8 @@ module _ (P Q : Problem) (same : ProblemsAlike P Q) where
       let start = one_start u in
       λ i. candidate_of None (start i) ++ rest i
 
-  pub carry_over : (L : List (Option Route)) → AreLabels P L → (e f : Edge) → EdgesAlike P Q e f → (c : Route) → IsCandidateOver P L e c → IsCandidateOver Q L f c
+  pub carry_over : (L : List (Option Route)) → AreLabels P L → (e f : Edge) → EdgesAlike P Q e f → (c : Route) → IsCandidateOver P L e c →
+      IsCandidateOver Q L f c
   carry_over L fit e f is c o = over_candidate Q L f c (sym (same_over L fit e f is) ∙ candidate_over P L e c o)
 
   pub carry_candidate : (L : List (Option Route)) → AreLabels P L → (u : ℕ) (c : Route) → IsCandidate P L u c → IsCandidate Q L u c
@@ -175,20 +201,24 @@ module _ (P Q : Problem) (same : ProblemsAlike P Q) where
         fitting = fit;
         none = λ u c h e k. st.none u c (inside Q P back u h) e (back_candidate u c k);
         held = λ u r h e. carry_candidate P Q same L st.fitting u r (st.held u r (inside Q P back u h) e);
-        best = λ u r c h e k. subst (λ o. o ≢ Less) (λ i. compare_keys (one_key P Q same c i) (one_key P Q same r i)) (st.best u r c (inside Q P back u h) e (back_candidate u c k));
+        best = λ u r c h e k. subst (λ o. o ≢ Less) (λ i. compare_keys (one_key P Q same c i) (one_key P Q same r i))
+            (st.best u r c (inside Q P back u h) e (back_candidate u c k));
       }
 
-  twin : (groups : List ℕ) → IsAdmissible P groups → (u v : ℕ) (edge : Edge) → u < count Q → v < count Q → group_of groups u ≡ group_of groups v → Contains Q.edges edge → edge.importer ≡ u → group_of groups edge.exporter ≢ group_of groups u → Twin Q groups v edge
+  twin : (groups : List ℕ) → IsAdmissible P groups → (u v : ℕ) (edge : Edge) → u < count Q → v < count Q → group_of groups u ≡ group_of groups v →
+      Contains Q.edges edge → edge.importer ≡ u → group_of groups edge.exporter ≢ group_of groups u → Twin Q groups v edge
   twin groups adm u v edge hu hv one has imp out =
       let m = match Q P back edge has in
-      let t = adm.twins u v m.0 (inside Q P back u hu) (inside Q P back v hv) one m.1 (sym m.2.importer ∙ imp) (λ e. out (ap (group_of groups) m.2.exporter ∙ e)) in
+      let t = adm.twins u v m.0 (inside Q P back u hu) (inside Q P back v hv) one m.1 (sym m.2.importer ∙ imp)
+      (λ e. out (ap (group_of groups) m.2.exporter ∙ e)) in
       let w = match P Q same t.other t.other_in in
       record {
         other = w.0;
         other_in = w.1;
         importer = sym w.2.importer ∙ t.importer;
         exporter = sym (ap (group_of groups) w.2.exporter) ∙ t.exporter ∙ sym (ap (group_of groups) m.2.exporter);
-        alike = alike_trans (act_of Q edge) (act_of P m.0) (act_of Q w.0) m.2.acts (alike_trans (act_of P m.0) (act_of P t.other) (act_of Q w.0) t.alike w.2.acts);
+        alike = alike_trans (act_of Q edge) (act_of P m.0) (act_of Q w.0) m.2.acts
+            (alike_trans (act_of P m.0) (act_of P t.other) (act_of Q w.0) t.alike w.2.acts);
       }
 
   pub same_admissible : (groups : List ℕ) → IsAdmissible P groups → IsAdmissible Q groups
@@ -202,5 +232,6 @@ module _ (P Q : Problem) (same : ProblemsAlike P Q) where
 pub same_coarsest : (P Q : Problem) → ProblemsAlike P Q → (groups : List ℕ) → IsCoarsest P groups → IsCoarsest Q groups
 same_coarsest P Q same groups c = record {
   admissible = same_admissible P Q same groups c.admissible;
-  refined = λ others adm u v hu hv one. c.refined others (same_admissible Q P (turned P Q same) others adm) u v (inside Q P (turned P Q same) u hu) (inside Q P (turned P Q same) v hv) one;
+  refined = λ others adm u v hu hv one. c.refined others (same_admissible Q P (turned P Q same) others adm) u v (inside Q P (turned P Q same) u hu)
+      (inside Q P (turned P Q same) v hv) one;
 }

@@ -25,7 +25,8 @@ all_in P xs x all i = let c = contains_in xs x i in subst P c.2 (all c.0 x c.1)
 
 -- both ends of a direction are determined
 same_import : (n : Network) (p : Prefix) (d : Direction) (s t : SessionEnds n d) (comms : List ℕ)
-    → session_import p s.exporter s.exporter_line s.importer s.importer_line comms ≡ session_import p t.exporter t.exporter_line t.importer t.importer_line comms
+    → session_import p s.exporter s.exporter_line s.importer s.importer_line comms ≡ session_import p t.exporter t.exporter_line t.importer t.importer_line
+    comms
 same_import n p d s t comms =
     let e : s.exporter ≡ t.exporter = cc (s.exporter_at, t.exporter_at) in
     let i : s.importer ≡ t.importer = cc (s.importer_at, t.importer_at) in
@@ -38,9 +39,11 @@ one_protocol OverBgp out into sends cost a b = b
 one_protocol OverOspf out into sends cost a b = a
 
 -- acts that mean the same direction act alike
-pub means_alike : (n : Network) (p : Prefix) (q : Protocol) (d : Direction) (x y : Act) → IsActOf q x → IsActOf q y → Means n p d x → Means n p d y → ActsAlike x y
+pub means_alike : (n : Network) (p : Prefix) (q : Protocol) (d : Direction) (x y : Act) → IsActOf q x → IsActOf q y → Means n p d x → Means n p d y →
+    ActsAlike x y
 unfolding import_by
-means_alike n p q d (Import out sends into) (Import out' sends' into') a b m m' = record { same = λ comms set. m.same comms set ∙ same_import n p d m.ends m'.ends comms ∙ sym (m'.same comms set) }
+means_alike n p q d (Import out sends into) (Import out' sends' into') a b m m' =
+    record { same = λ comms set. m.same comms set ∙ same_import n p d m.ends m'.ends comms ∙ sym (m'.same comms set) }
 means_alike n p q d (Import out sends into) (Cost cost) a b m m' = one_protocol q out into sends cost a b
 means_alike n p q d (Cost cost) (Import out sends into) a b m m' = one_protocol q out into sends cost b a
 means_alike n p q d (Cost cost) (Cost other) a b m m' =
@@ -81,7 +84,8 @@ abbrev Back : Problem → Problem → List Edge → List Edge → Type 0
 Back P Q es fs = (f : Edge) → In fs f → (e : Edge) × In es e × EdgesAlike P Q e f
 
 -- the heads of two ordered lists that match are alike
-heads_alike : (P Q : Problem) (e : Edge) (es : List Edge) (f : Edge) (fs : List Edge) → AreOrdered (e ∷ es) → AreOrdered (f ∷ fs) → Forth P Q (e ∷ es) (f ∷ fs) → Back P Q (e ∷ es) (f ∷ fs) → EdgesAlike P Q e f
+heads_alike : (P Q : Problem) (e : Edge) (es : List Edge) (f : Edge) (fs : List Edge) → AreOrdered (e ∷ es) → AreOrdered (f ∷ fs) →
+    Forth P Q (e ∷ es) (f ∷ fs) → Back P Q (e ∷ es) (f ∷ fs) → EdgesAlike P Q e f
 heads_alike P Q e es f fs a b forth back =
     let m = forth e (inl refl) in
     elim m.1 [
@@ -95,7 +99,8 @@ heads_alike P Q e es f fs a b forth back =
     ]
 
 -- the match of a later edge is a later edge
-later_forth : (P Q : Problem) (e : Edge) (es : List Edge) (f : Edge) (fs : List Edge) → AreOrdered (e ∷ es) → EdgesAlike P Q e f → Forth P Q (e ∷ es) (f ∷ fs) → Forth P Q es fs
+later_forth : (P Q : Problem) (e : Edge) (es : List Edge) (f : Edge) (fs : List Edge) → AreOrdered (e ∷ es) → EdgesAlike P Q e f → Forth P Q (e ∷ es) (f ∷ fs) →
+    Forth P Q es fs
 later_forth P Q e es f fs a heads forth d i =
     let m = forth d (inr i) in
     elim m.1 [
@@ -103,7 +108,8 @@ later_forth P Q e es f fs a heads forth d i =
       | inl here ↦ absurd (never_before P Q e d f heads (subst (λ (x : Edge). EdgesAlike P Q d x) (sym here) m.2) (all_in (Precedes e) es d a.0 i))
     ]
 
-later_back : (P Q : Problem) (e : Edge) (es : List Edge) (f : Edge) (fs : List Edge) → AreOrdered (f ∷ fs) → EdgesAlike P Q e f → Back P Q (e ∷ es) (f ∷ fs) → Back P Q es fs
+later_back : (P Q : Problem) (e : Edge) (es : List Edge) (f : Edge) (fs : List Edge) → AreOrdered (f ∷ fs) → EdgesAlike P Q e f → Back P Q (e ∷ es) (f ∷ fs) →
+    Back P Q es fs
 later_back P Q e es f fs b heads back g i =
     let m = back g (inr i) in
     elim m.1 [
@@ -135,7 +141,8 @@ module _ (n : Network) (p : Prefix) (P Q : Problem) (a : IsProblemOf n p P) (b :
           importer = s.1.importer ∙ sym t.2.importer;
           exporter = s.1.exporter ∙ sym t.2.exporter;
           link = s.1.link ∙ sym t.2.link;
-          acts = means_alike n p P.protocol d (act_of P e) (act_of Q t.0) (edge_act P a.rules e i) (subst (λ (q : Protocol). IsActOf q (act_of Q t.0)) (sym one_side) (edge_act Q b.rules t.0 t.1)) s.1.means t.2.means;
+          acts = means_alike n p P.protocol d (act_of P e) (act_of Q t.0) (edge_act P a.rules e i)
+              (subst (λ (q : Protocol). IsActOf q (act_of Q t.0)) (sym one_side) (edge_act Q b.rules t.0 t.1)) s.1.means t.2.means;
         },
       )
 
@@ -180,15 +187,25 @@ both_true false false there back = refl
 module _ (n : Network) (p : Prefix) (P Q : Problem) (a : IsProblemOf n p P) (b : IsProblemOf n p Q) where
   back_in : Back P Q P.edges Q.edges
   back_in f i =
-      let m = forth_in n p Q P b a f i in
-      (m.0, m.1, record { importer = sym m.2.importer; exporter = sym m.2.exporter; link = sym m.2.link; acts = alike_sym (act_of Q f) (act_of P m.0) m.2.acts })
+      let m = forth_in n p Q P b a f i in (
+        m.0,
+        m.1,
+        record {
+          importer = sym m.2.importer;
+          exporter = sym m.2.exporter;
+          link = sym m.2.link;
+          acts =
+              alike_sym (act_of Q f) (act_of P m.0) m.2.acts;
+        },
+      )
 
   one_lone : P.lone ≡ Q.lone
   one_lone =
       let la = a.rules.tables.lone in
       let lb = b.rules.tables.lone in
       let k = counts n p P Q a b in
-      ext_get_or false P.lone Q.lone (la ∙ k ∙ sym lb) (λ u h. both_true (is_lone P u) (is_lone Q u) (marked_too n p P Q a b u (omega arith)) (marked_too n p Q P b a u (omega arith)))
+      ext_get_or false P.lone Q.lone (la ∙ k ∙ sym lb)
+      (λ u h. both_true (is_lone P u) (is_lone Q u) (marked_too n p P Q a b u (omega arith)) (marked_too n p Q P b a u (omega arith)))
 
   pub one_problem : ProblemsAlike P Q
   one_problem = record {

@@ -32,16 +32,19 @@ module _ (P P' S S' : Problem) (above : ProblemsAlike P P') (below : ProblemsAli
     importer = ap (group_of groups) (sym x.importer) ∙ is.importer ∙ y.importer;
     exporter = ap (group_of groups) (sym x.exporter) ∙ is.exporter ∙ y.exporter;
     differ = λ z. is.differ (y.importer ∙ z ∙ sym y.exporter);
-    alike = alike_trans (act_of P' e') (act_of P e) (act_of S' l') (alike_sym (act_of P e) (act_of P' e') x.acts) (alike_trans (act_of P e) (act_of S l) (act_of S' l') is.alike y.acts);
+    alike = alike_trans (act_of P' e') (act_of P e) (act_of S' l') (alike_sym (act_of P e) (act_of P' e') x.acts)
+        (alike_trans (act_of P e) (act_of S l) (act_of S' l') is.alike y.acts);
   }
 
   turn : (A B : Problem) (e f : Edge) → EdgesAlike A B e f → EdgesAlike B A f e
   turn A B e f x = record { importer = sym x.importer; exporter = sym x.exporter; link = sym x.link; acts = alike_sym (act_of A e) (act_of B f) x.acts }
 
-  inside_of_quotient : (u : ℕ) → count P' ≡ count P → count S ≡ count S' → u < count P' → ((v : ℕ) → v < count P → group_of groups v < count S) → group_of groups u < count S'
+  inside_of_quotient : (u : ℕ) → count P' ≡ count P → count S ≡ count S' → u < count P' → ((v : ℕ) → v < count P → group_of groups v < count S) →
+      group_of groups u < count S'
   inside_of_quotient u p s h inner = subst (λ (k : ℕ). group_of groups u < k) s (inner u (subst (λ (k : ℕ). u < k) p h))
 
-  onto_of_quotient : (g : ℕ) → g < count S' → ((h : ℕ) → h < count S → (u : ℕ) × (u < count P) × (group_of groups u ≡ h)) → (u : ℕ) × (u < count P') × (group_of groups u ≡ g)
+  onto_of_quotient : (g : ℕ) → g < count S' → ((h : ℕ) → h < count S → (u : ℕ) × (u < count P) × (group_of groups u ≡ h)) → (u : ℕ) × (u < count P')
+      × (group_of groups u ≡ g)
   onto_of_quotient g h onto = let o = onto g (inside S' S below_back g h) in (o.0, inside P P' above o.0 o.1, o.2)
 
   pub same_quotient : IsQuotient P groups S → IsQuotient P' groups S'
@@ -49,7 +52,8 @@ module _ (P P' S S' : Problem) (above : ProblemsAlike P P') (below : ProblemsAli
     protocol = sym above.protocol ∙ q.protocol ∙ below.protocol;
     inside = λ u h. inside_of_quotient u (sym (one_count P P' above)) (one_count S S' below) h q.inside;
     onto = λ g h. onto_of_quotient g h q.onto;
-    names = λ u h first. ap (λ (l : List (List ℕ)). slice_index_or l (group_of groups u) []) (sym below.names) ∙ q.names u (inside P' P above_back u h) first ∙ ap (λ (l : List (List ℕ)). slice_index_or l u []) above.names;
+    names = λ u h first. ap (λ (l : List (List ℕ)). slice_index_or l (group_of groups u) []) (sym below.names) ∙ q.names u (inside P' P above_back u h) first
+        ∙ ap (λ (l : List (List ℕ)). slice_index_or l u []) above.names;
     origins = λ u h. sym (one_start S S' below (group_of groups u)) ∙ q.origins u (inside P' P above_back u h) ∙ one_start P P' above u;
     lone = λ u h. sym (one_mark S S' below (group_of groups u)) ∙ q.lone u (inside P' P above_back u h) ∙ one_mark P P' above u;
     down = λ l' has.
@@ -62,7 +66,8 @@ module _ (P P' S S' : Problem) (above : ProblemsAlike P P') (below : ProblemsAli
         let d = q.up e.0 e.1 (λ z. differ (ap (group_of groups) e.2.importer ∙ z ∙ sym (ap (group_of groups) e.2.exporter))) in
         let l = match S S' below d.0 d.1 in
         (l.0, l.1, lies e.0 e' d.0 l.0 (turn P' P e' e.0 e.2) l.2 d.2));
-    numbers = λ g h used. sym (one_number S S' below g) ∙ q.numbers g (inside S' S below_back g h) (same_used S' S below_back g used) ∙ ap (λ (l : List ℕ). first_number l groups g) above.numbers;
+    numbers = λ g h used. sym (one_number S S' below g) ∙ q.numbers g (inside S' S below_back g h) (same_used S' S below_back g used)
+        ∙ ap (λ (l : List ℕ). first_number l groups g) above.numbers;
     unused = λ g h used. sym (one_number S S' below g) ∙ q.unused g (inside S' S below_back g h) (λ u. used (same_used S S' below g u));
   }
 
@@ -72,16 +77,26 @@ module _ (P P' S S' : Problem) (above : ProblemsAlike P P') (below : ProblemsAli
       let under = same_labels S S' below M fit' in
       record {
         keys = λ u h. same_keys P P' S S' above below (label L u) (label M (group_of groups u)) (c.keys u (inside P' P above_back u h));
-        down = λ u v h f. same_forwards S S' below M fit' (group_of groups u) (group_of groups v) (c.down u v (inside P' P above_back u h) (same_forwards P' P above_back L over u v f));
+        down = λ u v h f. same_forwards S S' below M fit' (group_of groups u) (group_of groups v)
+            (c.down u v (inside P' P above_back u h) (same_forwards P' P above_back L over u v f));
         up = λ u h i f.
             (let k = c.up u h (inside P' P above_back u i) (same_forwards S' S below_back M under (group_of groups u) h f) in
             (k.0, same_forwards P P' above L fit u k.0 k.1, k.2));
       }
 
   same_first : (A B : Problem) → ProblemsAlike A B → (path : List ℕ) (source : ℕ) → IsFirstOn B path source → IsFirstOn A path source
-  same_first A B same path source on = record { inside = inside B A (turned A B same) source on.inside; number_of = on.number_of; rest = on.rest; path_is = on.path_is; numbered = one_number A B same source ∙ on.numbered; some_number = on.some_number }
+  same_first A B same path source on = record {
+    inside = inside B A (turned A B same) source on.inside;
+    number_of = on.number_of;
+    rest = on.rest;
+    path_is =
+        on.path_is;
+    numbered = one_number A B same source ∙ on.numbered;
+    some_number = on.some_number;
+  }
 
-  same_takes : (L : List (Option Route)) → AreLabels P L → (u source : ℕ) (r m : Route) → TakesFrom P S groups L u source r m → TakesFrom P' S' groups L u source r m
+  same_takes : (L : List (Option Route)) → AreLabels P L → (u source : ℕ) (r m : Route) → TakesFrom P S groups L u source r m →
+      TakesFrom P' S' groups L u source r m
   same_takes L fit u source r m t =
       let over = same_labels P P' above L fit in
       let e = match P P' above t.edge t.edge_in in
@@ -94,7 +109,8 @@ module _ (P P' S S' : Problem) (above : ProblemsAlike P P') (below : ProblemsAli
         keyed = sym (one_key P P' above r) ∙ t.keyed ∙ one_key S S' below m;
         least = λ other c has imp exp o k.
             (let d = match P' P above_back other has in
-            let all = t.least d.0 c d.1 (sym d.2.importer ∙ imp) (ap (group_of groups) (sym d.2.exporter) ∙ exp) (carry_over P' P above_back L over other d.0 d.2 c o) (one_key P P' above c ∙ k ∙ sym (one_key S S' below m)) in
+            let all = t.least d.0 c d.1 (sym d.2.importer ∙ imp) (ap (group_of groups) (sym d.2.exporter) ∙ exp)
+            (carry_over P' P above_back L over other d.0 d.2 c o) (one_key P P' above c ∙ k ∙ sym (one_key S S' below m)) in
             let x = e.2.exporter in
             let y = d.2.exporter in
             omega arith);
@@ -110,7 +126,8 @@ module _ (P P' S S' : Problem) (above : ProblemsAlike P P') (below : ProblemsAli
         (t.0, t.1, same_takes L lift.fitting u source t.0 m t.2));
   }
 
-  same_group_takes : (M : List (Option Route)) → AreLabels S M → (taker source : ℕ) (m r : Route) → GroupTakes P S M taker source m r → GroupTakes P' S' M taker source m r
+  same_group_takes : (M : List (Option Route)) → AreLabels S M → (taker source : ℕ) (m r : Route) → GroupTakes P S M taker source m r →
+      GroupTakes P' S' M taker source m r
   same_group_takes M fit taker source m r t =
       let e = match S S' below t.edge t.edge_in in
       record {

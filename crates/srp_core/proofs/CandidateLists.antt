@@ -52,7 +52,8 @@ listed_is place (Some r) k (zero, l, e) = ap (λ (q : Candidate). Some q.route) 
 listed_is place (Some r) k (suc n, l, e) = absurd (omega arith)
 
 listed_in : (place : Option ℕ) (o : Option Route) (c : Route) → o ≡ Some c → Contains (candidate_of place o) (record { edge = place; route = c })
-listed_in place o c e = subst (λ q. Contains (candidate_of place q) (record { edge = place; route = c })) (sym e) (head_in (record { edge = place; route = c }) [])
+listed_in place o c e = subst (λ q. Contains (candidate_of place q) (record { edge = place; route = c })) (sym e)
+    (head_in (record { edge = place; route = c }) [])
 
 record Source (P : Problem) (L : List (Option Route)) (u : ℕ) (edges : List Edge) (c : Route) : Type 0 where
   edge : Edge
@@ -60,15 +61,24 @@ record Source (P : Problem) (L : List (Option Route)) (u : ℕ) (edges : List Ed
   importer : edge.importer ≡ u
   is_over : IsCandidateOver P L edge c
 
-edges_sound : (P : Problem) (L : List (Option Route)) (u place : ℕ) (edges : List Edge) (k : Candidate) → Contains (over_edges P L u place edges) k → Source P L u edges k.route
+edges_sound : (P : Problem) (L : List (Option Route)) (u place : ℕ) (edges : List Edge) (k : Candidate) → Contains (over_edges P L u place edges) k →
+    Source P L u edges k.route
 unfolding over_edges
 edges_sound P L u place [] k h = absurd (none_in k h)
 edges_sound P L u place (e ∷ es) k h =
     let here = cond (nat_eq e.importer u) (candidate_of (Some place) (over P L e)) [] in
     elim (Contains-append_cases here (over_edges P L u (place + 1) es) k h) [
-      | inr rest ↦ let s = edges_sound P L u (place + 1) es k rest in record { edge = s.edge; edge_in = tail_in e s.edge es s.edge_in; importer = s.importer; is_over = s.is_over }
+      | inr rest ↦ let s = edges_sound P L u (place + 1) es k rest in
+          record { edge = s.edge; edge_in = tail_in e s.edge es s.edge_in; importer = s.importer; is_over = s.is_over }
       | inl now ↦ elim (cases_Bool (nat_eq e.importer u)) [
-        | inl t ↦ record { edge = e; edge_in = head_in e es; importer = eqb-true e.importer u t; is_over = over_candidate P L e k.route (listed_is (Some place) (over P L e) k (subst (λ b. Contains (cond b (candidate_of (Some place) (over P L e)) []) k) t now)) }
+        | inl t ↦ record {
+          edge = e;
+          edge_in = head_in e es;
+          importer = eqb-true e.importer u t;
+          is_over =
+              over_candidate P L e k.route (listed_is (Some place) (over P L e) k
+              (subst (λ b. Contains (cond b (candidate_of (Some place) (over P L e)) []) k) t now));
+        }
         | inr f ↦ absurd (none_in k (subst (λ b. Contains (cond b (candidate_of (Some place) (over P L e)) []) k) f now))
       ]
     ]
@@ -85,7 +95,8 @@ record Found (list : List Candidate) (c : Route) : Type 0 where
   inside : Contains list candidate
   same : candidate.route ≡ c
 
-edges_complete : (P : Problem) (L : List (Option Route)) (u place n : ℕ) (edges : List Edge) (e : Edge) (c : Route) → n < length edges → slice_index_or edges n e ≡ e → e.importer ≡ u → IsCandidateOver P L e c → Found (over_edges P L u place edges) c
+edges_complete : (P : Problem) (L : List (Option Route)) (u place n : ℕ) (edges : List Edge) (e : Edge) (c : Route) → n < length edges →
+    slice_index_or edges n e ≡ e → e.importer ≡ u → IsCandidateOver P L e c → Found (over_edges P L u place edges) c
 unfolding over_edges
 edges_complete P L u place n [] e c l h imp o = absurd (omega arith)
 edges_complete P L u place zero (d ∷ es) e c l h imp o =
@@ -93,23 +104,30 @@ edges_complete P L u place zero (d ∷ es) e c l h imp o =
     let t : nat_eq d.importer u ≡ true = eq-eqb d.importer u (ap (λ (q : Edge). q.importer) h ∙ imp) in
     let is : over P L d ≡ Some c = ap (over P L) h ∙ candidate_over P L e c o in
     let here = cond (nat_eq d.importer u) (candidate_of (Some place) (over P L d)) [] in
-    let inside : Contains here k = subst (λ b. Contains (cond b (candidate_of (Some place) (over P L d)) []) k) (sym t) (listed_in (Some place) (over P L d) c is) in
+    let inside : Contains here k = subst (λ b. Contains (cond b (candidate_of (Some place) (over P L d)) []) k) (sym t)
+    (listed_in (Some place) (over P L d) c is) in
     record { candidate = k; inside = Contains-append_left here (over_edges P L u (place + 1) es) k inside; same = refl }
 edges_complete P L u place (suc n) (d ∷ es) e c l h imp o =
     let here = cond (nat_eq d.importer u) (candidate_of (Some place) (over P L d)) [] in
     let f = edges_complete P L u (place + 1) n es e c (omega arith) h imp o in
     record { candidate = f.candidate; inside = Contains-append_right here (over_edges P L u (place + 1) es) f.candidate f.inside; same = f.same }
 
-pub candidates_complete : (P : Problem) (L : List (Option Route)) (u : ℕ) (c : Route) → IsCandidate P L u c → (k : Candidate) × Contains (candidates P L u) k × (k.route ≡ c)
+pub candidates_complete : (P : Problem) (L : List (Option Route)) (u : ℕ) (c : Route) → IsCandidate P L u c → (k : Candidate) × Contains (candidates P L u) k
+    × (k.route ≡ c)
 unfolding candidates
-candidates_complete P L u c (of_init e) =
-    (record { edge = None; route = c }, Contains-append_left (candidate_of None (initial P u)) (over_edges P L u 0 P.edges) (record { edge = None; route = c }) (listed_in None (initial P u) c e), refl)
+candidates_complete P L u c (of_init e) = (
+  record { edge = None; route = c },
+  Contains-append_left (candidate_of None (initial P u)) (over_edges P L u 0 P.edges) (record { edge = None; route = c })
+      (listed_in None (initial P u) c e),
+  refl,
+)
 candidates_complete P L u c (of_edge e i imp o) =
     let f = edges_complete P L u 0 i.0 P.edges e c i.1 i.2 imp o in
     (f.candidate, Contains-append_right (candidate_of None (initial P u)) (over_edges P L u 0 P.edges) f.candidate f.inside, f.same)
 
 -- one edge more of the list
-pub edge_more : (P : Problem) (L : List (Option Route)) (u place : ℕ) (edge : Edge) (edges rest : List Edge) → rest ≡ edge ∷ edges → over_edges P L u place rest ≡ cond (nat_eq edge.importer u) (candidate_of (Some place) (over P L edge)) [] ++ over_edges P L u (place + 1) edges
+pub edge_more : (P : Problem) (L : List (Option Route)) (u place : ℕ) (edge : Edge) (edges rest : List Edge) → rest ≡ edge ∷ edges →
+    over_edges P L u place rest ≡ cond (nat_eq edge.importer u) (candidate_of (Some place) (over P L edge)) [] ++ over_edges P L u (place + 1) edges
 unfolding over_edges
 edge_more P L u place edge edges rest e = ap (over_edges P L u place) e
 
@@ -121,12 +139,18 @@ pub candidates_are : (P : Problem) (L : List (Option Route)) (u : ℕ) → candi
 unfolding candidates
 candidates_are P L u = refl
 
-pub row_step : (P : Problem) (L : List (Option Route)) (u i : ℕ) (found found' all : List Candidate) (edge : Edge) → i < length P.edges → edge ≡ slice_index_or P.edges i edge → found ++ over_edges P L u i (drop i P.edges) ≡ all → ((edge.importer ≡ u) × (found' ≡ found ++ candidate_of (Some i) (over P L edge))) ⊎ ((edge.importer ≡ u → ⊥) × (found' ≡ found)) → found' ++ over_edges P L u (i + 1) (drop (i + 1) P.edges) ≡ all
+pub row_step : (P : Problem) (L : List (Option Route)) (u i : ℕ) (found found' all : List Candidate) (edge : Edge) → i < length P.edges →
+    edge ≡ slice_index_or P.edges i edge → found ++ over_edges P L u i (drop i P.edges) ≡ all →
+    ((edge.importer ≡ u) × (found' ≡ found ++ candidate_of (Some i) (over P L edge))) ⊎ ((edge.importer ≡ u → ⊥) × (found' ≡ found)) →
+    found' ++ over_edges P L u (i + 1) (drop (i + 1) P.edges) ≡ all
 row_step P L u i found found' all edge h e before branch =
-    let next : drop i P.edges ≡ edge ∷ drop (i + 1) P.edges = drop-cons P.edges i edge h ∙ ap (λ d. d ∷ drop (suc i) P.edges) (sym e) ∙ ap (λ n. edge ∷ drop n P.edges) (sym (add-one i)) in
+    let next : drop i P.edges ≡ edge ∷ drop (i + 1) P.edges = drop-cons P.edges i edge h ∙ ap (λ d. d ∷ drop (suc i) P.edges) (sym e)
+    ∙ ap (λ n. edge ∷ drop n P.edges) (sym (add-one i)) in
     let more = edge_more P L u i edge (drop (i + 1) P.edges) (drop i P.edges) next in
     let rest = over_edges P L u (i + 1) (drop (i + 1) P.edges) in
     elim branch [
-      | inl b ↦ ap (λ l. l ++ rest) b.1 ∙ append_assoc found (candidate_of (Some i) (over P L edge)) rest ∙ sym (ap (λ l. found ++ l) (more ∙ ap (λ t. cond t (candidate_of (Some i) (over P L edge)) [] ++ rest) (eq-eqb edge.importer u b.0))) ∙ before
-      | inr b ↦ ap (λ l. l ++ rest) b.1 ∙ sym (ap (λ l. found ++ l) (more ∙ ap (λ t. cond t (candidate_of (Some i) (over P L edge)) [] ++ rest) (ne_eqb edge.importer u b.0))) ∙ before
+      | inl b ↦ ap (λ l. l ++ rest) b.1 ∙ append_assoc found (candidate_of (Some i) (over P L edge)) rest
+          ∙ sym (ap (λ l. found ++ l) (more ∙ ap (λ t. cond t (candidate_of (Some i) (over P L edge)) [] ++ rest) (eq-eqb edge.importer u b.0))) ∙ before
+      | inr b ↦ ap (λ l. l ++ rest) b.1 ∙ sym (ap (λ l. found ++ l)
+          (more ∙ ap (λ t. cond t (candidate_of (Some i) (over P L edge)) [] ++ rest) (ne_eqb edge.importer u b.0))) ∙ before
     ]

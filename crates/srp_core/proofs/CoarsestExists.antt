@@ -26,7 +26,8 @@ in_lists limit zero [] len low = inl refl
 in_lists limit zero (x ∷ xs) len low = absurd (omega arith)
 in_lists limit (suc k) [] len low = absurd (omega arith)
 in_lists limit (suc k) (x ∷ xs) len low =
-    in_flat_map (λ y. map (λ ys. y ∷ ys) (lists_of limit k)) (range_with_len 0 limit) x (x ∷ xs) (subst (In (range_with_len 0 limit)) (zero-add x) (in_range 0 limit x (low 0 (omega arith))))
+    in_flat_map (λ y. map (λ ys. y ∷ ys) (lists_of limit k)) (range_with_len 0 limit) x (x ∷ xs)
+    (subst (In (range_with_len 0 limit)) (zero-add x) (in_range 0 limit x (low 0 (omega arith))))
     (in_map (λ ys. x ∷ ys) (lists_of limit k) xs (in_lists limit k xs (omega arith) (λ i h. low (suc i) (omega arith))))
 
 module _ (S : Problem) (good : IsProblem S) where
@@ -75,8 +76,17 @@ module _ (S : Problem) (good : IsProblem S) where
         origins = λ u v hu hv same. adm.origins u v hu hv (back u v hu hv same);
         alone = λ u v hu hv same lone. adm.alone u v hu hv (back u v hu hv same) lone;
         twins = λ u v edge hu hv same i imp out.
-            (let t = adm.twins u v edge hu hv (back u v hu hv same) i imp (λ e. out (to_firsts groups edge.exporter u (good.edges.inside edge i).exporter_in hu e)) in
-            record { other = t.other; other_in = t.other_in; importer = t.importer; exporter = to_firsts groups t.other.exporter edge.exporter (good.edges.inside t.other t.other_in).exporter_in (good.edges.inside edge i).exporter_in t.exporter; alike = t.alike });
+            (let t = adm.twins u v edge hu hv (back u v hu hv same) i imp
+            (λ e. out (to_firsts groups edge.exporter u (good.edges.inside edge i).exporter_in hu e)) in
+            record {
+              other = t.other;
+              other_in = t.other_in;
+              importer = t.importer;
+              exporter =
+                  to_firsts groups t.other.exporter edge.exporter (good.edges.inside t.other t.other_in).exporter_in (good.edges.inside edge i).exporter_in
+                  t.exporter;
+              alike = t.alike;
+            });
       }
 
   first_below : (groups : List ℕ) (u : ℕ) → u < count S → group_of (by_firsts groups) u < count S
@@ -106,7 +116,14 @@ module _ (S : Problem) (good : IsProblem S) where
     total = length_apart;
     origins = λ u v hu hv same. ap (initial S) (apart_same u v hu hv same);
     alone = λ u v hu hv same lone. apart_same u v hu hv same;
-    twins = λ u v edge hu hv same i imp out. record { other = edge; other_in = i; importer = imp ∙ apart_same u v hu hv same; exporter = refl; alike = alike_self (act_of S edge) };
+    twins = λ u v edge hu hv same i imp out. record {
+      other = edge;
+      other_in = i;
+      importer = imp ∙ apart_same u v hu hv same;
+      exporter = refl;
+      alike =
+          alike_self (act_of S edge);
+    };
   }
 
   -- an admissible partition that each admissible one of the list refines
@@ -121,8 +138,11 @@ module _ (S : Problem) (good : IsProblem S) where
       record { groups = j.0; is_admissible = join_admissible S good p c.groups j.0 adm c.is_admissible j.1; refined = refined }
     where
       refined : (others : List ℕ) → In (p ∷ list) others → IsAdmissible S others → Refines (count S) others (join_exists (count S) p c.groups adm.total).0
-      refined others (inl same) oadm u v hu hv together = (join_exists (count S) p c.groups adm.total).1.together (suc zero) u v hu hv (v, hv, inl (ap (λ (l : List ℕ). group_of l u) same ∙ together ∙ ap (λ (l : List ℕ). group_of l v) (sym same)), refl)
-      refined others (inr i) oadm u v hu hv together = (join_exists (count S) p c.groups adm.total).1.together (suc zero) u v hu hv (v, hv, inr (c.refined others i oadm u v hu hv together), refl)
+      refined others (inl same) oadm u v hu hv together =
+          (join_exists (count S) p c.groups adm.total).1.together (suc zero) u v hu hv
+          (v, hv, inl (ap (λ (l : List ℕ). group_of l u) same ∙ together ∙ ap (λ (l : List ℕ). group_of l v) (sym same)), refl)
+      refined others (inr i) oadm u v hu hv together =
+          (join_exists (count S) p c.groups adm.total).1.together (suc zero) u v hu hv (v, hv, inr (c.refined others i oadm u v hu hv together), refl)
 
   coarser_without : (p : List ℕ) (list : List (List ℕ)) → Coarser list → ¬ IsAdmissible S p → Coarser (p ∷ list)
   coarser_without p list c never = record { groups = c.groups; is_admissible = c.is_admissible; refined = refined }

@@ -94,7 +94,8 @@ module _ (S : Problem) (good : IsProblem S) where
   acts : (e f : Edge) → In S.edges e → In S.edges f → Dec (ActsAlike (act_of S e) (act_of S f))
   acts e f i j = elim (cases_eq e.act f.act) [
     | inl same ↦ inl (subst (λ k. ActsAlike (act_of S e) (slice_index_or S.acts k (Cost 0))) same (alike_self (act_of S e)))
-    | inr never ↦ inr (λ alike. never (good.acts.differ e.act f.act (good.edges.inside e (contains_in S.edges e i)).act_in (good.edges.inside f (contains_in S.edges f j)).act_in alike))
+    | inr never ↦ inr (λ alike. never (good.acts.differ e.act f.act (good.edges.inside e (contains_in S.edges e i)).act_in
+        (good.edges.inside f (contains_in S.edges f j)).act_in alike))
   ]
 
   module _ (groups : List ℕ) where
@@ -104,7 +105,8 @@ module _ (S : Problem) (good : IsProblem S) where
     is_twin : (v : ℕ) (edge other : Edge) → In S.edges edge → In S.edges other → Dec (IsTwin v edge other)
     is_twin v edge other i j = by (cases_eq other.importer v) (cases_eq (group_of groups other.exporter) (group_of groups edge.exporter)) (acts edge other i j)
       where
-        by : Dec (other.importer ≡ v) → Dec (group_of groups other.exporter ≡ group_of groups edge.exporter) → Dec (ActsAlike (act_of S edge) (act_of S other)) → Dec (IsTwin v edge other)
+        by : Dec (other.importer ≡ v) → Dec (group_of groups other.exporter ≡ group_of groups edge.exporter) →
+            Dec (ActsAlike (act_of S edge) (act_of S other)) → Dec (IsTwin v edge other)
         by (inl a) (inl b) (inl c) = inl (a, b, c)
         by (inl a) (inl b) (inr never) = inr (λ t. never t.2)
         by (inl a) (inr never) c = inr (λ t. never t.1)
@@ -123,7 +125,8 @@ module _ (S : Problem) (good : IsProblem S) where
     Mirrors u v edge = edge.importer ≡ u → group_of groups edge.exporter ≢ group_of groups u → Twin S groups v edge
 
     mirrors : (u v : ℕ) (edge : Edge) → In S.edges edge → Dec (Mirrors u v edge)
-    mirrors u v edge i = implied (cases_eq edge.importer u) (λ imp. implied (differs (group_of groups edge.exporter) (group_of groups u)) (λ out. twin v edge i))
+    mirrors u v edge i = implied (cases_eq edge.importer u)
+        (λ imp. implied (differs (group_of groups edge.exporter) (group_of groups u)) (λ out. twin v edge i))
 
     -- members of one group are alike
     record Alike (u v : ℕ) : Type 0 where
@@ -147,7 +150,8 @@ module _ (S : Problem) (good : IsProblem S) where
     Pair u v = group_of groups u ≡ group_of groups v → Alike u v
 
     pairs : Dec ((u : ℕ) → u < count S → (v : ℕ) → v < count S → Pair u v)
-    pairs = below (λ u. (v : ℕ) → v < count S → Pair u v) (count S) (λ u. below (Pair u) (count S) (λ v. implied (cases_eq (group_of groups u) (group_of groups v)) (λ same. alike u v)))
+    pairs = below (λ u. (v : ℕ) → v < count S → Pair u v) (count S)
+        (λ u. below (Pair u) (count S) (λ v. implied (cases_eq (group_of groups u) (group_of groups v)) (λ same. alike u v)))
 
     from_pairs : length groups ≡ count S → ((u : ℕ) → u < count S → (v : ℕ) → v < count S → Pair u v) → IsAdmissible S groups
     from_pairs total all = record {
@@ -158,7 +162,12 @@ module _ (S : Problem) (good : IsProblem S) where
     }
 
     to_pairs : IsAdmissible S groups → (u : ℕ) → u < count S → (v : ℕ) → v < count S → Pair u v
-    to_pairs adm u hu v hv same = record { origin = adm.origins u v hu hv same; alone = adm.alone u v hu hv same; twins = λ edge i imp out. adm.twins u v edge hu hv same (contains_in S.edges edge i) imp out }
+    to_pairs adm u hu v hv same = record {
+      origin = adm.origins u v hu hv same;
+      alone = adm.alone u v hu hv same;
+      twins =
+          λ edge i imp out. adm.twins u v edge hu hv same (contains_in S.edges edge i) imp out;
+    }
 
     pub admissible : Dec (IsAdmissible S groups)
     admissible = by (cases_eq (length groups) (count S)) pairs

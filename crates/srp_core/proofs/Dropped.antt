@@ -9,7 +9,8 @@ use Rattle.srp_core.specs.Routes.{path_of, is_on}
 use Rattle.srp_core.specs.Stability.{label, IsStable}
 use Rattle.srp_core.proofs.Offers.{Offer, offer_edge, stable_supported, candidate_offer, one_preference, grows, blocked}
 
-pub has_shorter : (P : Problem) (good : IsProblem P) (L : List (Option Route)) → IsStable P L → (e : Edge) (r c : Route) → Contains P.edges e → label L e.exporter ≡ Some r → step_over P e r ≡ Some c → is_on (number P e.importer) (path_of c) ≡ true → HasShorter P L e.importer c
+pub has_shorter : (P : Problem) (good : IsProblem P) (L : List (Option Route)) → IsStable P L → (e : Edge) (r c : Route) → Contains P.edges e →
+    label L e.exporter ≡ Some r → step_over P e r ≡ Some c → is_on (number P e.importer) (path_of c) ≡ true → HasShorter P L e.importer c
 has_shorter P good L st e r c i lab s h =
     let sup = stable_supported P good L st in
     let b = blocked P good L sup e r c i lab s h in

@@ -17,7 +17,8 @@ record Half (S : Problem) (L : List (Option Route)) (v : ℕ) (r : Route) : Type
   as_good : compare_keys (key_of S r) (key_of S route) ≢ Less
   size : size_of route ≡ size_of r
 
-module _ (S : Problem) (R : ℕ → ℕ → Type 0) (m : IsMatching S S R) (back : (u v : ℕ) → R u v → R v u) (good : IsProblem S) (L : List (Option Route)) (st : IsStable S L) where
+module _ (S : Problem) (R : ℕ → ℕ → Type 0) (m : IsMatching S S R) (back : (u v : ℕ) → R u v → R v u) (good : IsProblem S) (L : List (Option Route))
+    (st : IsStable S L) where
   lone_same : (u v : ℕ) → R u v → is_lone S u ≡ true → u ≡ v
   lone_same u v x l =
       let inside = m.left_in u v x in
@@ -26,7 +27,9 @@ module _ (S : Problem) (R : ℕ → ℕ → Type 0) (m : IsMatching S S R) (back
       let numbered : number S u ≢ 0 = subst (λ w. number S w ≢ 0) a.importer ((good.numbers bgp).importers a.edge a.edge_in) in
       (good.numbers bgp).distinct u v inside (m.right_in u v x) (m.numbers u v x l) numbered
 
-  half_end : (u v : ℕ) (r c : Route) → R u v → is_lone S v ≡ false → label L u ≡ Some r → ((x y : ℕ) (s : Route) → size_of s < size_of r → R x y → label L x ≡ Some s → Held S L y (key_of S s)) → Offer S v c → key_of S c ≡ key_of S r → AsGood S L v c → Half S L v r
+  half_end : (u v : ℕ) (r c : Route) → R u v → is_lone S v ≡ false → label L u ≡ Some r →
+      ((x y : ℕ) (s : Route) → size_of s < size_of r → R x y → label L x ≡ Some s → Held S L y (key_of S s)) → Offer S v c → key_of S c ≡ key_of S r →
+      AsGood S L v c → Half S L v r
   half_end u v r c x l lab before offer k found =
       let inside = m.right_in u v x in
       let own = candidate_offer S good L v found.route st.fitting (st.held v found.route inside found.labelled) in
@@ -41,9 +44,16 @@ module _ (S : Problem) (R : ℕ → ℕ → Type 0) (m : IsMatching S S R) (back
             let size' : size_of h.route ≡ size_of found.route = ap (λ (q : Key). q.size) h.keyed in
             sym size' ∙ ap size_of is_r
       ] in
-      record { route = found.route; labelled = found.labelled; as_good = subst (λ q. compare_keys q (key_of S found.route) ≢ Less) k found.as_good; size = same }
+      record {
+        route = found.route;
+        labelled = found.labelled;
+        as_good = subst (λ q. compare_keys q (key_of S found.route) ≢ Less) k found.as_good;
+        size =
+            same;
+      }
 
-  half_at : (u v : ℕ) (r : Route) → R u v → is_lone S u ≡ false → label L u ≡ Some r → ((x y : ℕ) (s : Route) → size_of s < size_of r → R x y → label L x ≡ Some s → Held S L y (key_of S s)) → IsCandidate S L u r → Half S L v r
+  half_at : (u v : ℕ) (r : Route) → R u v → is_lone S u ≡ false → label L u ≡ Some r →
+      ((x y : ℕ) (s : Route) → size_of s < size_of r → R x y → label L x ≡ Some s → Held S L y (key_of S s)) → IsCandidate S L u r → Half S L v r
   half_at u v r x l lab before (of_init e) =
       let there : initial S v ≡ Some r = sym (m.origins u v x) ∙ e in
       half_end u v r r x (sym (m.lone u v x) ∙ l) lab before (offer_init there) refl (candidate_as_good S good L st v r (m.right_in u v x) (of_init there))
@@ -65,15 +75,23 @@ module _ (S : Problem) (R : ℕ → ℕ → Type 0) (m : IsMatching S S R) (back
             let fit' = st.fitting.routes p.other.exporter h.route h.labelled in
             let t = matched_step S S R m good good e p.other over.from h.route r i p.other_in p.exporter p.alike fit fit' (sym h.keyed) over.stepped in
             let found = raw_optimal S good L st p.other h.route t.0 p.other_in (subst (λ w. is_lone S w ≡ false) (sym p.importer) l') h.labelled t.1 in
-            half_end u v r t.0 x l' lab before (offer_edge p.other p.other_in p.importer h.route fit' t.1) (sym t.2) (subst (λ w. AsGood S L w t.0) p.importer found)
+            half_end u v r t.0 x l' lab before (offer_edge p.other p.other_in p.importer h.route fit' t.1) (sym t.2)
+            (subst (λ w. AsGood S L w t.0) p.importer found)
       ]
 
-  half : (u v : ℕ) (r : Route) → R u v → label L u ≡ Some r → ((x y : ℕ) (s : Route) → size_of s < size_of r → R x y → label L x ≡ Some s → Held S L y (key_of S s)) → Half S L v r
+  half : (u v : ℕ) (r : Route) → R u v → label L u ≡ Some r →
+      ((x y : ℕ) (s : Route) → size_of s < size_of r → R x y → label L x ≡ Some s → Held S L y (key_of S s)) → Half S L v r
   half u v r x lab before =
       elim (cases_Bool (is_lone S u)) [
         | inl l ↦
             let same = lone_same u v x l in
-            record { route = r; labelled = subst (λ w. label L w ≡ Some r) same lab; as_good = Rattle.srp_core.proofs.KeyOrder.irreflexive (key_of S r) (key_of S r) refl; size = refl }
+            record {
+              route = r;
+              labelled = subst (λ w. label L w ≡ Some r) same lab;
+              as_good =
+                  Rattle.srp_core.proofs.KeyOrder.irreflexive (key_of S r) (key_of S r) refl;
+              size = refl;
+            }
         | inr l ↦ half_at u v r x l lab before (st.held u r (m.left_in u v x) lab)
       ]
 

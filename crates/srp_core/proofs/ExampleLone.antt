@@ -165,7 +165,8 @@ acts_alike (Cost cost) (Cost other) same = refl
 
 differ : (i j : ℕ) → i < 3 → j < 3 → ActsAlike (slice_index_or S.acts i (Cost 0)) (slice_index_or S.acts j (Cost 0)) → i ≡ j
 differ i j h g alike =
-    let same : Some (given i []) ≡ Some (given j []) = sym (imports_are i h []) ∙ acts_alike (slice_index_or S.acts i (Cost 0)) (slice_index_or S.acts j (Cost 0)) alike ∙ imports_are j g [] in
+    let same : Some (given i []) ≡ Some (given j []) = sym (imports_are i h [])
+    ∙ acts_alike (slice_index_or S.acts i (Cost 0)) (slice_index_or S.acts j (Cost 0)) alike ∙ imports_are j g [] in
     let one : given i [] ≡ given j [] = cc in
     act_index i j h g (ap (λ (x : Imported). x.lp) one) (ap (λ (x : Imported). x.adds) one)
 
@@ -182,7 +183,8 @@ keeps lp adds = (sets None adds, sets lp 0)
 
 -- the edge of an importer and a link
 abbrev at : ℕ → ℕ → Edge
-at importer link = cond (nat_eq link 0) first (cond (nat_eq link 1) parallel (cond (nat_eq link 3) outward (cond (nat_eq link 4) inner (cond (nat_eq importer 1) preferred onward))))
+at importer link = cond (nat_eq link 0) first
+    (cond (nat_eq link 1) parallel (cond (nat_eq link 3) outward (cond (nat_eq link 4) inner (cond (nat_eq importer 1) preferred onward))))
 
 at_itself : (e : Edge) → Contains S.edges e → at e.importer e.link ≡ e
 at_itself = each_edge (λ e. at e.importer e.link ≡ e) refl refl refl refl refl refl
@@ -211,15 +213,33 @@ lone_is (suc (suc (suc zero))) e = absurd (cc)
 lone_is (suc (suc (suc (suc u)))) e = absurd (cc)
 
 accepts : (e : Edge) → Contains S.edges e → (k : ℕ) → e.act ≡ k → k < 3 → Accepts S e.importer (given k []).lp
-accepts e i k same h = record { edge = e; edge_in = i; importer = refl; comms = []; is_set = tt; imported = given k []; accepted = ap (λ a. import_by (slice_index_or S.acts a (Cost 0)) []) same ∙ imports_are k h []; preferred = refl }
+accepts e i k same h = record {
+  edge = e;
+  edge_in = i;
+  importer = refl;
+  comms = [];
+  is_set = tt;
+  imported = given k [];
+  accepted =
+      ap (λ a. import_by (slice_index_or S.acts a (Cost 0)) []) same ∙ imports_are k h [];
+  preferred = refl;
+}
 
 lone_one : IsLone S 1
-lone_one = record { unoriginated = refl; first = 100; second = 200; first_accepted = accepts first (0, omega arith, refl) 0 refl (omega arith); second_accepted = accepts preferred (2, omega arith, refl) 1 refl (omega arith); differ = λ e. omega arith }
+lone_one = record {
+  unoriginated = refl;
+  first = 100;
+  second = 200;
+  first_accepted = accepts first (0, omega arith, refl) 0 refl (omega arith);
+  second_accepted = accepts preferred (2, omega arith, refl) 1 refl (omega arith);
+  differ = λ e. omega arith;
+}
 
 -- the other routers accept with one preference
 one_preference : (e : Edge) → Contains S.edges e → e.importer ≢ 1 → (comms : List ℕ) (i : Imported) → import_by (act_of S e) comms ≡ Some i → i.lp ≡ 100
 one_preference = each_edge (λ e. e.importer ≢ 1 → (comms : List ℕ) (i : Imported) → import_by (act_of S e) comms ≡ Some i → i.lp ≡ 100)
-    (λ n. absurd (n refl)) (λ n. absurd (n refl)) (λ n. absurd (n refl)) (λ n comms i e. is 2 (omega arith) comms i refl e) (λ n comms i e. is 0 (omega arith) comms i refl e) (λ n comms i e. is 2 (omega arith) comms i refl e)
+    (λ n. absurd (n refl)) (λ n. absurd (n refl)) (λ n. absurd (n refl)) (λ n comms i e. is 2 (omega arith) comms i refl e)
+    (λ n comms i e. is 0 (omega arith) comms i refl e) (λ n comms i e. is 2 (omega arith) comms i refl e)
   where
     is : (k : ℕ) → k < 3 → (comms : List ℕ) (i : Imported) → (given k comms).lp ≡ 100 → import_by (slice_index_or S.acts k (Cost 0)) comms ≡ Some i → i.lp ≡ 100
     is k h comms i lp e =
@@ -231,7 +251,8 @@ accepts_one : (u x : ℕ) → u ≢ 1 → Accepts S u x → x ≡ 100
 accepts_one u x n a = sym a.preferred ∙ one_preference a.edge a.edge_in (λ e. n (sym a.importer ∙ e)) a.comms a.imported a.accepted
 
 marked : (u : ℕ) → u < 4 → IsLone S u → is_lone S u ≡ true
-marked u h lone = each_router (λ v. IsLone S v → is_lone S v ≡ true) (no 0 (λ z. omega arith)) (λ l. refl) (no 2 (λ z. omega arith)) (no 3 (λ z. omega arith)) u h lone
+marked u h lone = each_router (λ v. IsLone S v → is_lone S v ≡ true) (no 0 (λ z. omega arith)) (λ l. refl) (no 2 (λ z. omega arith)) (no 3 (λ z. omega arith)) u
+    h lone
   where
     no : (v : ℕ) → v ≢ 1 → IsLone S v → is_lone S v ≡ true
     no v n l = absurd (l.differ (accepts_one v l.first n l.first_accepted ∙ sym (accepts_one v l.second n l.second_accepted)))
@@ -247,13 +268,23 @@ behind_parallel = preferred ∷ behind_preferred
 
 ordered : AreOrdered S.edges
 ordered = (
-  all_with (Precedes first) parallel behind_parallel (inr (refl, inr (refl, omega arith))) (all_with (Precedes first) preferred behind_preferred (inr (refl, inl (omega arith))) (all_with (Precedes first) onward behind_onward (inl (omega arith)) (all_with (Precedes first) inner (outward ∷ []) (inl (omega arith)) (all_with (Precedes first) outward [] (inl (omega arith)) (all_none (Precedes first)))))),
+  all_with (Precedes first) parallel behind_parallel (inr (refl, inr (refl, omega arith)))
+      (all_with (Precedes first) preferred behind_preferred (inr (refl, inl (omega arith)))
+      (all_with (Precedes first) onward behind_onward (inl (omega arith))
+      (all_with (Precedes first) inner (outward ∷ []) (inl (omega arith))
+      (all_with (Precedes first) outward [] (inl (omega arith)) (all_none (Precedes first)))))),
   (
-    all_with (Precedes parallel) preferred behind_preferred (inr (refl, inl (omega arith))) (all_with (Precedes parallel) onward behind_onward (inl (omega arith)) (all_with (Precedes parallel) inner (outward ∷ []) (inl (omega arith)) (all_with (Precedes parallel) outward [] (inl (omega arith)) (all_none (Precedes parallel))))),
+    all_with (Precedes parallel) preferred behind_preferred (inr (refl, inl (omega arith)))
+        (all_with (Precedes parallel) onward behind_onward (inl (omega arith))
+        (all_with (Precedes parallel) inner (outward ∷ []) (inl (omega arith))
+        (all_with (Precedes parallel) outward [] (inl (omega arith)) (all_none (Precedes parallel))))),
     (
-      all_with (Precedes preferred) onward behind_onward (inl (omega arith)) (all_with (Precedes preferred) inner (outward ∷ []) (inl (omega arith)) (all_with (Precedes preferred) outward [] (inl (omega arith)) (all_none (Precedes preferred)))),
+      all_with (Precedes preferred) onward behind_onward (inl (omega arith))
+          (all_with (Precedes preferred) inner (outward ∷ []) (inl (omega arith))
+          (all_with (Precedes preferred) outward [] (inl (omega arith)) (all_none (Precedes preferred)))),
       (
-        all_with (Precedes onward) inner (outward ∷ []) (inr (refl, inl (omega arith))) (all_with (Precedes onward) outward [] (inl (omega arith)) (all_none (Precedes onward))),
+        all_with (Precedes onward) inner (outward ∷ []) (inr (refl, inl (omega arith)))
+            (all_with (Precedes onward) outward [] (inl (omega arith)) (all_none (Precedes onward))),
         (all_with (Precedes inner) outward [] (inl (omega arith)) (all_none (Precedes inner)), (all_none (Precedes outward), tt)),
       ),
     ),
@@ -264,13 +295,21 @@ pub good : IsProblem S
 good = record {
   tables = record { few_routers = omega arith; few_edges = omega arith; names = refl; init = refl; lone = refl };
   edges = record {
-    inside = each_edge (IsEdgeOf S) (is_edge 1 0 0 0 (omega arith) (omega arith) (λ z. omega arith) (omega arith)) (is_edge 1 0 0 1 (omega arith) (omega arith) (λ z. omega arith) (omega arith)) (is_edge 1 2 1 2 (omega arith) (omega arith) (λ z. omega arith) (omega arith)) (is_edge 2 1 2 2 (omega arith) (omega arith) (λ z. omega arith) (omega arith)) (is_edge 2 3 0 4 (omega arith) (omega arith) (λ z. omega arith) (omega arith)) (is_edge 3 1 2 3 (omega arith) (omega arith) (λ z. omega arith) (omega arith));
+    inside = each_edge (IsEdgeOf S) (is_edge 1 0 0 0 (omega arith) (omega arith) (λ z. omega arith) (omega arith))
+        (is_edge 1 0 0 1 (omega arith) (omega arith) (λ z. omega arith) (omega arith))
+        (is_edge 1 2 1 2 (omega arith) (omega arith) (λ z. omega arith) (omega arith))
+        (is_edge 2 1 2 2 (omega arith) (omega arith) (λ z. omega arith) (omega arith))
+        (is_edge 2 3 0 4 (omega arith) (omega arith) (λ z. omega arith) (omega arith))
+        (is_edge 3 1 2 3 (omega arith) (omega arith) (λ z. omega arith) (omega arith));
     ordered = ordered;
     one_of_link = one_of_link;
   };
   acts = record {
-    fit = all_with (IsActOf OverBgp) plain (prefers ∷ lengthens ∷ []) (fits None 0) (all_with (IsActOf OverBgp) prefers (lengthens ∷ []) (fits (Some 200) 0) (all_with (IsActOf OverBgp) lengthens [] (fits None 1) (all_none (IsActOf OverBgp))));
-    keep = all_with KeepsSets plain (prefers ∷ lengthens ∷ []) (keeps None 0) (all_with KeepsSets prefers (lengthens ∷ []) (keeps (Some 200) 0) (all_with KeepsSets lengthens [] (keeps None 1) (all_none KeepsSets)));
+    fit = all_with (IsActOf OverBgp) plain (prefers ∷ lengthens ∷ []) (fits None 0)
+        (all_with (IsActOf OverBgp) prefers (lengthens ∷ []) (fits (Some 200) 0)
+        (all_with (IsActOf OverBgp) lengthens [] (fits None 1) (all_none (IsActOf OverBgp))));
+    keep = all_with KeepsSets plain (prefers ∷ lengthens ∷ []) (keeps None 0)
+        (all_with KeepsSets prefers (lengthens ∷ []) (keeps (Some 200) 0) (all_with KeepsSets lengthens [] (keeps None 1) (all_none KeepsSets)));
     differ = differ;
   };
   starts = record {
@@ -281,8 +320,10 @@ good = record {
   };
   numbers = λ p. record {
     originators = λ u r e. subst (λ n. number S n ≢ 0) (sym (init_is u r e).0) (λ z. omega arith);
-    importers = each_edge (λ e. number S e.importer ≢ 0) (λ z. omega arith) (λ z. omega arith) (λ z. omega arith) (λ z. omega arith) (λ z. omega arith) (λ z. omega arith);
-    exporters = each_edge (λ e. number S e.exporter ≢ 0) (λ z. omega arith) (λ z. omega arith) (λ z. omega arith) (λ z. omega arith) (λ z. omega arith) (λ z. omega arith);
+    importers = each_edge (λ e. number S e.importer ≢ 0) (λ z. omega arith) (λ z. omega arith) (λ z. omega arith) (λ z. omega arith) (λ z. omega arith)
+        (λ z. omega arith);
+    exporters = each_edge (λ e. number S e.exporter ≢ 0) (λ z. omega arith) (λ z. omega arith) (λ z. omega arith) (λ z. omega arith) (λ z. omega arith)
+        (λ z. omega arith);
     distinct = λ u v h g e n. (let a = number_is u h in let b = number_is v g in omega arith);
   };
   marks = record { only = λ u h t. subst (IsLone S) (sym (lone_is u t)) lone_one; all = marked };

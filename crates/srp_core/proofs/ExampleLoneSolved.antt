@@ -52,7 +52,8 @@ came : (e : Edge) (r c : Route) → over S L e ≡ Some r → IsCandidateOver S 
 came e r c is o = let there : Some r ≡ Some c = sym is ∙ candidate_over S L e c o in cc
 
 -- a candidate is the label, or worse
-as_good : (e : Edge) → Contains S.edges e → (r c : Route) → label L e.importer ≡ Some r → IsCandidateOver S L e c → compare_keys (key_of S c) (key_of S r) ≢ Less
+as_good : (e : Edge) → Contains S.edges e → (r c : Route) → label L e.importer ≡ Some r → IsCandidateOver S L e c →
+    compare_keys (key_of S c) (key_of S r) ≢ Less
 as_good = each_edge (λ e. (r c : Route) → label L e.importer ≡ Some r → IsCandidateOver S L e c → compare_keys (key_of S c) (key_of S r) ≢ Less)
     (λ r c e o. same r c (came first learned c over_first o) e) (λ r c e o. same r c (came parallel learned c over_parallel o) e)
     (λ r c e o. (let there : None ≡ Some c = sym over_preferred ∙ candidate_over S L preferred c o in absurd (cc)))
@@ -89,7 +90,9 @@ held_over : (e : Edge) → Contains S.edges e → (r s : Route) → over S L e �
 held_over e i r s is same = subst (IsCandidate S L e.importer) same (of_edge e i refl (over_candidate S L e s is))
 
 held : (u : ℕ) (r : Route) → u < 4 → label L u ≡ Some r → IsCandidate S L u r
-held u r h = each_router (λ v. label L v ≡ Some r → IsCandidate S L v r) (λ e. of_init e) (λ e. held_over first (0, omega arith, refl) r learned over_first (cc)) (λ e. held_over onward (3, omega arith, refl) r farther over_onward (cc)) (λ e. held_over outward (5, omega arith, refl) r farther over_outward (cc)) u h
+held u r h = each_router (λ v. label L v ≡ Some r → IsCandidate S L v r) (λ e. of_init e)
+    (λ e. held_over first (0, omega arith, refl) r learned over_first (cc)) (λ e. held_over onward (3, omega arith, refl) r farther over_onward (cc))
+    (λ e. held_over outward (5, omega arith, refl) r farther over_outward (cc)) u h
 
 fits : (u : ℕ) (r : Route) → label L u ≡ Some r → IsRouteOf OverBgp r
 fits zero r e = let k : origin ≡ r = cc in subst (IsRouteOf OverBgp) k tt
@@ -108,10 +111,14 @@ stable = record {
 
 together : (u v : ℕ) → u < 4 → v < 4 → group_of groups u ≡ group_of groups v → (u ≡ v) ⊎ ((2 ≤ u) × (2 ≤ v))
 together u v h g = each_router (λ u. (v : ℕ) → v < 4 → group_of groups u ≡ group_of groups v → (u ≡ v) ⊎ ((2 ≤ u) × (2 ≤ v)))
-    (each_router (λ v. 0 ≡ group_of groups v → (0 ≡ v) ⊎ ((2 ≤ 0) × (2 ≤ v))) (λ e. inl refl) (λ e. absurd (omega arith)) (λ e. absurd (omega arith)) (λ e. absurd (omega arith)))
-    (each_router (λ v. 1 ≡ group_of groups v → (1 ≡ v) ⊎ ((2 ≤ 1) × (2 ≤ v))) (λ e. absurd (omega arith)) (λ e. inl refl) (λ e. absurd (omega arith)) (λ e. absurd (omega arith)))
-    (each_router (λ v. 2 ≡ group_of groups v → (2 ≡ v) ⊎ ((2 ≤ 2) × (2 ≤ v))) (λ e. absurd (omega arith)) (λ e. absurd (omega arith)) (λ e. inl refl) (λ e. inr (omega arith, omega arith)))
-    (each_router (λ v. 2 ≡ group_of groups v → (3 ≡ v) ⊎ ((2 ≤ 3) × (2 ≤ v))) (λ e. absurd (omega arith)) (λ e. absurd (omega arith)) (λ e. inr (omega arith, omega arith)) (λ e. inl refl))
+    (each_router (λ v. 0 ≡ group_of groups v → (0 ≡ v) ⊎ ((2 ≤ 0) × (2 ≤ v))) (λ e. inl refl) (λ e. absurd (omega arith)) (λ e. absurd (omega arith))
+    (λ e. absurd (omega arith)))
+    (each_router (λ v. 1 ≡ group_of groups v → (1 ≡ v) ⊎ ((2 ≤ 1) × (2 ≤ v))) (λ e. absurd (omega arith)) (λ e. inl refl) (λ e. absurd (omega arith))
+    (λ e. absurd (omega arith)))
+    (each_router (λ v. 2 ≡ group_of groups v → (2 ≡ v) ⊎ ((2 ≤ 2) × (2 ≤ v))) (λ e. absurd (omega arith)) (λ e. absurd (omega arith)) (λ e. inl refl)
+    (λ e. inr (omega arith, omega arith)))
+    (each_router (λ v. 2 ≡ group_of groups v → (3 ≡ v) ⊎ ((2 ≤ 3) × (2 ≤ v))) (λ e. absurd (omega arith)) (λ e. absurd (omega arith))
+    (λ e. inr (omega arith, omega arith)) (λ e. inl refl))
     u h v g
 
 silent : (u : ℕ) → 2 ≤ u → initial S u ≡ None
@@ -125,13 +132,28 @@ silent (suc (suc (suc (suc u)))) h = refl
 twin_at : (v : ℕ) → v < 4 → 2 ≤ v → (e : Edge) → group_of groups e.exporter ≡ 1 → act_of S e ≡ lengthens → Twin S groups v e
 twin_at v h = each_router (λ w. 2 ≤ w → (e : Edge) → group_of groups e.exporter ≡ 1 → act_of S e ≡ lengthens → Twin S groups w e)
     (λ l. absurd (omega arith)) (λ l. absurd (omega arith))
-    (λ l e out act. record { other = onward; other_in = (3, omega arith, refl); importer = refl; exporter = sym out; alike = subst (λ x. ActsAlike x lengthens) (sym act) (alike_self lengthens) })
-    (λ l e out act. record { other = outward; other_in = (5, omega arith, refl); importer = refl; exporter = sym out; alike = subst (λ x. ActsAlike x lengthens) (sym act) (alike_self lengthens) })
+    (λ l e out act. record {
+      other = onward;
+      other_in = (3, omega arith, refl);
+      importer = refl;
+      exporter = sym out;
+      alike =
+          subst (λ x. ActsAlike x lengthens) (sym act) (alike_self lengthens);
+    })
+    (λ l e out act. record {
+      other = outward;
+      other_in = (5, omega arith, refl);
+      importer = refl;
+      exporter = sym out;
+      alike =
+          subst (λ x. ActsAlike x lengthens) (sym act) (alike_self lengthens);
+    })
     v h
 
 twins : (v : ℕ) → v < 4 → 2 ≤ v → (e : Edge) → Contains S.edges e → 2 ≤ e.importer → group_of groups e.exporter ≢ 2 → Twin S groups v e
 twins v h l = each_edge (λ e. 2 ≤ e.importer → group_of groups e.exporter ≢ 2 → Twin S groups v e)
-    (λ i. absurd (omega arith)) (λ i. absurd (omega arith)) (λ i. absurd (omega arith)) (λ i out. twin_at v h l onward refl refl) (λ i out. absurd (out refl)) (λ i out. twin_at v h l outward refl refl)
+    (λ i. absurd (omega arith)) (λ i. absurd (omega arith)) (λ i. absurd (omega arith)) (λ i out. twin_at v h l onward refl refl) (λ i out. absurd (out refl))
+    (λ i out. twin_at v h l outward refl refl)
 
 in_group : (u : ℕ) → u < 4 → 2 ≤ u → group_of groups u ≡ 2
 in_group = each_router (λ u. 2 ≤ u → group_of groups u ≡ 2) (λ l. absurd (omega arith)) (λ l. absurd (omega arith)) (λ l. refl) (λ l. refl)
@@ -147,11 +169,13 @@ admissible = record {
   ];
 }
 
-lies : (e l : Edge) → group_of groups e.importer ≡ l.importer → group_of groups e.exporter ≡ l.exporter → l.importer ≢ l.exporter → act_of S e ≡ act_of Q l → Lies S Q groups e l
+lies : (e l : Edge) → group_of groups e.importer ≡ l.importer → group_of groups e.exporter ≡ l.exporter → l.importer ≢ l.exporter → act_of S e ≡ act_of Q l →
+    Lies S Q groups e l
 lies e l i x n a = record { importer = i; exporter = x; differ = n; alike = subst (ActsAlike (act_of S e)) a (alike_self (act_of S e)) }
 
 used : (g : ℕ) → g < 3 → IsUsed Q g
-used = each_group (IsUsed Q) (originates origin refl) (imports (edge_of 1 0 0 0) (0, omega arith, refl) refl) (imports (edge_of 2 1 2 1) (2, omega arith, refl) refl)
+used = each_group (IsUsed Q) (originates origin refl) (imports (edge_of 1 0 0 0) (0, omega arith, refl) refl)
+    (imports (edge_of 2 1 2 1) (2, omega arith, refl) refl)
 
 first_is : (g : ℕ) → g < 3 → number Q g ≡ first_number S.numbers groups g
 unfolding first_number
@@ -168,7 +192,8 @@ quotient = record {
   protocol = refl;
   inside = each_router (λ u. group_of groups u < 3) (omega arith) (omega arith) (omega arith) (omega arith);
   onto = each_group (λ g. (u : ℕ) × (u < 4) × (group_of groups u ≡ g)) (0, omega arith, refl) (1, omega arith, refl) (2, omega arith, refl);
-  names = each_router (λ v. IsFirstMember groups v → slice_index_or Q.names (group_of groups v) [] ≡ slice_index_or S.names v []) (λ f. refl) (λ f. refl) (λ f. refl) (λ f. absurd (f.first 2 (omega arith) refl));
+  names = each_router (λ v. IsFirstMember groups v → slice_index_or Q.names (group_of groups v) [] ≡ slice_index_or S.names v []) (λ f. refl) (λ f. refl)
+      (λ f. refl) (λ f. absurd (f.first 2 (omega arith) refl));
   origins = each_router (λ u. initial Q (group_of groups u) ≡ initial S u) refl refl refl refl;
   lone = each_router (λ u. is_lone Q (group_of groups u) ≡ is_lone S u) refl refl refl refl;
   down = each_lower From
@@ -201,8 +226,17 @@ tables : KeepsTables S Q
 tables = record {
   tables = record { few_routers = omega arith; few_edges = omega arith; names = refl; init = refl; lone = refl };
   edges = record {
-    inside = each_lower (IsEdgeOf Q) (is_lower 1 0 0 0 (omega arith) (omega arith) (λ z. omega arith) (omega arith)) (is_lower 1 2 1 1 (omega arith) (omega arith) (λ z. omega arith) (omega arith)) (is_lower 2 1 2 1 (omega arith) (omega arith) (λ z. omega arith) (omega arith));
-    ordered = (all_with (Precedes (edge_of 1 0 0 0)) (edge_of 1 2 1 1) (edge_of 2 1 2 1 ∷ []) (inr (refl, inl (omega arith))) (all_with (Precedes (edge_of 1 0 0 0)) (edge_of 2 1 2 1) [] (inl (omega arith)) (all_none (Precedes (edge_of 1 0 0 0)))), (all_with (Precedes (edge_of 1 2 1 1)) (edge_of 2 1 2 1) [] (inl (omega arith)) (all_none (Precedes (edge_of 1 2 1 1))), (all_none (Precedes (edge_of 2 1 2 1)), tt)));
+    inside = each_lower (IsEdgeOf Q) (is_lower 1 0 0 0 (omega arith) (omega arith) (λ z. omega arith) (omega arith))
+        (is_lower 1 2 1 1 (omega arith) (omega arith) (λ z. omega arith) (omega arith))
+        (is_lower 2 1 2 1 (omega arith) (omega arith) (λ z. omega arith) (omega arith));
+    ordered = (
+      all_with (Precedes (edge_of 1 0 0 0)) (edge_of 1 2 1 1) (edge_of 2 1 2 1 ∷ []) (inr (refl, inl (omega arith)))
+          (all_with (Precedes (edge_of 1 0 0 0)) (edge_of 2 1 2 1) [] (inl (omega arith)) (all_none (Precedes (edge_of 1 0 0 0)))),
+      (
+        all_with (Precedes (edge_of 1 2 1 1)) (edge_of 2 1 2 1) [] (inl (omega arith)) (all_none (Precedes (edge_of 1 2 1 1))),
+        (all_none (Precedes (edge_of 2 1 2 1)), tt),
+      ),
+    );
     one_of_link = apart;
   };
   acts = refl;

@@ -23,7 +23,16 @@ abbrev forth : Edge
 forth = edge_of 1 0 0 0
 
 abbrev S : Problem
-S = record { protocol = OverOspf; names = (97 ∷ []) ∷ (98 ∷ []) ∷ []; numbers = 0 ∷ 0 ∷ []; init = Some (Ospf 1) ∷ None ∷ []; lone = false ∷ false ∷ []; acts = Cost 10 ∷ []; edges = back ∷ forth ∷ [] }
+S = record {
+  protocol = OverOspf;
+  names = (97 ∷ []) ∷ (98 ∷ []) ∷ [];
+  numbers = 0 ∷ 0 ∷ [];
+  init = Some (Ospf 1) ∷ None ∷ [];
+  lone = false ∷ false ∷ [];
+  acts =
+      Cost 10 ∷ [];
+  edges = back ∷ forth ∷ [];
+}
 
 abbrev L : List (Option Route)
 L = Some (Ospf 1) ∷ Some (Ospf 11) ∷ []
@@ -58,17 +67,24 @@ keeps = tt
 
 apart : (e o : Edge) → Contains S.edges e → Contains S.edges o → e.importer ≡ o.importer → e ≡ o
 apart e o i j =
-    each_edge (λ x. x.importer ≡ o.importer → x ≡ o) (each_edge (λ y. 0 ≡ y.importer → back ≡ y) (λ a. refl) (λ a. absurd (omega arith)) o j) (each_edge (λ y. 1 ≡ y.importer → forth ≡ y) (λ a. absurd (omega arith)) (λ a. refl) o j) e i
+    each_edge (λ x. x.importer ≡ o.importer → x ≡ o) (each_edge (λ y. 0 ≡ y.importer → back ≡ y) (λ a. refl) (λ a. absurd (omega arith)) o j)
+    (each_edge (λ y. 1 ≡ y.importer → forth ≡ y) (λ a. absurd (omega arith)) (λ a. refl) o j) e i
 
 good : IsProblem S
 good = record {
   tables = record { few_routers = omega arith; few_edges = omega arith; names = refl; init = refl; lone = refl };
   edges = record {
-    inside = each_edge (IsEdgeOf S) (record { importer_in = omega arith; exporter_in = omega arith; differ = λ z. omega arith; act_in = omega arith }) (record { importer_in = omega arith; exporter_in = omega arith; differ = λ z. omega arith; act_in = omega arith });
+    inside = each_edge (IsEdgeOf S) (record { importer_in = omega arith; exporter_in = omega arith; differ = λ z. omega arith; act_in = omega arith })
+        (record { importer_in = omega arith; exporter_in = omega arith; differ = λ z. omega arith; act_in = omega arith });
     ordered = (all_with (Precedes back) forth [] (inl (omega arith)) (all_none (Precedes back)), (all_none (Precedes forth), tt));
     one_of_link = λ e o i j importers links. apart e o i j importers;
   };
-  acts = record { fit = all_with (IsActOf OverOspf) (Cost 10) [] (omega arith) (all_none (IsActOf OverOspf)); keep = all_with KeepsSets (Cost 10) [] keeps (all_none KeepsSets); differ = λ i j h g a. omega arith };
+  acts = record {
+    fit = all_with (IsActOf OverOspf) (Cost 10) [] (omega arith) (all_none (IsActOf OverOspf));
+    keep =
+        all_with KeepsSets (Cost 10) [] keeps (all_none KeepsSets);
+    differ = λ i j h g a. omega arith;
+  };
   starts = record {
     routes = λ u r e. subst (IsRouteOf OverOspf) (init_is u r e).1 tt;
     paths = λ u r e. sym (ap path_of (init_is u r e).1);
@@ -90,7 +106,8 @@ over_forth = refl
 came : (e : Edge) (r c : Route) → over S L e ≡ Some r → IsCandidateOver S L e c → r ≡ c
 came e r c is o = let there : Some r ≡ Some c = sym is ∙ candidate_over S L e c o in cc
 
-as_good : (e : Edge) → Contains S.edges e → (r c : Route) → label L e.importer ≡ Some r → IsCandidateOver S L e c → compare_keys (key_of S c) (key_of S r) ≢ Less
+as_good : (e : Edge) → Contains S.edges e → (r c : Route) → label L e.importer ≡ Some r → IsCandidateOver S L e c →
+    compare_keys (key_of S c) (key_of S r) ≢ Less
 as_good = each_edge (λ e. (r c : Route) → label L e.importer ≡ Some r → IsCandidateOver S L e c → compare_keys (key_of S c) (key_of S r) ≢ Less)
     (λ r c e o. longer r c (came back (Ospf 21) c over_back o) e)
     (λ r c e o. same r c (came forth (Ospf 11) c over_forth o) e)
@@ -123,6 +140,8 @@ stable : IsStable S L
 stable = record {
   fitting = record { total = refl; routes = fits };
   none = λ u c h e. absurd (each_router (λ v. label L v ≡ None → ⊥) (λ z. cc) (λ z. cc) u h e);
-  held = λ u r h e. each_router (λ v. label L v ≡ Some r → IsCandidate S L v r) (λ z. of_init z) (λ z. (let k : Ospf 11 ≡ r = cc in subst (IsCandidate S L 1) k (of_edge forth (1, omega arith, refl) refl (over_candidate S L forth (Ospf 11) over_forth)))) u h e;
+  held = λ u r h e. each_router (λ v. label L v ≡ Some r → IsCandidate S L v r) (λ z. of_init z)
+      (λ z. (let k : Ospf 11 ≡ r = cc in subst (IsCandidate S L 1) k
+      (of_edge forth (1, omega arith, refl) refl (over_candidate S L forth (Ospf 11) over_forth)))) u h e;
   best = λ u r c h e k. best u r c e k;
 }

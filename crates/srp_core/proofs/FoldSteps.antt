@@ -39,17 +39,22 @@ module _ (S Q : Problem) (groups : List ℕ) (L : List (Option Route)) (can : Ca
     state : IsGood Q S (λ g u. IsIn S groups u g) E L
     state = record {
       supported = record { fitting = part.fitting; held = part.held };
-      tied = record { held = λ g u m x e. (let k = part.keyed u m x.inside (ap (label E) x.of_group ∙ e) in record { route = k.0; labelled = k.1; keyed = sym k.2 }) };
+      tied = record {
+        held = λ g u m x e. (let k = part.keyed u m x.inside (ap (label E) x.of_group ∙ e) in
+            record { route = k.0; labelled = k.1; keyed = sym k.2 });
+      };
     }
 
     pick : (g : ℕ) (m : Route) → label E g ≡ Some m → Picks E g m
     pick g m e = record {
       started = λ u i h x init. part.started u m i h (ap (label E) x ∙ e) init;
-      taken = λ u source r h x first f none on. subst (λ k. GroupTakes S Q E k (group_of groups source) m r) x (part.taken u source r m h first (ap (label E) x ∙ e) f none on);
+      taken = λ u source r h x first f none on. subst (λ k. GroupTakes S Q E k (group_of groups source) m r) x
+          (part.taken u source r m h first (ap (label E) x ∙ e) f none on);
     }
 
     -- labels with one more, that is what folding asks for
-    put : (u : ℕ) (r m : Route) → u < count S → label L u ≡ Some r → label E (group_of groups u) ≡ None → Picks E (group_of groups u) m → IsCandidate Q E (group_of groups u) m → key_of Q m ≡ key_of S r → IsFoldedPart S Q groups L (set E (group_of groups u) (Some m))
+    put : (u : ℕ) (r m : Route) → u < count S → label L u ≡ Some r → label E (group_of groups u) ≡ None → Picks E (group_of groups u) m →
+        IsCandidate Q E (group_of groups u) m → key_of Q m ≡ key_of S r → IsFoldedPart S Q groups L (set E (group_of groups u) (Some m))
     put u r m h asked empty picked cand k =
         let b = group_of groups u in
         let x : IsIn S groups u b = record { inside = h; of_group = refl } in
@@ -59,7 +64,8 @@ module _ (S Q : Problem) (groups : List ℕ) (L : List (Option Route)) (can : Ca
         let within = can.quotient.inside u h in
         let inside : b < length E = omega (arith, total, within) in
         let pick_at = kept S can.problem_rules groups can.admissible Q can.small_rules can.quotient can.protocol L can.stable E (set E b (Some m)) in
-        let picks : (v : ℕ) (n : Route) → label (set E b (Some m)) v ≡ Some n → Picks (set E b (Some m)) v n = λ v n e. elim (at_set Q S (λ g w. IsIn S groups w g) matching can.small_rules can.problem_rules L can.stable is_even E b v m n inside e) [
+        let picks : (v : ℕ) (n : Route) → label (set E b (Some m)) v ≡ Some n → Picks (set E b (Some m)) v n =
+        λ v n e. elim (at_set Q S (λ g w. IsIn S groups w g) matching can.small_rules can.problem_rules L can.stable is_even E b v m n inside e) [
           | inl now ↦ subst (λ w. Picks (set E b (Some m)) w n) (sym now.0) (subst (Picks (set E b (Some m)) b) now.1 (pick_at b m ext picked))
           | inr old ↦ pick_at v n ext (pick v n old)
         ] in
@@ -73,7 +79,8 @@ module _ (S Q : Problem) (groups : List ℕ) (L : List (Option Route)) (can : Ca
 
   start_is : (u : ℕ) (r i : Route) → initial S u ≡ Some i → IsCandidate S L u r → r ≡ i
   start_is u r i init (of_init f) = cc
-  start_is u r i init (of_edge edge has imp over) = (let none : initial S u ≡ None = ap (initial S) (sym imp) ∙ can.problem_rules.starts.unoriginated can.protocol edge has in absurd (cc))
+  start_is u r i init (of_edge edge has imp over) =
+      (let none : initial S u ≡ None = ap (initial S) (sym imp) ∙ can.problem_rules.starts.unoriginated can.protocol edge has in absurd (cc))
 
   source_by : (u : ℕ) (r : Route) → initial S u ≡ None → IsCandidate S L u r → (source : ℕ) × IsFirstOn S (path_of r) source
   source_by u r none (of_init f) = absurd (cc)
@@ -86,9 +93,11 @@ module _ (S Q : Problem) (groups : List ℕ) (L : List (Option Route)) (can : Ca
     before : IsFilled (λ g v. IsIn S groups v g) E L (size_of r)
     before = record { filled = λ g v s x e small. (let f = next.below.filled v s x.inside e small in (f.0, ap (label E) (sym x.of_group) ∙ f.1)) }
 
-    pub fold_found : (source : ℕ) → initial S u ≡ None → IsFirstOn S (path_of r) source → (m : Route) × GroupTakes S Q E (group_of groups u) (group_of groups source) m r
+    pub fold_found : (source : ℕ) → initial S u ≡ None → IsFirstOn S (path_of r) source →
+        (m : Route) × GroupTakes S Q E (group_of groups u) (group_of groups source) m r
     fold_found source none on =
-        let t = make S can.problem_rules groups can.admissible Q can.small_rules can.quotient can.protocol L can.stable E (state E next.part) (group_of groups u) u r (record { inside = next.inside; of_group = refl }) next.asked next.empty before in
+        let t = make S can.problem_rules groups can.admissible Q can.small_rules can.quotient can.protocol L can.stable E (state E next.part)
+        (group_of groups u) u r (record { inside = next.inside; of_group = refl }) next.asked next.empty before in
         (t.0, t.1.taken u source r next.inside refl next.first next.asked none on)
 
     one_start : (v : ℕ) → v < count S → group_of groups v ≡ group_of groups u → initial S v ≡ initial S u
@@ -105,22 +114,27 @@ module _ (S Q : Problem) (groups : List ℕ) (L : List (Option Route)) (can : Ca
         })
         (of_init (can.quotient.origins u next.inside ∙ init)) (sym agree ∙ ap (key_of S) (sym is))
 
-    pub fold_taken : (source : ℕ) (m : Route) → initial S u ≡ None → IsFirstOn S (path_of r) source → GroupTakes S Q E (group_of groups u) (group_of groups source) m r → IsFoldedPart S Q groups L (set E (group_of groups u) (Some m))
+    pub fold_taken : (source : ℕ) (m : Route) → initial S u ≡ None → IsFirstOn S (path_of r) source →
+        GroupTakes S Q E (group_of groups u) (group_of groups source) m r → IsFoldedPart S Q groups L (set E (group_of groups u) (Some m))
     fold_taken source m none on takes =
         put E next.part u r m next.inside next.asked next.empty
         (record {
           started = λ v j h x there. (let k : Some j ≡ None = sym there ∙ one_start v h x ∙ none in absurd (cc));
           taken = λ v other s h x first f none' on'.
-              (let same : v ≡ u = one_first S can.problem_rules groups can.admissible Q can.small_rules can.quotient can.protocol L can.stable v u x first next.first in
+              (let same : v ≡ u = one_first S can.problem_rules groups can.admissible Q can.small_rules can.quotient can.protocol L can.stable v u x first
+              next.first in
               let there : label L u ≡ Some s = subst (λ w. label L w ≡ Some s) same f in
               let asked = next.asked in
               let is : r ≡ s = cc in
-              let one : source ≡ other = one_source S can.problem_rules can.protocol (path_of r) source other on (subst (λ p. IsFirstOn S (path_of p) other) (sym is) on') in
-              subst (λ w. GroupTakes S Q E (group_of groups u) (group_of groups w) m s) one (subst (GroupTakes S Q E (group_of groups u) (group_of groups source) m) is takes));
+              let one : source ≡ other = one_source S can.problem_rules can.protocol (path_of r) source other on
+              (subst (λ p. IsFirstOn S (path_of p) other) (sym is) on') in
+              subst (λ w. GroupTakes S Q E (group_of groups u) (group_of groups w) m s) one
+              (subst (GroupTakes S Q E (group_of groups u) (group_of groups source) m) is takes));
         })
         (of_edge takes.edge takes.edge_in takes.importer takes.over) takes.keyed
 
-  pub fold_whole : (E : List (Option Route)) → IsFoldedPart S Q groups L E → ((u : ℕ) (r : Route) → u < count S → label L u ≡ Some r → (m : Route) × (label E (group_of groups u) ≡ Some m)) → IsFold S Q groups L E
+  pub fold_whole : (E : List (Option Route)) → IsFoldedPart S Q groups L E →
+      ((u : ℕ) (r : Route) → u < count S → label L u ≡ Some r → (m : Route) × (label E (group_of groups u) ≡ Some m)) → IsFold S Q groups L E
   fold_whole E part full = record {
     fitting = part.fitting;
     empty = λ u h e. elim (cases_label (label E (group_of groups u))) [

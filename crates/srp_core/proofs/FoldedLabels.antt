@@ -34,7 +34,8 @@ least groups wanted (suc n) = elim (least groups wanted n) [
 pub first_member : (groups : List ℕ) (u : ℕ) → Least groups (group_of groups u) (suc u)
 first_member groups u = elim (least groups (group_of groups u) (suc u)) [ inl l ↦ l | inr no_one ↦ absurd (no_one u (omega arith) refl) ]
 
-module _ (S : Problem) (good : IsProblem S) (groups : List ℕ) (adm : IsAdmissible S groups) (Q : Problem) (goodq : IsProblem Q) (q : IsQuotient S groups Q) (bgp : S.protocol ≡ OverBgp) (L : List (Option Route)) (st : IsStable S L) (M : List (Option Route)) (fold : IsFold S Q groups L M) where
+module _ (S : Problem) (good : IsProblem S) (groups : List ℕ) (adm : IsAdmissible S groups) (Q : Problem) (goodq : IsProblem Q) (q : IsQuotient S groups Q)
+    (bgp : S.protocol ≡ OverBgp) (L : List (Option Route)) (st : IsStable S L) (M : List (Option Route)) (fold : IsFold S Q groups L M) where
   record Folded (u : ℕ) (r : Route) : Type 0 where
     route : Route
     labelled : label M (group_of groups u) ≡ Some route
@@ -49,8 +50,18 @@ module _ (S : Problem) (good : IsProblem S) (groups : List ℕ) (adm : IsAdmissi
   folded_from u r h first e (of_edge edge i imp over) =
       let none : initial S u ≡ None = ap (initial S) (sym imp) ∙ good.starts.unoriginated bgp edge i in
       let ge = good.edges.inside edge i in
-      let k = step_bgp (act_of S edge) (number S edge.exporter) over.from r (subst (λ p. IsActOf p (act_of S edge)) bgp (edge_act S good edge i)) over.stepped in
-      let on : IsFirstOn S (path_of r) edge.exporter = record { inside = ge.exporter_in; number_of = number S edge.exporter; rest = prepended k.0 (number S edge.exporter) (path_of over.from); path_is = k.1; numbered = refl; some_number = (good.numbers bgp).exporters edge i } in
+      let k = step_bgp (act_of S edge) (number S edge.exporter) over.from r (subst (λ p. IsActOf p (act_of S edge)) bgp (edge_act S good edge i)) over.stepped
+      in
+      let on : IsFirstOn S (path_of r) edge.exporter =
+      record {
+        inside = ge.exporter_in;
+        number_of = number S edge.exporter;
+        rest = prepended k.0 (number S edge.exporter) (path_of over.from);
+        path_is =
+            k.1;
+        numbered = refl;
+        some_number = (good.numbers bgp).exporters edge i;
+      } in
       let t = fold.taken u edge.exporter r h first e none on in
       record { route = t.0; labelled = t.1; candidate = of_edge t.2.edge t.2.edge_in t.2.importer t.2.over; keyed = t.2.keyed }
 
@@ -60,10 +71,18 @@ module _ (S : Problem) (good : IsProblem S) (groups : List ℕ) (adm : IsAdmissi
       let b = l.below in
       let inside : l.router < count S = omega arith in
       let k = equal_held S good groups adm L st u l.router r (record { left = h; right = inside; same = sym l.of_group }) e in
-      let f = folded_from l.router k.route inside (record { first = λ v less same. l.first v less (same ∙ l.of_group) }) k.labelled (st.held l.router k.route inside k.labelled) in
-      record { route = f.route; labelled = ap (label M) (sym l.of_group) ∙ f.labelled; candidate = subst (λ g. IsCandidate Q M g f.route) l.of_group f.candidate; keyed = f.keyed ∙ k.keyed }
+      let f = folded_from l.router k.route inside (record { first = λ v less same. l.first v less (same ∙ l.of_group) }) k.labelled
+      (st.held l.router k.route inside k.labelled) in
+      record {
+        route = f.route;
+        labelled = ap (label M) (sym l.of_group) ∙ f.labelled;
+        candidate =
+            subst (λ g. IsCandidate Q M g f.route) l.of_group f.candidate;
+        keyed = f.keyed ∙ k.keyed;
+      }
 
-  folded_at : (u : ℕ) (m : Route) → u < count S → label M (group_of groups u) ≡ Some m → (r : Route) × (label L u ≡ Some r) × IsCandidate Q M (group_of groups u) m × (key_of S r ≡ key_of Q m)
+  folded_at : (u : ℕ) (m : Route) → u < count S → label M (group_of groups u) ≡ Some m → (r : Route) × (label L u ≡ Some r)
+      × IsCandidate Q M (group_of groups u) m × (key_of S r ≡ key_of Q m)
   folded_at u m h e = elim (cases_label (label L u)) [
     | inl empty ↦ (let l = fold.empty u h empty in absurd (cc))
     | inr full ↦
@@ -86,6 +105,11 @@ module _ (S : Problem) (good : IsProblem S) (groups : List ℕ) (adm : IsAdmissi
 
   pub fold_solves : IsStable Q M × Corresponds S Q groups L M
   fold_solves =
-      let even : IsEven S (λ g u. IsIn S groups u g) L = record { held = λ g u u' r x x' e. equal_held S good groups adm L st u u' r (record { left = x.inside; right = x'.inside; same = x.of_group ∙ sym x'.of_group }) e } in
-      let s = finished Q S (λ g u. IsIn S groups u g) (converse S Q (IsIn S groups) (quotient_matching S good groups adm Q goodq q)) goodq good L st even M fold_good (λ g u r x e. (let k = folded u r x.inside e in (k.route, ap (label M) (sym x.of_group) ∙ k.labelled))) in
+      let even : IsEven S (λ g u. IsIn S groups u g) L =
+      record {
+        held = λ g u u' r x x' e. equal_held S good groups adm L st u u' r
+            (record { left = x.inside; right = x'.inside; same = x.of_group ∙ sym x'.of_group }) e;
+      } in
+      let s = finished Q S (λ g u. IsIn S groups u g) (converse S Q (IsIn S groups) (quotient_matching S good groups adm Q goodq q)) goodq good L st even M
+      fold_good (λ g u r x e. (let k = folded u r x.inside e in (k.route, ap (label M) (sym x.of_group) ∙ k.labelled))) in
       (s.0, correspond S good groups adm Q goodq q L M st s.0 s.2 s.1)

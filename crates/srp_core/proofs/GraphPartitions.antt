@@ -34,7 +34,9 @@ module _ (P : Problem) (good : IsProblem P) (graph : ActGraph) (is : IsGraphOf P
     origins = λ u v hu hv same. same_start u v hu hv (a.colors u v (in_graph u hu) (in_graph v hv) same);
     alone = λ u v hu hv same l. is.alone u v hu hv l (a.colors u v (in_graph u hu) (in_graph v hv) same);
     twins = λ u v edge hu hv same i imp out.
-        (let mirrored : HasTwinIfOutgoing graph.edges groups u v edge = All-contains (HasTwinIfOutgoing graph.edges groups u v) graph.edges edge (a.edges u v (in_graph u hu) (in_graph v hv) same) (subst (λ l. Contains l edge) (sym is.edges) i) in
+        (let mirrored : HasTwinIfOutgoing graph.edges groups u v edge =
+        All-contains (HasTwinIfOutgoing graph.edges groups u v) graph.edges edge (a.edges u v (in_graph u hu) (in_graph v hv) same)
+        (subst (λ l. Contains l edge) (sym is.edges) i) in
         let (k, other, inside, at, (importer, act, into)) = mirrored.twin imp out in
         record {
           other = other;

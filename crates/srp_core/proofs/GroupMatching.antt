@@ -44,9 +44,16 @@ member [] groups wanted h = absurd (h refl)
 member (n ∷ numbers) [] wanted h = absurd (h refl)
 member (n ∷ numbers) (g ∷ groups) wanted h =
     elim (cases_Bool (nat_eq g wanted && not (nat_eq n 0))) [
-      | inl t ↦ record { router = 0; inside = omega arith; of_group = eqb-true g wanted (and_parts (nat_eq g wanted) (not (nat_eq n 0)) t).0; numbered = sym (ap (λ b. cond b n (first_number numbers groups wanted)) t) }
+      | inl t ↦ record {
+        router = 0;
+        inside = omega arith;
+        of_group = eqb-true g wanted (and_parts (nat_eq g wanted) (not (nat_eq n 0)) t).0;
+        numbered =
+            sym (ap (λ b. cond b n (first_number numbers groups wanted)) t);
+      }
       | inr f ↦
-          let e : first_number (n ∷ numbers) (g ∷ groups) wanted ≡ first_number numbers groups wanted = ap (λ b. cond b n (first_number numbers groups wanted)) f in
+          let e : first_number (n ∷ numbers) (g ∷ groups) wanted ≡ first_number numbers groups wanted =
+          ap (λ b. cond b n (first_number numbers groups wanted)) f in
           let r = member numbers groups wanted (λ z. h (e ∙ z)) in
           record { router = suc r.router; inside = (let i = r.inside in omega (arith, i)); of_group = r.of_group; numbered = r.numbered ∙ sym e }
     ]
@@ -61,26 +68,40 @@ pub record AreTogether (S : Problem) (groups : List ℕ) (u v : ℕ) : Type 0 wh
   pub same : group_of groups u ≡ group_of groups v
 
 module _ (S : Problem) (good : IsProblem S) (groups : List ℕ) (adm : IsAdmissible S groups) where
-  pub not_lone_inside : (u : ℕ) (e : Edge) → u < count S → Contains S.edges e → e.importer ≡ u → group_of groups e.exporter ≡ group_of groups u → is_lone S u ≡ false
+  pub not_lone_inside : (u : ℕ) (e : Edge) → u < count S → Contains S.edges e → e.importer ≡ u → group_of groups e.exporter ≡ group_of groups u →
+      is_lone S u ≡ false
   not_lone_inside u e h i imp same = elim (cases_Bool (is_lone S u)) [
     | inr f ↦ f
     | inl t ↦ absurd ((good.edges.inside e i).differ (imp ∙ adm.alone u e.exporter h (good.edges.inside e i).exporter_in (sym same) t))
   ]
 
-  together_forth : (u v : ℕ) (e : Edge) → AreTogether S groups u v → Contains S.edges e → e.importer ≡ u → Partner S S (AreTogether S groups) v e ⊎ IsInner S (AreTogether S groups) u v e
+  together_forth : (u v : ℕ) (e : Edge) → AreTogether S groups u v → Contains S.edges e → e.importer ≡ u → Partner S S (AreTogether S groups) v e
+      ⊎ IsInner S (AreTogether S groups) u v e
   together_forth u v e x i imp =
       let ge = good.edges.inside e i in
       elim (cases_eq (group_of groups e.exporter) (group_of groups u)) [
-        | inl same ↦ inr (record { not_lone = not_lone_inside u e x.left i imp same; inner = record { left = ge.exporter_in; right = x.right; same = same ∙ x.same } })
+        | inl same ↦ inr (record {
+          not_lone = not_lone_inside u e x.left i imp same;
+          inner =
+              record { left = ge.exporter_in; right = x.right; same = same ∙ x.same };
+        })
         | inr differ ↦
             let t = adm.twins u v e x.left x.right x.same i imp differ in
-            inl (record { other = t.other; other_in = t.other_in; importer = t.importer; exporter = record { left = ge.exporter_in; right = (good.edges.inside t.other t.other_in).exporter_in; same = sym t.exporter }; alike = t.alike })
+            inl (record {
+              other = t.other;
+              other_in = t.other_in;
+              importer = t.importer;
+              exporter =
+                  record { left = ge.exporter_in; right = (good.edges.inside t.other t.other_in).exporter_in; same = sym t.exporter };
+              alike = t.alike;
+            })
       ]
 
   turn : (u v : ℕ) → AreTogether S groups u v → AreTogether S groups v u
   turn u v x = record { left = x.right; right = x.left; same = sym x.same }
 
-  together_back : (u v : ℕ) (e : Edge) → AreTogether S groups u v → Contains S.edges e → e.importer ≡ v → Partner S S (λ x y. AreTogether S groups y x) u e ⊎ IsInner S (λ x y. AreTogether S groups y x) v u e
+  together_back : (u v : ℕ) (e : Edge) → AreTogether S groups u v → Contains S.edges e → e.importer ≡ v → Partner S S (λ x y. AreTogether S groups y x) u e
+      ⊎ IsInner S (λ x y. AreTogether S groups y x) v u e
   together_back u v e x i imp = elim (together_forth v u e (turn u v x) i imp) [
     | inl p ↦ inl (record { other = p.other; other_in = p.other_in; importer = p.importer; exporter = turn _ _ p.exporter; alike = p.alike })
     | inr n ↦ inr (record { not_lone = n.not_lone; inner = turn _ _ n.inner })
@@ -95,7 +116,10 @@ module _ (S : Problem) (good : IsProblem S) (groups : List ℕ) (adm : IsAdmissi
     left_in = λ u v x. x.left;
     right_in = λ u v x. x.right;
     origins = λ u v x. adm.origins u v x.left x.right x.same;
-    lone = λ u v x. elim (cases_Bool (is_lone S u)) [ inl t ↦ t ∙ sym (together_lone u v x t) | inr f ↦ elim (cases_Bool (is_lone S v)) [ inl t ↦ together_lone v u (turn u v x) t ∙ sym t | inr f' ↦ f ∙ sym f' ] ];
+    lone = λ u v x. elim (cases_Bool (is_lone S u)) [
+      | inl t ↦ t ∙ sym (together_lone u v x t)
+      | inr f ↦ elim (cases_Bool (is_lone S v)) [ inl t ↦ together_lone v u (turn u v x) t ∙ sym t | inr f' ↦ f ∙ sym f' ]
+    ];
     numbers = λ u v x t. ap (number S) (adm.alone u v x.left x.right x.same t);
     forth = together_forth;
     back = together_back;
@@ -123,29 +147,52 @@ module _ (S : Problem) (good : IsProblem S) (groups : List ℕ) (adm : IsAdmissi
         let a = (goodq.marks.only g inside lone).first_accepted in
         let used : IsUsed Q g = imports a.edge a.edge_in a.importer in
         let n = q.numbers g inside used in
-        let some_number : number Q g ≢ 0 = subst (λ w. number Q w ≢ 0) a.importer ((goodq.numbers (lone_bgp Q goodq g inside lone)).importers a.edge a.edge_in) in
+        let some_number : number Q g ≢ 0 = subst (λ w. number Q w ≢ 0) a.importer ((goodq.numbers (lone_bgp Q goodq g inside lone)).importers a.edge a.edge_in)
+        in
         let k = member S.numbers groups g (λ z. some_number (n ∙ z)) in
         let same : u ≡ k.router = adm.alone u k.router x.inside k.inside (x.of_group ∙ sym k.of_group) t in
         ap (number S) same ∙ k.numbered ∙ sym n
 
-    quotient_forth : (u g : ℕ) (e : Edge) → IsIn S groups u g → Contains S.edges e → e.importer ≡ u → Partner S Q (IsIn S groups) g e ⊎ IsInner S (IsIn S groups) u g e
+    quotient_forth : (u g : ℕ) (e : Edge) → IsIn S groups u g → Contains S.edges e → e.importer ≡ u → Partner S Q (IsIn S groups) g e
+        ⊎ IsInner S (IsIn S groups) u g e
     quotient_forth u g e x i imp =
         let ge = good.edges.inside e i in
         let here : group_of groups e.importer ≡ g = ap (group_of groups) imp ∙ x.of_group in
         elim (cases_eq (group_of groups e.exporter) g) [
-          | inl same ↦ inr (record { not_lone = not_lone_inside u e x.inside i imp (same ∙ sym x.of_group); inner = record { inside = ge.exporter_in; of_group = same } })
+          | inl same ↦ inr (record {
+            not_lone = not_lone_inside u e x.inside i imp (same ∙ sym x.of_group);
+            inner =
+                record { inside = ge.exporter_in; of_group = same };
+          })
           | inr differ ↦
               let d = q.up e i (λ z. differ (sym z ∙ here)) in
-              inl (record { other = d.0; other_in = d.1; importer = sym d.2.importer ∙ here; exporter = record { inside = ge.exporter_in; of_group = d.2.exporter }; alike = d.2.alike })
+              inl (record {
+                other = d.0;
+                other_in = d.1;
+                importer = sym d.2.importer ∙ here;
+                exporter =
+                    record { inside = ge.exporter_in; of_group = d.2.exporter };
+                alike = d.2.alike;
+              })
         ]
 
-    quotient_back : (u g : ℕ) (e : Edge) → IsIn S groups u g → Contains Q.edges e → e.importer ≡ g → Partner Q S (λ h w. IsIn S groups w h) u e ⊎ IsInner Q (λ h w. IsIn S groups w h) g u e
+    quotient_back : (u g : ℕ) (e : Edge) → IsIn S groups u g → Contains Q.edges e → e.importer ≡ g → Partner Q S (λ h w. IsIn S groups w h) u e
+        ⊎ IsInner Q (λ h w. IsIn S groups w h) g u e
     quotient_back u g e x i imp =
         let d = q.down e i in
         let gd = good.edges.inside d.0 d.1 in
-        let differ : group_of groups d.0.exporter ≢ group_of groups d.0.importer = λ z. (goodq.edges.inside e i).differ (sym d.2.importer ∙ sym z ∙ d.2.exporter) in
+        let differ : group_of groups d.0.exporter ≢ group_of groups d.0.importer =
+        λ z. (goodq.edges.inside e i).differ (sym d.2.importer ∙ sym z ∙ d.2.exporter) in
         let t = adm.twins d.0.importer u d.0 gd.importer_in x.inside (d.2.importer ∙ imp ∙ sym x.of_group) d.1 refl differ in
-        inl (record { other = t.other; other_in = t.other_in; importer = t.importer; exporter = record { inside = (good.edges.inside t.other t.other_in).exporter_in; of_group = t.exporter ∙ d.2.exporter }; alike = alike_trans (act_of Q e) (act_of S d.0) (act_of S t.other) (alike_sym (act_of S d.0) (act_of Q e) d.2.alike) t.alike })
+        inl (record {
+          other = t.other;
+          other_in = t.other_in;
+          importer = t.importer;
+          exporter =
+              record { inside = (good.edges.inside t.other t.other_in).exporter_in; of_group = t.exporter ∙ d.2.exporter };
+          alike =
+              alike_trans (act_of Q e) (act_of S d.0) (act_of S t.other) (alike_sym (act_of S d.0) (act_of Q e) d.2.alike) t.alike;
+        })
 
     pub quotient_matching : IsMatching S Q (IsIn S groups)
     quotient_matching = record {
@@ -161,7 +208,8 @@ module _ (S : Problem) (good : IsProblem S) (groups : List ℕ) (adm : IsAdmissi
       right = λ g h. (let o = q.onto g h in (o.0, record { inside = o.1; of_group = o.2 }));
     }
 
-    pub correspond : (L M : List (Option Route)) → IsStable S L → IsStable Q M → IsTied S Q (IsIn S groups) L M → IsTied Q S (λ h w. IsIn S groups w h) M L → Corresponds S Q groups L M
+    pub correspond : (L M : List (Option Route)) → IsStable S L → IsStable Q M → IsTied S Q (IsIn S groups) L M → IsTied Q S (λ h w. IsIn S groups w h) M L →
+        Corresponds S Q groups L M
     correspond L M stl stm down up = record {
       keys = λ u h. (let x : IsIn S groups u (group_of groups u) = record { inside = h; of_group = refl } in
           elim (cases_label (label L u)) [
@@ -175,18 +223,24 @@ module _ (S : Problem) (good : IsProblem S) (groups : List ℕ) (adm : IsAdmissi
           let w = forwarded S Q (IsIn S groups) quotient_matching good goodq M stm L stl down up u (group_of groups u) v x f in
           subst (ForwardsTo Q M (group_of groups u)) (sym w.2.of_group) w.1);
       up = λ u g h f. (let x : IsIn S groups u (group_of groups u) = record { inside = h; of_group = refl } in
-          let w = forwarded Q S (λ a b. IsIn S groups b a) (converse S Q (IsIn S groups) quotient_matching) goodq good L stl M stm up down (group_of groups u) u g x f in
+          let w = forwarded Q S (λ a b. IsIn S groups b a) (converse S Q (IsIn S groups) quotient_matching) goodq good L stl M stm up down (group_of groups u) u
+          g x f in
           (w.0, w.1, w.2.of_group));
     }
 
     pub below : (L : List (Option Route)) → IsStable S L → Below S Q groups L
     below L st =
-        let even : IsEven S (λ g u. IsIn S groups u g) L = record { held = λ g u u' r x x' e. equal_held L st u u' r (record { left = x.inside; right = x'.inside; same = x.of_group ∙ sym x'.of_group }) e } in
+        let even : IsEven S (λ g u. IsIn S groups u g) L =
+        record { held = λ g u u' r x x' e. equal_held L st u u' r (record { left = x.inside; right = x'.inside; same = x.of_group ∙ sym x'.of_group }) e }
+        in
         let s = solved Q S (λ g u. IsIn S groups u g) (converse S Q (IsIn S groups) quotient_matching) goodq good L st even in
         record { lower = s.labels; stable = s.stable; correspond = correspond L s.labels st s.stable s.up s.down }
 
     pub above : (M : List (Option Route)) → IsStable Q M → Above S Q groups M
     above M st =
-        let even : IsEven Q (IsIn S groups) M = record { held = λ u g g' r x x' e. (let same : g ≡ g' = sym x.of_group ∙ x'.of_group in record { route = r; labelled = subst (λ h. label M h ≡ Some r) same e; keyed = refl }) } in
+        let even : IsEven Q (IsIn S groups) M = record {
+          held = λ u g g' r x x' e. (let same : g ≡ g' = sym x.of_group ∙ x'.of_group in
+              record { route = r; labelled = subst (λ h. label M h ≡ Some r) same e; keyed = refl });
+        } in
         let s = solved S Q (IsIn S groups) quotient_matching good goodq M st even in
         record { labels = s.labels; stable = s.stable; correspond = correspond s.labels M s.stable st s.down s.up }

@@ -36,14 +36,17 @@ permitted_set true lp comms adds up = up
 permitted_set false lp comms adds up = tt
 
 entry_set : (entry : PlainEntry) (comms : List ℕ) → ChangesToSet entry.change → IsAscending comms → GivesSet (entry_verdict entry comms)
-entry_set entry comms to up = permitted_set entry.permit entry.lp (comms_after entry comms) entry.adds (changed_set entry.change (without_deleted_by entry.delete comms) to (undeleted_set entry.delete comms up))
+entry_set entry comms to up = permitted_set entry.permit entry.lp (comms_after entry comms) entry.adds
+    (changed_set entry.change (without_deleted_by entry.delete comms) to (undeleted_set entry.delete comms up))
 
 verdict_set : (entries : List PlainEntry) (comms : List ℕ) → MapsToSets entries → IsAscending comms → GivesSet (verdict entries comms)
 verdict_set [] comms to up = tt
 verdict_set (entry ∷ entries) comms to up =
-    by (entry_holds comms entry) (entry_set entry comms (to zero entry (omega arith)) up) (verdict_set entries comms (λ k d h. to (suc k) d (omega (arith, h))) up)
+    by (entry_holds comms entry) (entry_set entry comms (to zero entry (omega arith)) up)
+    (verdict_set entries comms (λ k d h. to (suc k) d (omega (arith, h))) up)
   where
-    by : (b : Bool) → GivesSet (entry_verdict entry comms) → GivesSet (verdict entries comms) → GivesSet (cond b (entry_verdict entry comms) (verdict entries comms))
+    by : (b : Bool) → GivesSet (entry_verdict entry comms) → GivesSet (verdict entries comms) →
+        GivesSet (cond b (entry_verdict entry comms) (verdict entries comms))
     by true here rest = here
     by false here rest = rest
 
@@ -56,14 +59,17 @@ sent_set : (sends : Bool) (comms : List ℕ) → IsAscending comms → IsAscendi
 sent_set true comms up = up
 sent_set false comms up = tt
 
-received_set : (sends : Bool) (into : List PlainEntry) (given : Verdict) (imported : Imported) → MapsToSets into → GivesSet given → received sends into given ≡ Some imported → IsAscending imported.comms
+received_set : (sends : Bool) (into : List PlainEntry) (given : Verdict) (imported : Imported) → MapsToSets into → GivesSet given →
+    received sends into given ≡ Some imported → IsAscending imported.comms
 received_set sends into Deny imported to up e = absurd (cc)
 received_set sends into (Permit lp comms adds) imported to up e =
     let sent = cond sends comms [] in
     accepted_set adds (verdict into sent) imported (verdict_set into sent to (sent_set sends comms up)) e
 
 -- the communities of what is imported from a set are a set
-pub import_sets : (act : Act) (comms : List ℕ) (imported : Imported) → KeepsSets act → IsAscending comms → import_by act comms ≡ Some imported → IsAscending imported.comms
+pub import_sets : (act : Act) (comms : List ℕ) (imported : Imported) → KeepsSets act → IsAscending comms → import_by act comms ≡ Some imported →
+    IsAscending imported.comms
 unfolding import_by KeepsSets
-import_sets (Import out sends into) comms imported keeps up e = received_set sends into.entries (verdict out.entries comms) imported keeps.1 (verdict_set out.entries comms keeps.0 up) e
+import_sets (Import out sends into) comms imported keeps up e =
+    received_set sends into.entries (verdict out.entries comms) imported keeps.1 (verdict_set out.entries comms keeps.0 up) e
 import_sets (Cost cost) comms imported keeps up e = absurd (cc)

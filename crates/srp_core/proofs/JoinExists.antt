@@ -33,13 +33,15 @@ length-merge_all groups [] = refl
 length-merge_all groups (pair ∷ pairs) = length-merge_all (merge groups pair) pairs ∙ length-merge groups pair
 
 -- routers that are together stay together
-merge_keeps : (groups : List ℕ) (pair : ℕ × ℕ) (u v : ℕ) → u < length groups → v < length groups → group_of groups u ≡ group_of groups v → group_of (merge groups pair) u ≡ group_of (merge groups pair) v
+merge_keeps : (groups : List ℕ) (pair : ℕ × ℕ) (u v : ℕ) → u < length groups → v < length groups → group_of groups u ≡ group_of groups v →
+    group_of (merge groups pair) u ≡ group_of (merge groups pair) v
 unfolding merge
 merge_keeps groups pair u v hu hv same =
     let f = renamed (group_of groups pair.0) (group_of groups pair.1) in
     at_map f groups u hu ∙ ap f same ∙ sym (at_map f groups v hv)
 
-all_keep : (groups : List ℕ) (pairs : List (ℕ × ℕ)) (u v : ℕ) → u < length groups → v < length groups → group_of groups u ≡ group_of groups v → group_of (merge_all groups pairs) u ≡ group_of (merge_all groups pairs) v
+all_keep : (groups : List ℕ) (pairs : List (ℕ × ℕ)) (u v : ℕ) → u < length groups → v < length groups → group_of groups u ≡ group_of groups v →
+    group_of (merge_all groups pairs) u ≡ group_of (merge_all groups pairs) v
 unfolding merge_all
 all_keep groups [] u v hu hv same = same
 all_keep groups (pair ∷ pairs) u v hu hv same =
@@ -55,18 +57,21 @@ renamed_both a b = by (nat_eq a b) ∙ sym (ap (λ t. cond t a b) (eq-eqb b b re
     by false = refl
 
 -- a pair that was merged is together
-pair_merged : (groups : List ℕ) (pair : ℕ × ℕ) → pair.0 < length groups → pair.1 < length groups → group_of (merge groups pair) pair.0 ≡ group_of (merge groups pair) pair.1
+pair_merged : (groups : List ℕ) (pair : ℕ × ℕ) → pair.0 < length groups → pair.1 < length groups →
+    group_of (merge groups pair) pair.0 ≡ group_of (merge groups pair) pair.1
 unfolding merge
 pair_merged groups pair h k =
     let f = renamed (group_of groups pair.0) (group_of groups pair.1) in
     at_map f groups pair.0 h ∙ renamed_both (group_of groups pair.0) (group_of groups pair.1) ∙ sym (at_map f groups pair.1 k)
 
-all_merged : (groups : List ℕ) (pairs : List (ℕ × ℕ)) (pair : ℕ × ℕ) → pair.0 < length groups → pair.1 < length groups → In pairs pair → group_of (merge_all groups pairs) pair.0 ≡ group_of (merge_all groups pairs) pair.1
+all_merged : (groups : List ℕ) (pairs : List (ℕ × ℕ)) (pair : ℕ × ℕ) → pair.0 < length groups → pair.1 < length groups → In pairs pair →
+    group_of (merge_all groups pairs) pair.0 ≡ group_of (merge_all groups pairs) pair.1
 unfolding merge_all
 all_merged groups [] pair h k i = absurd i
 all_merged groups (p ∷ pairs) pair h k (inl here) =
     let len = length-merge groups pair in
-    subst (λ (x : ℕ × ℕ). group_of (merge_all (merge groups x) pairs) pair.0 ≡ group_of (merge_all (merge groups x) pairs) pair.1) (sym here) (all_keep (merge groups pair) pairs pair.0 pair.1 (omega arith) (omega arith) (pair_merged groups pair h k))
+    subst (λ (x : ℕ × ℕ). group_of (merge_all (merge groups x) pairs) pair.0 ≡ group_of (merge_all (merge groups x) pairs) pair.1) (sym here)
+    (all_keep (merge groups pair) pairs pair.0 pair.1 (omega arith) (omega arith) (pair_merged groups pair h k))
 all_merged groups (p ∷ pairs) pair h k (inr there) =
     let len = length-merge groups p in
     all_merged (merge groups p) pairs pair (omega arith) (omega arith) there
@@ -95,7 +100,8 @@ module _ (count : ℕ) (first second : List ℕ) (total : length first ≡ count
   unfolding Chain
   joined_chain u v w a b = behind a.0 u v w a.1 b
 
-  merge_linked : (groups : List ℕ) (pair : ℕ × ℕ) → length groups ≡ count → pair.0 < count → pair.1 < count → group_of second pair.0 ≡ group_of second pair.1 → IsLinked groups → IsLinked (merge groups pair)
+  merge_linked : (groups : List ℕ) (pair : ℕ × ℕ) → length groups ≡ count → pair.0 < count → pair.1 < count → group_of second pair.0 ≡ group_of second pair.1 →
+      IsLinked groups → IsLinked (merge groups pair)
   unfolding merge renamed IsLinked
   merge_linked groups pair len hi hj together linked u v hu hv same =
       let a = group_of groups pair.0 in
@@ -107,12 +113,14 @@ module _ (count : ℕ) (first second : List ℕ) (total : length first ≡ count
           | inl tv ↦ linked u v hu hv (eqb-true (group_of groups u) b tu ∙ sym (eqb-true (group_of groups v) b tv))
           | inr fv ↦
               let is : a ≡ group_of groups v = sym (ap (λ t. cond t a (group_of groups u)) tu) ∙ at ∙ ap (λ t. cond t a (group_of groups v)) fv in
-              joined_chain u pair.1 v (linked u pair.1 hu hj (eqb-true (group_of groups u) b tu)) (joined_chain pair.1 pair.0 v (one pair.1 pair.0 hi (inr (sym together))) (linked pair.0 v hi hv is))
+              joined_chain u pair.1 v (linked u pair.1 hu hj (eqb-true (group_of groups u) b tu))
+              (joined_chain pair.1 pair.0 v (one pair.1 pair.0 hi (inr (sym together))) (linked pair.0 v hi hv is))
         ]
         | inr fu ↦ elim (cases_Bool (nat_eq (group_of groups v) b)) [
           | inl tv ↦
               let is : group_of groups u ≡ a = sym (ap (λ t. cond t a (group_of groups u)) fu) ∙ at ∙ ap (λ t. cond t a (group_of groups v)) tv in
-              joined_chain u pair.0 v (linked u pair.0 hu hi is) (joined_chain pair.0 pair.1 v (one pair.0 pair.1 hj (inr together)) (linked pair.1 v hj hv (sym (eqb-true (group_of groups v) b tv))))
+              joined_chain u pair.0 v (linked u pair.0 hu hi is)
+              (joined_chain pair.0 pair.1 v (one pair.0 pair.1 hj (inr together)) (linked pair.1 v hj hv (sym (eqb-true (group_of groups v) b tv))))
           | inr fv ↦ linked u v hu hv (sym (ap (λ t. cond t a (group_of groups u)) fu) ∙ at ∙ ap (λ t. cond t a (group_of groups v)) fv)
         ]
       ]
@@ -120,7 +128,8 @@ module _ (count : ℕ) (first second : List ℕ) (total : length first ≡ count
   AreTogether : ℕ × ℕ → Type 0
   AreTogether pair = (pair.0 < count) × (pair.1 < count) × (group_of second pair.0 ≡ group_of second pair.1)
 
-  all_linked : (groups : List ℕ) (pairs : List (ℕ × ℕ)) → length groups ≡ count → ((pair : ℕ × ℕ) → In pairs pair → AreTogether pair) → IsLinked groups → IsLinked (merge_all groups pairs)
+  all_linked : (groups : List ℕ) (pairs : List (ℕ × ℕ)) → length groups ≡ count → ((pair : ℕ × ℕ) → In pairs pair → AreTogether pair) → IsLinked groups →
+      IsLinked (merge_all groups pairs)
   unfolding merge_all AreTogether
   all_linked groups [] len are linked = linked
   all_linked groups (pair ∷ pairs) len are linked =
@@ -141,13 +150,17 @@ module _ (count : ℕ) (first second : List ℕ) (total : length first ≡ count
       let f = filter_in (λ j. nat_eq (group_of second o.0) (group_of second j)) (range_with_len 0 count) m.0 m.1 in
       let i = range_in 0 count o.0 o.1 in
       let j = range_in 0 count m.0 f.0 in
-      subst (λ (x : ℕ × ℕ). (x.0 < count) × (x.1 < count) × (group_of second x.0 ≡ group_of second x.1)) m.2 (omega arith, omega arith, eqb-true (group_of second o.0) (group_of second m.0) f.1)
+      subst (λ (x : ℕ × ℕ). (x.0 < count) × (x.1 < count) × (group_of second x.0 ≡ group_of second x.1)) m.2
+      (omega arith, omega arith, eqb-true (group_of second o.0) (group_of second m.0) f.1)
 
   in_all_pairs : (i j : ℕ) → i < count → j < count → group_of second i ≡ group_of second j → In all_pairs (i, j)
   unfolding all_pairs pairs_from
   in_all_pairs i j hi hj same =
       let at = λ (k : ℕ) (h : k < count). subst (In (range_with_len 0 count)) (zero-add k) (in_range 0 count k h) in
-      in_flat_map pairs_from (range_with_len 0 count) i (i, j) (at i hi) (in_map (λ k. (i, k)) (filter (λ k. nat_eq (group_of second i) (group_of second k)) (range_with_len 0 count)) j (in_filter (λ k. nat_eq (group_of second i) (group_of second k)) (range_with_len 0 count) j (at j hj) (eq-eqb (group_of second i) (group_of second j) same)))
+      in_flat_map pairs_from (range_with_len 0 count) i (i, j) (at i hi)
+      (in_map (λ k. (i, k)) (filter (λ k. nat_eq (group_of second i) (group_of second k)) (range_with_len 0 count)) j
+      (in_filter (λ k. nat_eq (group_of second i) (group_of second k)) (range_with_len 0 count) j (at j hj)
+      (eq-eqb (group_of second i) (group_of second j) same)))
 
   joined : List ℕ
   joined = merge_all first all_pairs

@@ -14,7 +14,9 @@ use Rattle.srp_core.specs.Problem.{has_marked_number}
 
 pub key_total : IsTotalOrder compare_keys
 unfolding compare_keys
-key_total = then_total (on_total (λ (k : Key). k.preference) (back_total nat_cmp_total)) (then_total (on_total (λ (k : Key). k.size) nat_cmp_total) (then_total (on_total (λ (k : Key). k.comms) nat_list_cmp_total) (on_total (λ (k : Key). k.lone) nat_list_cmp_total)))
+key_total = then_total (on_total (λ (k : Key). k.preference) (back_total nat_cmp_total))
+    (then_total (on_total (λ (k : Key). k.size) nat_cmp_total)
+    (then_total (on_total (λ (k : Key). k.comms) nat_list_cmp_total) (on_total (λ (k : Key). k.lone) nat_list_cmp_total)))
 
 then_equal : (a b : Ordering) → ordering_then a b ≡ Equal → (a ≡ Equal) × (b ≡ Equal)
 then_equal Less b e = absurd (cc)
@@ -94,8 +96,10 @@ is_on-with_number x a (y ∷ l) =
     elim (cases_Bool (nat_lt a y)) [
       | inl h ↦ ap (λ b. is_on x (cond b (a ∷ y ∷ l) (cond (nat_eq a y) (y ∷ l) (y ∷ with_number a l)))) h
       | inr h ↦ ap (λ b. is_on x (cond b (a ∷ y ∷ l) (cond (nat_eq a y) (y ∷ l) (y ∷ with_number a l)))) h ∙ elim (cases_Bool (nat_eq a y)) [
-        | inl g ↦ ap (λ b. is_on x (cond b (y ∷ l) (y ∷ with_number a l))) g ∙ same_twice (nat_eq a x) (nat_eq y x) (is_on x l) (ap (λ n. nat_eq n x) (eqb-true a y g))
-        | inr g ↦ ap (λ b. is_on x (cond b (y ∷ l) (y ∷ with_number a l))) g ∙ ap (λ b. nat_eq y x || b) (is_on-with_number x a l) ∙ swapped (nat_eq y x) (nat_eq a x) (is_on x l)
+        | inl g ↦ ap (λ b. is_on x (cond b (y ∷ l) (y ∷ with_number a l))) g
+            ∙ same_twice (nat_eq a x) (nat_eq y x) (is_on x l) (ap (λ n. nat_eq n x) (eqb-true a y g))
+        | inr g ↦ ap (λ b. is_on x (cond b (y ∷ l) (y ∷ with_number a l))) g ∙ ap (λ b. nat_eq y x || b) (is_on-with_number x a l)
+            ∙ swapped (nat_eq y x) (nat_eq a x) (is_on x l)
       ]
     ]
 
@@ -106,16 +110,20 @@ is_on-chosen test x h [] = refl
 is_on-chosen test x h (a ∷ path) =
     let r = is_on-chosen test x h path in
     elim (cases_Bool (test a)) [
-      | inl g ↦ ap (λ b. is_on x (cond b (with_number a (chosen test path)) (chosen test path))) g ∙ is_on-with_number x a (chosen test path) ∙ ap (λ b. nat_eq a x || b) r
-      | inr g ↦ ap (λ b. is_on x (cond b (with_number a (chosen test path)) (chosen test path))) g ∙ r ∙ sym (ap (λ b. b || is_on x path) (ne_eqb a x (λ e. let t : test a ≡ true = subst (λ n. test n ≡ true) (sym e) h in cc)))
+      | inl g ↦ ap (λ b. is_on x (cond b (with_number a (chosen test path)) (chosen test path))) g ∙ is_on-with_number x a (chosen test path)
+          ∙ ap (λ b. nat_eq a x || b) r
+      | inr g ↦ ap (λ b. is_on x (cond b (with_number a (chosen test path)) (chosen test path))) g ∙ r
+          ∙ sym (ap (λ b. b || is_on x path) (ne_eqb a x (λ e. let t : test a ≡ true = subst (λ n. test n ≡ true) (sym e) h in cc)))
     ]
 
-pub marked_from : (marks : List Bool) (numbers : List ℕ) (u wanted : ℕ) → u < length numbers → slice_index_or marks u false ≡ true → slice_index numbers u ≡ wanted → has_marked_number marks numbers wanted ≡ true
+pub marked_from : (marks : List Bool) (numbers : List ℕ) (u wanted : ℕ) → u < length numbers → slice_index_or marks u false ≡ true →
+    slice_index numbers u ≡ wanted → has_marked_number marks numbers wanted ≡ true
 unfolding has_marked_number
 marked_from [] numbers u wanted h m n = absurd (cc)
 marked_from (mark ∷ marks) [] u wanted h m n = absurd (omega arith)
 marked_from (mark ∷ marks) (number ∷ numbers) zero wanted h m n = or_left _ _ (and_from mark (nat_eq number wanted) m (eq-eqb number wanted n))
-marked_from (mark ∷ marks) (number ∷ numbers) (suc u) wanted h m n = or_right (mark && nat_eq number wanted) _ (marked_from marks numbers u wanted (omega arith) m n)
+marked_from (mark ∷ marks) (number ∷ numbers) (suc u) wanted h m n =
+    or_right (mark && nat_eq number wanted) _ (marked_from marks numbers u wanted (omega arith) m n)
 
 pub record Marked (marks : List Bool) (numbers : List ℕ) (wanted : ℕ) : Type 0 where
   pub router : ℕ
@@ -130,5 +138,6 @@ marked_at (mark ∷ marks) [] wanted e = absurd (cc)
 marked_at (mark ∷ marks) (number ∷ numbers) wanted e =
     elim (or_cases (mark && nat_eq number wanted) (has_marked_number marks numbers wanted) e) [
       | inl h ↦ let p = and_parts mark (nat_eq number wanted) h in record { router = 0; inside = omega arith; mark = p.0; number = eqb-true number wanted p.1 }
-      | inr h ↦ let r = marked_at marks numbers wanted h in record { router = suc r.router; inside = let i = r.inside in omega (arith, i); mark = r.mark; number = r.number }
+      | inr h ↦ let r = marked_at marks numbers wanted h in
+          record { router = suc r.router; inside = let i = r.inside in omega (arith, i); mark = r.mark; number = r.number }
     ]

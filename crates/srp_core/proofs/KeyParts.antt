@@ -26,15 +26,19 @@ chosen_on test n path = elim (cases_Bool (test n)) [
 ]
 
 pub same_chosen : (test other : ℕ → Bool) (p q : List ℕ) → ((n : ℕ) → (test n && is_on n p) ≡ (other n && is_on n q)) → chosen test p ≡ chosen other q
-same_chosen test other p q same = one_list (chosen test p) (chosen other q) (chosen_ascending test p) (chosen_ascending other q) (λ n. chosen_on test n p ∙ same n ∙ sym (chosen_on other n q))
+same_chosen test other p q same = one_list (chosen test p) (chosen other q) (chosen_ascending test p) (chosen_ascending other q)
+    (λ n. chosen_on test n p ∙ same n ∙ sym (chosen_on other n q))
 
-pub same_key : (P Q : Problem) (r s : Route) → preference_of r ≡ preference_of s → size_of r ≡ size_of s → comms_of r ≡ comms_of s → ((n : ℕ) → (is_lone_number P n && is_on n (path_of r)) ≡ (is_lone_number Q n && is_on n (path_of s))) → key_of P r ≡ key_of Q s
+pub same_key : (P Q : Problem) (r s : Route) → preference_of r ≡ preference_of s → size_of r ≡ size_of s → comms_of r ≡ comms_of s →
+    ((n : ℕ) → (is_lone_number P n && is_on n (path_of r)) ≡ (is_lone_number Q n && is_on n (path_of s))) → key_of P r ≡ key_of Q s
 same_key P Q r s preference size comms lone =
     let same = same_chosen (is_lone_number P) (is_lone_number Q) (path_of r) (path_of s) lone in
     λ i. record { preference = preference i; size = size i; comms = comms i; lone = same i }
 
-pub same_lone : (P Q : Problem) (r s : Route) → key_of P r ≡ key_of Q s → (n : ℕ) → (is_lone_number P n && is_on n (path_of r)) ≡ (is_lone_number Q n && is_on n (path_of s))
+pub same_lone : (P Q : Problem) (r s : Route) → key_of P r ≡ key_of Q s → (n : ℕ) →
+    (is_lone_number P n && is_on n (path_of r)) ≡ (is_lone_number Q n && is_on n (path_of s))
 same_lone P Q r s e n = sym (chosen_on (is_lone_number P) n (path_of r)) ∙ ap (λ (k : Key). is_on n k.lone) e ∙ chosen_on (is_lone_number Q) n (path_of s)
 
-pub same_others : (P Q : Problem) (r s : Route) → key_of P r ≡ key_of Q s → (preference_of r ≡ preference_of s) × (size_of r ≡ size_of s) × (comms_of r ≡ comms_of s)
+pub same_others : (P Q : Problem) (r s : Route) → key_of P r ≡ key_of Q s → (preference_of r ≡ preference_of s) × (size_of r ≡ size_of s)
+    × (comms_of r ≡ comms_of s)
 same_others P Q r s e = (ap (λ (k : Key). k.preference) e, ap (λ (k : Key). k.size) e, ap (λ (k : Key). k.comms) e)

@@ -29,7 +29,8 @@ cases_key a b = decide (compare_keys a b) refl
     decide : (o : Ordering) → compare_keys a b ≡ o → (a ≡ b) ⊎ (a ≢ b)
     decide Equal e = inl (keys_equal a b e)
     decide Less e = inr (λ same. irreflexive a b same e)
-    decide Greater e = inr (λ same. (let tie : compare_keys a a ≡ Equal = tied_itself key_total a in let tie' : compare_keys a b ≡ Equal = subst (λ k. compare_keys a k ≡ Equal) same tie in let no : Greater ≡ Equal = sym e ∙ tie' in absurd (cc)))
+    decide Greater e = inr (λ same. (let tie : compare_keys a a ≡ Equal = tied_itself key_total a in let tie' : compare_keys a b ≡ Equal =
+        subst (λ k. compare_keys a k ≡ Equal) same tie in let no : Greater ≡ Equal = sym e ∙ tie' in absurd (cc)))
 
 -- the edge gives the router a route of that key from the group
 record Fits (S : Problem) (groups : List ℕ) (E : List (Option Route)) (u source : ℕ) (k : Key) (edge : Edge) : Type 0 where
@@ -71,7 +72,8 @@ module _ (S : Problem) (groups : List ℕ) (E : List (Option Route)) (u source :
   later : (e x : Edge) (edges : List Edge) → Contains edges x → Contains (e ∷ edges) x
   later e x edges (n, l, h) = (suc n, omega arith, h)
 
-  least_more : (e : Edge) (edges : List Edge) → Fits S groups E u source k e → Least edges ⊎ ((x : Edge) → Contains edges x → ¬ Fits S groups E u source k x) → Least (e ∷ edges)
+  least_more : (e : Edge) (edges : List Edge) → Fits S groups E u source k e → Least edges ⊎ ((x : Edge) → Contains edges x → ¬ Fits S groups E u source k x) →
+      Least (e ∷ edges)
   least_more e edges f (inr none) = record {
     edge = e;
     edge_in = (0, omega arith, refl);
@@ -87,7 +89,8 @@ module _ (S : Problem) (groups : List ℕ) (E : List (Option Route)) (u source :
     | inr more ↦ record { edge = best.edge; edge_in = later e best.edge edges best.edge_in; fit = best.fit; least = by best.edge (omega arith) }
   ]
     where
-      by : (x : Edge) → (x.exporter ≤ e.exporter) × (x.exporter ≤ best.edge.exporter) → (other : Edge) → Contains (e ∷ edges) other → Fits S groups E u source k other → x.exporter ≤ other.exporter
+      by : (x : Edge) → (x.exporter ≤ e.exporter) × (x.exporter ≤ best.edge.exporter) → (other : Edge) → Contains (e ∷ edges) other →
+          Fits S groups E u source k other → x.exporter ≤ other.exporter
       by x le other (zero, l, h) g = let same = ap (λ (y : Edge). y.exporter) h in let a = le.0 in omega arith
       by x le other (suc n, l, h) g = let a = le.1 in let b = best.least other (n, omega arith, h) g in omega arith
 
@@ -95,23 +98,33 @@ module _ (S : Problem) (groups : List ℕ) (E : List (Option Route)) (u source :
   least_of [] = inr (λ x i g. (let l = i.1 in omega arith))
   least_of (e ∷ edges) = by (fits e) (least_of edges)
     where
-      skip : (x : Edge) → ¬ Fits S groups E u source k e → ((y : Edge) → Contains edges y → ¬ Fits S groups E u source k y) → Contains (e ∷ edges) x → ¬ Fits S groups E u source k x
+      skip : (x : Edge) → ¬ Fits S groups E u source k e → ((y : Edge) → Contains edges y → ¬ Fits S groups E u source k y) → Contains (e ∷ edges) x →
+          ¬ Fits S groups E u source k x
       skip x unfit none (zero, l, h) g = unfit (subst (Fits S groups E u source k) (sym h) g)
       skip x unfit none (suc n, l, h) g = none x (n, omega arith, h) g
 
-      by_rest : ¬ Fits S groups E u source k e → Least edges ⊎ ((x : Edge) → Contains edges x → ¬ Fits S groups E u source k x) → Least (e ∷ edges) ⊎ ((x : Edge) → Contains (e ∷ edges) x → ¬ Fits S groups E u source k x)
+      by_rest : ¬ Fits S groups E u source k e → Least edges ⊎ ((x : Edge) → Contains edges x → ¬ Fits S groups E u source k x) →
+          Least (e ∷ edges) ⊎ ((x : Edge) → Contains (e ∷ edges) x → ¬ Fits S groups E u source k x)
       by_rest unfit (inr none) = inr (λ x i. skip x unfit none i)
-      by_rest unfit (inl best) = inl (record { edge = best.edge; edge_in = later e best.edge edges best.edge_in; fit = best.fit; least = λ other i g. behind other i g })
+      by_rest unfit (inl best) = inl (record {
+        edge = best.edge;
+        edge_in = later e best.edge edges best.edge_in;
+        fit = best.fit;
+        least =
+            λ other i g. behind other i g;
+      })
         where
           behind : (other : Edge) → Contains (e ∷ edges) other → Fits S groups E u source k other → best.edge.exporter ≤ other.exporter
           behind other (zero, l, h) g = absurd (unfit (subst (Fits S groups E u source k) (sym h) g))
           behind other (suc n, l, h) g = best.least other (n, omega arith, h) g
 
-      by : Fits S groups E u source k e ⊎ ¬ Fits S groups E u source k e → Least edges ⊎ ((x : Edge) → Contains edges x → ¬ Fits S groups E u source k x) → Least (e ∷ edges) ⊎ ((x : Edge) → Contains (e ∷ edges) x → ¬ Fits S groups E u source k x)
+      by : Fits S groups E u source k e ⊎ ¬ Fits S groups E u source k e → Least edges ⊎ ((x : Edge) → Contains edges x → ¬ Fits S groups E u source k x) →
+          Least (e ∷ edges) ⊎ ((x : Edge) → Contains (e ∷ edges) x → ¬ Fits S groups E u source k x)
       by (inl f) rest = inl (least_more e edges f rest)
       by (inr unfit) rest = by_rest unfit rest
 
-module _ (S : Problem) (good : IsProblem S) (groups : List ℕ) (adm : IsAdmissible S groups) (Q : Problem) (goodq : IsProblem Q) (q : IsQuotient S groups Q) (bgp : Q.protocol ≡ OverBgp) (M : List (Option Route)) (st : IsStable Q M) where
+module _ (S : Problem) (good : IsProblem S) (groups : List ℕ) (adm : IsAdmissible S groups) (Q : Problem) (goodq : IsProblem Q) (q : IsQuotient S groups Q)
+    (bgp : Q.protocol ≡ OverBgp) (M : List (Option Route)) (st : IsStable Q M) where
   -- all routers of the group have labels
   pub record AllFilled (E : List (Option Route)) (source : ℕ) : Type 0 where
     pub filled : (w : ℕ) → w < count S → group_of groups w ≡ source → (r : Route) × (label E w ≡ Some r)
@@ -123,9 +136,11 @@ module _ (S : Problem) (good : IsProblem S) (groups : List ℕ) (adm : IsAdmissi
   -- the router has its initial route, or takes its route as lifting asks for
   pub record Picked (E : List (Option Route)) (u : ℕ) (r : Route) : Type 0 where
     pub started : (i : Route) → u < count S → initial S u ≡ Some i → r ≡ i
-    pub taken : (source : ℕ) (m : Route) → u < count S → label M (group_of groups u) ≡ Some m → initial S u ≡ None → IsFirstOn Q (path_of m) source → PicksFrom E u source r m
+    pub taken : (source : ℕ) (m : Route) → u < count S → label M (group_of groups u) ≡ Some m → initial S u ≡ None → IsFirstOn Q (path_of m) source →
+        PicksFrom E u source r m
 
-  back_over : (E E' : List (Option Route)) (source : ℕ) (e : Edge) (c : Route) → Extends E E' → AllFilled E source → e.exporter < count S → group_of groups e.exporter ≡ source → IsCandidateOver S E' e c → IsCandidateOver S E e c
+  back_over : (E E' : List (Option Route)) (source : ℕ) (e : Edge) (c : Route) → Extends E E' → AllFilled E source → e.exporter < count S →
+      group_of groups e.exporter ≡ source → IsCandidateOver S E' e c → IsCandidateOver S E e c
   back_over E E' source e c ext f h x o =
       let r = f.filled e.exporter h x in
       let there = ext.kept e.exporter r.0 r.1 in
@@ -142,9 +157,16 @@ module _ (S : Problem) (good : IsProblem S) (groups : List ℕ) (adm : IsAdmissi
           edge_in = t.edge_in;
           importer = t.importer;
           exporter = t.exporter;
-          over = record { from = t.over.from; labelled = ext.kept t.edge.exporter t.over.from t.over.labelled; stepped = t.over.stepped; passes = t.over.passes };
+          over = record {
+            from = t.over.from;
+            labelled = ext.kept t.edge.exporter t.over.from t.over.labelled;
+            stepped = t.over.stepped;
+            passes =
+                t.over.passes;
+          };
           keyed = t.keyed;
-          least = λ other c i imp x o k. t.least other c i imp x (back_over E E' source other c ext p.source_filled (good.edges.inside other i).exporter_in x o) k;
+          least = λ other c i imp x o k. t.least other c i imp x (back_over E E' source other c ext p.source_filled (good.edges.inside other i).exporter_in x o)
+              k;
         };
         source_filled = record { filled = λ w h x. (let f = p.source_filled.filled w h x in (f.0, ext.kept w f.0 f.1)) };
       }
@@ -153,12 +175,17 @@ module _ (S : Problem) (good : IsProblem S) (groups : List ℕ) (adm : IsAdmissi
   kept E E' u r ext p = record { started = p.started; taken = λ source m h e none on. takes_kept E E' u source r m ext (p.taken source m h e none on) }
 
   pub even : IsEven Q (IsIn S groups) M
-  even = record { held = λ u g g' r x x' e. (let same : g ≡ g' = sym x.of_group ∙ x'.of_group in record { route = r; labelled = subst (λ h. label M h ≡ Some r) same e; keyed = refl }) }
+  even = record {
+    held = λ u g g' r x x' e.
+        (let same : g ≡ g' = sym x.of_group ∙ x'.of_group in record { route = r; labelled = subst (λ h. label M h ≡ Some r) same e; keyed = refl });
+  }
 
   abbrev pub Made : (E : List (Option Route)) (u : ℕ) (m : Route) → Type 0
   Made E u m = (r : Route) × Picked E u r × IsCandidate S E u r × (key_of S r ≡ key_of Q m)
 
-  take_least : (E : List (Option Route)) (u source : ℕ) (m : Route) → u < count S → label M (group_of groups u) ≡ Some m → initial S u ≡ None → AllFilled E source → IsFirstOn Q (path_of m) source → ((other : ℕ) → IsFirstOn Q (path_of m) other → other ≡ source) → Least S groups E u source (key_of Q m) S.edges → Made E u m
+  take_least : (E : List (Option Route)) (u source : ℕ) (m : Route) → u < count S → label M (group_of groups u) ≡ Some m → initial S u ≡ None →
+      AllFilled E source → IsFirstOn Q (path_of m) source → ((other : ℕ) → IsFirstOn Q (path_of m) other → other ≡ source) →
+      Least S groups E u source (key_of Q m) S.edges → Made E u m
   take_least E u source m h e none filled on only l =
       let takes : TakesFrom S Q groups E u source l.fit.route m = record {
         edge = l.edge;
@@ -182,7 +209,8 @@ module _ (S : Problem) (good : IsProblem S) (groups : List ℕ) (adm : IsAdmissi
         l.fit.keyed,
       )
 
-  make_from : (E : List (Option Route)) → IsGood S Q (IsIn S groups) E M → (u : ℕ) (m : Route) → u < count S → label M (group_of groups u) ≡ Some m → label E u ≡ None → IsFilled (IsIn S groups) E M (size_of m) → IsCandidate Q M (group_of groups u) m → Made E u m
+  make_from : (E : List (Option Route)) → IsGood S Q (IsIn S groups) E M → (u : ℕ) (m : Route) → u < count S → label M (group_of groups u) ≡ Some m →
+      label E u ≡ None → IsFilled (IsIn S groups) E M (size_of m) → IsCandidate Q M (group_of groups u) m → Made E u m
   make_from E state u m h e empty before (of_init f) =
       let init : initial S u ≡ Some m = sym (q.origins u h) ∙ f in (
         m,
@@ -196,14 +224,16 @@ module _ (S : Problem) (good : IsProblem S) (groups : List ℕ) (adm : IsAdmissi
       let source = edge.exporter in
       let t = lift_next S good groups adm Q goodq q (q.protocol ∙ bgp) M st E state u source m h e none empty before on in
       let less = grows Q goodq edge over.from m i over.stepped in
-      let filled : AllFilled E edge.exporter = record { filled = λ w hw x. before.filled w edge.exporter over.from (record { inside = hw; of_group = x }) over.labelled less } in
+      let filled : AllFilled E edge.exporter =
+      record { filled = λ w hw x. before.filled w edge.exporter over.from (record { inside = hw; of_group = x }) over.labelled less } in
       let fit : Fits S groups E u edge.exporter (key_of Q m) t.0 = record { importer = t.2; exporter = t.3; route = t.4.0; over = t.4.1; keyed = t.4.2 } in
       elim (least_of S groups E u edge.exporter (key_of Q m) S.edges) [
         | inl l ↦ take_least E u edge.exporter m h e none filled on (λ other on'. first_is Q goodq bgp M m edge other i over on') l
         | inr unfit ↦ absurd (unfit t.0 t.1 fit)
       ]
 
-  pub make : (E : List (Option Route)) → IsGood S Q (IsIn S groups) E M → (u g : ℕ) (m : Route) → IsIn S groups u g → label M g ≡ Some m → label E u ≡ None → IsFilled (IsIn S groups) E M (size_of m) → Made E u m
+  pub make : (E : List (Option Route)) → IsGood S Q (IsIn S groups) E M → (u g : ℕ) (m : Route) → IsIn S groups u g → label M g ≡ Some m → label E u ≡ None →
+      IsFilled (IsIn S groups) E M (size_of m) → Made E u m
   make E state u g m x e empty before =
       let there : label M (group_of groups u) ≡ Some m = ap (label M) x.of_group ∙ e in
       make_from E state u m x.inside there empty before (st.held (group_of groups u) m (q.inside u x.inside) there)
@@ -219,7 +249,8 @@ module _ (S : Problem) (good : IsProblem S) (groups : List ℕ) (adm : IsAdmissi
           fitting = f.good.supported.fitting;
           empty = λ u h e. elim (cases_label (label f.labels u)) [
             | inl none ↦ none
-            | inr full ↦ (let k = f.good.tied.held u (group_of groups u) full.0 (record { inside = h; of_group = refl }) full.1 in let lk = k.labelled in absurd (cc))
+            | inr full ↦ (let k = f.good.tied.held u (group_of groups u) full.0 (record { inside = h; of_group = refl }) full.1 in let lk = k.labelled in
+                absurd (cc))
           ];
           started = λ u r m h e init.
               (let there = f.full u (group_of groups u) m (record { inside = h; of_group = refl }) e in

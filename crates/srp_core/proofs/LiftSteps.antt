@@ -37,31 +37,43 @@ module _ (S Q : Problem) (groups : List ℕ) (M : List (Option Route)) (can : Ca
     state : IsGood S Q (IsIn S groups) E M
     state = record {
       supported = record { fitting = part.fitting; held = part.held };
-      tied = record { held = λ u g r x e. (let k = part.keyed u r e in record { route = k.0; labelled = subst (λ h. label M h ≡ Some k.0) x.of_group k.1; keyed = sym k.2 }) };
+      tied = record {
+        held = λ u g r x e. (let k = part.keyed u r e in
+            record { route = k.0; labelled = subst (λ h. label M h ≡ Some k.0) x.of_group k.1; keyed = sym k.2 });
+      };
     }
 
-    pick : (u : ℕ) (r : Route) → label E u ≡ Some r → Picked S can.problem_rules groups can.admissible Q can.small_rules can.quotient can.protocol M can.stable E u r
+    pick : (u : ℕ) (r : Route) → label E u ≡ Some r →
+        Picked S can.problem_rules groups can.admissible Q can.small_rules can.quotient can.protocol M can.stable E u r
     pick u r e = record {
       started = λ i h init. part.started u r i e init;
       taken = λ source m h f none on. (let t = part.taken u source r m e f none on in record { takes = t.0; source_filled = record { filled = t.1.filled } });
     }
 
     -- labels with one more, that is what lifting asks for
-    put : (u : ℕ) (m r : Route) → u < count S → label M (group_of groups u) ≡ Some m → label E u ≡ None → Picked S can.problem_rules groups can.admissible Q can.small_rules can.quotient can.protocol M can.stable E u r → IsCandidate S E u r → key_of S r ≡ key_of Q m → IsLiftedPart S Q groups M (set E u (Some r))
+    put : (u : ℕ) (m r : Route) → u < count S → label M (group_of groups u) ≡ Some m → label E u ≡ None →
+        Picked S can.problem_rules groups can.admissible Q can.small_rules can.quotient can.protocol M can.stable E u r → IsCandidate S E u r →
+        key_of S r ≡ key_of Q m → IsLiftedPart S Q groups M (set E u (Some r))
     put u m r h asked empty picked cand k =
         let matching = quotient_matching S can.problem_rules groups can.admissible Q can.small_rules can.quotient in
         let is_even = even S can.problem_rules groups can.admissible Q can.small_rules can.quotient can.protocol M can.stable in
-        let g = set_good S Q (IsIn S groups) matching can.problem_rules can.small_rules M can.stable is_even E state u (group_of groups u) r m (record { inside = h; of_group = refl }) asked empty cand k in
+        let g = set_good S Q (IsIn S groups) matching can.problem_rules can.small_rules M can.stable is_even E state u (group_of groups u) r m
+        (record { inside = h; of_group = refl }) asked empty cand k in
         let ext = extended S Q (IsIn S groups) matching can.problem_rules can.small_rules M can.stable is_even E u r empty in
         let total = part.fitting.total in
         let inside : u < length E = omega (arith, total) in
         let at = at_set S Q (IsIn S groups) matching can.problem_rules can.small_rules M can.stable is_even E u in
         let pick_at = kept S can.problem_rules groups can.admissible Q can.small_rules can.quotient can.protocol M can.stable E (set E u (Some r)) in
-        let picks : (v : ℕ) (s : Route) → label (set E u (Some r)) v ≡ Some s → Picked S can.problem_rules groups can.admissible Q can.small_rules can.quotient can.protocol M can.stable (set E u (Some r)) v s = λ v s e. elim (at v r s inside e) [
-          | inl now ↦ subst (λ w. Picked S can.problem_rules groups can.admissible Q can.small_rules can.quotient can.protocol M can.stable (set E u (Some r)) w s) (sym now.0) (subst (Picked S can.problem_rules groups can.admissible Q can.small_rules can.quotient can.protocol M can.stable (set E u (Some r)) u) now.1 (pick_at u r ext picked))
+        let picks : (v : ℕ) (s : Route) → label (set E u (Some r)) v ≡ Some s →
+        Picked S can.problem_rules groups can.admissible Q can.small_rules can.quotient can.protocol M can.stable (set E u (Some r)) v s =
+        λ v s e. elim (at v r s inside e) [
+          | inl now ↦ subst (λ w. Picked S can.problem_rules groups can.admissible Q can.small_rules can.quotient can.protocol M can.stable (set E u (Some r)) w
+              s) (sym now.0) (subst (Picked S can.problem_rules groups can.admissible Q can.small_rules can.quotient can.protocol M can.stable
+              (set E u (Some r)) u) now.1 (pick_at u r ext picked))
           | inr old ↦ pick_at v s ext (pick v s old)
         ] in
-        let bound : (v : ℕ) (s : Route) → label (set E u (Some r)) v ≡ Some s → v < count S = λ v s e. (let l = label_in (set E u (Some r)) v s e in let n = length-set E u (Some r) in omega arith) in
+        let bound : (v : ℕ) (s : Route) → label (set E u (Some r)) v ≡ Some s → v < count S =
+        λ v s e. (let l = label_in (set E u (Some r)) v s e in let n = length-set E u (Some r) in omega arith) in
         record {
           fitting = g.supported.fitting;
           held = g.supported.held;
@@ -70,13 +82,16 @@ module _ (S Q : Problem) (groups : List ℕ) (M : List (Option Route)) (can : Ca
             | inr old ↦ part.keyed v s old
           ];
           started = λ v s i e init. (picks v s e).started i (bound v s e) init;
-          taken = λ v source s n e f none on. (let t = (picks v s e).taken source n (bound v s e) f none on in (t.takes, record { filled = t.source_filled.filled }));
+          taken = λ v source s n e f none on. (let t = (picks v s e).taken source n (bound v s e) f none on in
+              (t.takes, record { filled = t.source_filled.filled }));
         }
 
   -- an initial route is the label of the group
   start_is : (u : ℕ) (m i : Route) → u < count S → initial S u ≡ Some i → IsCandidate Q M (group_of groups u) m → m ≡ i
   start_is u m i h init (of_init f) = (let there : initial S u ≡ Some m = sym (can.quotient.origins u h) ∙ f in cc)
-  start_is u m i h init (of_edge edge has imp over) = (let none : initial S u ≡ None = sym (can.quotient.origins u h) ∙ ap (initial Q) (sym imp) ∙ can.small_rules.starts.unoriginated can.protocol edge has in absurd (cc))
+  start_is u m i h init (of_edge edge has imp over) =
+      (let none : initial S u ≡ None = sym (can.quotient.origins u h) ∙ ap (initial Q) (sym imp) ∙ can.small_rules.starts.unoriginated can.protocol edge has in
+      absurd (cc))
 
   -- the route of the group came from the group that is first on its path
   record CameFrom (u : ℕ) (m : Route) : Type 0 where
@@ -99,7 +114,8 @@ module _ (S Q : Problem) (groups : List ℕ) (M : List (Option Route)) (can : Ca
   came : (u : ℕ) (m : Route) → u < count S → label M (group_of groups u) ≡ Some m → initial S u ≡ None → CameFrom u m
   came u m h asked none = came_by u m h none (can.stable.held (group_of groups u) m (can.quotient.inside u h) asked)
 
-  pub some_source : (u : ℕ) (m : Route) → u < count S → label M (group_of groups u) ≡ Some m → initial S u ≡ None → (source : ℕ) × IsFirstOn Q (path_of m) source
+  pub some_source : (u : ℕ) (m : Route) → u < count S → label M (group_of groups u) ≡ Some m → initial S u ≡ None →
+      (source : ℕ) × IsFirstOn Q (path_of m) source
   some_source u m h asked none = let c = came u m h asked none in (c.source, c.first)
 
   module _ (E : List (Option Route)) (u : ℕ) (m : Route) (next : IsNextToLift S Q groups M E u m) where
@@ -108,7 +124,8 @@ module _ (S Q : Problem) (groups : List ℕ) (M : List (Option Route)) (can : Ca
 
     pub lift_found : (source : ℕ) → initial S u ≡ None → IsFirstOn Q (path_of m) source → (r : Route) × TakesFrom S Q groups E u source r m
     lift_found source none on =
-        let t = make S can.problem_rules groups can.admissible Q can.small_rules can.quotient can.protocol M can.stable E (state E next.part) u (group_of groups u) m (record { inside = next.inside; of_group = refl }) next.asked next.empty before in
+        let t = make S can.problem_rules groups can.admissible Q can.small_rules can.quotient can.protocol M can.stable E (state E next.part) u
+        (group_of groups u) m (record { inside = next.inside; of_group = refl }) next.asked next.empty before in
         (t.0, (t.1.taken source m next.inside next.asked none on).takes)
 
     pub lift_started : (i : Route) → initial S u ≡ Some i → IsLiftedPart S Q groups M (set E u (Some i))
@@ -116,16 +133,23 @@ module _ (S Q : Problem) (groups : List ℕ) (M : List (Option Route)) (can : Ca
         let is = start_is u m i next.inside init (can.stable.held (group_of groups u) m (can.quotient.inside u next.inside) next.asked) in
         let agree = keys_agree S Q (IsIn S groups) (quotient_matching S can.problem_rules groups can.admissible Q can.small_rules can.quotient) i in
         put E next.part u m i next.inside next.asked next.empty
-        (record { started = λ j h init'. (let k : Some i ≡ Some j = sym init ∙ init' in cc); taken = λ source n h f none on. (let k : Some i ≡ None = sym init ∙ none in absurd (cc)) })
+        (record {
+          started = λ j h init'. (let k : Some i ≡ Some j = sym init ∙ init' in cc);
+          taken =
+              λ source n h f none on. (let k : Some i ≡ None = sym init ∙ none in absurd (cc));
+        })
         (of_init init) (agree ∙ ap (key_of Q) (sym is))
 
-    pub lift_taken : (source : ℕ) (r : Route) → initial S u ≡ None → IsFirstOn Q (path_of m) source → TakesFrom S Q groups E u source r m → IsLiftedPart S Q groups M (set E u (Some r))
+    pub lift_taken : (source : ℕ) (r : Route) → initial S u ≡ None → IsFirstOn Q (path_of m) source → TakesFrom S Q groups E u source r m →
+        IsLiftedPart S Q groups M (set E u (Some r))
     lift_taken source r none on takes =
         let c = came u m next.inside next.asked none in
         let one = λ (other : ℕ) (first : IsFirstOn Q (path_of m) other). one_source Q can.small_rules can.protocol (path_of m) other source first on in
         let from : label M source ≡ Some c.from = subst (λ w. label M w ≡ Some c.from) (one c.source c.first) c.labelled in
-        let filled : AllFilled S can.problem_rules groups can.admissible Q can.small_rules can.quotient can.protocol M can.stable E source = record { filled = λ w h x. next.below.filled w c.from h (ap (label M) x ∙ from) c.shorter } in
-        let picks : PicksFrom S can.problem_rules groups can.admissible Q can.small_rules can.quotient can.protocol M can.stable E u source r m = record { takes = takes; source_filled = filled } in
+        let filled : AllFilled S can.problem_rules groups can.admissible Q can.small_rules can.quotient can.protocol M can.stable E source =
+        record { filled = λ w h x. next.below.filled w c.from h (ap (label M) x ∙ from) c.shorter } in
+        let picks : PicksFrom S can.problem_rules groups can.admissible Q can.small_rules can.quotient can.protocol M can.stable E u source r m =
+        record { takes = takes; source_filled = filled } in
         put E next.part u m r next.inside next.asked next.empty
         (record {
           started = λ i h init. (let k : Some i ≡ None = sym init ∙ none in absurd (cc));
@@ -133,11 +157,14 @@ module _ (S Q : Problem) (groups : List ℕ) (M : List (Option Route)) (can : Ca
               (let asked = next.asked in
               let same : m ≡ n = cc in
               let is : source ≡ other = sym (one other (subst (λ p. IsFirstOn Q (path_of p) other) (sym same) on')) in
-              subst (λ w. PicksFrom S can.problem_rules groups can.admissible Q can.small_rules can.quotient can.protocol M can.stable E u w r n) is (subst (PicksFrom S can.problem_rules groups can.admissible Q can.small_rules can.quotient can.protocol M can.stable E u source r) same picks));
+              subst (λ w. PicksFrom S can.problem_rules groups can.admissible Q can.small_rules can.quotient can.protocol M can.stable E u w r n) is
+              (subst (PicksFrom S can.problem_rules groups can.admissible Q can.small_rules can.quotient can.protocol M can.stable E u source r) same
+              picks));
         })
         (of_edge takes.edge takes.edge_in takes.importer takes.over) takes.keyed
 
-  pub lift_whole : (E : List (Option Route)) → IsLiftedPart S Q groups M E → ((u : ℕ) (m : Route) → u < count S → label M (group_of groups u) ≡ Some m → (r : Route) × (label E u ≡ Some r)) → IsLift S Q groups M E
+  pub lift_whole : (E : List (Option Route)) → IsLiftedPart S Q groups M E →
+      ((u : ℕ) (m : Route) → u < count S → label M (group_of groups u) ≡ Some m → (r : Route) × (label E u ≡ Some r)) → IsLift S Q groups M E
   lift_whole E part full = record {
     fitting = part.fitting;
     empty = λ u h e. elim (cases_label (label E u)) [

@@ -12,7 +12,8 @@ pub chosen_ascending : (test : ℕ → Bool) (path : List ℕ) → IsAscending (
 unfolding chosen
 chosen_ascending test [] = tt
 chosen_ascending test (a ∷ path) = elim (cases_Bool (test a)) [
-  | inl t ↦ subst (λ c. IsAscending (cond c (with_number a (chosen test path)) (chosen test path))) (sym t) (ascending_with a (chosen test path) (chosen_ascending test path))
+  | inl t ↦ subst (λ c. IsAscending (cond c (with_number a (chosen test path)) (chosen test path))) (sym t)
+      (ascending_with a (chosen test path) (chosen_ascending test path))
   | inr f ↦ subst (λ c. IsAscending (cond c (with_number a (chosen test path)) (chosen test path))) (sym f) (chosen_ascending test path)
 ]
 
@@ -22,8 +23,9 @@ unfolding chosen
 chosen_passes test x [] e = absurd (cc)
 chosen_passes test x (a ∷ path) e = elim (cases_Bool (test a)) [
   | inr f ↦ chosen_passes test x path (subst (λ c. is_on x (cond c (with_number a (chosen test path)) (chosen test path)) ≡ true) f e)
-  | inl t ↦ elim (or_cases (nat_eq a x) (is_on x (chosen test path)) (sym (is_on-with_number x a (chosen test path)) ∙ subst (λ c. is_on x (cond c (with_number a (chosen test path)) (chosen test path)) ≡ true) t e)) [
-    | inl h ↦ subst (λ n. test n ≡ true) (eqb-true a x h) t
-    | inr h ↦ chosen_passes test x path h
-  ]
+  | inl t ↦ elim (or_cases (nat_eq a x) (is_on x (chosen test path))
+      (sym (is_on-with_number x a (chosen test path)) ∙ subst (λ c. is_on x (cond c (with_number a (chosen test path)) (chosen test path)) ≡ true) t e)) [
+        | inl h ↦ subst (λ n. test n ≡ true) (eqb-true a x h) t
+        | inr h ↦ chosen_passes test x path h
+      ]
 ]

@@ -87,15 +87,18 @@ module _ (P : Problem) (good : IsProblem P) where
       let a = (good.marks.only u h e).first_accepted in
       elim (cases_protocol P.protocol) [
         | inl p ↦ p
-        | inr p ↦ absurd (no_import_cost (act_of P a.edge) a.comms a.imported (subst (λ q. IsActOf q (act_of P a.edge)) p (edge_act P good a.edge a.edge_in)) a.accepted)
+        | inr p ↦ absurd (no_import_cost (act_of P a.edge) a.comms a.imported (subst (λ q. IsActOf q (act_of P a.edge)) p (edge_act P good a.edge a.edge_in))
+            a.accepted)
       ]
 
-  accepts : (u : ℕ) (c : Route) (e : Edge) (r : Route) → P.protocol ≡ OverBgp → Contains P.edges e → e.importer ≡ u → IsRouteOf P.protocol r → step_over P e r ≡ Some c → Accepts P u (preference_of c)
+  accepts : (u : ℕ) (c : Route) (e : Edge) (r : Route) → P.protocol ≡ OverBgp → Contains P.edges e → e.importer ≡ u → IsRouteOf P.protocol r →
+      step_over P e r ≡ Some c → Accepts P u (preference_of c)
   accepts u c e r p i imp fits s =
       let a = step_accepts (act_of P e) (number P e.exporter) r c (subst (λ q. IsRouteOf q r) p fits) s in
       record { edge = e; edge_in = i; importer = imp; comms = comms_of r; is_set = a.3; imported = a.0; accepted = a.1; preferred = a.2 }
 
-  bgp_preference : (u : ℕ) (c d : Route) → P.protocol ≡ OverBgp → u < count P → is_lone P u ≡ false → Offer P u c → Offer P u d → preference_of c ≡ preference_of d
+  bgp_preference : (u : ℕ) (c d : Route) → P.protocol ≡ OverBgp → u < count P → is_lone P u ≡ false → Offer P u c → Offer P u d →
+      preference_of c ≡ preference_of d
   bgp_preference u c d p h l (offer_init e) (offer_init f) = let same : c ≡ d = cc in ap preference_of same
   bgp_preference u c d p h l (offer_init e) (offer_edge f i imp r fits s) = let no : initial P f.importer ≡ None = good.starts.unoriginated p f i in absurd (cc)
   bgp_preference u c d p h l (offer_edge f i imp r fits s) (offer_init e) = let no : initial P f.importer ≡ None = good.starts.unoriginated p f i in absurd (cc)
@@ -104,7 +107,14 @@ module _ (P : Problem) (good : IsProblem P) where
         | inl same ↦ same
         | inr differ ↦
             let no : initial P e.importer ≡ None = good.starts.unoriginated p e i in
-            let lone : IsLone P u = record { unoriginated = subst (λ v. initial P v ≡ None) imp no; first = preference_of c; second = preference_of d; first_accepted = accepts u c e r p i imp fits s; second_accepted = accepts u d e' r' p i' imp' fits' s'; differ = differ } in
+            let lone : IsLone P u = record {
+              unoriginated = subst (λ v. initial P v ≡ None) imp no;
+              first = preference_of c;
+              second = preference_of d;
+              first_accepted = accepts u c e r p i imp fits s;
+              second_accepted = accepts u d e' r' p i' imp' fits' s';
+              differ = differ;
+            } in
             let t : is_lone P u ≡ true = good.marks.all u h lone in absurd (cc)
       ]
 
@@ -118,15 +128,19 @@ module _ (P : Problem) (good : IsProblem P) where
   pub grows : (e : Edge) (r c : Route) → Contains P.edges e → step_over P e r ≡ Some c → size_of r < size_of c
   grows e r c i s = step_grows P.protocol (act_of P e) (number P e.exporter) r c (edge_act P good e i) s
 
-  on_path : (e : Edge) (a : ℕ) (r c : Route) → Contains P.edges e → step_over P e r ≡ Some c → is_on a (path_of c) ≡ true → (P.protocol ≡ OverBgp) × ((a ≡ number P e.exporter) ⊎ (is_on a (path_of r) ≡ true))
+  on_path : (e : Edge) (a : ℕ) (r c : Route) → Contains P.edges e → step_over P e r ≡ Some c → is_on a (path_of c) ≡ true → (P.protocol ≡ OverBgp)
+      × ((a ≡ number P e.exporter) ⊎ (is_on a (path_of r) ≡ true))
   on_path e a r c i s h = step_path P.protocol (act_of P e) (number P e.exporter) a r c (edge_act P good e i) s h
 
   -- each number on a label's path is that of a router with a shorter label
-  pub chain : (L : List (Option Route)) → IsSupported P L → (n u a : ℕ) (r : Route) → size_of r < n → label L u ≡ Some r → is_on a (path_of r) ≡ true → Link P L a (size_of r)
+  pub chain : (L : List (Option Route)) → IsSupported P L → (n u a : ℕ) (r : Route) → size_of r < n → label L u ≡ Some r → is_on a (path_of r) ≡ true →
+      Link P L a (size_of r)
   chain L sup zero u a r less e h = absurd (omega arith)
   chain L sup (suc n) u a r less e h = chain_step L sup n u a r less h (sup.held u r e) (λ v s. chain L sup n v a s)
     where
-      chain_step : (L : List (Option Route)) → IsSupported P L → (n u a : ℕ) (r : Route) → size_of r < suc n → is_on a (path_of r) ≡ true → IsCandidate P L u r → ((v : ℕ) (s : Route) → size_of s < n → label L v ≡ Some s → is_on a (path_of s) ≡ true → Link P L a (size_of s)) → Link P L a (size_of r)
+      chain_step : (L : List (Option Route)) → IsSupported P L → (n u a : ℕ) (r : Route) → size_of r < suc n → is_on a (path_of r) ≡ true →
+          IsCandidate P L u r → ((v : ℕ) (s : Route) → size_of s < n → label L v ≡ Some s → is_on a (path_of s) ≡ true → Link P L a (size_of s)) →
+          Link P L a (size_of r)
       chain_step L sup n u a r less h (of_init i) before =
           let p : path_of r ≡ [] = good.starts.paths u r i in
           let no : false ≡ true = subst (λ l. is_on a l ≡ true) p h in absurd (cc)
@@ -134,15 +148,33 @@ module _ (P : Problem) (good : IsProblem P) where
           let g : size_of over.from < size_of r = grows e over.from r i over.stepped in
           let o = on_path e a over.from r i over.stepped h in
           elim o.1 [
-            | inl here ↦ record { router = e.exporter; inside = (good.edges.inside e i).exporter_in; numbered = sym here; some_number = (good.numbers o.0).exporters e i; route = over.from; labelled = over.labelled; shorter = g }
+            | inl here ↦ record {
+              router = e.exporter;
+              inside = (good.edges.inside e i).exporter_in;
+              numbered = sym here;
+              some_number =
+                  (good.numbers o.0).exporters e i;
+              route = over.from;
+              labelled = over.labelled;
+              shorter = g;
+            }
             | inr there ↦
                 let k = before e.exporter over.from (omega arith) over.labelled there in
                 let ks = k.shorter in
-                record { router = k.router; inside = k.inside; numbered = k.numbered; some_number = k.some_number; route = k.route; labelled = k.labelled; shorter = omega arith }
+                record {
+                  router = k.router;
+                  inside = k.inside;
+                  numbered = k.numbered;
+                  some_number = k.some_number;
+                  route = k.route;
+                  labelled = k.labelled;
+                  shorter = omega arith;
+                }
           ]
 
   -- where the loop check drops a route, the router has a label that is shorter than that of the exporter
-  pub blocked : (L : List (Option Route)) → IsSupported P L → (e : Edge) (r c : Route) → Contains P.edges e → label L e.exporter ≡ Some r → step_over P e r ≡ Some c → is_on (number P e.importer) (path_of c) ≡ true → (s : Route) × (label L e.importer ≡ Some s) × (size_of s < size_of r)
+  pub blocked : (L : List (Option Route)) → IsSupported P L → (e : Edge) (r c : Route) → Contains P.edges e → label L e.exporter ≡ Some r →
+      step_over P e r ≡ Some c → is_on (number P e.importer) (path_of c) ≡ true → (s : Route) × (label L e.importer ≡ Some s) × (size_of s < size_of r)
   blocked L sup e r c i lab s h =
       let o = on_path e (number P e.importer) r c i s h in
       let g = good.edges.inside e i in
@@ -155,7 +187,8 @@ module _ (P : Problem) (good : IsProblem P) where
       ]
 
   -- the loop check never decides
-  pub loop_check : (L : List (Option Route)) → IsStable P L → (e : Edge) (r c : Route) → Contains P.edges e → is_lone P e.importer ≡ false → label L e.exporter ≡ Some r → step_over P e r ≡ Some c → is_on (number P e.importer) (path_of c) ≡ true → Better P L e.importer c
+  pub loop_check : (L : List (Option Route)) → IsStable P L → (e : Edge) (r c : Route) → Contains P.edges e → is_lone P e.importer ≡ false →
+      label L e.exporter ≡ Some r → step_over P e r ≡ Some c → is_on (number P e.importer) (path_of c) ≡ true → Better P L e.importer c
   loop_check L st e r c i l lab s h =
       let sup = stable_supported L st in
       let b = blocked L sup e r c i lab s h in
@@ -175,11 +208,13 @@ module _ (P : Problem) (good : IsProblem P) where
         | inr full ↦ record { route = full.0; labelled = full.1; as_good = st.best u full.0 c h full.1 cand }
       ]
 
-  pub raw_optimal : (L : List (Option Route)) → IsStable P L → (e : Edge) (r c : Route) → Contains P.edges e → is_lone P e.importer ≡ false → label L e.exporter ≡ Some r → step_over P e r ≡ Some c → AsGood P L e.importer c
+  pub raw_optimal : (L : List (Option Route)) → IsStable P L → (e : Edge) (r c : Route) → Contains P.edges e → is_lone P e.importer ≡ false →
+      label L e.exporter ≡ Some r → step_over P e r ≡ Some c → AsGood P L e.importer c
   raw_optimal L st e r c i l lab s =
       elim (cases_Bool (is_on (number P e.importer) (path_of c))) [
         | inl h ↦ better_as_good P L e.importer c (loop_check L st e r c i l lab s h)
-        | inr h ↦ candidate_as_good L st e.importer c (good.edges.inside e i).importer_in (of_edge e i refl (record { from = r; labelled = lab; stepped = s; passes = h }))
+        | inr h ↦ candidate_as_good L st e.importer c (good.edges.inside e i).importer_in
+            (of_edge e i refl (record { from = r; labelled = lab; stepped = s; passes = h }))
       ]
 
 pub edge_at : (P : Problem) → IsProblem P → (i : ℕ) (edge : Edge) → i < length P.edges → slice_index_or P.edges i edge ≡ edge → IsEdgeOf P edge

@@ -13,7 +13,9 @@ use Rattle.srp_core.proofs.Filling.{IsEven, Solved, solved}
 use Rattle.srp_core.proofs.GroupMatching.{IsIn, equal_held, quotient_matching, correspond}
 
 -- in OSPF a tie is an equation of labels
-module _ (B A : Problem) (R : ℕ → ℕ → Type 0) (m : IsMatching B A R) (gb : IsProblem B) (ga : IsProblem A) (ospf : A.protocol ≡ OverOspf) (L : List (Option Route)) (st : IsStable A L) (even : IsEven A R L) (E : List (Option Route)) (total : length E ≡ count B) (equal : (b a : ℕ) → R b a → label E b ≡ label L a) where
+module _ (B A : Problem) (R : ℕ → ℕ → Type 0) (m : IsMatching B A R) (gb : IsProblem B) (ga : IsProblem A) (ospf : A.protocol ≡ OverOspf)
+    (L : List (Option Route)) (st : IsStable A L) (even : IsEven A R L) (E : List (Option Route)) (total : length E ≡ count B)
+    (equal : (b a : ℕ) → R b a → label E b ≡ label L a) where
   ospf_equal : (s : Solved B A R m gb ga L st even) → (b : ℕ) → b < count B → label s.labels b ≡ label E b
   ospf_equal s b h =
       let p = m.left b h in
@@ -37,13 +39,20 @@ module _ (B A : Problem) (R : ℕ → ℕ → Type 0) (m : IsMatching B A R) (gb
       subst (IsStable B) (ext_get_or None s.labels E (t ∙ sym total) (λ b h. ospf_equal s b (omega arith))) s.stable
 
 -- a group with the label of its members
-module _ (S : Problem) (good : IsProblem S) (groups : List ℕ) (adm : IsAdmissible S groups) (Q : Problem) (goodq : IsProblem Q) (q : IsQuotient S groups Q) (ospf : S.protocol ≡ OverOspf) (L : List (Option Route)) (st : IsStable S L) (M : List (Option Route)) (total : length M ≡ count Q) (equal : (u : ℕ) → u < count S → label M (group_of groups u) ≡ label L u) where
+module _ (S : Problem) (good : IsProblem S) (groups : List ℕ) (adm : IsAdmissible S groups) (Q : Problem) (goodq : IsProblem Q) (q : IsQuotient S groups Q)
+    (ospf : S.protocol ≡ OverOspf) (L : List (Option Route)) (st : IsStable S L) (M : List (Option Route)) (total : length M ≡ count Q)
+    (equal : (u : ℕ) → u < count S → label M (group_of groups u) ≡ label L u) where
   pub ospf_fold : IsStable Q M × Corresponds S Q groups L M
   ospf_fold =
       let R = λ (g u : ℕ). IsIn S groups u g in
       let m = converse S Q (IsIn S groups) (quotient_matching S good groups adm Q goodq q) in
-      let even : IsEven S (λ g u. IsIn S groups u g) L = record { held = λ g u u' r x x' e. equal_held S good groups adm L st u u' r (record { left = x.inside; right = x'.inside; same = x.of_group ∙ sym x'.of_group }) e } in
-      let stm : IsStable Q M = ospf_solves Q S (λ g u. IsIn S groups u g) m goodq good ospf L st even M total (λ g u x. ap (label M) (sym x.of_group) ∙ equal u x.inside) in
+      let even : IsEven S (λ g u. IsIn S groups u g) L =
+      record {
+        held = λ g u u' r x x' e. equal_held S good groups adm L st u u' r
+            (record { left = x.inside; right = x'.inside; same = x.of_group ∙ sym x'.of_group }) e;
+      } in
+      let stm : IsStable Q M = ospf_solves Q S (λ g u. IsIn S groups u g) m goodq good ospf L st even M total
+      (λ g u x. ap (label M) (sym x.of_group) ∙ equal u x.inside) in
       let keys = λ (r : Route). keys_agree S Q (IsIn S groups) (quotient_matching S good groups adm Q goodq q) r in (
         stm,
         correspond S good groups adm Q goodq q L M st stm
@@ -52,11 +61,16 @@ module _ (S : Problem) (good : IsProblem S) (groups : List ℕ) (adm : IsAdmissi
       )
 
 -- members with the label of their group
-module _ (S : Problem) (good : IsProblem S) (groups : List ℕ) (adm : IsAdmissible S groups) (Q : Problem) (goodq : IsProblem Q) (q : IsQuotient S groups Q) (ospf : Q.protocol ≡ OverOspf) (M : List (Option Route)) (st : IsStable Q M) (L : List (Option Route)) (total : length L ≡ count S) (equal : (u : ℕ) → u < count S → label L u ≡ label M (group_of groups u)) where
+module _ (S : Problem) (good : IsProblem S) (groups : List ℕ) (adm : IsAdmissible S groups) (Q : Problem) (goodq : IsProblem Q) (q : IsQuotient S groups Q)
+    (ospf : Q.protocol ≡ OverOspf) (M : List (Option Route)) (st : IsStable Q M) (L : List (Option Route)) (total : length L ≡ count S)
+    (equal : (u : ℕ) → u < count S → label L u ≡ label M (group_of groups u)) where
   pub ospf_lift : IsStable S L × Corresponds S Q groups L M
   ospf_lift =
       let m = quotient_matching S good groups adm Q goodq q in
-      let even : IsEven Q (IsIn S groups) M = record { held = λ u g g' r x x' e. (let same : g ≡ g' = sym x.of_group ∙ x'.of_group in record { route = r; labelled = subst (λ h. label M h ≡ Some r) same e; keyed = refl }) } in
+      let even : IsEven Q (IsIn S groups) M = record {
+        held = λ u g g' r x x' e. (let same : g ≡ g' = sym x.of_group ∙ x'.of_group in
+            record { route = r; labelled = subst (λ h. label M h ≡ Some r) same e; keyed = refl });
+      } in
       let stl : IsStable S L = ospf_solves S Q (IsIn S groups) m good goodq ospf M st even L total (λ u g x. equal u x.inside ∙ ap (label M) x.of_group) in
       let keys = λ (r : Route). keys_agree S Q (IsIn S groups) m r in (
         stl,

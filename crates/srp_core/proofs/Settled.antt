@@ -22,7 +22,8 @@ settled_stable P L fits settled = record {
   fitting = fits;
   none = λ u c h e cand. (let k = candidates_complete P L u c cand in nothing_in k.0 (subst (λ l. Contains l k.0) ((settled u h).none e) k.1));
   held = λ u r h e. (let k = (settled u h).held r e in subst (IsCandidate P L u) k.2 (candidates_sound P L u k.0 k.1));
-  best = λ u r c h e cand. (let k = candidates_complete P L u c cand in subst (λ d. compare_keys (key_of P d) (key_of P r) ≢ Less) k.2 ((settled u h).best r k.0 e k.1));
+  best = λ u r c h e cand. (let k = candidates_complete P L u c cand in
+      subst (λ d. compare_keys (key_of P d) (key_of P r) ≢ Less) k.2 ((settled u h).best r k.0 e k.1));
 }
 
 pub stable_settled : (P : Problem) (L : List (Option Route)) → IsStable P L → (u : ℕ) → u < count P → IsSettled P L u

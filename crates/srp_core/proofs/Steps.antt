@@ -21,17 +21,20 @@ pub record Arrives (act : Act) (number : ℕ) (path comms : List ℕ) (route : R
   pub accepted : import_by act comms ≡ Some imported
   pub is : route ≡ arrived number path imported
 
-mapped : (o : Option Imported) (number : ℕ) (path : List ℕ) (c : Route) → option_map (arrived number path) o ≡ Some c → (i : Imported) × (o ≡ Some i) × (c ≡ arrived number path i)
+mapped : (o : Option Imported) (number : ℕ) (path : List ℕ) (c : Route) → option_map (arrived number path) o ≡ Some c → (i : Imported) × (o ≡ Some i)
+    × (c ≡ arrived number path i)
 mapped None number path c e = absurd (cc)
 mapped (Some i) number path c e = (i, refl, cc)
 
-pub arrives : (out : Plain) (sends : Bool) (into : Plain) (number lp' : ℕ) (path comms : List ℕ) (c : Route) → step_by (Import out sends into) number (Bgp lp' path comms) ≡ Some c → Arrives (Import out sends into) number path comms c
+pub arrives : (out : Plain) (sends : Bool) (into : Plain) (number lp' : ℕ) (path comms : List ℕ) (c : Route) →
+    step_by (Import out sends into) number (Bgp lp' path comms) ≡ Some c → Arrives (Import out sends into) number path comms c
 unfolding step_by
 arrives out sends into number lp' path comms c e =
     let m = mapped (import_by (Import out sends into) comms) number path c e in
     record { imported = m.0; accepted = m.1; is = m.2 }
 
-pub arrive : (out : Plain) (sends : Bool) (into : Plain) (number lp' : ℕ) (path comms : List ℕ) (i : Imported) → import_by (Import out sends into) comms ≡ Some i → step_by (Import out sends into) number (Bgp lp' path comms) ≡ Some (arrived number path i)
+pub arrive : (out : Plain) (sends : Bool) (into : Plain) (number lp' : ℕ) (path comms : List ℕ) (i : Imported) →
+    import_by (Import out sends into) comms ≡ Some i → step_by (Import out sends into) number (Bgp lp' path comms) ≡ Some (arrived number path i)
 unfolding step_by
 arrive out sends into number lp' path comms i e = ap (option_map (arrived number path)) e
 
@@ -39,7 +42,8 @@ summed : (b : Bool) (n : ℕ) (c : Route) → cond b None (Some (Ospf n)) ≡ So
 summed true n c e = absurd (cc)
 summed false n c e = (refl, cc)
 
-pub costs : (cost number other : ℕ) (c : Route) → step_by (Cost cost) number (Ospf other) ≡ Some c → (nat_lt 4294967295 (cost + other) ≡ false) × (c ≡ Ospf (cost + other))
+pub costs : (cost number other : ℕ) (c : Route) → step_by (Cost cost) number (Ospf other) ≡ Some c → (nat_lt 4294967295 (cost + other) ≡ false)
+    × (c ≡ Ospf (cost + other))
 unfolding step_by
 costs cost number other c e = summed _ (cost + other) c e
 
@@ -62,17 +66,21 @@ length-prepended (suc times) number path = let e = length-prepended times number
 is_on-prepended : (a times number : ℕ) (path : List ℕ) → is_on a (prepended times number path) ≡ true → (a ≡ number) ⊎ (is_on a path ≡ true)
 is_on-prepended a zero number path e = inr e
 is_on-prepended a (suc times) number path e =
-    elim (or_cases (nat_eq number a) (is_on a (prepended times number path)) e) [ inl h ↦ inl (sym (eqb-true number a h)) | inr h ↦ is_on-prepended a times number path h ]
+    elim (or_cases (nat_eq number a) (is_on a (prepended times number path)) e)
+    [ inl h ↦ inl (sym (eqb-true number a h)) | inr h ↦ is_on-prepended a times number path h ]
 
-chosen-prepended : (test : ℕ → Bool) (a b times : ℕ) (p q : List ℕ) → ((test a ≡ false) × (test b ≡ false)) ⊎ (a ≡ b) → chosen test p ≡ chosen test q → chosen test (prepended times a p) ≡ chosen test (prepended times b q)
+chosen-prepended : (test : ℕ → Bool) (a b times : ℕ) (p q : List ℕ) → ((test a ≡ false) × (test b ≡ false)) ⊎ (a ≡ b) → chosen test p ≡ chosen test q →
+    chosen test (prepended times a p) ≡ chosen test (prepended times b q)
 unfolding chosen
 chosen-prepended test a b zero p q h e = e
 chosen-prepended test a b (suc times) p q (inl h) e =
     let r = chosen-prepended test a b times p q (inl h) e in
-    ap (λ t. cond t (with_number a (chosen test (prepended times a p))) (chosen test (prepended times a p))) h.0 ∙ r ∙ sym (ap (λ t. cond t (with_number b (chosen test (prepended times b q))) (chosen test (prepended times b q))) h.1)
+    ap (λ t. cond t (with_number a (chosen test (prepended times a p))) (chosen test (prepended times a p))) h.0 ∙ r
+    ∙ sym (ap (λ t. cond t (with_number b (chosen test (prepended times b q))) (chosen test (prepended times b q))) h.1)
 chosen-prepended test a b (suc times) p q (inr h) e =
     let r = chosen-prepended test a b times p q (inr h) e in
-    ap (λ l. cond (test a) (with_number a l) l) r ∙ ap (λ n. cond (test n) (with_number n (chosen test (prepended times b q))) (chosen test (prepended times b q))) h
+    ap (λ l. cond (test a) (with_number a l) l) r
+    ∙ ap (λ n. cond (test n) (with_number n (chosen test (prepended times b q))) (chosen test (prepended times b q))) h
 
 -- the step makes the size grow
 pub step_grows : (protocol : Protocol) (act : Act) (number : ℕ) (r c : Route) → IsActOf protocol act → step_by act number r ≡ Some c → size_of r < size_of c
@@ -88,7 +96,8 @@ step_grows OverOspf (Cost cost) number (Ospf other) c good e =
     let s : size_of c ≡ cost + other = ap size_of (costs cost number other c e).1 in omega (arith, s, good)
 
 -- a number on the new path is the exporter's, in BGP, or was on the path
-pub step_path : (protocol : Protocol) (act : Act) (number a : ℕ) (r c : Route) → IsActOf protocol act → step_by act number r ≡ Some c → is_on a (path_of c) ≡ true → (protocol ≡ OverBgp) × ((a ≡ number) ⊎ (is_on a (path_of r) ≡ true))
+pub step_path : (protocol : Protocol) (act : Act) (number a : ℕ) (r c : Route) → IsActOf protocol act → step_by act number r ≡ Some c →
+    is_on a (path_of c) ≡ true → (protocol ≡ OverBgp) × ((a ≡ number) ⊎ (is_on a (path_of r) ≡ true))
 step_path OverBgp (Import out sends into) number a (Bgp lp' path comms) c good e h =
     let s = arrives out sends into number lp' path comms c e in
     (refl, is_on-prepended a (suc s.imported.adds) number path (subst (λ x. is_on a (path_of x) ≡ true) s.is h))
@@ -99,7 +108,8 @@ step_path protocol (Cost cost) number a (Ospf other) c good e h =
     let no : false ≡ true = subst (λ x. is_on a (path_of x) ≡ true) (costs cost number other c e).1 h in absurd (cc)
 
 -- the new route is of the protocol
-pub step_route : (protocol : Protocol) (act : Act) (number : ℕ) (r c : Route) → KeepsSets act → IsRouteOf protocol r → step_by act number r ≡ Some c → IsRouteOf protocol c
+pub step_route : (protocol : Protocol) (act : Act) (number : ℕ) (r c : Route) → KeepsSets act → IsRouteOf protocol r → step_by act number r ≡ Some c →
+    IsRouteOf protocol c
 step_route OverBgp (Import out sends into) number (Bgp lp' path comms) c keeps fits e =
     let s = arrives out sends into number lp' path comms c e in
     subst (IsRouteOf OverBgp) (sym s.is) (import_sets (Import out sends into) comms s.imported keeps fits s.accepted)
@@ -110,7 +120,8 @@ step_route OverBgp (Cost cost) number (Ospf other) c keeps fits e = absurd fits
 step_route OverOspf (Cost cost) number (Ospf other) c keeps fits e = subst (IsRouteOf OverOspf) (sym (costs cost number other c e).1) tt
 
 -- a step like this one from the same route has a route of this preference
-pub step_alike : (protocol : Protocol) (act act' : Act) (number number' : ℕ) (r c : Route) → IsRouteOf protocol r → ActsAlike act act' → step_by act number r ≡ Some c → (c' : Route) × (step_by act' number' r ≡ Some c') × (preference_of c' ≡ preference_of c)
+pub step_alike : (protocol : Protocol) (act act' : Act) (number number' : ℕ) (r c : Route) → IsRouteOf protocol r → ActsAlike act act' →
+    step_by act number r ≡ Some c → (c' : Route) × (step_by act' number' r ≡ Some c') × (preference_of c' ≡ preference_of c)
 step_alike OverBgp (Import out sends into) (Import out' sends' into') number number' (Bgp lp' path comms) c fits alike e =
     let s = arrives out sends into number lp' path comms c e in
     let same = sym (alike.same comms fits) ∙ s.accepted in
@@ -126,25 +137,34 @@ step_alike protocol (Cost cost) (Cost cost') number number' (Ospf other) c fits 
     (Ospf (cost' + other), costed cost' number' other f, sym (ap preference_of s.1))
 
 -- same step, same key
-pub step_same : (protocol : Protocol) (test : ℕ → Bool) (act act' : Act) (number number' : ℕ) (r r' c : Route) → IsRouteOf protocol r → IsRouteOf protocol r' → ActsAlike act act' → ((test number ≡ false) × (test number' ≡ false)) ⊎ (number ≡ number') → key_by test r ≡ key_by test r' → step_by act number r ≡ Some c → (c' : Route) × (step_by act' number' r' ≡ Some c') × (key_by test c ≡ key_by test c')
-step_same OverBgp test (Import out sends into) (Import out' sends' into') number number' (Bgp lpr path comms) (Bgp lpr' path' comms') c fits fits' alike numbers k e =
+pub step_same : (protocol : Protocol) (test : ℕ → Bool) (act act' : Act) (number number' : ℕ) (r r' c : Route) → IsRouteOf protocol r → IsRouteOf protocol r' →
+    ActsAlike act act' → ((test number ≡ false) × (test number' ≡ false)) ⊎ (number ≡ number') → key_by test r ≡ key_by test r' →
+    step_by act number r ≡ Some c → (c' : Route) × (step_by act' number' r' ≡ Some c') × (key_by test c ≡ key_by test c')
+step_same OverBgp test (Import out sends into) (Import out' sends' into') number number' (Bgp lpr path comms) (Bgp lpr' path' comms') c fits fits' alike numbers
+    k e =
     let s = arrives out sends into number lpr path comms c e in
     let same_comms : comms ≡ comms' = ap (λ (x : Key). x.comms) k in
     let same_size : length path ≡ length path' = ap (λ (x : Key). x.size) k in
     let same_lone : chosen test path ≡ chosen test path' = ap (λ (x : Key). x.lone) k in
-    let there : import_by (Import out' sends' into') comms' ≡ Some s.imported = subst (λ x. import_by (Import out' sends' into') x ≡ Some s.imported) same_comms (sym (alike.same comms fits) ∙ s.accepted) in
+    let there : import_by (Import out' sends' into') comms' ≡ Some s.imported =
+    subst (λ x. import_by (Import out' sends' into') x ≡ Some s.imported) same_comms (sym (alike.same comms fits) ∙ s.accepted) in
     let i = s.imported in
-    let sizes : length (prepended (suc i.adds) number path) ≡ length (prepended (suc i.adds) number' path') = omega (arith, length-prepended (suc i.adds) number path, length-prepended (suc i.adds) number' path', same_size) in
-    let lones : chosen test (prepended (suc i.adds) number path) ≡ chosen test (prepended (suc i.adds) number' path') = chosen-prepended test number number' (suc i.adds) path path' numbers same_lone in
+    let sizes : length (prepended (suc i.adds) number path) ≡ length (prepended (suc i.adds) number' path') =
+    omega (arith, length-prepended (suc i.adds) number path, length-prepended (suc i.adds) number' path', same_size) in
+    let lones : chosen test (prepended (suc i.adds) number path) ≡ chosen test (prepended (suc i.adds) number' path') =
+    chosen-prepended test number number' (suc i.adds) path path' numbers same_lone in
     let keys : key_by test (arrived number path i) ≡ key_by test (arrived number' path' i) = cc in
     (arrived number' path' i, arrive out' sends' into' number' lpr' path' comms' i there, ap (key_by test) s.is ∙ keys)
 step_same OverBgp test act act' number number' (Bgp lpr path comms) (Ospf cost') c fits fits' alike numbers k e = absurd fits'
 step_same OverBgp test act act' number number' (Ospf cost) r' c fits fits' alike numbers k e = absurd fits
 step_same OverOspf test act act' number number' (Bgp lpr path comms) r' c fits fits' alike numbers k e = absurd fits
 step_same OverOspf test act act' number number' (Ospf cost) (Bgp lpr path comms) c fits fits' alike numbers k e = absurd fits'
-step_same OverBgp test (Import out sends into) (Cost cost) number number' (Bgp lpr path comms) (Bgp lpr' path' comms') c fits fits' alike numbers k e = absurd alike
-step_same OverBgp test (Cost cost) act' number number' (Bgp lpr path comms) (Bgp lpr' path' comms') c fits fits' alike numbers k e = absurd (no_cost_bgp _ _ _ _ _ _ e)
-step_same OverOspf test (Import out sends into) act' number number' (Ospf cost) (Ospf cost') c fits fits' alike numbers k e = absurd (no_import_ospf _ _ _ _ _ _ e)
+step_same OverBgp test (Import out sends into) (Cost cost) number number' (Bgp lpr path comms) (Bgp lpr' path' comms') c fits fits' alike numbers k e =
+    absurd alike
+step_same OverBgp test (Cost cost) act' number number' (Bgp lpr path comms) (Bgp lpr' path' comms') c fits fits' alike numbers k e =
+    absurd (no_cost_bgp _ _ _ _ _ _ e)
+step_same OverOspf test (Import out sends into) act' number number' (Ospf cost) (Ospf cost') c fits fits' alike numbers k e =
+    absurd (no_import_ospf _ _ _ _ _ _ e)
 step_same OverOspf test (Cost cost) (Import out sends into) number number' (Ospf other) (Ospf other') c fits fits' alike numbers k e = absurd alike
 step_same OverOspf test (Cost cost) (Cost cost') number number' (Ospf other) (Ospf other') c fits fits' alike numbers k e =
     let s = costs cost number other c e in
@@ -154,7 +174,8 @@ step_same OverOspf test (Cost cost) (Cost cost') number number' (Ospf other) (Os
     (Ospf (cost' + other'), costed cost' number' other' f, ap (key_by test) s.1 ∙ ap (λ n. key_by test (Ospf n)) sums)
 
 -- what a step in BGP rests on
-pub step_accepts : (act : Act) (number : ℕ) (r c : Route) → IsRouteOf OverBgp r → step_by act number r ≡ Some c → (i : Imported) × (import_by act (comms_of r) ≡ Some i) × (i.lp ≡ preference_of c) × IsAscending (comms_of r)
+pub step_accepts : (act : Act) (number : ℕ) (r c : Route) → IsRouteOf OverBgp r → step_by act number r ≡ Some c →
+    (i : Imported) × (import_by act (comms_of r) ≡ Some i) × (i.lp ≡ preference_of c) × IsAscending (comms_of r)
 step_accepts (Import out sends into) number (Bgp lp' path comms) c fits e =
     let s = arrives out sends into number lp' path comms c e in
     (s.imported, s.accepted, sym (ap preference_of s.is), fits)
@@ -171,7 +192,8 @@ no_import_cost (Import out sends into) comms i good e = good
 no_import_cost (Cost cost) comms i good e = cc
 
 -- the path after a step
-pub step_repeats : (protocol : Protocol) (act : Act) (number : ℕ) (r c : Route) → IsActOf protocol act → step_by act number r ≡ Some c → (path_of c ≡ []) ⊎ ((k : ℕ) × (protocol ≡ OverBgp) × (path_of c ≡ prepended k number (path_of r)))
+pub step_repeats : (protocol : Protocol) (act : Act) (number : ℕ) (r c : Route) → IsActOf protocol act → step_by act number r ≡ Some c →
+    (path_of c ≡ []) ⊎ ((k : ℕ) × (protocol ≡ OverBgp) × (path_of c ≡ prepended k number (path_of r)))
 step_repeats OverBgp (Import out sends into) number (Bgp lp' path comms) c good e =
     let s = arrives out sends into number lp' path comms c e in inr (suc s.imported.adds, refl, ap path_of s.is)
 step_repeats OverOspf (Import out sends into) number (Bgp lp' path comms) c good e = absurd good
@@ -190,7 +212,8 @@ alike_accepts (Import a b c) (Cost d) comms i h s e = absurd h
 alike_accepts (Cost d) (Import a b c) comms i h s e = absurd h
 
 -- a step in BGP puts the exporter's number before the path
-pub step_bgp : (act : Act) (number : ℕ) (r c : Route) → IsActOf OverBgp act → step_by act number r ≡ Some c → (k : ℕ) × (path_of c ≡ prepended (suc k) number (path_of r))
+pub step_bgp : (act : Act) (number : ℕ) (r c : Route) → IsActOf OverBgp act → step_by act number r ≡ Some c →
+    (k : ℕ) × (path_of c ≡ prepended (suc k) number (path_of r))
 step_bgp (Import out sends into) number (Bgp lp' path comms) c good e =
     let s = arrives out sends into number lp' path comms c e in (s.imported.adds, ap path_of s.is)
 step_bgp (Import out sends into) number (Ospf cost) c good e = absurd (no_import_ospf _ _ _ _ _ _ e)
@@ -212,7 +235,8 @@ pub alike_self : (x : Act) → ActsAlike x x
 alike_self (Import a b c) = record { same = λ s i. refl }
 alike_self (Cost x) = refl
 
-pub bgp_parts : (r s : Route) → IsRouteOf OverBgp r → IsRouteOf OverBgp s → preference_of r ≡ preference_of s → path_of r ≡ path_of s → comms_of r ≡ comms_of s → r ≡ s
+pub bgp_parts : (r s : Route) → IsRouteOf OverBgp r → IsRouteOf OverBgp s → preference_of r ≡ preference_of s → path_of r ≡ path_of s →
+    comms_of r ≡ comms_of s → r ≡ s
 bgp_parts (Bgp a b c) (Bgp a' b' c') f g p q o = λ i. Bgp (p i) (q i) (o i)
 bgp_parts (Ospf a) s f g p q o = absurd f
 bgp_parts (Bgp a b c) (Ospf d) f g p q o = absurd g

@@ -15,7 +15,8 @@ passed own route = if is_on own (path_of route) then None else Some route
 
 -- the route that the edge gives its importer
 abbrev pub over : Problem → List (Option Route) → Edge → Option Route
-over problem labels edge = option_and_then (λ from. option_and_then (passed (number problem edge.importer)) (step_over problem edge from)) (label labels edge.exporter)
+over problem labels edge = option_and_then (λ from. option_and_then (passed (number problem edge.importer)) (step_over problem edge from))
+    (label labels edge.exporter)
 
 -- a route as one candidate, none as none
 abbrev pub candidate_of : Option ℕ → Option Route → List Candidate
@@ -25,7 +26,8 @@ candidate_of place (Some route) = (record { edge = place; route = route }) ∷ [
 -- the candidates over the router's edges, the first of which stands at `place`
 unfoldable pub over_edges : Problem → List (Option Route) → ℕ → ℕ → List Edge → List Candidate
 over_edges problem labels router place [] = []
-over_edges problem labels router place (edge ∷ edges) = (if nat_eq edge.importer router then candidate_of (Some place) (over problem labels edge) else []) ++ over_edges problem labels router (place + 1) edges
+over_edges problem labels router place (edge ∷ edges) = (if nat_eq edge.importer router then candidate_of (Some place) (over problem labels edge) else [])
+    ++ over_edges problem labels router (place + 1) edges
 
 -- all candidates of the router
 unfoldable pub candidates : Problem → List (Option Route) → ℕ → List Candidate
@@ -35,7 +37,8 @@ candidates problem labels router = candidate_of None (initial problem router) ++
 pub record IsSettled (problem : Problem) (labels : List (Option Route)) (router : ℕ) : Type 0 where
   pub none : label labels router ≡ None → candidates problem labels router ≡ []
   pub held : (r : Route) → label labels router ≡ Some r → (k : Candidate) × Contains (candidates problem labels router) k × (k.route ≡ r)
-  pub best : (r : Route) (k : Candidate) → label labels router ≡ Some r → Contains (candidates problem labels router) k → compare_keys (key_of problem k.route) (key_of problem r) ≢ Less
+  pub best : (r : Route) (k : Candidate) → label labels router ≡ Some r → Contains (candidates problem labels router) k →
+      compare_keys (key_of problem k.route) (key_of problem r) ≢ Less
 
 -- the edges of a router stand together, from `first` up to `end`
 pub record AreOwnEdges (edges : List Edge) (router first end : ℕ) : Type 0 where

@@ -27,7 +27,8 @@ pub record IsLiftedPart (problem small : Problem) (groups : List ℕ) (lower lab
   pub held : (u : ℕ) (r : Route) → label labels u ≡ Some r → IsCandidate problem labels u r
   pub keyed : (u : ℕ) (r : Route) → label labels u ≡ Some r → (m : Route) × (label lower (group_of groups u) ≡ Some m) × (key_of problem r ≡ key_of small m)
   pub started : (u : ℕ) (r i : Route) → label labels u ≡ Some r → initial problem u ≡ Some i → r ≡ i
-  pub taken : (u source : ℕ) (r m : Route) → label labels u ≡ Some r → label lower (group_of groups u) ≡ Some m → initial problem u ≡ None → IsFirstOn small (path_of m) source → TakesFrom problem small groups labels u source r m × IsGroupFilled problem groups labels source
+  pub taken : (u source : ℕ) (r m : Route) → label labels u ≡ Some r → label lower (group_of groups u) ≡ Some m → initial problem u ≡ None →
+      IsFirstOn small (path_of m) source → TakesFrom problem small groups labels u source r m × IsGroupFilled problem groups labels source
 
 -- the routers whose groups have labels below the size have labels
 pub record IsLiftedBelow (problem : Problem) (groups : List ℕ) (lower labels : List (Option Route)) (size : ℕ) : Type 0 where
@@ -54,9 +55,11 @@ pub record CanBeFolded (problem small : Problem) (groups : List ℕ) (labels : L
 pub record IsFoldedPart (problem small : Problem) (groups : List ℕ) (labels lower : List (Option Route)) : Type 0 where
   pub fitting : AreLabels small lower
   pub held : (g : ℕ) (m : Route) → label lower g ≡ Some m → IsCandidate small lower g m
-  pub keyed : (u : ℕ) (m : Route) → u < count problem → label lower (group_of groups u) ≡ Some m → (r : Route) × (label labels u ≡ Some r) × (key_of small m ≡ key_of problem r)
+  pub keyed : (u : ℕ) (m : Route) → u < count problem → label lower (group_of groups u) ≡ Some m → (r : Route) × (label labels u ≡ Some r)
+      × (key_of small m ≡ key_of problem r)
   pub started : (u : ℕ) (m i : Route) → u < count problem → label lower (group_of groups u) ≡ Some m → initial problem u ≡ Some i → m ≡ i
-  pub taken : (u source : ℕ) (r m : Route) → u < count problem → IsFirstMember groups u → label lower (group_of groups u) ≡ Some m → label labels u ≡ Some r → initial problem u ≡ None → IsFirstOn problem (path_of r) source → GroupTakes problem small lower (group_of groups u) (group_of groups source) m r
+  pub taken : (u source : ℕ) (r m : Route) → u < count problem → IsFirstMember groups u → label lower (group_of groups u) ≡ Some m → label labels u ≡ Some r →
+      initial problem u ≡ None → IsFirstOn problem (path_of r) source → GroupTakes problem small lower (group_of groups u) (group_of groups source) m r
 
 -- the groups whose members have labels below the size have labels
 pub record IsFoldedBelow (problem : Problem) (groups : List ℕ) (labels lower : List (Option Route)) (size : ℕ) : Type 0 where

@@ -15,7 +15,8 @@ pub record TakesFrom (problem small : Problem) (groups : List ℕ) (labels : Lis
   pub exporter : group_of groups edge.exporter ≡ source
   pub over : IsCandidateOver problem labels edge route
   pub keyed : key_of problem route ≡ key_of small lower
-  pub least : (other : Edge) (candidate : Route) → Contains problem.edges other → other.importer ≡ router → group_of groups other.exporter ≡ source → IsCandidateOver problem labels other candidate → key_of problem candidate ≡ key_of small lower → edge.exporter ≤ other.exporter
+  pub least : (other : Edge) (candidate : Route) → Contains problem.edges other → other.importer ≡ router → group_of groups other.exporter ≡ source →
+      IsCandidateOver problem labels other candidate → key_of problem candidate ≡ key_of small lower → edge.exporter ≤ other.exporter
 
 -- the group whose number is first on a path
 pub record IsFirstOn (small : Problem) (path : List ℕ) (source : ℕ) : Type 0 where
@@ -30,7 +31,8 @@ pub record IsLift (problem small : Problem) (groups : List ℕ) (lower labels : 
   pub fitting : AreLabels problem labels
   pub empty : (u : ℕ) → u < count problem → label lower (group_of groups u) ≡ None → label labels u ≡ None
   pub started : (u : ℕ) (r m : Route) → u < count problem → label lower (group_of groups u) ≡ Some m → initial problem u ≡ Some r → label labels u ≡ Some r
-  pub taken : (u source : ℕ) (m : Route) → u < count problem → label lower (group_of groups u) ≡ Some m → initial problem u ≡ None → IsFirstOn small (path_of m) source → (r : Route) × (label labels u ≡ Some r) × TakesFrom problem small groups labels u source r m
+  pub taken : (u source : ℕ) (m : Route) → u < count problem → label lower (group_of groups u) ≡ Some m → initial problem u ≡ None →
+      IsFirstOn small (path_of m) source → (r : Route) × (label labels u ≡ Some r) × TakesFrom problem small groups labels u source r m
 
 -- the groups along two paths are the same
 pub record Tracks (problem small : Problem) (groups : List ℕ) (upper lower : ℕ) : Type 0 where
@@ -58,4 +60,6 @@ pub record IsFold (problem small : Problem) (groups : List ℕ) (labels lower : 
   pub fitting : AreLabels small lower
   pub empty : (u : ℕ) → u < count problem → label labels u ≡ None → label lower (group_of groups u) ≡ None
   pub started : (u : ℕ) (i : Route) → u < count problem → initial problem u ≡ Some i → label lower (group_of groups u) ≡ Some i
-  pub taken : (u source : ℕ) (r : Route) → u < count problem → IsFirstMember groups u → label labels u ≡ Some r → initial problem u ≡ None → IsFirstOn problem (path_of r) source → (m : Route) × (label lower (group_of groups u) ≡ Some m) × GroupTakes problem small lower (group_of groups u) (group_of groups source) m r
+  pub taken : (u source : ℕ) (r : Route) → u < count problem → IsFirstMember groups u → label labels u ≡ Some r → initial problem u ≡ None →
+      IsFirstOn problem (path_of r) source → (m : Route) × (label lower (group_of groups u) ≡ Some m)
+      × GroupTakes problem small lower (group_of groups u) (group_of groups source) m r

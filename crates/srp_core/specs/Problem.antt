@@ -90,7 +90,8 @@ pub record IsEdgeOf (problem : Problem) (edge : Edge) : Type 0 where
 
 -- an edge stands before another by importer, then exporter, then link
 abbrev pub Precedes : Edge → Edge → Type 0
-Precedes first second = (first.importer < second.importer) ⊎ ((first.importer ≡ second.importer) × ((first.exporter < second.exporter) ⊎ ((first.exporter ≡ second.exporter) × (first.link < second.link))))
+Precedes first second = (first.importer < second.importer)
+    ⊎ ((first.importer ≡ second.importer) × ((first.exporter < second.exporter) ⊎ ((first.exporter ≡ second.exporter) × (first.link < second.link))))
 
 -- each edge stands before all later ones
 abbrev pub AreOrdered : List Edge → Type 0
@@ -109,13 +110,15 @@ pub record HasTables (problem : Problem) : Type 0 where
 pub record HasEdges (problem : Problem) : Type 0 where
   pub inside : (edge : Edge) → Contains problem.edges edge → IsEdgeOf problem edge
   pub ordered : AreOrdered problem.edges
-  pub one_of_link : (edge other : Edge) → Contains problem.edges edge → Contains problem.edges other → edge.importer ≡ other.importer → edge.link ≡ other.link → edge ≡ other
+  pub one_of_link : (edge other : Edge) → Contains problem.edges edge → Contains problem.edges other → edge.importer ≡ other.importer → edge.link ≡ other.link →
+      edge ≡ other
 
 -- acts are of the protocol, and no two of them act alike
 pub record HasActs (problem : Problem) : Type 0 where
   pub fit : All (IsActOf problem.protocol) problem.acts
   pub keep : All KeepsSets problem.acts
-  pub differ : (i j : ℕ) → i < length problem.acts → j < length problem.acts → ActsAlike (slice_index_or problem.acts i (Cost 0)) (slice_index_or problem.acts j (Cost 0)) → i ≡ j
+  pub differ : (i j : ℕ) → i < length problem.acts → j < length problem.acts →
+      ActsAlike (slice_index_or problem.acts i (Cost 0)) (slice_index_or problem.acts j (Cost 0)) → i ≡ j
 
 -- initial routes are of the protocol, have no path and no communities; in BGP no router that has one imports
 pub record HasStarts (problem : Problem) : Type 0 where

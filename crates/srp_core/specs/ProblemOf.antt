@@ -85,7 +85,8 @@ IsEdgeDirection OverOspf network prefix d = Unit {0}
 -- the maps import every set of communities as the session does
 pub record MeansSession (network : Network) (prefix : Prefix) (d : Direction) (out : Plain) (sends : Bool) (into : Plain) : Type 0 where
   pub ends : SessionEnds network d
-  pub same : (comms : List ℕ) → IsAscending comms → import_of out sends into comms ≡ session_import prefix ends.exporter ends.exporter_line ends.importer ends.importer_line comms
+  pub same : (comms : List ℕ) → IsAscending comms →
+      import_of out sends into comms ≡ session_import prefix ends.exporter ends.exporter_line ends.importer ends.importer_line comms
 
 -- the cost is that of the importer's interface
 pub record MeansCost (network : Network) (d : Direction) (cost : ℕ) : Type 0 where
@@ -117,4 +118,5 @@ pub record IsProblemOf (network : Network) (prefix : Prefix) (problem : Problem)
   pub numbers : problem.numbers ≡ map as_number_of network.routers
   pub init : problem.init ≡ map (start_route prefix) network.routers
   pub edges_stand : (edge : Edge) → Contains problem.edges edge → (d : Direction) × StandsFor problem network prefix edge d
-  pub edges_all : (d : Direction) → IsDirection network d → IsEdgeDirection problem.protocol network prefix d → (edge : Edge) × Contains problem.edges edge × StandsFor problem network prefix edge d
+  pub edges_all : (d : Direction) → IsDirection network d → IsEdgeDirection problem.protocol network prefix d → (edge : Edge) × Contains problem.edges edge
+      × StandsFor problem network prefix edge d

@@ -27,7 +27,8 @@ pub record IsAdmissible (problem : Problem) (groups : List ℕ) : Type 0 where
   pub total : length groups ≡ count problem
   pub origins : (u v : ℕ) → u < count problem → v < count problem → group_of groups u ≡ group_of groups v → initial problem u ≡ initial problem v
   pub alone : (u v : ℕ) → u < count problem → v < count problem → group_of groups u ≡ group_of groups v → is_lone problem u ≡ true → u ≡ v
-  pub twins : (u v : ℕ) (edge : Edge) → u < count problem → v < count problem → group_of groups u ≡ group_of groups v → Contains problem.edges edge → edge.importer ≡ u → group_of groups edge.exporter ≢ group_of groups u → Twin problem groups v edge
+  pub twins : (u v : ℕ) (edge : Edge) → u < count problem → v < count problem → group_of groups u ≡ group_of groups v → Contains problem.edges edge →
+      edge.importer ≡ u → group_of groups edge.exporter ≢ group_of groups u → Twin problem groups v edge
 
 -- an admissible partition that every admissible partition refines
 pub record IsCoarsest (problem : Problem) (groups : List ℕ) : Type 0 where
@@ -68,7 +69,8 @@ pub record IsQuotient (problem : Problem) (groups : List ℕ) (small : Problem) 
   pub origins : (u : ℕ) → u < count problem → initial small (group_of groups u) ≡ initial problem u
   pub lone : (u : ℕ) → u < count problem → is_lone small (group_of groups u) ≡ is_lone problem u
   pub down : (lower : Edge) → Contains small.edges lower → (edge : Edge) × Contains problem.edges edge × Lies problem small groups edge lower
-  pub up : (edge : Edge) → Contains problem.edges edge → group_of groups edge.importer ≢ group_of groups edge.exporter → (lower : Edge) × Contains small.edges lower × Lies problem small groups edge lower
+  pub up : (edge : Edge) → Contains problem.edges edge → group_of groups edge.importer ≢ group_of groups edge.exporter →
+      (lower : Edge) × Contains small.edges lower × Lies problem small groups edge lower
   pub numbers : (g : ℕ) → g < count small → IsUsed small g → number small g ≡ first_number problem.numbers groups g
   pub unused : (g : ℕ) → g < count small → ¬ IsUsed small g → number small g ≡ 0
 

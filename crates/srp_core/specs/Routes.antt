@@ -62,4 +62,5 @@ key_by is_lone route = record { preference = preference_of route; size = size_of
 -- Less where the first key is better: higher preference, then smaller size, then the
 -- lexicographically smaller list of communities, then of lone numbers
 unfoldable pub compare_keys : Key → Key → Ordering
-compare_keys = then_cmp (on (λ k. k.preference) (flip_args nat_cmp)) (then_cmp (on (λ k. k.size) nat_cmp) (then_cmp (on (λ k. k.comms) (slice_cmp nat_cmp)) (on (λ k. k.lone) (slice_cmp nat_cmp))))
+compare_keys = then_cmp (on (λ k. k.preference) (flip_args nat_cmp))
+    (then_cmp (on (λ k. k.size) nat_cmp) (then_cmp (on (λ k. k.comms) (slice_cmp nat_cmp)) (on (λ k. k.lone) (slice_cmp nat_cmp))))

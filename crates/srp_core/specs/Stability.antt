@@ -27,14 +27,16 @@ pub record IsCandidateOver (problem : Problem) (labels : List (Option Route)) (e
 -- a route that the router may take: its initial route, or one that an edge gives it
 pub data IsCandidate (problem : Problem) (labels : List (Option Route)) (router : ℕ) (route : Route) : Type 0 where
   of_init : initial problem router ≡ Some route → IsCandidate problem labels router route
-  of_edge : (edge : Edge) → Contains problem.edges edge → edge.importer ≡ router → IsCandidateOver problem labels edge route → IsCandidate problem labels router route
+  of_edge : (edge : Edge) → Contains problem.edges edge → edge.importer ≡ router → IsCandidateOver problem labels edge route →
+      IsCandidate problem labels router route
 
 -- a router without candidates has no label, and each other holds a candidate that none beats
 pub record IsStable (problem : Problem) (labels : List (Option Route)) : Type 0 where
   pub fitting : AreLabels problem labels
   pub none : (u : ℕ) (c : Route) → u < count problem → label labels u ≡ None → ¬ IsCandidate problem labels u c
   pub held : (u : ℕ) (r : Route) → u < count problem → label labels u ≡ Some r → IsCandidate problem labels u r
-  pub best : (u : ℕ) (r c : Route) → u < count problem → label labels u ≡ Some r → IsCandidate problem labels u c → compare_keys (key_of problem c) (key_of problem r) ≢ Less
+  pub best : (u : ℕ) (r c : Route) → u < count problem → label labels u ≡ Some r → IsCandidate problem labels u c →
+      compare_keys (key_of problem c) (key_of problem r) ≢ Less
 
 -- the router forwards to the exporter of each of its edges whose candidate ties with its label
 pub record ForwardsTo (problem : Problem) (labels : List (Option Route)) (router next : ℕ) : Type 0 where

@@ -32,5 +32,7 @@ pub record IsGraphOf (problem : Problem) (graph : ActGraph) : Type 0 where
   pub routers : graph.count ≡ count problem
   pub edges : graph.edges ≡ problem.edges
   pub alone : (u v : ℕ) → u < count problem → v < count problem → is_lone problem u ≡ true → color graph u ≡ color graph v → u ≡ v
-  pub apart : (u v : ℕ) → u < count problem → v < count problem → is_lone problem u ≡ false → is_lone problem v ≡ false → color graph u ≡ color graph v → initial problem u ≡ initial problem v
-  pub alike : (u v : ℕ) → u < count problem → v < count problem → is_lone problem u ≡ false → is_lone problem v ≡ false → initial problem u ≡ initial problem v → color graph u ≡ color graph v
+  pub apart : (u v : ℕ) → u < count problem → v < count problem → is_lone problem u ≡ false → is_lone problem v ≡ false → color graph u ≡ color graph v →
+      initial problem u ≡ initial problem v
+  pub alike : (u v : ℕ) → u < count problem → v < count problem → is_lone problem u ≡ false → is_lone problem v ≡ false →
+      initial problem u ≡ initial problem v → color graph u ≡ color graph v

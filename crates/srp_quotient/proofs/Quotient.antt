@@ -40,7 +40,8 @@ one_number m n e = grind (arith, nat_tests)
 other_number : (m n : ℕ) → nat_eq m n ≡ false → m ≢ n
 other_number m n e same = absurd (grind (arith, nat_tests))
 
-first_step : (x : ℕ) (xs : List ℕ) (g u : ℕ) (b : Bool) → nat_eq x g ≡ b → u < length (x ∷ xs) → slice_index (x ∷ xs) u ≡ g → ((v : ℕ) → v < length xs → slice_index xs v ≡ g → IsFirst xs g (first_member xs g)) → IsFirst (x ∷ xs) g (cond b 0 (suc (first_member xs g)))
+first_step : (x : ℕ) (xs : List ℕ) (g u : ℕ) (b : Bool) → nat_eq x g ≡ b → u < length (x ∷ xs) → slice_index (x ∷ xs) u ≡ g →
+    ((v : ℕ) → v < length xs → slice_index xs v ≡ g → IsFirst xs g (first_member xs g)) → IsFirst (x ∷ xs) g (cond b 0 (suc (first_member xs g)))
 first_step x xs g u true e h at rest = record { inside = omega arith; there = one_number x g e; least = λ v less. absurd (omega arith) }
 first_step x xs g zero false e h at rest = absurd (other_number x g e at)
 first_step x xs g (suc u) false e h at rest =
@@ -76,7 +77,8 @@ bool_cases true = inl refl
 bool_cases false = inr refl
 
 in_enumerate_0 : {X : Type 0} (xs : List X) (k : ℕ) (x : X) → slice_get xs k ≡ Some x → In (enumerate_from 0 xs) (k, x)
-in_enumerate_0 {X} xs k x e = let P : ℕ → Type 0 = λ m. In (enumerate_from 0 xs) (m, x) in let same : 0 + k ≡ k = omega arith in subst P same (in_enumerate xs 0 k x e)
+in_enumerate_0 {X} xs k x e = let P : ℕ → Type 0 = λ m. In (enumerate_from 0 xs) (m, x) in let same : 0 + k ≡ k = omega arith in
+    subst P same (in_enumerate xs 0 k x e)
 
 or_right : (a b : Bool) → b ≡ true → (a || b) ≡ true
 or_right true b e = refl
@@ -121,15 +123,19 @@ and_true true b e = (refl, e)
 and_true false b e = absurd cc
 
 same_ends : (l m : QLink) (g h : ℕ) → same_pair l m ≡ true → IsJoined l g h → IsJoined m g h
-same_ends l m g h e (inl j) = let p = and_true (nat_eq l.low m.low) (nat_eq l.high m.high) e in inl (sym (one_number l.low m.low p.0) ∙ j.0, sym (one_number l.high m.high p.1) ∙ j.1)
-same_ends l m g h e (inr j) = let p = and_true (nat_eq l.low m.low) (nat_eq l.high m.high) e in inr (sym (one_number l.high m.high p.1) ∙ j.0, sym (one_number l.low m.low p.0) ∙ j.1)
+same_ends l m g h e (inl j) = let p = and_true (nat_eq l.low m.low) (nat_eq l.high m.high) e in
+    inl (sym (one_number l.low m.low p.0) ∙ j.0, sym (one_number l.high m.high p.1) ∙ j.1)
+same_ends l m g h e (inr j) = let p = and_true (nat_eq l.low m.low) (nat_eq l.high m.high) e in
+    inr (sym (one_number l.high m.high p.1) ∙ j.0, sym (one_number l.low m.low p.0) ∙ j.1)
 
-pub into_real : (q : Protocol) (es : List Edge) (groups : List ℕ) (count : ℕ) (links : List QLink) → CarriesActs es groups count links → (l : QLink) (g h k : ℕ) → Contains links l → IsJoined l g h → edge_into q links g l ≡ Some k → IsEdgeAt es groups k g h
+pub into_real : (q : Protocol) (es : List Edge) (groups : List ℕ) (count : ℕ) (links : List QLink) → CarriesActs es groups count links →
+    (l : QLink) (g h k : ℕ) → Contains links l → IsJoined l g h → edge_into q links g l ≡ Some k → IsEdgeAt es groups k g h
 unfolding edge_into
 into_real OverBgp es groups count links carries l g h k has joined e = carries.real l g h k has joined e
 into_real OverOspf es groups count links carries l g h k has joined e = elim (or_else_is (side_of g l) (last_into links g l) k e) [
   | inl a ↦ carries.real l g h k has joined a
-  | inr b ↦ (let m = filter_map_in (side_of g) (filter (same_pair l) links) k (last_in _ k b) in let at = filter_in (same_pair l) links m.0 m.1 in carries.real m.0 g h k (contains_in links m.0 at.0) (same_ends l m.0 g h at.1 joined) m.2)
+  | inr b ↦ (let m = filter_map_in (side_of g) (filter (same_pair l) links) k (last_in _ k b) in let at = filter_in (same_pair l) links m.0 m.1 in
+      carries.real m.0 g h k (contains_in links m.0 at.0) (same_ends l m.0 g h at.1 joined) m.2)
 ]
 
 into_side : (q : Protocol) (links : List QLink) (l : QLink) (g k : ℕ) → side_of g l ≡ Some k → edge_into q links g l ≡ Some k
@@ -191,13 +197,47 @@ module _ (S : Problem) (groups : List ℕ) (count : ℕ) (good : IsProblem S) (a
   of_link lower at =
       let all = flat_map (edges_of_link S.protocol S.edges (quotient_links S.edges groups count)) (enumerate_from 0 (quotient_links S.edges groups count)) in
       let inner = by_key_in exporter_of count all lower (by_key_in importer_of count (by_key exporter_of count all) lower at) in
-      let t = flat_map_in (edges_of_link S.protocol S.edges (quotient_links S.edges groups count)) (enumerate_from 0 (quotient_links S.edges groups count)) lower inner in
+      let t = flat_map_in (edges_of_link S.protocol S.edges (quotient_links S.edges groups count)) (enumerate_from 0 (quotient_links S.edges groups count))
+      lower inner in
       let n = enumerate_in (quotient_links S.edges groups count) 0 t.0.0 t.0.1 t.1 in
       let has = contains_in (quotient_links S.edges groups count) t.0.1 (get_in (quotient_links S.edges groups count) n.0 t.0.1 n.2) in
-      let at_place : slice_get (quotient_links S.edges groups count) t.0.0 ≡ Some t.0.1 = (let same : n.0 ≡ t.0.0 = (let e = n.1 in omega arith) in subst (λ (p : ℕ). slice_get (quotient_links S.edges groups count) p ≡ Some t.0.1) same n.2) in
-      elim (append_in (listed (option_map (lower_edge S.edges t.0.0 t.0.1.low t.0.1.high) (edge_into S.protocol (quotient_links S.edges groups count) t.0.1.low t.0.1))) (listed (option_map (lower_edge S.edges t.0.0 t.0.1.high t.0.1.low) (edge_into S.protocol (quotient_links S.edges groups count) t.0.1.high t.0.1))) lower t.2) [
-        | inl a ↦ (let k = listed_in (edge_into S.protocol (quotient_links S.edges groups count) t.0.1.low t.0.1) (lower_edge S.edges t.0.0 t.0.1.low t.0.1.high) lower a in record { place = t.0.0; l = t.0.1; l_at = at_place; l_in = has; g = t.0.1.low; h = t.0.1.high; k = k.0; joined = inl (refl, refl); into = k.1; is = k.2 })
-        | inr b ↦ (let k = listed_in (edge_into S.protocol (quotient_links S.edges groups count) t.0.1.high t.0.1) (lower_edge S.edges t.0.0 t.0.1.high t.0.1.low) lower b in record { place = t.0.0; l = t.0.1; l_at = at_place; l_in = has; g = t.0.1.high; h = t.0.1.low; k = k.0; joined = inr (refl, refl); into = k.1; is = k.2 })
+      let at_place : slice_get (quotient_links S.edges groups count) t.0.0 ≡ Some t.0.1 =
+      (let same : n.0 ≡ t.0.0 = (let e = n.1 in omega arith) in subst (λ (p : ℕ). slice_get (quotient_links S.edges groups count) p ≡ Some t.0.1) same n.2)
+      in
+      elim (append_in (listed (option_map (lower_edge S.edges t.0.0 t.0.1.low t.0.1.high)
+      (edge_into S.protocol (quotient_links S.edges groups count) t.0.1.low t.0.1)))
+      (listed (option_map (lower_edge S.edges t.0.0 t.0.1.high t.0.1.low) (edge_into S.protocol (quotient_links S.edges groups count) t.0.1.high t.0.1)))
+      lower t.2) [
+        | inl a ↦ (let k = listed_in (edge_into S.protocol (quotient_links S.edges groups count) t.0.1.low t.0.1)
+            (lower_edge S.edges t.0.0 t.0.1.low t.0.1.high) lower a in
+            record {
+              place = t.0.0;
+              l = t.0.1;
+              l_at = at_place;
+              l_in = has;
+              g = t.0.1.low;
+              h = t.0.1.high;
+              k = k.0;
+              joined = inl (refl, refl);
+              into = k.1;
+              is =
+                  k.2;
+            })
+        | inr b ↦ (let k = listed_in (edge_into S.protocol (quotient_links S.edges groups count) t.0.1.high t.0.1)
+            (lower_edge S.edges t.0.0 t.0.1.high t.0.1.low) lower b in
+            record {
+              place = t.0.0;
+              l = t.0.1;
+              l_at = at_place;
+              l_in = has;
+              g = t.0.1.high;
+              h = t.0.1.low;
+              k = k.0;
+              joined = inr (refl, refl);
+              into = k.1;
+              is =
+                  k.2;
+            })
       ]
 
   apart : (l : QLink) (g h : ℕ) → Contains links l → IsJoined l g h → g ≢ h
@@ -218,48 +258,65 @@ module _ (S : Problem) (groups : List ℕ) (count : ℕ) (good : IsProblem S) (a
           importer = d.importer ∙ ap (λ (e : Edge). e.importer) o.is;
           exporter = d.exporter ∙ ap (λ (e : Edge). e.exporter) o.is;
           differ = (λ e. apart o.l o.g o.h o.l_in o.joined (ap (λ (x : Edge). x.importer) o.is ∙ e ∙ sym (ap (λ (x : Edge). x.exporter) o.is)));
-          alike = subst (λ (a : Act). ActsAlike (act_of S d.edge) a) (ap (λ (n : ℕ). slice_index_or S.acts n (Cost 0)) (d.does ∙ ap (λ (x : Edge). x.act) o.is) ∙ sym (same_acts lower.act)) (alike_refl (act_of S d.edge));
+          alike = subst (λ (a : Act). ActsAlike (act_of S d.edge) a) (ap (λ (n : ℕ). slice_index_or S.acts n (Cost 0)) (d.does ∙ ap (λ (x : Edge). x.act) o.is)
+              ∙ sym (same_acts lower.act)) (alike_refl (act_of S d.edge));
         },
       )
 
-  in_small : (place : ℕ) (l : QLink) (g h k : ℕ) → slice_get links place ≡ Some l → IsJoined l g h → edge_into S.protocol links g l ≡ Some k → In small.edges (lower_edge S.edges place g h k)
+  in_small : (place : ℕ) (l : QLink) (g h k : ℕ) → slice_get links place ≡ Some l → IsJoined l g h → edge_into S.protocol links g l ≡ Some k →
+      In small.edges (lower_edge S.edges place g h k)
   unfolding small quotient_problem quotient_edges links
   in_small place l g h k at joined into =
       let all = flat_map (edges_of_link S.protocol S.edges (quotient_links S.edges groups count)) (enumerate_from 0 (quotient_links S.edges groups count)) in
       let b = carries.below l (contains_in links l (get_in links place l at)) in
       let less = b.ordered in
       let within = b.inside in
-      let here : In (edges_of_link S.protocol S.edges (quotient_links S.edges groups count) (place, l)) (lower_edge S.edges place g h k) = side g h joined into in
-      let outer : In all (lower_edge S.edges place g h k) = in_flat_map (edges_of_link S.protocol S.edges (quotient_links S.edges groups count)) (enumerate_from 0 (quotient_links S.edges groups count)) (place, l) (lower_edge S.edges place g h k) (in_enumerate_0 (quotient_links S.edges groups count) place l at) here in
+      let here : In (edges_of_link S.protocol S.edges (quotient_links S.edges groups count) (place, l)) (lower_edge S.edges place g h k) =
+      side g h joined into in
+      let outer : In all (lower_edge S.edges place g h k) =
+      in_flat_map (edges_of_link S.protocol S.edges (quotient_links S.edges groups count)) (enumerate_from 0 (quotient_links S.edges groups count))
+      (place, l) (lower_edge S.edges place g h k) (in_enumerate_0 (quotient_links S.edges groups count) place l at) here in
       let ends = ends_below g h joined less within in
-      in_by_key importer_of count (by_key exporter_of count all) (lower_edge S.edges place g h k) (in_by_key exporter_of count all (lower_edge S.edges place g h k) outer ends.1) ends.0
+      in_by_key importer_of count (by_key exporter_of count all) (lower_edge S.edges place g h k)
+      (in_by_key exporter_of count all (lower_edge S.edges place g h k) outer ends.1) ends.0
     where
       ends_below : (g h : ℕ) → IsJoined l g h → l.low < l.high → l.high < count → (g < count) × (h < count)
       ends_below g h (inl j) x y = let a = j.0 in let b = j.1 in (omega arith, omega arith)
       ends_below g h (inr j) x y = let a = j.0 in let b = j.1 in (omega arith, omega arith)
 
-      side : (g h : ℕ) → IsJoined l g h → edge_into S.protocol (quotient_links S.edges groups count) g l ≡ Some k → In (edges_of_link S.protocol S.edges (quotient_links S.edges groups count) (place, l)) (lower_edge S.edges place g h k)
+      side : (g h : ℕ) → IsJoined l g h → edge_into S.protocol (quotient_links S.edges groups count) g l ≡ Some k →
+          In (edges_of_link S.protocol S.edges (quotient_links S.edges groups count) (place, l)) (lower_edge S.edges place g h k)
       side g h (inl j) e =
-          let P : ℕ → ℕ → Type 0 = λ x y. In (edges_of_link S.protocol S.edges (quotient_links S.edges groups count) (place, l)) (lower_edge S.edges place x y k) in
-          let f : edge_into S.protocol (quotient_links S.edges groups count) l.low l ≡ Some k = ap (λ (x : ℕ). edge_into S.protocol (quotient_links S.edges groups count) x l) j.0 ∙ e in
-          subst (P g) j.1 (subst (λ (x : ℕ). P x l.high) j.0 (in_left _ _ _ (in_listed (edge_into S.protocol (quotient_links S.edges groups count) l.low l) (lower_edge S.edges place l.low l.high) k f)))
+          let P : ℕ → ℕ → Type 0 = λ x y. In (edges_of_link S.protocol S.edges (quotient_links S.edges groups count) (place, l))
+          (lower_edge S.edges place x y k) in
+          let f : edge_into S.protocol (quotient_links S.edges groups count) l.low l ≡ Some k =
+          ap (λ (x : ℕ). edge_into S.protocol (quotient_links S.edges groups count) x l) j.0 ∙ e in
+          subst (P g) j.1 (subst (λ (x : ℕ). P x l.high) j.0
+          (in_left _ _ _ (in_listed (edge_into S.protocol (quotient_links S.edges groups count) l.low l) (lower_edge S.edges place l.low l.high) k f)))
       side g h (inr j) e =
-          let P : ℕ → ℕ → Type 0 = λ x y. In (edges_of_link S.protocol S.edges (quotient_links S.edges groups count) (place, l)) (lower_edge S.edges place x y k) in
-          let f : edge_into S.protocol (quotient_links S.edges groups count) l.high l ≡ Some k = ap (λ (x : ℕ). edge_into S.protocol (quotient_links S.edges groups count) x l) j.0 ∙ e in
-          subst (P g) j.1 (subst (λ (x : ℕ). P x l.low) j.0 (in_right _ _ _ (in_listed (edge_into S.protocol (quotient_links S.edges groups count) l.high l) (lower_edge S.edges place l.high l.low) k f)))
+          let P : ℕ → ℕ → Type 0 = λ x y. In (edges_of_link S.protocol S.edges (quotient_links S.edges groups count) (place, l))
+          (lower_edge S.edges place x y k) in
+          let f : edge_into S.protocol (quotient_links S.edges groups count) l.high l ≡ Some k =
+          ap (λ (x : ℕ). edge_into S.protocol (quotient_links S.edges groups count) x l) j.0 ∙ e in
+          subst (P g) j.1 (subst (λ (x : ℕ). P x l.low) j.0
+          (in_right _ _ _ (in_listed (edge_into S.protocol (quotient_links S.edges groups count) l.high l) (lower_edge S.edges place l.high l.low) k f)))
 
-  up : (edge : Edge) → Contains S.edges edge → group_of groups edge.importer ≢ group_of groups edge.exporter → (lower : Edge) × Contains small.edges lower × Lies S small groups edge lower
+  up : (edge : Edge) → Contains S.edges edge → group_of groups edge.importer ≢ group_of groups edge.exporter → (lower : Edge) × Contains small.edges lower
+      × Lies S small groups edge lower
   up edge has differ =
-      let c = carries.kept (group_of groups edge.importer) (group_of groups edge.exporter) edge.act differ (record { edge = edge; has = has; importer = refl; exporter = refl; does = refl }) in
+      let c = carries.kept (group_of groups edge.importer) (group_of groups edge.exporter) edge.act differ
+      (record { edge = edge; has = has; importer = refl; exporter = refl; does = refl }) in
       let at = in_get links c.link (in_contains links c.link c.has) in
       let lower = lower_edge S.edges at.0 (group_of groups edge.importer) (group_of groups edge.exporter) c.edge in (
         lower,
-        contains_in small.edges lower (in_small at.0 c.link (group_of groups edge.importer) (group_of groups edge.exporter) c.edge at.1 c.joined (into_side S.protocol links c.link (group_of groups edge.importer) c.edge c.side)),
+        contains_in small.edges lower (in_small at.0 c.link (group_of groups edge.importer) (group_of groups edge.exporter) c.edge at.1 c.joined
+            (into_side S.protocol links c.link (group_of groups edge.importer) c.edge c.side)),
         record {
           importer = refl;
           exporter = refl;
           differ = differ;
-          alike = subst (λ (a : Act). ActsAlike (act_of S edge) a) (ap (λ (n : ℕ). slice_index_or S.acts n (Cost 0)) (sym c.does) ∙ sym (same_acts lower.act)) (alike_refl (act_of S edge));
+          alike = subst (λ (a : Act). ActsAlike (act_of S edge) a) (ap (λ (n : ℕ). slice_index_or S.acts n (Cost 0)) (sym c.does) ∙ sym (same_acts lower.act))
+              (alike_refl (act_of S edge));
         },
       )
 
@@ -267,7 +324,8 @@ module _ (S : Problem) (groups : List ℕ) (count : ℕ) (good : IsProblem S) (a
   unfolding small quotient_problem
   names u h is =
       let f = first u h in
-      at_group (λ g. slice_index_or S.names (first_member groups g) []) [] count (group_of groups u) (below u h) ∙ ap (λ (v : ℕ). slice_index_or S.names v []) (first_is_one groups u (first_member groups (group_of groups u)) is f)
+      at_group (λ g. slice_index_or S.names (first_member groups g) []) [] count (group_of groups u) (below u h)
+      ∙ ap (λ (v : ℕ). slice_index_or S.names v []) (first_is_one groups u (first_member groups (group_of groups u)) is f)
 
   origins : (u : ℕ) → u < count_of S → initial small (group_of groups u) ≡ initial S u
   unfolding small quotient_problem
@@ -316,8 +374,14 @@ module _ (S : Problem) (groups : List ℕ) (count : ℕ) (good : IsProblem S) (a
 
   used_is : (g : ℕ) → g < count_of small → IsUsed small g → is_used S groups links g ≡ true
   used_is g h (originates r e) = ap (λ (o : Option Route). is_some o || list_any (touches g) links) (sym (start_is g h) ∙ e)
-  used_is g h (imports e has same) = (let o = of_link e (in_contains small.edges e has) in or_right (is_some (initial S (first_member groups g))) (list_any (touches g) links) (any_of links g o.l (in_contains links o.l o.l_in) (ap (λ (x : ℕ). touches x o.l) (sym same ∙ sym (ap (λ (x : Edge). x.importer) o.is)) ∙ touched o.l o.g o.h o.joined)))
-  used_is g h (exports e has same) = (let o = of_link e (in_contains small.edges e has) in or_right (is_some (initial S (first_member groups g))) (list_any (touches g) links) (any_of links g o.l (in_contains links o.l o.l_in) (ap (λ (x : ℕ). touches x o.l) (sym same ∙ sym (ap (λ (x : Edge). x.exporter) o.is)) ∙ touched o.l o.h o.g (other_joined o.l o.g o.h o.joined))))
+  used_is g h (imports e has same) = (let o = of_link e (in_contains small.edges e has) in
+      or_right (is_some (initial S (first_member groups g))) (list_any (touches g) links)
+      (any_of links g o.l (in_contains links o.l o.l_in) (ap (λ (x : ℕ). touches x o.l) (sym same ∙ sym (ap (λ (x : Edge). x.importer) o.is))
+      ∙ touched o.l o.g o.h o.joined)))
+  used_is g h (exports e has same) = (let o = of_link e (in_contains small.edges e has) in
+      or_right (is_some (initial S (first_member groups g))) (list_any (touches g) links)
+      (any_of links g o.l (in_contains links o.l o.l_in) (ap (λ (x : ℕ). touches x o.l) (sym same ∙ sym (ap (λ (x : Edge). x.exporter) o.is))
+      ∙ touched o.l o.h o.g (other_joined o.l o.g o.h o.joined))))
 
   is_used_of : (g : ℕ) → g < count_of small → is_used S groups links g ≡ true → IsUsed small g
   is_used_of g h e = elim (or_cases (is_some (initial S (first_member groups g))) (list_any (touches g) links) e) [
@@ -333,8 +397,12 @@ module _ (S : Problem) (groups : List ℕ) (count : ℕ) (good : IsProblem S) (a
         where
           at_end : (l : QLink) (other : ℕ) → Contains links l → IsJoined l g other → IsUsed small g
           at_end l other has joined = (let at = in_get links l (in_contains links l has) in elim (option_cases (side_of g l)) [
-            | inr there ↦ imports (lower_edge S.edges at.0 g other there.0) (contains_in small.edges _ (in_small at.0 l g other there.0 at.1 joined (into_side S.protocol links l g there.0 there.1))) refl
-            | inl none ↦ (let k = carries.used l g other has joined none in exports (lower_edge S.edges at.0 other g k.0) (contains_in small.edges _ (in_small at.0 l other g k.0 at.1 (other_joined l g other joined) (into_side S.protocol links l other k.0 k.1))) refl)
+            | inr there ↦ imports (lower_edge S.edges at.0 g other there.0)
+                (contains_in small.edges _ (in_small at.0 l g other there.0 at.1 joined (into_side S.protocol links l g there.0 there.1))) refl
+            | inl none ↦ (let k = carries.used l g other has joined none in
+                exports (lower_edge S.edges at.0 other g k.0)
+                (contains_in small.edges _ (in_small at.0 l other g k.0 at.1 (other_joined l g other joined) (into_side S.protocol links l other k.0 k.1)))
+                refl)
           ])
 
   numbers : (g : ℕ) → g < count_of small → IsUsed small g → number small g ≡ first_number S.numbers groups g

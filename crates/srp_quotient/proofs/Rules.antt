@@ -48,7 +48,8 @@ listed_few : (o : Option Edge) → length (listed o) ≤ 1
 listed_few None = omega arith
 listed_few (Some e) = omega arith
 
-few_edges : (q : Protocol) (es : List Edge) (links : List QLink) (m : ℕ) (ls : List QLink) → length (flat_map (edges_of_link q es links) (enumerate_from m ls)) ≤ 2 * length ls
+few_edges : (q : Protocol) (es : List Edge) (links : List QLink) (m : ℕ) (ls : List QLink) →
+    length (flat_map (edges_of_link q es links) (enumerate_from m ls)) ≤ 2 * length ls
 few_edges q es links m [] = omega arith
 few_edges q es links m (l ∷ ls) =
     let low = listed (option_map (lower_edge es m l.low l.high) (edge_into q links l.low l)) in
@@ -88,10 +89,13 @@ record IsOfPlace (m : ℕ) (n : ℕ) (e : Edge) : Type 0 where
 
 module _ (q : Protocol) (es : List Edge) (links : List QLink) where
   place_of : (m : ℕ) (l : QLink) (e : Edge) → In (edges_of_link q es links (m, l)) e → ((e.importer ≡ l.low) ⊎ (e.importer ≡ l.high)) × (e.link ≡ m)
-  place_of m l e at = elim (append_in (listed (option_map (lower_edge es m l.low l.high) (edge_into q links l.low l))) (listed (option_map (lower_edge es m l.high l.low) (edge_into q links l.high l))) e at) [
-    | inl a ↦ (let k = listed_in (edge_into q links l.low l) (lower_edge es m l.low l.high) e a in (inl (sym (ap (λ (x : Edge). x.importer) k.2)), sym (ap (λ (x : Edge). x.link) k.2)))
-    | inr b ↦ (let k = listed_in (edge_into q links l.high l) (lower_edge es m l.high l.low) e b in (inr (sym (ap (λ (x : Edge). x.importer) k.2)), sym (ap (λ (x : Edge). x.link) k.2)))
-  ]
+  place_of m l e at = elim (append_in (listed (option_map (lower_edge es m l.low l.high) (edge_into q links l.low l)))
+      (listed (option_map (lower_edge es m l.high l.low) (edge_into q links l.high l))) e at) [
+        | inl a ↦ (let k = listed_in (edge_into q links l.low l) (lower_edge es m l.low l.high) e a in
+            (inl (sym (ap (λ (x : Edge). x.importer) k.2)), sym (ap (λ (x : Edge). x.link) k.2)))
+        | inr b ↦ (let k = listed_in (edge_into q links l.high l) (lower_edge es m l.high l.low) e b in
+            (inr (sym (ap (λ (x : Edge). x.importer) k.2)), sym (ap (λ (x : Edge). x.link) k.2)))
+      ]
 
   link_from : (m : ℕ) (ls : List QLink) (e : Edge) → In (flat_map (edges_of_link q es links) (enumerate_from m ls)) e → m ≤ e.link
   link_from m ls e at =
@@ -107,7 +111,8 @@ module _ (q : Protocol) (es : List Edge) (links : List QLink) where
 
   both_ordered : (m : ℕ) (l : QLink) → l.low < l.high → IsOrdered ByLink (edges_of_link q es links (m, l))
   both_ordered m l less =
-      ordered_append ByLink (listed (option_map (lower_edge es m l.low l.high) (edge_into q links l.low l))) (listed (option_map (lower_edge es m l.high l.low) (edge_into q links l.high l)))
+      ordered_append ByLink (listed (option_map (lower_edge es m l.low l.high) (edge_into q links l.low l)))
+      (listed (option_map (lower_edge es m l.high l.low) (edge_into q links l.high l)))
       (one_listed (edge_into q links l.low l) (lower_edge es m l.low l.high)) (one_listed (edge_into q links l.high l) (lower_edge es m l.high l.low))
       (λ x y i j same other.
       (let a = listed_in (edge_into q links l.low l) (lower_edge es m l.low l.high) x i in
@@ -130,13 +135,15 @@ module _ (q : Protocol) (es : List Edge) (links : List QLink) where
       let exporters : IsOrdered ByExporter (by_key exporter_of count all) =
       ordered_keys exporter_of ByExporter all
       (λ v. ordered_as ByLink ByExporter (with_key exporter_of all v)
-      (λ x y i j less same. (let a = (key_is exporter_of all v x i).1 in let b = (key_is exporter_of all v y j).1 in let equal : x.exporter ≡ y.exporter = omega arith in inr (equal, less same equal)))
+      (λ x y i j less same. (let a = (key_is exporter_of all v x i).1 in let b = (key_is exporter_of all v y j).1 in let equal : x.exporter ≡ y.exporter =
+      omega arith in inr (equal, less same equal)))
       (ordered_filter ByLink (λ (e : Edge). nat_eq e.exporter v) all (by_links 0 links apart)))
       (λ x y less same. inl less) 0 count in
       ordered_edges (by_key importer_of count (by_key exporter_of count all))
       (ordered_keys importer_of Precedes (by_key exporter_of count all)
       (λ v. ordered_as ByExporter Precedes (with_key importer_of (by_key exporter_of count all) v)
-      (λ x y i j less. (let a = (key_is importer_of (by_key exporter_of count all) v x i).1 in let b = (key_is importer_of (by_key exporter_of count all) v y j).1 in let equal : x.importer ≡ y.importer = omega arith in inr (equal, less equal)))
+      (λ x y i j less. (let a = (key_is importer_of (by_key exporter_of count all) v x i).1 in let b =
+      (key_is importer_of (by_key exporter_of count all) v y j).1 in let equal : x.importer ≡ y.importer = omega arith in inr (equal, less equal)))
       (ordered_filter ByExporter (λ (e : Edge). nat_eq e.importer v) (by_key exporter_of count all) exporters))
       (λ x y less. inl less) 0 count)
 
@@ -155,7 +162,8 @@ one_other_end l g h k less (inr a) (inr b) = sym a.1 ∙ b.1
 one_other_end l g h k less (inl a) (inr b) = absurd (let x = a.0 in let y = b.0 in omega arith)
 one_other_end l g h k less (inr a) (inl b) = absurd (let x = a.0 in let y = b.0 in omega arith)
 
-module _ (S : Problem) (groups : List ℕ) (count : ℕ) (good : IsProblem S) (adm : IsAdmissible S groups) (numbered : IsNumbered groups count) (few : length (quotient_links S.edges groups count) < 2 ^ 31) where
+module _ (S : Problem) (groups : List ℕ) (count : ℕ) (good : IsProblem S) (adm : IsAdmissible S groups) (numbered : IsNumbered groups count)
+    (few : length (quotient_links S.edges groups count) < 2 ^ 31) where
   tables : HasTables (small_of S groups count)
   unfolding quotient_problem
   tables =
@@ -187,9 +195,16 @@ module _ (S : Problem) (groups : List ℕ) (count : ℕ) (good : IsProblem S) (a
       let importer = ap (λ (e : Edge). e.importer) o.is in
       let exporter = ap (λ (e : Edge). e.exporter) o.is in
       let acts = ap (λ (e : Edge). e.act) o.is in
-      record { importer_in = (let x = ends.0 in omega arith); exporter_in = (let x = ends.1 in omega arith); differ = (λ e. ends.2 (importer ∙ e ∙ sym exporter)); act_in = act_fits d.edge.act lower.act (act ∙ acts) inside }
+      record {
+        importer_in = (let x = ends.0 in omega arith);
+        exporter_in = (let x = ends.1 in omega arith);
+        differ =
+            (λ e. ends.2 (importer ∙ e ∙ sym exporter));
+        act_in = act_fits d.edge.act lower.act (act ∙ acts) inside;
+      }
 
-  one_edge : (lower other : Edge) → Contains (small_of S groups count).edges lower → Contains (small_of S groups count).edges other → lower.importer ≡ other.importer → lower.link ≡ other.link → lower ≡ other
+  one_edge : (lower other : Edge) → Contains (small_of S groups count).edges lower → Contains (small_of S groups count).edges other →
+      lower.importer ≡ other.importer → lower.link ≡ other.link → lower ≡ other
   one_edge lower other has also same link =
       let a = of_link S groups count good adm numbered lower (in_contains (small_of S groups count).edges lower has) in
       let b = of_link S groups count good adm numbered other (in_contains (small_of S groups count).edges other also) in
@@ -201,7 +216,8 @@ module _ (S : Problem) (groups : List ℕ) (count : ℕ) (good : IsProblem S) (a
       let less = (c.below b.l b.l_in).ordered in
       let joined : IsJoined b.l b.g a.h = subst (λ (n : ℕ). IsJoined b.l n a.h) importer (subst (λ (m : QLink). IsJoined m a.g a.h) l a.joined) in
       let exporter = one_other_end b.l b.g a.h b.h less joined b.joined in
-      let into : edge_into S.protocol (quotient_links S.edges groups count) b.g b.l ≡ Some a.k = (λ i. edge_into S.protocol (quotient_links S.edges groups count) (sym importer i) (sym l i)) ∙ a.into in
+      let into : edge_into S.protocol (quotient_links S.edges groups count) b.g b.l ≡ Some a.k =
+      (λ i. edge_into S.protocol (quotient_links S.edges groups count) (sym importer i) (sym l i)) ∙ a.into in
       let k : a.k ≡ b.k = (let e : Some a.k ≡ Some b.k = sym into ∙ b.into in cc) in
       sym a.is ∙ (λ i. lower_edge S.edges (place i) (importer i) (exporter i) (k i)) ∙ b.is
 
@@ -211,7 +227,8 @@ module _ (S : Problem) (groups : List ℕ) (count : ℕ) (good : IsProblem S) (a
     tables = tables;
     edges = record {
       inside = edge_of;
-      ordered = stand S.protocol S.edges (quotient_links S.edges groups count) count (λ l at. ((carries S groups count good adm numbered).below l (contains_in (quotient_links S.edges groups count) l at)).ordered);
+      ordered = stand S.protocol S.edges (quotient_links S.edges groups count) count
+          (λ l at. ((carries S groups count good adm numbered).below l (contains_in (quotient_links S.edges groups count) l at)).ordered);
       one_of_link = one_edge;
     };
     acts = refl;

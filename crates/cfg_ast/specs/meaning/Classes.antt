@@ -122,7 +122,8 @@ classes_of network = map (class_of network) (filter (is_least network) (originat
 
 -- the two say the same
 abbrev pub SameClassIsDecided : Type 0
-SameClassIsDecided = (network : Network) (p q : Prefix) → (is_same_class network p q ≡ true → IsSameClass network p q) × (IsSameClass network p q → is_same_class network p q ≡ true)
+SameClassIsDecided = (network : Network) (p q : Prefix) → (is_same_class network p q ≡ true → IsSameClass network p q)
+    × (IsSameClass network p q → is_same_class network p q ≡ true)
 
 -- a class is that of each of its members
 abbrev pub ClassOfEachMember : Type 0

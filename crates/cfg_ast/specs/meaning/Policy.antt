@@ -89,12 +89,14 @@ pub record Permitted : Type 0 where
   pub adds : ℕ
 
 abbrev pub permitted_by_entry : Router → List ℕ → MapEntry → Option Permitted
-permitted_by_entry router comms entry = if entry.permit then Some (record { lp = entry.lp; comms = comms_set router entry comms; adds = prepend_count entry.prepend }) else None
+permitted_by_entry router comms entry = if entry.permit then Some
+    (record { lp = entry.lp; comms = comms_set router entry comms; adds = prepend_count entry.prepend }) else None
 
 -- the first entry that holds decides, and the end denies
 abbrev pub verdict_of : Router → Prefix → List MapEntry → List ℕ → Option Permitted
 verdict_of router p [] comms = None
-verdict_of router p (entry ∷ entries) comms = if map_entry_holds router p comms entry then permitted_by_entry router comms entry else verdict_of router p entries comms
+verdict_of router p (entry ∷ entries) comms =
+    if map_entry_holds router p comms entry then permitted_by_entry router comms entry else verdict_of router p entries comms
 
 abbrev pub permitted_as_is : List ℕ → Permitted
 permitted_as_is comms = record { lp = None; comms = comms; adds = 0 }

@@ -152,7 +152,8 @@ mentions_up_to ms line = filter (λ (m : Mention). nat_le m.line line) ms
 
 -- at most `limit` communities stand before the line, and more up to it
 abbrev pub first_exceeds : ℕ → List Mention → ℕ → Bool
-first_exceeds limit ms line = nat_le (length (communities_in (mentions_before ms line))) limit && nat_lt limit (length (communities_in (mentions_up_to ms line)))
+first_exceeds limit ms line = nat_le (length (communities_in (mentions_before ms line))) limit
+    && nat_lt limit (length (communities_in (mentions_up_to ms line)))
 
 abbrev pub exceeding_mentions : ℕ → List Mention → List ℕ
 exceeding_mentions limit ms = filter (first_exceeds limit ms) (map line_of_mention ms)

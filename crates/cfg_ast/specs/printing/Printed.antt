@@ -146,7 +146,8 @@ network_area_line a = inner (codes "network" ∷ address_text a.addr ∷ address
 unfoldable pub ospf_lines : OspfProcess → List TextLine
 ospf_lines o =
     line 0 (codes "router" ∷ codes "ospf" ∷ decimal o.number ∷ [])
-    ∷ line_if o.passive_default passive_default_line ++ map passive_line o.passive ++ map not_passive_line o.not_passive ++ map network_area_line o.areas ++ closing ∷ []
+    ∷ line_if o.passive_default passive_default_line ++ map passive_line o.passive ++ map not_passive_line o.not_passive ++ map network_area_line o.areas
+    ++ closing ∷ []
 
 -- ---- lists
 

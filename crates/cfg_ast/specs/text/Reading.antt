@@ -161,10 +161,12 @@ take_policy n policy.Ignored d = Ok (record d { stanza = ignored })
 take_policy n _ d = Ok d
 
 unfoldable pub step_policy : State → TextLine → Result State ReadRefusal
-step_policy s l = said_at l.number (policy_item_of policy_scope.Top l.number l.words) >>= (λ (said : PolicyItem). take_policy l.number said (with_closed s.draft) >>= (λ (d : Draft). Ok (record { routers = s.routers; draft = d })))
+step_policy s l = said_at l.number (policy_item_of policy_scope.Top l.number l.words) >>=
+    (λ (said : PolicyItem). take_policy l.number said (with_closed s.draft) >>= (λ (d : Draft). Ok (record { routers = s.routers; draft = d })))
 
 unfoldable pub step_router : State → TextLine → Result State ReadRefusal
-step_router s l = said_at l.number (router_item_of scope.Top l.number l.words) >>= (λ (said : RouterItem). take_top l.number said (record s { draft = with_closed s.draft }))
+step_router s l = said_at l.number (router_item_of scope.Top l.number l.words) >>=
+    (λ (said : RouterItem). take_top l.number said (record s { draft = with_closed s.draft }))
 
 abbrev pub step_top : State → TextLine → Result State ReadRefusal
 step_top s l = if is_policy_line l.words then step_policy s l else step_router s l
@@ -174,10 +176,13 @@ step_top s l = if is_policy_line l.words then step_policy s l else step_router s
 unfoldable pub take_inner : TextLine → Stanza → Result Stanza ReadRefusal
 take_inner l closed = Err (refusal.At l.number kind.Misplaced)
 take_inner l ignored = Ok ignored
-take_inner l (in_interface i) = said_at l.number (router_item_of scope.Interface l.number l.words) >>= (λ (said : RouterItem). set_interface l.number said i >>= (λ (j : Interface). Ok (in_interface j)))
-take_inner l (in_bgp b) = said_at l.number (router_item_of scope.Bgp l.number l.words) >>= (λ (said : RouterItem). set_bgp l.number said b >>= (λ (c : BgpProcess). Ok (in_bgp c)))
+take_inner l (in_interface i) = said_at l.number (router_item_of scope.Interface l.number l.words) >>=
+    (λ (said : RouterItem). set_interface l.number said i >>= (λ (j : Interface). Ok (in_interface j)))
+take_inner l (in_bgp b) = said_at l.number (router_item_of scope.Bgp l.number l.words) >>=
+    (λ (said : RouterItem). set_bgp l.number said b >>= (λ (c : BgpProcess). Ok (in_bgp c)))
 take_inner l (in_ospf o) = said_at l.number (router_item_of scope.Ospf l.number l.words) >>= (λ (said : RouterItem). Ok (in_ospf (set_ospf said o)))
-take_inner l (in_entry name e) = said_at l.number (policy_item_of policy_scope.Entry l.number l.words) >>= (λ (said : PolicyItem). set_entry l.number said e >>= (λ (f : MapEntry). Ok (in_entry name f)))
+take_inner l (in_entry name e) = said_at l.number (policy_item_of policy_scope.Entry l.number l.words) >>=
+    (λ (said : PolicyItem). set_entry l.number said e >>= (λ (f : MapEntry). Ok (in_entry name f)))
 
 abbrev pub step_inner : State → TextLine → Result State ReadRefusal
 step_inner s l = take_inner l s.draft.stanza >>= (λ (stanza : Stanza). Ok (record s { draft = record s.draft { stanza = stanza } }))

@@ -5,4 +5,5 @@ use Rattle.abstract_net.specs.Met.{is_met}
 use Rattle.abstract_net.proofs.steps.first_steps.Given as goal
 
 abbrev pub invariant-loop-place : goal.invariant-loop-place
-invariant-loop-place l = l.steps.items ++ first_kinds (is_met l.met) (filter_map (step_at l.edges l.p) (drop l.place-index l.place-items)) ≡ first_steps l.edges l.p
+invariant-loop-place l = l.steps.items ++ first_kinds (is_met l.met) (filter_map (step_at l.edges l.p) (drop l.place-index l.place-items)) ≡ first_steps l.edges
+    l.p

@@ -7,4 +7,5 @@ use Rattle.std.specs.HashSet as bag
 use Rattle.cfg_check.proofs.addresses.repeated_address.Given as goal
 
 abbrev pub invariant-loop-address : goal.invariant-loop-address
-invariant-loop-address l = (l.least ≡ least_line (map address_line (repeats same_address (take l.address-index l.addresses)))) × ((q : ℕ) → bag.contains nat_eq l.seen q ≡ list_any (λ (x : Address). nat_eq q x.addr) (take l.address-index l.addresses))
+invariant-loop-address l = (l.least ≡ least_line (map address_line (repeats same_address (take l.address-index l.addresses))))
+    × ((q : ℕ) → bag.contains nat_eq l.seen q ≡ list_any (λ (x : Address). nat_eq q x.addr) (take l.address-index l.addresses))

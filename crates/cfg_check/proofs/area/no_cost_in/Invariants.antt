@@ -4,4 +4,5 @@ use Rattle.cfg_check.specs.LeastLine.{least_line}
 use Rattle.cfg_check.proofs.area.no_cost_in.Given as goal
 
 abbrev pub invariant-loop-interface : goal.invariant-loop-interface
-invariant-loop-interface l = l.least ≡ least_line (map address_line (filter_map (area_address_with has_no_cost l.index.router.now) (take l.interface-index l.interfaces)))
+invariant-loop-interface l = l.least ≡ least_line
+    (map address_line (filter_map (area_address_with has_no_cost l.index.router.now) (take l.interface-index l.interfaces)))

@@ -4,4 +4,5 @@ use Rattle.cfg_check.specs.Pairs.{subnet_pair}
 use Rattle.cfg_check.proofs.pairs.keep.Given as goal
 
 abbrev pub invariant-loop-address : goal.invariant-loop-address
-invariant-loop-address l = (pair : ℕ × ℕ) → bucket l.seen pair ≡ bucket l.initial.seen pair ++ filter (is_at subnet_pair pair) (take l.address-index l.addresses)
+invariant-loop-address l = (pair : ℕ × ℕ) → bucket l.seen pair ≡ bucket l.initial.seen pair
+    ++ filter (is_at subnet_pair pair) (take l.address-index l.addresses)

@@ -5,5 +5,6 @@ use Rattle.cfg_check.proofs.pairs.sum_of_pairs.Given as goal
 abbrev pub invariant-loop-address : goal.invariant-loop-address
 invariant-loop-address l = record {
   bound : l.sum ≤ 1048576;
-  rest : sum_or_line 1048576 l.sum (map (counted l.seen) (drop l.address-index l.addresses)) ≡ sum_or_line 1048576 l.initial.sum (map (counted l.seen) l.addresses);
+  rest : sum_or_line 1048576 l.sum (map (counted l.seen) (drop l.address-index l.addresses)) ≡ sum_or_line 1048576 l.initial.sum
+      (map (counted l.seen) l.addresses);
 }

@@ -8,4 +8,5 @@ use Rattle.cfg_check.specs.declared.processes.Numbered.{Numbered}
 use Rattle.cfg_check.proofs.processes.repeated_number.Given as goal
 
 abbrev pub invariant-loop-process : goal.invariant-loop-process
-invariant-loop-process l = (l.least ≡ least_line (map line_of_numbered (repeats same_numbered (take l.process-index l.all)))) × ((q : ℕ) → bag.contains nat_eq l.seen q ≡ list_any (λ (x : Numbered). nat_eq q x.number) (take l.process-index l.all))
+invariant-loop-process l = (l.least ≡ least_line (map line_of_numbered (repeats same_numbered (take l.process-index l.all))))
+    × ((q : ℕ) → bag.contains nat_eq l.seen q ≡ list_any (λ (x : Numbered). nat_eq q x.number) (take l.process-index l.all))

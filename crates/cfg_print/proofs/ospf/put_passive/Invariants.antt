@@ -3,4 +3,5 @@ use Rattle.cfg_ast.specs.printing.Printed.{lines_text, passive_line}
 use Rattle.cfg_print.proofs.ospf.put_passive.Given as goal
 
 abbrev pub invariant-loop-name : goal.invariant-loop-name
-invariant-loop-name l = string_bytes l.text ++ lines_text (map passive_line (drop l.name-index l.items)) ≡ string_bytes l.fn.text ++ lines_text (map passive_line l.items)
+invariant-loop-name l = string_bytes l.text ++ lines_text (map passive_line (drop l.name-index l.items)) ≡ string_bytes l.fn.text
+    ++ lines_text (map passive_line l.items)

@@ -5,4 +5,5 @@ use Rattle.config_emit.specs.Maps.{written_map}
 use Rattle.config_emit.proofs.bgp_routers.maps_of.Given as goal
 
 abbrev pub invariant-loop-i : goal.invariant-loop-i
-invariant-loop-i l = l.found ++ map (written_map l.number) (enumerate_from (l.i + 1) (plains_now (drop l.i l.uses))) ≡ map (written_map l.number) (enumerate_from 1 (plains_now l.uses))
+invariant-loop-i l = l.found ++ map (written_map l.number) (enumerate_from (l.i + 1) (plains_now (drop l.i l.uses))) ≡ map (written_map l.number)
+    (enumerate_from 1 (plains_now l.uses))

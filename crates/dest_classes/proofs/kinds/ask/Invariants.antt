@@ -3,4 +3,5 @@ use Rattle.dest_classes.specs.Kinds.{asked}
 use Rattle.dest_classes.proofs.kinds.ask.Given as goal
 
 abbrev pub invariant-loop-member : goal.invariant-loop-member
-invariant-loop-member l = let lists = map (λ list. list.now) l.lists in l.asked.items ++ asked lists l.keys.keys l.member-iterator.rest.items ≡ asked lists [] l.fn.members.items
+invariant-loop-member l = let lists = map (λ list. list.now) l.lists in
+    l.asked.items ++ asked lists l.keys.keys l.member-iterator.rest.items ≡ asked lists [] l.fn.members.items

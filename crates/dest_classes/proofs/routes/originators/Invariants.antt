@@ -8,4 +8,5 @@ use Rattle.dest_classes.proofs.routes.originators.Given as goal
 
 abbrev pub invariant-loop-place : goal.invariant-loop-place
 invariant-loop-place l =
-    (p : Prefix) → noted_from p (enumerate_from l.place (drop l.place l.net.routers)) (get prefix_cmp l.originators p) ≡ noted_from p (enumerate_from 0 l.net.routers) None
+    (p : Prefix) → noted_from p (enumerate_from l.place (drop l.place l.net.routers)) (get prefix_cmp l.originators p) ≡ noted_from p
+    (enumerate_from 0 l.net.routers) None

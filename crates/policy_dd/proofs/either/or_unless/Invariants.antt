@@ -8,5 +8,6 @@ use Rattle.policy_dd.proofs.either.or_unless.Given as goal
 abbrev pub invariant-loop-case : goal.invariant-loop-case
 invariant-loop-case l = record {
   grows : Grows l.fn.store l.store;
-  more : IsTableGrown l.fn.store l.store l.fn.cases l.all (keys_of (take l.case-index l.more)) (λ k set. has (keys_of (take l.case-index l.more)) k && (not (value_of l.fn.store set l.unless) && case_or l.fn.store set l.more k false));
+  more : IsTableGrown l.fn.store l.store l.fn.cases l.all (keys_of (take l.case-index l.more))
+      (λ k set. has (keys_of (take l.case-index l.more)) k && (not (value_of l.fn.store set l.unless) && case_or l.fn.store set l.more k false));
 }

@@ -7,5 +7,6 @@ use Rattle.policy_dd.proofs.join.limit.Given as goal
 abbrev pub invariant-loop-case : goal.invariant-loop-case
 invariant-loop-case l = record {
   grows : Grows l.fn.store l.store;
-  limited : IsSelection l.store never (λ k set. case_or l.fn.store set l.cases k false && value_of l.fn.store set l.with) (keys_of (take l.case-index l.cases)) l.limited;
+  limited : IsSelection l.store never (λ k set. case_or l.fn.store set l.cases k false && value_of l.fn.store set l.with) (keys_of (take l.case-index l.cases))
+      l.limited;
 }

@@ -8,5 +8,6 @@ use Rattle.policy_dd.proofs.join.outs_of.Given as goal
 abbrev pub invariant-loop-key : goal.invariant-loop-key
 invariant-loop-key l = record {
   grows : Grows l.fn.store l.store;
-  outs : IsSelection l.store (carried_by_rest l.fn.store l.rest) (λ k set. value_of l.fn.store set l.permit && has_in l.fn.store l.carried set k) (take l.key-index l.keys) l.outs;
+  outs : IsSelection l.store (carried_by_rest l.fn.store l.rest) (λ k set. value_of l.fn.store set l.permit && has_in l.fn.store l.carried set k)
+      (take l.key-index l.keys) l.outs;
 }

@@ -8,7 +8,8 @@ abbrev pub invariant-loop-place : goal.invariant-loop-place
 invariant-loop-place l = record {
   below : l.place ≤ length l.lists;
   grows : Grows l.fn.store l.store;
-  any : Means l.store l.any (λ set. list_any (list_by l.fn.store.universe (has_in l.fn.store l.carried set) (value_of l.fn.store set l.carried.others) l.exact) (drop l.place l.lists));
+  any : Means l.store l.any (λ set. list_any (list_by l.fn.store.universe (has_in l.fn.store l.carried set) (value_of l.fn.store set l.carried.others) l.exact)
+      (drop l.place l.lists));
 }
 
 abbrev pub decreases-loop-place : goal.decreases-loop-place

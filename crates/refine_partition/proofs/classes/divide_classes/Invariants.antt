@@ -7,7 +7,8 @@ use Rattle.refine_partition.proofs.classes.divide_classes.Given as goal
 abbrev pub invariant-loop-start : goal.invariant-loop-start
 invariant-loop-start l = record {
   within : l.start ≤ length l.arrivals;
-  apart : (i j : ℕ) (d : Import) → i < l.start → l.start ≤ j → j < length l.arrivals → act_of_import (slice_index_or l.arrivals i d) < act_of_import (slice_index_or l.arrivals j d);
+  apart : (i j : ℕ) (d : Import) → i < l.start → l.start ≤ j → j < length l.arrivals →
+      act_of_import (slice_index_or l.arrivals i d) < act_of_import (slice_index_or l.arrivals j d);
   classes : AreClasses l.initial.classes.items (take l.start l.arrivals) l.count l.classes.items l.next;
 }
 

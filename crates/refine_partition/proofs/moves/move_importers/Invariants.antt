@@ -8,5 +8,6 @@ abbrev pub invariant-loop-arrival : goal.invariant-loop-arrival
 invariant-loop-arrival l = record {
   total : length l.lists.items ≡ length l.initial.lists.items + length l.origins.items;
   listed : AreListed l.numbers.items l.lists.items;
-  moving : Moving l.initial.numbers.items l.classes l.touched (take l.arrival-index l.arrivals) (length l.initial.lists.items) l.numbers.items l.origins.items (λ class. get nat_eq l.names class);
+  moving : Moving l.initial.numbers.items l.classes l.touched (take l.arrival-index l.arrivals) (length l.initial.lists.items) l.numbers.items l.origins.items
+      (λ class. get nat_eq l.names class);
 }

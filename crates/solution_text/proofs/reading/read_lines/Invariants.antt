@@ -14,7 +14,8 @@ invariant-loop-from l = record {
   begins : l.from < length l.bytes → begins_line l.bytes l.from ≡ true;
   left : l.line + length (pieces_from l.bytes (l.line + 1) l.from) ≡ length (all_lines_of l.bytes);
   within : AreBelow l.places (length l.said.seen);
-  answer : answer_from l.protocol (place_in l.places) (length (all_lines_of l.bytes) + 1) (map (text_line l.bytes) (map (line_of l.bytes) (pieces_from l.bytes (l.line + 1) l.from))) l.said
+  answer : answer_from l.protocol (place_in l.places) (length (all_lines_of l.bytes) + 1)
+      (map (text_line l.bytes) (map (line_of l.bytes) (pieces_from l.bytes (l.line + 1) l.from))) l.said
       ≡ answer_from l.protocol (place_in l.places) (length (all_lines_of l.bytes) + 1) (map (text_line l.bytes) (all_lines_of l.bytes)) (nothing_said l.count);
 }
 

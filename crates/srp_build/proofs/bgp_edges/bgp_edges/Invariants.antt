@@ -11,5 +11,6 @@ abbrev pub invariant-loop-i : goal.invariant-loop-i
 invariant-loop-i l = record {
   grows : Grows l.initial.store l.store;
   right : AreRight l.store l.maps.maps.items l.found.acts l.found.sessions;
-  so_far : (routers : List Router) → AreSessionsOf routers l.directions.kinds l.directions.hops.items l.directions.sessions.items → AreEdgesOfSessions l.store routers l.init (line_maps l.directions.kinds l.maps) (take l.i l.directions.hops.items) l.found;
+  so_far : (routers : List Router) → AreSessionsOf routers l.directions.kinds l.directions.hops.items l.directions.sessions.items →
+      AreEdgesOfSessions l.store routers l.init (line_maps l.directions.kinds l.maps) (take l.i l.directions.hops.items) l.found;
 }
