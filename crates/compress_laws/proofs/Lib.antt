@@ -1,7 +1,8 @@
 mod ActEdges
+pub mod Alike
 mod Compressing
 mod FirstActs
 mod LinkCounts
 mod Names
-mod Plans
+pub mod Plans
 pub mod Texts

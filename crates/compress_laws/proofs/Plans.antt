@@ -1,4 +1,4 @@
--- The plan of a class fits together.
+-- Public: the plan of a class fits together.
 use Rattle.std.proofs.Common.{◌≡◌, ℕ, List, [], ◌∷◌, None, sym, subst}
 use Rattle.std.specs.Prelude.{Contains}
 use Rattle.std.specs.List.{AllByRecursion}
@@ -9,15 +9,17 @@ use Rattle.cfg_ast.specs.meaning.PolicyFaults.{communities_of}
 use Rattle.cfg_ast.specs.text.Reading.{IsGiven}
 use Rattle.cfg_check.specs.Faultless.{IsFaultless}
 use Rattle.given_laws.specs.Laws.{GivenIsWellFormed}
+use Rattle.srp_build.specs.Built.{IsBuiltFor}
 use Rattle.srp_build.specs.Laws.{HasMapsThatPrint, HasMapsWithin, ActsPrint, ActsStayWithin}
 use Rattle.srp_core.specs.declared.route.Act.{Act}
 use Rattle.srp_core.specs.declared.route.Act.TheVariants.{Import, Cost}
+use Rattle.srp_core.specs.Problem.{Problem}
 use Rattle.config_emit.specs.Laws.{IsPlan, IsPrintableAct, IsActWithin}
 use Rattle.config_emit.specs.Plan.{Plan}
 use Rattle.config_emit.specs.Pool.{pool_line}
 use Rattle.emit_form_laws.proofs.Origins.{class_is, some_prefix}
-use Rattle.compress_laws.specs.Built.{IsPlanOf}
-use Rattle.compress_laws.specs.Laws.{PlanFits}
+use Rattle.compress_laws.specs.Built.{IsPlanFor}
+use Rattle.compress_laws.specs.Laws.{FitsClass, BuiltFits, FittingPlanFits, PlanFits}
 
 -- ---- a plan fits together
 
@@ -31,31 +33,55 @@ stays set [] all = tt
 stays set (Import out sends into ∷ acts) all = (all.0, stays set acts all.1)
 stays set (Cost cost ∷ acts) all = (tt, stays set acts all.1)
 
-fits : GivenIsWellFormed → ActsPrint → ActsStayWithin → (e : Plan) → ∥ IsGiven e.network ∥₁ → IsFaultless e.network → Contains (classes_of e.network) e.class → IsPlanOf e.network e.class e → pool_line e.network e.class ≡ None → IsPlan e
-fits well print within e given ok has is apart =
-    let prefix = some_prefix e.network e.class (class_is e.network e.class has) in
-    let form = well e.network given in
-    let first = is.built.acts prefix.0 prefix.1 in
+pub built_fits : GivenIsWellFormed → ActsPrint → ActsStayWithin → BuiltFits
+built_fits well print within n class problem given ok has built =
+    let prefix = some_prefix n class (class_is n class has) in
+    let first = built.acts prefix.0 prefix.1 in
     record {
-      well_formed = form;
-      faultless = ok;
-      class = has;
-      problem = is.built.of;
-      printable = prints e.problem.acts (print e.network prefix.0 e.problem form ok.undefined_list ok.delete_list is.built.order first);
-      within = stays (communities_of e.network) e.problem.acts (within e.network prefix.0 e.problem is.built.order first);
-      groups = is.coarsest.admissible;
-      numbered = is.numbered;
-      links = is.links;
-      apart = apart;
+      of = built.of;
+      printable = prints problem.acts (print n prefix.0 problem (well n given) ok.undefined_list ok.delete_list built.order first);
+      within = stays (communities_of n) problem.acts (within n prefix.0 problem built.order first);
     }
 
-pub plan_fits : GivenIsWellFormed → ActsPrint → ActsStayWithin → PlanFits
-plan_fits well print within n class e given ok has is apart =
+fits : GivenIsWellFormed → (e : Plan)
+    → ∥ IsGiven e.network ∥₁ → IsFaultless e.network → Contains (classes_of e.network) e.class → IsPlanFor FitsClass e.network e.class e
+    → pool_line e.network e.class ≡ None → IsPlan e
+fits well e given ok has is apart = record {
+  well_formed = well e.network given;
+  faultless = ok;
+  class = has;
+  problem = is.built.of;
+  printable = is.built.printable;
+  within = is.built.within;
+  groups = is.coarsest.admissible;
+  numbered = is.numbered;
+  links = is.links;
+  apart = apart;
+}
+
+pub fitting_plan_fits : GivenIsWellFormed → FittingPlanFits
+fitting_plan_fits well n class e given ok has is apart =
     let network = sym is.network_is in
     let own = sym is.class_is in
-    fits well print within e
+    fits well e
     (subst (λ (m : Network). ∥ IsGiven m ∥₁) network given)
     (subst IsFaultless network ok)
     (subst (λ (c : DestClass). Contains (classes_of e.network) c) own (subst (λ (m : Network). Contains (classes_of m) class) network has))
-    (subst (λ (c : DestClass). IsPlanOf e.network c e) own (subst (λ (m : Network). IsPlanOf m class e) network is))
+    (subst (λ (c : DestClass). IsPlanFor FitsClass e.network c e) own (subst (λ (m : Network). IsPlanFor FitsClass m class e) network is))
     (subst (λ (c : DestClass). pool_line e.network c ≡ None) own (subst (λ (m : Network). pool_line m class ≡ None) network apart))
+
+-- a plan with a problem of one kind has one of another kind
+pub plan_as : (F G : Network → DestClass → Problem → Type 0) (n : Network) (class : DestClass)
+    → ((problem : Problem) → F n class problem → G n class problem) → (e : Plan) → IsPlanFor F n class e → IsPlanFor G n class e
+plan_as F G n class more e is = record {
+  network_is = is.network_is;
+  class_is = is.class_is;
+  built = more e.problem is.built;
+  coarsest = is.coarsest;
+  numbered = is.numbered;
+  links = is.links;
+}
+
+pub plan_fits : BuiltFits → FittingPlanFits → PlanFits
+plan_fits built fitting n class e given ok has is apart =
+    fitting n class e given ok has (plan_as IsBuiltFor FitsClass n class (λ problem. built n class problem given ok has) e is) apart

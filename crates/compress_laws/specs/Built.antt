@@ -4,16 +4,21 @@ use Rattle.base_kit.specs.Partition.{IsNumbered}
 use Rattle.cfg_ast.specs.declared.network.Network.{Network}
 use Rattle.cfg_ast.specs.declared.classes.DestClass.{DestClass}
 use Rattle.abstract_net.specs.Links.{quotient_links}
+use Rattle.srp_core.specs.Problem.{Problem}
 use Rattle.srp_core.specs.Quotient.{IsCoarsest}
 use Rattle.srp_build.specs.Built.{IsBuiltFor}
 use Rattle.config_emit.specs.Plan.{Plan}
 
--- The plan of a class, of which there is one: that problem, its coarsest admissible partition with the
--- groups numbered by their least members, and the links between the groups.
-pub record IsPlanOf (network : Network) (class : DestClass) (e : Plan) : Type 0 where
+-- A plan of a class: a problem, its coarsest admissible partition with the groups numbered by their least
+-- members, and the links between the groups.
+pub record IsPlanFor (IsProblemFor : Network → DestClass → Problem → Type 0) (network : Network) (class : DestClass) (e : Plan) : Type 0 where
   pub network_is : e.network ≡ network
   pub class_is : e.class ≡ class
-  pub built : IsBuiltFor network class e.problem
+  pub built : IsProblemFor network class e.problem
   pub coarsest : IsCoarsest e.problem e.groups
   pub numbered : IsNumbered e.groups e.count
   pub links : e.links ≡ quotient_links e.problem.edges e.groups e.count
+
+-- The plan of a class, of which there is one: that with the problem that is built for it.
+abbrev pub IsPlanOf : Network → DestClass → Plan → Type 0
+IsPlanOf network class e = IsPlanFor IsBuiltFor network class e

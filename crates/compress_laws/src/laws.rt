@@ -1,5 +1,5 @@
 //! The law of what is written.
-ghost use Rattle.compress_laws.specs.Laws.{TextCompresses, PlanFits, PlanCompresses, TextHasProblemOfGroups};
+ghost use Rattle.compress_laws.specs.Laws.{TextCompresses, BuiltFits, FittingPlanFits, FittingPlanCompresses, PlanFits, PlanCompresses, TextHasProblemOfGroups};
 
 /// The text that is written of a plan, whose groups are the coarsest ones, compresses the network.
 pub fn text_compresses()
@@ -20,21 +20,45 @@ pub fn text_compresses()
     srp_core::laws::alike::quotients();
 }
 
-/// A plan of a class fits together, where no prefix of the class meets the addresses of the links.
-pub fn plan_fits()
-    ensures { PlanFits }
+/// The problem that is built for a class fits it.
+pub fn built_fits()
+    ensures { BuiltFits }
 {
     given_laws::given_is_well_formed();
     srp_build::laws::acts_print();
     srp_build::laws::acts_stay_within();
 }
 
+/// A plan with a problem that fits the class fits together, where no prefix of the class meets the addresses
+/// of the links.
+pub fn fitting_plan_fits()
+    ensures { FittingPlanFits }
+{
+    given_laws::given_is_well_formed();
+}
+
+/// The text of a plan with such a problem, which is not too long, compresses the network.
+pub fn fitting_plan_compresses()
+    ensures { FittingPlanCompresses }
+{
+    fitting_plan_fits();
+    text_compresses();
+}
+
+/// The plan of a class fits together.
+pub fn plan_fits()
+    ensures { PlanFits }
+{
+    built_fits();
+    fitting_plan_fits();
+}
+
 /// The text of the plan of a class, which is not too long, compresses the network.
 pub fn plan_compresses()
     ensures { PlanCompresses }
 {
-    plan_fits();
-    text_compresses();
+    built_fits();
+    fitting_plan_compresses();
 }
 
 /// The text of the plan of a class, which is not too long, is read as a network that has the problem of the groups.
