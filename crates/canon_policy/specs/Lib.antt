@@ -1,9 +1,11 @@
 pub mod Canonical
+pub mod CanonicalProblem
 pub mod Entries
 pub mod Fixings
 pub mod Functions
 pub mod Hanging
 pub mod Laws
 pub mod Made
+pub mod MadeActs
 pub mod Nodes
 pub mod Plain

@@ -1,0 +1,193 @@
+//! The problem with canonical acts.
+
+ghost use Rattle.std.specs.Prelude.{◌≡◌, IfOk};
+ghost use Rattle.std.specs.List.{AllByRecursion};
+ghost use Rattle.dd_core.specs.Sets.{Grows};
+ghost use Rattle.srp_core.specs.Acts.{ActsAlike};
+ghost use Rattle.srp_core.specs.Alike.{ProblemsAlike};
+ghost use Rattle.canon_policy.specs.declared.problem.CanonSrpRefusal.TheVariants as canon_srp_refusal;
+ghost use Rattle.canon_policy.specs.CanonicalProblem.{IsCanonicalOr, AreCommunities, HasPrintableMaps, HasMapsWithin};
+ghost use Rattle.canon_policy.specs.MadeActs.{IsCanonicalActOr, AreCanonicalActsOr, at_place};
+
+use crate::canonical::canon;
+use crate::lists::CanonRefusal;
+use base_kit::{List, NoMemory, Text};
+use dd_core::Store;
+use policy_dd::edge_fn;
+use route_maps::map_copy;
+use srp_core::{Act, Route, Srp};
+use std::alloc::{AllocError, Global};
+
+/// Why there is no problem with canonical acts to give.
+#[derive(Clone, Copy, Debug, PartialEq, Eq)]
+pub enum CanonSrpRefusal {
+    /// The edge at this place is the first whose act has no canonical lists.
+    NoCanon(u32),
+    /// Memory ran out.
+    Memory,
+}
+
+impl From<NoMemory> for CanonSrpRefusal {
+    ghost from_gives = { λ _ e. e ≡ canon_srp_refusal.Memory };
+
+    fn from(_: NoMemory) -> Self {
+        CanonSrpRefusal::Memory
+    }
+}
+
+impl From<AllocError> for CanonSrpRefusal {
+    ghost from_gives = { λ _ e. e ≡ canon_srp_refusal.Memory };
+
+    fn from(_: AllocError) -> Self {
+        CanonSrpRefusal::Memory
+    }
+}
+
+/// The problem with canonical acts: what each edge imports stays as it is, and is written by the canonical
+/// lists of its function, with communities sent. Costs stay, and so do acts that no edge has.
+///
+/// # Errors
+/// The place of the first edge whose act has no canonical lists, or out of memory. After either the store
+/// may have more nodes.
+pub fn canon_srp(alloc: Global, srp: &Srp, store: &mut Store) -> Result<Srp, CanonSrpRefusal>
+    requires communities { AreCommunities store.old.universe }
+    requires printable { AllByRecursion HasPrintableMaps srp.now.acts }
+    requires within { AllByRecursion (HasMapsWithin store.old.universe) srp.now.acts }
+    ensures grows { Grows store.old store.new }
+    ensures canonical { IsCanonicalOr store.old.universe srp.now result }
+    ensures alike { IfOk result (λ new. ProblemsAlike srp.now new) }
+    ensures printable { IfOk result (λ new. AllByRecursion HasPrintableMaps new.acts) }
+    ensures within { IfOk result (λ new. AllByRecursion (HasMapsWithin store.old.universe) new.acts) }
+{
+    let acts = canonical_acts(alloc, srp, store)?;
+    let names = names_copy(alloc, srp.names().as_slice())?;
+    let numbers = Vec::from_slice(alloc, srp.numbers())?;
+    let init = starts_copy(alloc, srp.init())?;
+    let lone = Vec::from_slice(alloc, srp.lone())?;
+    let edges = Vec::from_slice(alloc, srp.edges())?;
+    Ok(Srp::new(
+        alloc,
+        srp.protocol(),
+        names,
+        List::from_vec(numbers),
+        init,
+        List::from_vec(lone),
+        acts,
+        List::from_vec(edges),
+    ))
+}
+
+// The canonical act of an act, if it has one.
+fn canonical_act(alloc: Global, store: &mut Store, act: &Act) -> Result<Act, CanonRefusal>
+    requires communities { AreCommunities store.old.universe }
+    requires printable { HasPrintableMaps act.now }
+    requires within { HasMapsWithin store.old.universe act.now }
+    ensures grows { Grows store.old store.new }
+    ensures canonical { IsCanonicalActOr store.old.universe act.now result }
+    ensures alike { IfOk result (λ new. ActsAlike act.now new) }
+    ensures printable { IfOk result (λ new. HasPrintableMaps new) }
+    ensures within { IfOk result (λ new. HasMapsWithin store.old.universe new) }
+{
+    match act {
+        Act::Import { out, sends, into } => {
+            let function = edge_fn(alloc, store, out, *sends, into)?;
+            match canon(alloc, store, &function) {
+                Err(refusal) => Err(refusal),
+                Ok(lists) => Ok(Act::Import {
+                    out: lists.out,
+                    sends: true,
+                    into: lists.into,
+                }),
+            }
+        }
+        Act::Cost(cost) => Ok(Act::Cost(*cost)),
+    }
+}
+
+fn at_place(refusal: CanonRefusal, place: u32) -> CanonSrpRefusal
+    ensures { result ≡ at_place refusal place }
+{
+    match refusal {
+        CanonRefusal::NoCanon => CanonSrpRefusal::NoCanon(place),
+        CanonRefusal::Memory => CanonSrpRefusal::Memory,
+    }
+}
+
+// The acts, those that some edge has made canonical.
+fn canonical_acts(alloc: Global, srp: &Srp, store: &mut Store) -> Result<List<Act>, CanonSrpRefusal>
+    requires communities { AreCommunities store.old.universe }
+    requires printable { AllByRecursion HasPrintableMaps srp.now.acts }
+    requires within { AllByRecursion (HasMapsWithin store.old.universe) srp.now.acts }
+    ensures grows { Grows store.old store.new }
+    ensures acts { AreCanonicalActsOr store.old.universe srp.now result }
+{
+    let _routers = srp.count();
+    let acts = srp.acts();
+    let mut made = acts_copy(alloc, acts)?;
+    let mut done = vec![in alloc; false; acts.len()]?;
+    for (place, edge) in srp.edges().iter().enumerate() {
+        let act = edge.act as usize;
+        if !done[act] {
+            match canonical_act(alloc, store, &acts[act]) {
+                Err(refusal) => return Err(at_place(refusal, place as u32)),
+                Ok(canonical) => {
+                    made[act] = canonical;
+                    done[act] = true;
+                }
+            }
+        }
+    }
+    Ok(List::from_vec(made))
+}
+
+fn act_copy(alloc: Global, act: &Act) -> Result<Act, NoMemory>
+    ensures { IfOk result (λ copy. copy ≡ act.now) }
+{
+    match act {
+        Act::Import { out, sends, into } => Ok(Act::Import {
+            out: map_copy(alloc, out)?,
+            sends: *sends,
+            into: map_copy(alloc, into)?,
+        }),
+        Act::Cost(cost) => Ok(Act::Cost(*cost)),
+    }
+}
+
+fn acts_copy(alloc: Global, acts: &[Act]) -> Result<Vec<Act>, NoMemory>
+    ensures { IfOk result (λ copies. copies.items ≡ acts.now) }
+{
+    let mut copies = Vec::new(alloc);
+    for act in acts {
+        copies.push(act_copy(alloc, act)?)?;
+    }
+    Ok(copies)
+}
+
+fn names_copy(alloc: Global, names: &[Text]) -> Result<List<Text>, NoMemory>
+    ensures { IfOk result (λ copies. copies ≡ names.now) }
+{
+    let mut copies = List::new(alloc);
+    for name in names {
+        copies.push(Text::copy_of(alloc, name.as_str())?)?;
+    }
+    Ok(copies)
+}
+
+fn start_copy(alloc: Global, start: &Option<Route>) -> Result<Option<Route>, NoMemory>
+    ensures { IfOk result (λ copy. copy ≡ start.now) }
+{
+    match start {
+        Some(route) => Ok(Some(route.copy(alloc)?)),
+        None => Ok(None),
+    }
+}
+
+fn starts_copy(alloc: Global, starts: &[Option<Route>]) -> Result<List<Option<Route>>, NoMemory>
+    ensures { IfOk result (λ copies. copies ≡ starts.now) }
+{
+    let mut copies = List::new(alloc);
+    for start in starts {
+        copies.push(start_copy(alloc, start)?)?;
+    }
+    Ok(copies)
+}
