@@ -15,7 +15,7 @@ use Rattle.canon_policy.proofs.Least.{fixed_same, Differing, depends_differ}
 use Rattle.canon_policy.proofs.Firsts.{nothing_found}
 use Rattle.canon_policy.proofs.Plain.{same_bits}
 
-bits_same : (a b : Bool) → a ≡ b → beq a b ≡ true
+pub bits_same : (a b : Bool) → a ≡ b → beq a b ≡ true
 bits_same true true e = refl
 bits_same true false e = absurd cc
 bits_same false true e = absurd cc
@@ -43,7 +43,7 @@ module _ (universe : List ℕ) (fixing : Fixing) (c : ℕ) (test : List ℕ → 
   follow_true is = all_are (λ set. beq (test (agreeing fixing set)) (has (agreeing fixing set) c)) (sets_of universe)
       (λ set h. bits_same (test (agreeing fixing set)) (has (agreeing fixing set) c) (is set ∙ sym (free_has fixing set c (not_true (has fixing.present c) (λ e. not_fixed is (inl e))) (not_true (has fixing.absent c) (λ e. not_fixed is (inr e))))))
 
-  follows_at : follows universe fixing c test ≡ true → (a : List ℕ) → test (agreeing fixing a) ≡ has (agreeing fixing a) c
+  pub follows_at : follows universe fixing c test ≡ true → (a : List ℕ) → test (agreeing fixing a) ≡ has (agreeing fixing a) c
   unfolding follows
   follows_at e a =
       let inner = named universe a in

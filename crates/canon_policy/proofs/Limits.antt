@@ -29,7 +29,7 @@ use Rattle.canon_policy.proofs.Settled.{all_settled}
 use Rattle.canon_policy.proofs.Tables.{at_key, NumberAt}
 use Rattle.canon_policy.proofs.Tables.NumberAt.{none, some}
 
-numbered_length : (entry : ℕ → Fixing → PlainEntry) (k : ℕ) (xs : List Fixing) → length (numbered_from k entry xs) ≡ length xs
+pub numbered_length : (entry : ℕ → Fixing → PlainEntry) (k : ℕ) (xs : List Fixing) → length (numbered_from k entry xs) ≡ length xs
 numbered_length entry k [] = refl
 numbered_length entry k (x ∷ xs) = ap suc (numbered_length entry (k + 1) xs)
 

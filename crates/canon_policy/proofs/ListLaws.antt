@@ -1,5 +1,5 @@
 -- Canonical lists depend on the function alone, and import as it does.
-use Rattle.std.proofs.Common.{◌≡◌, ℕ, true, List, Option, Some, sym, ◌∙◌, ap}
+use Rattle.std.proofs.Common.{◌≡◌, ℕ, true, List, Option, Some, sym, ◌∙◌, ap, subst}
 use Rattle.std.proofs.Math.Path.{fun_ext}
 use Rattle.base_kit.specs.Sets.{IsAscending}
 use Rattle.policy_dd.specs.Imports.{AreOneImport}
@@ -10,13 +10,23 @@ use Rattle.canon_policy.specs.Functions.{as_set, on_sets}
 use Rattle.canon_policy.specs.Plain.{IsPlain}
 use Rattle.canon_policy.specs.Canonical.{canonical_of, canonical_lists_of}
 use Rattle.canon_policy.proofs.SameSets.{ascending-as_set, as_set-ascending}
+use Rattle.canon_policy.specs.Uniform.{IsUniform}
 use Rattle.canon_policy.proofs.Imports.{imports_as}
+use Rattle.canon_policy.proofs.Uniform.{one_over_both}
 
 pub equal_lists : (universe : List ℕ) (f g : List ℕ → Option Imported) → AreOneImport f g → canonical_lists_of universe f ≡ canonical_lists_of universe g
 unfolding canonical_lists_of
 equal_lists universe f g one =
     let same : on_sets f ≡ on_sets g = fun_ext (λ (set : List ℕ). one.same (as_set set) (ascending-as_set set)) in
     ap (λ (h : List ℕ → Option Imported). canonical_of universe h) same
+
+pub two_universes : (universe other : List ℕ) (f g : List ℕ → Option Imported) → IsAscending universe → IsAscending other → IsUniform universe (on_sets f)
+    → IsUniform other (on_sets g) → AreOneImport f g → canonical_lists_of universe f ≡ canonical_lists_of other g
+unfolding canonical_lists_of
+two_universes universe other f g up up' uniform uniform' one =
+    let same : on_sets f ≡ on_sets g = fun_ext (λ (set : List ℕ). one.same (as_set set) (ascending-as_set set)) in
+    one_over_both universe other up up' (on_sets f) uniform (subst (IsUniform other) (sym same) uniform')
+    ∙ ap (λ (h : List ℕ → Option Imported). canonical_of other h) same
 
 pub import_alike : (universe : List ℕ) (f : List ℕ → Option Imported) (lists : CanonEdge) → IsAscending universe → IsPlain universe (on_sets f) → canonical_lists_of universe f ≡ Some lists → AreOneImport (import_of lists.out true lists.into) f
 unfolding canonical_lists_of

@@ -73,12 +73,12 @@ inside_pick shown (n ∷ ns) node all (inl e) = rw (← e) all.0
 inside_pick shown (n ∷ ns) node all (inr h) = inside_pick shown ns node all.1 h
 
 -- a community outside, put in
-outside_same : (universe : List ℕ) (c : ℕ) → has universe c ≡ false → (set : List ℕ) → SameOn universe (with_number c set) set
+pub outside_same : (universe : List ℕ) (c : ℕ) → has universe c ≡ false → (set : List ℕ) → SameOn universe (with_number c set) set
 outside_same universe c none set = record {
   same = λ d known. has-with_number c set d ∙ ap (λ b. b || has set d) (other_number c d (λ e. let h = ap (has universe) e in absurd cc));
 }
 
-others_put : (universe : List ℕ) (c : ℕ) → has universe c ≡ false → (set : List ℕ) → has_others universe (with_number c set) ≡ true
+pub others_put : (universe : List ℕ) (c : ℕ) → has universe c ≡ false → (set : List ℕ) → has_others universe (with_number c set) ≡ true
 others_put universe c none set = any-with_number (λ d. not (has universe d)) c set ∙ rw none refl
 
 -- a node that depends on one changes where it is put into a set of communities of the universe
@@ -103,26 +103,26 @@ differ_named shown is node inside d same = by (has_others shown.universe d.depen
         d.depends.differ (put ∙ sym same ∙ sym inner)
 
 -- tests of numbers and answers
-numbers_equal : (m n : ℕ) → not (nat_eq m n) ≡ false → m ≡ n
+pub numbers_equal : (m n : ℕ) → not (nat_eq m n) ≡ false → m ≡ n
 numbers_equal m n e = equal m n (by (nat_eq m n) e)
   where
     by : (b : Bool) → not b ≡ false → b ≡ true
     by true e = refl
     by false e = absurd cc
 
-bits_equal : (a b : Bool) → not (beq a b) ≡ false → a ≡ b
+pub bits_equal : (a b : Bool) → not (beq a b) ≡ false → a ≡ b
 bits_equal true true e = refl
 bits_equal true false e = absurd cc
 bits_equal false true e = absurd cc
 bits_equal false false e = refl
 
-bits_same : (a b : Bool) → a ≡ b → not (beq a b) ≡ false
-bits_same true true e = refl
-bits_same true false e = absurd cc
-bits_same false true e = absurd cc
-bits_same false false e = refl
+pub differs_not : (a b : Bool) → a ≡ b → not (beq a b) ≡ false
+differs_not true true e = refl
+differs_not true false e = absurd cc
+differs_not false true e = absurd cc
+differs_not false false e = refl
 
-any_none : {X : Type 0} (p : X → Bool) (xs : List X) → ((x : X) → In xs x → p x ≡ false) → list_any p xs ≡ false
+pub any_none : {X : Type 0} (p : X → Bool) (xs : List X) → ((x : X) → In xs x → p x ≡ false) → list_any p xs ≡ false
 any_none p [] each = refl
 any_none p (x ∷ xs) each = none (p x) (list_any p xs) (each x (inl refl)) (any_none p xs (λ y h. each y (inr h)))
   where
@@ -130,7 +130,7 @@ any_none p (x ∷ xs) each = none (p x) (list_any p xs) (each x (inl refl)) (any
     none true b e e' = absurd cc
     none false b e e' = e'
 
-accepted_alike : (a b : Option Imported) → option_map_or (λ (import : Imported). import.lp + 1) a 0 ≡ option_map_or (λ (import : Imported). import.lp + 1) b 0 → is_some a ≡ is_some b
+pub accepted_alike : (a b : Option Imported) → option_map_or (λ (import : Imported). import.lp + 1) a 0 ≡ option_map_or (λ (import : Imported). import.lp + 1) b 0 → is_some a ≡ is_some b
 accepted_alike None None e = refl
 accepted_alike None (Some import) e = absurd (omega arith)
 accepted_alike (Some import) None e = absurd (omega arith)
@@ -201,7 +201,7 @@ same_all universe f plain set =
     (same_number (preference f set) (preference f (with_number (outside_of universe) set)) (plain.lp.same set (with_number (outside_of universe) set) s))
     (same_number (count f set) (count f (with_number (outside_of universe) set)) (plain.adds.same set (with_number (outside_of universe) set) s))
     (any_none (λ c. not (beq (carries f c set) (carries f c (with_number (outside_of universe) set)))) universe (λ c h.
-    bits_same (carries f c set) (carries f c (with_number (outside_of universe) set)) ((plain.carried c (in_has universe c h)).same set (with_number (outside_of universe) set) s)))
+    differs_not (carries f c set) (carries f c (with_number (outside_of universe) set)) ((plain.carried c (in_has universe c h)).same set (with_number (outside_of universe) set) s)))
   where
     neither : (a b c : Bool) → a ≡ true → b ≡ true → c ≡ false → not a || (not b || c) ≡ false
     neither true true c e e' e'' = e''

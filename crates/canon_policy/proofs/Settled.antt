@@ -16,7 +16,7 @@ pub record IsSettledBy (universe : List ℕ) (asked : Asked) (fixing : Fixing) :
   pub settled : split universe asked fixing ≡ None
   pub agrees : Agrees fixing fixing.present
 
-all_append : {X : Type 0} (P : X → Type 0) (xs ys : List X) → AllByRecursion P xs → AllByRecursion P ys → AllByRecursion P (xs ++ ys)
+pub all_append : {X : Type 0} (P : X → Type 0) (xs ys : List X) → AllByRecursion P xs → AllByRecursion P ys → AllByRecursion P (xs ++ ys)
 all_append P [] ys all more = more
 all_append P (x ∷ xs) ys all more = (all.0, all_append P xs ys all.1 more)
 

@@ -28,7 +28,7 @@ same_truth true b f g = sym (f refl)
 same_truth false true f g = g refl
 same_truth false false f g = refl
 
-any_same : (p : ℕ → Bool) (a b : List ℕ) → ((c : ℕ) → has a c ≡ has b c) → list_any p a ≡ true → list_any p b ≡ true
+pub any_same : (p : ℕ → Bool) (a b : List ℕ) → ((c : ℕ) → has a c ≡ has b c) → list_any p a ≡ true → list_any p b ≡ true
 any_same p a b same e =
     let f = in_any p a e in
     any_in p b f.item (has_in b f.item (sym (same f.item) ∙ in_has a f.item f.there)) f.passes

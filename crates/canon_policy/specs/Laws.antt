@@ -4,14 +4,29 @@ use Rattle.base_kit.specs.Sets.{IsAscending}
 use Rattle.policy_dd.specs.Imports.{AreOneImport}
 use Rattle.route_maps.specs.declared.plain.Imported.{Imported}
 use Rattle.route_maps.specs.Maps.{import_of}
+use Rattle.srp_core.specs.declared.route.Act.{Act}
+use Rattle.srp_core.specs.Acts.{ActsAlike}
 use Rattle.canon_policy.specs.declared.lists.CanonEdge.{CanonEdge}
 use Rattle.canon_policy.specs.Functions.{on_sets}
 use Rattle.canon_policy.specs.Plain.{IsPlain}
+use Rattle.canon_policy.specs.Uniform.{IsUniform}
 use Rattle.canon_policy.specs.Canonical.{canonical_lists_of}
+use Rattle.canon_policy.specs.CanonicalProblem.{canonical_act, HasPrintableMaps, HasMapsWithin}
 
 -- Functions that import every set alike have equal lists.
 abbrev pub EqualFunctionsHaveEqualLists : Type 0
 EqualFunctionsHaveEqualLists = (universe : List ℕ) (f g : List ℕ → Option Imported) → AreOneImport f g → canonical_lists_of universe f ≡ canonical_lists_of universe g
+
+-- So have functions over two universes, each of which is uniform over its own: the universe does not matter.
+abbrev pub UniverseDoesNotMatter : Type 0
+UniverseDoesNotMatter = (universe other : List ℕ) (f g : List ℕ → Option Imported) → IsAscending universe → IsAscending other → IsUniform universe (on_sets f)
+    → IsUniform other (on_sets g) → AreOneImport f g → canonical_lists_of universe f ≡ canonical_lists_of other g
+
+-- What is written for an edge depends on what it imports alone: acts that act alike have equal canonical acts, or neither
+-- has one, whatever maps they were given by and whatever communities the networks name besides.
+abbrev pub AlikeActsAreWrittenAlike : Type 0
+AlikeActsAreWrittenAlike = (universe other : List ℕ) (first second : Act) → IsAscending universe → IsAscending other → HasPrintableMaps first → HasPrintableMaps second
+    → HasMapsWithin universe first → HasMapsWithin other second → ActsAlike first second → canonical_act universe first ≡ canonical_act other second
 
 -- The canonical lists of a function import every set as it does. Communities are sent.
 abbrev pub CanonicalListsImportAlike : Type 0

@@ -9,3 +9,5 @@ pub mod Made
 pub mod MadeActs
 pub mod Nodes
 pub mod Plain
+pub mod Printed
+pub mod Uniform

@@ -1,10 +1,11 @@
 -- The acts of a problem while canonical ones take their places.
-use Rattle.std.specs.Prelude.{◌≡◌, ◌≢◌, ℕ, ◌<◌, Bool, true, false, List, length, Option, Some, None, Result, Ok, Err, Contains, slice_index_or}
+use Rattle.std.specs.Prelude.{◌≡◌, ◌≢◌, ℕ, ◌<◌, List, length, Option, Some, None, Result, Ok, Err, Contains, slice_index_or}
 use Rattle.std.specs.List.{AllByRecursion}
 use Rattle.base_kit.specs.declared.act_graph.Edge.{Edge}
+use Rattle.base_kit.specs.declared.protocol.Protocol.{Protocol}
 use Rattle.srp_core.specs.declared.route.Act.{Act}
 use Rattle.srp_core.specs.declared.route.Act.TheVariants.{Cost}
-use Rattle.srp_core.specs.Acts.{ActsAlike}
+use Rattle.srp_core.specs.Acts.{ActsAlike, IsActOf}
 use Rattle.canon_policy.specs.declared.lists.CanonRefusal.{CanonRefusal}
 use Rattle.canon_policy.specs.declared.lists.CanonRefusal.TheVariants as canon_refusal
 use Rattle.canon_policy.specs.declared.problem.CanonSrpRefusal.{CanonSrpRefusal}
@@ -25,9 +26,10 @@ at_place canon_refusal.Memory place = canon_srp_refusal.Memory
 abbrev pub act_at : List Act → ℕ → Act
 act_at acts place = slice_index_or acts place (Cost 0)
 
--- an act instead of another: it acts alike, can be printed, and names only communities of the universe
+-- an act instead of another: it acts alike in the same protocol, can be printed, and names only communities of the universe
 pub record IsActFor (universe : List ℕ) (old new : Act) : Type 0 where
   pub alike : ActsAlike old new
+  pub fits : (protocol : Protocol) → IsActOf protocol old → IsActOf protocol new
   pub printable : HasPrintableMaps new
   pub within : HasMapsWithin universe new
 
@@ -42,17 +44,3 @@ abbrev pub AreCanonicalActsOr : List ℕ → Problem → Result (List Act) Canon
 AreCanonicalActsOr universe problem (Ok acts) = AreCanonicalActs universe problem acts
 AreCanonicalActsOr universe problem (Err (canon_srp_refusal.NoCanon place)) = IsFirstWithout universe problem place
 AreCanonicalActsOr universe problem (Err canon_srp_refusal.Memory) = Unit {0}
-
--- the act at a place behind the first of the edges: the canonical one, where one of these edges has it, and else the old one
-pub data IsActSoFar (universe : List ℕ) (problem : Problem) (edges : List Edge) (acts : List Act) (done : List Bool) (place : ℕ) : Type 0 where
-  is_done : slice_index_or done place false ≡ true → (edge : Edge) → Contains edges edge → edge.act ≡ place
-      → canonical_act universe (act_at problem.acts place) ≡ Some (act_at acts place) → IsActSoFar universe problem edges acts done place
-  not_done : slice_index_or done place false ≡ false → act_at acts place ≡ act_at problem.acts place → IsActSoFar universe problem edges acts done place
-
--- the acts behind the first of the edges
-pub record AreActsSoFar (universe : List ℕ) (problem : Problem) (edges : List Edge) (acts : List Act) (done : List Bool) : Type 0 where
-  pub count : length acts ≡ length problem.acts
-  pub done_count : length done ≡ length problem.acts
-  pub each : (place : ℕ) → place < length problem.acts → IsActFor universe (act_at problem.acts place) (act_at acts place)
-  pub so_far : (place : ℕ) → place < length problem.acts → IsActSoFar universe problem edges acts done place
-  pub seen : AllByRecursion (λ edge. slice_index_or done edge.act false ≡ true) edges

@@ -11,7 +11,9 @@ ghost use Rattle.canon_policy.specs.Canonical.{out_asked, numbered_from, line_is
 ghost use Rattle.canon_policy.specs.Fixings.{nothing_fixed, split, settled};
 ghost use Rattle.canon_policy.specs.Functions.{on_sets};
 ghost use Rattle.canon_policy.specs.Made.{IsEdgeForm, asked_of, carried_nodes, in_nodes, out_nodes, in_made, out_made, has_no_count, EndsInDeny, IsListOf, AreListsOf};
+ghost use Rattle.canon_policy.specs.CanonicalProblem.{AreCommunities};
 ghost use Rattle.canon_policy.specs.Plain.{IsPlain};
+ghost use Rattle.canon_policy.specs.Printed.{HasSmallNumbers, ArePrintable};
 
 use crate::entries::{in_entry, out_entry};
 use crate::fixing::Fixing;
@@ -290,12 +292,14 @@ fn out_list(alloc: Global, store: &mut Store, edge: &EdgeFn) -> Result<Plain, Ca
 }
 
 /// The canonical lists of a function of a session, which the nodes mean in the one form that `edge_fn`
-/// makes. They import every set of communities as it does.
+/// makes. They import every set of communities as it does, and can be printed where its preferences and
+/// counts are such as a line can say.
 pub fn canon(alloc: Global, store: &mut Store, edge: &EdgeFn) -> Result<CanonEdge, CanonRefusal>
     requires { IsEdgeForm store.old edge.now }
     ensures grows { Grows store.old store.new }
     ensures canonical { (f : Items ℕ → Option Imported) → IsEdgeFn store.old edge.now f → AreListsOf result (canonical_lists_of store.old.universe f) }
     ensures imports { (f : Items ℕ → Option Imported) → IsEdgeFn store.old edge.now f → IfOk result (λ lists. AreOneImport (import_of lists.out true lists.into) f) }
+    ensures printable { (f : Items ℕ → Option Imported) → IsEdgeFn store.old edge.now f → AreCommunities store.old.universe → HasSmallNumbers f → IfOk result (λ lists. ArePrintable store.old.universe lists) }
 {
     let _count = store.len();
     let depends = depends_on_others(alloc, store, edge)?;

@@ -1,10 +1,22 @@
 //! What holds of canonical lists. Each law is the contract of a function that does nothing: whoever needs
 //! one calls it.
-ghost use Rattle.canon_policy.specs.Laws.{EqualFunctionsHaveEqualLists, CanonicalListsImportAlike, EqualListsMeanEqualFunctions};
+ghost use Rattle.canon_policy.specs.Laws.{EqualFunctionsHaveEqualLists, UniverseDoesNotMatter, AlikeActsAreWrittenAlike, CanonicalListsImportAlike, EqualListsMeanEqualFunctions};
 
 /// Functions that import every set of communities alike have equal canonical lists.
 pub fn equal_functions_have_equal_lists()
     ensures { EqualFunctionsHaveEqualLists }
+{}
+
+/// Functions that import every set of communities alike have equal canonical lists, whatever universes the
+/// lists are made over, if each function is uniform over its own.
+pub fn universe_does_not_matter()
+    ensures { UniverseDoesNotMatter }
+{}
+
+/// What is written for an edge depends on what it imports alone: acts that act alike have equal canonical acts,
+/// also those of two networks, or neither has one.
+pub fn alike_acts_are_written_alike()
+    ensures { AlikeActsAreWrittenAlike }
 {}
 
 /// The canonical lists of a function import every set of communities as it does.

@@ -3,11 +3,10 @@
 ghost use Rattle.std.specs.Prelude.{◌≡◌, IfOk};
 ghost use Rattle.std.specs.List.{AllByRecursion};
 ghost use Rattle.dd_core.specs.Sets.{Grows};
-ghost use Rattle.srp_core.specs.Acts.{ActsAlike};
 ghost use Rattle.srp_core.specs.Alike.{ProblemsAlike};
 ghost use Rattle.canon_policy.specs.declared.problem.CanonSrpRefusal.TheVariants as canon_srp_refusal;
 ghost use Rattle.canon_policy.specs.CanonicalProblem.{IsCanonicalOr, AreCommunities, HasPrintableMaps, HasMapsWithin};
-ghost use Rattle.canon_policy.specs.MadeActs.{IsCanonicalActOr, AreCanonicalActsOr, at_place};
+ghost use Rattle.canon_policy.specs.MadeActs.{IsActFor, IsCanonicalActOr, AreCanonicalActsOr, at_place};
 
 use crate::canonical::canon;
 use crate::lists::CanonRefusal;
@@ -84,9 +83,7 @@ fn canonical_act(alloc: Global, store: &mut Store, act: &Act) -> Result<Act, Can
     requires within { HasMapsWithin store.old.universe act.now }
     ensures grows { Grows store.old store.new }
     ensures canonical { IsCanonicalActOr store.old.universe act.now result }
-    ensures alike { IfOk result (λ new. ActsAlike act.now new) }
-    ensures printable { IfOk result (λ new. HasPrintableMaps new) }
-    ensures within { IfOk result (λ new. HasMapsWithin store.old.universe new) }
+    ensures instead { IfOk result (λ new. IsActFor store.old.universe act.now new) }
 {
     match act {
         Act::Import { out, sends, into } => {

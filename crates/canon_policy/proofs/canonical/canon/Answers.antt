@@ -5,6 +5,7 @@ use Rattle.canon_policy.specs.Functions.{on_sets}
 use Rattle.canon_policy.specs.Made.{IsListOf}
 use Rattle.canon_policy.proofs.CanonLists.{form_kept, plain_kept, none_depends, refused_into, refused_out, both_lists}
 use Rattle.canon_policy.proofs.ListLaws.{import_alike}
+use Rattle.canon_policy.proofs.Printed.{printable_lists}
 use Rattle.canon_policy.proofs.canonical.canon.Goals as goal
 
 pub returns-then-depends-clause-canonical : goal.returns-then-depends-clause-canonical
@@ -38,3 +39,8 @@ pub returns-in-Ok-out_list-clause-imports : goal.returns-in-Ok-out_list-clause-i
 returns-in-Ok-out_list-clause-imports c = λ f of.
     import_alike c.args.store.now.universe f _ c.len-count.ensures.shown.ascending (c.in_ok-depends.ensures.plain f of c.if-depends.false)
     (returns-in-Ok-out_list-clause-canonical c f of)
+
+pub returns-in-Ok-out_list-clause-printable : goal.returns-in-Ok-out_list-clause-printable
+returns-in-Ok-out_list-clause-printable c = λ f of communities small.
+    printable_lists c.args.store.now.universe f _ c.len-count.ensures.shown.ascending communities small
+    (c.in_ok-depends.ensures.plain f of c.if-depends.false) (returns-in-Ok-out_list-clause-canonical c f of)
