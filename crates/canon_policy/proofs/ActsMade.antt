@@ -23,13 +23,12 @@ use Rattle.canon_policy.specs.declared.lists.CanonEdge.{CanonEdge}
 use Rattle.canon_policy.specs.declared.lists.CanonRefusal.{CanonRefusal}
 use Rattle.canon_policy.specs.declared.lists.CanonRefusal.TheVariants.{NoCanon, Memory}
 use Rattle.canon_policy.specs.Canonical.{in_asked, numbered_from, is_wide, put_before, without_last_denies, limited, in_list, out_list, lists_of, depends_on_others, canonical_of, canonical_lists_of}
-use Rattle.canon_policy.specs.CanonicalProblem.{session_with, canonical_act, has_canonical, IsFirstWithout, HasPrintableMaps, HasMapsWithin}
+use Rattle.canon_policy.specs.CanonicalProblem.{session_with, canonical_act, HasPrintableMaps, HasMapsWithin}
 use Rattle.canon_policy.specs.Entries.{in_entry}
 use Rattle.canon_policy.specs.Fixings.{nothing_fixed, split, settled}
 use Rattle.canon_policy.specs.Functions.{on_sets, accepts}
 use Rattle.canon_policy.specs.Made.{AreListsOf}
-use Rattle.canon_policy.specs.MadeActs.{IsCanonicalActOr, act_at, IsActFor, AreCanonicalActs, IsActSoFar, AreActsSoFar}
-use Rattle.canon_policy.specs.MadeActs.IsActSoFar.{is_done, not_done}
+use Rattle.canon_policy.specs.MadeActs.{IsCanonicalActOr, IsActFor}
 use Rattle.canon_policy.specs.Printed.{ArePrintable}
 use Rattle.canon_policy.proofs.Leaves.{in_by}
 use Rattle.canon_policy.proofs.Printed.{pick, all_from, all_without}

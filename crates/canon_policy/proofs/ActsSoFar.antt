@@ -1,5 +1,5 @@
 -- The acts of a problem behind the first of its edges: each of these has a canonical act.
-use Rattle.std.proofs.Common.{◌≡◌, ◌≢◌, ℕ, zero, suc, ◌+◌, ◌<◌, ◌≤◌, Bool, true, false, List, [], ◌∷◌, ◌++◌, length, take, drop, set, replicate, get_or, Option, Some, None, refl, sym, ◌∙◌, ap, subst, arith, inl, inr, ◌⊎◌}
+use Rattle.std.proofs.Common.{◌≡◌, ◌≢◌, ℕ, zero, suc, ◌+◌, ◌<◌, ◌≤◌, Bool, true, false, List, [], ◌∷◌, ◌++◌, length, take, drop, set, replicate, get_or, Option, Some, None, Result, Ok, Err, refl, sym, ◌∙◌, ap, subst, arith, inl, inr, ◌⊎◌}
 use Rattle.std.specs.Prelude.{Contains, slice_index_or}
 use Rattle.std.specs.List.{AllByRecursion}
 use Rattle.std.specs.Option.{is_some}
@@ -11,27 +11,13 @@ use Rattle.srp_core.specs.declared.route.Act.{Act}
 use Rattle.srp_core.specs.declared.route.Act.TheVariants.{Import, Cost}
 use Rattle.srp_core.specs.Problem.{Problem, act_of}
 use Rattle.canon_policy.specs.CanonicalProblem.{canonical_act, has_canonical, IsFirstWithout, HasPrintableMaps, HasMapsWithin}
-use Rattle.canon_policy.specs.MadeActs.{act_at, IsActFor, AreCanonicalActs}
+use Rattle.canon_policy.specs.declared.problem.CanonSrpRefusal.{CanonSrpRefusal}
+use Rattle.canon_policy.specs.declared.problem.CanonSrpRefusal.TheVariants.{NoCanon, Memory}
+use Rattle.canon_policy.specs.MadeActs.{act_at, is_marked, IsActFor, AreCanonicalActs, AreCanonicalActsOr, IsActSoFar, AreActsSoFar, IsRefusedAtFirst}
+use Rattle.canon_policy.specs.MadeActs.IsActSoFar.{is_done, not_done}
 use Rattle.canon_policy.proofs.ActsMade.{same_act}
 use Rattle.canon_policy.proofs.Printed.{pick, all_from}
 use Rattle.canon_policy.proofs.Settled.{all_append}
-
--- whether a place is marked as done
-abbrev pub is_marked : List Bool → ℕ → Bool
-is_marked done place = slice_index_or done place false
-
--- the act at a place: the canonical one, where one of the edges has it, and else the old one
-pub data IsActSoFar (universe : List ℕ) (problem : Problem) (edges : List Edge) (acts : List Act) (done : List Bool) (place : ℕ) : Type 0 where
-  is_done : is_marked done place ≡ true → (edge : Edge) → In edges edge → edge.act ≡ place
-      → canonical_act universe (act_at problem.acts place) ≡ Some (act_at acts place) → IsActSoFar universe problem edges acts done place
-  not_done : is_marked done place ≡ false → act_at acts place ≡ act_at problem.acts place → IsActSoFar universe problem edges acts done place
-
-pub record AreActsSoFar (universe : List ℕ) (problem : Problem) (edges : List Edge) (acts : List Act) (done : List Bool) : Type 0 where
-  pub count : length acts ≡ length problem.acts
-  pub done_count : length done ≡ length problem.acts
-  pub each : (place : ℕ) → place < length problem.acts → IsActFor universe (act_at problem.acts place) (act_at acts place)
-  pub so_far : (place : ℕ) → place < length problem.acts → IsActSoFar universe problem edges acts done place
-  pub seen : AllByRecursion (λ edge. is_marked done edge.act ≡ true) edges
 
 pub at_index : {X : Type 0} (P : X → Type 0) (xs : List X) (i : ℕ) (d : X) → i < length xs → AllByRecursion P xs → P (get_or xs i d)
 at_index P [] i d lt all = absurd (omega arith)
@@ -70,8 +56,14 @@ module _ (universe : List ℕ) (problem : Problem) where
   }
 
   module _ (edges : List Edge) (acts : List Act) (done : List Bool) (so : AreActsSoFar universe problem edges acts done) (edge : Edge) where
+    still_in : (other : Edge) → Contains edges other → Contains (edges ++ edge ∷ []) other
+    still_in other h = contains_in (edges ++ edge ∷ []) other (in_left edges (edge ∷ []) other (in_contains edges other h))
+
+    last_in : Contains (edges ++ edge ∷ []) edge
+    last_in = contains_in (edges ++ edge ∷ []) edge (in_right edges (edge ∷ []) edge (inl refl))
+
     more : (place : ℕ) → IsActSoFar universe problem edges acts done place → IsActSoFar universe problem (edges ++ edge ∷ []) acts done place
-    more place (is_done marked other h same canonical) = is_done marked other (in_left edges (edge ∷ []) other h) same canonical
+    more place (is_done marked other h same canonical) = is_done marked other (still_in other h) same canonical
     more place (not_done marked same) = not_done marked same
 
     -- an edge whose act is done
@@ -101,14 +93,14 @@ module _ (universe : List ℕ) (problem : Problem) where
           → IsActSoFar universe problem edges acts done place
           → IsActSoFar universe problem (edges ++ edge ∷ []) (set acts edge.act new) (set done edge.act true) place
       put place canonical (inl same) so_far =
-          is_done (still place same) edge (in_right edges (edge ∷ []) edge (inl refl)) (sym same)
+          is_done (still place same) edge last_in (sym same)
           (ap (λ p. canonical_act universe (act_at problem.acts p)) same ∙ canonical
           ∙ ap Some (sym (ap (act_at (set acts edge.act new)) same ∙ get_or-set_same acts edge.act new (Cost 0) act_in)))
         where
           still : (place : ℕ) → place ≡ edge.act → is_marked (set done edge.act true) place ≡ true
           still place same = ap (is_marked (set done edge.act true)) same ∙ get_or-set_same done edge.act true false marked_in
       put place canonical (inr other) (is_done marked old h same is) =
-          is_done (still_marked place marked) old (in_left edges (edge ∷ []) old h) same
+          is_done (still_marked place marked) old (still_in old h) same
           (is ∙ ap Some (sym (get_or-set_other acts edge.act place new (Cost 0) other)))
       put place canonical (inr other) (not_done marked same) =
           not_done (get_or-set_other done edge.act place true false other ∙ marked)
@@ -159,7 +151,7 @@ module _ (universe : List ℕ) (problem : Problem) where
 
         by_done : (place : ℕ) → ((edge : Edge) → Contains problem.edges edge → edge.act ≢ place) → IsActSoFar universe problem problem.edges acts done place
             → act_at acts place ≡ act_at problem.acts place
-        by_done place none (is_done marked edge h same canonical) = absurd (none edge (contains_in problem.edges edge h) same)
+        by_done place none (is_done marked edge h same canonical) = absurd (none edge h same)
         by_done place none (not_done marked same) = same
 
         by : (place : ℕ) → ((edge : Edge) → Contains problem.edges edge → edge.act ≢ place) → (place < length problem.acts) ⊎ (length problem.acts ≤ place)
@@ -182,3 +174,8 @@ module _ (universe : List ℕ) (problem : Problem) where
       earlier = all_from (λ e. has_canonical universe problem e ≡ true) (take place problem.edges)
           (λ e h. ap is_some (canonical_seen (take place problem.edges) so e h (in_take problem.edges place e h)));
     }
+
+pub refused_acts : (universe : List ℕ) (problem : Problem) (refusal : CanonSrpRefusal) → IsRefusedAtFirst universe problem (Err refusal)
+    → AreCanonicalActsOr universe problem (Err refusal)
+refused_acts universe problem (NoCanon place) is = is
+refused_acts universe problem Memory is = tt

@@ -33,6 +33,9 @@ use Rattle.canon_policy.proofs.SameSets.{all_in, all_are, filtered_in, named, na
 use Rattle.canon_policy.proofs.Splits.{yes_hangs, split_free, count_free, count_free-start, fewer_present, fewer_absent}
 use Rattle.canon_policy.proofs.Values.{same_truth, outside_not}
 
+now_there : (c : ℕ) (set : List ℕ) → has (with_number c set) c ≡ true
+now_there c set = has-with_number c set c ∙ rw (same_number c c refl) refl
+
 -- the first that passes in an ascending list
 below_all : (n : ℕ) (xs : List ℕ) (y : ℕ) → AllAbove n xs → In xs y → n < y
 below_all n [] y above h = absurd h
@@ -159,7 +162,7 @@ module _ (universe other : List ℕ) (up : IsAscending universe) (other_up : IsA
   put_there : (us : List ℕ) → IsPlain us f → has us beyond ≡ false → (set : List ℕ) → carries f beyond (with_number beyond set) ≡ keeps f us set
   put_there us of none set =
       of.unnamed (with_number beyond set) beyond none
-      ∙ ap (λ b. b && keeps f us (with_number beyond set)) (has-with_number beyond set beyond ∙ rw (same_number beyond beyond refl) refl)
+      ∙ ap (λ b. b && keeps f us (with_number beyond set)) (now_there beyond set)
       ∙ of.kept.same (with_number beyond set) set (outside_same us beyond none set)
 
   one_kept : (set : List ℕ) → keeps f universe set ≡ keeps f other set
@@ -337,7 +340,7 @@ module _ (universe other : List ℕ) (up : IsAscending universe) (other_up : IsA
         stays : carries f c (with_number c fixing.present) ≡ true
         stays =
             outside_one c none (with_number c fixing.present)
-            ∙ ap (λ b. b && keeps f universe (with_number c fixing.present)) (has-with_number c fixing.present c ∙ rw (same_number c c refl) refl)
+            ∙ ap (λ b. b && keeps f universe (with_number c fixing.present)) (now_there c fixing.present)
             ∙ still_kept c none ∙ e
 
         by : (b : Bool) → not b && not true ≡ false

@@ -1,5 +1,5 @@
 -- The acts of a problem while canonical ones take their places.
-use Rattle.std.specs.Prelude.{◌≡◌, ◌≢◌, ℕ, ◌<◌, List, length, Option, Some, None, Result, Ok, Err, Contains, slice_index_or}
+use Rattle.std.specs.Prelude.{◌≡◌, ◌≢◌, ℕ, ◌<◌, Bool, true, false, List, length, Option, Some, None, Result, Ok, Err, Contains, slice_index_or}
 use Rattle.std.specs.List.{AllByRecursion}
 use Rattle.base_kit.specs.declared.act_graph.Edge.{Edge}
 use Rattle.base_kit.specs.declared.protocol.Protocol.{Protocol}
@@ -44,3 +44,27 @@ abbrev pub AreCanonicalActsOr : List ℕ → Problem → Result (List Act) Canon
 AreCanonicalActsOr universe problem (Ok acts) = AreCanonicalActs universe problem acts
 AreCanonicalActsOr universe problem (Err (canon_srp_refusal.NoCanon place)) = IsFirstWithout universe problem place
 AreCanonicalActsOr universe problem (Err canon_srp_refusal.Memory) = Unit {0}
+
+-- the first edge without is refused
+abbrev pub IsRefusedAtFirst : List ℕ → Problem → Result (Unit {0}) CanonSrpRefusal → Type 0
+IsRefusedAtFirst universe problem (Ok done) = Unit {0}
+IsRefusedAtFirst universe problem (Err (canon_srp_refusal.NoCanon place)) = IsFirstWithout universe problem place
+IsRefusedAtFirst universe problem (Err canon_srp_refusal.Memory) = Unit {0}
+
+-- whether a place is marked as done
+abbrev pub is_marked : List Bool → ℕ → Bool
+is_marked done place = slice_index_or done place false
+
+-- the act at a place: the canonical one, where one of the edges has it, and else the old one
+pub data IsActSoFar (universe : List ℕ) (problem : Problem) (edges : List Edge) (acts : List Act) (done : List Bool) (place : ℕ) : Type 0 where
+  is_done : is_marked done place ≡ true → (edge : Edge) → Contains edges edge → edge.act ≡ place
+      → canonical_act universe (act_at problem.acts place) ≡ Some (act_at acts place) → IsActSoFar universe problem edges acts done place
+  not_done : is_marked done place ≡ false → act_at acts place ≡ act_at problem.acts place → IsActSoFar universe problem edges acts done place
+
+-- the acts behind the first of the edges, each of which has a canonical one
+pub record AreActsSoFar (universe : List ℕ) (problem : Problem) (edges : List Edge) (acts : List Act) (done : List Bool) : Type 0 where
+  pub count : length acts ≡ length problem.acts
+  pub done_count : length done ≡ length problem.acts
+  pub each : (place : ℕ) → place < length problem.acts → IsActFor universe (act_at problem.acts place) (act_at acts place)
+  pub so_far : (place : ℕ) → place < length problem.acts → IsActSoFar universe problem edges acts done place
+  pub seen : AllByRecursion (λ edge. is_marked done edge.act ≡ true) edges

@@ -1,12 +1,12 @@
 //! The problem with canonical acts.
 
-ghost use Rattle.std.specs.Prelude.{◌≡◌, IfOk};
+ghost use Rattle.std.specs.Prelude.{◌≡◌, ◌<◌, ◌+◌, IfOk, OnOk, length, take};
 ghost use Rattle.std.specs.List.{AllByRecursion};
 ghost use Rattle.dd_core.specs.Sets.{Grows};
 ghost use Rattle.srp_core.specs.Alike.{ProblemsAlike};
 ghost use Rattle.canon_policy.specs.declared.problem.CanonSrpRefusal.TheVariants as canon_srp_refusal;
 ghost use Rattle.canon_policy.specs.CanonicalProblem.{IsCanonicalOr, AreCommunities, HasPrintableMaps, HasMapsWithin};
-ghost use Rattle.canon_policy.specs.MadeActs.{IsActFor, IsCanonicalActOr, AreCanonicalActsOr, at_place};
+ghost use Rattle.canon_policy.specs.MadeActs.{IsActFor, IsCanonicalActOr, AreCanonicalActsOr, AreActsSoFar, IsRefusedAtFirst, at_place};
 
 use crate::canonical::canon;
 use crate::lists::CanonRefusal;
@@ -58,6 +58,7 @@ pub fn canon_srp(alloc: Global, srp: &Srp, store: &mut Store) -> Result<Srp, Can
     ensures printable { IfOk result (λ new. AllByRecursion HasPrintableMaps new.acts) }
     ensures within { IfOk result (λ new. AllByRecursion (HasMapsWithin store.old.universe) new.acts) }
 {
+    let _routers = srp.count();
     let acts = canonical_acts(alloc, srp, store)?;
     let names = names_copy(alloc, srp.names().as_slice())?;
     let numbers = Vec::from_slice(alloc, srp.numbers())?;
@@ -110,6 +111,39 @@ fn at_place(refusal: CanonRefusal, place: u32) -> CanonSrpRefusal
     }
 }
 
+// Makes the act of the edge at this place canonical, unless an edge before it has the act.
+fn make_act(
+    alloc: Global,
+    srp: &Srp,
+    store: &mut Store,
+    made: &mut Vec<Act>,
+    done: &mut Vec<bool>,
+    place: usize,
+) -> Result<(), CanonSrpRefusal>
+    requires communities { AreCommunities store.old.universe }
+    requires printable { AllByRecursion HasPrintableMaps srp.now.acts }
+    requires within { AllByRecursion (HasMapsWithin store.old.universe) srp.now.acts }
+    requires place { place < length srp.now.edges }
+    requires so_far { AreActsSoFar store.old.universe srp.now (take place srp.now.edges) made.old.items done.old.items }
+    ensures grows { Grows store.old store.new }
+    ensures so_far { OnOk result (AreActsSoFar store.old.universe srp.now (take (place + 1) srp.now.edges) made.new.items done.new.items) }
+    ensures refused { IsRefusedAtFirst store.old.universe srp.now result }
+{
+    let _routers = srp.count();
+    let act = srp.edges()[place].act as usize;
+    if done[act] {
+        return Ok(());
+    }
+    match canonical_act(alloc, store, &srp.acts()[act]) {
+        Err(refusal) => Err(at_place(refusal, place as u32)),
+        Ok(canonical) => {
+            made[act] = canonical;
+            done[act] = true;
+            Ok(())
+        }
+    }
+}
+
 // The acts, those that some edge has made canonical.
 fn canonical_acts(alloc: Global, srp: &Srp, store: &mut Store) -> Result<List<Act>, CanonSrpRefusal>
     requires communities { AreCommunities store.old.universe }
@@ -119,20 +153,10 @@ fn canonical_acts(alloc: Global, srp: &Srp, store: &mut Store) -> Result<List<Ac
     ensures acts { AreCanonicalActsOr store.old.universe srp.now result }
 {
     let _routers = srp.count();
-    let acts = srp.acts();
-    let mut made = acts_copy(alloc, acts)?;
-    let mut done = vec![in alloc; false; acts.len()]?;
-    for (place, edge) in srp.edges().iter().enumerate() {
-        let act = edge.act as usize;
-        if !done[act] {
-            match canonical_act(alloc, store, &acts[act]) {
-                Err(refusal) => return Err(at_place(refusal, place as u32)),
-                Ok(canonical) => {
-                    made[act] = canonical;
-                    done[act] = true;
-                }
-            }
-        }
+    let mut made = acts_copy(alloc, srp.acts())?;
+    let mut done = vec![in alloc; false; srp.acts().len()]?;
+    for place in 0..srp.edges().len() {
+        make_act(alloc, srp, store, &mut made, &mut done, place)?;
     }
     Ok(List::from_vec(made))
 }

@@ -1,6 +1,6 @@
 use Rattle.std.proofs.Common.{take}
 use Rattle.dd_core.specs.Sets.{Grows}
-use Rattle.canon_policy.proofs.ActsSoFar.{AreActsSoFar}
+use Rattle.canon_policy.specs.MadeActs.{AreActsSoFar}
 use Rattle.canon_policy.proofs.problem.canonical_acts.Given as goal
 
 abbrev pub invariant-loop-place : goal.invariant-loop-place
