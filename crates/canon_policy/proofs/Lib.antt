@@ -1,3 +1,4 @@
+mod ActPlaces
 mod ActsMade
 mod ActsSoFar
 mod Asked

@@ -1,5 +1,5 @@
 -- A problem with canonical acts keeps the rules, and is alike the old one.
-use Rattle.std.proofs.Common.{◌≡◌, ◌≢◌, ℕ, ◌<◌, Bool, true, List, [], ◌∷◌, length, Option, Some, None, refl, sym, ◌∙◌, ap, subst, arith, inl, inr, ◌⊎◌}
+use Rattle.std.proofs.Common.{◌≡◌, ◌≢◌, ℕ, suc, ◌<◌, Bool, true, List, [], ◌∷◌, length, Option, Some, None, refl, sym, ◌∙◌, ap, subst, arith, inl, inr, ◌⊎◌}
 use Rattle.std.specs.Prelude.{All, Contains, slice_index_or}
 use Rattle.std.specs.List.{AllByRecursion}
 use Rattle.std.proofs.lemmas.List.{get_or_past}
@@ -20,7 +20,7 @@ use Rattle.canon_policy.proofs.ActsSoFar.{at_index}
 -- what holds at each place holds of all
 pub from_index : {X : Type 0} (P : X → Type 0) (d : X) (xs : List X) → ((i : ℕ) → i < length xs → P (slice_index_or xs i d)) → AllByRecursion P xs
 from_index P d [] each = tt
-from_index P d (x ∷ xs) each = (each 0 (omega arith), from_index P d xs (λ i lt. each (i + 1) (omega arith)))
+from_index P d (x ∷ xs) each = (each 0 (omega arith), from_index P d xs (λ i lt. each (suc i) (omega arith)))
 
 module _ (universe : List ℕ) (old : Problem) (acts : List Act) (made : AreCanonicalActs universe old acts) where
   abbrev pub new : Problem
