@@ -1,6 +1,5 @@
 -- The act of the edge at a place, as it becomes canonical.
-use Rattle.std.proofs.Common.{◌≡◌, ℕ, ◌+◌, ◌<◌, Bool, true, false, List, [], ◌∷◌, ◌++◌, length, get_or, take, set, Option, Some, None, Result, Ok, Err, refl, sym, ◌∙◌, ap, subst, arith}
-use Rattle.std.specs.Prelude.{Contains}
+use Rattle.std.proofs.Common.{◌≡◌, ℕ, ◌+◌, ◌<◌, Bool, true, false, List, [], ◌∷◌, ◌++◌, length, get_or, take, set, Some, Err, sym, ◌∙◌, ap, subst, arith}
 use Rattle.std.specs.List.{AllByRecursion}
 use Rattle.std.proofs.lemmas.List.{take_more, get_or_default}
 use Rattle.base_kit.specs.declared.act_graph.Edge.{Edge}
@@ -8,10 +7,10 @@ use Rattle.base_kit.proofs.Elements.{In, contains_in, in_at}
 use Rattle.srp_core.specs.declared.route.Act.{Act}
 use Rattle.srp_core.specs.declared.route.Act.TheVariants.{Cost}
 use Rattle.srp_core.specs.Problem.{Problem, IsProblem}
-use Rattle.canon_policy.specs.CanonicalProblem.{canonical_act, HasPrintableMaps, HasMapsWithin}
+use Rattle.canon_policy.specs.CanonicalProblem.{canonical_act}
 use Rattle.canon_policy.specs.declared.lists.CanonRefusal.{CanonRefusal}
 use Rattle.canon_policy.specs.declared.lists.CanonRefusal.TheVariants.{NoCanon, Memory}
-use Rattle.canon_policy.specs.MadeActs.{at_place, act_at, is_marked, IsActFor, IsCanonicalActOr, AreActsSoFar, IsRefusedAtFirst}
+use Rattle.canon_policy.specs.MadeActs.{at_place, act_at, IsActFor, IsCanonicalActOr, AreActsSoFar, IsRefusedAtFirst}
 use Rattle.canon_policy.proofs.ActsSoFar.{at_index, seen_again, seen_first, first_without}
 
 abbrev pub edge_at : List Edge → ℕ → Edge
@@ -40,7 +39,9 @@ module _ (problem : Problem) (rules : IsProblem problem) where
     -- the act as read
     module _ (acts : List Act) (acts_are : acts ≡ problem.acts) (act : Act) (is : act ≡ get_or acts (edge_at edges place).act act) where
       act_is : act ≡ act_at problem.acts (edge_at edges place).act
-      act_is = is ∙ ap (λ (l : List Act). get_or l (edge_at edges place).act act) acts_are ∙ get_or_default problem.acts (edge_at edges place).act _ _ act_inside
+      act_is =
+          is ∙ ap (λ (l : List Act). get_or l (edge_at edges place).act act) acts_are
+          ∙ get_or_default problem.acts (edge_at edges place).act _ _ act_inside
 
       pub act_holds : (P : Act → Type 0) → AllByRecursion P problem.acts → P act
       act_holds P all = subst P (sym act_is) (at_index P problem.acts (edge_at edges place).act (Cost 0) act_inside all)
@@ -48,7 +49,7 @@ module _ (problem : Problem) (rules : IsProblem problem) where
       module _ (universe : List ℕ) (made : List Act) (done : List Bool) (so : AreActsSoFar universe problem (take place problem.edges) made done) where
         pub seen_now : (new : Act) → canonical_act universe act ≡ Some new → IsActFor universe act new
             → AreActsSoFar universe problem (take (place + 1) problem.edges)
-                (set made (edge_at edges place).act new) (set done (edge_at edges place).act true)
+            (set made (edge_at edges place).act new) (set done (edge_at edges place).act true)
         seen_now new canonical instead =
             subst
             (λ (l : List Edge). AreActsSoFar universe problem l (set made (edge_at edges place).act new) (set done (edge_at edges place).act true)) (sym next)
@@ -56,7 +57,8 @@ module _ (problem : Problem) (rules : IsProblem problem) where
             (ap (canonical_act universe) (sym act_is) ∙ canonical)
             (subst (λ (a : Act). IsActFor universe a new) act_is instead))
 
-        pub refused_first : (refusal : CanonRefusal) → IsCanonicalActOr universe act (Err refusal) → IsRefusedAtFirst universe problem (Err (at_place refusal place))
+        pub refused_first : (refusal : CanonRefusal) → IsCanonicalActOr universe act (Err refusal)
+            → IsRefusedAtFirst universe problem (Err (at_place refusal place))
         refused_first NoCanon none =
             first_without universe problem made done in_acts place (edge_at edges place) lt at_own so (ap (canonical_act universe) (sym act_is) ∙ none)
         refused_first Memory none = tt

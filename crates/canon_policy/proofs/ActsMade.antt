@@ -1,14 +1,11 @@
 -- The canonical act instead of an act, and the acts of a problem with canonical ones in their places.
-use Rattle.std.proofs.Common.{◌≡◌, ◌≢◌, ℕ, zero, suc, ◌+◌, ◌<◌, ◌≤◌, Bool, true, false, ◌||◌, cond, nat_lt, nat_eq, List, [], ◌∷◌, ◌++◌, length, take, drop, Option, Some, None, Result, Ok, Err, refl, sym, ◌∙◌, ap, subst, arith, inl, inr, ◌⊎◌}
-use Rattle.std.specs.Prelude.{Contains, slice_index_or, if◌then◌else◌}
+use Rattle.std.proofs.Common.{◌≡◌, ℕ, ◌+◌, Bool, true, false, ◌||◌, nat_lt, List, [], ◌∷◌, length, Option, Some, None, Err, refl, sym, ap, subst}
+use Rattle.std.specs.Prelude.{if◌then◌else◌}
 use Rattle.std.specs.List.{AllByRecursion, list_any}
-use Rattle.std.specs.Option.{option_map, is_some}
-use Rattle.std.proofs.lemmas.Bool.{cases_eq}
+use Rattle.std.specs.Option.{option_map}
 use Rattle.std.proofs.lemmas.List.Elements.{All-from_recursion}
-use Rattle.base_kit.specs.declared.act_graph.Edge.{Edge}
 use Rattle.base_kit.specs.declared.protocol.Protocol.{Protocol}
 use Rattle.base_kit.specs.declared.protocol.Protocol.TheVariants.{Bgp as OverBgp, Ospf as OverOspf}
-use Rattle.base_kit.proofs.Elements.{In, contains_in, in_contains, in_left, in_right}
 use Rattle.policy_dd.specs.Imports.{AreOneImport}
 use Rattle.route_maps.specs.declared.plain.Plain.{Plain}
 use Rattle.route_maps.specs.declared.plain.PlainEntry.{PlainEntry}
@@ -16,13 +13,12 @@ use Rattle.route_maps.specs.declared.plain.Imported.{Imported}
 use Rattle.route_maps.specs.Maps.{import_of}
 use Rattle.srp_core.specs.declared.route.Act.{Act}
 use Rattle.srp_core.specs.declared.route.Act.TheVariants.{Import, Cost}
-use Rattle.srp_core.specs.Acts.{ActsAlike, IsActOf, import_by}
-use Rattle.srp_core.specs.Problem.{Problem, act_of}
+use Rattle.srp_core.specs.Acts.{IsActOf, import_by}
 use Rattle.canon_policy.specs.declared.fixing.Fixing.{Fixing}
 use Rattle.canon_policy.specs.declared.lists.CanonEdge.{CanonEdge}
 use Rattle.canon_policy.specs.declared.lists.CanonRefusal.{CanonRefusal}
 use Rattle.canon_policy.specs.declared.lists.CanonRefusal.TheVariants.{NoCanon, Memory}
-use Rattle.canon_policy.specs.Canonical.{in_asked, numbered_from, is_wide, put_before, without_last_denies, limited, in_list, out_list, lists_of, depends_on_others, canonical_of, canonical_lists_of}
+use Rattle.canon_policy.specs.Canonical.{in_asked, numbered_from, is_wide, without_last_denies, limited, in_list, out_list, lists_of, depends_on_others, canonical_of, canonical_lists_of}
 use Rattle.canon_policy.specs.CanonicalProblem.{session_with, canonical_act, HasPrintableMaps, HasMapsWithin}
 use Rattle.canon_policy.specs.Entries.{in_entry}
 use Rattle.canon_policy.specs.Fixings.{nothing_fixed, split, settled}
@@ -31,7 +27,7 @@ use Rattle.canon_policy.specs.Made.{AreListsOf}
 use Rattle.canon_policy.specs.MadeActs.{IsCanonicalActOr, IsActFor}
 use Rattle.canon_policy.specs.Printed.{ArePrintable}
 use Rattle.canon_policy.proofs.Leaves.{in_by}
-use Rattle.canon_policy.proofs.Printed.{pick, all_from, all_without}
+use Rattle.canon_policy.proofs.Printed.{all_without}
 
 -- the importer's canonical list puts nothing before the path
 abbrev PutsNothing : PlainEntry → Type 0

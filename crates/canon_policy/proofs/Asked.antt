@@ -1,13 +1,13 @@
 -- The parts of a function by its nodes: a community of the universe without a node of its own never splits.
-use Rattle.std.proofs.Common.{◌≡◌, ◌≢◌, ℕ, ◌+◌, ◌<◌, Bool, true, false, not, ◌&&◌, ◌||◌, cond, nat_eq, List, [], ◌∷◌, filter, length, Option, Some, None, refl, sym, ◌∙◌, ap, arith, inl, inr}
+use Rattle.std.proofs.Common.{◌≡◌, ℕ, ◌<◌, Bool, true, false, ◌&&◌, ◌||◌, cond, nat_eq, List, [], ◌∷◌, filter, length, Option, Some, None, refl, sym, ◌∙◌, ap, arith, inl, inr}
 use Rattle.std.specs.Prelude.{if◌then◌else◌}
 use Rattle.std.specs.Bool.{beq}
 use Rattle.std.specs.Option.{option_or}
-use Rattle.std.specs.List.{AllByRecursion, list_all}
+use Rattle.std.specs.List.{AllByRecursion}
 use Rattle.std.proofs.Math.Path.{fun_ext}
 use Rattle.std.proofs.lemmas.Bool.Decides.{nat_tests}
 use Rattle.base_kit.specs.declared.ids.Community.{Community}
-use Rattle.base_kit.specs.Sets.{has, with_number, IsAscending}
+use Rattle.base_kit.specs.Sets.{has, IsAscending}
 use Rattle.base_kit.proofs.SetFacts.{has-filter, one_list, ascending_filter}
 use Rattle.base_kit.proofs.Elements.{In}
 use Rattle.dd_core.specs.Sets.{Shown, IsShown, Means, value_of}
@@ -15,23 +15,20 @@ use Rattle.policy_dd.specs.declared.edge.EdgeFn.{EdgeFn}
 use Rattle.policy_dd.specs.Edge.{keys_of, by_number, never, carried_by_rest, IsEdgeFn}
 use Rattle.route_maps.specs.declared.plain.Imported.{Imported}
 use Rattle.canon_policy.specs.declared.fixing.Fixing.{Fixing}
-use Rattle.canon_policy.specs.declared.parts.PartNodes.{PartNodes}
-use Rattle.canon_policy.specs.declared.parts.PartNodes.TheVariants.{Told, Carried}
-use Rattle.canon_policy.specs.declared.parts.Nodes.{Nodes}
 use Rattle.canon_policy.specs.Functions.{on_sets, accepts, carries, keeps, preference, count}
-use Rattle.canon_policy.specs.Fixings.{Part, Asked, nothing_fixed, agreeing, sets_of, least, yes, follows, unsettled, first_unsettled, split}
-use Rattle.canon_policy.specs.Fixings.Part.{number, community}
+use Rattle.canon_policy.specs.Fixings.{Part, nothing_fixed, agreeing, sets_of, least, yes, follows, unsettled, first_unsettled, split}
+use Rattle.canon_policy.specs.Fixings.Part.{community}
 use Rattle.canon_policy.specs.Canonical.{in_parts, in_asked, out_asked}
-use Rattle.canon_policy.specs.Hanging.{TestHangsOn, NumberHangsOn, AskedHangsOn}
+use Rattle.canon_policy.specs.Hanging.{TestHangsOn, AskedHangsOn}
 use Rattle.canon_policy.specs.Made.{nodes_of, asked_of, carried_nodes, in_nodes, out_nodes}
-use Rattle.canon_policy.specs.Nodes.{AreInside, IsPartInside, AreNodesInside, AgreeAt, Tells, IsTold, AreTold, AreNodesOf}
+use Rattle.canon_policy.specs.Nodes.{AreInside, IsPartInside, AreNodesInside, AgreeAt, Tells, AreTold, AreNodesOf}
 use Rattle.canon_policy.specs.Plain.{IsPlain}
 use Rattle.canon_policy.proofs.SameSets.{all_are, has-agreeing}
 use Rattle.canon_policy.proofs.Least.{in_has, least_none, least_some, under_hangs}
 use Rattle.canon_policy.proofs.Plain.{in_parts_hang, yes_one}
-use Rattle.canon_policy.proofs.Splits.{yes_hangs, or_none}
+use Rattle.canon_policy.proofs.Splits.{yes_hangs}
 use Rattle.canon_policy.proofs.Says.{accepts_is, by_rest, by_node, keeps_is, lps_table, adds_table}
-use Rattle.canon_policy.proofs.Tables.{nodes_inside, key_in, IsTableOf, table_tells}
+use Rattle.canon_policy.proofs.Tables.{nodes_inside, table_tells}
 use Rattle.canon_policy.proofs.Values.{value_same}
 
 -- a part that has one value depends on nothing

@@ -1,9 +1,7 @@
 -- The lists over a store that has grown, and how a refusal of one is a refusal of both.
-use Rattle.std.proofs.Common.{◌≡◌, ℕ, ◌<◌, ◌≤◌, Bool, true, false, ◌||◌, nat_lt, List, [], length, Option, Some, None, Result, Ok, Err, refl, sym, ◌∙◌, ap, subst, arith}
-use Rattle.std.specs.Prelude.{if◌then◌else◌}
-use Rattle.std.specs.List.{list_any}
+use Rattle.std.proofs.Common.{◌≡◌, ℕ, ◌<◌, true, false, nat_lt, List, length, Option, Some, None, Err, refl, sym, ◌∙◌, ap, subst, arith}
 use Rattle.std.proofs.lemmas.Bool.Decides.{nat_tests}
-use Rattle.dd_core.specs.Sets.{Shown, IsShown, Grows}
+use Rattle.dd_core.specs.Sets.{Shown, Grows}
 use Rattle.policy_dd.specs.declared.edge.EdgeFn.{EdgeFn}
 use Rattle.policy_dd.specs.Edge.{keys_of, by_number, IsEdgeFn}
 use Rattle.policy_dd.proofs.KeptLemmas.{edge_kept}
@@ -15,11 +13,10 @@ use Rattle.canon_policy.specs.declared.lists.CanonRefusal.{CanonRefusal}
 use Rattle.canon_policy.specs.declared.lists.CanonRefusal.TheVariants.{NoCanon, Memory}
 use Rattle.canon_policy.specs.Functions.{on_sets}
 use Rattle.canon_policy.specs.Fixings.{nothing_fixed, split, settled}
-use Rattle.canon_policy.specs.Canonical.{out_asked, numbered_from, limited, in_list, out_list, lists_of, depends_on_others, canonical_of, canonical_lists_of}
-use Rattle.canon_policy.specs.Made.{IsEdgeForm, asked_of, in_made, out_made, has_no_count, IsListOf, AreListsOf}
-use Rattle.canon_policy.specs.Nodes.{is_broad, are_over, IsWalkedFromNothing}
+use Rattle.canon_policy.specs.Canonical.{out_asked, in_list, out_list, lists_of, depends_on_others, canonical_of, canonical_lists_of}
+use Rattle.canon_policy.specs.Made.{IsEdgeForm, asked_of, IsListOf, AreListsOf}
+use Rattle.canon_policy.specs.Nodes.{are_over, IsWalkedFromNothing}
 use Rattle.canon_policy.specs.Plain.{IsPlain}
-use Rattle.canon_policy.proofs.Limits.{in_over, in_limited, out_over, out_limited}
 
 pub over_long : (fixings : List Fixing) → 65535 < length fixings → are_over fixings ≡ true
 unfolding are_over

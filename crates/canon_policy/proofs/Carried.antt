@@ -1,18 +1,18 @@
 -- What the code asks of nodes, against what is asked of parts.
-use Rattle.std.proofs.Common.{◌≡◌, ◌≢◌, ℕ, zero, suc, ◌+◌, ◌<◌, Bool, true, false, not, ◌&&◌, cond, List, [], ◌∷◌, ◌++◌, length, take, get_or, Option, Some, None, refl, sym, ◌∙◌, ap, arith, inl, inr, ◌⊎◌}
+use Rattle.std.proofs.Common.{◌≡◌, ℕ, zero, suc, ◌+◌, ◌<◌, Bool, true, false, ◌&&◌, List, [], ◌∷◌, ◌++◌, length, take, get_or, Option, Some, None, refl, sym, ◌∙◌, ap, arith, inl, inr, ◌⊎◌}
 use Rattle.std.specs.Prelude.{if◌then◌else◌, MatchOption, IfSome}
 use Rattle.std.specs.Option.{option_map}
 use Rattle.std.proofs.lemmas.List.{take_more}
 use Rattle.std.proofs.Math.Path.{fun_ext}
 use Rattle.base_kit.specs.declared.ids.Community.{Community}
 use Rattle.base_kit.specs.Sets.{has}
-use Rattle.base_kit.proofs.Elements.{In, in_left, in_right}
+use Rattle.base_kit.proofs.Elements.{In}
 use Rattle.dd_core.specs.Sets.{Shown, IsShown, Grows, Means, value_of, DifferOnSet}
 use Rattle.dd_core.specs.Reach.{IsFirstOf, DependsOnNone}
 use Rattle.dd_core.proofs.ShownLemmas.{means_kept}
 use Rattle.canon_policy.specs.declared.fixing.Fixing.{Fixing}
 use Rattle.canon_policy.specs.Fixings.{agreeing, least, yes, follows}
-use Rattle.canon_policy.specs.Hanging.{SameOn, TestHangsOn}
+use Rattle.canon_policy.specs.Hanging.{TestHangsOn}
 use Rattle.canon_policy.specs.Nodes.{number_of, lesser}
 use Rattle.canon_policy.proofs.SameSets.{agreeing_same_on}
 use Rattle.canon_policy.proofs.Firsts.{first_is_least, least_among, least_of_more, NodesHang}

@@ -1,7 +1,7 @@
 -- The first community of a node, against the least on which a part depends.
-use Rattle.std.proofs.Common.{◌≡◌, ◌≢◌, ℕ, suc, ◌+◌, ◌<◌, ◌≤◌, Bool, true, false, not, ◌&&◌, ◌||◌, cond, nat_eq, List, [], ◌∷◌, ◌++◌, length, take, get_or, Option, Some, None, refl, sym, ◌∙◌, ap, arith, inl, inr, ◌⊎◌}
-use Rattle.std.specs.Prelude.{if◌then◌else◌, find, MatchOption, IfSome, nat_le}
-use Rattle.std.specs.List.{list_any, AllByRecursion}
+use Rattle.std.proofs.Common.{◌≡◌, ◌≢◌, ℕ, ◌≤◌, Bool, true, false, not, ◌&&◌, ◌||◌, cond, nat_eq, List, [], ◌∷◌, ◌++◌, Option, Some, None, refl, sym, ◌∙◌, ap, arith, inl, inr}
+use Rattle.std.specs.Prelude.{find, MatchOption, nat_le}
+use Rattle.std.specs.List.{list_any}
 use Rattle.std.specs.Option.{option_map}
 use Rattle.std.proofs.Math.Path.{fun_ext}
 use Rattle.std.proofs.lemmas.Bool.{cases_lt}
@@ -16,8 +16,8 @@ use Rattle.canon_policy.specs.Functions.{as_set}
 use Rattle.canon_policy.specs.Fixings.{depends, least, yes}
 use Rattle.canon_policy.specs.Hanging.{SameOn, TestHangsOn, NumberHangsOn}
 use Rattle.canon_policy.specs.Nodes.{AgreeAt, Tells, number_of, lesser}
-use Rattle.canon_policy.proofs.SameSets.{in_any, any_in, same_sets, has-as_set, ascending-as_set, with_there, without_absent, with_same_on, has-without_number}
-use Rattle.canon_policy.proofs.Least.{in_has, has_in, equal, Differing, depends_differ, differ_depends, none_found, is_found}
+use Rattle.canon_policy.proofs.SameSets.{in_any, any_in, same_sets, has-as_set, ascending-as_set, with_there, without_absent, has-without_number}
+use Rattle.canon_policy.proofs.Least.{in_has, has_in, Differing, depends_differ, differ_depends, is_found}
 use Rattle.canon_policy.proofs.Splits.{yes_hangs}
 
 -- searches in ascending lists

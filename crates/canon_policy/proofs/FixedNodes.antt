@@ -1,8 +1,8 @@
 -- Nodes of sets that are made to agree, one after the other.
-use Rattle.std.proofs.Common.{◌≡◌, ℕ, zero, suc, ◌+◌, ◌<◌, List, [], ◌∷◌, ◌++◌, length, take, get_or, refl, sym, ◌∙◌, ap, subst, arith}
+use Rattle.std.proofs.Common.{◌≡◌, ℕ, zero, suc, ◌+◌, ◌<◌, List, [], ◌∷◌, ◌++◌, length, take, get_or, sym, ◌∙◌, ap, subst, arith}
 use Rattle.std.specs.List.{AllByRecursion}
 use Rattle.std.proofs.lemmas.List.{take_more}
-use Rattle.dd_core.specs.Sets.{Shown, Grows, Means, value_of}
+use Rattle.dd_core.specs.Sets.{Shown, Grows, value_of}
 use Rattle.dd_core.proofs.ShownLemmas.{means_kept, value_of_kept}
 use Rattle.canon_policy.specs.declared.fixing.Fixing.{Fixing}
 use Rattle.canon_policy.specs.declared.parts.PartNodes.{PartNodes}

@@ -1,17 +1,14 @@
 -- When a community is settled because it follows: its node is that of the community itself.
-use Rattle.std.proofs.Common.{◌≡◌, ◌≢◌, ℕ, Bool, true, false, not, ◌&&◌, ◌||◌, cond, nat_eq, List, [], ◌∷◌, Option, Some, None, refl, sym, ◌∙◌, ap, inl, inr, ◌⊎◌}
+use Rattle.std.proofs.Common.{◌≡◌, ◌≢◌, ℕ, Bool, true, false, not, ◌&&◌, ◌||◌, List, [], None, refl, sym, ◌∙◌, ap, inl, inr, ◌⊎◌}
 use Rattle.std.specs.Prelude.{if◌then◌else◌}
 use Rattle.std.specs.Bool.{beq}
-use Rattle.std.specs.List.{list_all}
 use Rattle.base_kit.specs.Sets.{has, with_number, without_number}
 use Rattle.base_kit.proofs.SetFacts.{same_number, has-with_number}
-use Rattle.base_kit.proofs.Elements.{In}
-use Rattle.dd_core.specs.Sets.{Shown, IsShown, Means, value_of, DifferOnSet}
 use Rattle.canon_policy.specs.declared.fixing.Fixing.{Fixing}
 use Rattle.canon_policy.specs.Fixings.{agreeing, depends, least, yes, follows, sets_of}
 use Rattle.canon_policy.specs.Hanging.{TestHangsOn}
 use Rattle.canon_policy.proofs.SameSets.{all_are, all_in, filtered_in, named, named_same, same_sets, agreeing_same_on, has-agreeing, has-without_number}
-use Rattle.canon_policy.proofs.Least.{fixed_same, Differing, depends_differ}
+use Rattle.canon_policy.proofs.Least.{fixed_same, depends_differ}
 use Rattle.canon_policy.proofs.Firsts.{nothing_found}
 use Rattle.canon_policy.proofs.Plain.{same_bits}
 

@@ -1,8 +1,8 @@
 -- Canonical lists import as the function does.
-use Rattle.std.proofs.Common.{◌≡◌, ◌≢◌, ℕ, zero, suc, ◌+◌, ◌-◌, ◌<◌, ◌≤◌, Bool, true, false, not, ◌&&◌, ◌||◌, cond, nat_eq, nat_lt, List, [], ◌∷◌, ◌++◌, length, Option, Some, None, refl, sym, ◌∙◌, ap, arith, inl, inr, ◌⊎◌}
+use Rattle.std.proofs.Common.{◌≡◌, ℕ, ◌+◌, ◌-◌, ◌<◌, Bool, true, false, ◌||◌, nat_lt, List, [], length, Option, Some, None, refl, sym, ◌∙◌, ap, arith}
 use Rattle.std.specs.Prelude.{if◌then◌else◌}
-use Rattle.std.specs.List.{list_all, list_any}
-use Rattle.std.specs.Option.{option_map, option_map_or, option_or, is_some, unwrap_or}
+use Rattle.std.specs.List.{list_any}
+use Rattle.std.specs.Option.{option_map, option_map_or, is_some, unwrap_or}
 use Rattle.std.proofs.lemmas.Bool.Decides.{nat_tests}
 use Rattle.std.proofs.lemmas.List.{append-nil}
 use Rattle.base_kit.specs.Sets.{has, IsAscending}
@@ -14,12 +14,12 @@ use Rattle.route_maps.specs.declared.plain.Verdict.TheVariants.{Deny, Permit}
 use Rattle.route_maps.specs.Maps.{comms_after, entry_verdict, verdict, accepted, received, import_of}
 use Rattle.canon_policy.specs.declared.fixing.Fixing.{Fixing}
 use Rattle.canon_policy.specs.declared.lists.CanonEdge.{CanonEdge}
-use Rattle.canon_policy.specs.Functions.{on_sets, accepts, preference, count}
-use Rattle.canon_policy.specs.Fixings.{Asked, nothing_fixed, agreeing, sets_of, least, split, settled, unsettled, first_unsettled}
+use Rattle.canon_policy.specs.Functions.{accepts, preference, count}
+use Rattle.canon_policy.specs.Fixings.{Asked, nothing_fixed, agreeing, sets_of, least, split}
 use Rattle.canon_policy.specs.Entries.{lp_of, in_entry, out_entry}
-use Rattle.canon_policy.specs.Canonical.{in_asked, out_asked, entries_for, numbered_from, limited, in_list, out_list, adds_nothing, passing, is_wide, without_last_denies, lists_of, depends_on_others, canonical_of, canonical_lists_of}
+use Rattle.canon_policy.specs.Canonical.{in_asked, out_asked, entries_for, limited, in_list, out_list, adds_nothing, passing, is_wide, without_last_denies, lists_of, depends_on_others, canonical_of}
 use Rattle.canon_policy.specs.Hanging.{AskedHangsOn}
-use Rattle.canon_policy.proofs.SameSets.{Agrees, as_set-ascending, all_in, filtered_in, named, named_same}
+use Rattle.canon_policy.proofs.SameSets.{Agrees, all_in, filtered_in, named, named_same}
 use Rattle.canon_policy.proofs.Splits.{no_split, or_none, count_free-start}
 use Rattle.canon_policy.proofs.Verdicts.{AreEntries, Decided, decided, without_last_says}
 use Rattle.canon_policy.specs.Plain.{IsPlain}

@@ -1,7 +1,6 @@
 -- The least community on which a part depends.
-use Rattle.std.proofs.Common.{◌≡◌, ◌≢◌, ℕ, Bool, true, false, not, ◌&&◌, ◌||◌, cond, List, [], ◌∷◌, filter, nat_eq, Option, Some, None, refl, sym, ◌∙◌, ap, arith, inl, inr, ◌⊎◌}
-use Rattle.std.specs.Prelude.{find, if◌then◌else◌}
-use Rattle.std.specs.List.{list_any, list_all}
+use Rattle.std.proofs.Common.{◌≡◌, ◌≢◌, ℕ, Bool, true, false, not, ◌&&◌, ◌||◌, cond, List, [], ◌∷◌, filter, nat_eq, Some, None, refl, sym, ◌∙◌, ap, arith, inl, inr, ◌⊎◌}
+use Rattle.std.specs.Prelude.{find}
 use Rattle.std.proofs.lemmas.Bool.{cases_eq}
 use Rattle.std.proofs.lemmas.Bool.Decides.{nat_tests}
 use Rattle.base_kit.specs.Sets.{has, with_number, without_number}
@@ -9,8 +8,8 @@ use Rattle.base_kit.proofs.SetFacts.{same_number, other_number, has-with_number}
 use Rattle.base_kit.proofs.Elements.{In}
 use Rattle.canon_policy.specs.declared.fixing.Fixing.{Fixing}
 use Rattle.canon_policy.specs.Fixings.{agreeing, sets_of, differs, depends, least}
-use Rattle.canon_policy.specs.Hanging.{SameOn, NumberHangsOn}
-use Rattle.canon_policy.proofs.SameSets.{any_in, in_any, none_in, filtered_in, named, named_same, same_back, same_on, same_sets, with_same_on, without_same_on, agreeing_same_on, with_there, without_absent, has-agreeing, has-without_number}
+use Rattle.canon_policy.specs.Hanging.{NumberHangsOn}
+use Rattle.canon_policy.proofs.SameSets.{any_in, in_any, none_in, filtered_in, named, named_same, same_back, same_sets, with_same_on, without_same_on, agreeing_same_on, with_there, without_absent, has-agreeing, has-without_number}
 
 pub in_has : (xs : List ℕ) (x : ℕ) → In xs x → has xs x ≡ true
 in_has xs x h = any_in (λ other. nat_eq other x) xs x h (same_number x x refl)

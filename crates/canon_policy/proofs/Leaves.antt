@@ -1,33 +1,24 @@
 -- What the entry of a settled fixing makes of a set that agrees with it.
-use Rattle.std.proofs.Common.{◌≡◌, ◌≢◌, ℕ, suc, ◌+◌, ◌-◌, Bool, true, false, not, ◌&&◌, ◌||◌, cond, nat_eq, List, [], ◌∷◌, filter, map, Option, Some, None, refl, sym, ◌∙◌, ap, arith, inl, inr, ◌⊎◌}
+use Rattle.std.proofs.Common.{◌≡◌, ℕ, ◌-◌, Bool, true, false, not, ◌&&◌, ◌||◌, nat_eq, List, [], ◌∷◌, filter, map, Option, Some, None, refl, sym, ◌∙◌, ap, inl, inr}
 use Rattle.std.specs.Prelude.{if◌then◌else◌}
-use Rattle.std.specs.List.{list_all, list_any}
-use Rattle.std.specs.Option.{option_map, option_map_or, is_some, unwrap_or}
+use Rattle.std.specs.List.{list_all}
+use Rattle.std.specs.Option.{option_map_or, unwrap_or}
 use Rattle.std.proofs.lemmas.Bool.{cases_eq}
-use Rattle.base_kit.specs.Sets.{has, with_number, with_numbers, IsAscending}
+use Rattle.base_kit.specs.Sets.{has, with_number, IsAscending}
 use Rattle.base_kit.proofs.SetFacts.{same_number, other_number, has-with_number, has-with_numbers, has-filter, one_list, ascending_with_numbers, ascending_filter}
-use Rattle.cfg_ast.specs.declared.policy.Change.{Change}
-use Rattle.cfg_ast.specs.declared.policy.CommunityLine.{CommunityLine}
-use Rattle.cfg_ast.specs.declared.policy.CommunityList.{CommunityList}
 use Rattle.cfg_ast.specs.meaning.Lists.{community_list_permits, line_holds, first_line_decides}
 use Rattle.cfg_ast.specs.meaning.Policy.{without_deleted_by, after_change}
 use Rattle.route_maps.specs.declared.plain.Imported.{Imported}
 use Rattle.route_maps.specs.declared.plain.PlainEntry.{PlainEntry}
-use Rattle.route_maps.specs.declared.plain.Verdict.{Verdict}
-use Rattle.route_maps.specs.declared.plain.Verdict.TheVariants.{Deny, Permit}
-use Rattle.route_maps.specs.Maps.{lists_hold, entry_holds, entry_verdict, comms_after, accepted}
+use Rattle.route_maps.specs.declared.plain.Verdict.TheVariants.{Deny}
+use Rattle.route_maps.specs.Maps.{lists_hold, entry_holds, entry_verdict}
 use Rattle.canon_policy.specs.declared.fixing.Fixing.{Fixing}
 use Rattle.canon_policy.specs.Functions.{accepts, carries, keeps, preference, count}
-use Rattle.canon_policy.specs.Fixings.{agreeing, split, least}
-use Rattle.canon_policy.specs.Canonical.{in_asked, out_asked}
-use Rattle.canon_policy.specs.Entries.{alone, list_of, line_of, match_of, deletion_of, addition_of, replacement_by, lp_of, always_carried, is_deleted, is_added, change_of, deletion_for, denying, in_entry, out_entry}
-use Rattle.canon_policy.specs.Hanging.{TestHangsOn}
+use Rattle.canon_policy.specs.Entries.{alone, list_of, match_of, deletion_of, addition_of, replacement_by, lp_of, always_carried, is_deleted, is_added, change_of, deletion_for, denying, in_entry, out_entry}
 use Rattle.canon_policy.proofs.SameSets.{Agrees, same_sets, with_there}
-use Rattle.canon_policy.proofs.Least.{equal}
-use Rattle.canon_policy.proofs.Splits.{no_split, or_none}
 use Rattle.canon_policy.proofs.Verdicts.{AreEntries}
 use Rattle.canon_policy.specs.Plain.{IsPlain}
-use Rattle.canon_policy.proofs.Plain.{IsSettled, one, following, AreSettled, one_answer, one_value, at_least_set, present_agrees, more_agrees, in_accepted, in_settled}
+use Rattle.canon_policy.proofs.Plain.{IsSettled, one, following, AreSettled, present_agrees, more_agrees}
 
 -- matches
 and_true : (b : Bool) → b && true ≡ b

@@ -1,8 +1,6 @@
 -- The forms of an entry that is made.
-use Rattle.std.proofs.Common.{◌≡◌, ℕ, Bool, true, false, not, ◌&&◌, List, [], ◌∷◌, filter, Option, Some, None, refl, sym, ◌∙◌, ap}
-use Rattle.std.specs.Prelude.{if◌then◌else◌}
-use Rattle.base_kit.specs.declared.ids.Community.{Community}
-use Rattle.base_kit.specs.Sets.{has, IsAscending}
+use Rattle.std.proofs.Common.{◌≡◌, ℕ, true, false, List, filter, Option, None, refl}
+use Rattle.base_kit.specs.Sets.{IsAscending}
 use Rattle.base_kit.proofs.SetFacts.{ascending_filter}
 use Rattle.cfg_ast.specs.declared.policy.Change.{Change}
 use Rattle.cfg_ast.specs.declared.policy.CommunityList.{CommunityList}
@@ -12,7 +10,7 @@ use Rattle.policy_dd.specs.Edge.{keys_of, by_number}
 use Rattle.route_maps.specs.declared.plain.PlainEntry.{PlainEntry}
 use Rattle.canon_policy.specs.declared.fixing.Fixing.{Fixing}
 use Rattle.canon_policy.specs.Entries.{match_of, deletion_of, addition_of, replacement_by, denying}
-use Rattle.canon_policy.specs.Made.{carried_in, deleted_in, is_not_present, lp_in, count_in, names_made, change_made, deletion_made, in_made, out_made}
+use Rattle.canon_policy.specs.Made.{carried_in, deleted_in, is_not_present, lp_in, count_in, in_made, out_made}
 use Rattle.canon_policy.proofs.MadeLists.{ascending_carried}
 
 abbrev pub permitting : ℕ → Option (List CommunityList) → Option ℕ → Option Change → Option CommunityList → ℕ → PlainEntry

@@ -1,16 +1,16 @@
 -- Lists that loops over tables make, one case more at a time.
-use Rattle.std.proofs.Common.{◌≡◌, ◌≢◌, ℕ, zero, suc, ◌+◌, ◌<◌, Bool, true, false, not, ◌&&◌, cond, nat_eq, List, [], ◌∷◌, ◌++◌, length, take, drop, get_or, filter, map, Option, Some, None, refl, sym, ◌∙◌, ap, subst, arith, inl, inr}
+use Rattle.std.proofs.Common.{◌≡◌, ◌≢◌, ℕ, zero, suc, ◌+◌, ◌<◌, Bool, true, false, not, ◌&&◌, nat_eq, List, [], ◌∷◌, ◌++◌, length, take, drop, get_or, filter, map, Some, refl, sym, ◌∙◌, ap, arith}
 use Rattle.std.specs.Prelude.{if◌then◌else◌}
 use Rattle.std.proofs.lemmas.List.{take_more}
 use Rattle.std.proofs.lemmas.Bool.Decides.{nat_tests}
 use Rattle.base_kit.specs.declared.ids.Community.{Community}
-use Rattle.base_kit.specs.Sets.{has, AllAbove, IsAscending}
+use Rattle.base_kit.specs.Sets.{AllAbove, IsAscending}
 use Rattle.dd_core.specs.Sets.{Shown, value_of}
 use Rattle.policy_dd.specs.Edge.{by_number, keys_of}
 use Rattle.canon_policy.specs.declared.fixing.Fixing.{Fixing}
 use Rattle.cfg_ast.specs.declared.policy.CommunityLine.{CommunityLine}
 use Rattle.canon_policy.specs.Entries.{alone}
-use Rattle.canon_policy.specs.Made.{nodes_of, carried_in, is_out, deleted_in, is_not_present, lp_in, count_in}
+use Rattle.canon_policy.specs.Made.{nodes_of, carried_in, is_out, deleted_in, lp_in, count_in}
 use Rattle.canon_policy.specs.Nodes.{AreInside}
 
 no_case : Community × ℕ

@@ -1,17 +1,17 @@
 -- The import through maps over a universe is uniform over it.
-use Rattle.std.proofs.Common.{◌≡◌, ℕ, ◌+◌, Bool, true, false, not, ◌&&◌, ◌||◌, nat_eq, List, [], ◌∷◌, filter, Option, Some, None, refl, sym, ◌∙◌, ap, subst, arith}
+use Rattle.std.proofs.Common.{◌≡◌, ℕ, ◌+◌, Bool, true, false, not, ◌&&◌, ◌||◌, nat_eq, List, [], ◌∷◌, filter, Option, Some, None, refl, sym, ◌∙◌, ap, subst}
 use Rattle.std.specs.Prelude.{if◌then◌else◌, IfSome}
-use Rattle.std.specs.List.{AllByRecursion, find}
+use Rattle.std.specs.List.{AllByRecursion}
 use Rattle.std.specs.Option.{option_map_or, unwrap_or}
 use Rattle.base_kit.specs.Sets.{has, with_number, IsAscending}
-use Rattle.base_kit.proofs.SetFacts.{same_number, other_number, has-with_number, has-filter}
+use Rattle.base_kit.proofs.SetFacts.{same_number, has-with_number, has-filter}
 use Rattle.cfg_ast.specs.declared.policy.Change.{Change}
 use Rattle.cfg_ast.specs.declared.policy.Change.TheVariants.{Clear, Replace, Append}
 use Rattle.cfg_ast.specs.printing.WellFormed.{IsWellFormedChange}
 use Rattle.dd_core.specs.Sets.{has_others}
 use Rattle.policy_dd.specs.Deletion.{put_by_change, keeps_rest}
-use Rattle.policy_dd.specs.Import.{there_after, there_sent, others_after, others_sent, second_deciding, IsGivenByEntries, GivenBy, IsEntryFit, AreFit}
-use Rattle.policy_dd.specs.MapRun.{permits_it, puts, leaves_it, leaves_rest, prefers, adds_it}
+use Rattle.policy_dd.specs.Import.{there_after, there_sent, others_sent, second_deciding, IsGivenByEntries, GivenBy, IsEntryFit, AreFit}
+use Rattle.policy_dd.specs.MapRun.{permits_it, puts, leaves_it, leaves_rest}
 use Rattle.policy_dd.specs.Matches.{entry_by, first_of, decided, IsSeenAs}
 use Rattle.policy_dd.proofs.DeletionLemmas.{spares_outside}
 use Rattle.policy_dd.proofs.ImportLemmas.{same_first, found_fit, import_seen, all_fit}
@@ -22,13 +22,13 @@ use Rattle.route_maps.specs.declared.plain.Plain.{Plain}
 use Rattle.route_maps.specs.declared.plain.PlainEntry.{PlainEntry}
 use Rattle.route_maps.specs.Maps.{import_of}
 use Rattle.route_maps.specs.Printable.{IsPrintableEntry, IsPrintable}
-use Rattle.route_maps.specs.Within.{IsEntryWithin, IsMapWithin}
-use Rattle.canon_policy.specs.Functions.{as_set, on_sets, outside_of, carries, keeps, preference, count}
+use Rattle.route_maps.specs.Within.{IsMapWithin}
+use Rattle.canon_policy.specs.Functions.{as_set, on_sets, outside_of, carries, keeps}
 use Rattle.canon_policy.specs.Hanging.{SameOn}
 use Rattle.canon_policy.specs.Uniform.{HaveOneTrace, IsUniform}
 use Rattle.canon_policy.proofs.Least.{equal}
 use Rattle.canon_policy.proofs.Outside.{outside_same, others_put}
-use Rattle.canon_policy.proofs.SameSets.{and_both, any_in, ascending-as_set, has-as_set, named, named_same, same_back, same_on, with_same_on}
+use Rattle.canon_policy.proofs.SameSets.{and_both, any_in, ascending-as_set, has-as_set, named, named_same, same_back, with_same_on}
 use Rattle.canon_policy.proofs.Values.{same_truth, any_same, outside_not, none_others}
 use Rattle.canon_policy.proofs.Least.{has_in}
 

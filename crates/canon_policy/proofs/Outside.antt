@@ -1,26 +1,26 @@
 -- A function depends on communities outside the universe exactly where one of its nodes does.
-use Rattle.std.proofs.Common.{◌≡◌, ◌≢◌, ℕ, zero, suc, ◌+◌, ◌<◌, Bool, true, false, not, ◌||◌, nat_eq, List, [], ◌∷◌, ◌++◌, length, take, get_or, Option, Some, None, refl, sym, ◌∙◌, ap, subst, arith, inl, inr}
+use Rattle.std.proofs.Common.{◌≡◌, ℕ, zero, suc, ◌+◌, ◌<◌, Bool, true, false, not, ◌||◌, nat_eq, List, [], ◌∷◌, ◌++◌, length, take, get_or, Option, Some, None, refl, sym, ◌∙◌, ap, subst, arith, inl, inr}
 use Rattle.std.specs.Bool.{beq}
-use Rattle.std.specs.List.{AllByRecursion, list_any}
+use Rattle.std.specs.List.{list_any}
 use Rattle.std.specs.Option.{is_some, option_map_or}
 use Rattle.std.proofs.lemmas.List.{take_more}
-use Rattle.base_kit.specs.Sets.{has, with_number, IsAscending}
+use Rattle.base_kit.specs.Sets.{has, with_number}
 use Rattle.base_kit.proofs.SetFacts.{same_number, other_number, has-with_number}
 use Rattle.base_kit.proofs.Elements.{In}
 use Rattle.dd_core.specs.Sets.{Shown, IsShown, value_of, has_others}
-use Rattle.dd_core.specs.Reach.{DependsOn, DependsOnOthers}
+use Rattle.dd_core.specs.Reach.{DependsOnOthers}
 use Rattle.dd_core.proofs.SupportLemmas.{has-index, any-with_number}
 use Rattle.policy_dd.specs.declared.edge.EdgeFn.{EdgeFn}
-use Rattle.policy_dd.specs.Edge.{keys_of, by_number, never, carried_by_rest, IsEdgeFn}
+use Rattle.policy_dd.specs.Edge.{by_number, never, carried_by_rest, IsEdgeFn}
 use Rattle.route_maps.specs.declared.plain.Imported.{Imported}
-use Rattle.canon_policy.specs.Functions.{on_sets, outside_of, accepts, carries, preference, count}
+use Rattle.canon_policy.specs.Functions.{on_sets, outside_of, carries, preference, count}
 use Rattle.canon_policy.specs.Fixings.{sets_of}
 use Rattle.canon_policy.specs.Canonical.{differs_with_outside, depends_on_others}
 use Rattle.canon_policy.specs.Hanging.{SameOn}
 use Rattle.canon_policy.specs.Made.{nodes_of, told_nodes, SomeNeedsOthers, NoneNeedsOthers}
 use Rattle.canon_policy.specs.Nodes.{AreInside, AgreeAt}
 use Rattle.canon_policy.specs.Plain.{IsPlain}
-use Rattle.canon_policy.proofs.SameSets.{or_none, any_in, none_in, filtered_in, named, named_same, same_back, same_on, with_same_on}
+use Rattle.canon_policy.proofs.SameSets.{or_none, any_in, none_in, filtered_in, named, named_same, same_back, same_on}
 use Rattle.canon_policy.proofs.Least.{in_has, has_in, equal}
 use Rattle.canon_policy.proofs.Says.{accepts_is, by_node, lps_table, adds_table, plain_from}
 use Rattle.canon_policy.proofs.Tables.{nodes_inside, agree_each, key_in, AllHang, table_tells}

@@ -1,22 +1,21 @@
 -- Functions that communities outside the universe bear upon only by being kept or not, and what they are on
 -- the sets that agree with a settled fixing.
-use Rattle.std.proofs.Common.{◌≡◌, ◌≢◌, ℕ, ◌+◌, Bool, true, false, not, ◌&&◌, ◌||◌, cond, nat_eq, List, [], ◌∷◌, Option, Some, None, refl, sym, ◌∙◌, ap, inl, inr, ◌⊎◌}
+use Rattle.std.proofs.Common.{◌≡◌, ℕ, Bool, true, false, ◌&&◌, ◌||◌, nat_eq, List, [], ◌∷◌, Option, None, refl, sym, ◌∙◌, ap, inl, inr}
 use Rattle.std.specs.Prelude.{if◌then◌else◌}
 use Rattle.std.specs.Bool.{beq}
 use Rattle.std.specs.Option.{option_or}
-use Rattle.std.specs.List.{list_all, AllByRecursion}
-use Rattle.base_kit.specs.Sets.{has, with_number, IsAscending}
+use Rattle.base_kit.specs.Sets.{has, with_number}
 use Rattle.base_kit.proofs.SetFacts.{has-with_number}
 use Rattle.base_kit.proofs.Elements.{In}
 use Rattle.route_maps.specs.declared.plain.Imported.{Imported}
 use Rattle.canon_policy.specs.declared.fixing.Fixing.{Fixing}
-use Rattle.canon_policy.specs.Functions.{accepts, carries, keeps, preference, count}
-use Rattle.canon_policy.specs.Fixings.{Part, Asked, agreeing, sets_of, least, yes, follows, unsettled, first_unsettled, split}
-use Rattle.canon_policy.specs.Fixings.Part.{number, community}
+use Rattle.canon_policy.specs.Functions.{accepts, carries, keeps, preference}
+use Rattle.canon_policy.specs.Fixings.{Part, agreeing, sets_of, least, yes, follows, unsettled, first_unsettled, split}
+use Rattle.canon_policy.specs.Fixings.Part.{community}
 use Rattle.canon_policy.specs.Canonical.{in_parts, in_asked, out_asked}
-use Rattle.canon_policy.specs.Hanging.{SameOn, TestHangsOn, NumberHangsOn, PartsHangOn, AskedHangsOn}
+use Rattle.canon_policy.specs.Hanging.{TestHangsOn, NumberHangsOn, PartsHangOn, AskedHangsOn}
 use Rattle.canon_policy.specs.Plain.{IsPlain}
-use Rattle.canon_policy.proofs.SameSets.{Agrees, agreeing_stays, agreeing_same_on, same_sets, same_back, same_on, named, named_same, filtered_in, all_in, and_both}
+use Rattle.canon_policy.proofs.SameSets.{Agrees, agreeing_stays, agreeing_same_on, same_sets, named, named_same, filtered_in, all_in}
 use Rattle.canon_policy.proofs.Least.{least_none, under_hangs, has_in, in_has, equal}
 use Rattle.canon_policy.proofs.Splits.{yes_hangs, or_none, no_split}
 

@@ -1,10 +1,10 @@
 -- Canonical lists can be printed, and name only communities of the universe.
-use Rattle.std.proofs.Common.{◌≡◌, ℕ, zero, suc, ◌+◌, ◌-◌, ◌<◌, ◌≤◌, Bool, true, false, not, ◌&&◌, ◌||◌, cond, nat_eq, nat_lt, List, [], ◌∷◌, ◌++◌, filter, map, length, Option, Some, None, refl, sym, ◌∙◌, ap, subst, arith, inl, inr, ◌⊎◌}
+use Rattle.std.proofs.Common.{◌≡◌, ℕ, zero, suc, ◌+◌, ◌-◌, ◌<◌, ◌≤◌, Bool, true, false, ◌||◌, cond, nat_eq, nat_lt, List, [], ◌∷◌, ◌++◌, filter, map, length, Option, Some, None, refl, sym, ◌∙◌, ap, subst, arith, inl, inr}
 use Rattle.std.specs.Prelude.{if◌then◌else◌, IfSome}
 use Rattle.std.specs.List.{AllByRecursion, list_any}
-use Rattle.std.specs.Option.{option_map_or, is_some, unwrap_or}
+use Rattle.std.specs.Option.{option_map_or, unwrap_or}
 use Rattle.std.proofs.lemmas.Bool.Decides.{nat_tests}
-use Rattle.base_kit.specs.Sets.{has, with_number, AllAbove, IsAscending}
+use Rattle.base_kit.specs.Sets.{has, AllAbove, IsAscending}
 use Rattle.base_kit.proofs.SetFacts.{has-with_number, has-filter, ascending_filter, ascending_with_numbers}
 use Rattle.base_kit.proofs.Elements.{In}
 use Rattle.cfg_ast.specs.declared.policy.Change.{Change}
@@ -18,9 +18,9 @@ use Rattle.route_maps.specs.Printable.{IsPrintableDeletion, ArePrintableLists, I
 use Rattle.route_maps.specs.Within.{AreWithin, IsLineWithin, IsListWithin, AreListsWithin, IsChangeWithin, IsEntryWithin, IsMapWithin}
 use Rattle.canon_policy.specs.declared.fixing.Fixing.{Fixing}
 use Rattle.canon_policy.specs.declared.lists.CanonEdge.{CanonEdge}
-use Rattle.canon_policy.specs.Functions.{on_sets, accepts, keeps, preference, count, as_set}
+use Rattle.canon_policy.specs.Functions.{on_sets, accepts, keeps, preference, as_set}
 use Rattle.canon_policy.specs.Fixings.{Asked, nothing_fixed, with_present, with_absent, split, settled}
-use Rattle.canon_policy.specs.Entries.{alone, list_of, line_of, match_of, deletion_of, addition_of, replacement_by, lp_of, always_carried, is_deleted, is_added, change_of, deletion_for, denying, in_entry, out_entry}
+use Rattle.canon_policy.specs.Entries.{alone, match_of, deletion_of, addition_of, replacement_by, lp_of, always_carried, is_deleted, is_added, denying, in_entry, out_entry}
 use Rattle.canon_policy.specs.Canonical.{in_asked, out_asked, numbered_from, match_is_wide, names_in_change, is_wide, put_before, without_last_denies, limited, in_list, adds_nothing, passing, out_list, lists_of, depends_on_others, canonical_of, canonical_lists_of}
 use Rattle.canon_policy.specs.CanonicalProblem.{AreCommunities}
 use Rattle.canon_policy.specs.Hanging.{AskedHangsOn}

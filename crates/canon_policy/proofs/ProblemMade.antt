@@ -1,20 +1,19 @@
 -- A problem with canonical acts keeps the rules, and is alike the old one.
-use Rattle.std.proofs.Common.{◌≡◌, ◌≢◌, ℕ, suc, ◌<◌, Bool, true, List, [], ◌∷◌, length, Option, Some, None, refl, sym, ◌∙◌, ap, subst, arith, inl, inr, ◌⊎◌}
+use Rattle.std.proofs.Common.{◌≡◌, ℕ, suc, ◌<◌, List, [], ◌∷◌, length, refl, sym, ◌∙◌, subst, arith, inl, inr}
 use Rattle.std.specs.Prelude.{All, Contains, slice_index_or}
 use Rattle.std.specs.List.{AllByRecursion}
-use Rattle.std.proofs.lemmas.List.{get_or_past}
 use Rattle.std.proofs.lemmas.List.Elements.{All-from_recursion, recursion_from_All}
 use Rattle.base_kit.specs.declared.act_graph.Edge.{Edge}
-use Rattle.base_kit.proofs.Elements.{In, contains_in, in_contains}
+use Rattle.base_kit.proofs.Elements.{In, contains_in}
 use Rattle.srp_core.specs.declared.route.Act.{Act}
-use Rattle.srp_core.specs.declared.route.Act.TheVariants.{Import, Cost}
+use Rattle.srp_core.specs.declared.route.Act.TheVariants.{Cost}
 use Rattle.srp_core.specs.Acts.{ActsAlike, IsActOf, KeepsSets}
-use Rattle.srp_core.specs.Alike.{EdgesAlike, AllEdgesAlike, ProblemsAlike}
-use Rattle.srp_core.specs.Problem.{Problem, act_of, Accepts, IsLone, IsEdgeOf, IsProblem, HasTables, HasEdges, HasActs, HasStarts, HasAsNumbers, HasMarks}
+use Rattle.srp_core.specs.Alike.{AllEdgesAlike, ProblemsAlike}
+use Rattle.srp_core.specs.Problem.{Problem, act_of, Accepts, IsLone, IsProblem}
 use Rattle.srp_core.proofs.Alike.{imports_alike}
 use Rattle.srp_core.proofs.GroupMatching.{alike_sym, alike_trans}
 use Rattle.canon_policy.specs.CanonicalProblem.{IsCanonicalProblem, HasPrintableMaps, HasMapsWithin}
-use Rattle.canon_policy.specs.MadeActs.{act_at, IsActFor, AreCanonicalActs}
+use Rattle.canon_policy.specs.MadeActs.{act_at, AreCanonicalActs}
 use Rattle.canon_policy.proofs.ActsSoFar.{at_index}
 
 -- what holds at each place holds of all

@@ -1,15 +1,15 @@
 -- Sets with the same communities of a universe.
-use Rattle.std.proofs.Common.{◌≡◌, ◌≢◌, ℕ, Bool, true, false, not, ◌&&◌, ◌||◌, cond, List, [], ◌∷◌, ◌++◌, filter, map, nat_eq, refl, sym, ◌∙◌, ap, arith, inl, inr, ◌⊎◌}
+use Rattle.std.proofs.Common.{◌≡◌, ℕ, Bool, true, false, not, ◌&&◌, ◌||◌, cond, List, [], ◌∷◌, ◌++◌, filter, map, nat_eq, refl, sym, ◌∙◌, ap, arith, inl, inr, ◌⊎◌}
 use Rattle.std.specs.List.{list_any, list_all}
 use Rattle.std.proofs.lemmas.Bool.{cases_eq}
 use Rattle.std.proofs.lemmas.Bool.Decides.{nat_tests}
 use Rattle.base_kit.specs.Sets.{has, with_number, without_number, with_numbers, IsAscending}
 use Rattle.base_kit.proofs.SetFacts.{same_number, other_number, has-with_number, has-with_numbers, has-filter, one_list, ascending_with_numbers}
-use Rattle.base_kit.proofs.Elements.{In, in_left, in_right, in_map, append_in, map_in}
+use Rattle.base_kit.proofs.Elements.{In, in_left, in_right, in_map}
 use Rattle.canon_policy.specs.declared.fixing.Fixing.{Fixing}
 use Rattle.canon_policy.specs.Fixings.{agreeing, sets_of, with_present, with_absent}
 use Rattle.canon_policy.specs.Functions.{as_set}
-use Rattle.canon_policy.specs.Hanging.{SameOn, TestHangsOn, NumberHangsOn}
+use Rattle.canon_policy.specs.Hanging.{SameOn}
 
 -- tests of lists
 or_left : (a b : Bool) → a ≡ true → a || b ≡ true

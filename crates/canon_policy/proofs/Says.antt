@@ -1,30 +1,24 @@
 -- What the nodes of a function say of every list of communities, as the set that it stands for.
-use Rattle.std.proofs.Common.{◌≡◌, ◌≢◌, ℕ, ◌+◌, ◌<◌, ◌≤◌, Bool, true, false, not, ◌&&◌, ◌||◌, nat_eq, nat_lt, List, [], ◌∷◌, ◌++◌, length, get_or, Option, Some, None, refl, sym, ◌∙◌, ap, arith, inl, inr}
-use Rattle.std.specs.Prelude.{if◌then◌else◌}
-use Rattle.std.specs.List.{AllByRecursion, list_any}
+use Rattle.std.proofs.Common.{◌≡◌, ℕ, ◌+◌, Bool, true, false, not, ◌&&◌, ◌||◌, nat_eq, List, [], ◌∷◌, Option, Some, None, refl, sym, ◌∙◌, ap}
 use Rattle.std.specs.Option.{is_some, option_map_or}
-use Rattle.std.proofs.lemmas.Bool.{cases_lt, cases_eq}
-use Rattle.std.proofs.lemmas.Bool.Decides.{nat_tests}
 use Rattle.base_kit.specs.Sets.{has, with_number, IsAscending}
 use Rattle.base_kit.proofs.SetFacts.{same_number, other_number, has-with_number}
 use Rattle.base_kit.proofs.Elements.{In}
-use Rattle.dd_core.specs.Sets.{Shown, IsShown, value_of, test_of, has_others}
-use Rattle.dd_core.specs.Reach.{DependsOn, DependsOnOthers}
-use Rattle.dd_core.proofs.SetLemmas.{value_agrees}
-use Rattle.dd_core.proofs.SupportLemmas.{has-index, any-with_number}
+use Rattle.dd_core.specs.Sets.{Shown, IsShown, value_of, has_others}
+use Rattle.dd_core.proofs.SupportLemmas.{any-with_number}
 use Rattle.policy_dd.specs.declared.edge.EdgeFn.{EdgeFn}
-use Rattle.policy_dd.specs.Edge.{case_or, keys_of, by_number, never, carried_by_rest, is_carried, GivesImport, ImportIs, AreCases, IsOneOf, IsEdgeFn}
+use Rattle.policy_dd.specs.Edge.{case_or, keys_of, by_number, never, carried_by_rest, is_carried, ImportIs, AreCases, IsOneOf, IsEdgeFn}
 use Rattle.policy_dd.proofs.CaseLemmas.{case_absent}
 use Rattle.route_maps.specs.declared.plain.Imported.{Imported}
 use Rattle.canon_policy.specs.Functions.{as_set, on_sets, outside_of, accepts, carries, keeps, preference, count}
-use Rattle.canon_policy.specs.Hanging.{SameOn, TestHangsOn, NumberHangsOn}
+use Rattle.canon_policy.specs.Hanging.{SameOn, TestHangsOn}
 use Rattle.canon_policy.specs.Made.{nodes_of}
-use Rattle.canon_policy.specs.Nodes.{AreInside, AgreeAt}
+use Rattle.canon_policy.specs.Nodes.{AgreeAt}
 use Rattle.canon_policy.specs.Plain.{IsPlain}
-use Rattle.canon_policy.proofs.SameSets.{has-as_set, ascending-as_set, and_both, with_same_on, named, named_same, same_back, same_sets}
-use Rattle.canon_policy.proofs.Tables.{agree_cases, agree_as_set, nodes_inside, at_key, key_at, AllHang, IsTableOf, NumberAt, table_hangs}
+use Rattle.canon_policy.proofs.SameSets.{has-as_set, ascending-as_set, and_both, with_same_on}
+use Rattle.canon_policy.proofs.Tables.{agree_cases, agree_as_set, nodes_inside, at_key, AllHang, IsTableOf, NumberAt, table_hangs}
 use Rattle.canon_policy.proofs.Tables.NumberAt.{none, some}
-use Rattle.canon_policy.proofs.Values.{value_same, same_truth, outside_not, value_trace}
+use Rattle.canon_policy.proofs.Values.{value_same, outside_not, value_trace}
 
 module _ (shown : Shown) (is : IsShown shown) (edge : EdgeFn) (f : List ℕ → Option Imported) (of : IsEdgeFn shown edge f) where
   abbrev out : ℕ

@@ -2,14 +2,13 @@
 use Rattle.std.proofs.Common.{◌≡◌, ℕ, ◌<◌, ◌≤◌, Bool, true, false, not, ◌&&◌, ◌||◌, cond, List, [], ◌∷◌, filter, length, nat_eq, Option, Some, None, refl, sym, ◌∙◌, ap, arith, inl, inr, ◌⊎◌}
 use Rattle.std.specs.Prelude.{if◌then◌else◌}
 use Rattle.std.specs.Option.{option_or}
-use Rattle.std.specs.List.{AllByRecursion}
-use Rattle.base_kit.specs.Sets.{has, with_number}
+use Rattle.base_kit.specs.Sets.{has}
 use Rattle.base_kit.proofs.SetFacts.{same_number, has-with_number}
 use Rattle.base_kit.proofs.Elements.{In}
 use Rattle.canon_policy.specs.declared.fixing.Fixing.{Fixing}
 use Rattle.canon_policy.specs.Fixings.{Part, Asked, nothing_fixed, with_present, with_absent, agreeing, least, yes, follows, unsettled, first_unsettled, split}
 use Rattle.canon_policy.specs.Fixings.Part.{number, community}
-use Rattle.canon_policy.specs.Hanging.{SameOn, TestHangsOn, NumberHangsOn, PartHangsOn, PartsHangOn, AskedHangsOn}
+use Rattle.canon_policy.specs.Hanging.{TestHangsOn, NumberHangsOn, PartHangsOn, PartsHangOn, AskedHangsOn}
 use Rattle.canon_policy.proofs.SameSets.{and_both}
 use Rattle.canon_policy.proofs.Least.{IsFree, least_free, has_in}
 

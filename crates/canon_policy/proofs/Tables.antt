@@ -1,19 +1,17 @@
 -- Tables that give numbers nodes, and the number of a set that such a table tells.
-use Rattle.std.proofs.Common.{◌≡◌, ◌≢◌, ℕ, ◌+◌, ◌<◌, Bool, true, false, ◌||◌, nat_eq, List, [], ◌∷◌, length, refl, sym, ◌∙◌, ap, arith, inl, inr}
+use Rattle.std.proofs.Common.{◌≡◌, ℕ, ◌+◌, ◌<◌, Bool, true, false, ◌||◌, nat_eq, List, [], ◌∷◌, refl, sym, ◌∙◌, ap, arith, inl, inr}
 use Rattle.std.proofs.lemmas.Bool.{cases_eq}
-use Rattle.std.specs.Prelude.{if◌then◌else◌}
 use Rattle.std.specs.List.{AllByRecursion}
 use Rattle.base_kit.specs.Sets.{has, AllAbove, IsAscending}
 use Rattle.base_kit.proofs.SetFacts.{same_number, other_number}
 use Rattle.base_kit.proofs.Elements.{In}
 use Rattle.dd_core.specs.Sets.{Shown, IsShown, value_of}
 use Rattle.policy_dd.specs.Edge.{case_or, keys_of, AllCases, AreCases, IsOneOf, never}
-use Rattle.policy_dd.proofs.CaseLemmas.{case_here, case_later, case_absent}
+use Rattle.policy_dd.proofs.CaseLemmas.{case_here, case_later}
 use Rattle.canon_policy.specs.Hanging.{SameOn, TestHangsOn, NumberHangsOn}
 use Rattle.canon_policy.specs.Nodes.{AreInside, AgreeAt, Tells}
 use Rattle.canon_policy.specs.Made.{nodes_of}
 use Rattle.canon_policy.proofs.SameSets.{has-as_set}
-use Rattle.canon_policy.proofs.Least.{in_has, has_in}
 use Rattle.canon_policy.proofs.Values.{value_same, same_truth}
 use Rattle.canon_policy.specs.Functions.{as_set}
 

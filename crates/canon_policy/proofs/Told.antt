@@ -1,23 +1,21 @@
 -- Nodes that tell parts: while the store grows, and part by part.
-use Rattle.std.proofs.Common.{◌≡◌, ◌≢◌, ℕ, zero, suc, ◌+◌, ◌<◌, Bool, true, false, not, ◌&&◌, cond, List, [], ◌∷◌, ◌++◌, length, take, drop, get_or, Option, Some, None, refl, sym, ◌∙◌, ap, subst, arith, inl, inr, ◌⊎◌}
-use Rattle.std.specs.Prelude.{if◌then◌else◌, MatchOption, IfSome}
+use Rattle.std.proofs.Common.{◌≡◌, ℕ, zero, suc, ◌+◌, ◌<◌, Bool, true, false, List, [], ◌∷◌, length, drop, get_or, Option, Some, None, refl, sym, ◌∙◌, ap, subst, arith}
+use Rattle.std.specs.Prelude.{if◌then◌else◌}
 use Rattle.std.specs.List.{AllByRecursion}
 use Rattle.std.specs.Option.{option_map, option_or, is_some}
 use Rattle.base_kit.specs.declared.ids.Community.{Community}
 use Rattle.base_kit.specs.Sets.{has}
-use Rattle.dd_core.specs.Sets.{Shown, IsShown, Grows, Means, value_of}
-use Rattle.dd_core.specs.Reach.{IsFirstOf, DependsOnNone}
+use Rattle.dd_core.specs.Sets.{Shown, Grows, Means}
 use Rattle.dd_core.proofs.ShownLemmas.{means_kept, grows_inside, value_of_kept}
 use Rattle.canon_policy.specs.declared.fixing.Fixing.{Fixing}
 use Rattle.canon_policy.specs.declared.parts.PartNodes.{PartNodes}
 use Rattle.canon_policy.specs.declared.parts.PartNodes.TheVariants.{Told, Carried}
 use Rattle.canon_policy.specs.declared.parts.Nodes.{Nodes}
-use Rattle.canon_policy.specs.Fixings.{Part, Asked, agreeing, least, yes, follows, unsettled, first_unsettled, split}
+use Rattle.canon_policy.specs.Fixings.{Part, Asked, agreeing, least, yes, unsettled, first_unsettled, split}
 use Rattle.canon_policy.specs.Fixings.Part.{number, community}
-use Rattle.canon_policy.specs.Hanging.{SameOn, TestHangsOn, NumberHangsOn, PartHangsOn, PartsHangOn, AskedHangsOn}
+use Rattle.canon_policy.specs.Hanging.{TestHangsOn, NumberHangsOn, PartHangsOn, PartsHangOn}
 use Rattle.canon_policy.specs.Nodes.{AreInside, IsPartInside, AreNodesInside, AgreeAt, Tells, IsTold, AreTold, AreNodesOf, number_of}
 use Rattle.canon_policy.proofs.Least.{under_hangs}
-use Rattle.canon_policy.proofs.Carried.{first_of_test, test_under}
 
 -- growth
 pub inside_kept : (old new : Shown) → Grows old new → (nodes : List ℕ) → AreInside old nodes → AreInside new nodes

@@ -1,9 +1,8 @@
 -- The canonical lists of a function are the same over each universe on which it is plain.
-use Rattle.std.proofs.Common.{◌≡◌, ◌≢◌, ℕ, zero, suc, ◌+◌, ◌-◌, ◌<◌, ◌≤◌, Bool, true, false, not, ◌&&◌, ◌||◌, cond, nat_eq, nat_lt, List, [], ◌∷◌, ◌++◌, filter, length, Option, Some, None, refl, sym, ◌∙◌, ap, subst, arith, inl, inr, ◌⊎◌}
+use Rattle.std.proofs.Common.{◌≡◌, ℕ, zero, suc, ◌-◌, ◌<◌, ◌≤◌, Bool, true, false, not, ◌&&◌, cond, nat_eq, nat_lt, List, [], ◌∷◌, ◌++◌, filter, length, Option, Some, None, refl, sym, ◌∙◌, ap, subst, arith, inl, inr, ◌⊎◌}
 use Rattle.std.proofs.Math.Path.{fun_ext}
 use Rattle.std.specs.Prelude.{find, if◌then◌else◌}
 use Rattle.std.specs.Bool.{beq}
-use Rattle.std.specs.List.{list_any, list_all}
 use Rattle.std.specs.Option.{option_or, option_map_or}
 use Rattle.base_kit.specs.Sets.{has, with_number, without_number, AllAbove, IsAscending}
 use Rattle.base_kit.proofs.SetFacts.{same_number, other_number, has-with_number, has-filter, ascending_filter, one_list}
@@ -11,14 +10,11 @@ use Rattle.base_kit.proofs.Elements.{In, in_left, in_right}
 use Rattle.cfg_ast.specs.declared.policy.Change.{Change}
 use Rattle.cfg_ast.specs.declared.policy.CommunityList.{CommunityList}
 use Rattle.route_maps.specs.declared.plain.Imported.{Imported}
-use Rattle.route_maps.specs.declared.plain.Plain.{Plain}
-use Rattle.route_maps.specs.declared.plain.PlainEntry.{PlainEntry}
 use Rattle.canon_policy.specs.declared.fixing.Fixing.{Fixing}
-use Rattle.canon_policy.specs.declared.lists.CanonEdge.{CanonEdge}
 use Rattle.canon_policy.specs.Functions.{outside_of, accepts, carries, keeps, preference, count}
-use Rattle.canon_policy.specs.Fixings.{Part, Asked, nothing_fixed, with_present, with_absent, agreeing, sets_of, depends, least, yes, follows, unsettled, first_unsettled, split, settled}
-use Rattle.canon_policy.specs.Fixings.Part.{number, community}
-use Rattle.canon_policy.specs.Entries.{match_of, deletion_of, addition_of, replacement_by, lp_of, always_carried, is_deleted, is_added, change_of, deletion_for, denying, in_entry, out_entry}
+use Rattle.canon_policy.specs.Fixings.{Asked, nothing_fixed, with_present, with_absent, agreeing, sets_of, depends, least, yes, follows, unsettled, first_unsettled, split, settled}
+use Rattle.canon_policy.specs.Fixings.Part.{community}
+use Rattle.canon_policy.specs.Entries.{match_of, deletion_of, addition_of, replacement_by, lp_of, always_carried, is_deleted, is_added, change_of, deletion_for, in_entry, out_entry}
 use Rattle.canon_policy.specs.Canonical.{in_parts, in_asked, out_asked, numbered_from, limited, in_list, adds_nothing, passing, out_list, lists_of, depends_on_others, canonical_of}
 use Rattle.canon_policy.specs.Hanging.{SameOn, TestHangsOn, NumberHangsOn}
 use Rattle.canon_policy.specs.Made.{asked_of}
@@ -26,7 +22,7 @@ use Rattle.canon_policy.specs.Plain.{IsPlain}
 use Rattle.canon_policy.proofs.Asked.{splits_same}
 use Rattle.canon_policy.proofs.Follows.{bits_same, follows_at}
 use Rattle.canon_policy.proofs.Leaves.{in_by}
-use Rattle.canon_policy.proofs.Least.{in_has, has_in, IsFound, is_found, none_found, Differing, differ_depends, least_some, under_hangs, IsFree}
+use Rattle.canon_policy.proofs.Least.{in_has, has_in, none_found, Differing, differ_depends, least_some, under_hangs, IsFree}
 use Rattle.canon_policy.proofs.Outside.{outside_same, plain_not_depends}
 use Rattle.canon_policy.proofs.Plain.{in_asked_hangs, out_asked_hangs}
 use Rattle.canon_policy.proofs.SameSets.{all_in, all_are, filtered_in, named, named_same, has-without_number}

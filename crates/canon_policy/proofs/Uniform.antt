@@ -1,17 +1,16 @@
 -- A uniform function is plain where it does not depend on communities outside, over one universe as over another.
-use Rattle.std.proofs.Common.{◌≡◌, ℕ, Bool, true, false, not, ◌&&◌, ◌||◌, nat_eq, List, ◌++◌, filter, Option, Some, None, refl, sym, ◌∙◌, ap, subst}
-use Rattle.std.specs.Prelude.{if◌then◌else◌}
+use Rattle.std.proofs.Common.{◌≡◌, ℕ, Bool, true, false, not, ◌&&◌, ◌||◌, nat_eq, List, ◌++◌, Option, None, refl, sym, ◌∙◌, ap}
 use Rattle.std.specs.Bool.{beq}
 use Rattle.std.specs.List.{list_any}
 use Rattle.base_kit.specs.Sets.{has, with_number, IsAscending}
 use Rattle.base_kit.proofs.SetFacts.{same_number, other_number, has-with_number}
-use Rattle.base_kit.proofs.Elements.{In, in_left, in_right}
+use Rattle.base_kit.proofs.Elements.{in_left, in_right}
 use Rattle.dd_core.specs.Sets.{has_others}
 use Rattle.route_maps.specs.declared.plain.Imported.{Imported}
-use Rattle.canon_policy.specs.Functions.{outside_of, accepts, carries, keeps, preference, count}
+use Rattle.canon_policy.specs.Functions.{outside_of, carries, preference, count}
 use Rattle.canon_policy.specs.Fixings.{sets_of}
-use Rattle.canon_policy.specs.Canonical.{differs_with_outside, depends_on_others, out_list, in_list, lists_of, canonical_of}
-use Rattle.canon_policy.specs.Hanging.{SameOn, TestHangsOn, NumberHangsOn}
+use Rattle.canon_policy.specs.Canonical.{differs_with_outside, depends_on_others, canonical_of}
+use Rattle.canon_policy.specs.Hanging.{SameOn}
 use Rattle.canon_policy.specs.Plain.{IsPlain}
 use Rattle.canon_policy.specs.Uniform.{HaveOneTrace, IsUniform}
 use Rattle.canon_policy.proofs.Least.{has_in, in_has}

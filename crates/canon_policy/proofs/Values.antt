@@ -1,27 +1,19 @@
 -- Values of nodes on sets, and the communities on which they depend.
-use Rattle.std.proofs.Common.{◌≡◌, ◌≢◌, ℕ, ◌+◌, ◌<◌, ◌≤◌, max, Bool, true, false, not, ◌&&◌, ◌||◌, cond, nat_lt, nat_eq, List, [], ◌∷◌, length, get_or, filter, Option, Some, None, refl, sym, ◌∙◌, ap, arith, inl, inr, ◌⊎◌}
-use Rattle.std.specs.Prelude.{if◌then◌else◌, find, MatchOption}
-use Rattle.std.specs.Bool.{beq}
-use Rattle.std.specs.List.{list_any, list_all}
-use Rattle.std.specs.Option.{option_map}
-use Rattle.std.proofs.Math.Path.{fun_ext}
+use Rattle.std.proofs.Common.{◌≡◌, ◌≢◌, ℕ, ◌<◌, ◌≤◌, Bool, true, false, not, ◌&&◌, nat_lt, nat_eq, List, [], ◌∷◌, length, get_or, filter, refl, sym, ◌∙◌, ap, arith, inl, inr}
+use Rattle.std.specs.List.{list_any}
 use Rattle.std.proofs.lemmas.Bool.{cases_lt}
 use Rattle.std.proofs.lemmas.Bool.Decides.{nat_tests}
-use Rattle.base_kit.specs.declared.ids.Community.{Community}
-use Rattle.base_kit.specs.Sets.{has, with_number, without_number, AllAbove, IsAscending}
-use Rattle.base_kit.proofs.SetFacts.{same_number, other_number, has-with_number, has-filter, has_not, ascending_filter}
+use Rattle.base_kit.specs.Sets.{has, with_number}
+use Rattle.base_kit.proofs.SetFacts.{other_number, has-with_number, has-filter, ascending_filter}
 use Rattle.base_kit.proofs.Elements.{In}
-use Rattle.dd_core.specs.Sets.{Shown, IsShown, Grows, Means, value_of, test_of, has_others}
-use Rattle.dd_core.specs.Reach.{DependsOn, IsFirstOf, DependsOnNone, DependsOnOthers}
+use Rattle.dd_core.specs.Sets.{Shown, IsShown, value_of, test_of, has_others}
+use Rattle.dd_core.specs.Reach.{DependsOnOthers}
 use Rattle.dd_core.proofs.SetLemmas.{value_agrees}
 use Rattle.dd_core.proofs.SupportLemmas.{has-index, any-with_number}
-use Rattle.canon_policy.specs.Functions.{as_set, outside_of}
-use Rattle.canon_policy.specs.Fixings.{depends, least, yes, sets_of}
-use Rattle.canon_policy.specs.Hanging.{SameOn, TestHangsOn, NumberHangsOn}
-use Rattle.canon_policy.specs.Nodes.{AgreeAt, Tells, number_of, lesser}
-use Rattle.canon_policy.proofs.SameSets.{in_any, any_in, none_in, named, named_same, same_sets, has-as_set, ascending-as_set, with_there, without_absent, has-without_number}
-use Rattle.canon_policy.proofs.Least.{in_has, has_in, equal, Differing, depends_differ, differ_depends, is_found, none_found}
-use Rattle.canon_policy.proofs.Splits.{yes_hangs}
+use Rattle.canon_policy.specs.Functions.{outside_of}
+use Rattle.canon_policy.specs.Hanging.{SameOn, TestHangsOn}
+use Rattle.canon_policy.proofs.SameSets.{in_any, any_in, named, named_same}
+use Rattle.canon_policy.proofs.Least.{in_has, has_in}
 
 pub same_truth : (a b : Bool) → (a ≡ true → b ≡ true) → (b ≡ true → a ≡ true) → a ≡ b
 same_truth true b f g = sym (f refl)

@@ -1,13 +1,11 @@
 -- The entry that decides for a set is that of the settled fixing with which the set agrees.
-use Rattle.std.proofs.Common.{◌≡◌, ℕ, zero, suc, ◌+◌, ◌<◌, ◌≤◌, Bool, true, false, not, ◌&&◌, ◌||◌, cond, List, [], ◌∷◌, ◌++◌, length, nat_eq, Option, Some, None, refl, sym, ◌∙◌, ap, arith, inl, inr, ◌⊎◌}
-use Rattle.std.specs.Prelude.{if◌then◌else◌}
+use Rattle.std.proofs.Common.{◌≡◌, ℕ, zero, suc, ◌+◌, ◌≤◌, Bool, true, false, ◌||◌, cond, List, [], ◌∷◌, ◌++◌, length, nat_eq, Option, Some, None, refl, sym, ◌∙◌, ap, arith, inl, inr, ◌⊎◌}
 use Rattle.std.specs.List.{list_all}
 use Rattle.std.specs.Option.{option_map_or}
 use Rattle.std.proofs.lemmas.List.{append_assoc}
 use Rattle.std.proofs.lemmas.Bool.Decides.{nat_tests}
-use Rattle.base_kit.specs.Sets.{has, with_number}
+use Rattle.base_kit.specs.Sets.{has}
 use Rattle.base_kit.proofs.SetFacts.{same_number, has-with_number}
-use Rattle.base_kit.proofs.Elements.{In}
 use Rattle.route_maps.specs.declared.plain.PlainEntry.{PlainEntry}
 use Rattle.route_maps.specs.declared.plain.Verdict.{Verdict}
 use Rattle.route_maps.specs.declared.plain.Verdict.TheVariants.{Deny}
@@ -17,7 +15,7 @@ use Rattle.canon_policy.specs.Fixings.{Asked, with_present, with_absent, split, 
 use Rattle.canon_policy.specs.Canonical.{numbered_from, put_before, without_last_denies}
 use Rattle.canon_policy.specs.Hanging.{AskedHangsOn}
 use Rattle.canon_policy.proofs.SameSets.{Agrees, all_are, all_in}
-use Rattle.canon_policy.proofs.Least.{IsFree, has_in, in_has}
+use Rattle.canon_policy.proofs.Least.{has_in, in_has}
 use Rattle.canon_policy.proofs.Splits.{split_free, none_free, count_free, fewer_present, fewer_absent}
 
 -- entries that match what is present, and say the same whatever their number

@@ -1,6 +1,6 @@
 -- Nodes of sets that are made to agree tell the parts under a fixing that fixes one more, and what too many
 -- fixings are.
-use Rattle.std.proofs.Common.{◌≡◌, ℕ, zero, suc, ◌+◌, ◌<◌, ◌≤◌, Bool, true, false, not, ◌&&◌, ◌||◌, cond, nat_lt, nat_eq, List, [], ◌∷◌, ◌++◌, length, Option, Some, None, Result, Ok, Err, refl, sym, ◌∙◌, ap, subst, arith, inl, inr}
+use Rattle.std.proofs.Common.{◌≡◌, ℕ, zero, suc, ◌+◌, ◌<◌, ◌≤◌, Bool, true, false, not, ◌&&◌, ◌||◌, nat_lt, nat_eq, List, [], ◌∷◌, ◌++◌, length, Option, Some, None, Result, Ok, Err, refl, sym, ◌∙◌, ap, subst, arith, inl, inr}
 use Rattle.std.specs.List.{AllByRecursion, list_any}
 use Rattle.std.specs.Option.{option_map, option_map_or}
 use Rattle.std.specs.Result.{is_err}
@@ -11,7 +11,7 @@ use Rattle.base_kit.specs.declared.ids.Community.{Community}
 use Rattle.base_kit.specs.Sets.{has, with_number, without_number}
 use Rattle.base_kit.proofs.Members.{with_less, with_same, with_more}
 use Rattle.base_kit.proofs.SetFacts.{same_number}
-use Rattle.dd_core.specs.Sets.{Shown, Grows, Means, value_of}
+use Rattle.dd_core.specs.Sets.{Shown, Grows, Means}
 use Rattle.canon_policy.specs.declared.fixing.Fixing.{Fixing}
 use Rattle.canon_policy.specs.declared.lists.CanonRefusal.{CanonRefusal}
 use Rattle.canon_policy.specs.declared.lists.CanonRefusal.TheVariants.{NoCanon, Memory}

@@ -1,5 +1,5 @@
 -- Acts that act alike are written alike.
-use Rattle.std.proofs.Common.{◌≡◌, ℕ, Bool, List, Option, Some, ap}
+use Rattle.std.proofs.Common.{◌≡◌, ℕ, Bool, List, Some, ap}
 use Rattle.std.specs.Option.{option_map}
 use Rattle.base_kit.specs.Sets.{IsAscending}
 use Rattle.policy_dd.specs.Imports.{AreOneImport}

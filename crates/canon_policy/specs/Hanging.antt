@@ -2,8 +2,7 @@
 use Rattle.std.specs.Prelude.{◌≡◌, ℕ, Bool, true, List}
 use Rattle.std.specs.List.{AllByRecursion}
 use Rattle.base_kit.specs.Sets.{has}
-use Rattle.canon_policy.specs.declared.fixing.Fixing.{Fixing}
-use Rattle.canon_policy.specs.Fixings.{Part, Asked, agreeing}
+use Rattle.canon_policy.specs.Fixings.{Part, Asked}
 use Rattle.canon_policy.specs.Fixings.Part.{number, community}
 
 -- both sets have the same communities of the universe

@@ -1,4 +1,4 @@
-use Rattle.std.proofs.Common.{◌≡◌, ◌∙◌, ℕ, List, ap, sym, subst, Err, false, true}
+use Rattle.std.proofs.Common.{◌∙◌, ℕ, List, ap, sym, subst, Err}
 use Rattle.policy_dd.proofs.KeptLemmas.{edge_kept}
 use Rattle.canon_policy.specs.Canonical.{out_list}
 use Rattle.canon_policy.specs.Functions.{on_sets}

@@ -1,11 +1,10 @@
-use Rattle.std.proofs.Common.{◌≡◌, ◌∙◌, ◌<◌, ℕ, List, ap, sym, subst, length, arith, Option, Some, None}
+use Rattle.std.proofs.Common.{◌∙◌, sym, subst}
 use Rattle.policy_dd.specs.Edge.{keys_of, by_number}
-use Rattle.canon_policy.specs.declared.fixing.Fixing.{Fixing}
 use Rattle.canon_policy.specs.declared.parts.Nodes.{Nodes}
 use Rattle.canon_policy.specs.Fixings.{nothing_fixed}
 use Rattle.canon_policy.specs.Functions.{on_sets}
 use Rattle.canon_policy.specs.Made.{asked_of}
-use Rattle.canon_policy.specs.Nodes.{AreNodesInside, AreNodesOf, IsWalkedFromNothing}
+use Rattle.canon_policy.specs.Nodes.{AreNodesInside, AreNodesOf}
 use Rattle.canon_policy.proofs.Asked.{in_inside, in_told, asked_hangs, other_carried}
 use Rattle.canon_policy.proofs.CanonLists.{refused, form_kept, in_back}
 use Rattle.canon_policy.proofs.Limits.{in_over}

@@ -1,4 +1,4 @@
-use Rattle.std.proofs.Common.{◌≡◌, ◌∙◌, ℕ, List, ap, sym, subst, Option, Some, None, false, true}
+use Rattle.std.proofs.Common.{◌∙◌, ℕ, List, ap, sym, subst, Some}
 use Rattle.route_maps.specs.declared.plain.Plain.{Plain}
 use Rattle.canon_policy.specs.declared.parts.Nodes.{Nodes}
 use Rattle.canon_policy.specs.Canonical.{out_asked}

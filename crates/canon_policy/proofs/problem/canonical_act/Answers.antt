@@ -1,7 +1,6 @@
-use Rattle.std.proofs.Common.{◌≡◌, ◌∙◌, ℕ, List, Option, Some, Result, Ok, Err, ap, sym, subst}
+use Rattle.std.proofs.Common.{◌≡◌, ◌∙◌, ℕ, List, Some, Err, ap, sym, subst}
 use Rattle.route_maps.specs.Maps.{import_of}
 use Rattle.srp_core.specs.declared.route.Act.{Act}
-use Rattle.canon_policy.specs.declared.lists.CanonEdge.{CanonEdge}
 use Rattle.canon_policy.specs.Canonical.{canonical_lists_of}
 use Rattle.canon_policy.specs.CanonicalProblem.{session_with, canonical_act, AreCommunities, HasPrintableMaps}
 use Rattle.canon_policy.specs.Made.{AreListsOf}

@@ -1,4 +1,4 @@
-use Rattle.std.proofs.Common.{◌≡◌, ◌∙◌, ℕ, ◌≤◌, List, length, take, sym, subst, ap, arith}
+use Rattle.std.proofs.Common.{◌≤◌, List, length, sym, subst, ap, arith}
 use Rattle.std.proofs.lemmas.List.{take_all}
 use Rattle.base_kit.specs.declared.act_graph.Edge.{Edge}
 use Rattle.canon_policy.specs.MadeActs.{AreCanonicalActs, AreActsSoFar}

@@ -1,4 +1,4 @@
-use Rattle.std.proofs.Common.{◌<◌, length, Err, sym, subst, ap, arith}
+use Rattle.std.proofs.Common.{length, Err, sym, subst, ap, arith}
 use Rattle.canon_policy.specs.CanonicalProblem.{HasPrintableMaps, HasMapsWithin}
 use Rattle.canon_policy.specs.MadeActs.{IsRefusedAtFirst}
 use Rattle.canon_policy.proofs.ActPlaces.{act_inside, act_holds, seen_before, seen_now, refused_first}
