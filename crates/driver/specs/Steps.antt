@@ -7,7 +7,6 @@ use Rattle.cfg_ast.specs.declared.classes.DestClass.{DestClass}
 use Rattle.cfg_ast.specs.meaning.PolicyFaults.{communities_of}
 use Rattle.cfg_ast.specs.meaning.Topology.{links_of}
 use Rattle.abstract_net.specs.Links.{quotient_links}
-use Rattle.route_maps.specs.Within.{AreWithin}
 use Rattle.config_emit.specs.declared.emitted.EmitRefusal.{EmitRefusal}
 use Rattle.config_emit.specs.declared.emitted.EmitRefusal.TheVariants.{PoolOverlap, Memory}
 use Rattle.config_emit.specs.declared.emitted.Emitted.{Emitted}
@@ -20,11 +19,11 @@ use Rattle.srp_core.specs.Quotient.{IsCoarsest}
 use Rattle.driver.specs.declared.grouping.Grouping.{Grouping}
 use Rattle.driver.specs.declared.shared.Shared.{Shared}
 
--- the links of the network, their directions, and a store over all communities that it names
+-- the links of the network, their directions, and a store over the communities that it names
 pub record IsSharedOf (network : Network) (shared : Shared) : Type 0 where
   pub links : shared.links ≡ links_of network
   pub directions : AreDirectionsOf network shared.directions
-  pub known : AreWithin shared.store.universe (communities_of network)
+  pub universe : shared.store.universe ≡ communities_of network
 
 -- the problem, its coarsest admissible partition, and the links between the groups
 pub record IsGroupingOf (problem : Problem) (g : Grouping) : Type 0 where

@@ -4,7 +4,6 @@ ghost use Rattle.std.specs.Prelude.{◌≡◌, IfOk, Contains, length};
 ghost use Rattle.cfg_ast.specs.meaning.Classes.{classes_of};
 ghost use Rattle.cfg_ast.specs.meaning.PolicyFaults.{communities_of};
 ghost use Rattle.cfg_ast.specs.meaning.Topology.{links_of};
-ghost use Rattle.route_maps.specs.Within.{AreWithin};
 ghost use Rattle.srp_build.specs.Built.{IsBuiltFor};
 ghost use Rattle.driver.specs.Steps.{IsSharedOf};
 
@@ -30,7 +29,7 @@ pub struct Shared {
 
 // A store of diagrams over all communities that the network names.
 fn store_of(alloc: Global, checked: &Checked) -> Result<Store, NoMemory>
-    ensures { IfOk result (λ store. AreWithin store.universe (communities_of checked.now.network)) }
+    ensures { IfOk result (λ store. store.universe ≡ communities_of checked.now.network) }
 {
     let store = Store::new(alloc, checked.communities())?;
     Ok(store)
