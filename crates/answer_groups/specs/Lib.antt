@@ -1,3 +1,5 @@
+pub mod CanonLaws
+pub mod CanonText
 pub mod ClassLines
 pub mod CompressText
 pub mod Compressing

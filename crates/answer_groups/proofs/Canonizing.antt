@@ -1,0 +1,99 @@
+-- From what `canon_srp` answers to what `canon` is to write.
+use Rattle.std.proofs.Common.{◌≡◌, ℕ, ◌+◌, ◌<◌, List, [], ◌∷◌, ◌++◌, length, Option, Some, inl, inr, sym, ◌∙◌, subst, arith}
+use Rattle.std.specs.Prelude.{Contains, slice_get}
+use Rattle.std.specs.List.{AllByRecursion}
+use Rattle.base_kit.specs.declared.act_graph.Edge.{Edge}
+use Rattle.base_kit.specs.Prefixes.{Prefix}
+use Rattle.cfg_ast.specs.declared.network.Network.{Network}
+use Rattle.cfg_ast.specs.declared.classes.DestClass.{DestClass}
+use Rattle.cfg_ast.specs.meaning.PolicyFaults.{communities_of}
+use Rattle.canon_policy.specs.CanonicalProblem.{HasPrintableMaps, HasMapsWithin, IsCanonicalProblem, IsFirstWithout}
+use Rattle.compress_laws.specs.Laws.{FitsClass}
+use Rattle.compress_laws.proofs.Alike.{problem_too}
+use Rattle.config_emit.specs.Laws.{IsPrintableAct, IsActWithin}
+use Rattle.config_emit.specs.Plan.{Plan}
+use Rattle.config_emit.specs.Pool.{pool_line}
+use Rattle.config_emit.specs.declared.emitted.EmitRefusal.{EmitRefusal}
+use Rattle.config_emit.specs.declared.emitted.Emitted.{Emitted}
+use Rattle.std.specs.Prelude.{Result}
+use Rattle.driver.specs.Steps.{IsPlanWith, IsEmittedOf}
+use Rattle.driver.proofs.Emitting.{emitted_as}
+use Rattle.srp_build.specs.Built.{IsBuiltFor}
+use Rattle.srp_core.specs.Alike.{ProblemsAlike}
+use Rattle.srp_core.specs.Problem.{Problem, IsProblem}
+use Rattle.srp_core.specs.declared.route.Act.{Act}
+use Rattle.srp_core.specs.declared.route.Act.TheVariants.{Import, Cost}
+use Rattle.answer_kit.specs.Outcome.{Outcome}
+use Rattle.answer_groups.specs.CanonText.{IsCanonicalFor, IsCanonicalPlanOf, IsCanonOf}
+use Rattle.answer_groups.specs.Compressing.{IsTextOrRefusal}
+use Rattle.answer_groups.proofs.Compressing.{told_of}
+
+-- ---- what is asked of the acts, in the words of two crates
+
+pub printable_maps : (acts : List Act) → AllByRecursion IsPrintableAct acts → AllByRecursion HasPrintableMaps acts
+printable_maps [] all = tt
+printable_maps (Import out sends into ∷ acts) all = (all.0, printable_maps acts all.1)
+printable_maps (Cost cost ∷ acts) all = (tt, printable_maps acts all.1)
+
+pub maps_within : (set : List ℕ) (acts : List Act) → AllByRecursion (IsActWithin set) acts → AllByRecursion (HasMapsWithin set) acts
+maps_within set [] all = tt
+maps_within set (Import out sends into ∷ acts) all = (all.0, maps_within set acts all.1)
+maps_within set (Cost cost ∷ acts) all = (tt, maps_within set acts all.1)
+
+printable_acts : (acts : List Act) → AllByRecursion HasPrintableMaps acts → AllByRecursion IsPrintableAct acts
+printable_acts [] all = tt
+printable_acts (Import out sends into ∷ acts) all = (all.0, printable_acts acts all.1)
+printable_acts (Cost cost ∷ acts) all = (tt, printable_acts acts all.1)
+
+acts_within : (set : List ℕ) (acts : List Act) → AllByRecursion (HasMapsWithin set) acts → AllByRecursion (IsActWithin set) acts
+acts_within set [] all = tt
+acts_within set (Import out sends into ∷ acts) all = (all.0, acts_within set acts all.1)
+acts_within set (Cost cost ∷ acts) all = (tt, acts_within set acts all.1)
+
+-- ---- the canonical problem of a class
+
+pub canonical_for : (n : Network) (class : DestClass) (universe : List ℕ) (original problem : Problem)
+    → IsBuiltFor n class original → universe ≡ communities_of n → IsCanonicalProblem universe original problem
+    → IsProblem problem → ProblemsAlike original problem → AllByRecursion HasPrintableMaps problem.acts
+    → AllByRecursion (HasMapsWithin universe) problem.acts → IsCanonicalFor n class problem
+canonical_for n class universe original problem built named canonical rules alike printable within = record {
+  original = original;
+  built = built;
+  canonical = subst (λ (set : List ℕ). IsCanonicalProblem set original problem) named canonical;
+  fits = record {
+    of = λ p has. problem_too n p original problem (built.of p has) rules alike;
+    printable = printable_acts problem.acts printable;
+    within = acts_within (communities_of n) problem.acts (subst (λ (set : List ℕ). AllByRecursion (HasMapsWithin set) problem.acts) named within);
+  };
+}
+
+-- ---- the edge that is told
+
+at_length : (before : List Edge) (e : Edge) (after : List Edge) → slice_get (before ++ e ∷ after) (length before) ≡ Some e
+at_length [] e after = cc
+at_length (d ∷ before) e after = at_length before e after
+
+pub first_at : (universe : List ℕ) (problem : Problem) (place : ℕ) (x : IsFirstWithout universe problem place) → slice_get problem.edges place ≡ Some x.edge
+first_at universe problem place x =
+    subst (λ (k : ℕ). slice_get problem.edges k ≡ Some x.edge) x.place_is
+    (subst (λ (es : List Edge). slice_get es (length x.before) ≡ Some x.edge) (sym x.split) (at_length x.before x.edge x.after))
+
+-- ---- the text
+
+plan_of : (n : Network) (class : DestClass) (problem : Problem) → IsCanonicalFor n class problem
+    → (plan : Plan) → IsPlanWith n class problem plan → IsCanonicalPlanOf n class plan
+plan_of n class problem canonical plan is = record {
+  network_is = is.network_is;
+  class_is = is.class_is;
+  built = subst (IsCanonicalFor n class) (sym is.problem_is) canonical;
+  coarsest = is.coarsest;
+  numbered = is.numbered;
+  links = is.links;
+}
+
+pub canon_of : (n : Network) (class : DestClass) (problem : Problem) → IsCanonicalFor n class problem
+    → (answer : Result Emitted EmitRefusal) → IsEmittedOf n class problem answer → (o : Outcome) → IsTextOrRefusal answer o → IsCanonOf n class o
+canon_of n class problem canonical answer of o told =
+    let plans = plan_of n class problem canonical in
+    let emitted = emitted_as (IsPlanWith n class problem) (IsCanonicalPlanOf n class) n class plans answer of in
+    inr (record { problem = problem; is = canonical; emission = told_of (IsCanonicalPlanOf n class) n class answer emitted o told })
