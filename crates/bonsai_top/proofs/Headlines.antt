@@ -1,4 +1,4 @@
--- From what a run does to the headline: where `compress` is done, what was written compresses the network;
+-- From what a run does to the headline: where `compress` or `canon` is done, what was written compresses the network;
 -- where `fold` or `lift` is done, what was written corresponds to the solution.
 use Rattle.std.proofs.Common.{◌≡◌, ◌≢◌, inl, inr, ⊎_elim, ℕ, ◌-◌, Bool, true, false, List, [], ◌∷◌, ◌++◌, refl, sym, ap, ◌∙◌, subst, Option, Some, None, Result, Ok, Err, slice_get, nat_eq, if◌then◌else◌, codes}
 use Rattle.std.specs.Prelude.{Contains}
@@ -12,10 +12,13 @@ use Rattle.cfg_ast.specs.text.Reading.{reading_of}
 use Rattle.cfg_print.specs.Prints.{is_too_long}
 use Rattle.config_emit.specs.Pool.{pool_line}
 use Rattle.compress_laws.specs.Compressed.{Compresses}
-use Rattle.compress_laws.specs.Laws.{compressed_text, PlanCompresses}
+use Rattle.compress_laws.specs.Laws.{compressed_text, FitsClass, FittingPlanCompresses, PlanCompresses}
+use Rattle.compress_laws.proofs.Plans.{plan_as}
+use Rattle.config_emit.specs.Plan.{Plan}
 use Rattle.io_kit.specs.Ends.{with_end}
 use Rattle.reading_laws.specs.WellRead.{IsRead}
 use Rattle.reading_laws.proofs.WellRead.{reads_well}
+use Rattle.bonsai_top.specs.declared.command.ClassCommand.{ClassCommand}
 use Rattle.bonsai_top.specs.declared.command.ClassCommand.TheVariants as on_class
 use Rattle.bonsai_top.specs.declared.command.SecondCommand.TheVariants as on_second
 use Rattle.bonsai_top.specs.declared.command.Command.{Command}
@@ -25,7 +28,8 @@ use Rattle.answer_kit.specs.declared.status.Status.TheVariants.{Done, WriteFault
 use Rattle.answer_kit.specs.ClassNumbers.{class_at, no_class, IsOfClass}
 use Rattle.answer_kit.specs.Kinds.{line_reason}
 use Rattle.bonsai_top.specs.Commands.{command_of, reads_first}
-use Rattle.answer_groups.specs.CompressText.{pool_overlap, IsTextOr, IsEmission, IsUnlessPool, IsCompressOf}
+use Rattle.answer_groups.specs.CanonText.{no_canon, IsCanonicalFor, IsCanonicalPlanOf, IsCanonOf}
+use Rattle.answer_groups.specs.CompressText.{pool_overlap, IsPlanOf, IsTextOr, IsTextOfPlan, IsUnlessPool, IsCompressOf}
 use Rattle.bonsai_top.specs.Headline.{IsHeadline, IsCarriedDown, IsCarriedUp}
 use Rattle.bonsai_top.specs.Meets.{RunMeets}
 use Rattle.answer_kit.specs.Outcome.{Outcome, refused}
@@ -49,27 +53,40 @@ found_in classes k class false found = contains_in classes class (get_in classes
 is_done : Outcome → Type 0
 is_done o = o.status ≡ Done
 
-module _ (compresses : PlanCompresses) (text : List ℕ) (n : Network) (read : IsRead text n) (number : ℕ) (o : Outcome) (status : o.status ≡ Done) where
+module _ (text : List ℕ) (n : Network) (read : IsRead text n) (number : ℕ) (o : Outcome) (status : o.status ≡ Done) where
   no_refusal : (reason : List ℕ) → o ≡ refused reason → ⊥
   no_refusal reason e = (let s : (refused reason).status ≡ Done = ap (λ (x : Outcome). x.status) (sym e) ∙ status in cc)
 
-  emitted : (class : DestClass) → Contains (classes_of n) class → pool_line n class ≡ None → IsEmission n class o → Compresses n class o.out
-  emitted class has apart is = step (is_too_long (compressed_text is.plan)) refl is.written
-    where
-      step : (b : Bool) → is_too_long (compressed_text is.plan) ≡ b → IsTextOr b (compressed_text is.plan) o → Compresses n class o.out
-      step true long written = absurd (no_refusal (codes "OutputTooLong") written)
-      step false short written = subst (λ (bytes : List ℕ). Compresses n class bytes) (sym (ap (λ (x : Outcome). x.out) written)) (compresses n class is.plan ∣ (text, read.given) ∣₁ read.faultless has is.is apart short)
+  -- the text of a plan, where texts of such plans compress the network
+  module _ (IsAllowed : Plan → Type 0) (class : DestClass)
+      (compresses : (e : Plan) → IsAllowed e → pool_line n class ≡ None → is_too_long (compressed_text e) ≡ false → Compresses n class (compressed_text e)) where
+    emitted : pool_line n class ≡ None → IsTextOfPlan IsAllowed o → Compresses n class o.out
+    emitted apart is = step (is_too_long (compressed_text is.plan)) refl is.written
+      where
+        step : (b : Bool) → is_too_long (compressed_text is.plan) ≡ b → IsTextOr b (compressed_text is.plan) o → Compresses n class o.out
+        step true long written = absurd (no_refusal (codes "OutputTooLong") written)
+        step false short written = subst (λ (bytes : List ℕ). Compresses n class bytes) (sym (ap (λ (x : Outcome). x.out) written)) (compresses is.plan is.is apart short)
 
-  of_class : (class : DestClass) → Contains (classes_of n) class → IsCompressOf n class o → Compresses n class o.out
-  of_class class has is = step (pool_line n class) refl is
-    where
-      step : (pool : Option ℕ) → pool_line n class ≡ pool → IsUnlessPool pool (IsEmission n class) o → Compresses n class o.out
-      step (Some line) pool is = absurd (no_refusal (pool_overlap line) is)
-      step None apart is = emitted class has apart is
+    unless_pool : (pool : Option ℕ) → pool_line n class ≡ pool → IsUnlessPool pool (IsTextOfPlan IsAllowed) o → Compresses n class o.out
+    unless_pool (Some line) pool is = absurd (no_refusal (pool_overlap line) is)
+    unless_pool None apart is = emitted apart is
 
-  has_bytes : (found : Option DestClass) → class_at (classes_of n) number ≡ found → IsOfClass found number (IsCompressOf n) o → HasBytes n number o
-  has_bytes None found is = absurd (no_refusal (no_class number) is)
-  has_bytes (Some class) found is = record { class = class; class_is = found; compresses = of_class class (found_in (classes_of n) (number - 1) class (nat_eq number 0) found) is }
+  compress_compresses : PlanCompresses → (class : DestClass) → Contains (classes_of n) class → IsCompressOf n class o → Compresses n class o.out
+  compress_compresses law class has is =
+      unless_pool (IsPlanOf n class) class (λ e allowed. law n class e ∣ (text, read.given) ∣₁ read.faultless has allowed) (pool_line n class) refl is
+
+  canon_compresses : FittingPlanCompresses → (class : DestClass) → Contains (classes_of n) class → IsCanonOf n class o → Compresses n class o.out
+  canon_compresses law class has (inl without) = absurd (no_refusal (no_canon without.problem without.first.edge) without.told)
+  canon_compresses law class has (inr canonical) =
+      unless_pool (IsCanonicalPlanOf n class) class
+      (λ e allowed. law n class e ∣ (text, read.given) ∣₁ read.faultless has (plan_as IsCanonicalFor FitsClass n class (λ problem is. is.fits) e allowed))
+      (pool_line n class) refl canonical.emission
+
+  has_bytes : (IsOf : DestClass → Outcome → Type 0) → ((class : DestClass) → Contains (classes_of n) class → IsOf class o → Compresses n class o.out)
+      → (found : Option DestClass) → class_at (classes_of n) number ≡ found → IsOfClass found number IsOf o → HasBytes n number o
+  has_bytes IsOf compresses None found is = absurd (no_refusal (no_class number) is)
+  has_bytes IsOf compresses (Some class) found is =
+      record { class = class; class_is = found; compresses = compresses class (found_in (classes_of n) (number - 1) class (nat_eq number 0) found) is }
 
 -- ---- the answer to a command
 
@@ -130,15 +147,27 @@ module _ (words : List (List ℕ)) (contents : List ℕ → Option (List ℕ)) (
         | inr (inr (inr memory)) ↦ absurd (let s = ap (λ (x : Outcome). x.status) (sym memory) ∙ told_status in cc)
       ]
 
-  -- ---- compress
+  -- ---- compress and canon
+
+  headline_of : (of : ClassCommand) (number : ℕ)
+      → ((text : List ℕ) (n : Network) → IsRead text n → (o : Outcome) → o.status ≡ Done → IsAnswerTo (command.OnClass of number) n (contents (second_of words)) o → HasBytes n number o)
+      → command_of words ≡ Some (command.OnClass of number) → (text before : List ℕ) → contents (file_of words) ≡ Some text → out_old ≡ Some before
+      → IsHeadline text number before out_new
+  headline_of of number bytes names text before told taken =
+      let h = has_told (command.OnClass of number) refl names text before told taken in
+      let n = h.answer.network in
+      let b = bytes text n h.answer.read h.outcome h.status h.answer.answer in
+      record { network = n; reads = h.answer.reads; class = b.class; class_is = b.class_is; bytes = h.outcome.out; took = h.took; compresses = b.compresses }
 
   pub headline : PlanCompresses → (number : ℕ) → command_of words ≡ Some (command.OnClass on_class.Compress number) → (text before : List ℕ)
       → contents (file_of words) ≡ Some text → out_old ≡ Some before → IsHeadline text number before out_new
-  headline compresses number names text before told taken =
-      let h = has_told (command.OnClass on_class.Compress number) refl names text before told taken in
-      let n = h.answer.network in
-      let b = has_bytes compresses text n h.answer.read number h.outcome h.status (class_at (classes_of n) number) refl h.answer.answer in
-      record { network = n; reads = h.answer.reads; class = b.class; class_is = b.class_is; bytes = h.outcome.out; took = h.took; compresses = b.compresses }
+  headline law number = headline_of on_class.Compress number (λ text n read o status is.
+      has_bytes text n read number o status (IsCompressOf n) (compress_compresses text n read number o status law) (class_at (classes_of n) number) refl is)
+
+  pub canonical : FittingPlanCompresses → (number : ℕ) → command_of words ≡ Some (command.OnClass on_class.Canon number) → (text before : List ℕ)
+      → contents (file_of words) ≡ Some text → out_old ≡ Some before → IsHeadline text number before out_new
+  canonical law number = headline_of on_class.Canon number (λ text n read o status is.
+      has_bytes text n read number o status (IsCanonOf n) (canon_compresses text n read number o status law) (class_at (classes_of n) number) refl is)
 
   -- ---- fold and lift
 

@@ -2,7 +2,7 @@
 use Rattle.std.proofs.Common.{◌≡◌, ℕ, Bool, true, false, List, refl, sym, ◌∙◌, Option, Some, None}
 use Rattle.std.specs.Prelude.{IsSome}
 use Rattle.cfg_ast.specs.declared.network.Network.{Network}
-use Rattle.answer_groups.specs.OneAnswer.{GroupsAnswerIsOne, CompressAnswerIsOne}
+use Rattle.answer_groups.specs.OneAnswer.{GroupsAnswerIsOne, CompressAnswerIsOne, CanonAnswerIsOne}
 use Rattle.answer_solutions.specs.OneAnswer.{CheckAnswerIsOne, FoldAnswerIsOne, LiftAnswerIsOne}
 use Rattle.answer_reports.specs.OneAnswer.{ReportAnswerIsOne, JsonAnswerIsOne, SummaryAnswerIsOne, TrialAnswerIsOne}
 use Rattle.answer_runs.specs.OneAnswer.{RunAnswerIsOne, ReachAnswerIsOne}
@@ -27,7 +27,7 @@ abbrev IsToldTo : Command → Option (List ℕ) → Type 0
 IsToldTo command second = reads_second command ≡ true → IsSome second
 
 -- the laws of the commands
-module _ (groups : GroupsAnswerIsOne) (compress : CompressAnswerIsOne) (check : CheckAnswerIsOne) (fold : FoldAnswerIsOne) (lift : LiftAnswerIsOne) (verify : VerifyAnswerIsOne) (run : RunAnswerIsOne) (reach : ReachAnswerIsOne) (report : ReportAnswerIsOne) (json : JsonAnswerIsOne) (summary : SummaryAnswerIsOne) (trial : TrialAnswerIsOne) where
+module _ (groups : GroupsAnswerIsOne) (compress : CompressAnswerIsOne) (canon : CanonAnswerIsOne) (check : CheckAnswerIsOne) (fold : FoldAnswerIsOne) (lift : LiftAnswerIsOne) (verify : VerifyAnswerIsOne) (run : RunAnswerIsOne) (reach : ReachAnswerIsOne) (report : ReportAnswerIsOne) (json : JsonAnswerIsOne) (summary : SummaryAnswerIsOne) (trial : TrialAnswerIsOne) where
   one_on_network : (of : NetworkCommand) (n : Network) (o p : Outcome) → IsOnNetwork of n o → IsOnNetwork of n p → o ≡ p
   one_on_network on_network.Classes n o p x y = x ∙ sym y
   one_on_network on_network.Summary n o p x y = summary n o p x y
@@ -38,6 +38,7 @@ module _ (groups : GroupsAnswerIsOne) (compress : CompressAnswerIsOne) (check : 
   one_on_class on_class.Compress number fixed n second o p x y = compress n number o p x y
   one_on_class on_class.Report number fixed n second o p x y = report n number o p x y
   one_on_class on_class.Json number fixed n second o p x y = json n number o p x y
+  one_on_class on_class.Canon number fixed n second o p x y = canon n number o p x y
   one_on_class on_class.Certify number fixed n second o p x y = absurd cc
 
   one_on_second : (of : SecondCommand) (number : ℕ) (n : Network) (second : Option (List ℕ)) → IsSome second → (o p : Outcome)

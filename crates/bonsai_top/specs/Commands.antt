@@ -26,7 +26,8 @@ class_command name =
     (if bytes_eq name (codes "compress") then Some on_class.Compress else
     (if bytes_eq name (codes "report") then Some on_class.Report else
     (if bytes_eq name (codes "json") then Some on_class.Json else
-    (if bytes_eq name (codes "certify") then Some on_class.Certify else None))))
+    (if bytes_eq name (codes "canon") then Some on_class.Canon else
+    (if bytes_eq name (codes "certify") then Some on_class.Certify else None)))))
 
 -- the commands on a class and a second file
 abbrev pub second_command : List ℕ → Option SecondCommand

@@ -20,6 +20,7 @@ use Rattle.answer_kit.specs.Networks.{IsOfReading, IsOfNetworkIn}
 use Rattle.answer_kit.specs.Outcome.{Outcome, done, usage}
 use Rattle.answer_certificates.specs.Certified.{IsCertifyOf}
 use Rattle.answer_certificates.specs.Verified.{IsVerifyOf}
+use Rattle.answer_groups.specs.CanonText.{IsCanonOf}
 use Rattle.answer_groups.specs.ClassLines.{classes_text}
 use Rattle.answer_groups.specs.CompressText.{IsCompressOf}
 use Rattle.answer_groups.specs.GroupLines.{IsGroupsOf}
@@ -44,6 +45,7 @@ IsOnClass on_class.Groups network number = IsGroupsOf network
 IsOnClass on_class.Compress network number = IsCompressOf network
 IsOnClass on_class.Report network number = IsReported report_text network number
 IsOnClass on_class.Json network number = IsReported json_text network number
+IsOnClass on_class.Canon network number = IsCanonOf network
 IsOnClass on_class.Certify network number = IsCertifyOf network
 
 -- what a command is to write of a class, with the second file where it is told

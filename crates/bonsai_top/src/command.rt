@@ -20,6 +20,7 @@ pub enum ClassCommand {
     Compress,
     Report,
     Json,
+    Canon,
     Certify,
 }
 
@@ -81,6 +82,9 @@ fn class_command(name: &str) -> Option<ClassCommand>
     }
     if name == "json" {
         return Some(ClassCommand::Json);
+    }
+    if name == "canon" {
+        return Some(ClassCommand::Canon);
     }
     if name == "certify" {
         return Some(ClassCommand::Certify);

@@ -9,6 +9,7 @@ pub fn outcome_is_one()
 {
     answer_groups::laws::groups_answer_is_one();
     answer_groups::laws::compress_answer_is_one();
+    answer_groups::laws::canon_answer_is_one();
     answer_solutions::laws::check_answer_is_one();
     answer_solutions::laws::fold_answer_is_one();
     answer_solutions::laws::lift_answer_is_one();

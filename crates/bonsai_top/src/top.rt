@@ -45,6 +45,10 @@ pub fn run<S: Source, O: Sink, E: Sink>(
     ensures headline { result ≡ Status.Done → (number : ℕ) → command_of (words_of words.now) ≡ Some (command.OnClass on_class.Compress number) → (text before : List ℕ)
         → S.contents files.old (file_of (words_of words.now)) ≡ Some text → O.taken out.old ≡ Some before → IsHeadline text number before (O.taken out.new) }
 
+    // And so it is where `canon` is done.
+    ensures canonical { result ≡ Status.Done → (number : ℕ) → command_of (words_of words.now) ≡ Some (command.OnClass on_class.Canon number) → (text before : List ℕ)
+        → S.contents files.old (file_of (words_of words.now)) ≡ Some text → O.taken out.old ≡ Some before → IsHeadline text number before (O.taken out.new) }
+
     // Where `fold` or `lift` is done over files that are told, what was written is read as stable labels of
     // the other problem that correspond to the solution.
     ensures folded { result ≡ Status.Done → (number : ℕ) → command_of (words_of words.now) ≡ Some (command.OnSecond on_second.Fold number) → (text solution before : List ℕ)
@@ -67,6 +71,7 @@ pub fn run<S: Source, O: Sink, E: Sink>(
     ensures write_fault { result ≡ Status.WriteFault → Rose (E.faults err.old) (E.faults err.new) ⊎ Rose (O.faults out.old) (O.faults out.new) }
 {
     compress_laws::laws::plan_compresses();
+    compress_laws::laws::fitting_plan_compresses();
     answer_solutions::laws::fold_is_read_back();
     answer_solutions::laws::lift_is_read_back();
     match read_words(words) {

@@ -12,7 +12,7 @@ ghost use Rattle.answer_kit.specs.Replies.{Answers, Only};
 
 use crate::command::{ClassCommand, Command, NetworkCommand, SecondCommand};
 use answer_certificates::{certify, verify};
-use answer_groups::{classes, compress, groups};
+use answer_groups::{canon, classes, compress, groups};
 use answer_kit::{Reply, class_of_number, refuse};
 use answer_reports::report::Form;
 use answer_reports::{report, summary, trial};
@@ -51,6 +51,7 @@ fn on_class(
         ClassCommand::Compress => compress::answer(alloc, checked, class),
         ClassCommand::Report => report::answer(alloc, Form::Lines, checked, number, class),
         ClassCommand::Json => report::answer(alloc, Form::Json, checked, number, class),
+        ClassCommand::Canon => canon::answer(alloc, checked, class),
         ClassCommand::Certify => certify::answer(alloc, checked, class),
     }
 }

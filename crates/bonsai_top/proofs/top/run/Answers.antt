@@ -4,7 +4,7 @@ use Rattle.answer_kit.specs.Outcome.{usage}
 use Rattle.bonsai_top.specs.Outcomes.{IsOutcome}
 use Rattle.bonsai_top.specs.declared.command.Command.{Command}
 use Rattle.bonsai_top.specs.Words.{file_of, second_of, words_of}
-use Rattle.bonsai_top.proofs.Headlines.{headline, folded, lifted}
+use Rattle.bonsai_top.proofs.Headlines.{headline, canonical, folded, lifted}
 use Rattle.bonsai_top.proofs.Named.{outcome_misuse, answers_words}
 use Rattle.bonsai_top.proofs.Runs.{run_meets, meets}
 use Rattle.bonsai_top.proofs.top.run.Goals as goal
@@ -29,6 +29,10 @@ pub returns-in-Some-clause-headline : goal.returns-in-Some-clause-headline
 returns-in-Some-clause-headline g c = λ is number names text before told taken.
     headline (words_of c.args.words.now) (g.S.Source.contents c.args.files.now) _ _ _ _ c.tell-in-Some.result _ _ _ _ _ _ _ _ (returns-in-Some-clause-meets g c) is c.plan_compresses.ensures number names text before told taken
 
+pub returns-in-Some-clause-canonical : goal.returns-in-Some-clause-canonical
+returns-in-Some-clause-canonical g c = λ is number names text before told taken.
+    canonical (words_of c.args.words.now) (g.S.Source.contents c.args.files.now) _ _ _ _ c.tell-in-Some.result _ _ _ _ _ _ _ _ (returns-in-Some-clause-meets g c) is c.fitting_plan_compresses.ensures number names text before told taken
+
 pub returns-in-Some-clause-folded : goal.returns-in-Some-clause-folded
 returns-in-Some-clause-folded g c = λ is number names text solution before told also taken.
     folded (words_of c.args.words.now) (g.S.Source.contents c.args.files.now) _ _ _ _ c.tell-in-Some.result _ _ _ _ _ _ _ _ (returns-in-Some-clause-meets g c) is c.fold_is_read_back.ensures number names text solution before told also taken
@@ -39,6 +43,9 @@ returns-in-Some-clause-lifted g c = λ is number names text solution before told
 
 pub returns-in-None-clause-headline : goal.returns-in-None-clause-headline
 returns-in-None-clause-headline g c = λ is number names text before told taken. absurd (let none = c.in-None.ensures in cc)
+
+pub returns-in-None-clause-canonical : goal.returns-in-None-clause-canonical
+returns-in-None-clause-canonical g c = λ is number names text before told taken. absurd (let none = c.in-None.ensures in cc)
 
 pub returns-in-None-clause-folded : goal.returns-in-None-clause-folded
 returns-in-None-clause-folded g c = λ is number names text solution before told also taken. absurd (let none = c.in-None.ensures in cc)
