@@ -4,6 +4,7 @@ A line of scripts/commands is the name of an answer, and then the words; files a
 answers/NAME.out, with NAME.err and NAME.status where these are not empty and 0. Checks of several commands:
 
   twice      a network that `compress` wrote has one class, and compressed again it is the same but for the names of members
+  canonical  `canon` of what `compress` wrote is `canon` of the text but for the names of members, and so is `canon` of what `canon` wrote
   round      what `fold` writes is stable in the network that `compress` wrote, and what `lift` makes of it is stable in the text
   reaching   `run` of the order that `reach` writes rests in labels that have the keys of the solution
   certified  `verify` accepts what `certify` writes, for each class of the text
@@ -103,6 +104,18 @@ class Asked:
             Path(folder, "small.cfg").write_bytes(once.out)
             again = self.answer("compress", f"{folder}/small.cfg", "1")
         return without_members(once).differences(without_members(again))
+
+    def canonical(self, text: str, number: str) -> list[str]:
+        """Canonical maps do not depend on how maps were written."""
+        once = self.answer("canon", text, number)
+        if once.status or not once.out:
+            return [f"not written: {once.err[:MOST_SHOWN]!r}"]
+        faults: list[str] = []
+        with tempfile.TemporaryDirectory() as folder:
+            for command in ("compress", "canon"):
+                small = self.written(folder, command, command, text, number)
+                faults += without_members(once).differences(without_members(self.answer("canon", small, "1")))
+        return faults
 
     def round(self, text: str, number: str, solution: str) -> list[str]:
         """A solution is carried to the groups and back."""
@@ -238,7 +251,7 @@ def checks(asked: Asked) -> Iterator[Check]:
     """All checks, in order."""
     for name, *words in lines_of("commands"):
         yield Check(name, " ".join(words), lambda name=name, words=words: asked.command(name, *words))
-    kinds = (("twice", "twice", "compress twice"), ("round", "round", "fold, lift and check"), ("round", "reaching", "reach and run"))
+    kinds = (("twice", "twice", "compress twice"), ("canonical", "canonical", "canon of compress and of canon"), ("round", "round", "fold, lift and check"), ("round", "reaching", "reach and run"))
     for script, kind, told in (*kinds, ("certified", "certified", "certify and verify"), ("twice", "json", "jq reads json")):
         for words in lines_of(script):
             yield Check(kind, f"{told} {' '.join(words)}", lambda kind=kind, words=words: getattr(asked, kind)(*words))

@@ -13,7 +13,7 @@ from pathlib import Path
 from roads.command_line import Refused
 from roads.every.plan import LOG, TEXT, Plan
 
-ENDS = {"compress": "cfg", "json": "json"}
+ENDS = {"compress": "cfg", "canon": "cfg", "json": "json"}
 
 
 @dataclasses.dataclass(frozen=True)

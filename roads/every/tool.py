@@ -13,7 +13,7 @@ from roads.native import native
 from roads.program import Program
 from roads.words import counted
 
-COMMANDS = ("compress", "groups", "report", "json", "certify")
+COMMANDS = ("compress", "canon", "groups", "report", "json", "certify")
 PURPOSE = """Runs compress, or another command, for every class of a network and keeps each answer in a file of its own.
 
 Classes that are alike but for their prefixes are asked once; DIR/index.tsv says which answer stands for which class. DIR/jobs.log is the log

@@ -1,6 +1,6 @@
 # Completion of bonsai in bash: commands, files, and the numbers of the classes of the file.
 _bonsai() {
-    local commands="classes groups compress check fold lift report json summary trial run reach certify verify"
+    local commands="classes groups compress canon check fold lift report json summary trial run reach certify verify"
     local word=${COMP_WORDS[COMP_CWORD]} command=${COMP_WORDS[1]}
     COMPREPLY=()
     case $COMP_CWORD in
