@@ -27,14 +27,20 @@ pub fn sides_of(alloc: Global, checked: &Checked, class: &DestClass) -> Result<S
     ensures { IfOk result (AreSides checked.now.network class.now) }
 {
     let problem = problem_of_class(alloc, checked, class)?;
+    let grouping = grouped(alloc, problem)?;
+    let small = quotient_srp(
+        alloc,
+        &grouping.problem,
+        &grouping.groups,
+        &grouping.quotient,
+    )?;
+    let _count = grouping.groups.groups();
+    let _rules = small.count();
     let Grouping {
         problem,
         groups,
-        quotient,
-    } = grouped(alloc, problem)?;
-    let small = quotient_srp(alloc, &problem, &groups, &quotient)?;
-    let _count = groups.groups();
-    let _rules = small.count();
+        ..
+    } = grouping;
     Ok(Sides {
         problem,
         groups,

@@ -1,12 +1,20 @@
 -- The answer to a command, by whether it reads a file.
-use Rattle.std.proofs.Common.{◌≡◌, ℕ, Bool, true, false, List, sym, subst, Option, Some}
+use Rattle.std.proofs.Common.{◌≡◌, ℕ, Bool, true, false, List, refl, sym, subst, Option, Some}
 use Rattle.io_kit.specs.Ends.{Rose}
 use Rattle.answer_kit.specs.declared.reply.Reply.{Reply}
 use Rattle.answer_kit.specs.Replies.{Answers}
 use Rattle.answer_kit.proofs.Replies.{answers_as}
 use Rattle.bonsai_top.specs.declared.command.Command.{Command}
+use Rattle.bonsai_top.specs.declared.command.Command.TheVariants.{OnNetwork, OnClass, OnSecond, Trial}
 use Rattle.bonsai_top.specs.Commands.{reads_first, FirstRose}
 use Rattle.bonsai_top.specs.Outcomes.{IsOutcomeOfFiles, IsOutcomeWithoutFiles, IsOutcomeBy, IsOutcomeOf}
+
+-- a command that is not `trial` reads the first file
+pub reads_unless_trial : (command : Command) → ((size : ℕ) → command ≡ Trial size → ⊥) → reads_first command ≡ true
+reads_unless_trial (OnNetwork of) other = refl
+reads_unless_trial (OnClass of number) other = refl
+reads_unless_trial (OnSecond of number) other = refl
+reads_unless_trial (Trial size) other = absurd (other size refl)
 
 -- it reads one
 pub answers_by_files : (reply : Reply) (command : Command) (first second : Option (List ℕ)) (before now : ℕ) (rose : Type 0) → reads_first command ≡ true
