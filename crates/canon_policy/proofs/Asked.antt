@@ -15,7 +15,7 @@ use Rattle.policy_dd.specs.declared.edge.EdgeFn.{EdgeFn}
 use Rattle.policy_dd.specs.Edge.{keys_of, by_number, never, carried_by_rest, IsEdgeFn}
 use Rattle.route_maps.specs.declared.plain.Imported.{Imported}
 use Rattle.canon_policy.specs.declared.fixing.Fixing.{Fixing}
-use Rattle.canon_policy.specs.Functions.{on_sets, accepts, carries, keeps, preference, count}
+use Rattle.canon_policy.specs.Functions.{on_sets, accepts, carries, keeps, preference, added_count}
 use Rattle.canon_policy.specs.Fixings.{Part, nothing_fixed, agreeing, sets_of, least, yes, follows, unsettled, first_unsettled, split}
 use Rattle.canon_policy.specs.Fixings.Part.{community}
 use Rattle.canon_policy.specs.Canonical.{in_parts, in_asked, out_asked}
@@ -213,5 +213,5 @@ module _ (shown : Shown) (is : IsShown shown) where
     out_told = record {
       permit = means_free edge.permit (accepts (on_sets f)) of.permit_inside (accepts_is shown is edge f of);
       rest = means_free edge.rest (keeps (on_sets f) shown.universe) of.rest_inside kept_is;
-      parts = (free_tells (nodes_of edge.adds) (count (on_sets f)) (adds_inside edge f of) (table_tells shown edge.permit edge.adds (count (on_sets f)) (adds_table shown is edge f of)), tt);
+      parts = (free_tells (nodes_of edge.adds) (added_count (on_sets f)) (adds_inside edge f of) (table_tells shown edge.permit edge.adds (added_count (on_sets f)) (adds_table shown is edge f of)), tt);
     }

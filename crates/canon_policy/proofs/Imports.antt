@@ -14,10 +14,10 @@ use Rattle.route_maps.specs.declared.plain.Verdict.TheVariants.{Deny, Permit}
 use Rattle.route_maps.specs.Maps.{comms_after, entry_verdict, verdict, accepted, received, import_of}
 use Rattle.canon_policy.specs.declared.fixing.Fixing.{Fixing}
 use Rattle.canon_policy.specs.declared.lists.CanonEdge.{CanonEdge}
-use Rattle.canon_policy.specs.Functions.{accepts, preference, count}
+use Rattle.canon_policy.specs.Functions.{accepts, preference, added_count}
 use Rattle.canon_policy.specs.Fixings.{Asked, nothing_fixed, agreeing, sets_of, least, split}
 use Rattle.canon_policy.specs.Entries.{lp_of, in_entry, out_entry}
-use Rattle.canon_policy.specs.Canonical.{in_asked, out_asked, entries_for, limited, in_list, out_list, adds_nothing, passing, is_wide, without_last_denies, lists_of, depends_on_others, canonical_of}
+use Rattle.canon_policy.specs.Canonical.{in_asked, out_asked, canonical_entries, limited, in_list, out_list, adds_nothing, passing, is_wide, without_last_denies, lists_of, depends_on_others, canonical_of}
 use Rattle.canon_policy.specs.Hanging.{AskedHangsOn}
 use Rattle.canon_policy.proofs.SameSets.{Agrees, all_in, filtered_in, named, named_same}
 use Rattle.canon_policy.proofs.Splits.{no_split, or_none, count_free-start}
@@ -45,16 +45,16 @@ limited_is entries list e = limited_by (nat_lt 65535 (length entries) || list_an
 nothing_agrees : (set : List ℕ) → Agrees nothing_fixed set
 nothing_agrees set = record { present = λ c h. cc; absent = λ c h. cc }
 
-list_says : (universe : List ℕ) (asked : Asked) → AskedHangsOn universe asked → (entry : ℕ → Fixing → PlainEntry) → AreEntries entry → (list : Plain) → limited (entries_for universe asked entry) ≡ Some list → (set : List ℕ) → Decided entry (split universe asked) set (verdict list.entries set)
+list_says : (universe : List ℕ) (asked : Asked) → AskedHangsOn universe asked → (entry : ℕ → Fixing → PlainEntry) → AreEntries entry → (list : Plain) → limited (canonical_entries universe asked entry) ≡ Some list → (set : List ℕ) → Decided entry (split universe asked) set (verdict list.entries set)
 list_says universe asked hang entry are list e set =
     let d = decided universe asked hang entry are (length universe) 1 nothing_fixed set [] (count_free-start universe) (nothing_agrees set) in
     record {
       fixing = d.fixing;
       settled = d.settled;
       agrees = d.agrees;
-      says = ap (λ (l : List PlainEntry). verdict l set) (limited_is (entries_for universe asked entry) list e)
-          ∙ without_last_says (entries_for universe asked entry) set
-          ∙ ap (λ (l : List PlainEntry). verdict l set) (sym (append-nil (entries_for universe asked entry)))
+      says = ap (λ (l : List PlainEntry). verdict l set) (limited_is (canonical_entries universe asked entry) list e)
+          ∙ without_last_says (canonical_entries universe asked entry) set
+          ∙ ap (λ (l : List PlainEntry). verdict l set) (sym (append-nil (canonical_entries universe asked entry)))
           ∙ d.says;
     }
 
@@ -102,13 +102,13 @@ module _ (universe : List ℕ) (f : List ℕ → Option Imported) (plain : IsPla
       let least_agrees = present_agrees fixing set agrees in
       let parts = no_split universe (out_asked universe f) fixing none in
       let start : accepts f (agreeing fixing []) ≡ true = at_least_set universe (accepts f) fixing fixing.present plain.accepted parts.accepted least_agrees ∙ yes' in
-      let settled = (or_none (least universe (λ set. count f (agreeing fixing set))) None (parts.parts start)).0 in
-      let here : count f set ≡ import.adds + 1 = ap (λ (o : Option Imported). option_map_or (λ (i : Imported). i.adds + 1) o 0) e in
-      let same = one_value universe (count f) fixing fixing.present set plain.adds settled least_agrees agrees in
-      let adds : count f fixing.present - 1 ≡ import.adds = omega arith in
+      let settled = (or_none (least universe (λ set. added_count f (agreeing fixing set))) None (parts.parts start)).0 in
+      let here : added_count f set ≡ import.adds + 1 = ap (λ (o : Option Imported). option_map_or (λ (i : Imported). i.adds + 1) o 0) e in
+      let same = one_value universe (added_count f) fixing fixing.present set plain.adds settled least_agrees agrees in
+      let adds : added_count f fixing.present - 1 ≡ import.adds = omega arith in
       ap (λ n. Permit None set n) adds
 
-  out_list_says : (out : Plain) → limited (entries_for universe (out_asked universe f) (out_entry f)) ≡ Some out → verdict out.entries set ≡ out_verdict (f set)
+  out_list_says : (out : Plain) → limited (canonical_entries universe (out_asked universe f) (out_entry f)) ≡ Some out → verdict out.entries set ≡ out_verdict (f set)
   out_list_says out e =
       let d = list_says universe (out_asked universe f) (out_asked_hangs universe f plain) (out_entry f) (out_entries f) out e set in
       d.says ∙ out_leaf d.fixing d.settled d.agrees (accepts f d.fixing.present) refl (f set) refl
@@ -118,10 +118,10 @@ module _ (universe : List ℕ) (f : List ℕ → Option Imported) (plain : IsPla
   unfolding adds_nothing
   nothing_added none None e = refl
   nothing_added none (Some import) e =
-      let few = all_in (λ (s : List ℕ). nat_lt (count f s) 2) (sets_of universe) (named universe set) none (filtered_in (has set) universe) in
+      let few = all_in (λ (s : List ℕ). nat_lt (added_count f s) 2) (sets_of universe) (named universe set) none (filtered_in (has set) universe) in
       let same = plain.adds.same (named universe set) set (named_same universe set) in
-      let here : count f set ≡ import.adds + 1 = ap (λ (o : Option Imported). option_map_or (λ (i : Imported). i.adds + 1) o 0) e in
-      let lt : count f (named universe set) < 2 = less (count f (named universe set)) few in
+      let here : added_count f set ≡ import.adds + 1 = ap (λ (o : Option Imported). option_map_or (λ (i : Imported). i.adds + 1) o 0) e in
+      let lt : added_count f (named universe set) < 2 = less (added_count f (named universe set)) few in
       let zero_adds : 0 ≡ import.adds = omega arith in
       ap (λ n. Some (made import.lp import.comms n)) zero_adds
     where
@@ -132,7 +132,7 @@ module _ (universe : List ℕ) (f : List ℕ → Option Imported) (plain : IsPla
   out_given None into says = refl
   out_given (Some import) into says = says import.adds
 
-  by_out : (b : Bool) → adds_nothing universe f ≡ b → (out into : Plain) → (if b then Some passing else limited (entries_for universe (out_asked universe f) (out_entry f))) ≡ Some out → in_list universe f ≡ Some into → import_of out true into set ≡ f set
+  by_out : (b : Bool) → adds_nothing universe f ≡ b → (out into : Plain) → (if b then Some passing else limited (canonical_entries universe (out_asked universe f) (out_entry f))) ≡ Some out → in_list universe f ≡ Some into → import_of out true into set ≡ f set
   by_out true none out into e e' =
       let is : passing ≡ out = cc in
       ap (λ (p : Plain). received true into.entries (verdict p.entries set)) (sym is)

@@ -6,21 +6,21 @@ use Rattle.std.proofs.lemmas.Bool.Decides.{nat_tests}
 use Rattle.std.proofs.lemmas.List.Edits.{remove-append_right}
 use Rattle.route_maps.specs.declared.plain.Plain.{Plain}
 use Rattle.route_maps.specs.declared.plain.PlainEntry.{PlainEntry}
-use Rattle.canon_policy.specs.Canonical.{is_wide, put_before, without_last_denies, limited}
+use Rattle.canon_policy.specs.Canonical.{is_wide, put_before_entries, without_last_denies, limited}
 use Rattle.canon_policy.specs.Made.{EndsInDeny}
 
 -- the entries without those that deny at the end
-put_more : (e : PlainEntry) (xs : List PlainEntry) (x : PlainEntry) → put_before e (xs ++ x ∷ []) ≡ e ∷ (xs ++ x ∷ [])
+put_more : (e : PlainEntry) (xs : List PlainEntry) (x : PlainEntry) → put_before_entries e (xs ++ x ∷ []) ≡ e ∷ (xs ++ x ∷ [])
 put_more e [] x = refl
 put_more e (y ∷ ys) x = refl
 
 permit_stays : (xs : List PlainEntry) (x : PlainEntry) → x.permit ≡ true → without_last_denies (xs ++ x ∷ []) ≡ xs ++ x ∷ []
 permit_stays [] x e = rw e refl
-permit_stays (y ∷ ys) x e = ap (put_before y) (permit_stays ys x e) ∙ put_more y ys x
+permit_stays (y ∷ ys) x e = ap (put_before_entries y) (permit_stays ys x e) ∙ put_more y ys x
 
 deny_goes : (xs : List PlainEntry) (x : PlainEntry) → x.permit ≡ false → without_last_denies (xs ++ x ∷ []) ≡ without_last_denies xs
 deny_goes [] x e = rw e refl
-deny_goes (y ∷ ys) x e = ap (put_before y) (deny_goes ys x e)
+deny_goes (y ∷ ys) x e = ap (put_before_entries y) (deny_goes ys x e)
 
 length_last : (xs : List PlainEntry) (x : PlainEntry) → length (xs ++ x ∷ []) ≡ length xs + 1
 length_last [] x = omega arith

@@ -13,8 +13,8 @@ use Rattle.route_maps.specs.declared.plain.PlainEntry.{PlainEntry}
 use Rattle.route_maps.specs.declared.plain.Verdict.TheVariants.{Deny}
 use Rattle.route_maps.specs.Maps.{lists_hold, entry_holds, entry_verdict}
 use Rattle.canon_policy.specs.declared.fixing.Fixing.{Fixing}
-use Rattle.canon_policy.specs.Functions.{accepts, carries, keeps, preference, count}
-use Rattle.canon_policy.specs.Entries.{alone, list_of, match_of, deletion_of, addition_of, replacement_by, lp_of, always_carried, is_deleted, is_added, change_of, deletion_for, denying, in_entry, out_entry}
+use Rattle.canon_policy.specs.Functions.{accepts, carries, keeps, preference, added_count}
+use Rattle.canon_policy.specs.Entries.{alone, list_of, match_of, deletion_of, addition_of, replacement_by, lp_of, always_carried, is_removed, is_added, canonical_change, deletion_for, denying, in_entry, out_entry}
 use Rattle.canon_policy.proofs.SameSets.{Agrees, same_sets, with_there}
 use Rattle.canon_policy.proofs.Verdicts.{AreEntries}
 use Rattle.canon_policy.specs.Plain.{IsPlain}
@@ -39,7 +39,7 @@ in_by universe f b seq fixing = if b then record {
   permit = true;
   lists = match_of fixing.present;
   lp = lp_of (preference f fixing.present - 1);
-  change = change_of universe f fixing;
+  change = canonical_change universe f fixing;
   delete = deletion_for universe f fixing;
   adds = 0;
   exact = false;
@@ -72,7 +72,7 @@ out_by f b seq fixing = if b then record {
   lp = None;
   change = None;
   delete = None;
-  adds = count f fixing.present - 1;
+  adds = added_count f fixing.present - 1;
   exact = false;
 } else denying seq fixing
 
@@ -197,14 +197,14 @@ module _ (universe : List ℕ) (f : List ℕ → Option Imported) (plain : IsPla
   kept_known c known (one same) = one_case c known same ∙ same fixing.present set least_agrees agrees
   kept_known c known (following kept follows) = follow_case c follows ∙ sym (follows set agrees)
 
-  kept_has : keeps f universe fixing.present ≡ true → (c : ℕ) (u : Bool) → has universe c ≡ u → (is_added f fixing c && u) || (not (is_deleted f fixing c && u) && has set c) ≡ carries f c set
-  kept_has kept c true known = two (is_added f fixing c) (is_deleted f fixing c) (has set c) ∙ kept_known c known (settled.communities c known)
+  kept_has : keeps f universe fixing.present ≡ true → (c : ℕ) (u : Bool) → has universe c ≡ u → (is_added f fixing c && u) || (not (is_removed f fixing c && u) && has set c) ≡ carries f c set
+  kept_has kept c true known = two (is_added f fixing c) (is_removed f fixing c) (has set c) ∙ kept_known c known (settled.communities c known)
     where
       two : (a b s : Bool) → (a && true) || (not (b && true) && s) ≡ a || (not b && s)
       two true b s = refl
       two false true s = refl
       two false false s = refl
-  kept_has kept c false known = outside (is_added f fixing c) (is_deleted f fixing c) (has set c) (keeps f universe set) (settled.kept set fixing.present agrees least_agrees ∙ kept) ∙ sym (plain.unnamed set c known)
+  kept_has kept c false known = outside (is_added f fixing c) (is_removed f fixing c) (has set c) (keeps f universe set) (settled.kept set fixing.present agrees least_agrees ∙ kept) ∙ sym (plain.unnamed set c known)
 
   replaced_has : keeps f universe fixing.present ≡ false → (c : ℕ) (u : Bool) → has universe c ≡ u → always_carried f fixing c && u ≡ carries f c set
   replaced_has kept c true known = by (settled.communities c known)
@@ -226,14 +226,14 @@ module _ (universe : List ℕ) (f : List ℕ → Option Imported) (plain : IsPla
 
   -- the communities that the entry leaves
   abbrev left_by : Bool → List ℕ
-  left_by kept = after_change (if kept then addition_of (filter (is_added f fixing) universe) else replacement_by (filter (always_carried f fixing) universe)) (without_deleted_by (if kept then deletion_of (filter (is_deleted f fixing) universe) else None) set)
+  left_by kept = after_change (if kept then addition_of (filter (is_added f fixing) universe) else replacement_by (filter (always_carried f fixing) universe)) (without_deleted_by (if kept then deletion_of (filter (is_removed f fixing) universe) else None) set)
 
   left_has : (kept : Bool) → keeps f universe fixing.present ≡ kept → (c : ℕ) → has (left_by kept) c ≡ carries f c set
   left_has true kept c =
-      has-added (filter (is_added f fixing) universe) (without_deleted_by (deletion_of (filter (is_deleted f fixing) universe)) set) c
-      ∙ ap (λ b. has (filter (is_added f fixing) universe) c || b) (has-deleted (filter (is_deleted f fixing) universe) set c)
-      ∙ ap (λ b. b || (not (has (filter (is_deleted f fixing) universe) c) && has set c)) (has-filter (is_added f fixing) universe c)
-      ∙ ap (λ b. (is_added f fixing c && has universe c) || (not b && has set c)) (has-filter (is_deleted f fixing) universe c)
+      has-added (filter (is_added f fixing) universe) (without_deleted_by (deletion_of (filter (is_removed f fixing) universe)) set) c
+      ∙ ap (λ b. has (filter (is_added f fixing) universe) c || b) (has-deleted (filter (is_removed f fixing) universe) set c)
+      ∙ ap (λ b. b || (not (has (filter (is_removed f fixing) universe) c) && has set c)) (has-filter (is_added f fixing) universe c)
+      ∙ ap (λ b. (is_added f fixing c && has universe c) || (not b && has set c)) (has-filter (is_removed f fixing) universe c)
       ∙ kept_has kept c (has universe c) refl
   left_has false kept c =
       ap (λ (l : List ℕ). has l c) (replaced (filter (always_carried f fixing) universe) set)
@@ -241,7 +241,7 @@ module _ (universe : List ℕ) (f : List ℕ → Option Imported) (plain : IsPla
       ∙ replaced_has kept c (has universe c) refl
 
   left_ascends : (kept : Bool) → IsAscending set → IsAscending (left_by kept)
-  left_ascends true set_up = ascending-added (filter (is_added f fixing) universe) (without_deleted_by (deletion_of (filter (is_deleted f fixing) universe)) set) (ascending-deleted (filter (is_deleted f fixing) universe) set set_up)
+  left_ascends true set_up = ascending-added (filter (is_added f fixing) universe) (without_deleted_by (deletion_of (filter (is_removed f fixing) universe)) set) (ascending-deleted (filter (is_removed f fixing) universe) set set_up)
   left_ascends false set_up = rw (replaced (filter (always_carried f fixing) universe) set) (ascending_filter (always_carried f fixing) universe up)
 
   -- they are those of the import

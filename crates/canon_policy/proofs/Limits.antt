@@ -11,7 +11,7 @@ use Rattle.policy_dd.specs.Edge.{case_or, keys_of, by_number, never, AllCases, I
 use Rattle.route_maps.specs.declared.plain.Imported.{Imported}
 use Rattle.route_maps.specs.declared.plain.PlainEntry.{PlainEntry}
 use Rattle.canon_policy.specs.declared.fixing.Fixing.{Fixing}
-use Rattle.canon_policy.specs.Functions.{on_sets, accepts, count}
+use Rattle.canon_policy.specs.Functions.{on_sets, accepts, added_count}
 use Rattle.canon_policy.specs.Fixings.{nothing_fixed, sets_of, split, settled}
 use Rattle.canon_policy.specs.Entries.{match_of, in_entry, out_entry}
 use Rattle.canon_policy.specs.Canonical.{in_asked, out_asked, numbered_from, match_is_wide, names_in_change, is_wide, limited, in_list, out_list, adds_nothing, passing}
@@ -125,8 +125,8 @@ case_of shown other (x ∷ xs) case all (inr h) = case_of shown other xs case al
 
 module _ (shown : Shown) (is : IsShown shown) (edge : EdgeFn) (f : List ℕ → Option Imported) (of : IsEdgeFn shown edge f)
     (plain : IsPlain shown.universe (on_sets f)) where
-  few_counts : has_no_count edge.adds ≡ true → (set : List ℕ) → nat_lt (count (on_sets f) set) 2 ≡ true
-  few_counts e set = by (count (on_sets f) set) ((adds_table shown is edge f of).number set)
+  few_counts : has_no_count edge.adds ≡ true → (set : List ℕ) → nat_lt (added_count (on_sets f) set) 2 ≡ true
+  few_counts e set = by (added_count (on_sets f) set) ((adds_table shown is edge f of).number set)
     where
       by : (n : ℕ) → NumberAt shown edge.permit edge.adds set n → nat_lt n 2 ≡ true
       by n (none denied is_zero) = grind (arith, nat_tests)
@@ -139,10 +139,10 @@ module _ (shown : Shown) (is : IsShown shown) (edge : EdgeFn) (f : List ℕ → 
 
   pub nothing_added : has_no_count edge.adds ≡ true → adds_nothing shown.universe (on_sets f) ≡ true
   unfolding adds_nothing
-  nothing_added e = all_are (λ (set : List ℕ). nat_lt (count (on_sets f) set) 2) (sets_of shown.universe) (λ set h. few_counts e set)
+  nothing_added e = all_are (λ (set : List ℕ). nat_lt (added_count (on_sets f) set) 2) (sets_of shown.universe) (λ set h. few_counts e set)
 
-  many_counts : (s : SomeCount edge.adds) (set : List ℕ) → value_of shown set s.case.1 ≡ true → nat_lt (count (on_sets f) set) 2 ≡ false
-  many_counts s set holds = by (count (on_sets f) set) ((adds_table shown is edge f of).number set)
+  many_counts : (s : SomeCount edge.adds) (set : List ℕ) → value_of shown set s.case.1 ≡ true → nat_lt (added_count (on_sets f) set) 2 ≡ false
+  many_counts s set holds = by (added_count (on_sets f) set) ((adds_table shown is edge f of).number set)
     where
       here : case_or shown set edge.adds s.case.0 false ≡ true
       here = at_key shown set edge.adds s.case false of.adds.ascending s.there ∙ holds
@@ -157,7 +157,7 @@ module _ (shown : Shown) (is : IsShown shown) (edge : EdgeFn) (f : List ℕ → 
 
   pub something_added : has_no_count edge.adds ≡ false → adds_nothing shown.universe (on_sets f) ≡ false
   unfolding adds_nothing
-  something_added e = by (list_all (λ (set : List ℕ). nat_lt (count (on_sets f) set) 2) (sets_of shown.universe)) refl
+  something_added e = by (list_all (λ (set : List ℕ). nat_lt (added_count (on_sets f) set) 2) (sets_of shown.universe)) refl
     where
       s : SomeCount edge.adds
       s = some_count edge.adds e
@@ -166,12 +166,12 @@ module _ (shown : Shown) (is : IsShown shown) (edge : EdgeFn) (f : List ℕ → 
       truth true ne = refl
       truth false ne = absurd (ne refl)
 
-      by : (b : Bool) → list_all (λ (set : List ℕ). nat_lt (count (on_sets f) set) 2) (sets_of shown.universe) ≡ b → b ≡ false
+      by : (b : Bool) → list_all (λ (set : List ℕ). nat_lt (added_count (on_sets f) set) 2) (sets_of shown.universe) ≡ b → b ≡ false
       by true all =
           let s = some_count edge.adds e in
           let case = case_of shown never edge.adds s.case of.adds.each s.there in
           let set : List ℕ = case.set in
-          let few = all_passes (λ (a : List ℕ). nat_lt (count (on_sets f) a) 2) (sets_of shown.universe) (named shown.universe case.set) all
+          let few = all_passes (λ (a : List ℕ). nat_lt (added_count (on_sets f) a) 2) (sets_of shown.universe) (named shown.universe case.set) all
           (filtered_in (has case.set) shown.universe) in
           let same = plain.adds.same (named shown.universe case.set) case.set (named_same shown.universe case.set) in
           let many = many_counts s case.set (truth (value_of shown case.set s.case.1) case.differ) in

@@ -17,9 +17,9 @@ use Rattle.policy_dd.proofs.CaseLemmas.{case_here, case_later}
 use Rattle.route_maps.specs.declared.plain.Imported.{Imported}
 use Rattle.route_maps.specs.declared.plain.PlainEntry.{PlainEntry}
 use Rattle.canon_policy.specs.declared.fixing.Fixing.{Fixing}
-use Rattle.canon_policy.specs.Functions.{on_sets, carries, keeps, preference, count}
+use Rattle.canon_policy.specs.Functions.{on_sets, carries, keeps, preference, added_count}
 use Rattle.canon_policy.specs.Canonical.{in_asked, numbered_from}
-use Rattle.canon_policy.specs.Entries.{match_of, deletion_of, addition_of, replacement_by, lp_of, always_carried, is_deleted, is_added, change_of, deletion_for, in_entry, out_entry}
+use Rattle.canon_policy.specs.Entries.{match_of, deletion_of, addition_of, replacement_by, lp_of, always_carried, is_removed, is_added, canonical_change, deletion_for, in_entry, out_entry}
 use Rattle.canon_policy.specs.Made.{carried_in, is_out, deleted_in, is_not_present, lp_in, count_in, change_made, deletion_made, in_made, out_made}
 use Rattle.canon_policy.specs.Plain.{IsPlain}
 use Rattle.canon_policy.proofs.Asked.{kept_is, other_carried}
@@ -193,11 +193,11 @@ module _ (shown : Shown) (is : IsShown shown) (edge : EdgeFn) (f : List ℕ → 
       nothing false k = refl
 
   deleted_is : keeps (on_sets f) shown.universe fixing.present ≡ true → AreSettled shown.universe (on_sets f) fixing → Agrees fixing fixing.present
-      → deleted_in shown fixing edge.outs ≡ filter (is_deleted (on_sets f) fixing) shown.universe
+      → deleted_in shown fixing edge.outs ≡ filter (is_removed (on_sets f) fixing) shown.universe
   deleted_is kept settled agrees =
-      deleted_keys shown fixing (is_deleted (on_sets f) fixing) edge.outs (λ case h.
+      deleted_keys shown fixing (is_removed (on_sets f) fixing) edge.outs (λ case h.
       ap (λ b. not (has fixing.absent case.0) && not b) (sym (by_node shown is edge f of (with_number case.0 fixing.present) case h)))
-      ∙ sym (filter_keys shown.universe (keys_of (by_number edge.outs)) (is_deleted (on_sets f) fixing) is.ascending of.outs.ascending of.outs_known (λ c bare.
+      ∙ sym (filter_keys shown.universe (keys_of (by_number edge.outs)) (is_removed (on_sets f) fixing) is.ascending of.outs.ascending of.outs_known (λ c bare.
       by c bare (has fixing.absent c) refl))
     where
       left_true : (a b : Bool) → a ≡ true → a || b ≡ true
@@ -222,7 +222,7 @@ module _ (shown : Shown) (is : IsShown shown) (edge : EdgeFn) (f : List ℕ → 
           (settled.kept (with_number c fixing.present) fixing.present more agrees ∙ kept) in
           rw here refl
 
-  change_is : (b : Bool) → value_of shown fixing.present edge.rest ≡ b → change_made shown edge fixing ≡ change_of shown.universe (on_sets f) fixing
+  change_is : (b : Bool) → value_of shown fixing.present edge.rest ≡ b → change_made shown edge fixing ≡ canonical_change shown.universe (on_sets f) fixing
   change_is true e =
       let kept = kept_is shown is edge f of plain fixing.present ∙ e in
       rw (e, kept) (ap addition_of added_is)
@@ -257,7 +257,7 @@ module _ (shown : Shown) (is : IsShown shown) (edge : EdgeFn) (f : List ℕ → 
           ∙ ap (λ (change : Option Change). permitting seq (lp_of (preference (on_sets f) fixing.present - 1)) change (deletion_made shown edge fixing) 0)
           (change_is (value_of shown fixing.present edge.rest) refl)
           ∙ ap (λ (delete : Option CommunityList). permitting seq (lp_of (preference (on_sets f) fixing.present - 1))
-          (change_of shown.universe (on_sets f) fixing) delete 0) (deletion_is all settled.agrees (value_of shown fixing.present edge.rest) refl))
+          (canonical_change shown.universe (on_sets f) fixing) delete 0) (deletion_is all settled.agrees (value_of shown fixing.present edge.rest) refl))
       by false e = let denied = accepts_is shown is edge f of fixing.present ∙ e in rw (e, denied) refl
 
   pub out_is : (seq : ℕ) → out_made shown edge seq fixing ≡ out_entry (on_sets f) seq fixing
@@ -268,7 +268,7 @@ module _ (shown : Shown) (is : IsShown shown) (edge : EdgeFn) (f : List ℕ → 
       by true e =
           let accepted = accepts_is shown is edge f of fixing.present ∙ e in
           rw (e, accepted) (ap (λ (adds : ℕ). permitting seq None None None adds)
-          (table_count shown edge.permit edge.adds (count (on_sets f)) (adds_table shown is edge f of) fixing.present e))
+          (table_count shown edge.permit edge.adds (added_count (on_sets f)) (adds_table shown is edge f of) fixing.present e))
       by false e = let denied = accepts_is shown is edge f of fixing.present ∙ e in rw (e, denied) refl
 
 module _ (shown : Shown) (is : IsShown shown) (edge : EdgeFn) (f : List ℕ → Option Imported) (of : IsEdgeFn shown edge f)

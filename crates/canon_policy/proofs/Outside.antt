@@ -13,7 +13,7 @@ use Rattle.dd_core.proofs.SupportLemmas.{has-index, any-with_number}
 use Rattle.policy_dd.specs.declared.edge.EdgeFn.{EdgeFn}
 use Rattle.policy_dd.specs.Edge.{by_number, never, carried_by_rest, IsEdgeFn}
 use Rattle.route_maps.specs.declared.plain.Imported.{Imported}
-use Rattle.canon_policy.specs.Functions.{on_sets, outside_of, carries, preference, count}
+use Rattle.canon_policy.specs.Functions.{on_sets, outside_of, carries, preference, added_count}
 use Rattle.canon_policy.specs.Fixings.{sets_of}
 use Rattle.canon_policy.specs.Canonical.{differs_with_outside, depends_on_others}
 use Rattle.canon_policy.specs.Hanging.{SameOn}
@@ -163,15 +163,15 @@ module _ (shown : Shown) (is : IsShown shown) (edge : EdgeFn) (f : List ℕ → 
   agree_all set e =
       let more : List ℕ = with_number (outside_of shown.universe) set in
       let first = or_none (not (nat_eq (preference (on_sets f) set) (preference (on_sets f) (with_number (outside_of shown.universe) set))))
-      (not (nat_eq (count (on_sets f) set) (count (on_sets f) (with_number (outside_of shown.universe) set))) || list_any (λ c. not (beq (carries (on_sets f) c set) (carries (on_sets f) c (with_number (outside_of shown.universe) set)))) shown.universe) e in
-      let second = or_none (not (nat_eq (count (on_sets f) set) (count (on_sets f) (with_number (outside_of shown.universe) set)))) (list_any (λ c. not (beq (carries (on_sets f) c set) (carries (on_sets f) c (with_number (outside_of shown.universe) set)))) shown.universe) first.1 in
+      (not (nat_eq (added_count (on_sets f) set) (added_count (on_sets f) (with_number (outside_of shown.universe) set))) || list_any (λ c. not (beq (carries (on_sets f) c set) (carries (on_sets f) c (with_number (outside_of shown.universe) set)))) shown.universe) e in
+      let second = or_none (not (nat_eq (added_count (on_sets f) set) (added_count (on_sets f) (with_number (outside_of shown.universe) set)))) (list_any (λ c. not (beq (carries (on_sets f) c set) (carries (on_sets f) c (with_number (outside_of shown.universe) set)))) shown.universe) first.1 in
       let lp = numbers_equal (preference (on_sets f) set) (preference (on_sets f) (with_number (outside_of shown.universe) set)) first.0 in
-      let adds = numbers_equal (count (on_sets f) set) (count (on_sets f) (with_number (outside_of shown.universe) set)) second.0 in (
+      let adds = numbers_equal (added_count (on_sets f) set) (added_count (on_sets f) (with_number (outside_of shown.universe) set)) second.0 in (
         sym (accepts_is shown is edge f of set) ∙ accepted_alike (on_sets f set) (on_sets f (with_number (outside_of shown.universe) set)) lp ∙ accepts_is shown is edge f of (with_number (outside_of shown.universe) set),
         agree_append shown (nodes_of edge.lps) (nodes_of edge.adds ++ nodes_of (by_number edge.outs)) set (with_number (outside_of shown.universe) set)
             ((table_tells shown edge.permit edge.lps (preference (on_sets f)) (lps_table shown is edge f of)).apart set (with_number (outside_of shown.universe) set) lp)
             (agree_append shown (nodes_of edge.adds) (nodes_of (by_number edge.outs)) set (with_number (outside_of shown.universe) set)
-            ((table_tells shown edge.permit edge.adds (count (on_sets f)) (adds_table shown is edge f of)).apart set (with_number (outside_of shown.universe) set) adds)
+            ((table_tells shown edge.permit edge.adds (added_count (on_sets f)) (adds_table shown is edge f of)).apart set (with_number (outside_of shown.universe) set) adds)
             (agree_each shown (by_number edge.outs) set (with_number (outside_of shown.universe) set) (λ case h.
             sym (by_node shown is edge f of set case h)
             ∙ bits_equal (carries (on_sets f) case.0 set) (carries (on_sets f) case.0 (with_number (outside_of shown.universe) set))
@@ -196,10 +196,10 @@ module _ (shown : Shown) (is : IsShown shown) (edge : EdgeFn) (f : List ℕ → 
 same_all : (universe : List ℕ) (f : List ℕ → Option Imported) → IsPlain universe f → (set : List ℕ) → differs_with_outside universe f set ≡ false
 same_all universe f plain set =
     let s = same_back universe (with_number (outside_of universe) set) set (outside_same universe (outside_of universe) (outside_not universe) set) in
-    neither (nat_eq (preference f set) (preference f (with_number (outside_of universe) set))) (nat_eq (count f set) (count f (with_number (outside_of universe) set)))
+    neither (nat_eq (preference f set) (preference f (with_number (outside_of universe) set))) (nat_eq (added_count f set) (added_count f (with_number (outside_of universe) set)))
     (list_any (λ c. not (beq (carries f c set) (carries f c (with_number (outside_of universe) set)))) universe)
     (same_number (preference f set) (preference f (with_number (outside_of universe) set)) (plain.lp.same set (with_number (outside_of universe) set) s))
-    (same_number (count f set) (count f (with_number (outside_of universe) set)) (plain.adds.same set (with_number (outside_of universe) set) s))
+    (same_number (added_count f set) (added_count f (with_number (outside_of universe) set)) (plain.adds.same set (with_number (outside_of universe) set) s))
     (any_none (λ c. not (beq (carries f c set) (carries f c (with_number (outside_of universe) set)))) universe (λ c h.
     differs_not (carries f c set) (carries f c (with_number (outside_of universe) set)) ((plain.carried c (in_has universe c h)).same set (with_number (outside_of universe) set) s)))
   where

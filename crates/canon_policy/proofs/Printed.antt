@@ -20,8 +20,8 @@ use Rattle.canon_policy.specs.declared.fixing.Fixing.{Fixing}
 use Rattle.canon_policy.specs.declared.lists.CanonEdge.{CanonEdge}
 use Rattle.canon_policy.specs.Functions.{on_sets, accepts, keeps, preference, as_set}
 use Rattle.canon_policy.specs.Fixings.{Asked, nothing_fixed, with_present, with_absent, split, settled}
-use Rattle.canon_policy.specs.Entries.{alone, match_of, deletion_of, addition_of, replacement_by, lp_of, always_carried, is_deleted, is_added, denying, in_entry, out_entry}
-use Rattle.canon_policy.specs.Canonical.{in_asked, out_asked, numbered_from, match_is_wide, names_in_change, is_wide, put_before, without_last_denies, limited, in_list, adds_nothing, passing, out_list, lists_of, depends_on_others, canonical_of, canonical_lists_of}
+use Rattle.canon_policy.specs.Entries.{alone, match_of, deletion_of, addition_of, replacement_by, lp_of, always_carried, is_removed, is_added, denying, in_entry, out_entry}
+use Rattle.canon_policy.specs.Canonical.{in_asked, out_asked, numbered_from, match_is_wide, names_in_change, is_wide, put_before_entries, without_last_denies, limited, in_list, adds_nothing, passing, out_list, lists_of, depends_on_others, canonical_of, canonical_lists_of}
 use Rattle.canon_policy.specs.CanonicalProblem.{AreCommunities}
 use Rattle.canon_policy.specs.Hanging.{AskedHangsOn}
 use Rattle.canon_policy.specs.Plain.{IsPlain}
@@ -90,7 +90,7 @@ numbered_counted : (entry : ℕ → Fixing → PlainEntry) → ((seq : ℕ) (fix
 numbered_counted entry seqs k [] = tt
 numbered_counted entry seqs k (f ∷ fs) = (seqs k f, numbered_counted entry seqs (k + 1) fs)
 
-counted_before : (k : ℕ) (e : PlainEntry) (es : List PlainEntry) → e.seq ≡ k → IsCounted (k + 1) es → IsCounted k (put_before e es)
+counted_before : (k : ℕ) (e : PlainEntry) (es : List PlainEntry) → e.seq ≡ k → IsCounted (k + 1) es → IsCounted k (put_before_entries e es)
 counted_before k e (next ∷ es) is rest = (is, rest)
 counted_before k e [] is rest = by e.permit
   where
@@ -110,7 +110,7 @@ counted_up : (k : ℕ) (es : List PlainEntry) → IsCounted k es → IsAscending
 counted_up k [] all = tt
 counted_up k (e ∷ es) all = let is = all.0 in (above e.seq (k + 1) (omega arith) es all.1, counted_up (k + 1) es all.1)
 
-all_before : (P : PlainEntry → Type 0) (e : PlainEntry) (es : List PlainEntry) → P e → AllByRecursion P es → AllByRecursion P (put_before e es)
+all_before : (P : PlainEntry → Type 0) (e : PlainEntry) (es : List PlainEntry) → P e → AllByRecursion P es → AllByRecursion P (put_before_entries e es)
 all_before P e (next ∷ es) is rest = (is, rest)
 all_before P e [] is rest = by e.permit
   where
@@ -246,14 +246,14 @@ module _ (universe : List ℕ) (up : IsAscending universe) (communities : AreCom
     change_within false fixing = replacement_within (filter (always_carried f fixing) universe) (filtered (always_carried f fixing))
 
     abbrev delete_by : Bool → Fixing → Option CommunityList
-    delete_by b fixing = if b then deletion_of (filter (is_deleted f fixing) universe) else None
+    delete_by b fixing = if b then deletion_of (filter (is_removed f fixing) universe) else None
 
     delete_printable : (b : Bool) (fixing : Fixing) → IfSome (delete_by b fixing) IsPrintableDeletion
-    delete_printable true fixing = deletion_printable (filter (is_deleted f fixing) universe) (filtered (is_deleted f fixing))
+    delete_printable true fixing = deletion_printable (filter (is_removed f fixing) universe) (filtered (is_removed f fixing))
     delete_printable false fixing = tt
 
     delete_within : (b : Bool) (fixing : Fixing) → IfSome (delete_by b fixing) (IsListWithin universe)
-    delete_within true fixing = deletion_within (filter (is_deleted f fixing) universe) (filtered (is_deleted f fixing))
+    delete_within true fixing = deletion_within (filter (is_removed f fixing) universe) (filtered (is_removed f fixing))
     delete_within false fixing = tt
 
     small_lp : (set : List ℕ) (o : Option Imported) → f set ≡ o → IsNumber (option_map_or (λ (i : Imported). i.lp + 1) o 0 - 1)

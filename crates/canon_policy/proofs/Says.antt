@@ -10,7 +10,7 @@ use Rattle.policy_dd.specs.declared.edge.EdgeFn.{EdgeFn}
 use Rattle.policy_dd.specs.Edge.{case_or, keys_of, by_number, never, carried_by_rest, is_carried, ImportIs, AreCases, IsOneOf, IsEdgeFn}
 use Rattle.policy_dd.proofs.CaseLemmas.{case_absent}
 use Rattle.route_maps.specs.declared.plain.Imported.{Imported}
-use Rattle.canon_policy.specs.Functions.{as_set, on_sets, outside_of, accepts, carries, keeps, preference, count}
+use Rattle.canon_policy.specs.Functions.{as_set, on_sets, outside_of, accepts, carries, keeps, preference, added_count}
 use Rattle.canon_policy.specs.Hanging.{SameOn, TestHangsOn}
 use Rattle.canon_policy.specs.Made.{nodes_of}
 use Rattle.canon_policy.specs.Nodes.{AgreeAt}
@@ -105,7 +105,7 @@ module _ (shown : Shown) (is : IsShown shown) (edge : EdgeFn) (f : List ℕ → 
       by set None says = none (sym (permit_as_set set) ∙ says) refl
       by set (Some import) says = some import.lp refl (sym (cases_as_set edge.lps of.lps set import.lp) ∙ says.lp)
 
-  pub adds_table : IsTableOf shown edge.permit edge.adds (count (on_sets f))
+  pub adds_table : IsTableOf shown edge.permit edge.adds (added_count (on_sets f))
   adds_table = record {
     number = λ set. by set (f (as_set set)) (of.means (as_set set) (ascending-as_set set));
     one = λ set. one_as_set edge.adds of.adds set (of.one_adds (as_set set) (ascending-as_set set));
@@ -173,7 +173,7 @@ module _ (shown : Shown) (is : IsShown shown) (edge : EdgeFn) (f : List ℕ → 
     accepted = record { same = λ a b s. accepts_is a ∙ permit.same a b s ∙ sym (accepts_is b) };
     kept = record { same = λ a b s. keeps_is permit a ∙ (rest_hangs permit).same a b s ∙ sym (keeps_is permit b) };
     lp = table_hangs shown edge.permit edge.lps (preference (on_sets f)) lps_table lps;
-    adds = table_hangs shown edge.permit edge.adds (count (on_sets f)) adds_table adds;
+    adds = table_hangs shown edge.permit edge.adds (added_count (on_sets f)) adds_table adds;
     carried = carried_hangs (rest_hangs permit) outs;
     unnamed = λ set c outside. by_rest set c (no_key c outside) ∙ ap (λ b. has set c && b) (sym (keeps_is permit set));
     ascending = result_ascends;

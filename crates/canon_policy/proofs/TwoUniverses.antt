@@ -11,10 +11,10 @@ use Rattle.cfg_ast.specs.declared.policy.Change.{Change}
 use Rattle.cfg_ast.specs.declared.policy.CommunityList.{CommunityList}
 use Rattle.route_maps.specs.declared.plain.Imported.{Imported}
 use Rattle.canon_policy.specs.declared.fixing.Fixing.{Fixing}
-use Rattle.canon_policy.specs.Functions.{outside_of, accepts, carries, keeps, preference, count}
+use Rattle.canon_policy.specs.Functions.{outside_of, accepts, carries, keeps, preference, added_count}
 use Rattle.canon_policy.specs.Fixings.{Asked, nothing_fixed, with_present, with_absent, agreeing, sets_of, depends, least, yes, follows, unsettled, first_unsettled, split, settled}
 use Rattle.canon_policy.specs.Fixings.Part.{community}
-use Rattle.canon_policy.specs.Entries.{match_of, deletion_of, addition_of, replacement_by, lp_of, always_carried, is_deleted, is_added, change_of, deletion_for, in_entry, out_entry}
+use Rattle.canon_policy.specs.Entries.{match_of, deletion_of, addition_of, replacement_by, lp_of, always_carried, is_removed, is_added, canonical_change, deletion_for, in_entry, out_entry}
 use Rattle.canon_policy.specs.Canonical.{in_parts, in_asked, out_asked, numbered_from, limited, in_list, adds_nothing, passing, out_list, lists_of, depends_on_others, canonical_of}
 use Rattle.canon_policy.specs.Hanging.{SameOn, TestHangsOn, NumberHangsOn}
 use Rattle.canon_policy.specs.Made.{asked_of}
@@ -262,7 +262,7 @@ module _ (universe other : List ℕ) (up : IsAscending universe) (other_up : IsA
   unfolding split
   out_split fixing =
       let a = one_test (accepts f) fixing plain.accepted plain'.accepted in
-      let n = one_number (count f) fixing plain.adds plain'.adds in
+      let n = one_number (added_count f) fixing plain.adds plain'.adds in
       λ i. option_or (a i) (if accepts f (agreeing fixing []) then option_or (n i) None else None)
 
   out_splits : split universe (out_asked universe f) ≡ split other (out_asked other f)
@@ -330,7 +330,7 @@ module _ (universe other : List ℕ) (up : IsAscending universe) (other_up : IsA
             one_kept (with_number c fixing.present) ∙ plain'.kept.same (with_number c fixing.present) fixing.present (outside_same other c ea fixing.present)
             ∙ sym (one_kept fixing.present)
 
-    not_deleted : keeps f universe fixing.present ≡ true → (c : ℕ) → has keys c ≡ false → is_deleted f fixing c ≡ false
+    not_deleted : keeps f universe fixing.present ≡ true → (c : ℕ) → has keys c ≡ false → is_removed f fixing c ≡ false
     not_deleted e c none = ap (λ b. not (has fixing.absent c) && not b) stays ∙ by (has fixing.absent c)
       where
         stays : carries f c (with_number c fixing.present) ≡ true
@@ -347,17 +347,17 @@ module _ (universe other : List ℕ) (up : IsAscending universe) (other_up : IsA
     change_by us k = if k then addition_of (filter (is_added f fixing) us) else replacement_by (filter (always_carried f fixing) us)
 
     abbrev delete_by : List ℕ → Bool → Option CommunityList
-    delete_by us k = if k then deletion_of (filter (is_deleted f fixing) us) else None
+    delete_by us k = if k then deletion_of (filter (is_removed f fixing) us) else None
 
     change_same : (k : Bool) → keeps f universe fixing.present ≡ k → change_by universe k ≡ change_by other k
     change_same true e = ap addition_of (both_filter (is_added f fixing) (not_added e))
     change_same false e = ap replacement_by (both_filter (always_carried f fixing) (not_carried e))
 
     delete_same : (k : Bool) → keeps f universe fixing.present ≡ k → delete_by universe k ≡ delete_by other k
-    delete_same true e = ap deletion_of (both_filter (is_deleted f fixing) (not_deleted e))
+    delete_same true e = ap deletion_of (both_filter (is_removed f fixing) (not_deleted e))
     delete_same false e = refl
 
-    one_change : change_of universe f fixing ≡ change_of other f fixing
+    one_change : canonical_change universe f fixing ≡ canonical_change other f fixing
     one_change = change_same (keeps f universe fixing.present) refl ∙ ap (change_by other) (one_kept fixing.present)
 
     one_deletion : deletion_for universe f fixing ≡ deletion_for other f fixing
@@ -388,9 +388,9 @@ module _ (universe other : List ℕ) (up : IsAscending universe) (other_up : IsA
   few_from : (us vs : List ℕ) → IsPlain us f → adds_nothing us f ≡ true → adds_nothing vs f ≡ true
   unfolding adds_nothing
   few_from us vs of e =
-      all_are (λ (set : List ℕ). nat_lt (count f set) 2) (sets_of vs)
+      all_are (λ (set : List ℕ). nat_lt (added_count f set) 2) (sets_of vs)
       (λ set h. ap (λ n. nat_lt n 2) (sym (of.adds.same (named us set) set (named_same us set)))
-      ∙ all_in (λ (s : List ℕ). nat_lt (count f s) 2) (sets_of us) (named us set) e (filtered_in (has set) us))
+      ∙ all_in (λ (s : List ℕ). nat_lt (added_count f s) 2) (sets_of us) (named us set) e (filtered_in (has set) us))
 
   one_adds : adds_nothing universe f ≡ adds_nothing other f
   one_adds = same_truth (adds_nothing universe f) (adds_nothing other f) (few_from universe other plain) (few_from other universe plain')

@@ -7,7 +7,7 @@ use Rattle.base_kit.proofs.SetFacts.{same_number, other_number, has-with_number}
 use Rattle.base_kit.proofs.Elements.{in_left, in_right}
 use Rattle.dd_core.specs.Sets.{has_others}
 use Rattle.route_maps.specs.declared.plain.Imported.{Imported}
-use Rattle.canon_policy.specs.Functions.{outside_of, carries, preference, count}
+use Rattle.canon_policy.specs.Functions.{outside_of, carries, preference, added_count}
 use Rattle.canon_policy.specs.Fixings.{sets_of}
 use Rattle.canon_policy.specs.Canonical.{differs_with_outside, depends_on_others, canonical_of}
 use Rattle.canon_policy.specs.Hanging.{SameOn}
@@ -40,7 +40,7 @@ module _ (universe : List ℕ) (f : List ℕ → Option Imported) (uniform : IsU
   first set = not (nat_eq (preference f set) (preference f (put set)))
 
   abbrev second : List ℕ → Bool
-  second set = not (nat_eq (count f set) (count f (put set)))
+  second set = not (nat_eq (added_count f set) (added_count f (put set)))
 
   abbrev third : List ℕ → Bool
   third set = list_any (λ c. not (beq (carries f c set) (carries f c (put set)))) universe
@@ -50,9 +50,9 @@ module _ (universe : List ℕ) (f : List ℕ → Option Imported) (uniform : IsU
       numbers_equal (preference f (named universe set)) (preference f (put (named universe set)))
       (or_none (first (named universe set)) (second (named universe set) || third (named universe set)) (same_there set)).0
 
-  one_count : (set : List ℕ) → count f (named universe set) ≡ count f (put (named universe set))
+  one_count : (set : List ℕ) → added_count f (named universe set) ≡ added_count f (put (named universe set))
   one_count set =
-      numbers_equal (count f (named universe set)) (count f (put (named universe set)))
+      numbers_equal (added_count f (named universe set)) (added_count f (put (named universe set)))
       (or_none (second (named universe set)) (third (named universe set))
       (or_none (first (named universe set)) (second (named universe set) || third (named universe set)) (same_there set)).1).0
 
@@ -100,7 +100,7 @@ module _ (universe : List ℕ) (f : List ℕ → Option Imported) (uniform : IsU
     accepted = record { same = λ a b same. accepted_alike (f a) (f b) (to_same (preference f) uniform.lp one_lp a b same) };
     kept = uniform.kept;
     lp = record { same = to_same (preference f) uniform.lp one_lp };
-    adds = record { same = to_same (count f) uniform.adds one_count };
+    adds = record { same = to_same (added_count f) uniform.adds one_count };
     carried = λ c known. record { same = to_same (carries f c) (uniform.carried c known) (one_carried c known) };
     unnamed = uniform.unnamed;
     ascending = uniform.ascending;
@@ -151,11 +151,11 @@ module _ (universe other : List ℕ) (f : List ℕ → Option Imported) (plain :
 
   nothing_differs : (set : List ℕ) → differs_with_outside other f set ≡ false
   nothing_differs set =
-      neither (nat_eq (preference f set) (preference f (with_number (outside_of other) set))) (nat_eq (count f set) (count f (with_number (outside_of other) set)))
+      neither (nat_eq (preference f set) (preference f (with_number (outside_of other) set))) (nat_eq (added_count f set) (added_count f (with_number (outside_of other) set)))
       (list_any (λ c. not (beq (carries f c set) (carries f c (with_number (outside_of other) set)))) other)
       (same_number (preference f set) (preference f (with_number (outside_of other) set))
       (sym (uniform.lp (with_number (outside_of other) set) (with_number beyond set) (moved set) ∙ plain.lp.same (with_number beyond set) set (gone set))))
-      (same_number (count f set) (count f (with_number (outside_of other) set))
+      (same_number (added_count f set) (added_count f (with_number (outside_of other) set))
       (sym (uniform.adds (with_number (outside_of other) set) (with_number beyond set) (moved set) ∙ plain.adds.same (with_number beyond set) set (gone set))))
       (any_none (λ c. not (beq (carries f c set) (carries f c (with_number (outside_of other) set)))) other (λ c h.
       differs_not (carries f c set) (carries f c (with_number (outside_of other) set)) (carried_same c (in_has other c h) set)))

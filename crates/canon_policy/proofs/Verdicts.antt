@@ -12,7 +12,7 @@ use Rattle.route_maps.specs.declared.plain.Verdict.TheVariants.{Deny}
 use Rattle.route_maps.specs.Maps.{entry_holds, entry_verdict, verdict}
 use Rattle.canon_policy.specs.declared.fixing.Fixing.{Fixing}
 use Rattle.canon_policy.specs.Fixings.{Asked, with_present, with_absent, split, settled}
-use Rattle.canon_policy.specs.Canonical.{numbered_from, put_before, without_last_denies}
+use Rattle.canon_policy.specs.Canonical.{numbered_from, put_before_entries, without_last_denies}
 use Rattle.canon_policy.specs.Hanging.{AskedHangsOn}
 use Rattle.canon_policy.proofs.SameSets.{Agrees, all_are, all_in}
 use Rattle.canon_policy.proofs.Least.{has_in, in_has}
@@ -170,7 +170,7 @@ both_deny : (b : Bool) (v : Verdict) → v ≡ Deny → cond b v Deny ≡ Deny
 both_deny true v e = e
 both_deny false v e = refl
 
-put_before_says : (e : PlainEntry) (es : List PlainEntry) (set : List ℕ) → verdict (put_before e es) set ≡ verdict (e ∷ es) set
+put_before_says : (e : PlainEntry) (es : List PlainEntry) (set : List ℕ) → verdict (put_before_entries e es) set ≡ verdict (e ∷ es) set
 put_before_says e (next ∷ es) set = refl
 put_before_says e [] set = by e.permit refl
   where

@@ -14,7 +14,7 @@ use Rattle.route_maps.specs.declared.plain.Plain.{Plain}
 use Rattle.route_maps.specs.declared.plain.PlainEntry.{PlainEntry}
 use Rattle.canon_policy.specs.declared.lists.CanonEdge.{CanonEdge}
 use Rattle.canon_policy.specs.declared.fixing.Fixing.{Fixing}
-use Rattle.canon_policy.specs.Functions.{on_sets, outside_of, accepts, carries, keeps, preference, count}
+use Rattle.canon_policy.specs.Functions.{on_sets, outside_of, accepts, carries, keeps, preference, added_count}
 use Rattle.canon_policy.specs.Fixings.{Part, Asked, nothing_fixed, sets_of, yes, split, settled}
 use Rattle.canon_policy.specs.Fixings.Part.{number, community}
 use Rattle.canon_policy.specs.Entries.{in_entry, out_entry}
@@ -24,7 +24,7 @@ use Rattle.canon_policy.specs.Entries.{in_entry, out_entry}
 abbrev pub differs_with_outside : List ℕ → (List ℕ → Option Imported) → List ℕ → Bool
 differs_with_outside universe f set =
     let more = with_number (outside_of universe) set in
-    not (nat_eq (preference f set) (preference f more)) || (not (nat_eq (count f set) (count f more)) || list_any (λ c. not (beq (carries f c set) (carries f c more))) universe)
+    not (nat_eq (preference f set) (preference f more)) || (not (nat_eq (added_count f set) (added_count f more)) || list_any (λ c. not (beq (carries f c set) (carries f c more))) universe)
 
 unfoldable pub depends_on_others : List ℕ → (List ℕ → Option Imported) → Bool
 depends_on_others universe f = list_any (differs_with_outside universe f) (sets_of universe)
@@ -44,15 +44,15 @@ in_asked universe f = record {
 
 -- acceptance and the count alone
 abbrev pub out_asked : List ℕ → (List ℕ → Option Imported) → Asked
-out_asked universe f = record { accepted = accepts f; kept = keeps f universe; parts = number (count f) ∷ [] }
+out_asked universe f = record { accepted = accepts f; kept = keeps f universe; parts = number (added_count f) ∷ [] }
 
 -- the entries of fixings, numbered from a number on
 abbrev pub numbered_from : ℕ → (ℕ → Fixing → PlainEntry) → List Fixing → List PlainEntry
 numbered_from seq entry [] = []
 numbered_from seq entry (fixing ∷ fixings) = entry seq fixing ∷ numbered_from (seq + 1) entry fixings
 
-abbrev pub entries_for : List ℕ → Asked → (ℕ → Fixing → PlainEntry) → List PlainEntry
-entries_for universe asked entry = numbered_from 1 entry (settled (length universe) (split universe asked) nothing_fixed)
+abbrev pub canonical_entries : List ℕ → Asked → (ℕ → Fixing → PlainEntry) → List PlainEntry
+canonical_entries universe asked entry = numbered_from 1 entry (settled (length universe) (split universe asked) nothing_fixed)
 
 -- the entry names more than 32 communities in a match, an addition or a replacement
 abbrev pub names_in_change : Option Change → ℕ
@@ -71,13 +71,13 @@ abbrev pub is_wide : PlainEntry → Bool
 is_wide entry = list_any match_is_wide (unwrap_or entry.lists []) || nat_lt 32 (names_in_change entry.change)
 
 -- the entries without those that deny at the end
-abbrev pub put_before : PlainEntry → List PlainEntry → List PlainEntry
-put_before entry [] = if entry.permit then entry ∷ [] else []
-put_before entry (next ∷ entries) = entry ∷ next ∷ entries
+abbrev pub put_before_entries : PlainEntry → List PlainEntry → List PlainEntry
+put_before_entries entry [] = if entry.permit then entry ∷ [] else []
+put_before_entries entry (next ∷ entries) = entry ∷ next ∷ entries
 
 abbrev pub without_last_denies : List PlainEntry → List PlainEntry
 without_last_denies [] = []
-without_last_denies (entry ∷ entries) = put_before entry (without_last_denies entries)
+without_last_denies (entry ∷ entries) = put_before_entries entry (without_last_denies entries)
 
 -- There is no such list where an entry is wide, or there are more than 65,535, those that deny at the end
 -- among them.
@@ -86,18 +86,18 @@ limited entries = if nat_lt 65535 (length entries) || list_any is_wide entries t
 
 -- the importer's list
 abbrev pub in_list : List ℕ → (List ℕ → Option Imported) → Option Plain
-in_list universe f = limited (entries_for universe (in_asked universe f) (in_entry universe f))
+in_list universe f = limited (canonical_entries universe (in_asked universe f) (in_entry universe f))
 
 -- no set is accepted with a count above 0
 unfoldable pub adds_nothing : List ℕ → (List ℕ → Option Imported) → Bool
-adds_nothing universe f = list_all (λ set. nat_lt (count f set) 2) (sets_of universe)
+adds_nothing universe f = list_all (λ set. nat_lt (added_count f set) 2) (sets_of universe)
 
 abbrev pub passing : Plain
 passing = record { entries = record { seq = 10; permit = true; lists = None; lp = None; change = None; delete = None; adds = 0; exact = false } ∷ [] }
 
 -- the exporter's list
 abbrev pub out_list : List ℕ → (List ℕ → Option Imported) → Option Plain
-out_list universe f = if adds_nothing universe f then Some passing else limited (entries_for universe (out_asked universe f) (out_entry f))
+out_list universe f = if adds_nothing universe f then Some passing else limited (canonical_entries universe (out_asked universe f) (out_entry f))
 
 abbrev pub lists_of : Option Plain → Option Plain → Option CanonEdge
 lists_of None into = None

@@ -9,13 +9,13 @@ use Rattle.cfg_ast.specs.declared.policy.CommunityList.{CommunityList}
 use Rattle.route_maps.specs.declared.plain.Imported.{Imported}
 use Rattle.route_maps.specs.declared.plain.PlainEntry.{PlainEntry}
 use Rattle.canon_policy.specs.declared.fixing.Fixing.{Fixing}
-use Rattle.canon_policy.specs.Functions.{accepts, carries, keeps, preference, count}
+use Rattle.canon_policy.specs.Functions.{accepts, carries, keeps, preference, added_count}
 
-abbrev pub line_of : List ℕ → CommunityLine
-line_of comms = record { permit = true; comms = comms; line = 0 }
+abbrev pub permitting_line : List ℕ → CommunityLine
+permitting_line comms = record { permit = true; comms = comms; line = 0 }
 
 abbrev pub alone : ℕ → CommunityLine
-alone c = line_of (c ∷ [])
+alone c = permitting_line (c ∷ [])
 
 abbrev pub list_of : List CommunityLine → CommunityList
 list_of lines = record { name = []; lines = lines }
@@ -23,7 +23,7 @@ list_of lines = record { name = []; lines = lines }
 -- a match of all of the communities by one list of one line, and no match for none
 abbrev pub match_of : List ℕ → Option (List CommunityList)
 match_of [] = None
-match_of (c ∷ cs) = Some (list_of (line_of (c ∷ cs) ∷ []) ∷ [])
+match_of (c ∷ cs) = Some (list_of (permitting_line (c ∷ cs) ∷ []) ∷ [])
 
 -- a deletion by one line for each
 abbrev pub deletion_of : List ℕ → Option CommunityList
@@ -46,8 +46,8 @@ abbrev pub always_carried : (List ℕ → Option Imported) → Fixing → ℕ �
 always_carried f fixing c = carries f c fixing.present
 
 -- it is in no result, and in some set that agrees
-abbrev pub is_deleted : (List ℕ → Option Imported) → Fixing → ℕ → Bool
-is_deleted f fixing c = not (has fixing.absent c) && not (carries f c (with_number c fixing.present))
+abbrev pub is_removed : (List ℕ → Option Imported) → Fixing → ℕ → Bool
+is_removed f fixing c = not (has fixing.absent c) && not (carries f c (with_number c fixing.present))
 
 -- it is in every result, and not in every set that agrees
 abbrev pub is_added : (List ℕ → Option Imported) → Fixing → ℕ → Bool
@@ -55,13 +55,13 @@ is_added f fixing c = always_carried f fixing c && not (has fixing.present c)
 
 -- Where communities outside the universe are kept, those that are in every result are added; else the
 -- result replaces all.
-abbrev pub change_of : List ℕ → (List ℕ → Option Imported) → Fixing → Option Change
-change_of universe f fixing =
+abbrev pub canonical_change : List ℕ → (List ℕ → Option Imported) → Fixing → Option Change
+canonical_change universe f fixing =
     if keeps f universe fixing.present then addition_of (filter (is_added f fixing) universe) else replacement_by (filter (always_carried f fixing) universe)
 
 abbrev pub deletion_for : List ℕ → (List ℕ → Option Imported) → Fixing → Option CommunityList
 deletion_for universe f fixing =
-    if keeps f universe fixing.present then deletion_of (filter (is_deleted f fixing) universe) else None
+    if keeps f universe fixing.present then deletion_of (filter (is_removed f fixing) universe) else None
 
 -- the entry with this number
 abbrev pub denying : ℕ → Fixing → PlainEntry
@@ -76,7 +76,7 @@ in_entry universe f seq fixing =
       permit = true;
       lists = match_of fixing.present;
       lp = lp_of (preference f fixing.present - 1);
-      change = change_of universe f fixing;
+      change = canonical_change universe f fixing;
       delete = deletion_for universe f fixing;
       adds = 0;
       exact = false;
@@ -92,6 +92,6 @@ out_entry f seq fixing =
       lp = None;
       change = None;
       delete = None;
-      adds = count f fixing.present - 1;
+      adds = added_count f fixing.present - 1;
       exact = false;
     } else denying seq fixing

@@ -35,5 +35,5 @@ abbrev pub preference : (List ℕ → Option Imported) → List ℕ → ℕ
 preference f set = option_map_or (λ (import : Imported). import.lp + 1) (f set) 0
 
 -- one more than the count of AS numbers put before the path, and 0 where the set is not accepted
-abbrev pub count : (List ℕ → Option Imported) → List ℕ → ℕ
-count f set = option_map_or (λ (import : Imported). import.adds + 1) (f set) 0
+abbrev pub added_count : (List ℕ → Option Imported) → List ℕ → ℕ
+added_count f set = option_map_or (λ (import : Imported). import.adds + 1) (f set) 0

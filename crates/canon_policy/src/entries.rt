@@ -5,7 +5,7 @@ ghost use Rattle.std.specs.List.{AllByRecursion};
 ghost use Rattle.base_kit.specs.Sets.{IsAscending, has};
 ghost use Rattle.dd_core.specs.Sets.{value_of, IsShown};
 ghost use Rattle.policy_dd.specs.Edge.{by_number, keys_of};
-ghost use Rattle.canon_policy.specs.Entries.{line_of, alone, list_of, match_of, deletion_of, addition_of, replacement_by, denying};
+ghost use Rattle.canon_policy.specs.Entries.{permitting_line, alone, list_of, match_of, deletion_of, addition_of, replacement_by, denying};
 ghost use Rattle.canon_policy.specs.Made.{IsEdgeForm, nodes_of, carried_in, is_out, deleted_in, is_not_present, lp_in, count_in, names_made, in_made, out_made};
 ghost use Rattle.canon_policy.specs.Nodes.{AreInside};
 
@@ -26,8 +26,8 @@ fn list_of(alloc: Global, lines: List<CommunityLine>) -> CommunityList
     }
 }
 
-fn line_of(comms: NumSet) -> CommunityLine
-    ensures { result ≡ line_of comms }
+fn permitting_line(comms: NumSet) -> CommunityLine
+    ensures { result ≡ permitting_line comms }
 {
     CommunityLine {
         permit: true,
@@ -44,7 +44,7 @@ fn match_of(alloc: Global, comms: &NumSet) -> Result<Option<List<CommunityList>>
         return Ok(None);
     }
     let mut lines = List::new(alloc);
-    lines.push(line_of(comms.copy()?))?;
+    lines.push(permitting_line(comms.copy()?))?;
     let mut lists = List::new(alloc);
     lists.push(list_of(alloc, lines))?;
     Ok(Some(lists))
@@ -55,7 +55,7 @@ fn line_alone(alloc: Global, community: u32) -> Result<CommunityLine, NoMemory>
 {
     let mut comms = NumSet::new(alloc);
     comms.add(community)?;
-    Ok(line_of(comms))
+    Ok(permitting_line(comms))
 }
 
 /// A deletion of the communities by one line for each, none for no communities.
