@@ -5,6 +5,7 @@ ghost use Rattle.cfg_ast.specs.meaning.Classes.{classes_of};
 ghost use Rattle.answer_groups.specs.CanonText.{router_name_in, no_canon, IsCanonicalFor, IsWithoutCanon, IsCanonOf};
 ghost use Rattle.answer_kit.specs.Outcome.{refused};
 ghost use Rattle.answer_kit.specs.Replies.{Answers, Only};
+ghost use Rattle.driver.specs.Steps.{IsSharedOf};
 
 use crate::emission::told;
 use answer_kit::{Reply, refuse};
@@ -35,27 +36,45 @@ fn no_canon(alloc: Global, problem: &Srp, edge: &Edge) -> Reply
 }
 
 // The problem of a class with canonical acts, or what is told where an edge has no canonical lists.
-fn canonical_for(alloc: Global, checked: &Checked, class: &DestClass) -> Result<Srp, Reply>
-    requires { Contains (classes_of checked.now.network) class.now }
+fn canonical_over(
+    alloc: Global,
+    checked: &Checked,
+    class: &DestClass,
+    shared: &mut Shared,
+) -> Result<Srp, Reply>
+    requires shared { IsSharedOf checked.now.network shared.old }
+    requires class { Contains (classes_of checked.now.network) class.now }
     ensures problem { IfOk result (IsCanonicalFor checked.now.network class.now) }
     ensures none { IfErr result (λ reply. Answers reply (IsWithoutCanon checked.now.network class.now) ⊥ ⊥) }
 {
     given_laws::given_is_well_formed();
     compress_laws::laws::built_fits();
-    let Ok(mut shared) = Shared::of(alloc, checked) else {
-        return Err(Reply::NoMemory);
-    };
     let Ok(problem) = shared.problem(alloc, checked, class) else {
         return Err(Reply::NoMemory);
     };
     match canon_srp(alloc, &problem, &mut shared.store) {
-        Ok(canonical) => Ok(canonical),
+        Ok(canonical) => {
+            let _rules = canonical.count();
+            Ok(canonical)
+        }
         Err(CanonSrpRefusal::NoCanon(place)) => {
             let edge = &problem.edges()[place as usize];
             Err(no_canon(alloc, &problem, edge))
         }
         Err(CanonSrpRefusal::Memory) => Err(Reply::NoMemory),
     }
+}
+
+// The same, where the problems of other classes are not wanted.
+fn canonical_for(alloc: Global, checked: &Checked, class: &DestClass) -> Result<Srp, Reply>
+    requires { Contains (classes_of checked.now.network) class.now }
+    ensures problem { IfOk result (IsCanonicalFor checked.now.network class.now) }
+    ensures none { IfErr result (λ reply. Answers reply (IsWithoutCanon checked.now.network class.now) ⊥ ⊥) }
+{
+    let Ok(mut shared) = Shared::of(alloc, checked) else {
+        return Err(Reply::NoMemory);
+    };
+    canonical_over(alloc, checked, class, &mut shared)
 }
 
 /// The network of the groups of a class, as configurations with canonical maps, or the names of the importer
