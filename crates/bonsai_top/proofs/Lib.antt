@@ -3,6 +3,7 @@ mod DoneCarries
 mod Headlines
 mod Lines
 mod Named
+mod OnCommands
 mod OneOutcome
 mod Runs
 mod Texts

@@ -12,7 +12,7 @@ returns-in-Ok-clause-answers g c =
     let second = c.args.second.now in
     let told = g.S.Source.contents c.args.files.now second in
     answers_read c.answer.result (reading_of c.args.text.now) c.in-Ok.checked.network (λ (n : Network) (o : Outcome). IsAnswerTo c.args.command n told o) ⊥
-    (SecondRose (Some c.args.command) (g.S.Source.faults c.args.files.now second) (g.S.Source.faults c.answer.new.files second)) c.in-Ok.ensures
+    (SecondRose (Some c.args.command) (g.S.Source.faults c.args.files.now second) (g.S.Source.faults c.answer.new.files second)) c.in-Ok.ensures.read
     c.answer.ensures.answers
 
 pub returns-in-Err-clause-answers : goal.returns-in-Err-clause-answers
@@ -20,4 +20,4 @@ returns-in-Err-clause-answers g c =
     let second = c.args.second.now in
     let told = g.S.Source.contents c.args.files.now second in
     answers_not_read c.in-Err.reply (reading_of c.args.text.now) (λ (n : Network) (o : Outcome). IsAnswerTo c.args.command n told o) ⊥
-    (SecondRose (Some c.args.command) (g.S.Source.faults c.args.files.now second) (g.S.Source.faults c.args.files.now second)) c.in-Err.ensures
+    (SecondRose (Some c.args.command) (g.S.Source.faults c.args.files.now second) (g.S.Source.faults c.args.files.now second)) c.in-Err.ensures.none
