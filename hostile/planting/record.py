@@ -30,7 +30,7 @@ def table(found: Kept) -> str:
     tried = [fault for fault in FAULTS if fault.name in found]
     rows += [row(fault, str(one["command"]), int(one["texts"]), float(one["seconds"])) for fault in tried for one in [found[fault.name]]]
     missed = [fault.means for fault in tried if not found[fault.name]["command"]]
-    told = f"Found: {len(tried) - len(missed)} of {len(tried)}."
+    told = f"Found: {len(tried) - len(missed)} of the {len(tried)} that were tried; `hostile/plant --list` names {len(FAULTS)}."
     return "\n".join([*rows, "", f"{told} Missed: {'; '.join(missed)}." if missed else told])
 
 

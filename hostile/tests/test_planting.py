@@ -70,7 +70,7 @@ def test_outcomes_are_kept_and_told(tmp_path: Path) -> None:
         f"| {one.layer} | {one.means} | `groups` | 1,200 | 4 |",
         f"| {two.layer} | {two.means} | **not found** | 1,200 | 4 |",
         "",
-        f"Found: 1 of 2. Missed: {two.means}.",
+        f"Found: 1 of the 2 that were tried; `hostile/plant --list` names {len(program_faults.FAULTS)}. Missed: {two.means}.",
         record.END,
         "tail",
     ]
