@@ -1,4 +1,4 @@
-use Rattle.std.proofs.Common.{◌≡◌, ℕ, List, length, slice_get, Some, refl, sym, ◌∙◌, ap, subst, arith}
+use Rattle.std.proofs.Common.{◌≡◌, ℕ, List, ◌<◌, length, slice_get, Some, refl, sym, ◌∙◌, ap, subst, arith}
 use Rattle.std.proofs.lemmas.Option.{slice_get_read}
 use Rattle.cfg_ast.specs.declared.bgp.Neighbor.{Neighbor}
 use Rattle.cfg_ast.specs.declared.network.Router.{Router}
@@ -44,3 +44,14 @@ returns-clause-kinds c = λ router at.
     let total = c.loop-i.invariant.total in
     let lines = ap (λ (l : List Neighbor). length l) c.neighbors-lines.ensures in
     subst (λ (r : Router). HasKinds routers r c.args.inbound c.loop-i.table.firsts.items c.loop-i.numbers) same (record { total = omega arith; each = c.loop-i.invariant.each })
+
+pub kind_of_line-requires : goal.kind_of_line-requires
+kind_of_line-requires c =
+    let routers = c.args.routers.now in
+    let places = c.args.places.now in
+    let router = c.index-routers-at.result in
+    let own = c.index-places-at.result in
+    let inside : c.args.at < length places = (let a = c.requires.places.total in let b = c.requires.inside in omega arith) in
+    c.requires.places.each c.args.at router own
+    (slice_get_read routers (length routers) c.args.at router refl c.requires.inside c.index-routers-at.is)
+    (slice_get_read places (length places) c.args.at own refl inside c.index-places-at.is)
