@@ -39,7 +39,7 @@ use Rattle.solution_length.proofs.Lines.{text_light}
 use Rattle.solution_length.proofs.Numbers.{each_number, number_at, first_is_number}
 use Rattle.solution_length.proofs.Places.{few_behind}
 use Rattle.solution_length.proofs.ShortLabels.{ImportsFew, HasFew, stable_short}
-use Rattle.solution_length.specs.Laws.{StableTextIsShort, TextOfGroupsIsShort}
+use Rattle.solution_length.specs.Laws.{most_bytes, StableTextIsShort, TextOfGroupsIsShort}
 
 same_some : {X : Type 0} (x y : X) → Some x ≡ Some y → x ≡ y
 same_some x y e = cc
@@ -107,7 +107,7 @@ router_names (router ∷ routers) are = (are.0.name, router_names routers are.1)
 
 text_short : (P : Problem) → IsProblem P → (set : List ℕ) → HasFew P set → count P ≤ 4096
     → AllByRecursion (λ (name : List ℕ). is_router_name name ≡ true) P.names → (L : List (Option Route)) → IsStable P L
-    → AllByRecursion (IsLabelInRange P.protocol) L → length (labels_text P.names L) ≤ 268435456
+    → AllByRecursion (IsLabelInRange P.protocol) L → length (labels_text P.names L) ≤ most_bytes
 text_short P rules set has few named L stable range =
     let total = stable.fitting.total in
     let most : length L ≤ 4096 = omega (arith, total, few) in

@@ -13,11 +13,16 @@ use Rattle.srp_core.specs.ProblemOf.{IsProblemOf}
 use Rattle.srp_core.specs.Quotient.{IsQuotient}
 use Rattle.srp_core.specs.Stability.{IsStable}
 
--- The text of every stable solution of the problem of a network that a text gives, and in which no fault stands, is
--- no longer than a solution may be.
+-- 12,379 bytes for each of 4,096 lines but the hops of its path, and 14 for each of 8,388,608 hops: a path has at most one for
+-- each smaller label, and of two labels at most one is smaller
+abbrev pub most_bytes : ℕ
+most_bytes = 168144896
+
+-- The text of every stable solution of the problem of a network that a text gives, and in which no fault stands, has at
+-- most so many bytes, which are fewer than a solution may have.
 abbrev pub StableTextIsShort : Type 0
 StableTextIsShort = (network : Network) → ∥ IsGiven network ∥₁ → IsFaultless network → (prefix : Prefix) (problem : Problem) (labels : List (Option Route))
-    → IsProblemOf network prefix problem → IsStable problem labels → length (labels_text problem.names labels) ≤ 268435456
+    → IsProblemOf network prefix problem → IsStable problem labels → length (labels_text problem.names labels) ≤ most_bytes
 
 -- So is that of every stable solution of the problem of its groups, which have names of routers.
 abbrev pub TextOfGroupsIsShort : Type 0
@@ -26,4 +31,4 @@ TextOfGroupsIsShort =
     (labels : List (Option Route))
     → IsProblemOf network prefix problem → IsProblem small → IsQuotient problem groups small → AllByRecursion
     (λ (name : List ℕ). is_router_name name ≡ true) small.names
-    → IsStable small labels → length (labels_text small.names labels) ≤ 268435456
+    → IsStable small labels → length (labels_text small.names labels) ≤ most_bytes

@@ -60,6 +60,7 @@ certifies (OnClass on_class.Groups number) = inl refl
 certifies (OnClass on_class.Compress number) = inl refl
 certifies (OnClass on_class.Report number) = inl refl
 certifies (OnClass on_class.Json number) = inl refl
+certifies (OnClass on_class.Canon number) = inl refl
 certifies (OnClass on_class.Certify number) = inr (number, refl)
 certifies (OnSecond of number) = inl refl
 certifies (Trial size) = inl refl

@@ -8,6 +8,7 @@ use Rattle.cfg_ast.specs.declared.refusal.ReadRefusal.TheVariants as read_refusa
 use Rattle.cfg_ast.specs.meaning.Classes.{classes_of}
 use Rattle.cfg_ast.specs.text.Reading.{reading_of}
 use Rattle.cfg_print.specs.Prints.{is_too_long}
+use Rattle.config_emit.specs.Plan.{Plan}
 use Rattle.config_emit.specs.Pool.{pool_line}
 use Rattle.group_report.specs.GroupLines.{group_lines}
 use Rattle.group_report.specs.JsonText.{json_text}
@@ -16,7 +17,7 @@ use Rattle.srp_core.specs.declared.route.Route.{Route}
 use Rattle.srp_core.specs.Problem.{Problem, IsProblem}
 use Rattle.route_run.specs.Orders.{IsOrderOf}
 use Rattle.answer_groups.specs.ClassLines.{classes_text}
-use Rattle.answer_groups.specs.CompressText.{compressed_text, pool_overlap, IsEmission, IsTextOr, IsUnlessPool, IsCompressOf}
+use Rattle.answer_groups.specs.CompressText.{compressed_text, long_output, pool_overlap, IsCompressOf, IsEmission, IsPlanOf, IsTextOfPlan, IsTextOr, IsUnlessPool}
 use Rattle.answer_groups.specs.GroupLines.{IsGroupsOf}
 use Rattle.answer_kit.specs.ClassNumbers.{class_at, no_class, IsOfClass}
 use Rattle.answer_kit.specs.Kinds.{line_reason}
@@ -46,8 +47,16 @@ abbrev pub HasOrder : Type 0
 HasOrder = (problem : Problem) (labels : List (Option Route)) → (run : List ℕ) × IsOrderOf problem labels run
 
 written : (b : Bool) (text : List ℕ) → SomeOf (IsTextOr b text)
-written true text = (refused (codes "OutputTooLong"), refl)
+written true text = (refused long_output, refl)
 written false text = (done text, refl)
+
+pub text_of_plan : (A : Plan → Type 0) (plan : Plan) → A plan → SomeOf (IsTextOfPlan A)
+text_of_plan A plan is =
+    let w = written (is_too_long (compressed_text plan)) (compressed_text plan) in (w.0, record { plan = plan; is = is; written = w.1 })
+
+pub unless_overlap : (A : Outcome → Type 0) → SomeOf A → (line : Option ℕ) → SomeOf (IsUnlessPool line A)
+unless_overlap A some (Some line) = (refused (pool_overlap line), refl)
+unless_overlap A some None = some
 
 module _ (n : Network) (number : ℕ) (class : DestClass) (r : Outcome) (is : IsReported report_text n number class r) where
   pub groups_of_plan : SomeOf (IsGroupsOf n class)
@@ -67,12 +76,8 @@ module _ (n : Network) (number : ℕ) (class : DestClass) (r : Outcome) (is : Is
         },
       )
 
-  emission : SomeOf (IsEmission n class)
-  emission = (let w = written (is_too_long (compressed_text is.plan)) (compressed_text is.plan) in (w.0, record { plan = is.plan; is = is.is; written = w.1 }))
-
-  pub unless_pool : (line : Option ℕ) → SomeOf (IsUnlessPool line (IsEmission n class))
-  unless_pool (Some line) = (refused (pool_overlap line), refl)
-  unless_pool None = emission
+  pub compress_of_plan : SomeOf (IsCompressOf n class)
+  compress_of_plan = unless_overlap (IsEmission n class) (text_of_plan (IsPlanOf n class) is.plan is.is) (pool_line n class)
 
   pub json_of_plan : SomeOf (IsReported json_text n number class)
   json_of_plan = (done (json_text (report_of n number is.plan)), record { plan = is.plan; is = is.is; written = refl })
@@ -145,7 +150,7 @@ outcomes_come_together sound complete has_order rest contents F S text N small h
           (λ n is. of_number n N (IsReported report_text n N) (IsGroupsOf n) (λ class has q x. groups_of_plan n N class q x) (class_at (classes_of n) N) refl r is) text own);
       compress = has_outcome (compress F N) contents (command.Compress N) refl (names_compress F N small) text holds
           (of_texts (command.Report N) (command.Compress N) second second r
-          (λ n is. of_number n N (IsReported report_text n N) (IsCompressOf n) (λ class has q x. unless_pool n N class q x (pool_line n class))
+          (λ n is. of_number n N (IsReported report_text n N) (IsCompressOf n) (λ class has q x. compress_of_plan n N class q x)
           (class_at (classes_of n) N) refl r is) text own);
       json = has_outcome (json F N) contents (command.Json N) refl (names_json F N small) text holds
           (of_texts (command.Report N) (command.Json N) second second r

@@ -34,13 +34,13 @@ use Rattle.answer_solutions.specs.Checks.{break_reason}
 use Rattle.answer_solutions.proofs.GroupNames.{group_names, router_names}
 use Rattle.answer_solutions.proofs.OneCarry.{quotient_of}
 use Rattle.carried_laws.proofs.Carried.{not_refused}
-use Rattle.bonsai_top.specs.declared.command.Command.TheVariants as command
+use Rattle.workflow_laws.specs.Commands as command
 use Rattle.workflow_laws.specs.PrintedShort.{PrintedIsShort}
 use Rattle.workflow_laws.specs.Words.{fold, lift, reach, run}
 use Rattle.workflow_laws.proofs.Answers.{done_reading}
 use Rattle.workflow_laws.proofs.Kept.{has_class}
 use Rattle.workflow_laws.proofs.Named.{names_fold, names_lift, names_reach, names_run}
-use Rattle.workflow_laws.proofs.Rested.{are_rested}
+use Rattle.workflow_laws.proofs.Rested.{are_rested, fits_solution}
 use Rattle.workflow_laws.proofs.Rests.{from_all, not_broken, reached, some_class}
 use Rattle.workflow_laws.proofs.ShortOrders.{order_short}
 
@@ -81,8 +81,8 @@ module _ (n : Network) (given : ∥ IsGiven n ∥₁) (faultless : IsFaultless n
       let g = given_labels s.small text bytes (IsLiftOfLabels s) r.allowed.solution in
       let w = work_of s.small (IsLifted s g.0) bytes g.1.answer g.1.told in
       let same : bytes ≡ labels_text s.problem.names w.labels = ap (λ (o : Outcome). o.out) w.written in
-      let few = short n given faultless p.0 s.problem w.labels (r.allowed.are.built.of p.0 p.1) w.is.stable in
-      subst (λ (bs : List ℕ). length bs ≤ solution_limit) (sym same) few
+      fits_solution bytes (labels_text s.problem.names w.labels) same
+      (short n given faultless p.0 s.problem w.labels (r.allowed.are.built.of p.0 p.1) w.is.stable)
 
   folded_short : TextOfGroupsIsShort → QuotientIsQuotient → (number : ℕ) (text bytes : List ℕ) → IsFoldAnswer n number (Some text) (done bytes)
       → length bytes ≤ solution_limit
@@ -101,7 +101,7 @@ module _ (n : Network) (given : ∥ IsGiven n ∥₁) (faultless : IsFaultless n
       (group_names s.problem s.groups are.count are.numbered (of.rules.tables.names ∙ sym are.coarsest.admissible.total) (names_of p.0 s.problem of)) in
       let few = short n given faultless p.0 s.problem s.small s.groups w.lower of are.small_rules (quotient_of n r.class has quotient s are) names
       w.is.stable in
-      subst (λ (bs : List ℕ). length bs ≤ solution_limit) (sym same) few
+      fits_solution bytes (labels_text s.small.names w.lower) same few
 
   rested_short : StableTextIsShort → (number : ℕ) (text bytes : List ℕ) → IsRunAnswer n number (Some text) (done (codes "rest\n" ++ bytes))
       → length bytes ≤ solution_limit
@@ -110,7 +110,7 @@ module _ (n : Network) (given : ∥ IsGiven n ∥₁) (faultless : IsFaultless n
       let p = some_prefix n r.class (has_class n number r.class r.class_is) in
       let P = r.allowed.problem in
       let a = are_rested P bytes text r.allowed.ran in
-      subst (λ (bs : List ℕ). length bs ≤ solution_limit) (sym a.is) (short n given faultless p.0 P a.labels (r.allowed.of_class p.0 p.1) a.stable)
+      fits_solution bytes (labels_text P.names a.labels) a.is (short n given faultless p.0 P a.labels (r.allowed.of_class p.0 p.1) a.stable)
 
   reached_short : (number : ℕ) (text bytes : List ℕ) → IsReachAnswer n number (Some text) (done bytes) → length bytes ≤ schedule_limit
   reached_short number text bytes answer =

@@ -10,7 +10,7 @@ use Rattle.srp_core.specs.declared.route.Route.{Route}
 use Rattle.srp_core.specs.Problem.{Problem, count}
 use Rattle.srp_core.specs.Stability.{IsStable}
 use Rattle.srp_core.proofs.AlikeOf.{one_problem as problems_alike}
-use Rattle.solution_length.specs.Laws.{StableTextIsShort}
+use Rattle.solution_length.specs.Laws.{most_bytes, StableTextIsShort}
 use Rattle.solution_round_trip.specs.Laws.{AreNames, PrintedIsReadBack, StableIsInRange}
 use Rattle.solution_text.specs.Printed.{labels_text}
 use Rattle.solution_text.specs.Solutions.{labels_of_text}
@@ -76,6 +76,10 @@ module _ (P : Problem) (written : List ℕ) where
   are_rested schedule (inl long) = absurd (not_refused (rested written) long_schedule long.1)
   are_rested schedule (inr is) = of_schedule (schedule_of_text P.names schedule) is.1
 
+-- what is printed of stable labels is no longer than a solution may be
+pub fits_solution : (written printed : List ℕ) → written ≡ printed → length printed ≤ most_bytes → length written ≤ solution_limit
+fits_solution written printed same few = subst (λ (bytes : List ℕ). length bytes ≤ solution_limit) (sym same) (omega (arith, few))
+
 pub what_rests_is_stable : WhatIsReadIsWell → GivenIsWellFormed → PrintedIsReadBack → StableIsInRange → StableTextIsShort → WhatRestsIsStable
 what_rests_is_stable well formed printed range few contents F S T text schedule written N small holds told x kept checked y =
     let d = done_reading (run F N T) contents (command.Run N) refl (names_run F T N small) text holds (rested written) x in
@@ -97,7 +101,7 @@ what_rests_is_stable well formed printed range few contents F S T text schedule 
     } in
     let a = are_rested P written schedule r.allowed.ran in
     let in_range = range n ∣ (text, read.given) ∣₁ p.0 P a.labels own a.stable in
-    let short : length written ≤ solution_limit = subst (λ (bs : List ℕ). length bs ≤ solution_limit) (sym a.is) (few n ∣ (text, read.given) ∣₁ read.faultless p.0 P a.labels own a.stable) in
+    let short = fits_solution written (labels_text P.names a.labels) a.is (few n ∣ (text, read.given) ∣₁ read.faultless p.0 P a.labels own a.stable) in
     let as_many = a.stable.fitting.total ∙ sym own.rules.tables.names in
     let reads = ap (labels_of_text P.protocol P.names) a.is ∙ printed P.protocol P.names a.labels names as_many in_range in
     text_told_stable P k.problem alike own.rules a.labels a.stable written checked short reads k.judgement

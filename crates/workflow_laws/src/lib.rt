@@ -198,7 +198,8 @@ pub fn each_text_is_judged()
     text_fault_decides();
 }
 
-/// Where each class has a problem, all words that are not about certificates have an outcome.
+/// Where each class of the network that they read has a problem, all words but those of `canon`, `certify` and `verify` have
+/// an outcome.
 pub fn there_is_an_outcome()
     ensures { ThereIsAnOutcome }
 {
