@@ -96,13 +96,13 @@ def second_directory(folder: Path) -> End:
 
 
 def growing(folder: Path) -> End:
-    """F gets more comments for as long as it is read, at most 8 MiB of them."""
+    """F gets more comments for as long as it is read, at most 4 MiB of them, so that it stays within the limit of lines."""
     file, stop = folder / "growing.cfg", threading.Event()
     file.write_bytes(Path(FABRIC).read_bytes())
 
     def grow() -> None:
         with file.open("ab", buffering=0) as more:
-            for _ in range(1 << 13):
+            for _ in range(1 << 12):
                 if stop.is_set():
                     break
                 more.write(b"! more\n" * 146 + b"!\n")

@@ -18,9 +18,12 @@ def _of_named(whole: problem.Problem, result: tuple[int, frozenset[int], int] | 
 
 
 def refusals(whole: problem.Problem) -> list[str]:
-    """The refusals of which one must come: of the first link with an edge that has no canonical lists, each such edge. So few communities are judged that no list is too long."""
+    """The refusal that must come, if one must: of the first edge that has no canonical lists, by importer, exporter and link. So few communities are judged that no list is too long."""
     without = [edge for edge in whole.edges if looks_at_others(whole, edge.act)]
-    return [f"refused: NoCanon {whole.names[edge.importer]} {whole.names[edge.exporter]}" for edge in without if edge.link == without[0].link]
+    if not without:
+        return []
+    first = min(without, key=lambda edge: (edge.importer, edge.exporter, edge.link))
+    return [f"refused: NoCanon {whole.names[first.importer]} {whole.names[first.exporter]}"]
 
 
 def canon_fault(net: problem.Network, number: int, text: bytes) -> str | None:
