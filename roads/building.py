@@ -1,7 +1,8 @@
 """`./build`: proves the program with the crates below it, installs it, and packages it.
 
-The proofs are those of `rt ci`, over a copy of the crates below the program, without their must-fail edits. `rt ci` proves from
-nothing each time, so `--gate` runs it over the repository as it stands, with all crates and edits, and keeps the program of that run.
+The proofs are those of `rt ci`, over a copy of the crates below the program, without their must-fail edits. `--gate` runs it over the
+repository as it stands, with all crates and edits, and keeps the program of that run. `rt` keeps what it proved beside the kit, by the
+checksums of all that a proof reads, so an interrupted run goes on with the crates that are left.
 """
 from __future__ import annotations
 
@@ -145,7 +146,7 @@ def build() -> None:
         # (a checkout can write the same sources anew)
         os.utime(PROGRAM)
         return
-    print(f"build: proving {len(sources.crates)} crates from nothing; an interrupted build begins anew", file=sys.stderr)
+    print(f"build: proving {len(sources.crates)} crates; those that rt has proved on this machine as they stand count as proved", file=sys.stderr)
     with tempfile.TemporaryDirectory(prefix="bonsai-build-") as folder:
         room = Path(folder).resolve() / "repository"
         copy_crates(sources.crates, room)

@@ -3,7 +3,7 @@
 ghost use Rattle.std.specs.Prelude.{◌≡◌, ◌≢◌, ◌<◌, ◌≤◌, ◌^◌, All, IfOk, MatchBool, MatchOption, OnErr, length};
 ghost use Rattle.route_run.specs.Activations.{IsFirstMoving, activated, labels_after, no_labels};
 ghost use Rattle.route_run.specs.Orders.{IsOrderOf, IsSolutionLike};
-ghost use Rattle.route_run.specs.Schedules.{Reads, run_of, schedule_of_text};
+ghost use Rattle.route_run.specs.Schedules.{ReadsSchedule, run_of, schedule_of_text};
 ghost use Rattle.srp_core.specs.Problem.{count};
 ghost use Rattle.srp_core.specs.Stability.{AreLabels, IsStable};
 
@@ -22,7 +22,7 @@ pub fn schedule_in(
 ) -> Result<List<Activation>, ScheduleRefusal>
     requires short { length bytes.now ≤ 16777216 }
     requires few { length names.now < 2 ^ 32 }
-    ensures { Reads result (schedule_of_text names.now bytes.now) }
+    ensures { ReadsSchedule result (schedule_of_text names.now bytes.now) }
 {
     read_schedule(alloc, bytes, names)
 }

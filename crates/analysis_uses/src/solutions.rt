@@ -6,7 +6,7 @@ ghost use Rattle.base_kit.specs.Names.{AreApart};
 ghost use Rattle.base_kit.specs.Partition.{IsNumbered};
 ghost use Rattle.solution_check.specs.Breaks.{Judges};
 ghost use Rattle.solution_lift.specs.Carried.{IsFolding, IsLifting};
-ghost use Rattle.solution_text.specs.Answers.{Reads};
+ghost use Rattle.solution_text.specs.Answers.{ReadsSolution};
 ghost use Rattle.solution_text.specs.Printed.{labels_text};
 ghost use Rattle.solution_text.specs.Solutions.{labels_of_text};
 ghost use Rattle.srp_core.specs.Quotient.{IsAdmissible};
@@ -32,7 +32,7 @@ pub fn labels_in(
     requires short { length bytes.now ≤ 268435456 }
     requires few { length names.now < 2 ^ 32 }
     requires names { AreApart names.now }
-    ensures { Reads result (labels_of_text protocol names.now bytes.now) }
+    ensures { ReadsSolution result (labels_of_text protocol names.now bytes.now) }
 {
     read_labels(alloc, bytes, protocol, names)
 }

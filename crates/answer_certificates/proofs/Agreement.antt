@@ -18,7 +18,7 @@ use Rattle.cut_certificate.specs.Printed.{certificate_text}
 use Rattle.cut_certificate.specs.Texts.{certificate_of_text}
 use Rattle.cut_certificate.proofs.AcceptedTexts.{text_is_accepted}
 use Rattle.cut_certificate.proofs.Reached.{accepted_is_coarsest}
-use Rattle.certificate_round_trip.specs.Laws.{PrintedIsReadBack, PrintedIsShort}
+use Rattle.certificate_round_trip.specs.Laws.{PrintedCertificateIsReadBack, PrintedCertificateIsShort}
 use Rattle.answer_kit.specs.declared.status.Status.TheVariants.{Done, Refused}
 use Rattle.answer_kit.specs.ClassNumbers.{class_at, no_class, IsOfClass}
 use Rattle.answer_kit.specs.Outcome.{Outcome, done, refused}
@@ -37,7 +37,7 @@ out_of bytes other same = ap (λ (o : Outcome). o.out) same
 
 -- ---- what is certified
 
-certified_class : (n : Network) → ∥ IsGiven n ∥₁ → IsFaultless n → FewLinks → GivenIsWellFormed → PrintedIsReadBack → PrintedIsShort → (class : DestClass) → Contains (classes_of n) class → (bytes : List ℕ) → IsCertifyOf n class (done bytes) → IsVerifyOf n (Some bytes) class (done (codes "yes\n"))
+certified_class : (n : Network) → ∥ IsGiven n ∥₁ → IsFaultless n → FewLinks → GivenIsWellFormed → PrintedCertificateIsReadBack → PrintedCertificateIsShort → (class : DestClass) → Contains (classes_of n) class → (bytes : List ℕ) → IsCertifyOf n class (done bytes) → IsVerifyOf n (Some bytes) class (done (codes "yes\n"))
 certified_class n given faultless links formed back short class has bytes x =
     let is = out_of bytes (certificate_text x.graph.edges x.problem.names x.certificate) x.told in
     let can = can_be_named n (formed n given) faultless links class has x.problem x.graph x.are in
@@ -51,7 +51,7 @@ certified_class n given faultless links formed back short class has bytes x =
       verdict = inr (small, subst (λ (r : Result Certificate CutRefusal). IsVerdict r (done (codes "yes\n"))) (sym read) refl);
     }
 
-pub certified_is_verified : (n : Network) → ∥ IsGiven n ∥₁ → IsFaultless n → FewLinks → GivenIsWellFormed → PrintedIsReadBack → PrintedIsShort → (number : ℕ) (bytes : List ℕ) (class : Option DestClass) → class_at (classes_of n) number ≡ class
+pub certified_is_verified : (n : Network) → ∥ IsGiven n ∥₁ → IsFaultless n → FewLinks → GivenIsWellFormed → PrintedCertificateIsReadBack → PrintedCertificateIsShort → (number : ℕ) (bytes : List ℕ) (class : Option DestClass) → class_at (classes_of n) number ≡ class
     → IsOfClass class number (IsCertifyOf n) (done bytes) → IsOfClass class number (IsVerifyOf n (Some bytes)) (done (codes "yes\n"))
 certified_is_verified n given faultless links formed back short number bytes None at is = absurd (not_refused bytes (no_class number) is)
 certified_is_verified n given faultless links formed back short number bytes (Some class) at is =

@@ -1,6 +1,6 @@
 //! Laws of answers. The functions do nothing: their contracts are the laws.
 
-ghost use Rattle.answer_certificates.specs.Agreement.{WhatIsCertifiedIsVerified, WhatIsVerifiedNamesTheGroups};
+ghost use Rattle.answer_certificates.specs.Agreement.{VerifiesWhatIsCertified, VerifiedNamesTheGroups};
 ghost use Rattle.answer_certificates.specs.OneAnswer.{VerifyAnswerIsOne};
 
 use certificate_round_trip::{printed_is_read_back, printed_is_short};
@@ -19,7 +19,7 @@ pub fn verify_answer_is_one()
 
 /// `verify` says yes to what `certify` writes of a network that a text gives and in which no fault stands.
 pub fn what_is_certified_is_verified()
-    ensures { WhatIsCertifiedIsVerified }
+    ensures { VerifiesWhatIsCertified }
 {
     few_links();
     given_is_well_formed();
@@ -29,5 +29,5 @@ pub fn what_is_certified_is_verified()
 
 /// A text to which `verify` says yes names the groups of the class, the coarsest admissible partition.
 pub fn what_is_verified_names_the_groups()
-    ensures { WhatIsVerifiedNamesTheGroups }
+    ensures { VerifiedNamesTheGroups }
 {}

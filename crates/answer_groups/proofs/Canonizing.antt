@@ -9,12 +9,11 @@ use Rattle.base_kit.specs.Prefixes.{Prefix}
 use Rattle.cfg_ast.specs.declared.network.Network.{Network}
 use Rattle.cfg_ast.specs.declared.classes.DestClass.{DestClass}
 use Rattle.cfg_ast.specs.meaning.PolicyFaults.{communities_of}
-use Rattle.canon_policy.specs.CanonicalProblem.{HasPrintableMaps, HasMapsWithin, IsCanonicalProblem, IsFirstWithout, IsCanonicalOr}
+use Rattle.canon_policy.specs.CanonicalProblem.{IsCanonicalProblem, IsFirstWithout, IsCanonicalOr}
 use Rattle.canon_policy.specs.declared.problem.CanonSrpRefusal.{CanonSrpRefusal}
 use Rattle.canon_policy.specs.declared.problem.CanonSrpRefusal.TheVariants.{NoCanon}
 use Rattle.compress_laws.specs.Laws.{FitsClass}
 use Rattle.compress_laws.proofs.Alike.{problem_too}
-use Rattle.config_emit.specs.Laws.{IsPrintableAct, IsActWithin}
 use Rattle.config_emit.specs.Plan.{Plan}
 use Rattle.config_emit.specs.Pool.{pool_line}
 use Rattle.config_emit.specs.declared.emitted.EmitRefusal.{EmitRefusal}
@@ -23,10 +22,9 @@ use Rattle.std.specs.Prelude.{Result}
 use Rattle.driver.specs.Steps.{IsPlanWith, IsEmittedOf}
 use Rattle.driver.proofs.Emitting.{emitted_as}
 use Rattle.srp_build.specs.Built.{IsBuiltFor}
+use Rattle.srp_core.specs.ActMaps.{IsPrintableAct, IsActWithin}
 use Rattle.srp_core.specs.Alike.{ProblemsAlike}
 use Rattle.srp_core.specs.Problem.{Problem, IsProblem}
-use Rattle.srp_core.specs.declared.route.Act.{Act}
-use Rattle.srp_core.specs.declared.route.Act.TheVariants.{Import, Cost}
 use Rattle.answer_kit.specs.Outcome.{Outcome, refused}
 use Rattle.answer_kit.specs.Replies.{Answers, Only}
 use Rattle.answer_kit.specs.declared.reply.Reply.{Reply}
@@ -35,42 +33,20 @@ use Rattle.answer_groups.specs.CanonText.{no_canon, IsCanonicalFor, IsCanonicalP
 use Rattle.answer_groups.specs.Compressing.{IsTextOrRefusal}
 use Rattle.answer_groups.proofs.Compressing.{told_of}
 
--- ---- what is asked of the acts, in the words of two crates
-
-pub printable_maps : (acts : List Act) → AllByRecursion IsPrintableAct acts → AllByRecursion HasPrintableMaps acts
-printable_maps [] all = tt
-printable_maps (Import out sends into ∷ acts) all = (all.0, printable_maps acts all.1)
-printable_maps (Cost cost ∷ acts) all = (tt, printable_maps acts all.1)
-
-pub maps_within : (set : List ℕ) (acts : List Act) → AllByRecursion (IsActWithin set) acts → AllByRecursion (HasMapsWithin set) acts
-maps_within set [] all = tt
-maps_within set (Import out sends into ∷ acts) all = (all.0, maps_within set acts all.1)
-maps_within set (Cost cost ∷ acts) all = (tt, maps_within set acts all.1)
-
-printable_acts : (acts : List Act) → AllByRecursion HasPrintableMaps acts → AllByRecursion IsPrintableAct acts
-printable_acts [] all = tt
-printable_acts (Import out sends into ∷ acts) all = (all.0, printable_acts acts all.1)
-printable_acts (Cost cost ∷ acts) all = (tt, printable_acts acts all.1)
-
-acts_within : (set : List ℕ) (acts : List Act) → AllByRecursion (HasMapsWithin set) acts → AllByRecursion (IsActWithin set) acts
-acts_within set [] all = tt
-acts_within set (Import out sends into ∷ acts) all = (all.0, acts_within set acts all.1)
-acts_within set (Cost cost ∷ acts) all = (tt, acts_within set acts all.1)
-
 -- ---- the canonical problem of a class
 
 pub canonical_for : (n : Network) (class : DestClass) (universe : List ℕ) (original problem : Problem)
     → IsBuiltFor n class original → universe ≡ communities_of n → IsCanonicalProblem universe original problem
-    → IsProblem problem → ProblemsAlike original problem → AllByRecursion HasPrintableMaps problem.acts
-    → AllByRecursion (HasMapsWithin universe) problem.acts → IsCanonicalFor n class problem
+    → IsProblem problem → ProblemsAlike original problem → AllByRecursion IsPrintableAct problem.acts
+    → AllByRecursion (IsActWithin universe) problem.acts → IsCanonicalFor n class problem
 canonical_for n class universe original problem built named canonical rules alike printable within = record {
   original = original;
   built = built;
   canonical = subst (λ (set : List ℕ). IsCanonicalProblem set original problem) named canonical;
   fits = record {
     of = λ p has. problem_too n p original problem (built.of p has) rules alike;
-    printable = printable_acts problem.acts printable;
-    within = acts_within (communities_of n) problem.acts (subst (λ (set : List ℕ). AllByRecursion (HasMapsWithin set) problem.acts) named within);
+    printable = printable;
+    within = subst (λ (set : List ℕ). AllByRecursion (IsActWithin set) problem.acts) named within;
   };
 }
 

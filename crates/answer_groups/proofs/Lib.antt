@@ -1,7 +1,7 @@
 mod CanonLaws
-mod Canonizing
+pub mod Canonizing
 pub mod Compressing
-mod NamedCommunities
+pub mod NamedCommunities
 mod OneAnswer
 mod OneCanon
 mod OneGrouping

@@ -2,13 +2,13 @@
 
 ghost use Rattle.std.specs.Prelude.{◌≡◌, IfOk, IfErr, Contains};
 ghost use Rattle.cfg_ast.specs.meaning.Classes.{classes_of};
-ghost use Rattle.answer_groups.specs.CanonText.{router_name_in, no_canon, IsCanonicalFor, IsWithoutCanon, IsCanonOf};
+ghost use Rattle.answer_groups.specs.CanonText.{no_canon, IsCanonicalFor, IsWithoutCanon, IsCanonOf};
 ghost use Rattle.answer_kit.specs.Outcome.{refused};
 ghost use Rattle.answer_kit.specs.Replies.{Answers, Only};
 ghost use Rattle.driver.specs.Steps.{IsSharedOf};
 
 use crate::emission::told;
-use answer_kit::{Reply, refuse};
+use answer_kit::{Reply, refuse, router_name};
 use base_kit::Edge;
 use canon_policy::{CanonSrpRefusal, canon_srp};
 use cfg_ast::DestClass;
@@ -16,15 +16,6 @@ use cfg_check::Checked;
 use driver::{Shared, emitted_of};
 use srp_core::Srp;
 use std::alloc::Global;
-
-fn router_name(problem: &Srp, router: u32) -> &str
-    ensures { result.now ≡ router_name_in problem.now router }
-{
-    match problem.names().as_slice().get(router as usize) {
-        Some(name) => name.as_str(),
-        None => "",
-    }
-}
 
 // The refusal of a class of whose problem this edge has no canonical lists.
 fn no_canon(alloc: Global, problem: &Srp, edge: &Edge) -> Reply

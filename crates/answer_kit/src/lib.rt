@@ -5,6 +5,7 @@
 
 mod class_numbers;
 mod kinds;
+mod names;
 mod reply;
 mod second;
 mod solution;
@@ -12,6 +13,7 @@ mod status;
 
 pub use class_numbers::class_of_number;
 pub use kinds::name_of_kind;
+pub use names::router_name;
 pub use reply::{Reply, refuse};
 pub use second::read_second;
 pub use solution::solution_of;

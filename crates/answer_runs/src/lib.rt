@@ -5,6 +5,5 @@
 #![tactic(auto)]
 
 pub mod laws;
-mod name;
 pub mod reach;
 pub mod run;

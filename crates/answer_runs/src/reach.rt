@@ -12,8 +12,7 @@ ghost use Rattle.answer_kit.specs.Replies.{Answers};
 ghost use Rattle.answer_kit.specs.SecondFiles.{IsOfSolution};
 ghost use Rattle.answer_runs.specs.Reaches.{name_lines, IsOrderTold, IsReach, IsReachOf};
 
-use crate::name::name_of;
-use answer_kit::{Reply, solution_of};
+use answer_kit::{Reply, router_name, solution_of};
 use answer_solutions::breaks::broken;
 use base_kit::NoMemory;
 use cfg_ast::DestClass;
@@ -32,7 +31,7 @@ fn put_name(text: &mut String, problem: &Srp, activation: Activation) -> Result<
 {
     match activation {
         Activation::One(router) => {
-            let name = name_of(problem, router);
+            let name = router_name(problem, router);
             text.push_str(name)?;
             text.push_str("\n")?;
             Ok(())

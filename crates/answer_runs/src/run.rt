@@ -12,8 +12,7 @@ ghost use Rattle.answer_kit.specs.Replies.{Answers, Only};
 ghost use Rattle.answer_kit.specs.SecondFiles.{IsOfSecond};
 ghost use Rattle.answer_runs.specs.Schedules.{schedule_limit, long_schedule, schedule_reason, rest_line, IsRest, IsOfSchedule, IsRunOf};
 
-use crate::name::name_of;
-use answer_kit::{Reply, read_second, refuse};
+use answer_kit::{Reply, read_second, refuse, router_name};
 use base_kit::{List, NoMemory};
 use cfg_ast::DestClass;
 use cfg_check::Checked;
@@ -34,7 +33,7 @@ fn rest_line(alloc: Global, problem: &Srp, moving: Option<u32>) -> Result<Vec<u8
     match moving {
         None => Vec::from_slice(alloc, b"rest\n"),
         Some(router) => {
-            let name = name_of(problem, router);
+            let name = router_name(problem, router);
             let text = format!(in alloc; "moving {name}\n")?;
             Ok(text.into_bytes())
         }

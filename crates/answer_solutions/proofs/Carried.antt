@@ -1,5 +1,5 @@
 -- From what folding, lifting and the check of labels answer to what is to be told.
-use Rattle.std.proofs.Common.{ℕ, List, refl, Option}
+use Rattle.std.proofs.Common.{◌≡◌, ℕ, List, refl, subst, Option}
 use Rattle.cfg_ast.specs.declared.network.Network.{Network}
 use Rattle.cfg_ast.specs.declared.classes.DestClass.{DestClass}
 use Rattle.srp_core.specs.declared.route.Route.{Route}
@@ -14,8 +14,9 @@ use Rattle.answer_kit.specs.Outcome.{Outcome, done, not_stable}
 use Rattle.answer_kit.specs.Replies.{Answers, Only}
 use Rattle.answer_kit.specs.SecondFiles.{IsOfSolution}
 use Rattle.answer_kit.proofs.Replies.{answers_as, answers_only}
+use Rattle.answer_solutions.specs.declared.carry.Way.{Way}
 use Rattle.answer_solutions.specs.declared.sides.Sides.{Sides}
-use Rattle.answer_solutions.specs.Carries.{AreSides, IsOfStable, IsFolded, IsLifted, IsFoldOfLabels, IsLiftOfLabels, IsFoldOf, IsLiftOf}
+use Rattle.answer_solutions.specs.Carries.{AreSides, carried_from, IsOfStable, IsFolded, IsLifted, IsCarryOfLabels, IsCarryOf}
 use Rattle.answer_solutions.specs.Checks.{break_reason}
 
 pub answers_folded : (reply : Reply) (sides : Sides) (labels lower : List (Option Route)) → IsFolding sides.problem sides.small sides.groups labels lower
@@ -39,10 +40,9 @@ answers_broken reply P labels A router why fitting breaks answers =
 
 -- ---- a class
 
-pub answers_fold_of : (reply : Reply) (n : Network) (class : DestClass) (second : Option (List ℕ)) (rose : Type 0) (s : Sides) → AreSides n class s → Answers reply (IsOfSolution s.problem second (IsFoldOfLabels s)) ⊥ rose → Answers reply (IsFoldOf n second class) ⊥ rose
-answers_fold_of reply n class second rose s are answers =
-    answers_as reply (IsOfSolution s.problem second (IsFoldOfLabels s)) (IsFoldOf n second class) ⊥ ⊥ rose rose (λ o is. record { sides = s; are = are; solution = is }) (λ e. e) (λ r. r) answers
+module _ (way : Way) (n : Network) (class : DestClass) (s : Sides) (are : AreSides n class s) (P : Problem) (from : P ≡ carried_from way s) (second : Option (List ℕ)) where
+  carries : (o : Outcome) → IsOfSolution P second (IsCarryOfLabels way s P) o → IsCarryOf way n second class o
+  carries o is = record { sides = s; are = are; solution = subst (λ (Q : Problem). IsOfSolution Q second (IsCarryOfLabels way s Q) o) from is }
 
-pub answers_lift_of : (reply : Reply) (n : Network) (class : DestClass) (second : Option (List ℕ)) (rose : Type 0) (s : Sides) → AreSides n class s → Answers reply (IsOfSolution s.small second (IsLiftOfLabels s)) ⊥ rose → Answers reply (IsLiftOf n second class) ⊥ rose
-answers_lift_of reply n class second rose s are answers =
-    answers_as reply (IsOfSolution s.small second (IsLiftOfLabels s)) (IsLiftOf n second class) ⊥ ⊥ rose rose (λ o is. record { sides = s; are = are; solution = is }) (λ e. e) (λ r. r) answers
+  pub answers_carry_of : (reply : Reply) (rose : Type 0) → Answers reply (IsOfSolution P second (IsCarryOfLabels way s P)) ⊥ rose → Answers reply (IsCarryOf way n second class) ⊥ rose
+  answers_carry_of reply rose answers = answers_as reply (IsOfSolution P second (IsCarryOfLabels way s P)) (IsCarryOf way n second class) ⊥ ⊥ rose rose carries (λ e. e) (λ r. r) answers

@@ -27,8 +27,10 @@ use Rattle.answer_kit.proofs.NumberedOnce.{one_count_of_groups}
 use Rattle.answer_kit.proofs.OneClass.{some_prefix, one_list_of_groups}
 use Rattle.answer_kit.proofs.OneText.{one_of_solution}
 use Rattle.class_laws.specs.Laws.{BuiltProblemIsOne}
+use Rattle.answer_solutions.specs.declared.carry.Way.{Way}
+use Rattle.answer_solutions.specs.declared.carry.Way.TheVariants.{Fold, Lift}
 use Rattle.answer_solutions.specs.declared.sides.Sides.{Sides}
-use Rattle.answer_solutions.specs.Carries.{AreSides, IsIfStable, IsOfStable, IsFolded, IsLifted, IsFoldOfLabels, IsLiftOfLabels, IsFoldOf, IsLiftOf}
+use Rattle.answer_solutions.specs.Carries.{AreSides, IsIfStable, IsOfStable, IsFolded, IsLifted, carried_from, IsCarriedBy, IsCarryOfLabels, IsCarryOf, IsFoldOf, IsLiftOf}
 
 -- ---- a class has one problem, one list of groups and one problem of the groups
 
@@ -70,28 +72,31 @@ module _ (n : Network) (class : DestClass) (has : Contains (classes_of n) class)
   pub quotient_of : (s : Sides) → AreSides n class s → IsQuotient s.problem s.groups s.small
   quotient_of s are = subst (IsQuotient s.problem s.groups) (sym are.small_is) (quotient s.problem s.groups are.count (rules_of s are) are.coarsest.admissible are.numbered)
 
-  one_fold_of_labels : FoldingIsOne → (s : Sides) → AreSides n class s → (labels : List (Option Route)) (o p : Outcome) → IsFoldOfLabels s labels o → IsFoldOfLabels s labels p → o ≡ p
-  one_fold_of_labels one s are labels =
-      one_of_stable s.problem labels (IsFolded s labels)
-      (λ stable o p x y. x.written ∙ ap (λ (ls : List (Option Route)). done (labels_text s.small.names ls)) (one s.problem s.small s.groups labels (rules_of s are) are.small_rules are.coarsest.admissible (quotient_of s are) stable x.lower y.lower x.is y.is) ∙ sym y.written)
-      (rules_of s are)
+  -- the problem from which labels are carried keeps its rules
+  carried_rules : (way : Way) (s : Sides) → AreSides n class s → IsProblem (carried_from way s)
+  carried_rules Fold s are = rules_of s are
+  carried_rules Lift s are = are.small_rules
 
-  one_lift_of_labels : LiftingIsOne → (s : Sides) → AreSides n class s → (lower : List (Option Route)) (o p : Outcome) → IsLiftOfLabels s lower o → IsLiftOfLabels s lower p → o ≡ p
-  one_lift_of_labels one s are lower =
-      one_of_stable s.small lower (IsLifted s lower)
-      (λ stable o p x y. x.written ∙ ap (λ (ls : List (Option Route)). done (labels_text s.problem.names ls)) (one s.problem s.small s.groups lower (rules_of s are) are.small_rules are.coarsest.admissible (quotient_of s are) stable x.labels y.labels x.is y.is) ∙ sym y.written)
-      are.small_rules
+  -- one way of stable labels gives one outcome
+  module _ (built : BuiltProblemIsOne) (way : Way) (one : (s : Sides) → AreSides n class s → (labels : List (Option Route)) → IsStable (carried_from way s) labels → (o p : Outcome) → IsCarriedBy way s labels o → IsCarriedBy way s labels p → o ≡ p) where
+    one_carry : (second : Option (List ℕ)) → IsSome second → (o p : Outcome) → IsCarryOf way n second class o → IsCarryOf way n second class p → o ≡ p
+    one_carry second told o p x y =
+        let s = x.sides in
+        let P = carried_from way s in
+        let same = one_sides n class has built x.sides y.sides x.are y.are in
+        let other = subst (λ (t : Sides). IsOfSolution (carried_from way t) second (IsCarryOfLabels way t (carried_from way t)) p) (sym same) y.solution in
+        one_of_solution P P refl refl (IsCarryOfLabels way s P) (IsCarryOfLabels way s P) (λ labels. one_of_stable P labels (IsCarriedBy way s labels) (one s x.are labels) (carried_rules way s x.are)) second told o p x.solution other
+
+  one_folded : FoldingIsOne → (s : Sides) → AreSides n class s → (labels : List (Option Route)) → IsStable s.problem labels → (o p : Outcome) → IsFolded s labels o → IsFolded s labels p → o ≡ p
+  one_folded one s are labels stable o p x y =
+      x.written ∙ ap (λ (ls : List (Option Route)). done (labels_text s.small.names ls)) (one s.problem s.small s.groups labels (rules_of s are) are.small_rules are.coarsest.admissible (quotient_of s are) stable x.lower y.lower x.is y.is) ∙ sym y.written
+
+  one_lifted : LiftingIsOne → (s : Sides) → AreSides n class s → (lower : List (Option Route)) → IsStable s.small lower → (o p : Outcome) → IsLifted s lower o → IsLifted s lower p → o ≡ p
+  one_lifted one s are lower stable o p x y =
+      x.written ∙ ap (λ (ls : List (Option Route)). done (labels_text s.problem.names ls)) (one s.problem s.small s.groups lower (rules_of s are) are.small_rules are.coarsest.admissible (quotient_of s are) stable x.labels y.labels x.is y.is) ∙ sym y.written
 
   pub one_fold : BuiltProblemIsOne → FoldingIsOne → (second : Option (List ℕ)) → IsSome second → (o p : Outcome) → IsFoldOf n second class o → IsFoldOf n second class p → o ≡ p
-  one_fold built one second told o p x y =
-      let s = x.sides in
-      let same = one_sides n class has built x.sides y.sides x.are y.are in
-      let other = subst (λ (t : Sides). IsOfSolution t.problem second (IsFoldOfLabels t) p) (sym same) y.solution in
-      one_of_solution s.problem s.problem refl refl (IsFoldOfLabels s) (IsFoldOfLabels s) (one_fold_of_labels one s x.are) second told o p x.solution other
+  one_fold built one = one_carry built Fold (one_folded one)
 
   pub one_lift : BuiltProblemIsOne → LiftingIsOne → (second : Option (List ℕ)) → IsSome second → (o p : Outcome) → IsLiftOf n second class o → IsLiftOf n second class p → o ≡ p
-  one_lift built one second told o p x y =
-      let s = x.sides in
-      let same = one_sides n class has built x.sides y.sides x.are y.are in
-      let other = subst (λ (t : Sides). IsOfSolution t.small second (IsLiftOfLabels t) p) (sym same) y.solution in
-      one_of_solution s.small s.small refl refl (IsLiftOfLabels s) (IsLiftOfLabels s) (one_lift_of_labels one s x.are) second told o p x.solution other
+  one_lift built one = one_carry built Lift (one_lifted one)

@@ -19,7 +19,7 @@ use Rattle.srp_quotient.specs.Laws.{QuotientIsQuotient}
 use Rattle.solution_check.specs.declared.judgement.Answer.{Answer}
 use Rattle.solution_check.specs.declared.judgement.Answer.TheVariants.{Stable, Not}
 use Rattle.solution_check.specs.Breaks.{Judges}
-use Rattle.solution_round_trip.specs.Laws.{AreNames, IsLabelInRange, PrintedIsReadBack, StableIsInRange, StableOfGroupsIsInRange}
+use Rattle.solution_round_trip.specs.Laws.{AreNames, IsLabelInRange, PrintedSolutionIsReadBack, StableIsInRange, StableOfGroupsIsInRange}
 use Rattle.solution_text.specs.declared.refusal.SolRefusal.{SolRefusal}
 use Rattle.solution_text.specs.declared.refusal.SolRefusal.TheVariants as sol_refusal
 use Rattle.solution_text.specs.Printed.{labels_text}
@@ -72,12 +72,12 @@ stable_labels : (P : Problem) (labels : List (Option Route)) (A : Outcome → Ty
 stable_labels P labels A bytes is = if_stable P labels A bytes is.answer is.judged is.told
 
 -- printed labels are read
-read_again : (P : Problem) (labels : List (Option Route)) (bytes : List ℕ) → PrintedIsReadBack → IsProblem P → AreNames P.names → IsStable P labels → AllByRecursion (IsLabelInRange P.protocol) labels → bytes ≡ labels_text P.names labels
+read_again : (P : Problem) (labels : List (Option Route)) (bytes : List ℕ) → PrintedSolutionIsReadBack → IsProblem P → AreNames P.names → IsStable P labels → AllByRecursion (IsLabelInRange P.protocol) labels → bytes ≡ labels_text P.names labels
     → labels_of_text P.protocol P.names bytes ≡ Ok labels
 read_again P labels bytes law rules names stable range is =
     ap (labels_of_text P.protocol P.names) is ∙ law P.protocol P.names labels names (stable.fitting.total ∙ sym rules.tables.names) range
 
-module _ (n : Network) (given : ∥ IsGiven n ∥₁) (faultless : IsFaultless n) (quotient : QuotientIsQuotient) (formed : GivenIsWellFormed) (printed : PrintedIsReadBack) (class : DestClass) (has : Contains (classes_of n) class) (s : Sides) (are : AreSides n class s) where
+module _ (n : Network) (given : ∥ IsGiven n ∥₁) (faultless : IsFaultless n) (quotient : QuotientIsQuotient) (formed : GivenIsWellFormed) (printed : PrintedSolutionIsReadBack) (class : DestClass) (has : Contains (classes_of n) class) (s : Sides) (are : AreSides n class s) where
   prefix : (p : Prefix) × Contains class.prefixes p
   prefix = some_prefix n class has
 
@@ -139,7 +139,7 @@ module _ (n : Network) (given : ∥ IsGiven n ∥₁) (faultless : IsFaultless n
         correspond = z.1.is.corresponds;
       }
 
-module _ (n : Network) (given : ∥ IsGiven n ∥₁) (faultless : IsFaultless n) (quotient : QuotientIsQuotient) (formed : GivenIsWellFormed) (printed : PrintedIsReadBack) (number : ℕ) (text bytes : List ℕ) where
+module _ (n : Network) (given : ∥ IsGiven n ∥₁) (faultless : IsFaultless n) (quotient : QuotientIsQuotient) (formed : GivenIsWellFormed) (printed : PrintedSolutionIsReadBack) (number : ℕ) (text bytes : List ℕ) where
   pub fold_read : StableOfGroupsIsInRange → (class : Option DestClass) → class_at (classes_of n) number ≡ class → IsOfClass class number (IsFoldOf n (Some text)) (done bytes) → IsReadAsFold n number text bytes
   fold_read range None at is = absurd (not_refused bytes (no_class number) is)
   fold_read range (Some class) at is =

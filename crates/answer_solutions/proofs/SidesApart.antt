@@ -9,8 +9,10 @@ use Rattle.srp_core.specs.Problem.{Problem}
 use Rattle.base_kit.specs.Names.{AreApart}
 use Rattle.answer_kit.proofs.NamesApart.{problem_apart}
 use Rattle.answer_kit.proofs.OneClass.{some_prefix}
+use Rattle.answer_solutions.specs.declared.carry.Way.{Way}
+use Rattle.answer_solutions.specs.declared.carry.Way.TheVariants.{Fold, Lift}
 use Rattle.answer_solutions.specs.declared.sides.Sides.{Sides}
-use Rattle.answer_solutions.specs.Carries.{AreSides}
+use Rattle.answer_solutions.specs.Carries.{AreSides, carried_from}
 use Rattle.answer_solutions.proofs.GroupNames.{group_names_apart}
 
 module _ (n : Network) (faultless : IsFaultless n) (class : DestClass) (has : Contains (classes_of n) class) (s : Sides) (are : AreSides n class s) where
@@ -23,3 +25,7 @@ module _ (n : Network) (faultless : IsFaultless n) (class : DestClass) (has : Co
 
   pub groups_apart : AreApart s.small.names
   groups_apart = subst (λ (P : Problem). AreApart P.names) (sym are.small_is) (group_names_apart s.problem s.groups are.count are.numbered named routers_apart)
+
+  pub carried_apart : (way : Way) → AreApart (carried_from way s).names
+  carried_apart Fold = routers_apart
+  carried_apart Lift = groups_apart

@@ -19,6 +19,8 @@ use Rattle.solution_text.specs.Printed.{labels_text}
 use Rattle.answer_kit.specs.Outcome.{Outcome, done, not_stable}
 use Rattle.answer_kit.specs.ClassNumbers.{class_at, IsOfClass}
 use Rattle.answer_kit.specs.SecondFiles.{IsOfSolution}
+use Rattle.answer_solutions.specs.declared.carry.Way.{Way}
+use Rattle.answer_solutions.specs.declared.carry.Way.TheVariants.{Fold, Lift}
 use Rattle.answer_solutions.specs.declared.sides.Sides.{Sides}
 use Rattle.answer_solutions.specs.Checks.{break_reason}
 
@@ -54,23 +56,37 @@ pub record IsLifted (sides : Sides) (lower : List (Option Route)) (o : Outcome) 
   pub is : IsLifting sides.problem sides.small sides.groups lower labels
   pub written : o ≡ done (labels_text sides.problem.names labels)
 
+-- the problem from which labels are carried
+abbrev pub carried_from : Way → Sides → Problem
+carried_from Fold sides = sides.problem
+carried_from Lift sides = sides.small
+
+-- the labels of the other problem
+abbrev pub IsCarriedBy : Way → Sides → List (Option Route) → Outcome → Type 0
+IsCarriedBy Fold = IsFolded
+IsCarriedBy Lift = IsLifted
+
+abbrev pub IsCarryOfLabels : Way → Sides → Problem → List (Option Route) → Outcome → Type 0
+IsCarryOfLabels way sides problem labels = IsOfStable problem labels (IsCarriedBy way sides labels)
+
+-- what is to be written of a class: the solution has the names of the problem from which labels are carried
+pub record IsCarryOf (way : Way) (network : Network) (second : Option (List ℕ)) (class : DestClass) (o : Outcome) : Type 0 where
+  pub sides : Sides
+  pub are : AreSides network class sides
+  pub solution : IsOfSolution (carried_from way sides) second (IsCarryOfLabels way sides (carried_from way sides)) o
+
+-- `fold` carries labels of the routers, and `lift` those of the groups
 abbrev pub IsFoldOfLabels : Sides → List (Option Route) → Outcome → Type 0
-IsFoldOfLabels sides labels = IsOfStable sides.problem labels (IsFolded sides labels)
+IsFoldOfLabels sides = IsCarryOfLabels Fold sides sides.problem
 
 abbrev pub IsLiftOfLabels : Sides → List (Option Route) → Outcome → Type 0
-IsLiftOfLabels sides lower = IsOfStable sides.small lower (IsLifted sides lower)
+IsLiftOfLabels sides = IsCarryOfLabels Lift sides sides.small
 
--- what `fold` is to write of a class: the solution has the names of the routers
-pub record IsFoldOf (network : Network) (second : Option (List ℕ)) (class : DestClass) (o : Outcome) : Type 0 where
-  pub sides : Sides
-  pub are : AreSides network class sides
-  pub solution : IsOfSolution sides.problem second (IsFoldOfLabels sides) o
+abbrev pub IsFoldOf : Network → Option (List ℕ) → DestClass → Outcome → Type 0
+IsFoldOf = IsCarryOf Fold
 
--- what `lift` is to write of a class: the solution has the names of the groups
-pub record IsLiftOf (network : Network) (second : Option (List ℕ)) (class : DestClass) (o : Outcome) : Type 0 where
-  pub sides : Sides
-  pub are : AreSides network class sides
-  pub solution : IsOfSolution sides.small second (IsLiftOfLabels sides) o
+abbrev pub IsLiftOf : Network → Option (List ℕ) → DestClass → Outcome → Type 0
+IsLiftOf = IsCarryOf Lift
 
 -- what `fold` and `lift` are to write of a network and the number of a class
 abbrev pub IsFoldAnswer : Network → ℕ → Option (List ℕ) → Outcome → Type 0

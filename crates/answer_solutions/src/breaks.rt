@@ -5,7 +5,7 @@ ghost use Rattle.answer_kit.specs.Outcome.{not_stable};
 ghost use Rattle.answer_kit.specs.Replies.{Answers, Only};
 ghost use Rattle.answer_solutions.specs.Checks.{name_of_break, break_reason};
 
-use answer_kit::Reply;
+use answer_kit::{Reply, router_name};
 use srp_core::Srp;
 use std::alloc::{AllocError, Global};
 
@@ -26,10 +26,7 @@ fn name_of_break(why: u8) -> &'static str
 fn break_reason(alloc: Global, problem: &Srp, router: u32, why: u8) -> Result<Vec<u8>, AllocError>
     ensures { IfOk result (λ bytes. bytes.items ≡ break_reason problem.now router why) }
 {
-    let name = match problem.names().as_slice().get(router as usize) {
-        Some(name) => name.as_str(),
-        None => "",
-    };
+    let name = router_name(problem, router);
     let reason = name_of_break(why);
     let text = format!(in alloc; "{name} {reason}")?;
     Ok(text.into_bytes())

@@ -7,9 +7,8 @@
 #![tactic(auto)]
 
 pub mod breaks;
+pub mod carry;
 pub mod check;
-pub mod fold;
 pub mod laws;
-pub mod lift;
 mod printing;
 mod sides;

@@ -5,8 +5,8 @@ use Rattle.std.specs.declared.alloc.Global.{Global}
 use Rattle.base_kit.specs.Numbers.{number_of}
 
 -- the words as bytes
-abbrev pub words_of : List (String Global) → List (List ℕ)
-words_of words = map string_bytes words
+abbrev pub bytes_of_words : List (String Global) → List (List ℕ)
+bytes_of_words words = map string_bytes words
 
 abbrev pub short : ℕ → Option ℕ
 short n = if nat_le n 999999999 then Some n else None

@@ -1,7 +1,7 @@
 //! The words of a call, and the command that they name.
 
 ghost use Rattle.std.specs.Prelude.{◌≡◌};
-ghost use Rattle.bonsai_top.specs.Words.{words_of, short_number_of, file_of, second_of};
+ghost use Rattle.bonsai_top.specs.Words.{bytes_of_words, short_number_of, file_of, second_of};
 ghost use Rattle.bonsai_top.specs.Commands.{network_command, class_command, second_command, command_on_word, command_on_class, command_on_second, command_of};
 
 use base_kit::read_number;
@@ -149,7 +149,7 @@ fn on_second(name: &str, class: &str) -> Option<Command>
 /// The command that the words name.
 #[tactic(auto, unfolding(crate::specs::Commands::command_of))]
 pub fn read_words(words: &[String]) -> Option<Command>
-    ensures { result ≡ command_of (words_of words.now) }
+    ensures { result ≡ command_of (bytes_of_words words.now) }
 {
     match words {
         [name, word] => on_word(name.as_str(), word.as_str()),
@@ -161,7 +161,7 @@ pub fn read_words(words: &[String]) -> Option<Command>
 
 /// The file that the words name first.
 pub fn file_word(words: &[String]) -> &str
-    ensures { result.now ≡ file_of (words_of words.now) }
+    ensures { result.now ≡ file_of (bytes_of_words words.now) }
 {
     match words {
         [_, file, ..] => file.as_str(),
@@ -171,7 +171,7 @@ pub fn file_word(words: &[String]) -> &str
 
 /// The file that the words name behind the number.
 pub fn second_word(words: &[String]) -> &str
-    ensures { result.now ≡ second_of (words_of words.now) }
+    ensures { result.now ≡ second_of (bytes_of_words words.now) }
 {
     match words {
         [_, _, _, second, ..] => second.as_str(),

@@ -2,7 +2,7 @@
 
 ghost use Rattle.std.specs.Prelude.{◌≡◌, ◌≤◌, ◌⊎◌, ℕ, List, Some, None, IsSome, false};
 ghost use Rattle.io_kit.specs.Ends.{Rose};
-ghost use Rattle.bonsai_top.specs.Words.{words_of, file_of, second_of};
+ghost use Rattle.bonsai_top.specs.Words.{bytes_of_words, file_of, second_of};
 ghost use Rattle.bonsai_top.specs.Commands.{command_of, is_read, reads_first, FirstRose, SecondRose};
 ghost use Rattle.bonsai_top.specs.Outcomes.{IsOutcome};
 ghost use Rattle.bonsai_top.specs.Meets.{RunMeets};
@@ -29,33 +29,33 @@ pub fn run<S: Source, O: Sink, E: Sink>(
 ) -> Status
     // An outcome that the words allow over the contents is told, as far as these are told, or a fault
     // that has its cause, or want of memory.
-    ensures meets { RunMeets (IsOutcome (words_of words.now) (S.contents files.old)) (file_of (words_of words.now)) (second_of (words_of words.now))
-        (FirstRose (command_of (words_of words.now)) (S.faults files.old (file_of (words_of words.now))) (S.faults files.new (file_of (words_of words.now))))
-        (SecondRose (command_of (words_of words.now)) (S.faults files.old (second_of (words_of words.now))) (S.faults files.new (second_of (words_of words.now)))) result
+    ensures meets { RunMeets (IsOutcome (bytes_of_words words.now) (S.contents files.old)) (file_of (bytes_of_words words.now)) (second_of (bytes_of_words words.now))
+        (FirstRose (command_of (bytes_of_words words.now)) (S.faults files.old (file_of (bytes_of_words words.now))) (S.faults files.new (file_of (bytes_of_words words.now))))
+        (SecondRose (command_of (bytes_of_words words.now)) (S.faults files.old (second_of (bytes_of_words words.now))) (S.faults files.new (second_of (bytes_of_words words.now)))) result
         (O.taken out.old) (O.taken out.new) (O.faults out.old) (O.faults out.new) (E.taken err.old) (E.taken err.new) (E.faults err.old) (E.faults err.new) }
 
     // Words that name no command, and these alone, are misuse. Where they name none, or one that reads no
     // file, no file is touched.
-    ensures usage { command_of (words_of words.now) ≡ None → (result ≡ Status.Usage) ⊎ (result ≡ Status.WriteFault) }
-    ensures usage_only { result ≡ Status.Usage → command_of (words_of words.now) ≡ None }
-    ensures unread { is_read reads_first (command_of (words_of words.now)) ≡ false → files.new ≡ files.old }
+    ensures usage { command_of (bytes_of_words words.now) ≡ None → (result ≡ Status.Usage) ⊎ (result ≡ Status.WriteFault) }
+    ensures usage_only { result ≡ Status.Usage → command_of (bytes_of_words words.now) ≡ None }
+    ensures unread { is_read reads_first (command_of (bytes_of_words words.now)) ≡ false → files.new ≡ files.old }
 
     // The headline: where `compress` is done over a file that is told, what was written is read as the
     // compressed network.
-    ensures headline { result ≡ Status.Done → (number : ℕ) → command_of (words_of words.now) ≡ Some (command.OnClass on_class.Compress number) → (text before : List ℕ)
-        → S.contents files.old (file_of (words_of words.now)) ≡ Some text → O.taken out.old ≡ Some before → IsHeadline text number before (O.taken out.new) }
+    ensures headline { result ≡ Status.Done → (number : ℕ) → command_of (bytes_of_words words.now) ≡ Some (command.OnClass on_class.Compress number) → (text before : List ℕ)
+        → S.contents files.old (file_of (bytes_of_words words.now)) ≡ Some text → O.taken out.old ≡ Some before → IsHeadline text number before (O.taken out.new) }
 
     // And so it is where `canon` is done.
-    ensures canonical { result ≡ Status.Done → (number : ℕ) → command_of (words_of words.now) ≡ Some (command.OnClass on_class.Canon number) → (text before : List ℕ)
-        → S.contents files.old (file_of (words_of words.now)) ≡ Some text → O.taken out.old ≡ Some before → IsHeadline text number before (O.taken out.new) }
+    ensures canonical { result ≡ Status.Done → (number : ℕ) → command_of (bytes_of_words words.now) ≡ Some (command.OnClass on_class.Canon number) → (text before : List ℕ)
+        → S.contents files.old (file_of (bytes_of_words words.now)) ≡ Some text → O.taken out.old ≡ Some before → IsHeadline text number before (O.taken out.new) }
 
     // Where `fold` or `lift` is done over files that are told, what was written is read as stable labels of
     // the other problem that correspond to the solution.
-    ensures folded { result ≡ Status.Done → (number : ℕ) → command_of (words_of words.now) ≡ Some (command.OnSecond on_second.Fold number) → (text solution before : List ℕ)
-        → S.contents files.old (file_of (words_of words.now)) ≡ Some text → S.contents files.old (second_of (words_of words.now)) ≡ Some solution → O.taken out.old ≡ Some before
+    ensures folded { result ≡ Status.Done → (number : ℕ) → command_of (bytes_of_words words.now) ≡ Some (command.OnSecond on_second.Fold number) → (text solution before : List ℕ)
+        → S.contents files.old (file_of (bytes_of_words words.now)) ≡ Some text → S.contents files.old (second_of (bytes_of_words words.now)) ≡ Some solution → O.taken out.old ≡ Some before
         → IsCarriedDown text solution number before (O.taken out.new) }
-    ensures lifted { result ≡ Status.Done → (number : ℕ) → command_of (words_of words.now) ≡ Some (command.OnSecond on_second.Lift number) → (text solution before : List ℕ)
-        → S.contents files.old (file_of (words_of words.now)) ≡ Some text → S.contents files.old (second_of (words_of words.now)) ≡ Some solution → O.taken out.old ≡ Some before
+    ensures lifted { result ≡ Status.Done → (number : ℕ) → command_of (bytes_of_words words.now) ≡ Some (command.OnSecond on_second.Lift number) → (text solution before : List ℕ)
+        → S.contents files.old (file_of (bytes_of_words words.now)) ≡ Some text → S.contents files.old (second_of (bytes_of_words words.now)) ≡ Some solution → O.taken out.old ≡ Some before
         → IsCarriedUp text solution number before (O.taken out.new) }
 
     // The files are as they were, and no count of faults falls.
@@ -65,9 +65,9 @@ pub fn run<S: Source, O: Sink, E: Sink>(
     ensures err_later { E.faults err.old ≤ E.faults err.new }
 
     // A fault has its cause, whether the files are told or not.
-    ensures read_fault { result ≡ Status.ReadFault → IsSome (command_of (words_of words.now))
-        × (FirstRose (command_of (words_of words.now)) (S.faults files.old (file_of (words_of words.now))) (S.faults files.new (file_of (words_of words.now)))
-        ⊎ SecondRose (command_of (words_of words.now)) (S.faults files.old (second_of (words_of words.now))) (S.faults files.new (second_of (words_of words.now)))) }
+    ensures read_fault { result ≡ Status.ReadFault → IsSome (command_of (bytes_of_words words.now))
+        × (FirstRose (command_of (bytes_of_words words.now)) (S.faults files.old (file_of (bytes_of_words words.now))) (S.faults files.new (file_of (bytes_of_words words.now)))
+        ⊎ SecondRose (command_of (bytes_of_words words.now)) (S.faults files.old (second_of (bytes_of_words words.now))) (S.faults files.new (second_of (bytes_of_words words.now)))) }
     ensures write_fault { result ≡ Status.WriteFault → Rose (E.faults err.old) (E.faults err.new) ⊎ Rose (O.faults out.old) (O.faults out.new) }
 {
     compress_laws::laws::plan_compresses();

@@ -17,7 +17,8 @@ use answer_kit::{Reply, class_of_number, refuse};
 use answer_reports::report::Form;
 use answer_reports::{report, summary, trial};
 use answer_runs::{reach, run};
-use answer_solutions::{check, fold, lift};
+use answer_solutions::carry::Way;
+use answer_solutions::{carry, check};
 use answer_texts::network_in;
 use cfg_ast::DestClass;
 use cfg_check::Checked;
@@ -72,8 +73,8 @@ fn on_second<S: Source>(
 {
     match command {
         SecondCommand::Check => check::answer(alloc, checked, class, second, files),
-        SecondCommand::Fold => fold::answer(alloc, checked, class, second, files),
-        SecondCommand::Lift => lift::answer(alloc, checked, class, second, files),
+        SecondCommand::Fold => carry::answer(alloc, Way::Fold, checked, class, second, files),
+        SecondCommand::Lift => carry::answer(alloc, Way::Lift, checked, class, second, files),
         SecondCommand::Run => run::answer(alloc, checked, class, second, files),
         SecondCommand::Reach => reach::answer(alloc, checked, class, second, files),
         SecondCommand::Verify => verify::answer(alloc, checked, class, second, files),

@@ -19,7 +19,8 @@ use Rattle.canon_policy.specs.declared.lists.CanonEdge.{CanonEdge}
 use Rattle.canon_policy.specs.declared.lists.CanonRefusal.{CanonRefusal}
 use Rattle.canon_policy.specs.declared.lists.CanonRefusal.TheVariants.{NoCanon, Memory}
 use Rattle.canon_policy.specs.Canonical.{in_asked, numbered_from, is_wide, without_last_denies, limited, in_list, out_list, lists_of, depends_on_others, canonical_of, canonical_lists_of}
-use Rattle.canon_policy.specs.CanonicalProblem.{session_with, canonical_act, HasPrintableMaps, HasMapsWithin}
+use Rattle.canon_policy.specs.CanonicalProblem.{session_with, canonical_act}
+use Rattle.srp_core.specs.ActMaps.{IsPrintableAct, IsActWithin}
 use Rattle.canon_policy.specs.Entries.{in_entry}
 use Rattle.canon_policy.specs.Fixings.{nothing_fixed, split, settled}
 use Rattle.canon_policy.specs.Functions.{on_sets, accepts}
@@ -72,7 +73,7 @@ into_puts universe f lists e = by (depends_on_others universe (on_sets f)) e
         (into_of (out_list universe (on_sets f)) (in_list universe (on_sets f)) lists e)
 
 -- one act
-pub same_act : (universe : List ℕ) (act : Act) → HasPrintableMaps act → HasMapsWithin universe act → IsActFor universe act act
+pub same_act : (universe : List ℕ) (act : Act) → IsPrintableAct act → IsActWithin universe act → IsActFor universe act act
 same_act universe (Import out sends into) printable within = record {
   alike = record { same = λ comms up. refl };
   fits = λ protocol is. is;

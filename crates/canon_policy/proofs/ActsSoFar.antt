@@ -10,7 +10,8 @@ use Rattle.base_kit.proofs.Elements.{In, contains_in, in_contains, in_left, in_r
 use Rattle.srp_core.specs.declared.route.Act.{Act}
 use Rattle.srp_core.specs.declared.route.Act.TheVariants.{Cost}
 use Rattle.srp_core.specs.Problem.{Problem, act_of}
-use Rattle.canon_policy.specs.CanonicalProblem.{canonical_act, has_canonical, IsFirstWithout, HasPrintableMaps, HasMapsWithin}
+use Rattle.canon_policy.specs.CanonicalProblem.{canonical_act, has_canonical, IsFirstWithout}
+use Rattle.srp_core.specs.ActMaps.{IsPrintableAct, IsActWithin}
 use Rattle.canon_policy.specs.declared.problem.CanonSrpRefusal.{CanonSrpRefusal}
 use Rattle.canon_policy.specs.declared.problem.CanonSrpRefusal.TheVariants.{NoCanon, Memory}
 use Rattle.canon_policy.specs.MadeActs.{act_at, is_marked, IsActFor, AreCanonicalActs, AreCanonicalActsOr, IsActSoFar, AreActsSoFar, IsRefusedAtFirst}
@@ -44,13 +45,13 @@ in_take (y ∷ ys) (suc i) x (inr h) = inr (in_take ys i x h)
 
 module _ (universe : List ℕ) (problem : Problem) where
   -- nothing is seen
-  pub nothing_seen : AllByRecursion HasPrintableMaps problem.acts → AllByRecursion (HasMapsWithin universe) problem.acts
+  pub nothing_seen : AllByRecursion IsPrintableAct problem.acts → AllByRecursion (IsActWithin universe) problem.acts
       → AreActsSoFar universe problem [] problem.acts (replicate (length problem.acts) false)
   nothing_seen printable within = record {
     count = refl;
     done_count = length-replicate (length problem.acts) false;
-    each = λ place lt. same_act universe (act_at problem.acts place) (at_index HasPrintableMaps problem.acts place (Cost 0) lt printable)
-        (at_index (HasMapsWithin universe) problem.acts place (Cost 0) lt within);
+    each = λ place lt. same_act universe (act_at problem.acts place) (at_index IsPrintableAct problem.acts place (Cost 0) lt printable)
+        (at_index (IsActWithin universe) problem.acts place (Cost 0) lt within);
     so_far = λ place lt. not_done (get_or-replicate (length problem.acts) place false false lt) refl;
     seen = tt;
   }

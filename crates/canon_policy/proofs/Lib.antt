@@ -4,6 +4,7 @@ mod ActsSoFar
 mod Asked
 mod CanonLists
 mod Carried
+mod Exists
 mod Firsts
 mod FixedNodes
 mod Follows
@@ -16,13 +17,13 @@ mod ListLaws
 mod MadeEntries
 mod MadeForms
 mod MadeLists
-mod MapsUniform
+pub mod MapsUniform
 mod Numbered
-mod Outside
+pub mod Outside
 mod Plain
 mod Printed
 mod ProblemMade
-mod SameSets
+pub mod SameSets
 mod SmallNumbers
 mod Says
 mod Settled
@@ -31,7 +32,7 @@ mod Tables
 mod Told
 mod TwoUniverses
 mod Uniform
-mod Values
+pub mod Values
 mod Verdicts
 mod Walks
 mod WrittenAlike

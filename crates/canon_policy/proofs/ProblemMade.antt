@@ -12,7 +12,8 @@ use Rattle.srp_core.specs.Alike.{AllEdgesAlike, ProblemsAlike}
 use Rattle.srp_core.specs.Problem.{Problem, act_of, Accepts, IsLone, IsProblem}
 use Rattle.srp_core.proofs.Alike.{imports_alike}
 use Rattle.srp_core.proofs.GroupMatching.{alike_sym, alike_trans}
-use Rattle.canon_policy.specs.CanonicalProblem.{IsCanonicalProblem, HasPrintableMaps, HasMapsWithin}
+use Rattle.canon_policy.specs.CanonicalProblem.{IsCanonicalProblem}
+use Rattle.srp_core.specs.ActMaps.{IsPrintableAct, IsActWithin}
 use Rattle.canon_policy.specs.MadeActs.{act_at, AreCanonicalActs}
 use Rattle.canon_policy.proofs.ActsSoFar.{at_index}
 
@@ -28,11 +29,11 @@ module _ (universe : List ℕ) (old : Problem) (acts : List Act) (made : AreCano
   each_alike : (i : ℕ) → i < length old.acts → ActsAlike (act_at old.acts i) (act_at acts i)
   each_alike i lt = (made.each i lt).alike
 
-  pub all_printable : AllByRecursion HasPrintableMaps acts
-  all_printable = from_index HasPrintableMaps (Cost 0) acts (λ i lt. (made.each i (let n = made.count in omega arith)).printable)
+  pub all_printable : AllByRecursion IsPrintableAct acts
+  all_printable = from_index IsPrintableAct (Cost 0) acts (λ i lt. (made.each i (let n = made.count in omega arith)).printable)
 
-  pub all_named : AllByRecursion (HasMapsWithin universe) acts
-  all_named = from_index (HasMapsWithin universe) (Cost 0) acts (λ i lt. (made.each i (let n = made.count in omega arith)).within)
+  pub all_named : AllByRecursion (IsActWithin universe) acts
+  all_named = from_index (IsActWithin universe) (Cost 0) acts (λ i lt. (made.each i (let n = made.count in omega arith)).within)
 
   canonical_new : IsCanonicalProblem universe old new
   canonical_new = record {
@@ -181,8 +182,8 @@ module _ (universe : List ℕ) (old : Problem) (acts : List Act) (made : AreCano
       pub is_alike : ProblemsAlike old p
       is_alike = subst (ProblemsAlike old) same alike_new
 
-      pub is_printable : AllByRecursion HasPrintableMaps p.acts
-      is_printable = subst (AllByRecursion HasPrintableMaps) (sym of_acts) all_printable
+      pub is_printable : AllByRecursion IsPrintableAct p.acts
+      is_printable = subst (AllByRecursion IsPrintableAct) (sym of_acts) all_printable
 
-      pub is_named : AllByRecursion (HasMapsWithin universe) p.acts
-      is_named = subst (AllByRecursion (HasMapsWithin universe)) (sym of_acts) all_named
+      pub is_named : AllByRecursion (IsActWithin universe) p.acts
+      is_named = subst (AllByRecursion (IsActWithin universe)) (sym of_acts) all_named

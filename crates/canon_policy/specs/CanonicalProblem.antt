@@ -6,8 +6,6 @@ use Rattle.std.specs.Option.{is_some, option_map}
 use Rattle.base_kit.specs.declared.act_graph.Edge.{Edge}
 use Rattle.cfg_ast.specs.printing.WellFormed.{IsBetween}
 use Rattle.route_maps.specs.Maps.{import_of}
-use Rattle.route_maps.specs.Printable.{IsPrintable}
-use Rattle.route_maps.specs.Within.{IsMapWithin}
 use Rattle.srp_core.specs.declared.route.Act.{Act}
 use Rattle.srp_core.specs.declared.route.Act.TheVariants.{Import, Cost}
 use Rattle.srp_core.specs.Problem.{Problem, act_of}
@@ -61,13 +59,3 @@ IsCanonicalOr universe old (Err Memory) = Unit {0}
 -- communities that a line can name: none of them is set aside
 abbrev pub AreCommunities : List ℕ → Type 0
 AreCommunities universe = AllByRecursion (IsBetween 1 4294901759) universe
-
--- the act's maps can be printed
-abbrev pub HasPrintableMaps : Act → Type 0
-HasPrintableMaps (Import out sends into) = IsPrintable out × IsPrintable into
-HasPrintableMaps (Cost cost) = Unit {0}
-
--- and name only communities of the universe
-abbrev pub HasMapsWithin : List ℕ → Act → Type 0
-HasMapsWithin universe (Import out sends into) = IsMapWithin universe out × IsMapWithin universe into
-HasMapsWithin universe (Cost cost) = Unit {0}

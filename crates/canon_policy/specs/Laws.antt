@@ -11,7 +11,8 @@ use Rattle.canon_policy.specs.Functions.{on_sets}
 use Rattle.canon_policy.specs.Plain.{IsPlain}
 use Rattle.canon_policy.specs.Uniform.{IsUniform}
 use Rattle.canon_policy.specs.Canonical.{canonical_lists_of}
-use Rattle.canon_policy.specs.CanonicalProblem.{canonical_act, HasPrintableMaps, HasMapsWithin}
+use Rattle.canon_policy.specs.CanonicalProblem.{canonical_act}
+use Rattle.srp_core.specs.ActMaps.{IsPrintableAct, IsActWithin}
 
 -- Functions that import every set alike have equal lists.
 abbrev pub EqualFunctionsHaveEqualLists : Type 0
@@ -25,8 +26,8 @@ UniverseDoesNotMatter = (universe other : List ℕ) (f g : List ℕ → Option I
 -- What is written for an edge depends on what it imports alone: acts that act alike have equal canonical acts, or neither
 -- has one, whatever maps they were given by and whatever communities the networks name besides.
 abbrev pub AlikeActsAreWrittenAlike : Type 0
-AlikeActsAreWrittenAlike = (universe other : List ℕ) (first second : Act) → IsAscending universe → IsAscending other → HasPrintableMaps first → HasPrintableMaps second
-    → HasMapsWithin universe first → HasMapsWithin other second → ActsAlike first second → canonical_act universe first ≡ canonical_act other second
+AlikeActsAreWrittenAlike = (universe other : List ℕ) (first second : Act) → IsAscending universe → IsAscending other → IsPrintableAct first → IsPrintableAct second
+    → IsActWithin universe first → IsActWithin other second → ActsAlike first second → canonical_act universe first ≡ canonical_act other second
 
 -- The canonical lists of a function import every set as it does. Communities are sent.
 abbrev pub CanonicalListsImportAlike : Type 0

@@ -1,6 +1,7 @@
 pub mod Canonical
 pub mod CanonicalProblem
 pub mod Entries
+pub mod Exists
 pub mod Fixings
 pub mod Functions
 pub mod Hanging

@@ -11,7 +11,8 @@ use Rattle.canon_policy.specs.declared.lists.CanonRefusal.TheVariants as canon_r
 use Rattle.canon_policy.specs.declared.problem.CanonSrpRefusal.{CanonSrpRefusal}
 use Rattle.canon_policy.specs.declared.problem.CanonSrpRefusal.TheVariants as canon_srp_refusal
 use Rattle.srp_core.specs.Problem.{Problem, act_of}
-use Rattle.canon_policy.specs.CanonicalProblem.{canonical_act, HasPrintableMaps, HasMapsWithin, IsFirstWithout}
+use Rattle.canon_policy.specs.CanonicalProblem.{canonical_act, IsFirstWithout}
+use Rattle.srp_core.specs.ActMaps.{IsPrintableAct, IsActWithin}
 
 -- the canonical act, none, or want of memory
 abbrev pub IsCanonicalActOr : List ℕ → Act → Result Act CanonRefusal → Type 0
@@ -30,8 +31,8 @@ act_at acts place = slice_index_or acts place (Cost 0)
 pub record IsActFor (universe : List ℕ) (old new : Act) : Type 0 where
   pub alike : ActsAlike old new
   pub fits : (protocol : Protocol) → IsActOf protocol old → IsActOf protocol new
-  pub printable : HasPrintableMaps new
-  pub within : HasMapsWithin universe new
+  pub printable : IsPrintableAct new
+  pub within : IsActWithin universe new
 
 -- the acts of the canonical problem
 pub record AreCanonicalActs (universe : List ℕ) (problem : Problem) (acts : List Act) : Type 0 where

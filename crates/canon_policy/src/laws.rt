@@ -1,5 +1,6 @@
 //! What holds of canonical lists. Each law is the contract of a function that does nothing: whoever needs
 //! one calls it.
+ghost use Rattle.canon_policy.specs.Exists.{EachHasCanonical};
 ghost use Rattle.canon_policy.specs.Laws.{EqualFunctionsHaveEqualLists, UniverseDoesNotMatter, AlikeActsAreWrittenAlike, CanonicalListsImportAlike, EqualListsMeanEqualFunctions};
 
 /// Functions that import every set of communities alike have equal canonical lists.
@@ -27,4 +28,9 @@ pub fn canonical_lists_import_alike()
 /// Functions with equal canonical lists import every set of communities alike.
 pub fn equal_lists_mean_equal_functions()
     ensures { EqualListsMeanEqualFunctions }
+{}
+
+/// Each problem has the problem with the canonical acts of its edges, or a first edge that has none.
+pub fn each_has_canonical()
+    ensures { EachHasCanonical }
 {}

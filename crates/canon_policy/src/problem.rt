@@ -5,7 +5,8 @@ ghost use Rattle.std.specs.List.{AllByRecursion};
 ghost use Rattle.dd_core.specs.Sets.{Grows};
 ghost use Rattle.srp_core.specs.Alike.{ProblemsAlike};
 ghost use Rattle.canon_policy.specs.declared.problem.CanonSrpRefusal.TheVariants as canon_srp_refusal;
-ghost use Rattle.canon_policy.specs.CanonicalProblem.{IsCanonicalOr, AreCommunities, HasPrintableMaps, HasMapsWithin};
+ghost use Rattle.canon_policy.specs.CanonicalProblem.{IsCanonicalOr, AreCommunities};
+ghost use Rattle.srp_core.specs.ActMaps.{IsPrintableAct, IsActWithin};
 ghost use Rattle.canon_policy.specs.MadeActs.{IsActFor, IsCanonicalActOr, AreCanonicalActsOr, AreActsSoFar, IsRefusedAtFirst, at_place};
 
 use crate::canonical::canon;
@@ -50,13 +51,13 @@ impl From<AllocError> for CanonSrpRefusal {
 /// may have more nodes.
 pub fn canon_srp(alloc: Global, srp: &Srp, store: &mut Store) -> Result<Srp, CanonSrpRefusal>
     requires communities { AreCommunities store.old.universe }
-    requires printable { AllByRecursion HasPrintableMaps srp.now.acts }
-    requires within { AllByRecursion (HasMapsWithin store.old.universe) srp.now.acts }
+    requires printable { AllByRecursion IsPrintableAct srp.now.acts }
+    requires within { AllByRecursion (IsActWithin store.old.universe) srp.now.acts }
     ensures grows { Grows store.old store.new }
     ensures canonical { IsCanonicalOr store.old.universe srp.now result }
     ensures alike { IfOk result (λ new. ProblemsAlike srp.now new) }
-    ensures printable { IfOk result (λ new. AllByRecursion HasPrintableMaps new.acts) }
-    ensures within { IfOk result (λ new. AllByRecursion (HasMapsWithin store.old.universe) new.acts) }
+    ensures printable { IfOk result (λ new. AllByRecursion IsPrintableAct new.acts) }
+    ensures within { IfOk result (λ new. AllByRecursion (IsActWithin store.old.universe) new.acts) }
 {
     let _routers = srp.count();
     let acts = canonical_acts(alloc, srp, store)?;
@@ -80,8 +81,8 @@ pub fn canon_srp(alloc: Global, srp: &Srp, store: &mut Store) -> Result<Srp, Can
 // The canonical act of an act, if it has one.
 fn canonical_act(alloc: Global, store: &mut Store, act: &Act) -> Result<Act, CanonRefusal>
     requires communities { AreCommunities store.old.universe }
-    requires printable { HasPrintableMaps act.now }
-    requires within { HasMapsWithin store.old.universe act.now }
+    requires printable { IsPrintableAct act.now }
+    requires within { IsActWithin store.old.universe act.now }
     ensures grows { Grows store.old store.new }
     ensures canonical { IsCanonicalActOr store.old.universe act.now result }
     ensures instead { IfOk result (λ new. IsActFor store.old.universe act.now new) }
@@ -121,8 +122,8 @@ fn make_act(
     place: usize,
 ) -> Result<(), CanonSrpRefusal>
     requires communities { AreCommunities store.old.universe }
-    requires printable { AllByRecursion HasPrintableMaps srp.now.acts }
-    requires within { AllByRecursion (HasMapsWithin store.old.universe) srp.now.acts }
+    requires printable { AllByRecursion IsPrintableAct srp.now.acts }
+    requires within { AllByRecursion (IsActWithin store.old.universe) srp.now.acts }
     requires place { place < length srp.now.edges }
     requires so_far { AreActsSoFar store.old.universe srp.now (take place srp.now.edges) made.old.items done.old.items }
     ensures grows { Grows store.old store.new }
@@ -147,8 +148,8 @@ fn make_act(
 // The acts, those that some edge has made canonical.
 fn canonical_acts(alloc: Global, srp: &Srp, store: &mut Store) -> Result<List<Act>, CanonSrpRefusal>
     requires communities { AreCommunities store.old.universe }
-    requires printable { AllByRecursion HasPrintableMaps srp.now.acts }
-    requires within { AllByRecursion (HasMapsWithin store.old.universe) srp.now.acts }
+    requires printable { AllByRecursion IsPrintableAct srp.now.acts }
+    requires within { AllByRecursion (IsActWithin store.old.universe) srp.now.acts }
     ensures grows { Grows store.old store.new }
     ensures acts { AreCanonicalActsOr store.old.universe srp.now result }
 {

@@ -42,7 +42,7 @@ use Rattle.cut_certificate.proofs.Seen.{same_test, or_true, at_place, place_belo
 use Rattle.cut_certificate.proofs.StepsOf.{made, split_total}
 use Rattle.cut_certificate.proofs.Used.{first_used, split_used}
 use Rattle.cut_certificate.proofs.Written.{importer_is}
-use Rattle.certificate_round_trip.specs.Laws.{AreOfLinks, CanBeNamed, PrintedIsReadBack}
+use Rattle.certificate_round_trip.specs.Laws.{AreOfLinks, CanBeNamed, PrintedCertificateIsReadBack}
 use Rattle.base_kit.specs.Names.{AreApart}
 
 -- ---- the lines, one after the other
@@ -381,7 +381,7 @@ words_same ls ks same = sym (bare_words ls) ∙ ap words_of same ∙ bare_words 
     bare_words [] = refl
     bare_words (l ∷ ls) = ap (λ (ws : List (List (List ℕ))). l.words ∷ ws) (bare_words ls)
 
-pub printed_is_read_back : PrintedIsReadBack
+pub printed_is_read_back : PrintedCertificateIsReadBack
 unfolding certificate_text certificate_of_text
 printed_is_read_back graph names c can accepted =
     let reached = all_reached graph c.splits (first_blocks graph) accepted.blocks (first_reached graph) accepted.split in

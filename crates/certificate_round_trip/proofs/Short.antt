@@ -22,7 +22,7 @@ use Rattle.cut_certificate.proofs.Reached.{first_reached, all_reached}
 use Rattle.cut_certificate.proofs.Seen.{test_same, with_old, with_next}
 use Rattle.cut_certificate.proofs.StepsOf.{split_total}
 use Rattle.cut_certificate.proofs.Written.{importer_is}
-use Rattle.certificate_round_trip.specs.Laws.{CanBeNamed, PrintedIsShort}
+use Rattle.certificate_round_trip.specs.Laws.{CanBeNamed, PrintedCertificateIsShort}
 use Rattle.certificate_round_trip.proofs.ReadBack.{name_is, link_known, first_blocks_used, small_block, used_next, all_groups}
 
 -- ---- numbers of which each stands once
@@ -195,5 +195,5 @@ module _ (graph : ActGraph) (names : List (List ℕ)) (can : CanBeNamed graph na
         few,
       )
 
-pub printed_is_short : PrintedIsShort
+pub printed_is_short : PrintedCertificateIsShort
 printed_is_short graph names c can accepted splits few = text_short graph names can c accepted splits few

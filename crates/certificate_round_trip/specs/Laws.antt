@@ -25,11 +25,11 @@ pub record CanBeNamed (graph : ActGraph) (names : List (List ℕ)) : Type 0 wher
   pub links : AllByRecursion (λ (edge : Edge). edge.link ≤ 4294967295) graph.edges
 
 -- The text of an accepted certificate spells this certificate.
-abbrev pub PrintedIsReadBack : Type 0
-PrintedIsReadBack = (graph : ActGraph) (names : List (List ℕ)) (c : Certificate) → CanBeNamed graph names → IsAccepted graph c
+abbrev pub PrintedCertificateIsReadBack : Type 0
+PrintedCertificateIsReadBack = (graph : ActGraph) (names : List (List ℕ)) (c : Certificate) → CanBeNamed graph names → IsAccepted graph c
     → certificate_of_text graph names (certificate_text graph.edges names c) ≡ Ok c
 
 -- Its text for at most 4,096 routers, with at most as many splits as routers, has at most 16,777,216 bytes.
-abbrev pub PrintedIsShort : Type 0
-PrintedIsShort = (graph : ActGraph) (names : List (List ℕ)) (c : Certificate) → CanBeNamed graph names → IsAccepted graph c → length c.splits ≤ graph.count → graph.count ≤ 4096
+abbrev pub PrintedCertificateIsShort : Type 0
+PrintedCertificateIsShort = (graph : ActGraph) (names : List (List ℕ)) (c : Certificate) → CanBeNamed graph names → IsAccepted graph c → length c.splits ≤ graph.count → graph.count ≤ 4096
     → length (certificate_text graph.edges names c) ≤ 16777216

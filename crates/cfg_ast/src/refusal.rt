@@ -1,7 +1,6 @@
 //! The kinds of faults, and the refusals that name them.
 
 ghost use Rattle.std.specs.Prelude.{◌≡◌};
-ghost use Rattle.cfg_ast.specs.meaning.Meaning.{number_of_kind};
 ghost use Rattle.cfg_ast.specs.declared.refusal.FormFault.TheVariants as form_fault;
 ghost use Rattle.cfg_ast.specs.declared.refusal.ReadRefusal.TheVariants as read_refusal;
 
@@ -48,45 +47,6 @@ pub enum Kind {
 pub struct Fault {
     pub line: u32,
     pub kind: Kind,
-}
-
-impl Kind {
-    /// The number of the kind: its place in the list above, from 1.
-    pub fn number(self) -> u8
-        ensures { result ≡ number_of_kind self }
-    {
-        match self {
-            Kind::NotAscii => 1,
-            Kind::LineTooLong => 2,
-            Kind::TooManyLines => 3,
-            Kind::UnknownLine => 4,
-            Kind::Unsupported => 5,
-            Kind::BadForm => 6,
-            Kind::WellKnown => 7,
-            Kind::Misplaced => 8,
-            Kind::Repeated => 9,
-            Kind::NoHostname => 10,
-            Kind::NoEnd => 11,
-            Kind::SharedName => 12,
-            Kind::SharedAs => 13,
-            Kind::InternalPeer => 14,
-            Kind::MixedProtocols => 15,
-            Kind::OtherArea => 16,
-            Kind::UndefinedMap => 17,
-            Kind::UndefinedList => 18,
-            Kind::DeleteListForm => 19,
-            Kind::SharedAddress => 20,
-            Kind::OverlappingInterfaces => 21,
-            Kind::LoopbackMask => 22,
-            Kind::NoCost => 23,
-            Kind::TooManyRouters => 24,
-            Kind::TooManyCommunities => 25,
-            Kind::TooManyNeighbors => 26,
-            Kind::TooManyLinks => 27,
-            Kind::PrependForm => 28,
-            Kind::PrependIn => 29,
-        }
-    }
 }
 
 /// Why a text is no network, or a network may not be used.

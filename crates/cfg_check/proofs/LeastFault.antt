@@ -1,20 +1,16 @@
 -- The least fault, kind by kind.
-use Rattle.std.proofs.Common.{◌≡◌, ℕ, Bool, true, false, cond, ◌&&◌, ◌||◌, List, [], ◌∷◌, ◌++◌, Option, Some, None, nat_lt, nat_eq, refl, sym, ap, ◌∙◌, arith}
+use Rattle.std.proofs.Common.{◌≡◌, ℕ, Bool, true, false, cond, List, [], ◌∷◌, ◌++◌, Option, Some, None, nat_lt, refl, sym, ap, ◌∙◌, arith}
 use Rattle.std.proofs.lemmas.Bool.Decides.{nat_tests}
 use Rattle.cfg_ast.specs.declared.refusal.Kind.{Kind}
 use Rattle.cfg_ast.specs.declared.refusal.Fault.{Fault}
-use Rattle.cfg_ast.specs.meaning.Meaning.{number_of_kind, faults_at, is_before_fault, lesser_fault, least_fault}
+use Rattle.cfg_ast.specs.meaning.Meaning.{faults_at, lesser_fault, least_fault}
 use Rattle.cfg_check.specs.LeastLine.{lesser_line, least_line, fault_at}
 
 pub lesser_fault_none : (o : Option Fault) → lesser_fault o None ≡ o
 lesser_fault_none None = refl
 lesser_fault_none (Some f) = refl
 
--- the order of faults over their lines and numbers
-before : ℕ → ℕ → ℕ → ℕ → Bool
-before l m k n = nat_lt l m || (nat_eq l m && nat_lt k n)
-
-least_of_three : (f g h : Fault) (gf hg hf : Bool) → is_before_fault g f ≡ gf → is_before_fault h g ≡ hg → is_before_fault h f ≡ hf
+least_of_three : (f g h : Fault) (gf hg hf : Bool) → nat_lt g.line f.line ≡ gf → nat_lt h.line g.line ≡ hg → nat_lt h.line f.line ≡ hf
     → (gf ≡ true → hg ≡ true → hf ≡ true) → (gf ≡ false → hg ≡ false → hf ≡ false)
     → lesser_fault (Some f) (lesser_fault (Some g) (Some h)) ≡ lesser_fault (lesser_fault (Some f) (Some g)) (Some h)
 least_of_three f g h true true hf a b c up down = rw (a, b) (rw (c ∙ up refl refl) refl)
@@ -22,19 +18,15 @@ least_of_three f g h true false hf a b c up down = rw (a, b) (rw a refl)
 least_of_three f g h false true hf a b c up down = rw (a, b) refl
 least_of_three f g h false false hf a b c up down = rw (a, b) (rw (a, c ∙ down refl refl) refl)
 
-through : (a b c k m n : ℕ) → before b a m k ≡ true → before c b n m ≡ true → before c a n k ≡ true
-unfolding before
-through a b c k m n e f = grind (arith, nat_tests)
+through : (a b c : ℕ) → nat_lt b a ≡ true → nat_lt c b ≡ true → nat_lt c a ≡ true
+through a b c e f = grind (arith, nat_tests)
 
-through_not : (a b c k m n : ℕ) → before b a m k ≡ false → before c b n m ≡ false → before c a n k ≡ false
-unfolding before
-through_not a b c k m n e f = grind (arith, nat_tests)
+through_not : (a b c : ℕ) → nat_lt b a ≡ false → nat_lt c b ≡ false → nat_lt c a ≡ false
+through_not a b c e f = grind (arith, nat_tests)
 
 three_faults : (f g h : Fault) → lesser_fault (Some f) (lesser_fault (Some g) (Some h)) ≡ lesser_fault (lesser_fault (Some f) (Some g)) (Some h)
-unfolding before
-three_faults f g h = least_of_three f g h (is_before_fault g f) (is_before_fault h g) (is_before_fault h f) refl refl refl
-    (through f.line g.line h.line (number_of_kind f.kind) (number_of_kind g.kind) (number_of_kind h.kind))
-    (through_not f.line g.line h.line (number_of_kind f.kind) (number_of_kind g.kind) (number_of_kind h.kind))
+three_faults f g h = least_of_three f g h (nat_lt g.line f.line) (nat_lt h.line g.line) (nat_lt h.line f.line) refl refl refl
+    (through f.line g.line h.line) (through_not f.line g.line h.line)
 
 lesser_fault-assoc : (a b c : Option Fault) → lesser_fault a (lesser_fault b c) ≡ lesser_fault (lesser_fault a b) c
 lesser_fault-assoc None b c = refl
@@ -46,18 +38,12 @@ pub least_fault-append : (fs gs : List Fault) → least_fault (fs ++ gs) ≡ les
 least_fault-append [] gs = refl
 least_fault-append (f ∷ fs) gs = ap (lesser_fault (Some f)) (least_fault-append fs gs) ∙ lesser_fault-assoc (Some f) (least_fault fs) (least_fault gs)
 
-same_kind : (x y k : ℕ) → before y x k k ≡ nat_lt y x
-unfolding before
-same_kind x y k = grind (arith, nat_tests)
-
 chosen : (what : Kind) (x y : ℕ) (b : Bool) → cond b (fault_at what (Some y)) (fault_at what (Some x)) ≡ fault_at what (cond b (Some y) (Some x))
 chosen what x y true = refl
 chosen what x y false = refl
 
 two_lines : (what : Kind) (x y : ℕ) → lesser_fault (fault_at what (Some x)) (fault_at what (Some y)) ≡ fault_at what (lesser_line (Some x) (Some y))
-unfolding before
-two_lines what x y = ap (λ (b : Bool). cond b (fault_at what (Some y)) (fault_at what (Some x))) (same_kind x y (number_of_kind what))
-    ∙ chosen what x y (nat_lt y x)
+two_lines what x y = chosen what x y (nat_lt y x)
 
 line_more : (what : Kind) (x : ℕ) (o : Option ℕ) → lesser_fault (fault_at what (Some x)) (fault_at what o) ≡ fault_at what (lesser_line (Some x) o)
 line_more what x None = refl
@@ -86,4 +72,4 @@ none_least (f ∷ fs) e = absurd (some_stays f (least_fault fs) e)
 
     some_stays : (f : Fault) (o : Option Fault) → lesser_fault (Some f) o ≡ None → ⊥
     some_stays f None e = cc
-    some_stays f (Some g) e = either f g (is_before_fault g f) e
+    some_stays f (Some g) e = either f g (nat_lt g.line f.line) e

@@ -1,7 +1,7 @@
 //! The least of several lines and faults.
 
 ghost use Rattle.std.specs.Prelude.{◌≡◌, None, Some, if◌then◌else◌};
-ghost use Rattle.cfg_ast.specs.meaning.Meaning.{is_before_fault, lesser_fault};
+ghost use Rattle.cfg_ast.specs.meaning.Meaning.{lesser_fault};
 ghost use Rattle.cfg_check.specs.LeastLine.{lesser_line, line_if, fault_at};
 
 use cfg_ast::{Fault, Kind};
@@ -28,14 +28,8 @@ pub(crate) fn with_line_if(least: Option<u32>, at_fault: bool, line: u32) -> Opt
     }
 }
 
-fn is_before(fault: Fault, other: Fault) -> bool
-    ensures { result ≡ is_before_fault fault other }
-{
-    fault.line < other.line
-        || (fault.line == other.line && fault.kind.number() < other.kind.number())
-}
-
-/// The lesser of a fault and the one of a kind at a line, where there are any.
+/// The fault with the lesser line, of a fault and the one of a kind at a line, where there are any; on one
+/// line the first of them.
 pub(crate) fn with_fault(least: Option<Fault>, kind: Kind, line: Option<u32>) -> Option<Fault>
     ensures { result ≡ lesser_fault least (fault_at kind line) }
 {
@@ -44,9 +38,5 @@ pub(crate) fn with_fault(least: Option<Fault>, kind: Kind, line: Option<u32>) ->
     let Some(other) = least else {
         return Some(fault)
     };
-    Some(if is_before(fault, other) {
-        fault
-    } else {
-        other
-    })
+    Some(if line < other.line { fault } else { other })
 }

@@ -24,7 +24,7 @@ use Rattle.srp_core.specs.Quotient.{IsAdmissible, IsCoarsest, IsQuotient}
 use Rattle.srp_core.specs.Stability.{IsStable}
 use Rattle.srp_quotient.specs.Groups.{quotient_problem}
 use Rattle.srp_quotient.specs.Laws.{QuotientIsQuotient}
-use Rattle.emit_laws.specs.Laws.{EmittedHasPlannedLinks}
+use Rattle.compress_laws.specs.EmittedLinks.{EmittedHasPlannedLinks}
 use Rattle.abstract_net.specs.declared.qlink.QLink.{QLink}
 use Rattle.abstract_net.specs.Links.{acts_into}
 use Rattle.cfg_ast.specs.declared.topology.Link.{Link}

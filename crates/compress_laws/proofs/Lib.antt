@@ -4,5 +4,7 @@ mod Compressing
 mod FirstActs
 mod LinkCounts
 mod Names
+mod NoLarger
 pub mod Plans
+mod Stands
 pub mod Texts

@@ -10,11 +10,9 @@ use Rattle.cfg_ast.specs.text.Reading.{IsGiven}
 use Rattle.cfg_check.specs.Faultless.{IsFaultless}
 use Rattle.given_laws.specs.Laws.{GivenIsWellFormed}
 use Rattle.srp_build.specs.Built.{IsBuiltFor}
-use Rattle.srp_build.specs.Laws.{HasMapsThatPrint, HasMapsWithin, ActsPrint, ActsStayWithin}
-use Rattle.srp_core.specs.declared.route.Act.{Act}
-use Rattle.srp_core.specs.declared.route.Act.TheVariants.{Import, Cost}
+use Rattle.srp_build.specs.Laws.{ActsPrint, ActsStayWithin}
 use Rattle.srp_core.specs.Problem.{Problem}
-use Rattle.config_emit.specs.Laws.{IsPlan, IsPrintableAct, IsActWithin}
+use Rattle.config_emit.specs.Laws.{IsPlan}
 use Rattle.config_emit.specs.Plan.{Plan}
 use Rattle.config_emit.specs.Pool.{pool_line}
 use Rattle.emit_form_laws.proofs.Origins.{class_is, some_prefix}
@@ -23,24 +21,14 @@ use Rattle.compress_laws.specs.Laws.{FitsClass, BuiltFits, FittingPlanFits, Plan
 
 -- ---- a plan fits together
 
-prints : (acts : List Act) → AllByRecursion HasMapsThatPrint acts → AllByRecursion IsPrintableAct acts
-prints [] all = tt
-prints (Import out sends into ∷ acts) all = (all.0, prints acts all.1)
-prints (Cost cost ∷ acts) all = (tt, prints acts all.1)
-
-stays : (set : List ℕ) (acts : List Act) → AllByRecursion (HasMapsWithin set) acts → AllByRecursion (IsActWithin set) acts
-stays set [] all = tt
-stays set (Import out sends into ∷ acts) all = (all.0, stays set acts all.1)
-stays set (Cost cost ∷ acts) all = (tt, stays set acts all.1)
-
 pub built_fits : GivenIsWellFormed → ActsPrint → ActsStayWithin → BuiltFits
 built_fits well print within n class problem given ok has built =
     let prefix = some_prefix n class (class_is n class has) in
     let first = built.acts prefix.0 prefix.1 in
     record {
       of = built.of;
-      printable = prints problem.acts (print n prefix.0 problem (well n given) ok.undefined_list ok.delete_list built.order first);
-      within = stays (communities_of n) problem.acts (within n prefix.0 problem built.order first);
+      printable = print n prefix.0 problem (well n given) ok.undefined_list ok.delete_list built.order first;
+      within = within n prefix.0 problem built.order first;
     }
 
 fits : GivenIsWellFormed → (e : Plan)

@@ -19,7 +19,8 @@ use Rattle.srp_core.specs.ProblemOf.{IsProblemOf}
 use Rattle.srp_core.specs.Quotient.{IsCoarsest}
 use Rattle.config_emit.specs.Plan.{Plan, small}
 use Rattle.config_emit.specs.Emitted.{emitted, notes_of}
-use Rattle.config_emit.specs.Laws.{IsPrintableAct, IsActWithin, IsPlan}
+use Rattle.srp_core.specs.ActMaps.{IsPrintableAct, IsActWithin}
+use Rattle.config_emit.specs.Laws.{IsPlan}
 use Rattle.compress_laws.specs.Compressed.{Compresses}
 
 -- the text that is written of a plan

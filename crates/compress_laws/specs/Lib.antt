@@ -1,4 +1,5 @@
 pub mod Built
 pub mod Compressed
+pub mod EmittedLinks
 pub mod GroupLinks
 pub mod Laws

@@ -6,9 +6,9 @@ pub fn text_compresses()
     ensures { TextCompresses }
 {
     emit_form_laws::laws::emitted_can_be_printed();
-    emit_laws::laws::emitted_has_planned_links();
-    emit_laws::laws::emitted_is_no_larger();
-    emit_laws::laws::emitted_stands_for_groups();
+    crate::emitted::emitted_has_planned_links();
+    crate::emitted::emitted_is_no_larger();
+    crate::emitted::emitted_stands_for_groups();
     cfg_round_trip::printed_is_read_back();
     cfg_round_trip::members_are_read_back();
     cfg_check::laws::faultless_is_accepted();
@@ -67,7 +67,7 @@ pub fn text_has_problem_of_groups()
 {
     plan_fits();
     emit_form_laws::laws::emitted_can_be_printed();
-    emit_laws::laws::emitted_stands_for_groups();
+    crate::emitted::emitted_stands_for_groups();
     cfg_round_trip::printed_is_read_back();
     cfg_check::laws::faultless_is_accepted();
 }

@@ -7,4 +7,5 @@
 //! printed line.
 #![tactic(auto)]
 
+pub mod emitted;
 pub mod laws;

@@ -13,25 +13,12 @@ use Rattle.cfg_check.specs.Faultless.{IsFaultless}
 use Rattle.cfg_round_trip.specs.Laws.{HasShortLines}
 use Rattle.cfg_round_trip.specs.Notes.{AreNotes}
 use Rattle.abstract_net.specs.Links.{quotient_links}
-use Rattle.route_maps.specs.Printable.{IsPrintable}
-use Rattle.route_maps.specs.Within.{IsMapWithin}
-use Rattle.srp_core.specs.declared.route.Act.{Act}
-use Rattle.srp_core.specs.declared.route.Act.TheVariants.{Import, Cost}
+use Rattle.srp_core.specs.ActMaps.{IsPrintableAct, IsActWithin}
 use Rattle.srp_core.specs.ProblemOf.{IsProblemOf}
 use Rattle.srp_core.specs.Quotient.{IsAdmissible}
 use Rattle.config_emit.specs.Plan.{Plan, small}
 use Rattle.config_emit.specs.Emitted.{emitted, notes_of}
 use Rattle.config_emit.specs.Pool.{pool_line}
-
--- the maps of an act can be printed
-abbrev pub IsPrintableAct : Act → Type 0
-IsPrintableAct (Import out sends into) = IsPrintable out × IsPrintable into
-IsPrintableAct (Cost cost) = Unit {0}
-
--- the maps of an act name only communities of the set
-abbrev pub IsActWithin : List ℕ → Act → Type 0
-IsActWithin set (Import out sends into) = IsMapWithin set out × IsMapWithin set into
-IsActWithin set (Cost cost) = Unit {0}
 
 -- A plan that fits together: a network that may be used, one of its classes, the problem of every prefix of the class,
 -- an admissible partition of it with the groups numbered by their least members, and the links of the groups. No

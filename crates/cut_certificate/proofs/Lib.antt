@@ -1,11 +1,13 @@
 pub mod AcceptedTexts
 pub mod Closing
+pub mod Divided
 pub mod Evened
 pub mod GroupLines
 pub mod Grouped
 pub mod Leaders
 pub mod LinesLeft
 pub mod Made
+pub mod Movers
 pub mod NamesRead
 pub mod NextNumber
 pub mod NotAdmissible
@@ -15,6 +17,7 @@ pub mod SameColors
 pub mod Scans
 pub mod Seen
 pub mod Sound
+pub mod Staying
 pub mod StepsOf
 pub mod Used
 pub mod Verified

@@ -1,5 +1,5 @@
 -- An edge without a twin gives a split that can be made.
-use Rattle.std.proofs.Common.{◌≡◌, ℕ, ◌+◌, ◌<◌, ◌≤◌, true, false, ◌&&◌, nat_eq, List, length, get_or, All, refl, sym, ap, ◌∙◌, arith, Result, Ok, Err}
+use Rattle.std.proofs.Common.{◌≡◌, ℕ, ◌+◌, ◌<◌, ◌≤◌, true, false, ◌&&◌, nat_eq, List, length, get_or, All, refl, sym, ap, ◌∙◌, arith, Ok}
 use Rattle.std.specs.Prelude.{slice_index, nat_le}
 use Rattle.std.proofs.lemmas.Bool.Decides.{nat_tests}
 use Rattle.base_kit.specs.declared.act_graph.Edge.{Edge}
@@ -7,10 +7,6 @@ use Rattle.base_kit.specs.Sets.{has}
 use Rattle.cut_certificate.specs.declared.certificate.Split.{Split}
 use Rattle.cut_certificate.specs.declared.certifying.Parting.{Parting}
 use Rattle.cut_certificate.specs.declared.outgoing.Placed.{Placed}
-use Rattle.cut_certificate.specs.declared.refusal.CutKind.{CutKind}
-use Rattle.cut_certificate.specs.declared.refusal.Stop.{Stop}
-use Rattle.cut_certificate.specs.declared.refusal.Stop.TheVariants as stop
-use Rattle.cut_certificate.specs.Answers.{Steps}
 use Rattle.cut_certificate.specs.Blocks.{Blocks, edge_act, is_block, are_parts, reaches, numbers_after, blocks_after, split_by}
 use Rattle.cut_certificate.specs.InUse.{AreInUse}
 use Rattle.cut_certificate.specs.Uneven.{IsUnmatched, IsParting, IsSplitBy}
@@ -54,7 +50,3 @@ unmatched_splits edges blocks p one other split are h1 h2 together un block by e
 pub parting_splits : (edges : List Edge) (blocks : Blocks) (p : Parting) (split : Split) → AreInUse blocks.numbers blocks.count → IsParting edges blocks.numbers p → IsSplitBy blocks.numbers p split → split_by edges blocks split ≡ Ok (blocks_after edges blocks split)
 parting_splits edges blocks p split are parting is =
     unmatched_splits edges blocks p.by p.goes p.stays split are parting.goes parting.stays parting.together parting.unmatched is.block is.by is.edge
-
-pub no_fault : (why : Stop) (kind : CutKind) (defined : Result Blocks CutKind) (next : Blocks) → Steps {X = Blocks} (Err why) defined → why ≡ stop.Fault kind → defined ≡ Ok next → ⊥
-no_fault (stop.Fault other) kind defined next e same made = let f = sym made ∙ e in cc
-no_fault stop.Memory kind defined next e same made = cc

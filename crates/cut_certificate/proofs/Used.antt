@@ -2,8 +2,6 @@
 use Rattle.std.proofs.Common.{◌≡◌, ◌≢◌, ℕ, zero, suc, ◌+◌, ◌-◌, ◌<◌, ◌≤◌, Bool, true, false, cond, ◌||◌, ◌&&◌, nat_eq, List, [], ◌∷◌, length, map, get_or, All, refl, sym, ap, ◌∙◌, arith, inl, inr}
 use Rattle.std.specs.List.{list_any, range_with_len}
 use Rattle.std.proofs.lemmas.Bool.{cases_eq}
-use Rattle.std.specs.Prelude.{slice_set}
-use Rattle.std.proofs.lemmas.List.{ext_get_or, get_or-set_same, get_or-set_other, length-set}
 use Rattle.std.proofs.lemmas.List.Elements.{All-from_get_or}
 use Rattle.std.proofs.lemmas.List.FromFn.{length-range_with_len, get_or-range_with_len}
 use Rattle.std.proofs.lemmas.Map.Steps.{le-length_from_below}
@@ -82,29 +80,6 @@ after_at edges numbers block by act next u h = over_range (number_after edges nu
 pub after_long : (edges : List Edge) (numbers : List ℕ) (block by act next : ℕ) → length (numbers_after edges numbers block by act next) ≡ length numbers
 unfolding numbers_after
 after_long edges numbers block by act next = map_long (number_after edges numbers block by act next) (range_with_len 0 (length numbers)) ∙ length-range_with_len 0 (length numbers)
-
--- the first routers have their numbers after a split
-pub record AreDivided (edges : List Edge) (numbers : List ℕ) (block by act next count : ℕ) (found : List ℕ) : Type 0 where
-  pub total : length found ≡ length numbers
-  pub so_far : (u : ℕ) → u < count → get_or found u 0 ≡ number_after edges numbers block by act next u
-
-pub divided_none : (edges : List Edge) (numbers : List ℕ) (block by act next : ℕ) (found : List ℕ) → length found ≡ length numbers → AreDivided edges numbers block by act next 0 found
-divided_none edges numbers block by act next found total = record { total = total; so_far = λ u h. absurd (omega arith) }
-
-pub divided_more : (edges : List Edge) (numbers : List ℕ) (block by act next count : ℕ) (found : List ℕ) (number : ℕ) → AreDivided edges numbers block by act next count found → count < length numbers
-    → number ≡ number_after edges numbers block by act next count → AreDivided edges numbers block by act next (count + 1) (slice_set found count number)
-divided_more edges numbers block by act next count found number are h is = record {
-  total = length-set found count number ∙ are.total;
-  so_far = λ u lt. (elim (cases_eq u count) [
-    | inl same ↦ ap (λ k. get_or (slice_set found count number) k 0) same ∙ get_or-set_same found count number 0 (omega (arith, are.total)) ∙ is ∙ ap (number_after edges numbers block by act next) (sym same)
-    | inr other ↦ get_or-set_other found count u number 0 other ∙ are.so_far u (omega arith)
-  ]);
-}
-
-pub divided_all : (edges : List Edge) (numbers : List ℕ) (block by act next count : ℕ) (found : List ℕ) → AreDivided edges numbers block by act next count found → length numbers ≤ count → found ≡ numbers_after edges numbers block by act next
-divided_all edges numbers block by act next count found are le =
-    ext_get_or 0 found (numbers_after edges numbers block by act next) (are.total ∙ sym (after_long edges numbers block by act next))
-    (λ u h. are.so_far u (omega (arith, are.total)) ∙ sym (after_at edges numbers block by act next u (omega (arith, are.total))))
 
 pub split_used : (edges : List Edge) (numbers : List ℕ) (count block by act : ℕ) → AreInUse numbers count → has (numbers_after edges numbers block by act (count + 1)) block ≡ true
     → has (numbers_after edges numbers block by act (count + 1)) (count + 1) ≡ true → AreInUse (numbers_after edges numbers block by act (count + 1)) (count + 1)

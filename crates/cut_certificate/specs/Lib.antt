@@ -7,6 +7,7 @@ pub mod InUse
 pub mod Kept
 pub mod Laws
 pub mod Members
+pub mod Moves
 pub mod Numbering
 pub mod Outgoing
 pub mod Printed

@@ -1,92 +1,57 @@
 //! The routers of a graph in numbered blocks.
 
-ghost use Rattle.std.specs.Prelude.{◌^◌, slice_index, ◌≡◌, ◌<◌, ◌≤◌, ◌&&◌, ◌==◌, IfOk, length};
-ghost use Rattle.base_kit.specs.Sets.{has};
-ghost use Rattle.cut_certificate.specs.Answers.{Steps};
-ghost use Rattle.cut_certificate.specs.Blocks.{edge_act, first_blocks, is_block, number_after, numbers_after, split_by};
+ghost use Rattle.std.specs.Prelude.{slice_index, ◌≡◌, ◌<◌, ◌≤◌, ◌+◌, ◌^◌, ◌&&◌, All, IfOk, length};
+ghost use Rattle.cut_certificate.specs.Blocks.{edge_act, first_blocks, is_block, split_by};
 ghost use Rattle.cut_certificate.specs.InUse.{AreInUse};
+ghost use Rattle.cut_certificate.specs.Moves.{AreIncoming, AreMembersListed, IsSplitOrFault};
 ghost use Rattle.cut_certificate.specs.Outgoing.{AreIndexed};
 
 use crate::certificate::Split;
-use crate::mirrors::leads_into;
+use crate::moving::{has_stayer, movers, renumber};
 use crate::numbering::numbers_of;
 use crate::outgoing::Placed;
-use crate::refusal::{CutKind, Stop};
+use crate::refusal::CutKind;
 use base_kit::{ActGraph, NoMemory};
 use std::alloc::Global;
 use std::marker::Model;
 
-/// The number of each router's block, from 1, and how many blocks there are.
+/// The number of each router's block, from 1, and how many blocks there are. The list of a block, by its
+/// number, has all its members, in any order, and maybe routers that have left it: each is dropped where
+/// it is met, so that a split looks at no member of a large block that stays.
 #[derive(Drop)]
 pub(crate) struct Blocks {
     numbers: Vec<usize>,
     count: usize,
+    lists: Vec<Vec<u32>>,
 }
 
 impl Model for Blocks {
     ghost use Rattle.cut_certificate.specs.Blocks.{Blocks};
-    ghost use Rattle.cut_certificate.specs.InUse.{AreInUse};
+    ghost use Rattle.cut_certificate.specs.Moves.{AreHeld};
 
     ghost Value = { Blocks };
 
     ghost view = { λ b. record { numbers = b.numbers.items; count = b.count } };
 
-    ghost invariant = { λ b. AreInUse b.numbers.items b.count };
+    ghost invariant = { λ b. AreHeld b.numbers.items b.count b.lists.items };
 }
 
-// The number of a router's block after a split.
-fn number_after(
-    graph: &ActGraph,
-    outgoing: &[Vec<Placed>],
-    numbers: &[usize],
-    split: Split,
-    act: u32,
-    next: usize,
-    router: usize,
-) -> usize
-    requires index { AreIndexed graph.now outgoing.now }
-    requires total { length numbers.now ≡ graph.now.count }
-    requires router { router < graph.now.count }
-    ensures { result ≡ number_after graph.now.edges numbers.now split.block split.by act next router }
+// The list of each block, by its number.
+fn lists_of(alloc: Global, numbers: &[usize], count: usize) -> Result<Vec<Vec<u32>>, NoMemory>
+    requires fits { length numbers.now < 2 ^ 32 }
+    requires some { count ≤ length numbers.now }
+    requires known { All (λ number. (0 < number) × (number ≤ count)) numbers.now }
+    ensures total { IfOk result (λ v. length v.items ≡ count + 1) }
+    ensures listed { IfOk result (λ v. AreMembersListed numbers.now v.items) }
 {
-    let number = numbers[router];
-    if number != split.block as usize {
-        return number;
+    let mut lists = Vec::new(alloc);
+    for _list in 0..count + 1 {
+        lists.push(Vec::new(alloc))?;
     }
-    let list = outgoing[router].as_slice();
-    if leads_into(list, numbers, split.by as usize, act) {
-        next
-    } else {
-        number
-    }
-}
-
-// The numbers of the blocks after a split.
-fn numbers_after(
-    alloc: Global,
-    graph: &ActGraph,
-    outgoing: &[Vec<Placed>],
-    numbers: &[usize],
-    split: Split,
-    act: u32,
-    next: usize,
-) -> Result<Vec<usize>, NoMemory>
-    requires index { AreIndexed graph.now outgoing.now }
-    requires total { length numbers.now ≡ graph.now.count }
-    ensures { IfOk result (λ v. v.items ≡ numbers_after graph.now.edges numbers.now split.block split.by act next) }
-{
-    let mut after = Vec::from_slice(alloc, numbers)?;
     for router in 0..numbers.len() {
-        after[router] = number_after(graph, outgoing, numbers, split, act, next, router);
+        lists[numbers[router]].push(router as u32)?;
     }
-    Ok(after)
-}
-
-// Whether both parts of a divided block have members.
-fn are_parts(numbers: &[usize], block: usize, next: usize) -> bool
-    ensures { result ≡ (has numbers.now block && has numbers.now next) }
-{
-    numbers.contains(&block) && numbers.contains(&next)
+    Ok(lists)
 }
 
 impl Blocks {
@@ -100,7 +65,12 @@ impl Blocks {
             colors.push(*color as usize)?;
         }
         let (numbers, count) = numbers_of(alloc, &colors)?;
-        Ok(Blocks { numbers, count })
+        let lists = lists_of(alloc, &numbers, count)?;
+        Ok(Blocks {
+            numbers,
+            count,
+            lists,
+        })
     }
 
     /// The number of each router's block.
@@ -135,40 +105,61 @@ impl Blocks {
             && (1 <= split.by && split.by as usize <= self.count)
     }
 
-    /// The blocks after a split, whose edge acts so.
-    ///
-    /// # Errors
-    ///
+    /// The list of a block, in which all its members stand and maybe routers that have left it.
+    pub(crate) fn list_of(&self, block: usize) -> Option<&Vec<u32>> {
+        self.lists.get(block)
+    }
+
+    /// The blocks after a split, whose edge acts so, or these blocks and the fault of the split:
     /// `NoBlock` where one of the two is no block, else `SameBlock` where they are one, else
     /// `NothingSplit` where all members would stay or all would go.
     pub(crate) fn split_by(
-        &self,
+        self,
         alloc: Global,
         graph: &ActGraph,
         outgoing: &[Vec<Placed>],
+        incoming: &[Vec<Placed>],
         split: Split,
         act: u32,
-    ) -> Result<Blocks, Stop>
+    ) -> Result<(Blocks, Option<CutKind>), NoMemory>
         requires index { AreIndexed graph.now outgoing.now }
-        requires total { length self.now.numbers ≡ graph.now.count }
+        requires incoming { AreIncoming graph.now incoming.now }
+        requires total { length self.numbers ≡ graph.now.count }
         requires act { act ≡ edge_act graph.now.edges split.edge }
-        ensures { Steps result (split_by graph.now.edges self.now split) }
+        ensures { IfOk result (λ r. IsSplitOrFault (split_by graph.now.edges self split) self r.0 r.1) }
     {
         if !self.are_blocks(split) {
-            return Err(Stop::Fault(CutKind::NoBlock));
+            return Ok((self, Some(CutKind::NoBlock)));
         }
         if split.block == split.by {
-            return Err(Stop::Fault(CutKind::SameBlock));
+            return Ok((self, Some(CutKind::SameBlock)));
         }
-        let next = self.count() + 1;
-        let numbers = numbers_after(alloc, graph, outgoing, self.numbers(), split, act, next)?;
-        if are_parts(&numbers, split.block as usize, next) {
-            Ok(Blocks {
+        let Blocks {
+            mut numbers,
+            count,
+            mut lists,
+        } = self;
+        let movers = movers(
+            alloc, graph, outgoing, incoming, &numbers, &lists, split, act,
+        )?;
+        let list = &mut lists[split.block as usize];
+        let stays = has_stayer(graph, outgoing, &numbers, list, split, act);
+        if movers.is_empty() || !stays {
+            let same = Blocks {
                 numbers,
-                count: next,
-            })
-        } else {
-            Err(Stop::Fault(CutKind::NothingSplit))
+                count,
+                lists,
+            };
+            return Ok((same, Some(CutKind::NothingSplit)));
         }
+        let next = count + 1;
+        renumber(&mut numbers, &movers, next);
+        lists.push(movers)?;
+        let after = Blocks {
+            numbers,
+            count: next,
+            lists,
+        };
+        Ok((after, None))
     }
 }

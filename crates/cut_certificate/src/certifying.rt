@@ -1,19 +1,22 @@
 //! Splits as long as a block is not even.
 
 ghost use Rattle.std.specs.Prelude.{◌≡◌, ◌<◌, ◌≤◌, ◌-◌, ◌^◌, ◌++◌, ◌∷◌, [], All, IfOk, MatchOption, Ok, OnOk, length, slice_index, slice_set, true};
-ghost use Rattle.cut_certificate.specs.Blocks.{split_by};
+ghost use Rattle.cut_certificate.specs.Blocks.{first_blocks, split_by};
 ghost use Rattle.cut_certificate.specs.Certificates.{AreAfter, IsAccepted};
 ghost use Rattle.cut_certificate.specs.Evenness.{mirror_each_other};
 ghost use Rattle.cut_certificate.specs.InUse.{AreInUse};
+ghost use Rattle.cut_certificate.specs.Moves.{AreIncoming, IsCourse};
 ghost use Rattle.cut_certificate.specs.Outgoing.{AreIndexed};
 ghost use Rattle.cut_certificate.specs.Uneven.{AreEvenFrom, AreLeaders, AreMirrored, IsParting, IsSplitBy};
 
 use crate::blocks::Blocks;
 use crate::certificate::{Certificate, Split};
+use crate::course::{Course, first_course};
 use crate::groups::groups_of;
+use crate::incoming::by_exporter;
 use crate::mirrors::unmatched;
 use crate::outgoing::{Placed, by_importer};
-use crate::refusal::Stop;
+use crate::turns::with_turns;
 use base_kit::{ActGraph, List, NoMemory};
 use std::alloc::Global;
 
@@ -100,15 +103,17 @@ fn divided(
     alloc: Global,
     graph: &ActGraph,
     outgoing: &[Vec<Placed>],
-    blocks: &Blocks,
+    incoming: &[Vec<Placed>],
+    blocks: Blocks,
     p: Parting,
 ) -> Result<(Blocks, Split), NoMemory>
     requires index { AreIndexed graph.now outgoing.now }
-    requires total { length blocks.now.numbers ≡ graph.now.count }
+    requires incoming { AreIncoming graph.now incoming.now }
+    requires total { length blocks.numbers ≡ graph.now.count }
     requires few { graph.now.count < 2 ^ 32 }
-    requires parting { IsParting graph.now.edges blocks.now.numbers p }
-    ensures made { IfOk result (λ r. split_by graph.now.edges blocks.now r.1 ≡ Ok r.0) }
-    ensures by { IfOk result (λ r. IsSplitBy blocks.now.numbers p r.1) }
+    requires parting { IsParting graph.now.edges blocks.numbers p }
+    ensures made { IfOk result (λ r. split_by graph.now.edges blocks r.1 ≡ Ok r.0) }
+    ensures by { IfOk result (λ r. IsSplitBy blocks.numbers p r.1) }
     ensures place { IfOk result (λ r. r.1.edge < length graph.now.edges) }
     ensures in_use { IfOk result (λ r. AreInUse r.0.numbers r.0.count) }
 {
@@ -117,13 +122,13 @@ fn divided(
     let by = blocks.number_of(p.by.edge.exporter);
     let edge = p.by.place;
     let split = Split { block, by, edge };
-    match blocks.split_by(alloc, graph, outgoing, split, p.by.edge.act) {
-        Ok(next) => {
+    let (next, fault) = blocks.split_by(alloc, graph, outgoing, incoming, split, p.by.edge.act)?;
+    match fault {
+        None => {
             let _count = next.count();
             Ok((next, split))
         }
-        Err(Stop::Memory) => Err(NoMemory),
-        Err(Stop::Fault(_)) => unreachable!(),
+        Some(_) => unreachable!(),
     }
 }
 
@@ -143,24 +148,28 @@ fn refined(
     alloc: Global,
     graph: &ActGraph,
     outgoing: &[Vec<Placed>],
-    first: Blocks,
+    incoming: &[Vec<Placed>],
+    course: Course,
 ) -> Result<(Blocks, List<Split>), NoMemory>
     requires index { AreIndexed graph.now outgoing.now }
-    requires total { length first.numbers ≡ graph.now.count }
+    requires incoming { AreIncoming graph.now incoming.now }
+    requires course { IsCourse graph.now course.blocks course.splits }
     requires few { graph.now.count < 2 ^ 32 }
-    ensures after { IfOk result (λ r. AreAfter graph.now first r.1 r.0) }
+    ensures after { IfOk result (λ r. AreAfter graph.now (first_blocks graph.now) r.1 r.0) }
     ensures even { IfOk result (λ r. AreMirrored graph.now.edges r.0.numbers) }
     ensures few { IfOk result (λ r. length r.1 ≤ graph.now.count) }
 {
-    let mut count = first.count();
-    let mut blocks = first;
+    let Course {
+        mut blocks,
+        mut splits,
+    } = course;
+    let mut count = blocks.count();
     let mut leaders = leaders(alloc, blocks.numbers(), count)?;
-    let mut splits = List::new(alloc);
     let mut from = 0;
     'splitting: loop {
         match next_parting(graph, outgoing, blocks.numbers(), &leaders, from) {
             Some((router, p)) => {
-                let (next, split) = divided(alloc, graph, outgoing, &blocks, p)?;
+                let (next, split) = divided(alloc, graph, outgoing, incoming, blocks, p)?;
                 lead(&mut leaders, split.block, p)?;
                 splits.push(split)?;
                 count = next.count();
@@ -177,15 +186,18 @@ fn refined(
     }
 }
 
-/// A certificate of the graph that is accepted, with at most as many splits as routers.
+/// A certificate of the graph that is accepted, with at most as many splits as routers. Where a large block
+/// is split by a smaller one, its members that stay are not gone through.
 pub fn certify(alloc: Global, graph: &ActGraph) -> Result<Certificate, NoMemory>
     ensures accepted { IfOk result (IsAccepted graph.now) }
     ensures few { IfOk result (λ c. length c.splits ≤ graph.now.count) }
 {
     let _count = graph.count;
     let outgoing = by_importer(alloc, graph)?;
-    let first = Blocks::first(alloc, graph)?;
-    let (blocks, splits) = refined(alloc, graph, &outgoing, first)?;
+    let incoming = by_exporter(alloc, graph)?;
+    let first = first_course(alloc, graph)?;
+    let course = with_turns(alloc, graph, &outgoing, &incoming, first)?;
+    let (blocks, splits) = refined(alloc, graph, &outgoing, &incoming, course)?;
     let groups = groups_of(alloc, blocks.numbers())?;
     Ok(Certificate { splits, groups })
 }

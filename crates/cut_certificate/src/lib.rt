@@ -10,17 +10,21 @@
 mod blocks;
 mod certificate;
 mod certifying;
+mod course;
 mod forms;
 mod groups;
+mod incoming;
 pub mod laws;
 mod lines;
 mod mirrors;
+mod moving;
 mod numbering;
 mod outgoing;
 mod printing;
 mod reading;
 mod refusal;
 mod standing;
+mod turns;
 
 pub use certificate::{Certificate, Split};
 pub use certifying::certify;

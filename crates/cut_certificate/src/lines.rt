@@ -6,6 +6,7 @@ ghost use Rattle.cfg_ast.specs.text.Lines.{words_of};
 ghost use Rattle.numbered_names.specs.NamePlaces.{AreBelow, place_in};
 ghost use Rattle.cut_certificate.specs.Answers.{Steps};
 ghost use Rattle.cut_certificate.specs.Forms.{closing_form, group_form, head_form, split_form};
+ghost use Rattle.cut_certificate.specs.Moves.{AreIncoming};
 ghost use Rattle.cut_certificate.specs.Outgoing.{AreIndexed};
 ghost use Rattle.cut_certificate.specs.Texts.{edge_named, routers_named, with_edge, with_line, with_members, with_saying};
 
@@ -46,6 +47,7 @@ fn with_edge(
     alloc: Global,
     graph: &ActGraph,
     outgoing: &[Vec<Placed>],
+    incoming: &[Vec<Placed>],
     standing: Standing,
     block: u32,
     by: u32,
@@ -54,6 +56,7 @@ fn with_edge(
 ) -> Result<Standing, Stop>
     requires stage { standing.stage ≡ Stage.Splitting }
     requires index { AreIndexed graph.now outgoing.now }
+    requires incoming { AreIncoming graph.now incoming.now }
     requires total { length standing.blocks.numbers ≡ graph.now.count }
     requires router { router < graph.now.count }
     ensures { Steps result (with_edge graph.now.edges standing block by (edge_named graph.now.edges router link)) }
@@ -63,7 +66,7 @@ fn with_edge(
         Some(found) => {
             let edge = found.place;
             let split = Split { block, by, edge };
-            standing.with_split(alloc, graph, outgoing, split, found.edge.act)
+            standing.with_split(alloc, graph, outgoing, incoming, split, found.edge.act)
         }
         None => Err(Stop::Fault(CutKind::NoEdge)),
     }
@@ -73,11 +76,13 @@ fn with_split(
     alloc: Global,
     graph: &ActGraph,
     outgoing: &[Vec<Placed>],
+    incoming: &[Vec<Placed>],
     places: &NamePlaces,
     standing: Standing,
     line: &[u8],
 ) -> Result<Standing, Stop>
     requires index { AreIndexed graph.now outgoing.now }
+    requires incoming { AreIncoming graph.now incoming.now }
     requires within { AreBelow places.now graph.now.count }
     requires total { length standing.blocks.numbers ≡ graph.now.count }
     requires few { length standing.blocks.numbers < 2 ^ 32 }
@@ -93,7 +98,9 @@ fn with_split(
         }
     }
     match places.number_of_word(name) {
-        Some(router) => with_edge(alloc, graph, outgoing, standing, block, by, router, link),
+        Some(router) => with_edge(
+            alloc, graph, outgoing, incoming, standing, block, by, router, link,
+        ),
         None => Err(Stop::Fault(CutKind::UnknownRouter)),
     }
 }
@@ -181,11 +188,13 @@ pub(crate) fn with_line(
     alloc: Global,
     graph: &ActGraph,
     outgoing: &[Vec<Placed>],
+    incoming: &[Vec<Placed>],
     places: &NamePlaces,
     standing: Standing,
     line: &[u8],
 ) -> Result<Standing, Stop>
     requires index { AreIndexed graph.now outgoing.now }
+    requires incoming { AreIncoming graph.now incoming.now }
     requires within { AreBelow places.now graph.now.count }
     requires total { length standing.blocks.numbers ≡ graph.now.count }
     requires few { length standing.blocks.numbers < 2 ^ 32 }
@@ -198,7 +207,7 @@ pub(crate) fn with_line(
         return with_head(standing, rest);
     }
     if word == b"split".as_slice() {
-        return with_split(alloc, graph, outgoing, places, standing, rest);
+        return with_split(alloc, graph, outgoing, incoming, places, standing, rest);
     }
     if word == b"group".as_slice() {
         return with_group(alloc, places, standing, rest);

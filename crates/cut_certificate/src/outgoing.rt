@@ -13,7 +13,7 @@ pub(crate) struct Placed {
     pub(crate) edge: Edge,
 }
 
-fn empty_lists(alloc: Global, count: u32) -> Result<Vec<Vec<Placed>>, NoMemory>
+pub(crate) fn empty_lists(alloc: Global, count: u32) -> Result<Vec<Vec<Placed>>, NoMemory>
     ensures total { IfOk result (λ v. length v.items ≡ count) }
     ensures empty { IfOk result (λ v. All (λ l. l.items ≡ []) v.items) }
 {

@@ -6,10 +6,12 @@ ghost use Rattle.cfg_ast.specs.text.TextLines.{text_line};
 ghost use Rattle.numbered_names.specs.NamePlaces.{AreBelow, place_in};
 ghost use Rattle.cut_certificate.specs.Answers.{Verifies, refused_at};
 ghost use Rattle.cut_certificate.specs.Certificates.{AreCoarsest, IsAccepted};
+ghost use Rattle.cut_certificate.specs.Moves.{AreIncoming};
 ghost use Rattle.cut_certificate.specs.Outgoing.{AreIndexed};
 ghost use Rattle.cut_certificate.specs.Texts.{certificate_from, certificate_of_text, opening};
 
 use crate::certificate::Certificate;
+use crate::incoming::by_exporter;
 use crate::lines::with_line;
 use crate::outgoing::{Placed, by_importer};
 use crate::refusal::{CutRefusal, Stop};
@@ -33,11 +35,13 @@ fn read_lines(
     alloc: Global,
     graph: &ActGraph,
     outgoing: &[Vec<Placed>],
+    incoming: &[Vec<Placed>],
     places: &NamePlaces,
     bytes: &[u8],
 ) -> Result<Certificate, CutRefusal>
     requires short { length bytes.now ≤ 16777216 }
     requires index { AreIndexed graph.now outgoing.now }
+    requires incoming { AreIncoming graph.now incoming.now }
     requires within { AreBelow places.now graph.now.count }
     ensures { Verifies result (certificate_from graph.now.edges (place_in places.now) (length (all_lines_of bytes.now) + 1) (map (text_line bytes.now) (all_lines_of bytes.now)) (opening graph.now)) }
 {
@@ -49,7 +53,15 @@ fn read_lines(
         line += 1;
         let end = newline_from(bytes, from);
         let upto = without_return(bytes, from, end);
-        match with_line(alloc, graph, outgoing, places, standing, &bytes[from..upto]) {
+        match with_line(
+            alloc,
+            graph,
+            outgoing,
+            incoming,
+            places,
+            standing,
+            &bytes[from..upto],
+        ) {
             Ok(more) => standing = more,
             Err(stop) => return Err(refused_at(line, stop)),
         }
@@ -83,5 +95,6 @@ pub fn verify(
     let _count = graph.count;
     let places = NamePlaces::of(alloc, names.as_slice())?;
     let outgoing = by_importer(alloc, graph)?;
-    read_lines(alloc, graph, &outgoing, &places, bytes)
+    let incoming = by_exporter(alloc, graph)?;
+    read_lines(alloc, graph, &outgoing, &incoming, &places, bytes)
 }

@@ -4,6 +4,7 @@ ghost use Rattle.std.specs.Prelude.{◌≡◌, ◌<◌, ◌^◌, IfOk, Some, len
 ghost use Rattle.cut_certificate.specs.Answers.{Steps};
 ghost use Rattle.cut_certificate.specs.Blocks.{edge_act, groups_of, split_by};
 ghost use Rattle.cut_certificate.specs.Kept.{AreKept};
+ghost use Rattle.cut_certificate.specs.Moves.{AreIncoming};
 ghost use Rattle.cut_certificate.specs.Outgoing.{AreIndexed};
 ghost use Rattle.cut_certificate.specs.Texts.{with_all_groups, ended, is_next_group, opening, with_blocks, with_head, with_members};
 
@@ -127,11 +128,13 @@ impl Standing {
         alloc: Global,
         graph: &ActGraph,
         outgoing: &[Vec<Placed>],
+        incoming: &[Vec<Placed>],
         split: Split,
         act: u32,
     ) -> Result<Standing, Stop>
         requires stage { self.stage ≡ Stage.Splitting }
         requires index { AreIndexed graph.now outgoing.now }
+        requires incoming { AreIncoming graph.now incoming.now }
         requires total { length self.blocks.numbers ≡ graph.now.count }
         requires act { act ≡ edge_act graph.now.edges split.edge }
         ensures { Steps result (with_blocks self split (split_by graph.now.edges self.blocks split)) }
@@ -143,7 +146,10 @@ impl Standing {
             groups,
             named,
         } = self;
-        let blocks = blocks.split_by(alloc, graph, outgoing, split, act)?;
+        let (blocks, fault) = blocks.split_by(alloc, graph, outgoing, incoming, split, act)?;
+        if let Some(kind) = fault {
+            return Err(Stop::Fault(kind));
+        }
         splits.push(split)?;
         Ok(Standing {
             stage,

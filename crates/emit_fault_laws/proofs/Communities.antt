@@ -20,7 +20,8 @@ use Rattle.route_maps.specs.declared.plain.Plain.{Plain}
 use Rattle.srp_core.specs.declared.route.Act.{Act}
 use Rattle.srp_core.specs.declared.route.Act.TheVariants.{Import, Cost}
 use Rattle.config_emit.specs.Emitted.{emitted_router, emitted}
-use Rattle.config_emit.specs.Laws.{IsPlan, IsActWithin}
+use Rattle.srp_core.specs.ActMaps.{IsActWithin}
+use Rattle.config_emit.specs.Laws.{IsPlan}
 use Rattle.config_emit.specs.Maps.{act_in_map, act_out_map, maps_of, match_lists, deletion_lists, lists_of_entry, lists_of_map}
 use Rattle.config_emit.specs.Plan.{Plan, act_into}
 use Rattle.emit_fault_laws.proofs.Policies.{of_entries}

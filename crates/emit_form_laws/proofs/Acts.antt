@@ -20,7 +20,8 @@ use Rattle.srp_core.specs.declared.route.Act.TheVariants.{Import, Cost}
 use Rattle.srp_core.specs.Problem.{act_of}
 use Rattle.srp_core.specs.ProblemOf.{Direction, MeansCost, Means}
 use Rattle.srp_quotient.specs.Groups.{same_pair, or_else, last_of, last_into, edge_into}
-use Rattle.config_emit.specs.Laws.{IsPlan, IsPrintableAct}
+use Rattle.srp_core.specs.ActMaps.{IsPrintableAct}
+use Rattle.config_emit.specs.Laws.{IsPlan}
 use Rattle.config_emit.specs.Interfaces.{cost_by}
 use Rattle.config_emit.specs.Plan.{Plan, act_of_place, act_into}
 use Rattle.emit_form_laws.proofs.Groups.{problem_of, carries, IsEnd}

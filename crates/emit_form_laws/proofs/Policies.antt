@@ -22,7 +22,8 @@ use Rattle.route_maps.specs.declared.plain.PlainEntry.{PlainEntry}
 use Rattle.srp_core.specs.declared.route.Act.{Act}
 use Rattle.srp_core.specs.declared.route.Act.TheVariants.{Import, Cost}
 use Rattle.srp_quotient.specs.Groups.{touches}
-use Rattle.config_emit.specs.Laws.{IsPlan, IsPrintableAct}
+use Rattle.srp_core.specs.ActMaps.{IsPrintableAct}
+use Rattle.config_emit.specs.Laws.{IsPlan}
 use Rattle.config_emit.specs.Maps.{other_end, closed_map, act_in_map, act_out_map, is_whole, if_written, maps_at, firsts, maps_over, maps_of, list_name, deletion_name, number_of_map, written_list, match_list, match_lists, deletion_lists, lists_of_entry, lists_of_map}
 use Rattle.config_emit.specs.Plan.{Plan, act_into}
 use Rattle.emit_form_laws.proofs.Acts.{act_prints}

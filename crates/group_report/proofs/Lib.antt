@@ -1,3 +1,6 @@
+mod ActCounts
 pub mod JsonTexts
 pub mod LineSteps
+mod LinkSums
 pub mod Reported
+mod TableSteps

@@ -1,4 +1,5 @@
 pub mod GroupLines
 pub mod JsonData
 pub mod JsonText
+pub mod LinkTables
 pub mod Reports

@@ -3,7 +3,7 @@
 //! `report` writes how many routers and links there were and are, the groups and the neighbours that
 //! are part of no session as lines of text, exactly as the definition `report_text` says, and `json`
 //! writes the same as one line of JSON, as `json_text` says. `count_line` writes the line of the
-//! counts alone.
+//! counts alone, and `link_count` counts the links between groups where nobody asks which.
 #![tactic(auto)]
 
 mod counts;
@@ -11,6 +11,7 @@ mod facts;
 mod groups;
 mod json_line;
 mod json_values;
+mod link_counts;
 mod reports;
 #[cfg(test)]
 mod tests;
@@ -18,4 +19,5 @@ mod tests;
 pub use counts::{count_line, put_count_line};
 pub use groups::group_lines;
 pub use json_line::json;
+pub use link_counts::link_count;
 pub use reports::report;

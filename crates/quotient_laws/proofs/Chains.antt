@@ -5,7 +5,7 @@ use Rattle.srp_core.specs.declared.route.Route.{Route}
 use Rattle.srp_core.specs.Problem.{Problem, count, IsProblem}
 use Rattle.srp_core.specs.Stability.{label, ForwardsTo, HaveSameKeys}
 use Rattle.srp_core.specs.Quotient.{group_of, IsQuotient, Corresponds}
-use Rattle.quotient_laws.specs.Questions.{itself, has_routes, is_no_longer, passes, HasHops, HasHopsAround, QuestionsCarry}
+use Rattle.quotient_laws.specs.Questions.{itself, has_routes, is_no_longer, is_nowhere_longer, passes, HasHops, HasHopsAround, QuestionsCarry}
 use Rattle.quotient_laws.proofs.Answered.{AnswersAlike, Down, Up, carries}
 
 none_below : (P Q : Problem) (a b : Option Route) → HaveSameKeys P Q a b → a ≡ None → b ≡ None
@@ -56,6 +56,12 @@ module _ (P Q : Problem) (groups : List ℕ) (rules : IsProblem P) (q : IsQuotie
         (hops_down hops u v inside chain);
   }
 
+  longest_alike : (most : ℕ) → AnswersAlike P Q groups (is_nowhere_longer most) labels lower
+  longest_alike most = record {
+    below = λ none g. (length_alike most g).below (none g);
+    above = λ none g. (length_alike most g).above (none g);
+  }
+
   around_down : (w hops u v : ℕ) → u < count P → HasHopsAround w P (group_of groups) labels hops u v
       → HasHopsAround w Q itself lower hops (group_of groups u) (group_of groups v)
   around_down w zero u v inside chain = (ap (group_of groups) chain.0, chain.1)
@@ -92,5 +98,7 @@ questions_carry down up P Q groups q = record {
   reachability = carries down up P Q groups q has_routes (routes_alike P Q groups q.rules q.quotient);
   path_length = λ most g. carries down up P Q groups q (is_no_longer most g)
       (λ labels lower c. length_alike P Q groups q.rules q.quotient labels lower c most g);
+  longest = λ most. carries down up P Q groups q (is_nowhere_longer most)
+      (λ labels lower c. longest_alike P Q groups q.rules q.quotient labels lower c most);
   waypoint = λ g h w. carries down up P Q groups q (passes g h w) (λ labels lower c. passes_alike P Q groups q.rules q.quotient labels lower c g h w);
 }

@@ -18,7 +18,7 @@ use Rattle.cfg_ast.specs.meaning.Topology.{links_of}
 use Rattle.abstract_net.specs.Links.{link_at, importer_at, exporter_at, goes, on_link, is_pair, one_if, HasEnds, NoMoreLinks}
 use Rattle.srp_core.specs.Problem.{Problem, Precedes, AreOrdered}
 use Rattle.srp_core.specs.ProblemOf.{IsProblemOf}
-use Rattle.quotient_laws.specs.Links.{GroupsHaveNoMoreLinks}
+use Rattle.quotient_laws.specs.Links.{QuotientHasNoMoreLinks}
 
 -- ---- lists
 
@@ -200,7 +200,7 @@ module _ (n : Network) (p : Prefix) (P : Problem) (of : IsProblemOf n p P) (grou
     once = once;
   }
 
-pub no_more_links : NoMoreLinks → GroupsHaveNoMoreLinks
+pub no_more_links : NoMoreLinks → QuotientHasNoMoreLinks
 no_more_links law n p P groups count of =
     law P.edges groups count (length (links_of n)) (λ l. slice_index groups (low_of n l)) (λ l. slice_index groups (high_of n l))
     (ends_of_links n p P of groups)

@@ -7,6 +7,6 @@ use Rattle.abstract_net.specs.Links.{quotient_links}
 use Rattle.srp_core.specs.Problem.{Problem}
 use Rattle.srp_core.specs.ProblemOf.{IsProblemOf}
 
-abbrev pub GroupsHaveNoMoreLinks : Type 0
-GroupsHaveNoMoreLinks = (network : Network) (prefix : Prefix) (problem : Problem) (groups : List ℕ) (count : ℕ) → IsProblemOf network prefix problem
+abbrev pub QuotientHasNoMoreLinks : Type 0
+QuotientHasNoMoreLinks = (network : Network) (prefix : Prefix) (problem : Problem) (groups : List ℕ) (count : ℕ) → IsProblemOf network prefix problem
     → length (quotient_links problem.edges groups count) ≤ length (links_of network)

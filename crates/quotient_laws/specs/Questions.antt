@@ -82,8 +82,7 @@ pub record ShowSame (first second : Picture) : Type 0 where
   pub forwards : (g h : ℕ) → first.forwards g h → second.forwards g h
   pub forwarded : (g h : ℕ) → second.forwards g h → first.forwards g h
 
--- What is asked of pictures, whatever it says: pictures that show the same have the same answer. The lemma
--- `picture_question_carries` in proofs/ speaks of each such question; a contract has no room for a type of that size.
+-- What is asked of pictures, whatever it says: pictures that show the same have the same answer.
 abbrev pub IsOfPictures : (Picture → Type 0) → Type 1
 IsOfPictures asks = (first second : Picture) → ShowSame first second → asks first → asks second
 
@@ -94,6 +93,14 @@ pub record HaveSamePictures (problem small : Problem) (groups : List ℕ) : Type
 
 abbrev pub PicturesAgree : Type 0
 PicturesAgree = (problem small : Problem) (groups : List ℕ) → IsQuotiented problem small groups → HaveSamePictures problem small groups
+
+-- what is asked of pictures, as a question about a labelling
+abbrev pub of_picture : (Picture → Type 0) → Question
+of_picture asks problem group labels = asks (picture problem group labels)
+
+-- What is asked of pictures has one answer in a problem and in its quotient.
+abbrev pub GroupQuestionCarries : (Picture → Type 0) → Type 0
+GroupQuestionCarries asks = (problem small : Problem) (groups : List ℕ) → IsQuotiented problem small groups → HasOneAnswer problem small groups (of_picture asks)
 
 -- ---- three questions that are asked of routers
 
@@ -110,6 +117,10 @@ HasHops problem labels (suc hops) u v = (next : ℕ) × ForwardsTo problem label
 abbrev pub is_no_longer : ℕ → ℕ → Question
 is_no_longer most g problem group labels = (hops u v : ℕ) → most < hops → u < count problem → group u ≡ g → ¬ HasHops problem labels hops u v
 
+-- no chain of forwarding at all is longer than that
+abbrev pub is_nowhere_longer : ℕ → Question
+is_nowhere_longer most problem group labels = (g : ℕ) → is_no_longer most g problem group labels
+
 -- the same hops, and no router on the way, nor the first or the last one, is of group w
 abbrev pub HasHopsAround : ℕ → Problem → (ℕ → ℕ) → List (Option Route) → ℕ → ℕ → ℕ → Type 0
 HasHopsAround w problem group labels zero u v = (u ≡ v) × (group u ≢ w)
@@ -120,10 +131,11 @@ HasHopsAround w problem group labels (suc hops) u v =
 abbrev pub passes : ℕ → ℕ → ℕ → Question
 passes g h w problem group labels = (hops u v : ℕ) → u < count problem → group u ≡ g → group v ≡ h → ¬ HasHopsAround w problem group labels hops u v
 
--- the three have one answer in a problem and in its quotient
+-- they have one answer in a problem and in its quotient
 pub record QuestionsAgree (problem small : Problem) (groups : List ℕ) : Type 0 where
   pub reachability : HasOneAnswer problem small groups has_routes
   pub path_length : (most g : ℕ) → HasOneAnswer problem small groups (is_no_longer most g)
+  pub longest : (most : ℕ) → HasOneAnswer problem small groups (is_nowhere_longer most)
   pub waypoint : (g h w : ℕ) → HasOneAnswer problem small groups (passes g h w)
 
 abbrev pub QuestionsCarry : Type 0

@@ -8,12 +8,13 @@
 #![tactic(auto)]
 
 ghost use Rattle.quotient_laws.specs.Laws.{QuotientIsSmallest};
-ghost use Rattle.quotient_laws.specs.Links.{GroupsHaveNoMoreLinks};
+ghost use Rattle.quotient_laws.specs.Links.{QuotientHasNoMoreLinks};
 ghost use Rattle.quotient_laws.specs.Numbered.{EachHasGroups};
-ghost use Rattle.quotient_laws.specs.Questions.{PicturesAgree, QuestionsCarry};
+ghost use Rattle.quotient_laws.specs.Questions.{GroupQuestionCarries, IsOfPictures, Picture, PicturesAgree, QuestionsCarry};
 
 use abstract_net::laws::no_more_links;
 use srp_core::laws::{from_quotient, joins, to_quotient};
+use std::marker::Brand;
 
 /// Each problem has a coarsest admissible partition, with its groups numbered by their least members.
 pub fn each_has_groups()
@@ -24,7 +25,7 @@ pub fn each_has_groups()
 
 /// The links of the groups are no more than those of the network.
 pub fn groups_have_no_more_links()
-    ensures { GroupsHaveNoMoreLinks }
+    ensures { QuotientHasNoMoreLinks }
 {
     no_more_links();
 }
@@ -50,4 +51,26 @@ pub fn questions_carry()
 {
     to_quotient();
     from_quotient();
+}
+
+/// A question about groups: whatever is asked of the keys that groups hold and of the groups to which they forward. What
+/// shows the same has the same answer. Whoever has a question calls a law with the marker `Brand` and picks the two members.
+pub trait AsksOfGroups {
+    ghost asks: { Picture → Type 0 };
+
+    ghost one_answer: { IsOfPictures asks };
+}
+
+impl AsksOfGroups for Brand {
+    ghost asks = { λ picture. Unit {0} };
+
+    ghost one_answer = { λ first second same holds. holds };
+}
+
+/// Each question about groups holds of every stable solution of the one problem exactly where it holds of every one of
+/// the other, and of some exactly where of some.
+pub fn group_question_carries<Q: AsksOfGroups>()
+    ensures { GroupQuestionCarries Q.asks }
+{
+    pictures_agree();
 }

@@ -9,7 +9,7 @@ use Rattle.cfg_ast.proofs.SameWords.{same_words}
 use Rattle.cfg_lex.proofs.LinesLeft.{Cut}
 use Rattle.route_run.specs.declared.schedule.Activation.{Activation}
 use Rattle.route_run.specs.declared.schedule.ScheduleRefusal.{ScheduleRefusal}
-use Rattle.route_run.specs.Schedules.{LineWord, words_at, words_on, activation_of, before, or_unknown, schedule_of_words, Reads}
+use Rattle.route_run.specs.Schedules.{LineWord, words_at, words_on, activation_of, before, or_unknown, schedule_of_words, ReadsSchedule}
 use Rattle.route_run.specs.declared.schedule.ScheduleRefusal.TheVariants as schedule_refusal
 use Rattle.route_run.specs.Reading.{preceded, answer_with, RefusesLine}
 
@@ -70,6 +70,6 @@ none_left bs n from le = ap (λ (ps : List Piece). flat_map words_on (map (text_
 
 -- a line that is refused refuses the whole
 pub refused_whole : (names : List (List ℕ)) (done : List Activation) (line : ℕ) (words : List (List ℕ)) (later : List LineWord) (refusal : ScheduleRefusal)
-    (whole : Answer) → answer_with names done line words later ≡ whole → RefusesLine names done line words refusal → Reads (Err refusal) whole
+    (whole : Answer) → answer_with names done line words later ≡ whole → RefusesLine names done line words refusal → ReadsSchedule (Err refusal) whole
 refused_whole names done line words later schedule_refusal.Memory whole is refuses = tt
 refused_whole names done line words later (schedule_refusal.UnknownRouter at) whole is refuses = sym is ∙ refuses later

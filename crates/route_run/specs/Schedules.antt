@@ -67,7 +67,7 @@ abbrev pub schedule_of_text : List (List ℕ) → List ℕ → Result (List Acti
 schedule_of_text names bs = schedule_of_words names (words_of_text bs)
 
 -- the answer is that of the definition, or want of memory
-abbrev pub Reads : Result (List Activation) ScheduleRefusal → Result (List Activation) ScheduleRefusal → Type 0
-Reads (Ok schedule) defined = defined ≡ Ok schedule
-Reads (Err schedule_refusal.Memory) defined = Unit {0}
-Reads (Err (schedule_refusal.UnknownRouter line)) defined = defined ≡ Err (schedule_refusal.UnknownRouter line)
+abbrev pub ReadsSchedule : Result (List Activation) ScheduleRefusal → Result (List Activation) ScheduleRefusal → Type 0
+ReadsSchedule (Ok schedule) defined = defined ≡ Ok schedule
+ReadsSchedule (Err schedule_refusal.Memory) defined = Unit {0}
+ReadsSchedule (Err (schedule_refusal.UnknownRouter line)) defined = defined ≡ Err (schedule_refusal.UnknownRouter line)

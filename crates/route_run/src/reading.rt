@@ -4,7 +4,7 @@ ghost use Rattle.std.specs.Prelude.{◌≡◌, ◌<◌, ◌≤◌, ◌^◌, All,
 ghost use Rattle.cfg_ast.specs.text.Lines.{words_of};
 ghost use Rattle.numbered_names.specs.NamePlaces.{ArePlacesOf};
 ghost use Rattle.route_run.specs.Reading.{answer_with, RefusesLine};
-ghost use Rattle.route_run.specs.Schedules.{LineWord, activation_of, run_of, schedule_of_text, Reads};
+ghost use Rattle.route_run.specs.Schedules.{LineWord, activation_of, run_of, schedule_of_text, ReadsSchedule};
 
 use crate::schedule::{Activation, ScheduleRefusal};
 use base_kit::{List, Text};
@@ -64,7 +64,7 @@ pub fn read_schedule(
 ) -> Result<List<Activation>, ScheduleRefusal>
     requires short { length bytes.now ≤ 16777216 }
     requires few { length names.now < 2 ^ 32 }
-    ensures exact { Reads result (schedule_of_text names.now bytes.now) }
+    ensures exact { ReadsSchedule result (schedule_of_text names.now bytes.now) }
     ensures within { IfOk result (λ schedule. All (λ u. u < length names.now) (run_of (length names.now) schedule)) }
 {
     let names = names.as_slice();

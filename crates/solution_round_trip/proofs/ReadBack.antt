@@ -19,7 +19,7 @@ use Rattle.solution_text.specs.Solutions.{are_some, has_words, solution_lines, n
 use Rattle.base_kit.specs.Names.{AreApart}
 use Rattle.base_kit.specs.Options.{all_given}
 use Rattle.numbered_names.proofs.Positions.{bytes_eq-sym}
-use Rattle.solution_round_trip.specs.Laws.{IsLabelInRange, AreNames, PrintedIsReadBack}
+use Rattle.solution_round_trip.specs.Laws.{IsLabelInRange, AreNames, PrintedSolutionIsReadBack}
 use Rattle.solution_round_trip.proofs.LabelsBack.{words_back}
 use Rattle.solution_round_trip.proofs.LinesBack.{lines_print}
 
@@ -201,6 +201,6 @@ read_text protocol names labels are total range =
     (labels_as (named_labels (solution_lines bs)) names labels (ap (λ (ks : List TextLine). all_given (map (said_of (named_labels ks)) names)) lines
     ∙ ap (λ (ss : List NamedLabel). all_given (map (said_of ss) names)) (all_said ls (says_of names labels) say) ∙ all_labels names labels total are.apart))
 
-pub printed_is_read_back : PrintedIsReadBack
+pub printed_is_read_back : PrintedSolutionIsReadBack
 unfolding labels_text
 printed_is_read_back protocol names labels are total range = read_text protocol names labels are total range

@@ -41,8 +41,8 @@ pub record AreNames (names : List (List ℕ)) : Type 0 where
   pub apart : AreApart names
 
 -- The text of labels of the protocol in range, one for each name, gives these labels.
-abbrev pub PrintedIsReadBack : Type 0
-PrintedIsReadBack = (protocol : Protocol) (names : List (List ℕ)) (labels : List (Option Route)) → AreNames names → length labels ≡ length names →
+abbrev pub PrintedSolutionIsReadBack : Type 0
+PrintedSolutionIsReadBack = (protocol : Protocol) (names : List (List ℕ)) (labels : List (Option Route)) → AreNames names → length labels ≡ length names →
     AllByRecursion (IsLabelInRange protocol) labels
     → labels_of_text protocol names (labels_text names labels) ≡ Ok labels
 

@@ -5,11 +5,11 @@
 //! law that it needs.
 #![tactic(auto)]
 
-ghost use Rattle.solution_round_trip.specs.Laws.{PrintedIsReadBack, StableIsInRange, StableOfGroupsIsInRange};
+ghost use Rattle.solution_round_trip.specs.Laws.{PrintedSolutionIsReadBack, StableIsInRange, StableOfGroupsIsInRange};
 
 /// What is printed of labels in range, for routers with names of their own, is read as these labels.
 pub fn printed_is_read_back()
-    ensures { PrintedIsReadBack }
+    ensures { PrintedSolutionIsReadBack }
 {}
 
 /// The labels of every stable solution of the problem of a network that a text gives are in range.

@@ -12,7 +12,7 @@ use Rattle.cfg_lex.proofs.LinesLeft.{Cut, cut_piece, left_from, left_is}
 use Rattle.srp_core.specs.declared.route.Route.{Route}
 use Rattle.solution_text.specs.declared.refusal.SolRefusal.{SolRefusal}
 use Rattle.solution_text.specs.declared.refusal.SolRefusal.TheVariants as sol_refusal
-use Rattle.solution_text.specs.Answers.{Reads}
+use Rattle.solution_text.specs.Answers.{ReadsSolution}
 use Rattle.solution_text.specs.Forms.{NamedLabel, named_label_of}
 use Rattle.solution_text.specs.Solutions.{is_foreign}
 use Rattle.solution_text.specs.Steps.{Standing, has_line, said_at, with_label, with_place, with_saying, with_words, ended, answer_from}
@@ -70,7 +70,7 @@ words_count protocol place_of n s (w ∷ ws) next e = saying_count protocol plac
 
 -- a refusal of a step is one of the whole
 pub refused_too : {X Y : Type 0} (e : SolRefusal) (step : Result X SolRefusal) (whole : Result Y SolRefusal) →
-    ((fault : SolRefusal) → step ≡ Err fault → whole ≡ Err fault) → Reads {X = X} (Err e) step → Reads {X = Y} (Err e) whole
+    ((fault : SolRefusal) → step ≡ Err fault → whole ≡ Err fault) → ReadsSolution {X = X} (Err e) step → ReadsSolution {X = Y} (Err e) whole
 refused_too sol_refusal.Memory step whole same reads = tt
 refused_too (sol_refusal.At line kind) step whole same reads = same (sol_refusal.At line kind) reads
 

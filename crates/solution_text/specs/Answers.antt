@@ -4,7 +4,7 @@ use Rattle.solution_text.specs.declared.refusal.SolRefusal.{SolRefusal}
 use Rattle.solution_text.specs.declared.refusal.SolRefusal.TheVariants as sol_refusal
 
 -- the answer is that of the definition, or want of memory
-abbrev pub Reads : {X : Type 0} → Result X SolRefusal → Result X SolRefusal → Type 0
-Reads (Ok x) defined = defined ≡ Ok x
-Reads (Err sol_refusal.Memory) defined = Unit {0}
-Reads (Err (sol_refusal.At line kind)) defined = defined ≡ Err (sol_refusal.At line kind)
+abbrev pub ReadsSolution : {X : Type 0} → Result X SolRefusal → Result X SolRefusal → Type 0
+ReadsSolution (Ok x) defined = defined ≡ Ok x
+ReadsSolution (Err sol_refusal.Memory) defined = Unit {0}
+ReadsSolution (Err (sol_refusal.At line kind)) defined = defined ≡ Err (sol_refusal.At line kind)

@@ -3,7 +3,7 @@
 ghost use Rattle.std.specs.Prelude.{◌≡◌, ◌<◌, ◌≤◌, ◌^◌, ◌∷◌, length};
 ghost use Rattle.cfg_ast.specs.text.Lines.{words_of};
 ghost use Rattle.numbered_names.specs.NamePlaces.{AreBelow, place_in};
-ghost use Rattle.solution_text.specs.Answers.{Reads};
+ghost use Rattle.solution_text.specs.Answers.{ReadsSolution};
 ghost use Rattle.solution_text.specs.Forms.{named_label_of};
 ghost use Rattle.solution_text.specs.Solutions.{is_foreign};
 ghost use Rattle.solution_text.specs.Steps.{with_label, with_saying, with_words};
@@ -40,7 +40,7 @@ fn with_label(
     label: Option<Route>,
 ) -> Result<Said, SolRefusal>
     requires { router < length said.seen }
-    ensures { Reads result (with_label protocol line said router label) }
+    ensures { ReadsSolution result (with_label protocol line said router label) }
 {
     if said.has_line(router) {
         return Err(SolRefusal::At {
@@ -70,7 +70,7 @@ fn with_saying(
 ) -> Result<Said, SolRefusal>
     requires within { AreBelow places.now (length said.seen) }
     requires few { AreBelow places.now (2 ^ 32) }
-    ensures { Reads result (with_saying protocol (place_in places.now) line said (named_label_of (name.now ∷ words_of text.now))) }
+    ensures { ReadsSolution result (with_saying protocol (place_in places.now) line said (named_label_of (name.now ∷ words_of text.now))) }
 {
     let bad_form = SolRefusal::At {
         line,
@@ -105,7 +105,7 @@ pub(crate) fn with_line(
 ) -> Result<Said, SolRefusal>
     requires within { AreBelow places.now (length said.seen) }
     requires few { AreBelow places.now (2 ^ 32) }
-    ensures { Reads result (with_words protocol (place_in places.now) line said (words_of text.now)) }
+    ensures { ReadsSolution result (with_words protocol (place_in places.now) line said (words_of text.now)) }
 {
     match next_word(text) {
         Some((name, text)) => with_saying(alloc, protocol, places, line, said, name, text),

@@ -6,7 +6,7 @@ ghost use Rattle.cfg_ast.specs.text.Members.{all_lines_of};
 ghost use Rattle.srp_core.specs.declared.route.Route.{Route};
 ghost use Rattle.srp_core.specs.Routes.{IsRouteOf};
 ghost use Rattle.srp_core.specs.Stability.{label};
-ghost use Rattle.solution_text.specs.Answers.{Reads};
+ghost use Rattle.solution_text.specs.Answers.{ReadsSolution};
 ghost use Rattle.solution_text.specs.Solutions.{labels_of_text};
 ghost use Rattle.base_kit.specs.Names.{AreApart};
 ghost use Rattle.numbered_names.specs.NamePlaces.{AreBelow, place_in};
@@ -32,7 +32,7 @@ fn read_lines(
     requires short { length bytes.now ≤ 268435456 }
     requires within { AreBelow places.now count }
     requires few { AreBelow places.now (2 ^ 32) }
-    ensures { Reads result (answer_from protocol (place_in places.now) (length (all_lines_of bytes.now) + 1) (map (text_line bytes.now) (all_lines_of bytes.now)) (nothing_said count)) }
+    ensures { ReadsSolution result (answer_from protocol (place_in places.now) (length (all_lines_of bytes.now) + 1) (map (text_line bytes.now) (all_lines_of bytes.now)) (nothing_said count)) }
 {
     let mut said = Said::nothing(alloc, count)?;
     let mut line = 0;
@@ -76,7 +76,7 @@ pub fn read_labels(
     requires short { length bytes.now ≤ 268435456 }
     requires few { length names.now < 2 ^ 32 }
     requires names { AreApart names.now }
-    ensures exact { Reads result (labels_of_text protocol names.now bytes.now) }
+    ensures exact { ReadsSolution result (labels_of_text protocol names.now bytes.now) }
     ensures total { IfOk result (λ labels. length labels ≡ length names.now) }
     ensures routes { IfOk result (λ labels. (u : ℕ) (r : Route) → label labels u ≡ Some r → IsRouteOf protocol r) }
 {

@@ -16,11 +16,12 @@ use Rattle.specialize.proofs.Printable.{printable_plain, printable_maps}
 use Rattle.specialize.proofs.Within.{maps_stay_within}
 use Rattle.srp_core.specs.declared.route.Act.{Act}
 use Rattle.srp_core.specs.declared.route.Act.TheVariants.{Import, Cost}
+use Rattle.srp_core.specs.ActMaps.{IsPrintableAct, IsActWithin}
 use Rattle.srp_core.specs.Problem.{Problem, act_of}
 use Rattle.srp_core.specs.ProblemOf.{Direction}
 use Rattle.srp_build.specs.ActOrder.{AreActsByFirstUse}
 use Rattle.srp_build.specs.FirstActs.{IsActOfLines, IsFirstWith, HasFirstActs}
-use Rattle.srp_build.specs.Laws.{HasMapsThatPrint, HasMapsWithin, ActsPrint, ActsStayWithin}
+use Rattle.srp_build.specs.Laws.{ActsPrint, ActsStayWithin}
 use Rattle.srp_build.proofs.FirstUse.{within_get}
 
 -- the first edge with an act
@@ -77,9 +78,9 @@ router_in : (n : Network) (place : ℕ) (router : Router) → slice_get n.router
 router_in n place router at = contains_in n.routers router (get_in n.routers place router at)
 
 pub acts_print : ActsPrint
-acts_print n p problem form defined single order firsts = of_lines n p problem order firsts HasMapsThatPrint print
+acts_print n p problem form defined single order firsts = of_lines n p problem order firsts IsPrintableAct print
   where
-    print : (d : Direction) (act : Act) → IsActOfLines n p d act → HasMapsThatPrint act
+    print : (d : Direction) (act : Act) → IsActOfLines n p d act → IsPrintableAct act
     print d (Import out sends into) of = (
       subst IsPrintable (sym of.out_is) (printable_plain of.ends.exporter (name_of of.ends.exporter_line.map_out) (name_of of.ends.exporter_line.list_out) p
           false (printable_maps n of.ends.exporter form defined single (router_in n d.exporter of.ends.exporter of.ends.exporter_at))),
@@ -89,9 +90,9 @@ acts_print n p problem form defined single order firsts = of_lines n p problem o
     print d (Cost cost) of = tt
 
 pub acts_stay_within : ActsStayWithin
-acts_stay_within n p problem order firsts = of_lines n p problem order firsts (HasMapsWithin (communities_of n)) within
+acts_stay_within n p problem order firsts = of_lines n p problem order firsts (IsActWithin (communities_of n)) within
   where
-    within : (d : Direction) (act : Act) → IsActOfLines n p d act → HasMapsWithin (communities_of n) act
+    within : (d : Direction) (act : Act) → IsActOfLines n p d act → IsActWithin (communities_of n) act
     within d (Import out sends into) of = (
       subst (IsMapWithin (communities_of n)) (sym of.out_is)
           (maps_stay_within n of.ends.exporter (router_in n d.exporter of.ends.exporter of.ends.exporter_at) (name_of of.ends.exporter_line.map_out)

@@ -8,7 +8,7 @@ use Rattle.dd_core.specs.Sets.{Shown, IsShown}
 use Rattle.policy_dd.specs.declared.edge.EdgeFn.{EdgeFn}
 use Rattle.policy_dd.specs.Compare.{OneForm}
 use Rattle.srp_build.specs.declared.acts.BgpAct.{BgpAct}
-use Rattle.srp_build.specs.BgpActs.{nodes_of, AreApart, AreUnlike, AreListed}
+use Rattle.srp_build.specs.BgpActs.{low_half, nodes_of, AreApart, AreUnlike, AreListed}
 use Rattle.srp_build.proofs.FirstUse.{front_or_last}
 
 pub none_listed : (index : Index ℕ) → AreListed index []
@@ -50,7 +50,7 @@ pub unlike_all : OneForm → (shown : Shown) → IsShown shown → (index : Inde
 unlike_all one_form shown is index acts function listed unlike other act at = record {
   differ = λ F G of_function of_act one.
       let parts = one_form shown function act.function F G is of_function of_act one in
-      let nodes : nodes_of act.function ≡ nodes_of function = (λ j. (sym parts.permit j, sym parts.rest j)) in
+      let nodes : nodes_of act.function ≡ nodes_of function = (λ j. (low_half (sym parts.permit j), low_half (sym parts.rest j))) in
       (unlike other act (subst (λ (q : ℕ × ℕ). Contains (bucket index q) other) nodes (listed.each other act at)) at).differ F G of_function of_act one;
 }
 

@@ -37,7 +37,7 @@ use Rattle.srp_build.proofs.FirstUse.{within_get}
 use Rattle.srp_build.proofs.HopEdges.{few_edges}
 use Rattle.srp_build.proofs.LinkPlaces.{direction_of, sorted_of, sorted_hop, one_hop}
 use Rattle.srp_build.proofs.OwnNumbers.{HasAt, one_router}
-use Rattle.srp_build.proofs.SessionMaps.{session_is_at, line_numbered, map_at_line, out_at_ends, sends_at_ends, in_at_ends}
+use Rattle.srp_build.proofs.ImportMaps.{import_is_at, line_numbered, map_at_line, out_at_ends, sends_at_ends, in_at_ends}
 use Rattle.srp_build.proofs.SortedEdges.{from, importer_in, exporter_in, ends_differ, ordered, one_of_link}
 
 module _ (n : Network) (first p : Prefix) (init : List (Option Route)) (lone : List Bool) (maps : LineMaps) (shown : Shown) (found : BgpEdges)
@@ -83,8 +83,8 @@ module _ (n : Network) (first p : Prefix) (init : List (Option Route)) (lone : L
   act_adds_nothing : (act : BgpAct) → In the_acts act → IsActOf OverBgp (writes act)
   act_adds_nothing act at =
       let place = in_get the_acts act at in
-      let session = session_is_at n.routers maps act.first act.session (parts.edges.over place.0 act place.1) in
-      let line = line_numbered first true maps.maps n.routers maps.ins parts.lines.ins act.first.importer act.first.importer_item act.session.into session.into
+      let import = import_is_at n.routers maps act.first act.import (parts.edges.over place.0 act place.1) in
+      let line = line_numbered first true maps.maps n.routers maps.ins parts.lines.ins act.first.importer act.first.importer_item act.import.into import.into
       in
       let nothing = parts.add_nothing n line.router line.line parts.bgp.nothing_added
       (router_in n first p init lone maps shown found parts act.first.importer line.router line.at)

@@ -48,7 +48,7 @@ module _ (n : Network) (first p : Prefix) (init : List (Option Route)) (lone : L
   the_acts = found.acts.acts.items
 
   abbrev Imports : BgpAct → List ℕ → Option Imported
-  Imports act = import_over maps.maps act.session
+  Imports act = import_over maps.maps act.import
 
   -- the act of an edge
   record IsActAt (number : ℕ) : Type 0 where

@@ -25,9 +25,9 @@ use Rattle.srp_core.specs.ProblemOf.{as_number_of, start_route, Direction, Sessi
 use Rattle.srp_build.specs.declared.acts.BgpAct.{BgpAct}
 use Rattle.srp_build.specs.declared.bgp_edges.BgpEdges.{BgpEdges}
 use Rattle.srp_build.specs.declared.hops.Hop.{Hop}
-use Rattle.srp_build.specs.declared.session.Session.{Session}
+use Rattle.srp_build.specs.declared.imports.ImportByMaps.{ImportByMaps}
 use Rattle.srp_build.specs.Bgp.{IsBgp}
-use Rattle.srp_build.specs.BgpEdges.{originates, session_at, IsLeftOut, started, unjoined, denied, IsEdgeOfSession, AreEdgesOfSessions}
+use Rattle.srp_build.specs.BgpEdges.{originates, import_at, IsLeftOut, started, unjoined, denied, IsEdgeOfSession, AreEdgesOfSessions}
 use Rattle.srp_build.specs.HopEdges.{edge_with}
 use Rattle.srp_build.specs.LineMaps.{LineMaps, AreLineMaps}
 use Rattle.srp_build.specs.Lines.{act_of_hop}
@@ -37,7 +37,7 @@ use Rattle.srp_build.proofs.BgpLinks.{hop_ends, well_formed, read_map}
 use Rattle.srp_build.proofs.HopEdges.{hop_edge}
 use Rattle.srp_build.proofs.LinkPlaces.{direction_of, hop_for, is_direction, sorted_of, sorted_hop, sorted_direction}
 use Rattle.srp_build.proofs.OspfChecked.{none_is}
-use Rattle.srp_build.proofs.SessionMaps.{has_session, import_at_hop, out_at_ends, sends_at_ends, in_at_ends}
+use Rattle.srp_build.proofs.ImportMaps.{has_import, import_at_hop, out_at_ends, sends_at_ends, in_at_ends}
 use Rattle.srp_build.proofs.SortedHops.{IsHopOf}
 
 -- the maps of both ends import what a session does
@@ -106,17 +106,17 @@ module _ (n : Network) (first p : Prefix) (init : List (Option Route)) (lone : L
 
   -- ---- imports
 
-  -- an act imports what its session does
+  -- an act imports what its first direction does
   pub written_import : (number : ℕ) (act : BgpAct) → slice_get acts number ≡ Some act → (comms : List ℕ) →
-      import_by (written act) comms ≡ import_over maps.maps act.session comms
+      import_by (written act) comms ≡ import_over maps.maps act.import comms
   unfolding import_by
-  written_import number act at comms = sym (import_at_hop n first maps parts.lines act.first act.session (parts.edges.over number act at) comms)
+  written_import number act at comms = sym (import_at_hop n first maps parts.lines act.first act.import (parts.edges.over number act at) comms)
 
   pub read_act : (number : ℕ) (act : BgpAct) → slice_get acts number ≡ Some act → slice_index_or (map written acts) number (Cost 0) ≡ written act
   read_act number act at = read_map written acts number act (Cost 0) at
 
   pub edge_import : (edge : Edge) (act : BgpAct) → slice_get acts edge.act ≡ Some act → (comms : List ℕ) →
-      import_by (act_of made edge) comms ≡ import_over maps.maps act.session comms
+      import_by (act_of made edge) comms ≡ import_over maps.maps act.import comms
   edge_import edge act at comms = ap (λ (a : Act). import_by a comms) (read_act edge.act act at) ∙ written_import edge.act act at comms
 
   pub router_in : (place : ℕ) (router : Router) → slice_get n.routers place ≡ Some router → Contains n.routers router
@@ -130,12 +130,12 @@ module _ (n : Network) (first p : Prefix) (init : List (Option Route)) (lone : L
   pub in_for : (hop : Hop) (ends : SessionEnds n (direction_of hop)) → in_map first ends.importer ends.importer_line ≡ in_map p ends.importer ends.importer_line
   in_for hop ends = parts.alike ends.importer (router_in hop.importer ends.importer ends.importer_at) _ _ true
 
-  -- a session imports what the lines at its ends do
-  pub import_at_ends : (hop : Hop) (session : Session) → session_at n.routers maps hop ≡ Some session → (ends : SessionEnds n (direction_of hop)) →
+  -- an import over numbers is what the lines at the ends import
+  pub import_at_ends : (hop : Hop) (import : ImportByMaps) → import_at n.routers maps hop ≡ Some import → (ends : SessionEnds n (direction_of hop)) →
       (comms : List ℕ)
-      → import_over maps.maps session comms ≡ session_import p ends.exporter ends.exporter_line ends.importer ends.importer_line comms
-  import_at_ends hop session e ends comms =
-      import_at_hop n first maps parts.lines hop session e comms
+      → import_over maps.maps import comms ≡ session_import p ends.exporter ends.exporter_line ends.importer ends.importer_line comms
+  import_at_ends hop import e ends comms =
+      import_at_hop n first maps parts.lines hop import e comms
       ∙ (λ j. import_of ((out_at_ends n first hop ends ∙ out_for hop ends) j) (sends_at_ends n hop ends j) ((in_at_ends n first hop ends ∙ in_for hop ends) j)
       comms)
       ∙ parts.sessions_import p ends.exporter ends.importer ends.exporter_line ends.importer_line
@@ -160,7 +160,7 @@ module _ (n : Network) (first p : Prefix) (init : List (Option Route)) (lone : L
         comms = accept.set;
         is_set = accept.ascending;
         imported = accept.import;
-        accepted = sym (import_at_ends hop has.session has.session_is ends accept.set) ∙ has.act.one.same accept.set accept.ascending ∙ accept.is;
+        accepted = sym (import_at_ends hop has.import has.import_is ends accept.set) ∙ has.act.one.same accept.set accept.ascending ∙ accept.is;
       }
 
   abbrev MeansAs : Hop → Act → Type 0
@@ -171,7 +171,7 @@ module _ (n : Network) (first p : Prefix) (init : List (Option Route)) (lone : L
   means_session hop edge has ends = record {
     ends = ends;
     same = λ comms ascending. written_import edge.act has.act.act has.act.at comms ∙ sym (has.act.one.same comms ascending)
-        ∙ import_at_ends hop has.session has.session_is ends comms;
+        ∙ import_at_ends hop has.import has.import_is ends comms;
   }
 
   pub stands : (hop : Hop) (edge : Edge) → HasEdge hop edge → IsHopOf (links_of n) hop → StandsFor made n p edge (direction_of hop)
@@ -192,10 +192,10 @@ module _ (n : Network) (first p : Prefix) (init : List (Option Route)) (lone : L
       let none = start_there d.importer carries.ends.importer carries.ends.importer_at ∙ carries.unoriginated in
       let closed : originates init d.importer ≡ false = ap (λ (o : Option Route). is_some o) none in
       absurd cc
-  never_left d carries (unjoined none) = has_session n first maps parts.lines (hop_for d) carries.ends none
-  never_left d carries (denied session e nothing) =
+  never_left d carries (unjoined none) = has_import n first maps parts.lines (hop_for d) carries.ends none
+  never_left d carries (denied import e nothing) =
       let none = nothing.none carries.comms carries.is_set in
-      let some = import_at_ends (hop_for d) session e carries.ends carries.comms ∙ carries.accepted in
+      let some = import_at_ends (hop_for d) import e carries.ends carries.comms ∙ carries.accepted in
       absurd cc
 
   pub edge_for : (d : Direction) → IsDirection n d → CarriesRoutes n p d → (edge : Edge) × Contains found.edges edge × StandsFor made n p edge d

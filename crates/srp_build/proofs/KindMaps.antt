@@ -12,15 +12,16 @@ use Rattle.srp_build.specs.declared.hops.Hop.{Hop}
 use Rattle.srp_build.specs.declared.kind_maps.KindMaps.{KindMaps}
 use Rattle.srp_build.specs.declared.kinds.Kinds.{Kinds}
 use Rattle.srp_build.specs.declared.lines.LinePlace.{LinePlace}
-use Rattle.srp_build.specs.declared.session.Session.{Session}
-use Rattle.srp_build.specs.BgpEdges.{session_at, AreInside}
-use Rattle.srp_build.specs.Kinds.{map_of_place, IsKindOf, AreKindsOf, HaveKinds, AreKinds, AreSessionsOf}
+use Rattle.srp_build.specs.declared.imports.ImportByKinds.{ImportByKinds}
+use Rattle.srp_build.specs.declared.imports.ImportByMaps.{ImportByMaps}
+use Rattle.srp_build.specs.BgpEdges.{import_at, AreInside}
+use Rattle.srp_build.specs.Kinds.{map_of_place, IsKindOf, AreKindsOf, HaveKinds, AreKinds, AreImportsOf}
 use Rattle.srp_build.specs.LineMaps.{AreLineMaps, AreMapsOfKinds, number_of, with_maps, line_maps}
 use Rattle.srp_build.specs.Lines.{map_of_line, sends_at}
-use Rattle.srp_build.specs.Plains.{IsNumberOf, IsGrownBy, IsMapOfPlace, IsNumberOfLine, AreNumbersOf, HaveNumbers, number_at, session_of}
+use Rattle.srp_build.specs.Plains.{IsNumberOf, IsGrownBy, IsMapOfPlace, IsNumberOfLine, AreNumbersOf, HaveNumbers, number_at, import_by_kinds}
 use Rattle.srp_build.proofs.FirstUse.{get_front, front_or_last, take_more, length_last, within_get}
 use Rattle.srp_build.proofs.LineKinds.{says_too}
-use Rattle.srp_build.proofs.SessionMaps.{IsSessionAt, session_is_at, line_numbered}
+use Rattle.srp_build.proofs.ImportMaps.{IsImportAt, import_is_at, line_numbered}
 
 -- ---- reading numbers
 
@@ -48,41 +49,41 @@ table_at f [] router item = refl
 table_at f (numbers ∷ table) zero item = get_map f numbers item
 table_at f (numbers ∷ table) (suc router) item = table_at f table router item
 
-session_parts : (f : ℕ → ℕ) (sends : Bool) (out into : Option ℕ) (session : Session)
-    → option_and_then (λ (o : ℕ). option_map (λ (i : ℕ). (let s : Session = record { out = o; sends = sends; into = i } in s)) into) out ≡ Some session
-    → option_and_then (λ (o : ℕ). option_map (λ (i : ℕ). (let s : Session = record { out = o; sends = sends; into = i } in s)) (option_map f into))
-    (option_map f out) ≡ Some (record { out = f session.out; sends = session.sends; into = f session.into })
-session_parts f sends None into session e = absurd cc
-session_parts f sends (Some o) None session e = absurd cc
-session_parts f sends (Some o) (Some i) session e =
-    let same : (let s : Session = record { out = o; sends = sends; into = i } in s) ≡ session = cc in
-    ap (λ (s : Session). Some (let t : Session = record { out = f s.out; sends = s.sends; into = f s.into } in t)) same
+import_parts : (f : ℕ → ℕ) (sends : Bool) (out into : Option ℕ) (import : ImportByKinds)
+    → option_and_then (λ (o : ℕ). option_map (λ (i : ℕ). (let s : ImportByKinds = record { out = o; sends = sends; into = i } in s)) into) out ≡ Some import
+    → option_and_then (λ (o : ℕ). option_map (λ (i : ℕ). (let s : ImportByMaps = record { out = o; sends = sends; into = i } in s)) (option_map f into))
+    (option_map f out) ≡ Some (record { out = f import.out; sends = import.sends; into = f import.into })
+import_parts f sends None into import e = absurd cc
+import_parts f sends (Some o) None import e = absurd cc
+import_parts f sends (Some o) (Some i) import e =
+    let same : (let s : ImportByKinds = record { out = o; sends = sends; into = i } in s) ≡ import = cc in
+    ap (λ (s : ImportByKinds). Some (let t : ImportByMaps = record { out = f s.out; sends = s.sends; into = f s.into } in t)) same
 
--- the session of a direction has the numbers of the maps of its kinds
-pub session_numbered : (routers : List Router) (kinds : Kinds) (maps : KindMaps) (hop : Hop) (session : Session) →
-    session_of routers kinds.outs kinds.ins hop ≡ Some session → session_at routers (line_maps kinds maps) hop ≡ Some (with_maps maps.numbers.items session)
-session_numbered routers kinds maps hop session e =
+-- the import of a direction has the numbers of the maps of its kinds
+pub import_numbered : (routers : List Router) (kinds : Kinds) (maps : KindMaps) (hop : Hop) (import : ImportByKinds) →
+    import_by_kinds routers kinds.outs kinds.ins hop ≡ Some import → import_at routers (line_maps kinds maps) hop ≡ Some (with_maps maps.numbers.items import)
+import_numbered routers kinds maps hop import e =
     let f = number_of maps.numbers.items in
     let sends = sends_at routers hop.exporter hop.exporter_item in
-    (λ j. option_and_then (λ (o : ℕ). option_map (λ (i : ℕ). (let s : Session = record { out = o; sends = sends; into = i } in s))
+    (λ j. option_and_then (λ (o : ℕ). option_map (λ (i : ℕ). (let s : ImportByMaps = record { out = o; sends = sends; into = i } in s))
     (table_at f kinds.ins hop.importer hop.importer_item j)) (table_at f kinds.outs hop.exporter hop.exporter_item j))
-    ∙ session_parts f sends (number_at kinds.outs hop.exporter hop.exporter_item) (number_at kinds.ins hop.importer hop.importer_item) session e
+    ∙ import_parts f sends (number_at kinds.outs hop.exporter hop.exporter_item) (number_at kinds.ins hop.importer hop.importer_item) import e
 
--- one more session
-pub sessions_next : (routers : List Router) (kinds : Kinds) (outs ins : List (List ℕ)) (hops : List Hop) (i : ℕ) (hop d : Hop) (sessions : List Session)
-    (session : Session) → outs ≡ kinds.outs → ins ≡ kinds.ins → i < length hops → get_or hops i d ≡ hop → AreSessionsOf routers kinds (take i hops) sessions →
-    session_of routers outs ins hop ≡ Some session → AreSessionsOf routers kinds (take (i + 1) hops) (sessions ++ session ∷ [])
-sessions_next routers kinds outs ins hops i hop d sessions session outs_are ins_are inside at so_far is =
-    subst (λ (h : List Hop). AreSessionsOf routers kinds h (sessions ++ session ∷ [])) (sym (take_more hops i hop d inside at)) (record {
-      total = (let a = length_last (take i hops) hop in let b = length_last sessions session in let c = so_far.total in omega arith);
+-- one more import
+pub imports_next : (routers : List Router) (kinds : Kinds) (outs ins : List (List ℕ)) (hops : List Hop) (i : ℕ) (hop d : Hop) (imports : List ImportByKinds)
+    (import : ImportByKinds) → outs ≡ kinds.outs → ins ≡ kinds.ins → i < length hops → get_or hops i d ≡ hop → AreImportsOf routers kinds (take i hops) imports →
+    import_by_kinds routers outs ins hop ≡ Some import → AreImportsOf routers kinds (take (i + 1) hops) (imports ++ import ∷ [])
+imports_next routers kinds outs ins hops i hop d imports import outs_are ins_are inside at so_far is =
+    subst (λ (h : List Hop). AreImportsOf routers kinds h (imports ++ import ∷ [])) (sym (take_more hops i hop d inside at)) (record {
+      total = (let a = length_last (take i hops) hop in let b = length_last imports import in let c = so_far.total in omega arith);
       each = λ place h s h_at s_at. elim (front_or_last (take i hops) hop place h h_at) [
-        | inl before ↦ elim (front_or_last sessions session place s s_at) [
+        | inl before ↦ elim (front_or_last imports import place s s_at) [
           | inl there ↦ so_far.each place h s before there
           | inr last ↦ absurd (let a = within_get (take i hops) place h before in let b = so_far.total in let c = last.0 in omega arith)
         ]
-        | inr here ↦ elim (front_or_last sessions session place s s_at) [
-          | inl there ↦ absurd (let a = within_get sessions place s there in let b = so_far.total in let c = here.0 in omega arith)
-          | inr last ↦ (λ j. session_of routers (sym outs_are j) (sym ins_are j) (sym here.1 j)) ∙ is ∙ ap (λ (x : Session). Some x) last.1
+        | inr here ↦ elim (front_or_last imports import place s s_at) [
+          | inl there ↦ absurd (let a = within_get imports place s there in let b = so_far.total in let c = here.0 in omega arith)
+          | inr last ↦ (λ j. import_by_kinds routers (sym outs_are j) (sym ins_are j) (sym here.1 j)) ∙ is ∙ ap (λ (x : ImportByKinds). Some x) last.1
         ]
       ];
     })
@@ -181,25 +182,25 @@ line_maps_are p routers kinds maps are of_kinds = record {
   made = of_kinds.made;
 }
 
--- ---- the numbers of sessions are places of maps
+-- ---- the numbers of imports are places of maps
 
 below : (p : Prefix) (inbound : Bool) (maps : List Plain) (routers : List Router) (table : List (List ℕ)) → HaveNumbers p inbound maps routers table →
     (router item number : ℕ) → number_at table router item ≡ Some number → number < length maps
 below p inbound maps routers table have router item number at = let line = line_numbered p inbound maps routers table have router item number at in
     within_get maps number line.is.other line.is.at
 
-pub inside_are : (p : Prefix) (routers : List Router) (kinds : Kinds) (maps : KindMaps) (hops : List Hop) (sessions : List Session) →
-    AreLineMaps p routers (line_maps kinds maps) → AreSessionsOf routers kinds hops sessions → AreInside maps sessions
-inside_are p routers kinds maps hops sessions lines are place session at =
-    let inside = within_get sessions place session at in
+pub inside_are : (p : Prefix) (routers : List Router) (kinds : Kinds) (maps : KindMaps) (hops : List Hop) (imports : List ImportByKinds) →
+    AreLineMaps p routers (line_maps kinds maps) → AreImportsOf routers kinds hops imports → AreInside maps imports
+inside_are p routers kinds maps hops imports lines are place import at =
+    let inside = within_get imports place import at in
     let total = are.total in
     let hop = has_item hops place (omega arith) in
-    let at_hop : IsSessionAt routers (line_maps kinds maps) hop.item (with_maps maps.numbers.items session) =
-    session_is_at routers (line_maps kinds maps) hop.item (with_maps maps.numbers.items session)
-    (session_numbered routers kinds maps hop.item session (are.each place hop.item session hop.at at)) in
+    let at_hop : IsImportAt routers (line_maps kinds maps) hop.item (with_maps maps.numbers.items import) =
+    import_is_at routers (line_maps kinds maps) hop.item (with_maps maps.numbers.items import)
+    (import_numbered routers kinds maps hop.item import (are.each place hop.item import hop.at at)) in
     record {
       out = below p false maps.maps.items routers (line_maps kinds maps).outs lines.outs hop.item.exporter hop.item.exporter_item
-          (number_of maps.numbers.items session.out) at_hop.out;
+          (number_of maps.numbers.items import.out) at_hop.out;
       into = below p true maps.maps.items routers (line_maps kinds maps).ins lines.ins hop.item.importer hop.item.importer_item
-          (number_of maps.numbers.items session.into) at_hop.into;
+          (number_of maps.numbers.items import.into) at_hop.into;
     }

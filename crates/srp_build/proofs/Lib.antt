@@ -3,6 +3,7 @@ mod ActTables
 mod BgpBuilt
 mod BgpCall
 mod BgpChecked
+mod BgpExists
 mod BgpLinks
 mod BgpMarks
 mod BgpParts
@@ -16,6 +17,8 @@ mod FirstUse
 mod FixedMaps
 mod HopEdges
 mod HopNumbers
+mod ImportMaps
+mod ImportSteps
 mod KindMaps
 mod LineKinds
 mod LinesJoined
@@ -25,12 +28,14 @@ mod ListPlaces
 mod LoneMarks
 mod MapsOfClass
 mod NoClasses
+mod NumberedActs
 mod OspfActs
 mod OspfChecked
+mod OspfExists
 mod OspfRoutes
 mod OwnNumbers
-mod SessionMaps
-mod SessionSteps
+mod ProblemExists
+mod Samples
 mod SortedEdges
 mod SortedHops
 mod StartsOfClass

@@ -13,7 +13,7 @@ use Rattle.srp_build.specs.Kinds.{IsFixed, map_of_place, IsKindOf, AreKindsOf, H
 use Rattle.srp_build.specs.Lines.{map_named, list_named, map_of_line}
 use Rattle.srp_build.specs.Plains.{SayTheSame, IsNumberOf, IsGrownBy, IsAsEarlier}
 use Rattle.srp_build.proofs.FirstUse.{get_front, get_last, front_or_last, length_last, take_more, within_get}
-use Rattle.srp_build.proofs.SessionMaps.{map_at_line, some_within}
+use Rattle.srp_build.proofs.ImportMaps.{map_at_line, some_within}
 
 -- lines that name the same map and list mean the same
 same_names : (p : Prefix) (router : Router) (inbound : Bool) (other line : Neighbor) → name_of (map_named inbound other) ≡ name_of (map_named inbound line) →

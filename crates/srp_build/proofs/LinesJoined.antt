@@ -1,4 +1,4 @@
--- The directions of a BGP network lead from neighbour line to neighbour line, and each has a session.
+-- The directions of a BGP network lead from neighbour line to neighbour line, and each has an import.
 use Rattle.std.proofs.Common.{◌≡◌, ℕ, zero, suc, ◌<◌, Bool, true, false, List, [], ◌∷◌, length, Some, None, refl, sym, ◌∙◌, ap, arith}
 use Rattle.std.specs.Prelude.{All, slice_index_or}
 use Rattle.std.specs.Option.{option_map, option_and_then}
@@ -10,13 +10,13 @@ use Rattle.srp_core.specs.ProblemOf.{SessionEnds}
 use Rattle.srp_build.specs.declared.hops.Hop.{Hop}
 use Rattle.srp_build.specs.declared.kinds.Kinds.{Kinds}
 use Rattle.srp_build.specs.declared.lines.LinePlace.{LinePlace}
-use Rattle.srp_build.specs.declared.session.Session.{Session}
+use Rattle.srp_build.specs.declared.imports.ImportByKinds.{ImportByKinds}
 use Rattle.srp_build.specs.Bgp.{IsBgp}
 use Rattle.srp_build.specs.Directions.{directions_of}
 use Rattle.srp_build.specs.Hops.{hops_of}
 use Rattle.srp_build.specs.Kinds.{HasLine, JoinsLines, HaveKinds, AreKinds}
 use Rattle.srp_build.specs.Lines.{sends_at}
-use Rattle.srp_build.specs.Plains.{number_at, session_of}
+use Rattle.srp_build.specs.Plains.{number_at, import_by_kinds}
 use Rattle.srp_build.proofs.BgpLinks.{hop_ends}
 use Rattle.srp_build.proofs.FirstUse.{within_get}
 use Rattle.srp_build.proofs.KindMaps.{has_item}
@@ -53,7 +53,7 @@ all_join n bgp k d inside =
     let at = sorted_in (length n.routers) (hops_of (links_of n)) hop (item_in (directions_of n) k d inside) in
     joins n hop (hop_ends n bgp hop (hop_of (links_of n) hop at))
 
--- ---- their sessions
+-- ---- their imports
 
 has_number : (all : List Router) (inbound : Bool) (firsts : List LinePlace) (routers : List Router) (table : List (List ℕ)) (place item : ℕ)
     → HaveKinds all inbound firsts routers table → HasLine routers place item → (number : ℕ) × (number_at table place item ≡ Some number)
@@ -68,19 +68,19 @@ has_number all inbound firsts (router ∷ routers) (numbers ∷ table) zero item
 has_number all inbound firsts (router ∷ routers) (numbers ∷ table) (suc place) item have line =
     has_number all inbound firsts routers table place item have.1 (record { router = line.router; at = line.at; inside = line.inside })
 
-pub has_session : (routers : List Router) (kinds : Kinds) (hop : Hop) → AreKinds routers kinds → JoinsLines routers hop
-    → (session : Session) × (session_of routers kinds.outs kinds.ins hop ≡ Some session)
-has_session routers kinds hop are joins =
+pub has_import : (routers : List Router) (kinds : Kinds) (hop : Hop) → AreKinds routers kinds → JoinsLines routers hop
+    → (import : ImportByKinds) × (import_by_kinds routers kinds.outs kinds.ins hop ≡ Some import)
+has_import routers kinds hop are joins =
     let (out, out_at) = has_number routers false kinds.firsts.items routers kinds.outs hop.exporter hop.exporter_item are.outs joins.exporter in
     let (into, into_at) = has_number routers true kinds.firsts.items routers kinds.ins hop.importer hop.importer_item are.ins joins.importer in
     let sends = sends_at routers hop.exporter hop.exporter_item in
-    let made : ℕ → ℕ → Session = λ o i. record { out = o; sends = sends; into = i } in
+    let made : ℕ → ℕ → ImportByKinds = λ o i. record { out = o; sends = sends; into = i } in
     (made out into, (λ j. option_and_then (λ (o : ℕ). option_map (made o) (into_at j)) (out_at j)))
 
-pub no_session : (routers : List Router) (kinds : Kinds) (outs ins : List (List ℕ)) (hop : Hop) → outs ≡ kinds.outs → ins ≡ kinds.ins
-    → AreKinds routers kinds → JoinsLines routers hop → session_of routers outs ins hop ≡ None → ⊥
-no_session routers kinds outs ins hop outs_are ins_are are joins none =
-    let there = has_session routers kinds hop are joins in
-    let same : session_of routers outs ins hop ≡ session_of routers kinds.outs kinds.ins hop = λ j. session_of routers (outs_are j) (ins_are j) hop in
+pub import_missing : (routers : List Router) (kinds : Kinds) (outs ins : List (List ℕ)) (hop : Hop) → outs ≡ kinds.outs → ins ≡ kinds.ins
+    → AreKinds routers kinds → JoinsLines routers hop → import_by_kinds routers outs ins hop ≡ None → ⊥
+import_missing routers kinds outs ins hop outs_are ins_are are joins none =
+    let there = has_import routers kinds hop are joins in
+    let same : import_by_kinds routers outs ins hop ≡ import_by_kinds routers kinds.outs kinds.ins hop = λ j. import_by_kinds routers (outs_are j) (ins_are j) hop in
     let e : Some there.0 ≡ None = sym there.1 ∙ sym same ∙ none in
     cc

@@ -21,7 +21,7 @@ use Rattle.route_maps.specs.Within.{AreWithin, IsLineWithin, IsListWithin, AreLi
 use Rattle.specialize.specs.OnePrefix.{plain_of}
 use Rattle.srp_build.specs.LineMaps.{LineMaps, AreLineMaps}
 use Rattle.srp_build.specs.Lines.{map_of_line, closed, map_at}
-use Rattle.srp_build.specs.Sessions.{AreMapsWithin}
+use Rattle.srp_build.specs.MetImports.{AreMapsWithin}
 
 each_as : {X : Type 0} (P Q : X → Type 0) → ((x : X) → P x → Q x) → (xs : List X) → AllByRecursion P xs → AllByRecursion Q xs
 each_as P Q more [] all = tt

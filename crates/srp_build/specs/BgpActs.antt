@@ -1,5 +1,5 @@
 -- The different imports of sessions, each as an act with its function in diagrams.
-use Rattle.std.specs.Prelude.{◌≡◌, ◌⊎◌, ℕ, List, [], ◌∷◌, ◌++◌, length, Option, Some, None, Contains, slice_get}
+use Rattle.std.specs.Prelude.{◌≡◌, ◌⊎◌, ◌%◌, ℕ, List, [], ◌∷◌, ◌++◌, length, Option, Some, None, Contains, slice_get}
 use Rattle.buckets.specs.Buckets.{Index, bucket}
 use Rattle.dd_core.specs.Sets.{Shown}
 use Rattle.policy_dd.specs.declared.edge.EdgeFn.{EdgeFn}
@@ -8,11 +8,15 @@ use Rattle.policy_dd.specs.Imports.{AreOneImport, AcceptsSome, AcceptsNone}
 use Rattle.route_maps.specs.declared.plain.Imported.{Imported}
 use Rattle.srp_build.specs.declared.acts.BgpAct.{BgpAct}
 use Rattle.srp_build.specs.declared.hops.Hop.{Hop}
-use Rattle.srp_build.specs.declared.session.Session.{Session}
+use Rattle.srp_build.specs.declared.imports.ImportByMaps.{ImportByMaps}
 
--- both nodes by which functions are found
+-- the last 32 bits of a number
+abbrev pub low_half : ℕ → ℕ
+low_half number = number % 4294967296
+
+-- what functions are found by: the last bits of the places of both nodes
 abbrev pub nodes_of : EdgeFn → ℕ × ℕ
-nodes_of function = (function.permit, function.rest)
+nodes_of function = (low_half function.permit, low_half function.rest)
 
 -- the functions import alike
 pub record AreAlike (shown : Shown) (f g : EdgeFn) : Type 0 where
@@ -37,23 +41,23 @@ AreUnlike shown acts numbers function = (number : ℕ) (act : BgpAct) → Contai
 pub record AreListed (index : Index ℕ) (acts : List BgpAct) : Type 0 where
   pub each : (number : ℕ) (act : BgpAct) → slice_get acts number ≡ Some act → Contains (bucket index (nodes_of act.function)) number
 
--- an act came last, that of this session, which is first in this direction
-pub record IsNewAct (old new : List BgpAct) (hop : Hop) (session : Session) (number : ℕ) : Type 0 where
+-- an act came last, that of this import, which is first in this direction
+pub record IsNewAct (old new : List BgpAct) (hop : Hop) (import : ImportByMaps) (number : ℕ) : Type 0 where
   pub act : BgpAct
   pub last : new ≡ old ++ act ∷ []
   pub first : act.first ≡ hop
-  pub over : act.session ≡ session
+  pub over : act.import ≡ import
   pub next : number ≡ length old
 
 -- an act with this function came last, which is unlike all others
-pub record IsNewLike (shown : Shown) (old new : List BgpAct) (hop : Hop) (session : Session) (function : EdgeFn) (number : ℕ) : Type 0 where
-  pub is : IsNewAct old new hop session number
+pub record IsNewLike (shown : Shown) (old new : List BgpAct) (hop : Hop) (import : ImportByMaps) (function : EdgeFn) (number : ℕ) : Type 0 where
+  pub is : IsNewAct old new hop import number
   pub function_is : is.act.function ≡ function
   pub apart : (other : ℕ) (act : BgpAct) → slice_get old other ≡ Some act → AreApart shown function act.function
 
 -- the number is that of an act like this function, which was there or came last
-abbrev pub IsNumberFor : Shown → List BgpAct → List BgpAct → Hop → Session → EdgeFn → ℕ → Type 0
-IsNumberFor shown old new hop session function number = ((new ≡ old) × IsLike shown old function number) ⊎ IsNewLike shown old new hop session function number
+abbrev pub IsNumberFor : Shown → List BgpAct → List BgpAct → Hop → ImportByMaps → EdgeFn → ℕ → Type 0
+IsNumberFor shown old new hop import function number = ((new ≡ old) × IsLike shown old function number) ⊎ IsNewLike shown old new hop import function number
 
 pub record AcceptsAny (shown : Shown) (function : EdgeFn) : Type 0 where
   pub some : (F : List ℕ → Option Imported) → IsEdgeFn shown function F → AcceptsSome F
@@ -62,6 +66,6 @@ pub record DeniesAll (shown : Shown) (function : EdgeFn) : Type 0 where
   pub none : (F : List ℕ → Option Imported) → IsEdgeFn shown function F → AcceptsNone F
 
 -- the number of the act of a function, none where it denies all
-abbrev pub IsActOfFunction : Shown → List BgpAct → List BgpAct → Hop → Session → EdgeFn → Option ℕ → Type 0
-IsActOfFunction shown old new hop session function None = (new ≡ old) × DeniesAll shown function
-IsActOfFunction shown old new hop session function (Some number) = AcceptsAny shown function × IsNumberFor shown old new hop session function number
+abbrev pub IsActOfFunction : Shown → List BgpAct → List BgpAct → Hop → ImportByMaps → EdgeFn → Option ℕ → Type 0
+IsActOfFunction shown old new hop import function None = (new ≡ old) × DeniesAll shown function
+IsActOfFunction shown old new hop import function (Some number) = AcceptsAny shown function × IsNumberFor shown old new hop import function number

@@ -1,6 +1,7 @@
 -- The edges of BGP sessions: a direction has one where the importer does not originate and accepts some
 -- set of communities.
 use Rattle.std.specs.Prelude.{◌≡◌, ◌⊎◌, ℕ, ◌<◌, Bool, true, false, List, [], ◌∷◌, ◌++◌, is_some, length, Option, Some, None, Contains, slice_get, slice_index_or}
+use Rattle.std.specs.Option.{option_map, option_and_then}
 use Rattle.base_kit.specs.declared.act_graph.Edge.{Edge}
 use Rattle.cfg_ast.specs.declared.network.Router.{Router}
 use Rattle.dd_core.specs.Sets.{Shown}
@@ -11,48 +12,52 @@ use Rattle.srp_build.specs.declared.bgp_edges.BgpEdges.{BgpEdges}
 use Rattle.srp_build.specs.declared.hops.Hop.{Hop}
 use Rattle.srp_build.specs.declared.kind_maps.KindMaps.{KindMaps}
 use Rattle.srp_build.specs.LineMaps.{LineMaps, number_of, with_maps}
-use Rattle.srp_build.specs.declared.session.Session.{Session}
+use Rattle.srp_build.specs.declared.imports.ImportByKinds.{ImportByKinds}
+use Rattle.srp_build.specs.declared.imports.ImportByMaps.{ImportByMaps}
 use Rattle.srp_build.specs.ActOrder.{AreByFirstUse}
 use Rattle.srp_build.specs.BgpActs.{IsNewAct}
 use Rattle.srp_build.specs.FirstActs.{IsFirstWith}
 use Rattle.srp_build.specs.HopEdges.{edge_with, AreEdgesOf}
-use Rattle.srp_build.specs.Plains.{session_of, import_over}
-use Rattle.srp_build.specs.Sessions.{IsActOver, AreRight}
+use Rattle.srp_build.specs.Lines.{sends_at}
+use Rattle.srp_build.specs.Plains.{number_at, import_over}
+use Rattle.srp_build.specs.MetImports.{IsActOver, AreRight}
 
 -- the router has an initial route
 abbrev pub originates : List (Option Route) → ℕ → Bool
 originates init router = is_some (slice_index_or init router None)
 
--- the numbers of the maps of a session are places of maps
-pub record IsInside (maps : KindMaps) (session : Session) : Type 0 where
-  pub out : number_of maps.numbers.items session.out < length maps.maps.items
-  pub into : number_of maps.numbers.items session.into < length maps.maps.items
+-- the numbers of both maps of an import are places of maps
+pub record IsInside (maps : KindMaps) (import : ImportByKinds) : Type 0 where
+  pub out : number_of maps.numbers.items import.out < length maps.maps.items
+  pub into : number_of maps.numbers.items import.into < length maps.maps.items
 
-abbrev pub AreInside : KindMaps → List Session → Type 0
-AreInside maps sessions = (place : ℕ) (session : Session) → slice_get sessions place ≡ Some session → IsInside maps session
+abbrev pub AreInside : KindMaps → List ImportByKinds → Type 0
+AreInside maps imports = (place : ℕ) (import : ImportByKinds) → slice_get imports place ≡ Some import → IsInside maps import
 
--- the session of a direction
-abbrev pub session_at : List Router → LineMaps → Hop → Option Session
-session_at routers maps hop = session_of routers maps.outs maps.ins hop
+-- the import of a direction, by the numbers of the maps of the lines at both ends
+abbrev pub import_at : List Router → LineMaps → Hop → Option ImportByMaps
+import_at routers maps hop = option_and_then (λ (out : ℕ).
+    option_map (λ (into : ℕ). record { out = out; sends = sends_at routers hop.exporter hop.exporter_item; into = into })
+    (number_at maps.ins hop.importer hop.importer_item)) (number_at maps.outs hop.exporter hop.exporter_item)
 
--- the session is that of the direction, by the numbers of kinds
-pub record IsSessionOf (routers : List Router) (lines : LineMaps) (maps : KindMaps) (hop : Hop) (session : Session) : Type 0 where
+-- the import is that of the direction, by the numbers of kinds
+pub record IsImportOf (routers : List Router) (lines : LineMaps) (maps : KindMaps) (hop : Hop) (import : ImportByKinds) : Type 0 where
   pub maps_are : maps.maps.items ≡ lines.maps
-  pub is : session_at routers lines hop ≡ Some (with_maps maps.numbers.items session)
+  pub is : import_at routers lines hop ≡ Some (with_maps maps.numbers.items import)
 
--- the importer originates, or there is no session, or it accepts nothing
+-- the importer originates, or no lines stand at the ends, or nothing is accepted
 pub data IsLeftOut (routers : List Router) (init : List (Option Route)) (maps : LineMaps) (hop : Hop) : Type 0 where
   started : originates init hop.importer ≡ true → IsLeftOut routers init maps hop
-  unjoined : session_at routers maps hop ≡ None → IsLeftOut routers init maps hop
-  denied : (session : Session) → session_at routers maps hop ≡ Some session → AcceptsNone (import_over maps.maps session) → IsLeftOut routers init maps hop
+  unjoined : import_at routers maps hop ≡ None → IsLeftOut routers init maps hop
+  denied : (import : ImportByMaps) → import_at routers maps hop ≡ Some import → AcceptsNone (import_over maps.maps import) → IsLeftOut routers init maps hop
 
--- the edge is that of the direction, and its act imports as the session there
+-- the edge is that of the direction, and its act imports as the lines there
 pub record IsEdgeOfSession (routers : List Router) (init : List (Option Route)) (maps : LineMaps) (acts : List BgpAct) (hop : Hop) (edge : Edge) : Type 0 where
   pub same : edge ≡ edge_with edge.act hop
   pub open_to : originates init hop.importer ≡ false
-  pub session : Session
-  pub session_is : session_at routers maps hop ≡ Some session
-  pub act : IsActOver maps.maps acts session edge.act
+  pub import : ImportByMaps
+  pub import_is : import_at routers maps hop ≡ Some import
+  pub act : IsActOver maps.maps acts import edge.act
 
 -- the direction was left out
 pub record Skips (routers : List Router) (init : List (Option Route)) (maps : LineMaps) (old new : BgpEdges) (hop : Hop) : Type 0 where
@@ -64,10 +69,10 @@ pub record Skips (routers : List Router) (init : List (Option Route)) (maps : Li
 pub record Takes (routers : List Router) (init : List (Option Route)) (maps : LineMaps) (old new : BgpEdges) (hop : Hop) : Type 0 where
   pub number : ℕ
   pub open_to : originates init hop.importer ≡ false
-  pub session : Session
-  pub session_is : session_at routers maps hop ≡ Some session
-  pub act : IsActOver maps.maps new.acts.acts.items session number
-  pub came : (new.acts.acts.items ≡ old.acts.acts.items) ⊎ IsNewAct old.acts.acts.items new.acts.acts.items hop session number
+  pub import : ImportByMaps
+  pub import_is : import_at routers maps hop ≡ Some import
+  pub act : IsActOver maps.maps new.acts.acts.items import number
+  pub came : (new.acts.acts.items ≡ old.acts.acts.items) ⊎ IsNewAct old.acts.acts.items new.acts.acts.items hop import number
   pub edges : new.edges ≡ old.edges ++ edge_with number hop ∷ []
 
 abbrev pub TakesHop : List Router → List (Option Route) → LineMaps → BgpEdges → BgpEdges → Hop → Type 0
@@ -79,12 +84,12 @@ pub record IsFirstOf (acts : List BgpAct) (edge : Edge) : Type 0 where
   pub at : slice_get acts edge.act ≡ Some act
   pub same : edge ≡ edge_with edge.act act.first
 
--- The edges of directions, in order, and their acts: each is that of the session in the direction of the
+-- The edges of directions, in order, and their acts: each is that of the import in the direction of the
 -- first edge that has it.
 pub record AreEdgesOfSessions (shown : Shown) (routers : List Router) (init : List (Option Route)) (maps : LineMaps) (hops : List Hop) (found : BgpEdges) : Type
     0 where
-  pub right : AreRight shown maps.maps found.acts found.sessions
-  pub over : (number : ℕ) (act : BgpAct) → slice_get found.acts.acts.items number ≡ Some act → session_at routers maps act.first ≡ Some act.session
+  pub right : AreRight shown maps.maps found.acts found.imports
+  pub over : (number : ℕ) (act : BgpAct) → slice_get found.acts.acts.items number ≡ Some act → import_at routers maps act.first ≡ Some act.import
   pub within : (number : ℕ) (act : BgpAct) → slice_get found.acts.acts.items number ≡ Some act → Contains hops act.first
   pub each : AreEdgesOf (IsEdgeOfSession routers init maps found.acts.acts.items) (IsLeftOut routers init maps) hops found.edges
   pub in_order : AreByFirstUse found.edges (length found.acts.acts.items)

@@ -14,9 +14,9 @@ use Rattle.srp_build.specs.declared.hops.Hop.{Hop}
 use Rattle.srp_build.specs.declared.kinds.KindTable.{KindTable}
 use Rattle.srp_build.specs.declared.kinds.Kinds.{Kinds}
 use Rattle.srp_build.specs.declared.lines.LinePlace.{LinePlace}
-use Rattle.srp_build.specs.declared.session.Session.{Session}
+use Rattle.srp_build.specs.declared.imports.ImportByKinds.{ImportByKinds}
 use Rattle.srp_build.specs.Lines.{map_of_line, map_at}
-use Rattle.srp_build.specs.Plains.{SayTheSame, IsAsEarlier, session_of}
+use Rattle.srp_build.specs.Plains.{SayTheSame, IsAsEarlier, import_by_kinds}
 
 -- no entry of the map under that name matches prefix lists
 abbrev pub names_no_list : Router → List ℕ → Bool
@@ -78,11 +78,11 @@ pub record JoinsLines (routers : List Router) (hop : Hop) : Type 0 where
   pub exporter : HasLine routers hop.exporter hop.exporter_item
   pub importer : HasLine routers hop.importer hop.importer_item
 
--- the sessions are those of the directions, by the numbers of the kinds of their lines
-pub record AreSessionsOf (routers : List Router) (kinds : Kinds) (hops : List Hop) (sessions : List Session) : Type 0 where
-  pub total : length sessions ≡ length hops
-  pub each : (place : ℕ) (hop : Hop) (session : Session) → slice_get hops place ≡ Some hop → slice_get sessions place ≡ Some session →
-      session_of routers kinds.outs kinds.ins hop ≡ Some session
+-- the imports are those of the directions, by the numbers of the kinds of their lines
+pub record AreImportsOf (routers : List Router) (kinds : Kinds) (hops : List Hop) (imports : List ImportByKinds) : Type 0 where
+  pub total : length imports ≡ length hops
+  pub each : (place : ℕ) (hop : Hop) (import : ImportByKinds) → slice_get hops place ≡ Some hop → slice_get imports place ≡ Some import →
+      import_by_kinds routers kinds.outs kinds.ins hop ≡ Some import
 
 -- ---- how kinds are numbered
 

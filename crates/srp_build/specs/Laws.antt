@@ -11,11 +11,8 @@ use Rattle.cfg_ast.specs.meaning.RouterFaults.{protocol_of}
 use Rattle.cfg_ast.specs.printing.WellFormed.{IsWellFormed}
 use Rattle.policy_dd.specs.Imports.{AcceptsSome, HaveOnePreference}
 use Rattle.route_maps.specs.declared.plain.Imported.{Imported}
-use Rattle.route_maps.specs.Printable.{IsPrintable}
-use Rattle.route_maps.specs.Within.{IsMapWithin}
 use Rattle.specialize.specs.OnePrefix.{plain_of}
-use Rattle.srp_core.specs.declared.route.Act.{Act}
-use Rattle.srp_core.specs.declared.route.Act.TheVariants.{Import, Cost}
+use Rattle.srp_core.specs.ActMaps.{IsPrintableAct, IsActWithin}
 use Rattle.srp_core.specs.Problem.{Problem}
 use Rattle.srp_build.specs.ActOrder.{AreActsByFirstUse}
 use Rattle.srp_build.specs.FirstActs.{HasFirstActs}
@@ -36,23 +33,13 @@ MapsOfClass = (n : Network) (class : DestClass) (p q : Prefix) → Contains (cla
 abbrev pub FirstDecidesLone : Type 0
 FirstDecidesLone = (first f g : List ℕ → Option Imported) → AcceptsSome first → HaveOnePreference first f → HaveOnePreference first g → HaveOnePreference f g
 
--- both maps of an act can be printed
-abbrev pub HasMapsThatPrint : Act → Type 0
-HasMapsThatPrint (Import out sends into) = IsPrintable out × IsPrintable into
-HasMapsThatPrint (Cost cost) = Unit {0}
-
--- both maps of an act name only communities of a set
-abbrev pub HasMapsWithin : List ℕ → Act → Type 0
-HasMapsWithin set (Import out sends into) = IsMapWithin set out × IsMapWithin set into
-HasMapsWithin set (Cost cost) = Unit {0}
-
 -- The acts of a problem that are those of first edges can be printed, if the network names only lists
 -- that it defines, and its deletion lists have one community a line.
 abbrev pub ActsPrint : Type 0
 ActsPrint = (n : Network) (p : Prefix) (problem : Problem) → IsWellFormed n → undefined_list_lines n ≡ [] → delete_list_lines n ≡ [] →
-    AreActsByFirstUse problem → HasFirstActs n p problem → AllByRecursion HasMapsThatPrint problem.acts
+    AreActsByFirstUse problem → HasFirstActs n p problem → AllByRecursion IsPrintableAct problem.acts
 
 -- They name only communities that the network names.
 abbrev pub ActsStayWithin : Type 0
 ActsStayWithin = (n : Network) (p : Prefix) (problem : Problem) → AreActsByFirstUse problem → HasFirstActs n p problem →
-    AllByRecursion (HasMapsWithin (communities_of n)) problem.acts
+    AllByRecursion (IsActWithin (communities_of n)) problem.acts

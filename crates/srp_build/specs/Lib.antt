@@ -5,6 +5,7 @@ pub mod BgpEdges
 pub mod Built
 pub mod Costs
 pub mod Directions
+pub mod Exists
 pub mod FirstActs
 pub mod HopEdges
 pub mod HopNumbers
@@ -15,8 +16,8 @@ pub mod LineMaps
 pub mod Lines
 pub mod ListPlaces
 pub mod Lone
+pub mod MetImports
 pub mod Ospf
 pub mod Plains
 pub mod Problem
-pub mod Sessions
 pub mod Starts

@@ -6,7 +6,8 @@ use Rattle.route_maps.specs.declared.plain.Plain.{Plain}
 use Rattle.srp_build.specs.declared.kind_maps.KindMaps.{KindMaps}
 use Rattle.srp_build.specs.declared.kinds.Kinds.{Kinds}
 use Rattle.srp_build.specs.declared.lines.LinePlace.{LinePlace}
-use Rattle.srp_build.specs.declared.session.Session.{Session}
+use Rattle.srp_build.specs.declared.imports.ImportByKinds.{ImportByKinds}
+use Rattle.srp_build.specs.declared.imports.ImportByMaps.{ImportByMaps}
 use Rattle.srp_build.specs.Kinds.{map_of_place}
 use Rattle.srp_build.specs.Plains.{IsNumberOf, IsMapOfPlace, HaveNumbers}
 
@@ -33,9 +34,9 @@ pub record AreMapsOfKinds (p : Prefix) (routers : List Router) (firsts : List Li
 abbrev pub number_of : List ℕ → ℕ → ℕ
 number_of numbers kind = slice_index_or numbers kind 0
 
--- the session by the numbers of its maps, from that by the numbers of its kinds
-abbrev pub with_maps : List ℕ → Session → Session
-with_maps numbers session = record { out = number_of numbers session.out; sends = session.sends; into = number_of numbers session.into }
+-- an import by the numbers of its maps, from that by the numbers of its kinds
+abbrev pub with_maps : List ℕ → ImportByKinds → ImportByMaps
+with_maps numbers import = record { out = number_of numbers import.out; sends = import.sends; into = number_of numbers import.into }
 
 -- the maps of all lines, from those of their kinds
 abbrev pub line_maps : Kinds → KindMaps → LineMaps

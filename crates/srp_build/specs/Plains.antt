@@ -10,7 +10,8 @@ use Rattle.route_maps.specs.declared.plain.Plain.{Plain}
 use Rattle.route_maps.specs.declared.plain.Imported.{Imported}
 use Rattle.route_maps.specs.Maps.{verdict, import_of}
 use Rattle.srp_build.specs.declared.hops.Hop.{Hop}
-use Rattle.srp_build.specs.declared.session.Session.{Session}
+use Rattle.srp_build.specs.declared.imports.ImportByKinds.{ImportByKinds}
+use Rattle.srp_build.specs.declared.imports.ImportByMaps.{ImportByMaps}
 use Rattle.srp_build.specs.Lines.{map_named, list_named, map_of_line, closed, map_at, sends_at}
 
 -- the maps have one verdict on every set of communities
@@ -69,9 +70,9 @@ HaveNumbers p inbound maps (router ∷ routers) (numbers ∷ table) = HasNumbers
 abbrev pub number_at : List (List ℕ) → ℕ → ℕ → Option ℕ
 number_at table router item = option_and_then (λ (numbers : List ℕ). slice_get numbers item) (slice_get table router)
 
--- the numbers of both maps of a direction, and whether communities are sent
-abbrev pub session_of : List Router → List (List ℕ) → List (List ℕ) → Hop → Option Session
-session_of routers outs ins hop = option_and_then (λ (out : ℕ).
+-- the numbers of the kinds of the lines at both ends of a direction, and whether communities are sent
+abbrev pub import_by_kinds : List Router → List (List ℕ) → List (List ℕ) → Hop → Option ImportByKinds
+import_by_kinds routers outs ins hop = option_and_then (λ (out : ℕ).
     option_map (λ (into : ℕ). record { out = out; sends = sends_at routers hop.exporter hop.exporter_item; into = into })
     (number_at ins hop.importer hop.importer_item)) (number_at outs hop.exporter hop.exporter_item)
 
@@ -79,6 +80,6 @@ session_of routers outs ins hop = option_and_then (λ (out : ℕ).
 abbrev pub map_numbered : List Plain → ℕ → Plain
 map_numbered maps number = slice_index_or maps number closed
 
--- what a session imports
-abbrev pub import_over : List Plain → Session → List ℕ → Option Imported
-import_over maps session = import_of (map_numbered maps session.out) session.sends (map_numbered maps session.into)
+-- what is imported over numbered maps
+abbrev pub import_over : List Plain → ImportByMaps → List ℕ → Option Imported
+import_over maps import = import_of (map_numbered maps import.out) import.sends (map_numbered maps import.into)

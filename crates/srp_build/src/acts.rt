@@ -1,11 +1,11 @@
 //! Acts of sessions, found by what they import.
 
-ghost use Rattle.std.specs.Prelude.{◌≡◌, [], ◌∷◌, ◌++◌, true, false, None, Some, IfOk, OnOk, IfSome, Contains, slice_get};
+ghost use Rattle.std.specs.Prelude.{◌≡◌, ◌<◌, ◌^◌, [], ◌∷◌, ◌++◌, true, false, None, Some, IfOk, OnOk, IfSome, Contains, length, slice_get};
 ghost use Rattle.srp_build.specs.BgpActs.{nodes_of, AreApart, IsLike, AreUnlike, AreListed, IsActOfFunction, IsNumberFor};
 
 use crate::hops::Hop;
-use crate::plains::place;
-use crate::session::Session;
+use crate::imports::ImportByMaps;
+use crate::sums::low_half;
 use base_kit::NoMemory;
 use buckets::{Index, items_at, push_at};
 use dd_core::Store;
@@ -14,16 +14,17 @@ use policy_dd::{EdgeFn, accepts_some, same};
 use std::alloc::Global;
 use std::collections::HashMap;
 
-/// An act of sessions: the first direction that has it, the session there, and the function that all of
+/// An act of sessions: the first direction that has it, the import there, and the function that all of
 /// them have.
 #[derive(Drop)]
 pub struct BgpAct {
     pub first: Hop,
-    pub session: Session,
+    pub import: ImportByMaps,
     pub function: EdgeFn,
 }
 
-/// Acts of sessions, which are found by two nodes of their functions. No two of them import alike.
+/// Acts of sessions, which are found by the last halves of the places of two nodes of their functions. No
+/// two of them import alike.
 #[derive(Drop)]
 pub struct Acts {
     pub acts: Vec<BgpAct>,
@@ -54,12 +55,19 @@ fn like_among(store: &Store, acts: &[BgpAct], numbers: &[u32], function: &EdgeFn
     None
 }
 
-fn nodes_of(function: &EdgeFn) -> Result<(u32, u32), NoMemory>
-    ensures { IfOk result (λ nodes. nodes ≡ nodes_of function.now) }
+fn nodes_of(function: &EdgeFn) -> (u32, u32)
+    ensures { result ≡ nodes_of function.now }
 {
-    let permit = place(function.permit.place())?;
-    let rest = place(function.rest.place())?;
-    Ok((permit, rest))
+    let permit = low_half(function.permit.place());
+    let rest = low_half(function.rest.place());
+    (permit, rest)
+}
+
+fn number_of(place: usize) -> u32
+    requires { place < 2 ^ 32 }
+    ensures { result ≡ place }
+{
+    place as u32
 }
 
 impl Acts {
@@ -79,48 +87,50 @@ impl Acts {
         alloc: Global,
         store: &Store,
         hop: &Hop,
-        session: &Session,
+        import: &ImportByMaps,
         function: EdgeFn,
     ) -> Result<u32, NoMemory>
-        requires { AreListed self.old.by_nodes self.old.acts.items }
+        requires listed { AreListed self.old.by_nodes self.old.acts.items }
+        requires few { length self.old.acts.items < 2 ^ 32 }
         ensures listed { OnOk result (AreListed self.new.by_nodes self.new.acts.items) }
-        ensures number { IfOk result (IsNumberFor store.now self.old.acts.items self.new.acts.items hop.now session.now function) }
+        ensures number { IfOk result (IsNumberFor store.now self.old.acts.items self.new.acts.items hop.now import.now function) }
     {
         one_form();
         let _count = store.len();
-        let nodes = nodes_of(&function)?;
+        let nodes = nodes_of(&function);
         let numbers = items_at(&self.by_nodes, nodes);
         if let Some(number) = like_among(store, &self.acts, numbers, &function) {
             return Ok(number);
         }
-        let number = place(self.acts.len())?;
+        let number = number_of(self.acts.len());
         self.acts.push(BgpAct {
             first: *hop,
-            session: *session,
+            import: *import,
             function,
         })?;
         push_at(alloc, &mut self.by_nodes, nodes, number)?;
         Ok(number)
     }
 
-    /// The number of the act of a session with this function, none where it accepts nothing. The act is
+    /// The number of the act of an import with this function, none where it accepts nothing. The act is
     /// put last unless one that imports alike is there; the direction is then the first that has it.
     pub fn act_of_function(
         &mut self,
         alloc: Global,
         store: &Store,
         hop: &Hop,
-        session: &Session,
+        import: &ImportByMaps,
         function: EdgeFn,
     ) -> Result<Option<u32>, NoMemory>
-        requires { AreListed self.old.by_nodes self.old.acts.items }
+        requires listed { AreListed self.old.by_nodes self.old.acts.items }
+        requires few { length self.old.acts.items < 2 ^ 32 }
         ensures listed { OnOk result (AreListed self.new.by_nodes self.new.acts.items) }
-        ensures act { IfOk result (IsActOfFunction store.now self.old.acts.items self.new.acts.items hop.now session.now function) }
+        ensures act { IfOk result (IsActOfFunction store.now self.old.acts.items self.new.acts.items hop.now import.now function) }
     {
         if !accepts_some(store, &function) {
             return Ok(None);
         }
-        let number = self.number(alloc, store, hop, session, function)?;
+        let number = self.number(alloc, store, hop, import, function)?;
         Ok(Some(number))
     }
 }

@@ -1,22 +1,22 @@
 //! The edges of a BGP problem.
 
-ghost use Rattle.std.specs.Prelude.{◌≡◌, [], IfOk, OnOk, List, length, map};
+ghost use Rattle.std.specs.Prelude.{◌≡◌, ◌+◌, ◌<◌, ◌≤◌, ◌^◌, [], IfOk, OnOk, List, length, map};
 ghost use Rattle.cfg_ast.specs.declared.network.Router.{Router};
 ghost use Rattle.dd_core.specs.Sets.{Grows};
-ghost use Rattle.srp_build.specs.BgpEdges.{originates, IsInside, AreInside, IsSessionOf, TakesHop, AreEdgesOfSessions};
-ghost use Rattle.srp_build.specs.Kinds.{AreSessionsOf};
+ghost use Rattle.srp_build.specs.BgpEdges.{originates, IsInside, AreInside, IsImportOf, TakesHop, AreEdgesOfSessions};
+ghost use Rattle.srp_build.specs.Kinds.{AreImportsOf};
 ghost use Rattle.srp_build.specs.LineMaps.{LineMaps, line_maps};
 ghost use Rattle.srp_build.specs.Lines.{act_of_hop};
 ghost use Rattle.srp_build.specs.ListPlaces.{HavePlaces};
-ghost use Rattle.srp_build.specs.Sessions.{AreRight, AreMapsWithin};
+ghost use Rattle.srp_build.specs.MetImports.{AreRight, AreMapsWithin};
 
 use crate::acts::{Acts, BgpAct};
 use crate::hops::Hop;
+use crate::imports::ImportByKinds;
 use crate::kind_maps::{KindMaps, with_maps};
 use crate::lines::act_of_hop;
-use crate::session::Session;
+use crate::met_imports::{MetImports, act_of_import};
 use crate::session_hops::SessionHops;
-use crate::sessions::{Sessions, act_of_session};
 use base_kit::{Edge, List, NoMemory, Prefix};
 use cfg_ast::Router;
 use dd_core::Store;
@@ -25,11 +25,11 @@ use specialize::Places;
 use srp_core::{Act, Route};
 use std::alloc::Global;
 
-/// The edges of sessions, their acts, and the sessions that were met.
+/// The edges of sessions, their acts, and the imports that were met.
 #[derive(Drop)]
 pub struct BgpEdges {
     pub acts: Acts,
-    pub sessions: Sessions,
+    pub imports: MetImports,
     pub edges: List<Edge>,
 }
 
@@ -45,12 +45,12 @@ fn originates(init: &[Option<Route>], router: u32) -> bool
 impl BgpEdges {
     fn new(alloc: Global) -> Self
         ensures acts { result.acts.acts.items ≡ [] }
-        ensures sessions { result.sessions.met.items ≡ [] }
+        ensures imports { result.imports.met.items ≡ [] }
         ensures edges { result.edges ≡ [] }
     {
         BgpEdges {
             acts: Acts::new(alloc),
-            sessions: Sessions::new(alloc),
+            imports: MetImports::new(alloc),
             edges: List::new(alloc),
         }
     }
@@ -63,27 +63,29 @@ impl BgpEdges {
         init: &[Option<Route>],
         maps: &KindMaps,
         hop: &Hop,
-        session: &Session,
+        import: &ImportByKinds,
     ) -> Result<(), NoMemory>
-        requires inside { IsInside maps.now session.now }
+        requires inside { IsInside maps.now import.now }
         requires within { AreMapsWithin store.old.universe maps.now.maps.items }
-        requires right { AreRight store.old maps.now.maps.items self.old.acts self.old.sessions }
+        requires right { AreRight store.old maps.now.maps.items self.old.acts self.old.imports }
+        requires few { length self.old.acts.acts.items < 2 ^ 32 }
         ensures grows { Grows store.old store.new }
-        ensures right { OnOk result (AreRight store.new maps.now.maps.items self.new.acts self.new.sessions) }
-        ensures takes { OnOk result ((routers : List Router) (lines : LineMaps) → IsSessionOf routers lines maps.now hop.now session.now → TakesHop routers init.now lines self.old self.new hop.now) }
+        ensures right { OnOk result (AreRight store.new maps.now.maps.items self.new.acts self.new.imports) }
+        ensures grown { OnOk result (length self.new.acts.acts.items ≤ length self.old.acts.acts.items + 1) }
+        ensures takes { OnOk result ((routers : List Router) (lines : LineMaps) → IsImportOf routers lines maps.now hop.now import.now → TakesHop routers init.now lines self.old self.new hop.now) }
     {
         if originates(init, hop.importer) {
             return Ok(());
         }
-        let session = with_maps(&maps.numbers, session);
-        let act = act_of_session(
+        let import = with_maps(&maps.numbers, import);
+        let act = act_of_import(
             alloc,
             store,
             &maps.maps,
             &mut self.acts,
-            &mut self.sessions,
+            &mut self.imports,
             hop,
-            &session,
+            &import,
         )?;
         let Some(act) = act else {
             return Ok(());
@@ -107,18 +109,19 @@ pub fn bgp_edges(
     directions: &SessionHops,
     maps: &KindMaps,
 ) -> Result<BgpEdges, NoMemory>
-    requires total { length directions.now.sessions.items ≡ length directions.now.hops.items }
-    requires inside { AreInside maps.now directions.now.sessions.items }
+    requires total { length directions.now.imports.items ≡ length directions.now.hops.items }
+    requires inside { AreInside maps.now directions.now.imports.items }
     requires within { AreMapsWithin store.old.universe maps.now.maps.items }
+    requires few { length directions.now.hops.items < 2 ^ 32 }
     ensures grows { Grows store.old store.new }
-    ensures edges { IfOk result (λ found. (routers : List Router) → AreSessionsOf routers directions.now.kinds directions.now.hops.items directions.now.sessions.items → AreEdgesOfSessions store.new routers init.now (line_maps directions.now.kinds maps.now) directions.now.hops.items found) }
+    ensures edges { IfOk result (λ found. (routers : List Router) → AreImportsOf routers directions.now.kinds directions.now.hops.items directions.now.imports.items → AreEdgesOfSessions store.new routers init.now (line_maps directions.now.kinds maps.now) directions.now.hops.items found) }
 {
     growth_adds_up();
     let mut found = BgpEdges::new(alloc);
     let hops = directions.hops.as_slice();
-    let sessions = directions.sessions.as_slice();
+    let imports = directions.imports.as_slice();
     for i in 0..hops.len() {
-        found.take(alloc, store, init, maps, &hops[i], &sessions[i])?;
+        found.take(alloc, store, init, maps, &hops[i], &imports[i])?;
     }
     Ok(found)
 }

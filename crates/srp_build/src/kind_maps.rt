@@ -4,9 +4,9 @@ ghost use Rattle.std.specs.Prelude.{◌≡◌, IfOk};
 ghost use Rattle.srp_build.specs.LineMaps.{AreMapsOfKinds, number_of, with_maps};
 ghost use Rattle.srp_build.specs.ListPlaces.{HavePlaces};
 
+use crate::imports::{ImportByKinds, ImportByMaps};
 use crate::lines::{LinePlace, map_at};
 use crate::plains::Plains;
-use crate::session::Session;
 use base_kit::{NoMemory, Prefix};
 use cfg_ast::Router;
 use route_maps::Plain;
@@ -17,7 +17,7 @@ use std::alloc::Global;
 #[derive(Drop)]
 pub struct KindMaps {
     pub maps: Vec<Plain>,
-    pub numbers: Vec<u32>,
+    pub numbers: Vec<usize>,
 }
 
 /// The maps of the kinds with these first lines for a prefix.
@@ -43,22 +43,22 @@ pub fn kind_maps(
     })
 }
 
-fn number_of(numbers: &[u32], kind: u32) -> u32
+fn number_of(numbers: &[usize], kind: usize) -> usize
     ensures { result ≡ number_of numbers.now kind }
 {
-    match numbers.get(kind as usize) {
+    match numbers.get(kind) {
         Some(number) => *number,
         None => 0,
     }
 }
 
-/// The session by the numbers of its maps, from that by the numbers of the kinds of its lines.
-pub fn with_maps(numbers: &[u32], session: &Session) -> Session
-    ensures { result ≡ with_maps numbers.now session.now }
+/// An import by the numbers of its maps, from that by the numbers of the kinds of its lines.
+pub fn with_maps(numbers: &[usize], import: &ImportByKinds) -> ImportByMaps
+    ensures { result ≡ with_maps numbers.now import.now }
 {
-    Session {
-        out: number_of(numbers, session.out),
-        sends: session.sends,
-        into: number_of(numbers, session.into),
+    ImportByMaps {
+        out: number_of(numbers, import.out),
+        sends: import.sends,
+        into: number_of(numbers, import.into),
     }
 }

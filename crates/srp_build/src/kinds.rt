@@ -8,7 +8,7 @@ ghost use Rattle.srp_build.specs.ListPlaces.{HavePlaces};
 
 use crate::fixed::is_fixed;
 use crate::lines::{LinePlace, map_of_line, neighbors};
-use crate::plains::{Plains, place};
+use crate::plains::Plains;
 use crate::seen::Seen;
 use base_kit::{List, NoMemory, Prefix};
 use cfg_ast::{Neighbor, Router};
@@ -23,9 +23,9 @@ pub struct Kinds {
     /// The first line of each kind.
     pub firsts: Vec<LinePlace>,
     /// The number of the kind of each line outbound, router by router.
-    pub outs: List<List<u32>>,
+    pub outs: List<List<usize>>,
     /// The same inbound.
-    pub ins: List<List<u32>>,
+    pub ins: List<List<usize>>,
 }
 
 // The first lines of kinds, and the different maps of those kinds whose map is the same for every
@@ -35,7 +35,7 @@ struct KindTable {
     pub firsts: Vec<LinePlace>,
     pub fixed: Plains,
     // The kind of each of the maps.
-    pub kinds: Vec<u32>,
+    pub kinds: Vec<usize>,
 }
 
 impl KindTable {
@@ -52,23 +52,28 @@ impl KindTable {
     }
 
     // The number of a new kind, whose first line stands at the place.
-    fn push(&mut self, first: LinePlace) -> Result<u32, NoMemory>
+    fn push(&mut self, first: LinePlace) -> Result<usize, NoMemory>
         ensures { IfOk result (IsNewKind self.old self.new first) }
     {
-        let kind = place(self.firsts.len())?;
+        let kind = self.firsts.len();
         self.firsts.push(first)?;
         Ok(kind)
     }
 
     // The kind that has the map with the number.
-    fn kind_of_map(&self, number: u32) -> Option<u32>
+    fn kind_of_map(&self, number: usize) -> Option<usize>
         ensures { result ≡ slice_get self.now.kinds.items number }
     {
-        self.kinds.get(number as usize).copied()
+        self.kinds.get(number).copied()
     }
 
     // The number of the kind that has the map for every prefix, a new one where none has.
-    fn number_fixed(&mut self, alloc: Global, first: LinePlace, map: Plain) -> Result<u32, NoMemory>
+    fn number_fixed(
+        &mut self,
+        alloc: Global,
+        first: LinePlace,
+        map: Plain,
+    ) -> Result<usize, NoMemory>
         ensures { IfOk result (IsFixedKind self.old self.new first map) }
     {
         let number = self.fixed.number(alloc, map)?;
@@ -88,7 +93,7 @@ impl KindTable {
         router: &Router,
         places: &Places,
         line: &Neighbor,
-    ) -> Result<u32, NoMemory>
+    ) -> Result<usize, NoMemory>
         requires { ArePlacesOfRouter router.now places.now }
         ensures { IfOk result (IsKindNumber self.old self.new first router.now line.now) }
     {
@@ -106,7 +111,7 @@ impl KindTable {
 struct RouterLines<'a> {
     pub router: &'a Router,
     pub places: &'a Places,
-    pub numbers: &'a [u32],
+    pub numbers: &'a [usize],
 }
 
 // The number of the kind of the next line of a router, which stands at the place.
@@ -117,7 +122,7 @@ fn kind_of_line(
     first: LinePlace,
     before: RouterLines,
     line: &Neighbor,
-) -> Result<u32, NoMemory>
+) -> Result<usize, NoMemory>
     requires { ArePlacesOfRouter before.router.now before.places.now }
     ensures { IfOk result (IsSeenOrNumbered table.old table.new first before.entry.router.now before.entry.numbers.now line.now) }
 {
@@ -137,7 +142,7 @@ fn kinds_of_router(
     places: &[Places],
     at: usize,
     inbound: bool,
-) -> Result<List<u32>, NoMemory>
+) -> Result<List<usize>, NoMemory>
     requires places { HavePlaces routers.now places.now }
     requires inside { at < length routers.now }
     requires fixed { AreFixed routers.now table.old }
@@ -148,13 +153,12 @@ fn kinds_of_router(
     let router = &routers[at];
     let own = &places[at];
     let lines = neighbors(router);
-    let router_place = place(at)?;
     let mut seen = Seen::new(alloc);
     let mut numbers = List::new(alloc);
     for i in 0..lines.len() {
         let first = LinePlace {
-            router: router_place,
-            item: place(i)?,
+            router: at,
+            item: i,
             inbound,
         };
         let line = &lines[i];
@@ -176,7 +180,7 @@ fn kinds_by_router(
     routers: &[Router],
     places: &[Places],
     inbound: bool,
-) -> Result<List<List<u32>>, NoMemory>
+) -> Result<List<List<usize>>, NoMemory>
     requires places { HavePlaces routers.now places.now }
     requires fixed { AreFixed routers.now table.old }
     ensures fixed { OnOk result (AreFixed routers.now table.new) }

@@ -1,7 +1,11 @@
 //! Laws of classes and of the problems that are built for them. Each law is the contract of a function
 //! that does nothing: whoever needs one calls it.
 
+ghost use Rattle.srp_build.specs.Exists.{SamplesGiveProblems};
 ghost use Rattle.srp_build.specs.Laws.{NoClassWithoutProcess, MapsOfClass, FirstDecidesLone, ActsPrint, ActsStayWithin};
+
+use given_laws::given_is_well_formed;
+use net_topology::laws::few_links;
 
 /// A network without a `router` line has no class.
 pub fn no_class_without_process()
@@ -28,3 +32,12 @@ pub fn acts_print()
 pub fn acts_stay_within()
     ensures { ActsStayWithin }
 {}
+
+/// Where finitely many sets of communities decide what sessions import, each class of a network that a text gives, and that
+/// has no fault, has a problem.
+pub fn samples_give_problems()
+    ensures { SamplesGiveProblems }
+{
+    few_links();
+    given_is_well_formed();
+}

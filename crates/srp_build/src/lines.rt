@@ -18,8 +18,8 @@ use std::alloc::Global;
 /// A line of a router, inbound or outbound.
 #[derive(Clone, Copy, Debug, PartialEq, Eq)]
 pub struct LinePlace {
-    pub router: u32,
-    pub item: u32,
+    pub router: usize,
+    pub item: usize,
     pub inbound: bool,
 }
 
@@ -99,13 +99,13 @@ pub fn map_at(
     requires { HavePlaces routers.now places.now }
     ensures { IfOk result (λ plain. plain ≡ map_at p routers.now line.inbound line.router line.item) }
 {
-    let Some(router) = routers.get(line.router as usize) else {
+    let Some(router) = routers.get(line.router) else {
         return Ok(closed(alloc));
     };
-    let Some(own) = places.get(line.router as usize) else {
+    let Some(own) = places.get(line.router) else {
         return Ok(closed(alloc));
     };
-    let Some(named) = neighbors(router).get(line.item as usize) else {
+    let Some(named) = neighbors(router).get(line.item) else {
         return Ok(closed(alloc));
     };
     map_of_line(alloc, p, router, own, line.inbound, named)
@@ -136,13 +136,13 @@ pub fn act_of_hop(
     ensures { IfOk result (λ act. act ≡ act_of_hop p routers.now hop.now) }
 {
     let from = LinePlace {
-        router: hop.exporter,
-        item: hop.exporter_item,
+        router: hop.exporter as usize,
+        item: hop.exporter_item as usize,
         inbound: false,
     };
     let to = LinePlace {
-        router: hop.importer,
-        item: hop.importer_item,
+        router: hop.importer as usize,
+        item: hop.importer_item as usize,
         inbound: true,
     };
     let out = map_at(alloc, p, routers, places, from)?;

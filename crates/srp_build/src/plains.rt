@@ -15,33 +15,22 @@ use std::collections::HashMap;
 #[derive(Drop)]
 pub struct Plains {
     pub maps: Vec<Plain>,
-    by_sum: Index<u32>,
-}
-
-/// A place as a number of 32 bits. A text within the limits has fewer than 2^32 lines. A store with as
-/// many nodes is taken to want more memory than there is.
-pub fn place(i: usize) -> Result<u32, NoMemory>
-    ensures { IfOk result (λ n. n ≡ i) }
-{
-    if i > u32::MAX as usize {
-        return Err(NoMemory);
-    }
-    Ok(i as u32)
+    by_sum: Index<usize>,
 }
 
 // Whether the map with the number is the same as this one.
-fn is_same(maps: &[Plain], number: u32, map: &Plain) -> bool
+fn is_same(maps: &[Plain], number: usize, map: &Plain) -> bool
     ensures { result ≡ true → IsNumberOf maps.now number map.now }
 {
     same_map_says_the_same();
-    match maps.get(number as usize) {
+    match maps.get(number) {
         Some(other) => same_map(other, map),
         None => false,
     }
 }
 
 // The first of the numbers whose map is the same as this one.
-fn same_among(maps: &[Plain], numbers: &[u32], map: &Plain) -> Option<u32>
+fn same_among(maps: &[Plain], numbers: &[usize], map: &Plain) -> Option<usize>
     ensures { IfSome result (λ number. IsNumberOf maps.now number map.now) }
 {
     for number in numbers {
@@ -64,7 +53,7 @@ impl Plains {
     }
 
     /// The number of a map, which is put last unless one that is the same is there.
-    pub fn number(&mut self, alloc: Global, map: Plain) -> Result<u32, NoMemory>
+    pub fn number(&mut self, alloc: Global, map: Plain) -> Result<usize, NoMemory>
         ensures number { IfOk result (λ number. IsNumberOf self.new.maps.items number map) }
         ensures grown { IfOk result (IsGrownBy self.old.maps.items self.new.maps.items map) }
     {
@@ -72,7 +61,7 @@ impl Plains {
         if let Some(number) = same_among(&self.maps, items_at(&self.by_sum, sum), &map) {
             return Ok(number);
         }
-        let number = place(self.maps.len())?;
+        let number = self.maps.len();
         self.maps.push(map)?;
         push_at(alloc, &mut self.by_sum, sum, number)?;
         Ok(number)

@@ -26,10 +26,10 @@ fn is_same_name(a: &Option<Named>, b: &Option<Named>) -> bool
 fn number_if_same(
     inbound: bool,
     lines: &[Neighbor],
-    numbers: &[u32],
+    numbers: &[usize],
     line: &Neighbor,
     place: usize,
-) -> Option<u32>
+) -> Option<usize>
     ensures { IfSome result (IsAsEarlier inbound lines.now numbers.now line.now) }
 {
     let number = numbers.get(place)?;
@@ -47,10 +47,10 @@ fn number_if_same(
 fn number_of_earlier(
     inbound: bool,
     lines: &[Neighbor],
-    numbers: &[u32],
+    numbers: &[usize],
     line: &Neighbor,
     places: &[usize],
-) -> Option<u32>
+) -> Option<usize>
     ensures { IfSome result (IsAsEarlier inbound lines.now numbers.now line.now) }
 {
     for place in places {
@@ -65,9 +65,9 @@ fn number_of_earlier(
 fn number_of_last(
     inbound: bool,
     lines: &[Neighbor],
-    numbers: &[u32],
+    numbers: &[usize],
     line: &Neighbor,
-) -> Option<u32>
+) -> Option<usize>
     ensures { IfSome result (IsAsEarlier inbound lines.now numbers.now line.now) }
 {
     let last = numbers.len().checked_sub(1)?;
@@ -119,9 +119,9 @@ impl Seen {
         alloc: Global,
         inbound: bool,
         lines: &[Neighbor],
-        numbers: &[u32],
+        numbers: &[usize],
         line: &Neighbor,
-    ) -> Result<Option<u32>, NoMemory>
+    ) -> Result<Option<usize>, NoMemory>
         ensures { IfOk result (λ known. IfSome known (IsAsEarlier inbound lines.now numbers.now line.now)) }
     {
         if let Some(number) = number_of_last(inbound, lines, numbers, line) {

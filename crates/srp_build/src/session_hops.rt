@@ -1,13 +1,13 @@
 //! The directions of sessions, with the kinds of their lines.
 
 ghost use Rattle.std.specs.Prelude.{All, IfOk};
-ghost use Rattle.srp_build.specs.Kinds.{AreKinds, AreSessionsOf, JoinsLines};
+ghost use Rattle.srp_build.specs.Kinds.{AreKinds, AreImportsOf, JoinsLines};
 ghost use Rattle.srp_build.specs.Directions.{AreSessionHops};
 ghost use Rattle.srp_build.specs.ListPlaces.{HavePlaces};
 
 use crate::hops::Hop;
+use crate::imports::{ImportByKinds, import_by_kinds};
 use crate::kinds::{Kinds, kinds_of};
-use crate::session::{Session, session_of};
 use base_kit::NoMemory;
 use cfg_ast::Router;
 use specialize::{Places, places_of};
@@ -20,8 +20,8 @@ pub struct SessionHops {
     /// The places of each router's lists and maps.
     pub places: Vec<Places>,
     pub kinds: Kinds,
-    /// The session of each direction, by the numbers of the kinds of its lines.
-    pub sessions: Vec<Session>,
+    /// What each direction imports, by the numbers of the kinds of its lines.
+    pub imports: Vec<ImportByKinds>,
 }
 
 fn places_by_router(alloc: Global, routers: &[Router]) -> Result<Vec<Places>, NoMemory>
@@ -34,26 +34,26 @@ fn places_by_router(alloc: Global, routers: &[Router]) -> Result<Vec<Places>, No
     Ok(places)
 }
 
-fn sessions_of(
+fn imports_of(
     alloc: Global,
     routers: &[Router],
     kinds: &Kinds,
     hops: &[Hop],
-) -> Result<Vec<Session>, NoMemory>
+) -> Result<Vec<ImportByKinds>, NoMemory>
     requires kinds { AreKinds routers.now kinds.now }
     requires lines { All (JoinsLines routers.now) hops.now }
-    ensures { IfOk result (λ sessions. AreSessionsOf routers.now kinds.now hops.now sessions.items) }
+    ensures { IfOk result (λ imports. AreImportsOf routers.now kinds.now hops.now imports.items) }
 {
     let outs = kinds.outs.as_slice();
     let ins = kinds.ins.as_slice();
-    let mut sessions = Vec::new(alloc);
+    let mut imports = Vec::new(alloc);
     for hop in hops {
-        let Some(session) = session_of(routers, outs, ins, hop) else {
+        let Some(import) = import_by_kinds(routers, outs, ins, hop) else {
             unreachable!();
         };
-        sessions.push(session)?;
+        imports.push(import)?;
     }
-    Ok(sessions)
+    Ok(imports)
 }
 
 /// These directions of sessions, with the kinds of the lines at their ends.
@@ -67,11 +67,11 @@ pub fn session_hops(
 {
     let places = places_by_router(alloc, routers)?;
     let kinds = kinds_of(alloc, routers, places.as_slice())?;
-    let sessions = sessions_of(alloc, routers, &kinds, &hops)?;
+    let imports = imports_of(alloc, routers, &kinds, &hops)?;
     Ok(SessionHops {
         hops,
         places,
         kinds,
-        sessions,
+        imports,
     })
 }

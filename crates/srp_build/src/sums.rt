@@ -1,6 +1,9 @@
 //! Pairs of numbers computed from names and maps, equal where these are equal, by which they are looked
 //! up. What a pair is means nothing.
 
+ghost use Rattle.std.specs.Prelude.{◌≡◌};
+ghost use Rattle.srp_build.specs.BgpActs.{low_half};
+
 use crate::lines::{list_named, map_named};
 use base_kit::NumSet;
 use cfg_ast::{Change, CommunityList, Named, Neighbor};
@@ -8,6 +11,13 @@ use route_maps::{Plain, PlainEntry};
 
 // The prime of the hash of Fowler, Noll and Vo for 64 bits.
 const PRIME: u64 = 1_099_511_628_211;
+
+/// The last 32 bits of a number.
+pub fn low_half(number: usize) -> u32
+    ensures { result ≡ low_half number }
+{
+    (number % 4_294_967_296) as u32
+}
 
 fn halves(sum: u64) -> (u32, u32) {
     ((sum & 0xffff_ffff) as u32, (sum >> 32) as u32)

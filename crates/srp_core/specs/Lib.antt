@@ -1,3 +1,4 @@
+pub mod ActMaps
 pub mod Acts
 pub mod Alike
 pub mod Candidates

@@ -3,12 +3,12 @@ use Rattle.std.proofs.Common.{◌≡◌, sym, ◌∙◌, subst}
 use Rattle.cfg_ast.specs.declared.network.Network.{Network}
 use Rattle.compress_laws.specs.Compressed.{Compresses}
 use Rattle.compress_laws.specs.Laws.{PlanCompresses}
-use Rattle.quotient_laws.specs.Questions.{IsQuotiented, PicturesAgree, QuestionsCarry}
+use Rattle.quotient_laws.specs.Questions.{GroupQuestionCarries, IsQuotiented, Picture, PicturesAgree, QuestionsCarry}
 use Rattle.reading_laws.specs.WellRead.{WhatIsReadIsWell}
 use Rattle.srp_core.specs.ProblemOf.{IsProblemOf}
 use Rattle.answer_kit.proofs.OneClass.{some_prefix}
 use Rattle.carried_laws.proofs.Carried.{plan_text}
-use Rattle.workflow_laws.specs.Questions.{SmallAnswersForLarge}
+use Rattle.workflow_laws.specs.Questions.{EachQuestionCarries, SmallAnswersForLarge}
 use Rattle.workflow_laws.proofs.Kept.{has_class, done_compress, one_network}
 
 pub small_answers_for_large : WhatIsReadIsWell → PlanCompresses → PicturesAgree → QuestionsCarry → SmallAnswersForLarge
@@ -43,4 +43,17 @@ small_answers_for_large well compresses agree carry contents F G N K c =
           let q : IsQuotiented above below k.groups =
           record { rules = of.rules; small_rules = of_small.rules; admissible = coarsest.admissible; quotient = quotient } in
           record { coarsest = coarsest; quotient = quotient; pictures = agree above below k.groups q; questions = carry above below k.groups q });
+    }
+
+-- whatever is asked
+pub each_question_carries : (asks : Picture → Type 0) → SmallAnswersForLarge → GroupQuestionCarries asks → EachQuestionCarries asks
+each_question_carries asks small carry contents F G N K c =
+    let a = small contents F G N K c in
+    record {
+      groups = a.groups;
+      alike = λ p i above below of of_small. (
+          let x = a.alike p i above below of of_small in
+          let q : IsQuotiented above below a.groups =
+          record { rules = of.rules; small_rules = of_small.rules; admissible = x.coarsest.admissible; quotient = x.quotient } in
+          record { coarsest = x.coarsest; quotient = x.quotient; one = carry above below a.groups q });
     }

@@ -9,8 +9,7 @@ use Rattle.reading_laws.specs.WellRead.{WhatIsReadIsWell}
 use Rattle.srp_core.specs.Problem.{Problem, count}
 use Rattle.srp_core.proofs.Alike.{same_coarsest, turned}
 use Rattle.srp_core.proofs.AlikeOf.{one_problem as problems_alike}
-use Rattle.answer_certificates.specs.Agreement.{NamesTheGroups, WhatIsCertifiedIsVerified as VerifiesWhatIsCertified}
-use Rattle.answer_certificates.specs.Agreement.{WhatIsVerifiedNamesTheGroups as VerifiedNamesTheGroups}
+use Rattle.answer_certificates.specs.Agreement.{NamesTheGroups, VerifiedNamesTheGroups, VerifiesWhatIsCertified}
 use Rattle.answer_certificates.specs.OneAnswer.{VerifyAnswerIsOne}
 use Rattle.answer_certificates.specs.Verified.{IsVerifyAnswer}
 use Rattle.answer_groups.specs.GroupLines.{IsGroupsOf}

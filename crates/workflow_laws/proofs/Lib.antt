@@ -26,6 +26,8 @@ mod Schedules
 mod ShortOrders
 mod SmallClass
 mod SmallStarts
+mod SomeCanon
+mod SomeCertificate
 mod SomeOutcome
 mod Told
 mod Up

@@ -11,7 +11,7 @@ use Rattle.srp_core.specs.Problem.{Problem, count}
 use Rattle.srp_core.specs.Stability.{IsStable}
 use Rattle.srp_core.proofs.AlikeOf.{one_problem as problems_alike}
 use Rattle.solution_length.specs.Laws.{most_bytes, StableTextIsShort}
-use Rattle.solution_round_trip.specs.Laws.{AreNames, PrintedIsReadBack, StableIsInRange}
+use Rattle.solution_round_trip.specs.Laws.{AreNames, PrintedSolutionIsReadBack, StableIsInRange}
 use Rattle.solution_text.specs.Printed.{labels_text}
 use Rattle.solution_text.specs.Solutions.{labels_of_text}
 use Rattle.route_run.specs.declared.schedule.Activation.{Activation}
@@ -80,7 +80,7 @@ module _ (P : Problem) (written : List ℕ) where
 pub fits_solution : (written printed : List ℕ) → written ≡ printed → length printed ≤ most_bytes → length written ≤ solution_limit
 fits_solution written printed same few = subst (λ (bytes : List ℕ). length bytes ≤ solution_limit) (sym same) (omega (arith, few))
 
-pub what_rests_is_stable : WhatIsReadIsWell → GivenIsWellFormed → PrintedIsReadBack → StableIsInRange → StableTextIsShort → WhatRestsIsStable
+pub what_rests_is_stable : WhatIsReadIsWell → GivenIsWellFormed → PrintedSolutionIsReadBack → StableIsInRange → StableTextIsShort → WhatRestsIsStable
 what_rests_is_stable well formed printed range few contents F S T text schedule written N small holds told x kept checked y =
     let d = done_reading (run F N T) contents (command.Run N) refl (names_run F T N small) text holds (rested written) x in
     let n = d.network in

@@ -1,6 +1,6 @@
--- There is an outcome, where each class has a problem.
+-- There is an outcome.
 use Rattle.std.proofs.Common.{◌≡◌, inl, inr, ℕ, Bool, true, false, List, [], ◌∷◌, length, refl, arith, Option, Some, None, Result, Ok, Err}
-use Rattle.std.specs.Prelude.{Contains, IfSome, IsSome}
+use Rattle.std.specs.Prelude.{Contains, IsSome}
 use Rattle.std.proofs.lemmas.Bool.{cases_lt}
 use Rattle.base_kit.proofs.Elements.{In, contains_in}
 use Rattle.abstract_net.specs.Links.{quotient_links}
@@ -11,15 +11,19 @@ use Rattle.cfg_ast.specs.declared.refusal.ReadRefusal.TheVariants as read_refusa
 use Rattle.cfg_ast.specs.meaning.Classes.{classes_of}
 use Rattle.cfg_ast.specs.text.Reading.{reading_of}
 use Rattle.compress_laws.specs.Built.{IsPlanOf}
+use Rattle.compress_laws.specs.Laws.{BuiltFits}
 use Rattle.config_emit.specs.Plan.{Plan}
+use Rattle.canon_policy.specs.Exists.{EachHasCanonical}
+use Rattle.existence_laws.specs.Laws.{EachClassHasProblem, EachGraphHasCertificate, EachProblemHasGraph}
+use Rattle.srp_build.specs.Exists.{HasProblem}
 use Rattle.fat_gen.specs.FatTrees.{fat_tree_text, is_size}
 use Rattle.given_laws.specs.Laws.{GivenIsWellFormed}
 use Rattle.group_report.specs.JsonText.{json_text}
 use Rattle.group_report.specs.Reports.{Report, report_text}
 use Rattle.net_topology.specs.Laws.{FewLinks}
-use Rattle.quotient_laws.specs.Links.{GroupsHaveNoMoreLinks}
+use Rattle.quotient_laws.specs.Links.{QuotientHasNoMoreLinks}
 use Rattle.quotient_laws.specs.Numbered.{EachHasGroups, HasGroups}
-use Rattle.reading_laws.specs.WellRead.{WhatIsReadIsWell}
+use Rattle.reading_laws.specs.WellRead.{IsRead, WhatIsReadIsWell}
 use Rattle.srp_core.specs.Problem.{Problem, IsProblem}
 use Rattle.srp_quotient.specs.Groups.{small_of}
 use Rattle.srp_quotient.specs.Laws.{QuotientIsProblem, QuotientIsQuotient}
@@ -45,22 +49,29 @@ use Rattle.bonsai_top.specs.declared.command.Command.TheVariants as command
 use Rattle.bonsai_top.specs.Commands.{command_of, is_read, reads_first, reads_second}
 use Rattle.bonsai_top.specs.Outcomes.{text_limit, IsAnswerTo, IsOnClass, IsOnNetwork, IsOnSecond, IsOutcome, IsOutcomeAt, IsOutcomeOf, IsOutcomeOfFiles}
 use Rattle.bonsai_top.specs.Words.{file_of, second_of}
-use Rattle.workflow_laws.specs.Existence.{network_text, is_left_open, tree_of, EachClassHasAProblem, EachTextIsJudged, ThereIsAnOutcome}
+use Rattle.workflow_laws.specs.Existence.{EachTextIsJudged, ThereIsAnOutcome}
 use Rattle.workflow_laws.proofs.Carriers.{some_fold, some_lift}
 use Rattle.workflow_laws.proofs.Carrying.{HasCarrying}
 use Rattle.workflow_laws.proofs.Decided.{IsComplete, IsSound}
 use Rattle.workflow_laws.proofs.Existence.{check_of_plan, compress_of_plan, groups_of_plan, reach_of_plan, run_of_plan, HasOrder}
 use Rattle.workflow_laws.proofs.Kept.{has_class}
 use Rattle.workflow_laws.proofs.Labelled.{RestIsStable, SomeOf}
+use Rattle.workflow_laws.proofs.SomeCanon.{some_canon}
+use Rattle.workflow_laws.proofs.SomeCertificate.{some_certify, some_verify}
 
 -- the laws that existence rests on
 pub record HasLaws : Type 0 where
   pub well : WhatIsReadIsWell
   pub judged : EachTextIsJudged
   pub formed : GivenIsWellFormed
+  pub problems : EachClassHasProblem
+  pub graphs : EachProblemHasGraph
+  pub certificates : EachGraphHasCertificate
+  pub canon : EachHasCanonical
+  pub fits : BuiltFits
   pub groups : EachHasGroups
   pub few_links : FewLinks
-  pub no_more_links : GroupsHaveNoMoreLinks
+  pub no_more_links : QuotientHasNoMoreLinks
   pub is_problem : QuotientIsProblem
   pub is_quotient : QuotientIsQuotient
   pub sound : IsSound
@@ -69,13 +80,19 @@ pub record HasLaws : Type 0 where
   pub order : HasOrder
   pub rest : RestIsStable
 
-module _ (laws : HasLaws) (text : List ℕ) (problems : EachClassHasAProblem text) (n : Network) (reads : reading_of text ≡ Ok n) where
+module _ (laws : HasLaws) (text : List ℕ) (n : Network) (reads : reading_of text ≡ Ok n) where
+  abbrev well : IsRead text n
+  well = laws.well text n reads
+
   module _ (class : DestClass) (has : Contains (classes_of n) class) where
+    abbrev found : HasProblem n class
+    found = laws.problems n ∣ (text, well.given) ∣₁ well.faultless class has
+
     abbrev problem : Problem
-    problem = (problems n reads class has).0
+    problem = found.problem
 
     rules : IsProblem problem
-    rules = (let p = some_prefix n class has in ((problems n reads class has).1.of p.0 p.1).rules)
+    rules = (let p = some_prefix n class has in (found.built.of p.0 p.1).rules)
 
     groups : HasGroups problem
     groups = laws.groups problem rules
@@ -94,7 +111,7 @@ module _ (laws : HasLaws) (text : List ℕ) (problems : EachClassHasAProblem tex
     is_plan = record {
       network_is = refl;
       class_is = refl;
-      built = (problems n reads class has).1;
+      built = found.built;
       coarsest = groups.coarsest;
       numbered = groups.numbered;
       links = refl;
@@ -108,9 +125,9 @@ module _ (laws : HasLaws) (text : List ℕ) (problems : EachClassHasAProblem tex
 
     are_sides : AreSides n class sides
     are_sides =
-        let read = laws.well text n reads in
+        let read = well in
         let p = some_prefix n class has in
-        let built = (problems n reads class has).1 in
+        let built = found.built in
         let fewer = laws.no_more_links n p.0 problem groups.groups groups.count (built.of p.0 p.1) in
         let few = laws.few_links n (laws.formed n ∣ (text, read.given) ∣₁) read.faultless in
         record {
@@ -158,33 +175,36 @@ module _ (laws : HasLaws) (text : List ℕ) (problems : EachClassHasAProblem tex
     abbrev reported : SomeOf (IsReported report_text n number class)
     reported = some_report class has report_text number
 
-    some_on_class : (of : ClassCommand) → is_left_open (Some (command.OnClass of number)) ≡ false → SomeOf (IsOnClass of n number class)
-    some_on_class on_class.Groups other = groups_of_plan n number class reported.0 reported.1
-    some_on_class on_class.Compress other = compress_of_plan n number class reported.0 reported.1
-    some_on_class on_class.Report other = reported
-    some_on_class on_class.Json other = some_report class has json_text number
-    some_on_class on_class.Canon other = absurd cc
-    some_on_class on_class.Certify other = absurd cc
+    some_on_class : (of : ClassCommand) → SomeOf (IsOnClass of n number class)
+    some_on_class on_class.Groups = groups_of_plan n number class reported.0 reported.1
+    some_on_class on_class.Compress = compress_of_plan n number class reported.0 reported.1
+    some_on_class on_class.Report = reported
+    some_on_class on_class.Json = some_report class has json_text number
+    some_on_class on_class.Canon =
+        some_canon laws.canon laws.groups n (laws.formed n ∣ (text, well.given) ∣₁) class (problem class has) (found class has).built (rules class has)
+        (laws.fits n class (problem class has) ∣ (text, well.given) ∣₁ well.faultless has (found class has).built)
+    some_on_class on_class.Certify = some_certify laws.graphs laws.certificates n class (problem class has) (found class has).built (rules class has)
 
-    some_on_second : (of : SecondCommand) → is_left_open (Some (command.OnSecond of number)) ≡ false → (second : Option (List ℕ)) → IsSome second
+    some_on_second : (of : SecondCommand) → (second : Option (List ℕ)) → IsSome second
         → SomeOf (IsOnSecond of n second class)
-    some_on_second on_second.Check other second told = check_of_plan n number class reported.0 reported.1 has laws.sound laws.complete second told
-    some_on_second on_second.Fold other second told =
+    some_on_second on_second.Check second told = check_of_plan n number class reported.0 reported.1 has laws.sound laws.complete second told
+    some_on_second on_second.Fold second told =
         some_fold laws.sound laws.complete laws.carrying laws.is_quotient n class has (sides class has) (are_sides class has) second told
-    some_on_second on_second.Lift other second told =
+    some_on_second on_second.Lift second told =
         some_lift laws.sound laws.complete laws.carrying laws.is_quotient n class has (sides class has) (are_sides class has) second told
-    some_on_second on_second.Run other second told = run_of_plan n number class reported.0 reported.1 has laws.rest second told
-    some_on_second on_second.Reach other second told = reach_of_plan n number class reported.0 reported.1 has laws.sound laws.complete second told laws.order
-    some_on_second on_second.Verify other second told = absurd cc
+    some_on_second on_second.Run second told = run_of_plan n number class reported.0 reported.1 has laws.rest second told
+    some_on_second on_second.Reach second told = reach_of_plan n number class reported.0 reported.1 has laws.sound laws.complete second told laws.order
+    some_on_second on_second.Verify second told =
+        some_verify laws.graphs laws.certificates n class (problem class has) (found class has).built (rules class has) second told
 
   some_answer : (c : Command) (second : Option (List ℕ)) → reads_first c ≡ true → (is_read reads_second (Some c) ≡ true → IsSome second)
-      → is_left_open (Some c) ≡ false → SomeOf (IsAnswerTo c n second)
-  some_answer (command.OnNetwork of) second reads_file told other = some_on_network of
-  some_answer (command.OnClass of number) second reads_file told other =
-      of_class (IsOnClass of n number) number (λ class has. some_on_class number class has of other)
-  some_answer (command.OnSecond of number) second reads_file told other =
-      of_class (IsOnSecond of n second) number (λ class has. some_on_second number class has of other second (told refl))
-  some_answer (command.Trial size) second reads_file told other = absurd cc
+      → SomeOf (IsAnswerTo c n second)
+  some_answer (command.OnNetwork of) second reads_file told = some_on_network of
+  some_answer (command.OnClass of number) second reads_file told =
+      of_class (IsOnClass of n number) number (λ class has. some_on_class number class has of)
+  some_answer (command.OnSecond of number) second reads_file told =
+      of_class (IsOnSecond of n second) number (λ class has. some_on_second number class has of second (told refl))
+  some_answer (command.Trial size) second reads_file told = absurd cc
 
 -- ---- a text
 
@@ -201,31 +221,29 @@ module _ (judged : EachTextIsJudged) (A : Network → Outcome → Type 0) (text 
   ]
 
 module _ (laws : HasLaws) where
-  some_trial : (size : ℕ) (b : Bool) → IfSome (tree_of b size) EachClassHasAProblem → SomeOf (IsTrialBy b size)
-  some_trial size true problems = of_text laws.judged IsSummaryAnswer (fat_tree_text size) (some_summary laws (fat_tree_text size) problems)
-  some_trial size false problems = (refused (bad_size size), refl)
+  some_trial : (size : ℕ) (b : Bool) → SomeOf (IsTrialBy b size)
+  some_trial size true = of_text laws.judged IsSummaryAnswer (fat_tree_text size) (some_summary laws (fat_tree_text size))
+  some_trial size false = (refused (bad_size size), refl)
 
   -- any outcome is allowed over a file that is not told
   of_files : (c : Command) (first second : Option (List ℕ)) → reads_first c ≡ true → (is_read reads_second (Some c) ≡ true → IsSome second)
-      → is_left_open (Some c) ≡ false → IfSome first EachClassHasAProblem → SomeOf (IsOutcomeOfFiles c first second)
-  of_files c None second reads told other problems = (usage, tt)
-  of_files c (Some text) second reads told other problems =
-      of_text laws.judged (λ n o. IsAnswerTo c n second o) text (λ n is. some_answer laws text problems n is c second reads told other)
+      → SomeOf (IsOutcomeOfFiles c first second)
+  of_files c None second reads told = (usage, tt)
+  of_files c (Some text) second reads told =
+      of_text laws.judged (λ n o. IsAnswerTo c n second o) text (λ n is. some_answer laws text n is c second reads told)
 
-  some_outcome : (c : Command) (first second : Option (List ℕ)) → (is_read reads_second (Some c) ≡ true → IsSome second) → is_left_open (Some c) ≡ false
-      → IfSome (network_text (Some c) first) EachClassHasAProblem → SomeOf (IsOutcomeOf c first second)
-  some_outcome (command.OnNetwork of) first second told other problems = of_files (command.OnNetwork of) first second refl told other problems
-  some_outcome (command.OnClass of number) first second told other problems = of_files (command.OnClass of number) first second refl told other problems
-  some_outcome (command.OnSecond of number) first second told other problems = of_files (command.OnSecond of number) first second refl told other problems
-  some_outcome (command.Trial size) first second told other problems = some_trial size (is_size size) problems
+  some_outcome : (c : Command) (first second : Option (List ℕ)) → (is_read reads_second (Some c) ≡ true → IsSome second) → SomeOf (IsOutcomeOf c first second)
+  some_outcome (command.OnNetwork of) first second told = of_files (command.OnNetwork of) first second refl told
+  some_outcome (command.OnClass of number) first second told = of_files (command.OnClass of number) first second refl told
+  some_outcome (command.OnSecond of number) first second told = of_files (command.OnSecond of number) first second refl told
+  some_outcome (command.Trial size) first second told = some_trial size (is_size size)
 
-  some_at : (c : Option Command) (first second : Option (List ℕ)) → (is_read reads_second c ≡ true → IsSome second) → is_left_open c ≡ false
-      → IfSome (network_text c first) EachClassHasAProblem → SomeOf (IsOutcomeAt c first second)
-  some_at None first second told other problems = (usage, refl)
-  some_at (Some c) first second told other problems = some_outcome c first second told other problems
+  some_at : (c : Option Command) (first second : Option (List ℕ)) → (is_read reads_second c ≡ true → IsSome second) → SomeOf (IsOutcomeAt c first second)
+  some_at None first second told = (usage, refl)
+  some_at (Some c) first second told = some_outcome c first second told
 
 pub there_is_an_outcome : HasLaws → ThereIsAnOutcome
 unfolding IsOutcome
-there_is_an_outcome laws words contents told other problems =
-    let o = some_at laws (command_of words) (contents (file_of words)) (contents (second_of words)) told.second other problems in
+there_is_an_outcome laws words contents told =
+    let o = some_at laws (command_of words) (contents (file_of words)) (contents (second_of words)) told.second in
     record { outcome = o.0; allowed = o.1 }

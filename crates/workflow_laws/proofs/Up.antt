@@ -15,7 +15,7 @@ use Rattle.answer_solutions.specs.Carries.{IsLifted, IsLiftOf, IsLiftAnswer}
 use Rattle.answer_solutions.specs.Checks.{IsCheckOf, IsCheckAnswer}
 use Rattle.workflow_laws.specs.Commands as command
 use Rattle.workflow_laws.specs.CarriedUp.{CheckBelowIsLift}
-use Rattle.workflow_laws.specs.Setting.{verdict}
+use Rattle.workflow_laws.specs.Setting.{verdict_told}
 use Rattle.workflow_laws.specs.Words.{check, lift}
 use Rattle.workflow_laws.proofs.Answers.{answer_of}
 use Rattle.workflow_laws.proofs.Kept.{has_class, done_compress, short_large, short_small, IsSmall, small_network}
@@ -31,7 +31,7 @@ lift_of n number class second o at is = subst (λ (found : Option DestClass). Is
 
 -- `check` of the small network says what `lift` of the large one comes to
 pub below_is_lift : (n m : Network) (class lower : DestClass) (bytes : List ℕ) → Contains (classes_of n) class → IsSmall n class bytes m → ((p : _) → Contains class.prefixes p → Contains lower.prefixes p)
-    → (second : Option (List ℕ)) → IsSome second → (lifted checked : Outcome) → IsLiftOf n second class lifted → IsCheckOf m second lower checked → checked ≡ verdict lifted
+    → (second : Option (List ℕ)) → IsSome second → (lifted checked : Outcome) → IsLiftOf n second class lifted → IsCheckOf m second lower checked → checked ≡ verdict_told lifted
 below_is_lift n m class lower bytes has small prefixes second told lifted checked x y =
     let p = some_prefix n class has in
     let own = small.of_groups x.sides x.are p.0 p.1 in

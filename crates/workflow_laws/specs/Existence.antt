@@ -1,23 +1,12 @@
 -- There is an outcome, and no other one but for the choice of a certificate.
-use Rattle.std.specs.Prelude.{◌≡◌, ◌≢◌, ◌⊎◌, ℕ, Bool, true, false, List, Option, Some, None, IsSome, IfSome, Ok, Err, Contains}
-use Rattle.cfg_ast.specs.declared.classes.DestClass.{DestClass}
-use Rattle.cfg_ast.specs.declared.network.Network.{Network}
+use Rattle.std.specs.Prelude.{◌≡◌, ◌≢◌, ◌⊎◌, ℕ, List, Some, IsSome, Err}
 use Rattle.cfg_ast.specs.declared.refusal.ReadRefusal.TheVariants.{Memory}
-use Rattle.cfg_ast.specs.meaning.Classes.{classes_of}
 use Rattle.cfg_ast.specs.text.Reading.{reading_of}
-use Rattle.fat_gen.specs.FatTrees.{fat_tree_text, is_size}
-use Rattle.srp_build.specs.Built.{IsBuiltFor}
-use Rattle.srp_core.specs.Problem.{Problem}
 use Rattle.answer_kit.specs.declared.status.Status.TheVariants.{Done}
 use Rattle.answer_kit.specs.Outcome.{Outcome}
-use Rattle.bonsai_top.specs.declared.command.ClassCommand.TheVariants as on_class
-use Rattle.bonsai_top.specs.declared.command.SecondCommand.TheVariants as on_second
-use Rattle.bonsai_top.specs.declared.command.Command.{Command}
-use Rattle.bonsai_top.specs.declared.command.Command.TheVariants as command
 use Rattle.bonsai_top.specs.Commands.{command_of}
 use Rattle.bonsai_top.specs.OneOutcome.{AreTold}
 use Rattle.bonsai_top.specs.Outcomes.{IsOutcome}
-use Rattle.bonsai_top.specs.Words.{file_of}
 use Rattle.workflow_laws.specs.Commands.{Certify}
 use Rattle.workflow_laws.specs.Setting.{Contents, IsShort}
 use Rattle.workflow_laws.specs.Words.{check, classes, compress, fold, groups, json, lift, reach, report, run}
@@ -72,34 +61,7 @@ SolutionsAreCarried = (contents : Contents) (F S T text : List ℕ) (N : ℕ) �
 abbrev pub EachTextIsJudged : Type 0
 EachTextIsJudged = (text : List ℕ) → reading_of text ≢ Err Memory
 
--- each class of the network that the text gives has a problem
-abbrev pub EachClassHasAProblem : List ℕ → Type 0
-EachClassHasAProblem text = (network : Network) → reading_of text ≡ Ok network → (class : DestClass) → Contains (classes_of network) class
-    → (problem : Problem) × IsBuiltFor network class problem
-
--- the text of the fat tree of a size, where there is one
-abbrev pub tree_of : Bool → ℕ → Option (List ℕ)
-tree_of true size = Some (fat_tree_text size)
-tree_of false size = None
-
--- the text that a command reads as a network: that of the first file, or for `trial` that of a fat tree
-abbrev pub network_text : Option Command → Option (List ℕ) → Option (List ℕ)
-network_text None first = None
-network_text (Some (command.OnNetwork of)) first = first
-network_text (Some (command.OnClass of number)) first = first
-network_text (Some (command.OnSecond of number)) first = first
-network_text (Some (command.Trial size)) first = tree_of (is_size size) size
-
--- the words ask for canonical maps, for a certificate, or for the judgement of one
-abbrev pub is_left_open : Option Command → Bool
-is_left_open None = false
-is_left_open (Some (command.OnClass on_class.Canon number)) = true
-is_left_open (Some (command.OnClass on_class.Certify number)) = true
-is_left_open (Some (command.OnSecond on_second.Verify number)) = true
-is_left_open (Some other) = false
-
--- Where each class of the network that they read has a problem, all words but those of `canon`, `certify` and `verify` have an
--- outcome over files that are told.
+-- Whatever the words are, and whatever the files hold that are told, some outcome is allowed. With `OutcomesAgree` it is the
+-- only one, but for the choice of a certificate.
 abbrev pub ThereIsAnOutcome : Type 0
-ThereIsAnOutcome = (words : List (List ℕ)) (contents : Contents) → AreTold words contents → is_left_open (command_of words) ≡ false
-    → IfSome (network_text (command_of words) (contents (file_of words))) EachClassHasAProblem → HasOutcome words contents
+ThereIsAnOutcome = (words : List (List ℕ)) (contents : Contents) → AreTold words contents → HasOutcome words contents

@@ -3,7 +3,7 @@ use Rattle.std.specs.Prelude.{ℕ, List, Contains}
 use Rattle.base_kit.specs.Prefixes.{Prefix}
 use Rattle.cfg_ast.specs.declared.classes.DestClass.{DestClass}
 use Rattle.cfg_ast.specs.declared.network.Network.{Network}
-use Rattle.quotient_laws.specs.Questions.{HaveSamePictures, QuestionsAgree}
+use Rattle.quotient_laws.specs.Questions.{of_picture, HasOneAnswer, HaveSamePictures, Picture, QuestionsAgree}
 use Rattle.srp_core.specs.Problem.{Problem}
 use Rattle.srp_core.specs.ProblemOf.{IsProblemOf}
 use Rattle.srp_core.specs.Quotient.{IsCoarsest, IsQuotient}
@@ -38,3 +38,24 @@ pub record AnswersFor (large small : Network) (class : DestClass) : Type 0 where
 abbrev pub SmallAnswersForLarge : Type 0
 SmallAnswersForLarge = (contents : Contents) (F G : List ℕ) (N K : ℕ)
     → (c : IsCompressed contents F N G K) → AnswersFor c.of_large.network c.of_small.network c.of_large.class
+
+-- ---- whatever is asked
+
+-- A problem of the large network and one of the small, whose routers are the coarsest groups of the large one's: what is asked
+-- holds of every stable solution of the one exactly where of every one of the other, and of some exactly where of some.
+pub record AnswerOf (asks : Picture → Type 0) (problem small : Problem) (groups : List ℕ) : Type 0 where
+  pub coarsest : IsCoarsest problem groups
+  pub quotient : IsQuotient problem groups small
+  pub one : HasOneAnswer problem small groups (of_picture asks)
+
+-- so for each prefix of the class, whichever problems both networks have for it
+pub record AnswersOf (asks : Picture → Type 0) (large small : Network) (class : DestClass) : Type 0 where
+  pub groups : List ℕ
+  pub alike : (p : Prefix) → Contains class.prefixes p
+      → (above below : Problem) → IsProblemOf large p above → IsProblemOf small p below → AnswerOf asks above below groups
+
+-- Whatever is asked of a labelling by the keys that groups hold and by which groups forward to which: the network of G has the
+-- answer of that of F.
+abbrev pub EachQuestionCarries : (Picture → Type 0) → Type 0
+EachQuestionCarries asks = (contents : Contents) (F G : List ℕ) (N K : ℕ)
+    → (c : IsCompressed contents F N G K) → AnswersOf asks c.of_large.network c.of_small.network c.of_large.class

@@ -54,5 +54,5 @@ said Memory o = o
 said NotStable o = o
 
 -- an outcome, with `stable` in place of what is written where the work is done
-abbrev pub verdict : Outcome → Outcome
-verdict o = said o.status o
+abbrev pub verdict_told : Outcome → Outcome
+verdict_told o = said o.status o

@@ -13,19 +13,21 @@ ghost use Rattle.workflow_laws.specs.ClassKept.{ClassIsKept};
 ghost use Rattle.workflow_laws.specs.Existence.{EachTextIsJudged, OutcomesAgree, OutcomesComeTogether, SolutionsAreCarried, ThereIsAnOutcome};
 ghost use Rattle.workflow_laws.specs.Orders.{WhatIsReachedRests, WhatRestsIsStable};
 ghost use Rattle.workflow_laws.specs.PrintedShort.{PrintedIsShort};
-ghost use Rattle.workflow_laws.specs.Questions.{SmallAnswersForLarge};
+ghost use Rattle.workflow_laws.specs.Questions.{EachQuestionCarries, SmallAnswersForLarge};
 
 use answer_certificates::laws::verify_answer_is_one;
 use answer_solutions::laws::{fold_is_read_back, lift_is_read_back};
 use bonsai_top::laws::outcome_is_one;
+use canon_policy::laws::each_has_canonical;
 use class_laws::built_problem_is_one;
-use compress_laws::laws::{plan_compresses, plan_fits, text_has_problem_of_groups};
+use compress_laws::laws::{built_fits, plan_compresses, plan_fits, text_has_problem_of_groups};
 use emit_form_laws::laws::emitted_can_be_printed;
+use existence_laws::{each_class_has_problem, each_graph_has_certificate, each_problem_has_graph};
 use given_laws::given_is_well_formed;
 use net_topology::laws::few_links;
 use quotient_laws::{
-    each_has_groups, groups_have_no_more_links, pictures_agree, questions_carry,
-    quotient_is_smallest,
+    AsksOfGroups, each_has_groups, group_question_carries, groups_have_no_more_links,
+    pictures_agree, questions_carry, quotient_is_smallest,
 };
 use reading_laws::{text_fault_decides, what_is_read_is_well};
 use route_run::laws::{one_order, rest};
@@ -161,6 +163,15 @@ pub fn small_answers_for_large()
     questions_carry();
 }
 
+/// Whatever is asked of the keys that groups hold and of the groups to which they forward holds of every stable solution of
+/// the one network exactly where of every one of the other, and of some exactly where of some.
+pub fn each_question_carries<Q: AsksOfGroups>()
+    ensures { EachQuestionCarries Q.asks }
+{
+    small_answers_for_large();
+    group_question_carries::<Q>();
+}
+
 /// Two outcomes that words allow are equal, or they are two certificates.
 pub fn outcomes_agree()
     ensures { OutcomesAgree }
@@ -198,14 +209,18 @@ pub fn each_text_is_judged()
     text_fault_decides();
 }
 
-/// Where each class of the network that they read has a problem, all words but those of `canon`, `certify` and `verify` have
-/// an outcome.
+/// All words have an outcome, whatever the files hold.
 pub fn there_is_an_outcome()
     ensures { ThereIsAnOutcome }
 {
     what_is_read_is_well();
     each_text_is_judged();
     given_is_well_formed();
+    each_class_has_problem();
+    each_problem_has_graph();
+    each_graph_has_certificate();
+    each_has_canonical();
+    built_fits();
     each_has_groups();
     few_links();
     groups_have_no_more_links();

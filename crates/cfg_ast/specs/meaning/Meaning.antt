@@ -1,5 +1,5 @@
 -- Whether a network may be used: the faults of its meaning, and which of them decides.
-use Rattle.std.specs.Prelude.{ℕ, Bool, ◌&&◌, ◌||◌, List, [], ◌∷◌, ◌++◌, Option, Some, None, Result, Ok, Err, map, nat_eq, nat_lt, if◌then◌else◌}
+use Rattle.std.specs.Prelude.{ℕ, List, [], ◌∷◌, ◌++◌, Option, Some, None, Result, Ok, Err, map, nat_lt, if◌then◌else◌}
 use Rattle.cfg_ast.specs.declared.refusal.Kind.{Kind}
 use Rattle.cfg_ast.specs.declared.refusal.Kind.TheVariants as kind
 use Rattle.cfg_ast.specs.declared.refusal.Fault.{Fault}
@@ -8,38 +8,6 @@ use Rattle.cfg_ast.specs.declared.refusal.ReadRefusal.TheVariants as read_refusa
 use Rattle.cfg_ast.specs.declared.network.Network.{Network}
 use Rattle.cfg_ast.specs.meaning.PolicyFaults.{undefined_map_lines, undefined_list_lines, delete_list_lines, too_many_communities_lines, prepend_form_lines, prepend_in_lines}
 use Rattle.cfg_ast.specs.meaning.RouterFaults.{shared_name_lines, shared_as_lines, internal_peer_lines, mixed_protocol_lines, other_area_lines, shared_address_lines, overlapping_lines, loopback_mask_lines, no_cost_lines, too_many_routers_lines, too_many_neighbors_lines, too_many_links_lines}
-
--- the number of a kind: its place in the list of all kinds, from 1
-abbrev pub number_of_kind : Kind → ℕ
-number_of_kind kind.NotAscii = 1
-number_of_kind kind.LineTooLong = 2
-number_of_kind kind.TooManyLines = 3
-number_of_kind kind.UnknownLine = 4
-number_of_kind kind.Unsupported = 5
-number_of_kind kind.BadForm = 6
-number_of_kind kind.WellKnown = 7
-number_of_kind kind.Misplaced = 8
-number_of_kind kind.Repeated = 9
-number_of_kind kind.NoHostname = 10
-number_of_kind kind.NoEnd = 11
-number_of_kind kind.SharedName = 12
-number_of_kind kind.SharedAs = 13
-number_of_kind kind.InternalPeer = 14
-number_of_kind kind.MixedProtocols = 15
-number_of_kind kind.OtherArea = 16
-number_of_kind kind.UndefinedMap = 17
-number_of_kind kind.UndefinedList = 18
-number_of_kind kind.DeleteListForm = 19
-number_of_kind kind.SharedAddress = 20
-number_of_kind kind.OverlappingInterfaces = 21
-number_of_kind kind.LoopbackMask = 22
-number_of_kind kind.NoCost = 23
-number_of_kind kind.TooManyRouters = 24
-number_of_kind kind.TooManyCommunities = 25
-number_of_kind kind.TooManyNeighbors = 26
-number_of_kind kind.TooManyLinks = 27
-number_of_kind kind.PrependForm = 28
-number_of_kind kind.PrependIn = 29
 
 -- the faults of one kind, at those lines
 abbrev pub faults_at : Kind → List ℕ → List Fault
@@ -67,17 +35,13 @@ meaning_faults n =
     ++ faults_at kind.PrependForm (prepend_form_lines n)
     ++ faults_at kind.PrependIn (prepend_in_lines n)
 
--- a fault comes before another one by its line, and on one line by the number of its kind
-abbrev pub is_before_fault : Fault → Fault → Bool
-is_before_fault f g = nat_lt f.line g.line || (nat_eq f.line g.line && nat_lt (number_of_kind f.kind) (number_of_kind g.kind))
-
--- the lesser of two faults, where there are any
+-- the fault with the lesser line, where there are any; on one line the first
 abbrev pub lesser_fault : Option Fault → Option Fault → Option Fault
 lesser_fault None o = o
 lesser_fault (Some f) None = Some f
-lesser_fault (Some f) (Some g) = if is_before_fault g f then Some g else Some f
+lesser_fault (Some f) (Some g) = if nat_lt g.line f.line then Some g else Some f
 
--- the least fault of a list
+-- the first fault with the least line
 abbrev pub least_fault : List Fault → Option Fault
 least_fault [] = None
 least_fault (f ∷ fs) = lesser_fault (Some f) (least_fault fs)
@@ -86,6 +50,7 @@ abbrev pub refused_by : Network → Option Fault → Result Network ReadRefusal
 refused_by n None = Ok n
 refused_by n (Some f) = Err (read_refusal.At f.line f.kind)
 
--- a network without faults is accepted, and else its least fault decides
+-- A network without faults is accepted. Else a fault with the least line decides, and of those the one whose kind comes
+-- first above.
 unfoldable pub judged : Network → Result Network ReadRefusal
 judged n = refused_by n (least_fault (meaning_faults n))

@@ -1,8 +1,9 @@
 use Rattle.std.proofs.Common.{ℕ, List, sym, subst}
 use Rattle.std.specs.List.{AllByRecursion}
 use Rattle.cfg_ast.specs.meaning.PolicyFaults.{communities_of}
-use Rattle.canon_policy.specs.CanonicalProblem.{AreCommunities, HasMapsWithin, IsFirstWithout}
-use Rattle.answer_groups.proofs.Canonizing.{printable_maps, maps_within, canonical_for, first_at, first_of, told_first}
+use Rattle.srp_core.specs.ActMaps.{IsActWithin}
+use Rattle.canon_policy.specs.CanonicalProblem.{AreCommunities, IsFirstWithout}
+use Rattle.answer_groups.proofs.Canonizing.{canonical_for, first_at, first_of, told_first}
 use Rattle.answer_groups.proofs.NamedCommunities.{named_communities}
 use Rattle.answer_groups.proofs.canon.canonical_over.Goals as goal
 
@@ -15,14 +16,13 @@ pub canon_srp-requires-clause-printable : goal.canon_srp-requires-clause-printab
 canon_srp-requires-clause-printable c =
     let checked = c.args.checked.now in
     let fits = c.built_fits.ensures checked.network c.args.class.now c.in-Ok.problem checked.given checked.faultless c.requires.class c.in-Ok.ensures.built in
-    printable_maps c.in-Ok.problem.acts fits.printable
+    fits.printable
 
 pub canon_srp-requires-clause-within : goal.canon_srp-requires-clause-within
 canon_srp-requires-clause-within c =
     let checked = c.args.checked.now in
     let fits = c.built_fits.ensures checked.network c.args.class.now c.in-Ok.problem checked.given checked.faultless c.requires.class c.in-Ok.ensures.built in
-    subst (λ (set : List ℕ). AllByRecursion (HasMapsWithin set) c.in-Ok.problem.acts) (sym c.problem.ensures.shared.universe)
-    (maps_within (communities_of checked.network) c.in-Ok.problem.acts fits.within)
+    subst (λ (set : List ℕ). AllByRecursion (IsActWithin set) c.in-Ok.problem.acts) (sym c.problem.ensures.shared.universe) fits.within
 
 pub returns-in-Ok-canon_srp-clause-problem : goal.returns-in-Ok-canon_srp-clause-problem
 returns-in-Ok-canon_srp-clause-problem c =

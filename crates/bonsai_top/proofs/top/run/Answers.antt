@@ -3,7 +3,7 @@ use Rattle.bonsai_top.specs.Commands.{FirstRose, SecondRose, command_of, is_read
 use Rattle.answer_kit.specs.Outcome.{usage}
 use Rattle.bonsai_top.specs.Outcomes.{IsOutcome}
 use Rattle.bonsai_top.specs.declared.command.Command.{Command}
-use Rattle.bonsai_top.specs.Words.{file_of, second_of, words_of}
+use Rattle.bonsai_top.specs.Words.{file_of, second_of, bytes_of_words}
 use Rattle.bonsai_top.proofs.Headlines.{headline, canonical, folded, lifted}
 use Rattle.bonsai_top.proofs.Named.{outcome_misuse, answers_words}
 use Rattle.bonsai_top.proofs.Runs.{run_meets, meets}
@@ -11,7 +11,7 @@ use Rattle.bonsai_top.proofs.top.run.Goals as goal
 
 pub returns-in-Some-clause-meets : goal.returns-in-Some-clause-meets
 returns-in-Some-clause-meets g c =
-    let words = words_of c.args.words.now in
+    let words = bytes_of_words c.args.words.now in
     let contents = g.S.Source.contents c.args.files.now in
     let old = g.S.Source.faults c.args.files.now in
     let new = g.S.Source.faults c.work-reply.new.files in
@@ -27,19 +27,19 @@ returns-in-Some-clause-meets g c =
 
 pub returns-in-Some-clause-headline : goal.returns-in-Some-clause-headline
 returns-in-Some-clause-headline g c = λ is number names text before told taken.
-    headline (words_of c.args.words.now) (g.S.Source.contents c.args.files.now) _ _ _ _ c.tell-in-Some.result _ _ _ _ _ _ _ _ (returns-in-Some-clause-meets g c) is c.plan_compresses.ensures number names text before told taken
+    headline (bytes_of_words c.args.words.now) (g.S.Source.contents c.args.files.now) _ _ _ _ c.tell-in-Some.result _ _ _ _ _ _ _ _ (returns-in-Some-clause-meets g c) is c.plan_compresses.ensures number names text before told taken
 
 pub returns-in-Some-clause-canonical : goal.returns-in-Some-clause-canonical
 returns-in-Some-clause-canonical g c = λ is number names text before told taken.
-    canonical (words_of c.args.words.now) (g.S.Source.contents c.args.files.now) _ _ _ _ c.tell-in-Some.result _ _ _ _ _ _ _ _ (returns-in-Some-clause-meets g c) is c.fitting_plan_compresses.ensures number names text before told taken
+    canonical (bytes_of_words c.args.words.now) (g.S.Source.contents c.args.files.now) _ _ _ _ c.tell-in-Some.result _ _ _ _ _ _ _ _ (returns-in-Some-clause-meets g c) is c.fitting_plan_compresses.ensures number names text before told taken
 
 pub returns-in-Some-clause-folded : goal.returns-in-Some-clause-folded
 returns-in-Some-clause-folded g c = λ is number names text solution before told also taken.
-    folded (words_of c.args.words.now) (g.S.Source.contents c.args.files.now) _ _ _ _ c.tell-in-Some.result _ _ _ _ _ _ _ _ (returns-in-Some-clause-meets g c) is c.fold_is_read_back.ensures number names text solution before told also taken
+    folded (bytes_of_words c.args.words.now) (g.S.Source.contents c.args.files.now) _ _ _ _ c.tell-in-Some.result _ _ _ _ _ _ _ _ (returns-in-Some-clause-meets g c) is c.fold_is_read_back.ensures number names text solution before told also taken
 
 pub returns-in-Some-clause-lifted : goal.returns-in-Some-clause-lifted
 returns-in-Some-clause-lifted g c = λ is number names text solution before told also taken.
-    lifted (words_of c.args.words.now) (g.S.Source.contents c.args.files.now) _ _ _ _ c.tell-in-Some.result _ _ _ _ _ _ _ _ (returns-in-Some-clause-meets g c) is c.lift_is_read_back.ensures number names text solution before told also taken
+    lifted (bytes_of_words c.args.words.now) (g.S.Source.contents c.args.files.now) _ _ _ _ c.tell-in-Some.result _ _ _ _ _ _ _ _ (returns-in-Some-clause-meets g c) is c.lift_is_read_back.ensures number names text solution before told also taken
 
 pub returns-in-None-clause-headline : goal.returns-in-None-clause-headline
 returns-in-None-clause-headline g c = λ is number names text before told taken. absurd (let none = c.in-None.ensures in cc)
@@ -55,7 +55,7 @@ returns-in-None-clause-lifted g c = λ is number names text solution before told
 
 pub returns-in-None-clause-meets : goal.returns-in-None-clause-meets
 returns-in-None-clause-meets g c =
-    let words = words_of c.args.words.now in
+    let words = bytes_of_words c.args.words.now in
     let contents = g.S.Source.contents c.args.files.now in
     let files = g.S.Source.faults c.args.files.now in
     let first = file_of words in

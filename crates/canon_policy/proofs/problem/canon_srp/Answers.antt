@@ -2,7 +2,8 @@ use Rattle.std.proofs.Common.{◌∙◌, refl, sym, subst}
 use Rattle.std.specs.List.{AllByRecursion}
 use Rattle.srp_core.specs.Alike.{ProblemsAlike}
 use Rattle.srp_core.specs.Problem.{Problem}
-use Rattle.canon_policy.specs.CanonicalProblem.{IsCanonicalProblem, HasPrintableMaps, HasMapsWithin}
+use Rattle.canon_policy.specs.CanonicalProblem.{IsCanonicalProblem}
+use Rattle.srp_core.specs.ActMaps.{IsPrintableAct, IsActWithin}
 use Rattle.canon_policy.proofs.ProblemMade.{keeps_rules, is_canonical, is_alike, is_printable, is_named}
 use Rattle.canon_policy.proofs.problem.canon_srp.Goals as goal
 
@@ -37,7 +38,7 @@ returns-clause-alike c =
 
 pub returns-clause-printable : goal.returns-clause-printable
 returns-clause-printable c =
-    subst (λ (p : Problem). AllByRecursion HasPrintableMaps p.acts) (sym c.new.ensures)
+    subst (λ (p : Problem). AllByRecursion IsPrintableAct p.acts) (sym c.new.ensures)
     (is_printable
     c.args.store.now.universe c.args.srp.now c.in_ok-acts.acts c.in_ok-acts.ensures.acts c.count-routers.ensures.rules _
     c.protocol.ensures (c.in_ok-names.ensures ∙ c.as_slice.ensures ∙ c.names.ensures)
@@ -47,7 +48,7 @@ returns-clause-printable c =
 
 pub returns-clause-within : goal.returns-clause-within
 returns-clause-within c =
-    subst (λ (p : Problem). AllByRecursion (HasMapsWithin c.args.store.now.universe) p.acts) (sym c.new.ensures)
+    subst (λ (p : Problem). AllByRecursion (IsActWithin c.args.store.now.universe) p.acts) (sym c.new.ensures)
     (is_named
     c.args.store.now.universe c.args.srp.now c.in_ok-acts.acts c.in_ok-acts.ensures.acts c.count-routers.ensures.rules _
     c.protocol.ensures (c.in_ok-names.ensures ∙ c.as_slice.ensures ∙ c.names.ensures)

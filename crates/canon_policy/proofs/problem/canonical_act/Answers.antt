@@ -2,7 +2,8 @@ use Rattle.std.proofs.Common.{◌≡◌, ◌∙◌, ℕ, List, Some, Err, ap, sy
 use Rattle.route_maps.specs.Maps.{import_of}
 use Rattle.srp_core.specs.declared.route.Act.{Act}
 use Rattle.canon_policy.specs.Canonical.{canonical_lists_of}
-use Rattle.canon_policy.specs.CanonicalProblem.{session_with, canonical_act, AreCommunities, HasPrintableMaps}
+use Rattle.canon_policy.specs.CanonicalProblem.{session_with, canonical_act, AreCommunities}
+use Rattle.srp_core.specs.ActMaps.{IsPrintableAct}
 use Rattle.canon_policy.specs.Made.{AreListsOf}
 use Rattle.canon_policy.specs.MadeActs.{IsActFor, IsCanonicalActOr}
 use Rattle.canon_policy.specs.Printed.{ArePrintable}
@@ -29,7 +30,7 @@ returns-in-Import-clause-canonical c =
 pub returns-in-Import-clause-instead : goal.returns-in-Import-clause-instead
 returns-in-Import-clause-instead c =
     let a = c.in-Import in
-    let maps = subst HasPrintableMaps c.in-Import.is c.requires.printable in
+    let maps = subst IsPrintableAct c.in-Import.is c.requires.printable in
     let communities = subst AreCommunities (sym c.edge_fn.ensures.grows.universe) c.requires.communities in
     subst (λ (x : Act). IsActFor c.args.store.now.universe x (session_with c.in-Ok.lists)) (sym c.in-Import.is)
     (session_for c.args.store.now.universe a.out a.sends a.into c.in-Ok.lists

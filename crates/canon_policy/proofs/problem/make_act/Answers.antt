@@ -1,5 +1,5 @@
 use Rattle.std.proofs.Common.{length, Err, sym, subst, ap, arith}
-use Rattle.canon_policy.specs.CanonicalProblem.{HasPrintableMaps, HasMapsWithin}
+use Rattle.srp_core.specs.ActMaps.{IsPrintableAct, IsActWithin}
 use Rattle.canon_policy.specs.MadeActs.{IsRefusedAtFirst}
 use Rattle.canon_policy.proofs.ActPlaces.{act_inside, act_holds, seen_before, seen_now, refused_first}
 use Rattle.canon_policy.proofs.problem.make_act.Goals as goal
@@ -22,12 +22,12 @@ bounds-acts-act c =
 pub canonical_act-requires-clause-printable : goal.canonical_act-requires-clause-printable
 canonical_act-requires-clause-printable c =
     act_holds c.args.srp.now c.count-routers.ensures.rules c.edges.result.now c.edges.ensures c.args.place c.requires.place
-    c.acts.result.now c.acts.ensures c.index-acts-act.result c.index-acts-act.is HasPrintableMaps c.requires.printable
+    c.acts.result.now c.acts.ensures c.index-acts-act.result c.index-acts-act.is IsPrintableAct c.requires.printable
 
 pub canonical_act-requires-clause-within : goal.canonical_act-requires-clause-within
 canonical_act-requires-clause-within c =
     act_holds c.args.srp.now c.count-routers.ensures.rules c.edges.result.now c.edges.ensures c.args.place c.requires.place
-    c.acts.result.now c.acts.ensures c.index-acts-act.result c.index-acts-act.is (HasMapsWithin c.args.store.now.universe) c.requires.within
+    c.acts.result.now c.acts.ensures c.index-acts-act.result c.index-acts-act.is (IsActWithin c.args.store.now.universe) c.requires.within
 
 pub index_mut-requires : goal.index_mut-requires
 index_mut-requires c =

@@ -1,7 +1,27 @@
-use Rattle.std.proofs.Common.{◌∙◌, ℕ, ◌+◌, ◌-◌, ◌*◌, ◌<◌, cond, nat_eq, List, subst, arith}
-use Rattle.cut_certificate.specs.Uneven.{AreEvenFrom, IsParting}
+use Rattle.std.proofs.Common.{◌∙◌, ℕ, ◌+◌, ◌-◌, ◌*◌, ◌<◌, cond, nat_eq, length, List, ap, sym, subst, arith}
+use Rattle.cut_certificate.specs.Blocks.{first_blocks}
+use Rattle.cut_certificate.specs.Uneven.{AreEvenFrom, AreLeaders, IsParting}
 use Rattle.cut_certificate.proofs.Leaders.{leaders_split, leaders_longer, even_with_leaders, smaller_some, grown}
+use Rattle.cut_certificate.proofs.Movers.{course_total}
 use Rattle.cut_certificate.proofs.certifying.refined.Goals as goal
+
+pub leaders-requires-clause-few : goal.leaders-requires-clause-few
+leaders-requires-clause-few c =
+    let total = course_total c.args.graph.now c.args.course.blocks c.args.course.splits c.requires.course in
+    omega (arith, total, ap length c.numbers.ensures, c.requires.few)
+
+pub splitting-init : goal.splitting-init
+splitting-init c =
+    let course = c.requires.course in
+    record {
+      after = course.after;
+      total = course_total c.args.graph.now c.args.course.blocks c.args.course.splits course;
+      counted = c.count-count.ensures.value;
+      in_use = c.count-count.ensures.in_use;
+      few = course.few ∙ sym c.count-count.ensures.value;
+      led = subst (λ (ns : List ℕ). AreLeaders ns c.in_ok-leaders.leaders.items) c.numbers.ensures c.in_ok-leaders.ensures.leaders;
+      many = c.in_ok-leaders.ensures.total;
+    }
 
 pub returns-then-from-eq0-clause-even : goal.returns-then-from-eq0-clause-even
 returns-then-from-eq0-clause-even c =
@@ -16,7 +36,7 @@ pub splitting-smaller-in-Some : goal.splitting-smaller-in-Some
 splitting-smaller-in-Some c =
     let n = c.args.graph.now.count in
     let inv = c.splitting.invariant in
-    let g = grown c.args.graph.now c.args.first c.splitting.blocks c.in_ok-next-in-Some.next c.splitting.splits c.push.new.self c.in_ok-next-in-Some.split c.splitting.count c.count-count-in-Some.result inv.after inv.total inv.counted inv.few
+    let g = grown c.args.graph.now (first_blocks c.args.graph.now) c.splitting.blocks c.in_ok-next-in-Some.next c.splitting.splits c.push.new.self c.in_ok-next-in-Some.split c.splitting.count c.count-count-in-Some.result inv.after inv.total inv.counted inv.few
     c.in_ok-next-in-Some.ensures.made c.in_ok-next-in-Some.ensures.place c.in_ok-push-in-Some.ensures.ok c.count-count-in-Some.ensures.value in
     let few = c.in_ok-next-in-Some.ensures.in_use.few in
     let low : 2 * (n - c.count-count-in-Some.result) + cond (nat_eq c.in-Some.router 0) 0 1 < 2 * (n - c.splitting.count) + cond (nat_eq c.splitting.from 0) 0 1 =
@@ -26,7 +46,7 @@ splitting-smaller-in-Some c =
 pub splitting-preserved-in-Some : goal.splitting-preserved-in-Some
 splitting-preserved-in-Some c =
     let inv = c.splitting.invariant in
-    let g = grown c.args.graph.now c.args.first c.splitting.blocks c.in_ok-next-in-Some.next c.splitting.splits c.push.new.self c.in_ok-next-in-Some.split c.splitting.count c.count-count-in-Some.result inv.after inv.total inv.counted inv.few
+    let g = grown c.args.graph.now (first_blocks c.args.graph.now) c.splitting.blocks c.in_ok-next-in-Some.next c.splitting.splits c.push.new.self c.in_ok-next-in-Some.split c.splitting.count c.count-count-in-Some.result inv.after inv.total inv.counted inv.few
     c.in_ok-next-in-Some.ensures.made c.in_ok-next-in-Some.ensures.place c.in_ok-push-in-Some.ensures.ok c.count-count-in-Some.ensures.value in
     let parting : IsParting c.args.graph.now.edges c.splitting.blocks.numbers c.in-Some.p = subst (λ (ns : List ℕ). IsParting c.args.graph.now.edges ns c.in-Some.p) c.numbers-in-splitting.ensures c.in-Some.ensures in
     let long = leaders_longer c.splitting.leaders.items c.lead.new.leaders.items (c.in_ok-next-in-Some.split.block - 1) c.in-Some.p.stays c.in-Some.p.goes c.in_ok-lead-in-Some.ensures in

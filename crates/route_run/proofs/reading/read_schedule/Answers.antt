@@ -3,7 +3,7 @@ use Rattle.cfg_ast.specs.text.Lines.{begins_line}
 use Rattle.cfg_ast.proofs.Pieces.{begins_next}
 use Rattle.cfg_lex.proofs.LinesLeft.{Cut}
 use Rattle.route_run.specs.Reading.{preceded}
-use Rattle.route_run.specs.Schedules.{LineWord, run_of, schedule_of_words, schedule_of_text, Reads}
+use Rattle.route_run.specs.Schedules.{LineWord, run_of, schedule_of_words, schedule_of_text, ReadsSchedule}
 use Rattle.route_run.proofs.Runs.{all_from}
 use Rattle.route_run.proofs.ScheduleRouters.{words_within}
 use Rattle.route_run.proofs.WordsLeft.{words_left, line_left, none_left, no_words, refused_whole}
@@ -24,7 +24,7 @@ returns-in-Err-clause-exact c =
       short = omega arith;
     } in
     let whole = sym (ap (λ (ws : List LineWord). preceded c.loop-from.schedule (schedule_of_words names ws)) (line_left bs n c.loop-from.from end c.without_return-upto.result cut)) ∙ c.loop-from.invariant.answer in
-    subst (λ (ns : List (List ℕ)). Reads (Err c.in-Err.refusal) (schedule_of_text ns bs)) c.as_slice-names.ensures
+    subst (λ (ns : List (List ℕ)). ReadsSchedule (Err c.in-Err.refusal) (schedule_of_text ns bs)) c.as_slice-names.ensures
     (refused_whole names c.loop-from.schedule n _ (words_left bs (n + 1) (end + 1)) c.in-Err.refusal (schedule_of_text names bs) whole c.in-Err.ensures.refused)
 
 pub loop-from-preserved : goal.loop-from-preserved

@@ -1,4 +1,4 @@
-use Rattle.std.proofs.Common.{◌≡◌, ◌≤◌, ◌<◌, ◌∙◌, List, map, length, refl, sym, ap, subst}
+use Rattle.std.proofs.Common.{◌≡◌, ◌≤◌, ◌<◌, ◌^◌, ◌∙◌, List, map, length, refl, sym, ap, subst}
 use Rattle.std.specs.Prelude.{All}
 use Rattle.base_kit.specs.declared.act_graph.Edge.{Edge}
 use Rattle.base_kit.specs.Prefixes.{Prefix}
@@ -13,7 +13,7 @@ use Rattle.srp_build.specs.declared.kind_maps.KindMaps.{KindMaps}
 use Rattle.srp_build.specs.declared.lines.LinePlace.{LinePlace}
 use Rattle.srp_build.specs.declared.session_hops.SessionHops.{SessionHops}
 use Rattle.srp_build.specs.Directions.{AreSessionHops, directions_of}
-use Rattle.srp_build.specs.Kinds.{AreSessionsOf}
+use Rattle.srp_build.specs.Kinds.{AreImportsOf}
 use Rattle.srp_build.specs.LineMaps.{AreLineMaps, AreMapsOfKinds, line_maps}
 use Rattle.srp_build.specs.Lines.{act_of_hop}
 use Rattle.srp_build.specs.ListPlaces.{HavePlaces}
@@ -26,8 +26,8 @@ use Rattle.srp_build.proofs.KindMaps.{line_maps_are, inside_are}
 use Rattle.srp_build.proofs.WithinMore.{maps_within}
 use Rattle.srp_build.proofs.bgp_problem.bgp_problem.Goals as goal
 
-sessions_are : (n : Network) (found : SessionHops) → AreSessionHops n.routers (directions_of n) found → AreSessionsOf n.routers found.kinds found.hops.items found.sessions.items
-sessions_are n found are = subst (λ (h : List Hop). AreSessionsOf n.routers found.kinds h found.sessions.items) (sym are.hops_are) are.sessions
+imports_are : (n : Network) (found : SessionHops) → AreSessionHops n.routers (directions_of n) found → AreImportsOf n.routers found.kinds found.hops.items found.imports.items
+imports_are n found are = subst (λ (h : List Hop). AreImportsOf n.routers found.kinds h found.imports.items) (sym are.hops_are) are.imports
 
 lines_are : (n : Network) (p : Prefix) (routers : List Router) (firsts : List LinePlace) (found : SessionHops) (maps : KindMaps) → routers ≡ n.routers → firsts ≡ found.kinds.firsts.items → AreSessionHops n.routers (directions_of n) found → AreMapsOfKinds p routers firsts maps.maps.items maps.numbers.items → AreLineMaps p n.routers (line_maps found.kinds maps)
 lines_are n p routers firsts found maps routers_are firsts_are are of_kinds =
@@ -57,7 +57,11 @@ written_acts-requires c =
     have_places n c.as_slice-routers.result.now c.as_slice-places.result.now c.args.directions.now routers_are c.as_slice-places.ensures.value c.requires.directions.hops
 
 pub bgp_edges-requires-clause-total : goal.bgp_edges-requires-clause-total
-bgp_edges-requires-clause-total c = (sessions_are c.args.net.now.network c.args.directions.now c.requires.directions.hops).total
+bgp_edges-requires-clause-total c = (imports_are c.args.net.now.network c.args.directions.now c.requires.directions.hops).total
+
+pub bgp_edges-requires-clause-few : goal.bgp_edges-requires-clause-few
+bgp_edges-requires-clause-few c =
+    subst (λ (h : List Hop). length h < 2 ^ 32) (sym c.requires.directions.hops.hops_are) c.requires.directions.few
 
 pub bgp_edges-requires-clause-inside : goal.bgp_edges-requires-clause-inside
 bgp_edges-requires-clause-inside c =
@@ -65,9 +69,9 @@ bgp_edges-requires-clause-inside c =
     let found = c.args.directions.now in
     let same = c.network.ensures.same in
     let routers_are = c.as_slice-routers.ensures ∙ ap (λ (m : Network). m.routers) same in
-    inside_are c.first_prefix-p.result n.routers found.kinds c.in_ok-maps.maps found.hops.items found.sessions.items
+    inside_are c.first_prefix-p.result n.routers found.kinds c.in_ok-maps.maps found.hops.items found.imports.items
     (lines_are n c.first_prefix-p.result c.as_slice-routers.result.now c.deref.result.now found c.in_ok-maps.maps routers_are c.deref.ensures.value c.requires.directions.hops c.in_ok-maps.ensures)
-    (sessions_are n found c.requires.directions.hops)
+    (imports_are n found c.requires.directions.hops)
 
 pub bgp_edges-requires-clause-within : goal.bgp_edges-requires-clause-within
 bgp_edges-requires-clause-within c =
@@ -83,7 +87,7 @@ lone_of-requires-clause-importers c =
     let n = c.args.net.now.network in
     let same = c.network.ensures.same in
     let routers_are = c.as_slice-routers.ensures ∙ ap (λ (m : Network). m.routers) same in
-    let edges = sorted_edges n n.routers c.in_ok-init.init c.as_slice-2.result.now (line_maps c.args.directions.now.kinds c.in_ok-maps.maps) c.bgp_edges.new.store c.args.directions.now.hops.items c.in_ok-found.found refl c.as_slice-2.ensures c.requires.directions.hops.hops_are (c.in_ok-found.ensures.edges n.routers (sessions_are n c.args.directions.now c.requires.directions.hops)) in
+    let edges = sorted_edges n n.routers c.in_ok-init.init c.as_slice-2.result.now (line_maps c.args.directions.now.kinds c.in_ok-maps.maps) c.bgp_edges.new.store c.args.directions.now.hops.items c.in_ok-found.found refl c.as_slice-2.ensures c.requires.directions.hops.hops_are (c.in_ok-found.ensures.edges n.routers (imports_are n c.args.directions.now c.requires.directions.hops)) in
     subst (λ (r : List Router). All (λ (e : Edge). e.importer < length r) c.as_slice-edges.result.now) (sym routers_are)
     (subst (λ (l : List Edge). All (λ (e : Edge). e.importer < length n.routers) l) (sym c.as_slice-edges.ensures) (importers_inside n c.bgp_edges.new.store c.in_ok-init.init (line_maps c.args.directions.now.kinds c.in_ok-maps.maps) c.in_ok-found.found edges))
 
@@ -92,7 +96,7 @@ lone_of-requires-clause-acts c =
     let n = c.args.net.now.network in
     let same = c.network.ensures.same in
     let routers_are = c.as_slice-routers.ensures ∙ ap (λ (m : Network). m.routers) same in
-    let edges = sorted_edges n n.routers c.in_ok-init.init c.as_slice-2.result.now (line_maps c.args.directions.now.kinds c.in_ok-maps.maps) c.bgp_edges.new.store c.args.directions.now.hops.items c.in_ok-found.found refl c.as_slice-2.ensures c.requires.directions.hops.hops_are (c.in_ok-found.ensures.edges n.routers (sessions_are n c.args.directions.now c.requires.directions.hops)) in
+    let edges = sorted_edges n n.routers c.in_ok-init.init c.as_slice-2.result.now (line_maps c.args.directions.now.kinds c.in_ok-maps.maps) c.bgp_edges.new.store c.args.directions.now.hops.items c.in_ok-found.found refl c.as_slice-2.ensures c.requires.directions.hops.hops_are (c.in_ok-found.ensures.edges n.routers (imports_are n c.args.directions.now c.requires.directions.hops)) in
     subst (λ (a : List BgpAct). All (λ (e : Edge). e.act < length a) c.as_slice-edges.result.now) (sym c.deref-2.ensures.value)
     (subst (λ (l : List Edge). All (λ (e : Edge). e.act < length c.in_ok-found.found.acts.acts.items) l) (sym c.as_slice-edges.ensures) (acts_inside n c.bgp_edges.new.store c.in_ok-init.init (line_maps c.args.directions.now.kinds c.in_ok-maps.maps) c.in_ok-found.found edges))
 
@@ -114,7 +118,7 @@ new-problem-requires c =
       first_in = first_in c.args.class.now c.first_prefix-p.result c.first_prefix-p.ensures;
       init_is = c.in_ok-init.ensures ∙ (λ j. starts_from 0 (c.as_slice.ensures j) (routers_are j));
       lines = lines_are n c.first_prefix-p.result c.as_slice-routers.result.now c.deref.result.now c.args.directions.now c.in_ok-maps.maps routers_are c.deref.ensures.value c.requires.directions.hops c.in_ok-maps.ensures;
-      edges = sorted_edges n n.routers c.in_ok-init.init c.as_slice-2.result.now (line_maps c.args.directions.now.kinds c.in_ok-maps.maps) c.bgp_edges.new.store c.args.directions.now.hops.items c.in_ok-found.found refl c.as_slice-2.ensures c.requires.directions.hops.hops_are (c.in_ok-found.ensures.edges n.routers (sessions_are n c.args.directions.now c.requires.directions.hops));
+      edges = sorted_edges n n.routers c.in_ok-init.init c.as_slice-2.result.now (line_maps c.args.directions.now.kinds c.in_ok-maps.maps) c.bgp_edges.new.store c.args.directions.now.hops.items c.in_ok-found.found refl c.as_slice-2.ensures c.requires.directions.hops.hops_are (c.in_ok-found.ensures.edges n.routers (imports_are n c.args.directions.now c.requires.directions.hops));
       marks = subst (λ (r : List Router). AreLone c.bgp_edges.new.store c.in_ok-found.found.acts.acts.items (length r) c.in_ok-found.found.edges c.in_ok-lone.lone) routers_are marks_of_edges;
       names_are = c.in_ok-names.ensures ∙ ap (λ (r : List Router). map (λ (router : Router). router.name) r) routers_are;
       numbers_are = c.in_ok-numbers.ensures ∙ ap (λ (r : List Router). map as_number_of r) routers_are;
@@ -140,7 +144,7 @@ returns-clause-built c =
       first_in = first_in c.args.class.now c.first_prefix-p.result c.first_prefix-p.ensures;
       init_is = c.in_ok-init.ensures ∙ (λ j. starts_from 0 (c.as_slice.ensures j) (routers_are j));
       lines = lines_are n c.first_prefix-p.result c.as_slice-routers.result.now c.deref.result.now c.args.directions.now c.in_ok-maps.maps routers_are c.deref.ensures.value c.requires.directions.hops c.in_ok-maps.ensures;
-      edges = sorted_edges n n.routers c.in_ok-init.init c.as_slice-2.result.now (line_maps c.args.directions.now.kinds c.in_ok-maps.maps) c.bgp_edges.new.store c.args.directions.now.hops.items c.in_ok-found.found refl c.as_slice-2.ensures c.requires.directions.hops.hops_are (c.in_ok-found.ensures.edges n.routers (sessions_are n c.args.directions.now c.requires.directions.hops));
+      edges = sorted_edges n n.routers c.in_ok-init.init c.as_slice-2.result.now (line_maps c.args.directions.now.kinds c.in_ok-maps.maps) c.bgp_edges.new.store c.args.directions.now.hops.items c.in_ok-found.found refl c.as_slice-2.ensures c.requires.directions.hops.hops_are (c.in_ok-found.ensures.edges n.routers (imports_are n c.args.directions.now c.requires.directions.hops));
       marks = subst (λ (r : List Router). AreLone c.bgp_edges.new.store c.in_ok-found.found.acts.acts.items (length r) c.in_ok-found.found.edges c.in_ok-lone.lone) routers_are marks_of_edges;
       names_are = c.in_ok-names.ensures ∙ ap (λ (r : List Router). map (λ (router : Router). router.name) r) routers_are;
       numbers_are = c.in_ok-numbers.ensures ∙ ap (λ (r : List Router). map as_number_of r) routers_are;

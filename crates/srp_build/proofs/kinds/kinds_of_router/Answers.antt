@@ -20,12 +20,12 @@ loop-i-preserved c =
     let new = c.kind_of_line.new.table in
     let total = c.loop-i.invariant.total in
     let pushed = c.in_ok-push.ensures.ok in
-    let first : LinePlace = record { router = c.in_ok-router_place.router_place; item = c.in_ok-place.field-0; inbound = c.args.inbound } in
+    let first : LinePlace = record { router = c.args.at; item = c.loop-i.i; inbound = c.args.inbound } in
     let read_router : slice_get routers c.args.at ≡ Some router = slice_get_read routers (length routers) c.args.at router refl c.requires.inside c.index-routers-at.is in
     let read : slice_get (neighbors_of router) c.loop-i.i ≡ Some line = ap (λ (l : List Neighbor). slice_get l c.loop-i.i) (sym c.neighbors-lines.ensures) ∙ slice_get_read c.neighbors-lines.result.now (length c.neighbors-lines.result.now) c.loop-i.i line refl c.loop-i-test.true c.index-lines-i.is in
     let there : IsLineAt routers first router line = record {
-      at = ap (slice_get routers) c.in_ok-router_place.ensures ∙ read_router;
-      line_at = ap (slice_get (neighbors_of router)) c.in_ok-place.ensures ∙ read;
+      at = read_router;
+      line_at = read;
     } in
     let seen : IsSeenOrNumbered old new first router numbers line number = subst (λ (l : List ℕ). IsSeenOrNumbered old new first router l line number) c.as_slice.ensures c.in_ok-number.ensures in
     let step : LineSteps routers old new router c.args.inbound numbers number = line_step routers old new first router numbers line number there (ap (slice_get (neighbors_of router)) total ∙ read) c.loop-i.invariant.fixed c.loop-i.invariant.each seen in

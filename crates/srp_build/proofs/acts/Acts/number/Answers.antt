@@ -7,25 +7,25 @@ use Rattle.srp_build.proofs.acts.Acts.number.Goals as goal
 
 pub returns-clause-listed : goal.returns-clause-listed
 returns-clause-listed c =
-    let act : BgpAct = record { first = c.args.hop.now; session = c.args.session.now; function = c.args.function } in
-    let nodes = c.in_ok-nodes.ensures in
-    let pushes = subst (λ (q : ℕ × ℕ). PushesAt c.args.self.now.by_nodes c.push_at.new.index q c.in_ok-number.number) nodes c.in_ok-push_at.ensures in
+    let act : BgpAct = record { first = c.args.hop.now; import = c.args.import.now; function = c.args.function } in
+    let nodes = c.nodes_of-nodes.ensures in
+    let pushes = subst (λ (q : ℕ × ℕ). PushesAt c.args.self.now.by_nodes c.push_at.new.index q c.number_of-number.result) nodes c.in_ok-push_at.ensures in
     let ok = c.args.self.now.acts.ok in
-    let next : c.in_ok-number.number ≡ length c.args.self.now.acts.items = omega (arith, c.in_ok-number.ensures ∙ c.len.ensures) in
+    let next : c.number_of-number.result ≡ length c.args.self.now.acts.items = omega (arith, c.number_of-number.ensures ∙ c.len.ensures) in
     subst (λ (l : List BgpAct). AreListed c.push_at.new.index l) (sym c.in_ok-push.ensures.items)
-    (listed_next c.args.self.now.by_nodes c.push_at.new.index c.args.self.now.acts.items act c.in_ok-number.number c.requires next pushes)
+    (listed_next c.args.self.now.by_nodes c.push_at.new.index c.args.self.now.acts.items act c.number_of-number.result c.requires.listed next pushes)
 
 pub returns-clause-number : goal.returns-clause-number
 returns-clause-number c =
-    let act : BgpAct = record { first = c.args.hop.now; session = c.args.session.now; function = c.args.function } in
-    let nodes = c.in_ok-nodes.ensures in
+    let act : BgpAct = record { first = c.args.hop.now; import = c.args.import.now; function = c.args.function } in
+    let nodes = c.nodes_of-nodes.ensures in
     let found = c.like_among.ensures.none c.in_default.is in
     let among = subst (λ (ns : List ℕ). AreUnlike c.args.store.now c.deref.result.now ns c.args.function) (c.items_at-numbers.ensures ∙ ap (bucket c.args.self.now.by_nodes) nodes) found in
     let unlike = subst (λ (l : List BgpAct). AreUnlike c.args.store.now l (bucket c.args.self.now.by_nodes (nodes_of c.args.function)) c.args.function) c.deref.ensures.value among in
     let ok = c.args.self.now.acts.ok in
-    let next : c.in_ok-number.number ≡ length c.args.self.now.acts.items = omega (arith, c.in_ok-number.ensures ∙ c.len.ensures) in
+    let next : c.number_of-number.result ≡ length c.args.self.now.acts.items = omega (arith, c.number_of-number.ensures ∙ c.len.ensures) in
     inr (record {
       is = record { act = act; last = c.in_ok-push.ensures.items; first = refl; over = refl; next = next };
       function_is = refl;
-      apart = unlike_all c.one_form.ensures c.args.store.now c.len-count.ensures.shown c.args.self.now.by_nodes c.args.self.now.acts.items c.args.function c.requires unlike;
+      apart = unlike_all c.one_form.ensures c.args.store.now c.len-count.ensures.shown c.args.self.now.by_nodes c.args.self.now.acts.items c.args.function c.requires.listed unlike;
     })

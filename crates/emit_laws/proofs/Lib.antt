@@ -1,2 +1,0 @@
-pub mod NoLarger
-pub mod Stands

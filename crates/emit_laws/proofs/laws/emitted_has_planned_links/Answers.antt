@@ -1,5 +1,0 @@
-use Rattle.std.proofs.Common.{◌∙◌}
-use Rattle.emit_laws.proofs.laws.emitted_has_planned_links.Goals as goal
-
-pub returns : goal.returns
-returns c = λ e plan n same. c.links_aside.ensures n _ same ∙ c.emitted_links.ensures e plan (c.emitted_is_faultless.ensures e plan)

@@ -1,0 +1,4 @@
+mod Certificates
+mod Graphs
+mod Samples
+mod Search

@@ -1,0 +1,51 @@
+//! What a direction imports, by numbers: of the kinds of the lines at its ends, and of the maps there.
+
+ghost use Rattle.std.specs.Prelude.{◌≡◌};
+ghost use Rattle.srp_build.specs.Plains.{number_at, import_by_kinds};
+
+use crate::hops::Hop;
+use crate::lines::sends_at;
+use base_kit::List;
+use cfg_ast::Router;
+
+/// An import by the numbers of the kinds of the lines at both ends, and whether communities are sent. It
+/// serves all classes.
+#[derive(Clone, Copy, Debug, PartialEq, Eq)]
+pub struct ImportByKinds {
+    pub out: usize,
+    pub sends: bool,
+    pub into: usize,
+}
+
+/// An import by the numbers of the maps at both ends, for one prefix, and whether communities are sent.
+#[derive(Clone, Copy, Debug, PartialEq, Eq)]
+pub struct ImportByMaps {
+    pub out: usize,
+    pub sends: bool,
+    pub into: usize,
+}
+
+fn number_at(table: &[List<usize>], router: u32, item: u32) -> Option<usize>
+    ensures { result ≡ number_at table.now router item }
+{
+    let numbers = table.get(router as usize)?;
+    numbers.as_slice().get(item as usize).copied()
+}
+
+/// The import of a direction, by the numbers of the kinds of all lines, outbound and inbound.
+pub fn import_by_kinds(
+    routers: &[Router],
+    outs: &[List<usize>],
+    ins: &[List<usize>],
+    hop: &Hop,
+) -> Option<ImportByKinds>
+    ensures { result ≡ import_by_kinds routers.now outs.now ins.now hop.now }
+{
+    let out = number_at(outs, hop.exporter, hop.exporter_item)?;
+    let into = number_at(ins, hop.importer, hop.importer_item)?;
+    Some(ImportByKinds {
+        out,
+        sends: sends_at(routers, hop.exporter, hop.exporter_item),
+        into,
+    })
+}

@@ -1,0 +1,166 @@
+"""bench/turns: the user seconds of one or more programs over networks that grow, each program in turn, the least of several runs.
+
+So two states of the program are compared in one run of the machine. Second files are what the first program wrote: the labels that a
+schedule comes to rest in, and those of the network of the groups.
+"""
+from __future__ import annotations
+
+import argparse
+import dataclasses
+import os
+import subprocess
+import sys
+import tempfile
+from collections.abc import Iterator
+from pathlib import Path
+
+from roads.bench.shapes import SHAPES
+from roads.command_line import Refused, parser
+
+ROUNDS = 64
+OF_CLASS = ("groups", "compress", "canon", "report", "json", "certify")
+OF_SECOND = {"check": "labels", "fold": "labels", "reach": "labels", "lift": "small", "run": "schedule", "verify": "certificate"}
+COMMANDS = ("classes", "summary", *OF_CLASS, *OF_SECOND, "trial")
+TRIALS = (8, 12, 20)
+MOST_BYTES = 16777216
+# below that a time says nothing about growth
+LEAST_SECONDS = 0.02
+
+
+@dataclasses.dataclass(frozen=True)
+class Timed:
+    """One command on one network: the least user seconds of each program, in order."""
+
+    shape: str
+    size: int
+    command: str
+    seconds: tuple[float, ...]
+
+
+def words() -> argparse.ArgumentParser:
+    """The words of the command line."""
+    made = parser("turns", "Measures programs in turn over networks that grow, and prints a table.")
+    made.add_argument("programs", nargs="+", type=Path, metavar="PROGRAM", help="a program, as crates/bonsai/out/bonsai")
+    made.add_argument("--command", action="append", choices=COMMANDS, help="only this command (may stand several times)")
+    made.add_argument("--shape", action="append", choices=[*SHAPES, "fat-tree"], help="only this shape (may stand several times)")
+    made.add_argument("--sizes", default="1024,2048,4096", help="numbers of routers, ascending (default: %(default)s); `trial` takes its own")
+    made.add_argument("--runs", type=int, default=5, help="runs of each program, of which the least counts (default: %(default)s)")
+    return made
+
+
+def work(arguments: argparse.Namespace) -> None:
+    """Measures and prints, row by row."""
+    try:
+        sizes = [int(word) for word in arguments.sizes.split(",")]
+    except ValueError:
+        raise Refused(f"--sizes {arguments.sizes}: no numbers") from None
+    programs = [program.resolve() for program in arguments.programs]
+    for program in programs:
+        if not os.access(program, os.X_OK) or not program.is_file():
+            raise Refused(f"{program}: no program")
+    commands, shapes = arguments.command or COMMANDS, arguments.shape or [*SHAPES, "fat-tree"]
+    print(head(len(programs)))
+    before: dict[tuple[str, str], float] = {}
+    for timed in measured(programs, shapes, sizes, commands, arguments.runs):
+        print(row(timed, before.get((timed.shape, timed.command))), flush=True)
+        before[timed.shape, timed.command] = timed.seconds[-1]
+
+
+def measured(programs: list[Path], shapes: list[str], sizes: list[int], commands: tuple[str, ...], runs: int) -> Iterator[Timed]:
+    """Each command on each network that fits into a text; the trials stand for the shape of fat trees."""
+    for shape in shapes:
+        if shape == "fat-tree":
+            for size in TRIALS if "trial" in commands else ():
+                yield Timed(shape, size, "trial", in_turn(programs, ["trial", str(size)], runs))
+            continue
+        for size in sizes:
+            text = SHAPES[shape](size)
+            if len(text) > MOST_BYTES:
+                break
+            with tempfile.TemporaryDirectory(prefix="bonsai-") as room:
+                yield from on_text(programs, Path(room), shape, size, text, commands, runs)
+
+
+def on_text(programs: list[Path], room: Path, shape: str, size: int, text: str, commands: tuple[str, ...], runs: int) -> Iterator[Timed]:
+    """The commands on one text. What needs labels is left out, and said, where the schedule does not come to rest."""
+    file = room / "F"
+    file.write_text(text, "ascii")
+    seconds = second_files(programs[0], room, file, [OF_SECOND[it] for it in commands if it in OF_SECOND])
+    for command in commands:
+        if command in ("classes", "summary"):
+            asked = [command, str(file)]
+        elif command in OF_CLASS:
+            asked = [command, str(file), "1"]
+        elif command in OF_SECOND and OF_SECOND[command] in seconds:
+            asked = [command, str(file), "1", str(seconds[OF_SECOND[command]])]
+        else:
+            if command != "trial":
+                print(f"turns: {shape} {size}: no file for {command}: {ROUNDS} rounds do not come to rest", file=sys.stderr)
+            continue
+        yield Timed(shape, size, command, in_turn(programs, asked, runs))
+
+
+def second_files(program: Path, room: Path, file: Path, wanted: list[str]) -> dict[str, Path]:
+    """The second files that are wanted and can be made: the schedule, a certificate, labels of rest, and those of the network of the groups."""
+    made: dict[str, Path] = {}
+
+    def keep(name: str, data: bytes) -> Path:
+        made[name] = room / name
+        made[name].write_bytes(data)
+        return made[name]
+
+    if not wanted:
+        return made
+    schedule = keep("schedule", b"*\n" * ROUNDS)
+    if "certificate" in wanted:
+        keep("certificate", output(program, ["certify", str(file), "1"]))
+    if not {"labels", "small"} & set(wanted):
+        return made
+    first, _, rest = output(program, ["run", str(file), "1", str(schedule)]).partition(b"\n")
+    if first != b"rest":
+        return made
+    labels = keep("labels", rest)
+    keep("small", output(program, ["fold", str(file), "1", str(labels)]))
+    return made
+
+
+def output(program: Path, asked: list[str]) -> bytes:
+    """What the program writes. Refused where its status is not 0."""
+    ran = subprocess.run([program, *asked], stdin=subprocess.DEVNULL, capture_output=True, check=False)
+    if ran.returncode:
+        raise Refused(f"{program} {' '.join(asked)}: status {ran.returncode}", ran.stderr.decode("utf-8", "replace").splitlines())
+    return ran.stdout
+
+
+def in_turn(programs: list[Path], asked: list[str], runs: int) -> tuple[float, ...]:
+    """The least user seconds of each program, which take turns."""
+    found = [[user_seconds(program, asked) for program in programs] for _ in range(runs)]
+    return tuple(min(times) for times in zip(*found, strict=True))
+
+
+def user_seconds(program: Path, asked: list[str]) -> float:
+    """The user seconds of one run. Refused where its status is not 0."""
+    with open(os.devnull, "wb") as sink:
+        ran = subprocess.Popen([program, *asked], stdin=subprocess.DEVNULL, stdout=sink, stderr=sink)
+        _, status, used = os.wait4(ran.pid, 0)
+    ran.returncode = os.waitstatus_to_exitcode(status)
+    if ran.returncode:
+        raise Refused(f"{program} {' '.join(asked)}: status {ran.returncode}")
+    return used.ru_utime
+
+
+def head(count: int) -> str:
+    """The head of the table."""
+    names = [f"s, program {place + 1}" for place in range(count)]
+    columns = ["network", "routers", "command", *names, *(["last to first"] if count > 1 else []), "growth of the last"]
+    return "| " + " | ".join(columns) + " |\n|---|---:|---|" + "---:|" * (len(columns) - 3)
+
+
+def row(timed: Timed, before: float | None) -> str:
+    """A row: the growth is the time of the last program over its time at the size before, where that is long enough to say something."""
+    first, last = timed.seconds[0], timed.seconds[-1]
+    cells = [timed.shape, f"{timed.size:,}", f"`{timed.command}`", *(f"{it:.3f}" for it in timed.seconds)]
+    if len(timed.seconds) > 1:
+        cells.append(f"{last / first:.2f}" if first >= LEAST_SECONDS else "")
+    cells.append(f"{last / before:.1f}" if before is not None and before >= LEAST_SECONDS else "")
+    return "| " + " | ".join(cells) + " |"
