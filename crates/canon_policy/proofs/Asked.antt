@@ -21,7 +21,7 @@ use Rattle.canon_policy.specs.Fixings.Part.{community}
 use Rattle.canon_policy.specs.Canonical.{in_parts, in_asked, out_asked}
 use Rattle.canon_policy.specs.Hanging.{TestHangsOn, AskedHangsOn}
 use Rattle.canon_policy.specs.Made.{nodes_of, asked_of, carried_nodes, in_nodes, out_nodes}
-use Rattle.canon_policy.specs.Nodes.{AreInside, IsPartInside, AreNodesInside, AgreeAt, Tells, AreTold, AreNodesOf}
+use Rattle.canon_policy.specs.Nodes.{AreInside, IsPartInside, AreNodesInside, AgreeAt, Tells, ArePartsTold, AreNodesOf}
 use Rattle.canon_policy.specs.Plain.{IsPlain}
 use Rattle.canon_policy.proofs.SameSets.{all_are, has-agreeing}
 use Rattle.canon_policy.proofs.Least.{in_has, least_none, least_some, under_hangs}
@@ -192,7 +192,7 @@ module _ (shown : Shown) (is : IsShown shown) where
     }
 
     outs_told : (cases : List (Community × ℕ)) → AreInside shown (nodes_of (by_number cases)) → ((case : ℕ × ℕ) → In (by_number cases) case → (set : List ℕ) → carries (on_sets f) case.0 set ≡ value_of shown set case.1)
-        → AreTold shown nothing_fixed (carried_nodes cases) (in_parts shown.universe (on_sets f) (keys_of (by_number cases)))
+        → ArePartsTold shown nothing_fixed (carried_nodes cases) (in_parts shown.universe (on_sets f) (keys_of (by_number cases)))
     outs_told [] all says = tt
     outs_told (case ∷ cases) all says = ((refl, means_free case.1 (carries (on_sets f) case.0.0) all.0 (says (case.0.0, case.1) (inl refl))), outs_told cases all.1 (λ c h. says c (inr h)))
 

@@ -13,7 +13,7 @@ use Rattle.dd_core.proofs.ShownLemmas.{means_kept}
 use Rattle.canon_policy.specs.declared.fixing.Fixing.{Fixing}
 use Rattle.canon_policy.specs.Fixings.{agreeing, least, yes, follows}
 use Rattle.canon_policy.specs.Hanging.{TestHangsOn}
-use Rattle.canon_policy.specs.Nodes.{number_of, lesser}
+use Rattle.canon_policy.specs.Nodes.{community_number, lesser}
 use Rattle.canon_policy.proofs.SameSets.{agreeing_same_on}
 use Rattle.canon_policy.proofs.Firsts.{first_is_least, least_among, least_of_more, NodesHang}
 use Rattle.canon_policy.proofs.Follows.{follow_true, follow_idle}
@@ -25,7 +25,7 @@ pub means_hangs : (shown : Shown) (node : ℕ) (test : List ℕ → Bool) → Te
 means_hangs shown node test hangs means = record { same = λ a b same. means.value a ∙ hangs.same a b same ∙ sym (means.value b) }
 
 -- the first of a node that tells a test
-pub first_of_test : (shown : Shown) → IsShown shown → (node : ℕ) (test : List ℕ → Bool) → TestHangsOn shown.universe test → Means shown node test → (r : Option Community) → MatchOption r (DependsOnNone shown node) (λ c. IsFirstOf shown node c.0) → option_map number_of r ≡ least shown.universe (λ set. yes (test set))
+pub first_of_test : (shown : Shown) → IsShown shown → (node : ℕ) (test : List ℕ → Bool) → TestHangsOn shown.universe test → Means shown node test → (r : Option Community) → MatchOption r (DependsOnNone shown node) (λ c. IsFirstOf shown node c.0) → option_map community_number r ≡ least shown.universe (λ set. yes (test set))
 first_of_test shown is node test hangs means r first =
     first_is_least shown is node (means_hangs shown node test hangs means) r first
     ∙ ap (λ (v : List ℕ → ℕ). least shown.universe v) (fun_ext (λ set. ap yes (means.value set)))
@@ -44,17 +44,17 @@ module _ (old mid : Shown) (is : IsShown mid) (grows : Grows old mid) (rest node
       let e2 = follow_true old.universe fixing c.0 test hangs known (λ set. sym (mid_means.value set) ∙ same set ∙ of_fol.value set) in
       rw (e1, e2) refl
 
-  first_here : (r : Option Community) → MatchOption r (DependsOnNone mid node) (λ d. IsFirstOf mid node d.0) → option_map number_of r ≡ least old.universe (λ set. yes (test (agreeing fixing set)))
+  first_here : (r : Option Community) → MatchOption r (DependsOnNone mid node) (λ d. IsFirstOf mid node d.0) → option_map community_number r ≡ least old.universe (λ set. yes (test (agreeing fixing set)))
   first_here r first =
       let under : TestHangsOn mid.universe (λ set. test (agreeing fixing set)) = rw grows.universe (test_under old.universe test fixing hangs) in
       first_of_test mid is node (λ set. test (agreeing fixing set)) under mid_means r first ∙ ap (λ (u : List ℕ). least u (λ set. yes (test (agreeing fixing set)))) grows.universe
 
-  pub not_kept : (none : List ℕ) → none ≡ [] → value_of mid none rest ≡ false → (r : Option Community) → MatchOption r (DependsOnNone mid node) (λ d. IsFirstOf mid node d.0) → option_map number_of r ≡ (if kept (agreeing fixing []) && follows old.universe fixing c.0 test then None else least old.universe (λ set. yes (test (agreeing fixing set))))
+  pub not_kept : (none : List ℕ) → none ≡ [] → value_of mid none rest ≡ false → (r : Option Community) → MatchOption r (DependsOnNone mid node) (λ d. IsFirstOf mid node d.0) → option_map community_number r ≡ (if kept (agreeing fixing []) && follows old.universe fixing c.0 test then None else least old.universe (λ set. yes (test (agreeing fixing set))))
   not_kept none e out r first =
       let e1 : kept (agreeing fixing []) ≡ false = sym (kept_value none e) ∙ out in
       rw e1 (first_here r first)
 
-  pub not_following : (fol : ℕ) → Means mid fol (λ set. has set c.0) → (none : List ℕ) → none ≡ [] → value_of mid none rest ≡ true → DifferOnSet mid node fol → (r : Option Community) → MatchOption r (DependsOnNone mid node) (λ d. IsFirstOf mid node d.0) → option_map number_of r ≡ (if kept (agreeing fixing []) && follows old.universe fixing c.0 test then None else least old.universe (λ set. yes (test (agreeing fixing set))))
+  pub not_following : (fol : ℕ) → Means mid fol (λ set. has set c.0) → (none : List ℕ) → none ≡ [] → value_of mid none rest ≡ true → DifferOnSet mid node fol → (r : Option Community) → MatchOption r (DependsOnNone mid node) (λ d. IsFirstOf mid node d.0) → option_map community_number r ≡ (if kept (agreeing fixing []) && follows old.universe fixing c.0 test then None else least old.universe (λ set. yes (test (agreeing fixing set))))
   not_following fol of_fol none e yes_kept differ r first =
       let e1 : kept (agreeing fixing []) ≡ true = sym (kept_value none e) ∙ yes_kept in
       rw e1 (first_here r first ∙ sym (follow_idle old.universe fixing c.0 test hangs known differ.set (λ same. differ.differ (mid_means.value differ.set ∙ same ∙ sym (of_fol.value differ.set))) (follows old.universe fixing c.0 test) refl))
@@ -78,11 +78,11 @@ pub first_known : (shown : Shown) (node : ℕ) (r : Option Community) → MatchO
 first_known shown node None first = tt
 first_known shown node (Some c) first = first.known
 
-pub more_least : (shown : Shown) → IsShown shown → (nodes : List ℕ) (k node : ℕ) → k < length nodes → node ≡ get_or nodes k 0 → (a r : Option ℕ) → (NodesHang shown nodes → a ≡ least_among shown (take k nodes)) → (first : Option Community) → MatchOption first (DependsOnNone shown node) (λ c. IsFirstOf shown node c.0) → r ≡ lesser a (option_map number_of first) → NodesHang shown nodes → r ≡ least_among shown (take (k + 1) nodes)
+pub more_least : (shown : Shown) → IsShown shown → (nodes : List ℕ) (k node : ℕ) → k < length nodes → node ≡ get_or nodes k 0 → (a r : Option ℕ) → (NodesHang shown nodes → a ≡ least_among shown (take k nodes)) → (first : Option Community) → MatchOption first (DependsOnNone shown node) (λ c. IsFirstOf shown node c.0) → r ≡ lesser a (option_map community_number first) → NodesHang shown nodes → r ≡ least_among shown (take (k + 1) nodes)
 more_least shown is nodes k node lt at a r before first is_first e hang =
     let there : In nodes node = rw at (index_in nodes k lt) in
     e
-    ∙ ap (λ (x : Option ℕ). lesser x (option_map number_of first)) (before hang)
+    ∙ ap (λ (x : Option ℕ). lesser x (option_map community_number first)) (before hang)
     ∙ ap (λ (x : Option ℕ). lesser (least_among shown (take k nodes)) x) (first_is_least shown is node (hang.each node there) first is_first)
     ∙ least_of_more shown is (take k nodes) node
     ∙ ap (λ (l : List ℕ). least_among shown l) (ap (λ (n : ℕ). take k nodes ++ n ∷ []) at ∙ sym (take_more nodes k 0 lt))

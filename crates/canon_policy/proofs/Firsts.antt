@@ -15,7 +15,7 @@ use Rattle.dd_core.specs.Reach.{DependsOn, IsFirstOf, DependsOnNone}
 use Rattle.canon_policy.specs.Functions.{as_set}
 use Rattle.canon_policy.specs.Fixings.{depends, least, yes}
 use Rattle.canon_policy.specs.Hanging.{SameOn, TestHangsOn, NumberHangsOn}
-use Rattle.canon_policy.specs.Nodes.{AgreeAt, Tells, number_of, lesser}
+use Rattle.canon_policy.specs.Nodes.{AgreeAt, Tells, community_number, lesser}
 use Rattle.canon_policy.proofs.SameSets.{in_any, any_in, same_sets, has-as_set, ascending-as_set, with_there, without_absent, has-without_number}
 use Rattle.canon_policy.proofs.Least.{in_has, has_in, Differing, depends_differ, differ_depends, is_found}
 use Rattle.canon_policy.proofs.Splits.{yes_hangs}
@@ -118,7 +118,7 @@ module _ (shown : Shown) (is : IsShown shown) (node : ℕ) (hangs : TestHangsOn 
   not_true true f = absurd (f refl)
   not_true false f = refl
 
-  pub first_is_least : (r : Option Community) → MatchOption r (DependsOnNone shown node) (λ c. IsFirstOf shown node c.0) → option_map number_of r ≡ least shown.universe value
+  pub first_is_least : (r : Option Community) → MatchOption r (DependsOnNone shown node) (λ c. IsFirstOf shown node c.0) → option_map community_number r ≡ least shown.universe value
   unfolding least
   first_is_least None none = sym (nothing_found (depends shown.universe value) shown.universe (λ x h. not_true (depends shown.universe value x) (λ e. none.none x (in_has shown.universe x h) (differing_depends x (depends_differ shown.universe value x e)))))
   first_is_least (Some c) first = sym (found_least (depends shown.universe value) shown.universe c.0 is.ascending (has_in shown.universe c.0 first.known) (depends_differing c.0 first.needed)

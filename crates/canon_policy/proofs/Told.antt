@@ -14,7 +14,7 @@ use Rattle.canon_policy.specs.declared.parts.Nodes.{Nodes}
 use Rattle.canon_policy.specs.Fixings.{Part, Asked, agreeing, least, yes, unsettled, first_unsettled, split}
 use Rattle.canon_policy.specs.Fixings.Part.{number, community}
 use Rattle.canon_policy.specs.Hanging.{TestHangsOn, NumberHangsOn, PartHangsOn, PartsHangOn}
-use Rattle.canon_policy.specs.Nodes.{AreInside, IsPartInside, AreNodesInside, AgreeAt, Tells, IsTold, AreTold, AreNodesOf, number_of}
+use Rattle.canon_policy.specs.Nodes.{AreInside, IsPartInside, AreNodesInside, AgreeAt, Tells, IsTold, ArePartsTold, AreNodesOf, community_number}
 use Rattle.canon_policy.proofs.Least.{under_hangs}
 
 -- growth
@@ -57,7 +57,7 @@ told_kept old new grows fixing (Told nodes) (community d test) all told = absurd
 told_kept old new grows fixing (Carried c node) (number part) all told = absurd told
 told_kept old new grows fixing (Carried c node) (community d test) all told = (told.0, means_kept old new node (λ set. test (agreeing fixing set)) grows told.1)
 
-pub all_told_kept : (old new : Shown) → Grows old new → (fixing : Fixing) (nodes : List PartNodes) (parts : List Part) → AllByRecursion (IsPartInside old) nodes → AreTold old fixing nodes parts → AreTold new fixing nodes parts
+pub all_told_kept : (old new : Shown) → Grows old new → (fixing : Fixing) (nodes : List PartNodes) (parts : List Part) → AllByRecursion (IsPartInside old) nodes → ArePartsTold old fixing nodes parts → ArePartsTold new fixing nodes parts
 all_told_kept old new grows fixing [] [] all told = tt
 all_told_kept old new grows fixing [] (p ∷ ps) all told = absurd told
 all_told_kept old new grows fixing (n ∷ ns) [] all told = absurd told
@@ -85,7 +85,7 @@ later shown fixing universe item p ps k at = record {
   rest = at.rest ∙ ap (λ (n : ℕ). at.part ∷ drop n (p ∷ ps)) (let e : suc (k + 1) ≡ suc k + 1 = omega arith in e);
 }
 
-pub told_at : (shown : Shown) (fixing : Fixing) (universe : List ℕ) (nodes : List PartNodes) (parts : List Part) (k : ℕ) (item : PartNodes) → item ≡ get_or nodes k item → k < length nodes → PartsHangOn universe parts → AreTold shown fixing nodes parts → ToldAt shown fixing universe item parts k
+pub told_at : (shown : Shown) (fixing : Fixing) (universe : List ℕ) (nodes : List PartNodes) (parts : List Part) (k : ℕ) (item : PartNodes) → item ≡ get_or nodes k item → k < length nodes → PartsHangOn universe parts → ArePartsTold shown fixing nodes parts → ToldAt shown fixing universe item parts k
 told_at shown fixing universe [] parts k item e lt hang told = absurd (omega arith)
 told_at shown fixing universe (n ∷ ns) [] k item e lt hang told = absurd told
 told_at shown fixing universe (n ∷ ns) (p ∷ ps) zero item e lt hang told = record {
@@ -101,7 +101,7 @@ inside_at shown [] k item e lt all = absurd (omega arith)
 inside_at shown (n ∷ ns) zero item e lt all = subst (IsPartInside shown) (sym e) all.0
 inside_at shown (n ∷ ns) (suc k) item e lt all = inside_at shown ns k item e (omega arith) all.1
 
-pub none_left : (shown : Shown) (fixing : Fixing) (nodes : List PartNodes) (parts : List Part) (k : ℕ) → length nodes ≡ k → AreTold shown fixing nodes parts → drop k parts ≡ []
+pub none_left : (shown : Shown) (fixing : Fixing) (nodes : List PartNodes) (parts : List Part) (k : ℕ) → length nodes ≡ k → ArePartsTold shown fixing nodes parts → drop k parts ≡ []
 none_left shown fixing [] [] k e told = rw (sym e) refl
 none_left shown fixing [] (p ∷ ps) k e told = absurd told
 none_left shown fixing (n ∷ ns) [] k e told = absurd told
@@ -121,22 +121,22 @@ told_community shown fixing universe c node kept r (number part) hangs told foun
 told_community shown fixing universe c node kept r (community d test) hangs told found = found test hangs told.1 ∙ ap (λ (n : ℕ). unsettled universe kept fixing (community n test)) told.0
 
 -- a part that is not settled ends the search, and one that is settled does not
-pub found_here : (ask : Part → Option ℕ) (part : Part) (rest : List Part) (r : Option Community) → option_map number_of r ≡ ask part → is_some r ≡ true → option_map number_of r ≡ first_unsettled ask (part ∷ rest)
+pub found_here : (ask : Part → Option ℕ) (part : Part) (rest : List Part) (r : Option Community) → option_map community_number r ≡ ask part → is_some r ≡ true → option_map community_number r ≡ first_unsettled ask (part ∷ rest)
 found_here ask part rest None e some = absurd cc
 found_here ask part rest (Some c) e some = by (ask part) e
   where
-    by : (o : Option ℕ) → Some (number_of c) ≡ o → Some (number_of c) ≡ option_or o (first_unsettled ask rest)
+    by : (o : Option ℕ) → Some (community_number c) ≡ o → Some (community_number c) ≡ option_or o (first_unsettled ask rest)
     by None e = absurd cc
     by (Some x) e = e
 
-pub found_later : (ask : Part → Option ℕ) (part : Part) (rest : List Part) (r : Option Community) → option_map number_of r ≡ ask part → is_some r ≡ false → first_unsettled ask (part ∷ rest) ≡ first_unsettled ask rest
+pub found_later : (ask : Part → Option ℕ) (part : Part) (rest : List Part) (r : Option Community) → option_map community_number r ≡ ask part → is_some r ≡ false → first_unsettled ask (part ∷ rest) ≡ first_unsettled ask rest
 found_later ask part rest None e none = rw (sym e) refl
 found_later ask part rest (Some c) e none = absurd cc
 
 -- a call over a store that has grown
 pub part_found : (old mid : Shown) → Grows old mid → (rest : ℕ) (item : PartNodes) (r : Option Community)
-    → ((kept : List ℕ → Bool) (fixing : Fixing) (asked : Part) → TestHangsOn mid.universe kept → PartHangsOn mid.universe asked → Means mid rest (λ set. kept (agreeing fixing set)) → IsTold mid fixing item asked → option_map number_of r ≡ unsettled mid.universe kept fixing asked)
-    → (kept : List ℕ → Bool) (fixing : Fixing) (asked : Part) → TestHangsOn old.universe kept → PartHangsOn old.universe asked → Means old rest (λ set. kept (agreeing fixing set)) → IsPartInside old item → IsTold old fixing item asked → option_map number_of r ≡ unsettled old.universe kept fixing asked
+    → ((kept : List ℕ → Bool) (fixing : Fixing) (asked : Part) → TestHangsOn mid.universe kept → PartHangsOn mid.universe asked → Means mid rest (λ set. kept (agreeing fixing set)) → IsTold mid fixing item asked → option_map community_number r ≡ unsettled mid.universe kept fixing asked)
+    → (kept : List ℕ → Bool) (fixing : Fixing) (asked : Part) → TestHangsOn old.universe kept → PartHangsOn old.universe asked → Means old rest (λ set. kept (agreeing fixing set)) → IsPartInside old item → IsTold old fixing item asked → option_map community_number r ≡ unsettled old.universe kept fixing asked
 part_found old mid grows rest item r call kept fixing asked kept_hangs hangs of_rest inside told =
     call kept fixing asked
     (subst (λ (u : List ℕ). TestHangsOn u kept) (sym grows.universe) kept_hangs)
@@ -146,22 +146,22 @@ part_found old mid grows rest item r call kept fixing asked kept_hangs hangs of_
     ∙ ap (λ (u : List ℕ). unsettled u kept fixing asked) grows.universe
 
 -- what splits a fixing
-first_some : (l rest : Option ℕ) (r : Option Community) → option_map number_of r ≡ l → is_some r ≡ true → option_map number_of r ≡ option_or l rest
+first_some : (l rest : Option ℕ) (r : Option Community) → option_map community_number r ≡ l → is_some r ≡ true → option_map community_number r ≡ option_or l rest
 first_some l rest None e some = absurd cc
 first_some l rest (Some c) e some = rw (← e) refl
 
-first_none : (l : Option ℕ) (r : Option Community) → option_map number_of r ≡ l → is_some r ≡ false → l ≡ None
+first_none : (l : Option ℕ) (r : Option Community) → option_map community_number r ≡ l → is_some r ≡ false → l ≡ None
 first_none l None e none = sym e
 first_none l (Some c) e none = absurd cc
 
-pub split_some : (universe : List ℕ) (asked : Asked) (fixing : Fixing) (r : Option Community) → option_map number_of r ≡ least universe (λ set. yes (asked.accepted (agreeing fixing set))) → is_some r ≡ true → option_map number_of r ≡ split universe asked fixing
+pub split_some : (universe : List ℕ) (asked : Asked) (fixing : Fixing) (r : Option Community) → option_map community_number r ≡ least universe (λ set. yes (asked.accepted (agreeing fixing set))) → is_some r ≡ true → option_map community_number r ≡ split universe asked fixing
 unfolding split
 split_some universe asked fixing r e some = first_some (least universe (λ set. yes (asked.accepted (agreeing fixing set)))) (if asked.accepted (agreeing fixing []) then first_unsettled (unsettled universe asked.kept fixing) asked.parts else None) r e some
 
-pub split_denied : (universe : List ℕ) (asked : Asked) (fixing : Fixing) (r : Option Community) → option_map number_of r ≡ least universe (λ set. yes (asked.accepted (agreeing fixing set))) → is_some r ≡ false → asked.accepted (agreeing fixing []) ≡ false → None ≡ split universe asked fixing
+pub split_denied : (universe : List ℕ) (asked : Asked) (fixing : Fixing) (r : Option Community) → option_map community_number r ≡ least universe (λ set. yes (asked.accepted (agreeing fixing set))) → is_some r ≡ false → asked.accepted (agreeing fixing []) ≡ false → None ≡ split universe asked fixing
 unfolding split
 split_denied universe asked fixing r e none denied = rw (first_none (least universe (λ set. yes (asked.accepted (agreeing fixing set)))) r e none, denied) refl
 
-pub split_rest : (universe : List ℕ) (asked : Asked) (fixing : Fixing) (r : Option Community) → option_map number_of r ≡ least universe (λ set. yes (asked.accepted (agreeing fixing set))) → is_some r ≡ false → asked.accepted (agreeing fixing []) ≡ true → first_unsettled (unsettled universe asked.kept fixing) asked.parts ≡ split universe asked fixing
+pub split_rest : (universe : List ℕ) (asked : Asked) (fixing : Fixing) (r : Option Community) → option_map community_number r ≡ least universe (λ set. yes (asked.accepted (agreeing fixing set))) → is_some r ≡ false → asked.accepted (agreeing fixing []) ≡ true → first_unsettled (unsettled universe asked.kept fixing) asked.parts ≡ split universe asked fixing
 unfolding split
 split_rest universe asked fixing r e none given = rw (first_none (least universe (λ set. yes (asked.accepted (agreeing fixing set)))) r e none, given) refl

@@ -21,7 +21,7 @@ use Rattle.canon_policy.specs.declared.parts.Nodes.{Nodes}
 use Rattle.canon_policy.specs.Fixings.{Part, Asked, nothing_fixed, with_present, with_absent, agreeing, split, settled}
 use Rattle.canon_policy.specs.Fixings.Part.{number, community}
 use Rattle.canon_policy.specs.Hanging.{SameOn, TestHangsOn, NumberHangsOn, PartHangsOn, PartsHangOn, AskedHangsOn}
-use Rattle.canon_policy.specs.Nodes.{AreInside, IsPartInside, AreNodesInside, AgreeAt, Tells, IsTold, AreTold, AreNodesOf, IsFixed, AreFixed, IsPartFixed, ArePartsFixed, AreNodesFixed, is_broad, are_over, IsWalked, number_of}
+use Rattle.canon_policy.specs.Nodes.{AreInside, IsPartInside, AreNodesInside, AgreeAt, Tells, IsTold, ArePartsTold, AreNodesOf, IsFixed, AreFixed, IsPartFixed, ArePartsFixed, AreNodesFixed, is_broad, are_over, IsWalked, community_number}
 use Rattle.canon_policy.proofs.Told.{nodes_kept}
 use Rattle.canon_policy.proofs.SameSets.{same_sets, has-agreeing, present_first, absent_first, or_none}
 
@@ -86,7 +86,7 @@ module _ (old new : Shown) (universe : List ℕ) (fixing alone both : Fixing) (j
   part_fixed (Carried c n) (Carried d m) (number part) hangs told is = absurd told
   part_fixed (Carried c n) (Carried d m) (community e test) hangs told is = (ap (λ x. x.0) (sym is.0) ∙ told.0, node_fixed n m test hangs told.1 is.1)
 
-  parts_fixed : (ns ms : List PartNodes) (parts : List Part) → PartsHangOn universe parts → AreTold old fixing ns parts → ArePartsFixed old new alone ns ms → AreTold new both ms parts
+  parts_fixed : (ns ms : List PartNodes) (parts : List Part) → PartsHangOn universe parts → ArePartsTold old fixing ns parts → ArePartsFixed old new alone ns ms → ArePartsTold new both ms parts
   parts_fixed [] [] [] hang told are = tt
   parts_fixed [] [] (p ∷ ps) hang told are = absurd told
   parts_fixed [] (m ∷ ms) parts hang told are = absurd are
@@ -267,8 +267,8 @@ both_walked old mid new xs ys (Ok done) (Ok now) walked e other = other ∙ ap (
 both_walked old mid new xs ys (Ok done) (Err NoCanon) walked e other = subst (λ (l : List Fixing). are_over l ≡ true) (ap (λ (l : List Fixing). l ++ ys) walked ∙ append_assoc old xs ys) other
 both_walked old mid new xs ys (Ok done) (Err Memory) walked e other = tt
 
-pub some_split : (universe : List ℕ) (asked : Asked) (fixing : Fixing) (o : Option Community) (c : Community) → option_map number_of o ≡ split universe asked fixing → o ≡ Some c → split universe asked fixing ≡ Some c.0
-some_split universe asked fixing o c e is = sym e ∙ ap (λ (x : Option Community). option_map number_of x) is
+pub some_split : (universe : List ℕ) (asked : Asked) (fixing : Fixing) (o : Option Community) (c : Community) → option_map community_number o ≡ split universe asked fixing → o ≡ Some c → split universe asked fixing ≡ Some c.0
+some_split universe asked fixing o c e is = sym e ∙ ap (λ (x : Option Community). option_map community_number x) is
 
-pub none_split : (universe : List ℕ) (asked : Asked) (fixing : Fixing) (o : Option Community) → option_map number_of o ≡ split universe asked fixing → o ≡ None → split universe asked fixing ≡ None
-none_split universe asked fixing o e is = sym e ∙ ap (λ (x : Option Community). option_map number_of x) is
+pub none_split : (universe : List ℕ) (asked : Asked) (fixing : Fixing) (o : Option Community) → option_map community_number o ≡ split universe asked fixing → o ≡ None → split universe asked fixing ≡ None
+none_split universe asked fixing o e is = sym e ∙ ap (λ (x : Option Community). option_map community_number x) is

@@ -42,19 +42,19 @@ IsTold shown fixing (Told nodes) (number part) = Tells shown nodes (λ set. part
 IsTold shown fixing (Carried c node) (community d test) = (c.0 ≡ d) × Means shown node (λ set. test (agreeing fixing set))
 IsTold shown fixing _ _ = ⊥
 
-abbrev pub AreTold : Shown → Fixing → List PartNodes → List Part → Type 0
-AreTold shown fixing [] [] = Unit {0}
-AreTold shown fixing [] (part ∷ parts) = ⊥
-AreTold shown fixing (nodes ∷ more) [] = ⊥
-AreTold shown fixing (nodes ∷ more) (part ∷ parts) = IsTold shown fixing nodes part × AreTold shown fixing more parts
+abbrev pub ArePartsTold : Shown → Fixing → List PartNodes → List Part → Type 0
+ArePartsTold shown fixing [] [] = Unit {0}
+ArePartsTold shown fixing [] (part ∷ parts) = ⊥
+ArePartsTold shown fixing (nodes ∷ more) [] = ⊥
+ArePartsTold shown fixing (nodes ∷ more) (part ∷ parts) = IsTold shown fixing nodes part × ArePartsTold shown fixing more parts
 
 pub record AreNodesOf (shown : Shown) (fixing : Fixing) (nodes : Nodes) (asked : Asked) : Type 0 where
   pub permit : Means shown nodes.permit (λ set. asked.accepted (agreeing fixing set))
   pub rest : Means shown nodes.rest (λ set. asked.kept (agreeing fixing set))
-  pub parts : AreTold shown fixing nodes.parts asked.parts
+  pub parts : ArePartsTold shown fixing nodes.parts asked.parts
 
-abbrev pub number_of : Community → ℕ
-number_of c = c.0
+abbrev pub community_number : Community → ℕ
+community_number c = c.0
 
 -- the lesser of two numbers, if there are any
 abbrev pub lesser : Option ℕ → Option ℕ → Option ℕ

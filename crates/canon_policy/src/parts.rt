@@ -9,7 +9,7 @@ ghost use Rattle.canon_policy.specs.declared.fixing.Fixing.{Fixing};
 ghost use Rattle.canon_policy.specs.Fixings.{Part, Asked, agreeing, least, unsettled, first_unsettled, split};
 ghost use Rattle.canon_policy.specs.Fixings.Part.{community as of_community};
 ghost use Rattle.canon_policy.specs.Hanging.{TestHangsOn, NumberHangsOn, PartHangsOn, PartsHangOn, AskedHangsOn};
-ghost use Rattle.canon_policy.specs.Nodes.{AreInside, IsPartInside, AreNodesInside, Tells, AreNodesOf, IsTold, AreTold, number_of, lesser};
+ghost use Rattle.canon_policy.specs.Nodes.{AreInside, IsPartInside, AreNodesInside, Tells, AreNodesOf, IsTold, ArePartsTold, community_number, lesser};
 
 use base_kit::{Community, List, NoMemory, NumSet};
 use dd_core::{NodeId, Store, is_same};
@@ -33,7 +33,7 @@ pub struct Nodes {
 }
 
 fn lesser(a: Option<Community>, b: Option<Community>) -> Option<Community>
-    ensures lesser { option_map number_of result ≡ lesser (option_map number_of a) (option_map number_of b) }
+    ensures lesser { option_map community_number result ≡ lesser (option_map community_number a) (option_map community_number b) }
     ensures either { (result ≡ a) ⊎ (result ≡ b) }
 {
     match (a, b) {
@@ -47,7 +47,7 @@ fn lesser(a: Option<Community>, b: Option<Community>) -> Option<Community>
 fn least_of(store: &Store, nodes: &[NodeId]) -> Option<Community>
     requires { AreInside store.now nodes.now }
     ensures known { IfSome result (λ c. has store.now.universe c.0 ≡ true) }
-    ensures least { (part : Items ℕ → ℕ) → NumberHangsOn store.now.universe part → Tells store.now nodes.now part → option_map number_of result ≡ least store.now.universe part }
+    ensures least { (part : Items ℕ → ℕ) → NumberHangsOn store.now.universe part → Tells store.now nodes.now part → option_map community_number result ≡ least store.now.universe part }
 {
     let _count = store.len();
     let mut least = None;
@@ -72,7 +72,7 @@ fn least_of_carried(
     ensures known { IfOk result (λ r. IfSome r (λ c. has store.old.universe c.0 ≡ true)) }
     ensures unsettled { (kept test : Items ℕ → Bool) (fixing : Fixing) → TestHangsOn store.old.universe kept → TestHangsOn store.old.universe test
         → Means store.old rest (λ set. kept (agreeing fixing set)) → Means store.old node (λ set. test (agreeing fixing set))
-        → IfOk result (λ r. option_map number_of r ≡ unsettled store.old.universe kept fixing (of_community community.0 test)) }
+        → IfOk result (λ r. option_map community_number r ≡ unsettled store.old.universe kept fixing (of_community community.0 test)) }
 {
     let follows = store.var(community)?;
     let _count = store.len();
@@ -95,7 +95,7 @@ fn least_of_part(
     ensures known { IfOk result (λ r. IfSome r (λ c. has store.old.universe c.0 ≡ true)) }
     ensures unsettled { (kept : Items ℕ → Bool) (fixing : Fixing) (asked : Part) → TestHangsOn store.old.universe kept → PartHangsOn store.old.universe asked
         → Means store.old rest (λ set. kept (agreeing fixing set)) → IsTold store.old fixing part.now asked
-        → IfOk result (λ r. option_map number_of r ≡ unsettled store.old.universe kept fixing asked) }
+        → IfOk result (λ r. option_map community_number r ≡ unsettled store.old.universe kept fixing asked) }
 {
     match part {
         PartNodes::Told(nodes) => Ok(least_of(store, nodes.as_slice())),
@@ -117,8 +117,8 @@ fn first_unsettled(
     ensures grows { Grows store.old store.new }
     ensures known { IfOk result (λ r. IfSome r (λ c. has store.old.universe c.0 ≡ true)) }
     ensures unsettled { (kept : Items ℕ → Bool) (fixing : Fixing) (asked : Items Part) → TestHangsOn store.old.universe kept → PartsHangOn store.old.universe asked
-        → Means store.old rest (λ set. kept (agreeing fixing set)) → AreTold store.old fixing parts.now asked
-        → IfOk result (λ r. option_map number_of r ≡ first_unsettled (unsettled store.old.universe kept fixing) asked) }
+        → Means store.old rest (λ set. kept (agreeing fixing set)) → ArePartsTold store.old fixing parts.now asked
+        → IfOk result (λ r. option_map community_number r ≡ first_unsettled (unsettled store.old.universe kept fixing) asked) }
 {
     for part in parts {
         let unsettled = least_of_part(alloc, store, rest, part)?;
@@ -140,7 +140,7 @@ pub fn split_by(
     ensures grows { Grows store.old store.new }
     ensures known { IfOk result (λ r. IfSome r (λ c. has store.old.universe c.0 ≡ true)) }
     ensures split { (asked : Asked) (fixing : Fixing) → AskedHangsOn store.old.universe asked → AreNodesOf store.old fixing nodes.now asked
-        → IfOk result (λ r. option_map number_of r ≡ split store.old.universe asked fixing) }
+        → IfOk result (λ r. option_map community_number r ≡ split store.old.universe asked fixing) }
 {
     let _count = store.len();
     let first = store.first(nodes.permit);

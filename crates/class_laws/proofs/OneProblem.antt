@@ -20,7 +20,7 @@ use Rattle.srp_core.specs.declared.route.Route.{Route}
 use Rattle.srp_core.specs.Acts.{ActsAlike, IsActOf}
 use Rattle.srp_core.specs.Alike.{ProblemsAlike}
 use Rattle.srp_core.specs.Problem.{Problem, IsProblem, act_of}
-use Rattle.srp_core.specs.ProblemOf.{Direction, low_imports, high_imports, IsDirection, Means, IsProblemOf}
+use Rattle.srp_core.specs.ProblemOf.{Direction, low_imports, high_imports, IsDirection, MeansLink, IsProblemOf}
 use Rattle.srp_core.proofs.Alike.{turned}
 use Rattle.srp_core.proofs.AlikeOf.{one_problem as problems_alike}
 use Rattle.srp_core.proofs.GroupMatching.{alike_sym, alike_trans}
@@ -95,7 +95,7 @@ one_direction n d e (inr a) (inl b) link importer exporter apart =
     let one : high_imports d ≡ low_imports e = cc (a, b, link) in
     absurd (apart (sym (ap (λ (l : Link). l.low) one ∙ sym importer)))
 
-one_written : (n : Network) (p : Prefix) (q : Protocol) (d : Direction) (x y : Act) → IsActOf q x → IsActOf q y → IsActOfLines n p d x → IsActOfLines n p d y → Means n p d x → Means n p d y → x ≡ y
+one_written : (n : Network) (p : Prefix) (q : Protocol) (d : Direction) (x y : Act) → IsActOf q x → IsActOf q y → IsActOfLines n p d x → IsActOfLines n p d y → MeansLink n p d x → MeansLink n p d y → x ≡ y
 one_written n p q d (Import out sends into) (Import out' sends' into') a b w v m l =
     let e : w.ends.exporter ≡ v.ends.exporter = cc (w.ends.exporter_at, v.ends.exporter_at) in
     let i : w.ends.importer ≡ v.ends.importer = cc (w.ends.importer_at, v.ends.importer_at) in
@@ -191,7 +191,7 @@ module _ (n : Network) (p : Prefix) (P Q : Problem) (a : IsProblemOf n p P) (b :
       let apart = (a.rules.edges.inside e inside).differ in
       let one : w.d ≡ z.d = one_direction n w.d z.d w.stands.is_direction z.stands.is_direction (sym w.stands.link ∙ z.stands.link) (sym w.stands.importer ∙ z.stands.importer) (sym w.stands.exporter ∙ z.stands.exporter) (λ equal. apart (w.stands.importer ∙ equal ∙ sym w.stands.exporter)) in
       let acts = one_written n p P.protocol w.d (act_of P e) (act_of Q e) (edge_fits P a.rules e inside) (subst (λ (q : Protocol). IsActOf q (act_of Q e)) (sym same.protocol) (edge_fits Q b.rules e also))
-      w.act (subst (λ (d : Direction). IsActOfLines n p d (act_of Q e)) (sym one) z.act) w.stands.means (subst (λ (d : Direction). Means n p d (act_of Q e)) (sym one) z.stands.means) in
+      w.act (subst (λ (d : Direction). IsActOfLines n p d (act_of Q e)) (sym one) z.act) w.stands.means (subst (λ (d : Direction). MeansLink n p d (act_of Q e)) (sym one) z.stands.means) in
       ap (λ (m : ℕ). slice_index_or P.acts m (Cost 0)) (sym first.same) ∙ acts ∙ ap (λ (m : ℕ). slice_index_or Q.acts m (Cost 0)) first.same
 
   one_acts : P.acts ≡ Q.acts

@@ -9,12 +9,12 @@ use Rattle.srp_core.specs.declared.route.Act.TheVariants.{Import, Cost}
 use Rattle.srp_core.specs.Acts.{ActsAlike, import_by}
 use Rattle.srp_core.specs.Alike.{EdgesAlike, ProblemsAlike}
 use Rattle.srp_core.specs.Problem.{Problem, IsProblem, act_of}
-use Rattle.srp_core.specs.ProblemOf.{Direction, IsEdgeDirection, Means, StandsFor, IsProblemOf}
+use Rattle.srp_core.specs.ProblemOf.{Direction, IsEdgeDirection, MeansLink, StandsFor, IsProblemOf}
 use Rattle.srp_core.proofs.Alike.{match, turned}
 use Rattle.srp_core.proofs.GroupMatching.{alike_sym}
 
 -- an act means the direction that one which acts alike means
-means_too : (n : Network) (p : Prefix) (d : Direction) (x y : Act) → ActsAlike x y → Means n p d x → Means n p d y
+means_too : (n : Network) (p : Prefix) (d : Direction) (x y : Act) → ActsAlike x y → MeansLink n p d x → MeansLink n p d y
 unfolding import_by
 means_too n p d (Import out sends into) (Import out' sends' into') alike means =
     record { ends = means.ends; same = λ comms set. sym (alike.same comms set) ∙ means.same comms set }

@@ -8,7 +8,7 @@ use Rattle.base_kit.specs.Partition.{members_of}
 use Rattle.abstract_net.specs.declared.qlink.QLink.{QLink}
 use Rattle.srp_core.specs.Quotient.{first_number}
 use Rattle.srp_quotient.specs.Groups.{touches}
-use Rattle.config_emit.specs.ActLinks.{LinksByGroup, links_of, act_link}
+use Rattle.config_emit.specs.ActLinks.{LinksByGroup, group_links, act_link}
 use Rattle.config_emit.specs.BgpSteps.{first_among}
 use Rattle.config_emit.specs.Interfaces.{is_at, links_at}
 use Rattle.config_emit.specs.Plan.{Plan}
@@ -30,7 +30,7 @@ none_at g n (l ∷ ls) = step (none_at g (n + 1) ls) (touches g l) where
   step later true = some_more (length (filter (is_at g) (enumerate_from (n + 1) ls)))
   step later false = later
 
-pub some_link : (e : Plan) (g : ℕ) (index : LinksByGroup) → HasLinks e index → not (nat_eq (length (links_of index g)) 0) ≡ list_any (touches g) e.links
+pub some_link : (e : Plan) (g : ℕ) (index : LinksByGroup) → HasLinks e index → not (nat_eq (length (group_links index g)) 0) ≡ list_any (touches g) e.links
 unfolding links_at
 some_link e g index has =
     ap (λ n. not (nat_eq n 0)) (ap length (links_are e g index has) ∙ length-map (links_at e g) (act_link e.problem.protocol e.problem.edges e.links))

@@ -17,7 +17,7 @@ use Rattle.srp_quotient.specs.Groups.{touches, edge_into}
 use Rattle.config_emit.specs.ActLinks.{act_to, act_link}
 use Rattle.config_emit.specs.Interfaces.{is_at}
 use Rattle.config_emit.specs.LinkSteps.{act_by}
-use Rattle.config_emit.specs.MapNumbers.{place_from, number_of, map_number, IsKnown, KnowsClosed, AreKnown}
+use Rattle.config_emit.specs.MapNumbers.{place_from, place_of_map, map_number, IsKnown, KnowsClosed, AreKnown}
 use Rattle.config_emit.specs.Maps.{other_end, closed_map, act_in_map, act_out_map, is_whole, if_written, maps_at, firsts, map_name, named, number_of_map, name_of_map}
 use Rattle.config_emit.specs.Plan.{Plan, act_into}
 use Rattle.config_emit.specs.RouterMaps.{use_of, has_number, with_uses, listed_use, act_into_end, uses_on, use_name}
@@ -62,16 +62,16 @@ stands p (x ∷ xs) e = step (stands p xs) (p x) refl e where
       }
 
 numbers_tell : (known : List Plain) (m n : Plain) → list_any (same_map m) known ≡ true → list_any (same_map n) known ≡ true →
-    nat_eq (number_of known m) (number_of known n) ≡ same_map m n
-numbers_tell known m n has_m has_n = step (same_map m n) (nat_eq (number_of known m) (number_of known n)) refl refl where
-  step : (a b : Bool) → same_map m n ≡ a → nat_eq (number_of known m) (number_of known n) ≡ b → b ≡ a
-  step true b e f = sym f ∙ ap (nat_eq (number_of known m)) (sym (position_ext (same_map m) (same_map n) known (λ k. same_as m n k e)))
-      ∙ number_self (number_of known m)
+    nat_eq (place_of_map known m) (place_of_map known n) ≡ same_map m n
+numbers_tell known m n has_m has_n = step (same_map m n) (nat_eq (place_of_map known m) (place_of_map known n)) refl refl where
+  step : (a b : Bool) → same_map m n ≡ a → nat_eq (place_of_map known m) (place_of_map known n) ≡ b → b ≡ a
+  step true b e f = sym f ∙ ap (nat_eq (place_of_map known m)) (sym (position_ext (same_map m) (same_map n) known (λ k. same_as m n k e)))
+      ∙ number_self (place_of_map known m)
   step false false e f = refl
   step false true e f =
       let x = stands (same_map m) known has_m in
       let y = stands (same_map n) known has_n in
-      let both : Some x.item ≡ Some y.item = sym x.at ∙ ap (slice_get known) (same_numbers (number_of known m) (number_of known n) f) ∙ y.at in
+      let both : Some x.item ≡ Some y.item = sym x.at ∙ ap (slice_get known) (same_numbers (place_of_map known m) (place_of_map known n) f) ∙ y.at in
       let one : x.item ≡ y.item = cc in
       sym (same_as m x.item n x.passes ∙ same_turned x.item n ∙ ap (same_map n) one ∙ y.passes) ∙ e
 
@@ -81,10 +81,10 @@ AllKnown : List Plain → List Plain → Type 0
 AllKnown known ms = (m : Plain) → In ms m → list_any (same_map m) known ≡ true
 
 any_uses : (known us : List Plain) (m : Plain) → list_any (same_map m) known ≡ true → ((u : Plain) → In us u → list_any (same_map u) known ≡ true)
-    → list_any (has_number (number_of known m)) (map (use_of known) us) ≡ list_any (same_map m) us
+    → list_any (has_number (place_of_map known m)) (map (use_of known) us) ≡ list_any (same_map m) us
 any_uses known [] m has all = refl
 any_uses known (u ∷ us) m has all =
-    ap (λ b. b || list_any (has_number (number_of known m)) (map (use_of known) us)) (numbers_tell known u m (all u (inl refl)) has ∙ same_turned u m)
+    ap (λ b. b || list_any (has_number (place_of_map known m)) (map (use_of known) us)) (numbers_tell known u m (all u (inl refl)) has ∙ same_turned u m)
     ∙ ap (λ b. same_map m u || b) (any_uses known us m has (λ v at. all v (inr at)))
 
 or_turned : (a b : Bool) → (a || b) ≡ (b || a)
@@ -141,10 +141,10 @@ firsts_in seen (x ∷ ms) m at = step (firsts_in seen ms m) (firsts_in (x ∷ se
 -- ---- names
 
 place_used : (known us : List Plain) (m : Plain) (n : ℕ) → list_any (same_map m) known ≡ true → ((u : Plain) → In us u → list_any (same_map u) known ≡ true)
-    → place_from (has_number (number_of known m)) n (map (use_of known) us) ≡ place_from (same_map m) n us
+    → place_from (has_number (place_of_map known m)) n (map (use_of known) us) ≡ place_from (same_map m) n us
 place_used known [] m n has all = refl
 place_used known (u ∷ us) m n has all =
-    ap (λ b. cond b (Some n) (place_from (has_number (number_of known m)) (n + 1) (map (use_of known) us)))
+    ap (λ b. cond b (Some n) (place_from (has_number (place_of_map known m)) (n + 1) (map (use_of known) us)))
     (numbers_tell known u m (all u (inl refl)) has ∙ same_turned u m)
     ∙ ap (cond (same_map m u) (Some n)) (place_used known us m (n + 1) has (λ v at. all v (inr at)))
 
@@ -163,7 +163,7 @@ place_is p xs = step (place_from p 1 xs) refl where
   step (Some k) e = let at = (placed p 1 xs k e).at in omega (arith, at)
 
 use_name_is : (known us : List Plain) (m : Plain) → list_any (same_map m) known ≡ true → ((u : Plain) → In us u → list_any (same_map u) known ≡ true)
-    → use_name (map (use_of known) us) (number_of known m) ≡ named (map_name (number_of_map us m))
+    → use_name (map (use_of known) us) (place_of_map known m) ≡ named (map_name (number_of_map us m))
 use_name_is known us m has all = ap (λ k. named (map_name k)) (
     ap (λ o. unwrap_or o (length (map (use_of known) us) + 1)) (place_used known us m 1 has all)
     ∙ ap (λ n. unwrap_or (place_from (same_map m) 1 us) (n + 1)) (length-map us (use_of known))
@@ -173,7 +173,7 @@ pub name_is_used : (known us : List Plain) (m : Plain) → IsKnown known m → (
     option_map (use_name (map (use_of known) us)) (map_number known m) ≡ name_of_map us (Some m)
 name_is_used known us m is all = step (is_whole m.entries) refl where
   step : (b : Bool) → is_whole m.entries ≡ b →
-      option_map (use_name (map (use_of known) us)) (cond b None (Some (number_of known m))) ≡ cond b None (Some (named (map_name (number_of_map us m))))
+      option_map (use_name (map (use_of known) us)) (cond b None (Some (place_of_map known m))) ≡ cond b None (Some (named (map_name (number_of_map us m))))
   step true e = refl
   step false e = ap (λ n. Some n) (use_name_is known us m (is.known e) all)
 
@@ -187,7 +187,7 @@ out_name_is_used known us (Some m) is all = name_is_used known us m (is m refl) 
 
 listed_same : (known : List Plain) (m : Plain) → listed_use (map_number known m) (Some m) ≡ map (use_of known) (if_written (Some m))
 listed_same known m = step (is_whole m.entries) where
-  step : (b : Bool) → listed_use (cond b None (Some (number_of known m))) (Some m) ≡ map (use_of known) (cond b [] (m ∷ []))
+  step : (b : Bool) → listed_use (cond b None (Some (place_of_map known m))) (Some m) ≡ map (use_of known) (cond b [] (m ∷ []))
   step true = refl
   step false = refl
 

@@ -13,7 +13,7 @@ use Rattle.cfg_ast.proofs.ClassFacts.{Tells, items_tell}
 use Rattle.route_maps.specs.Same.{same_line, same_list, same_match, same_change, same_entry, same_map}
 use Rattle.route_maps.specs.declared.plain.Plain.{Plain}
 use Rattle.route_maps.specs.declared.plain.PlainEntry.{PlainEntry}
-use Rattle.config_emit.specs.MapKeys.{same_keys, LineSaid, EntrySaid, line_said, list_said, lists_said, entry_said, said, line_shown, list_shown, lists_shown, change_shown, entry_shown, shown, is_line, is_list, is_entry, is_map}
+use Rattle.config_emit.specs.MapKeys.{same_keys, LineSaid, EntrySaid, line_said, list_said, lists_said, entry_said, said_of_map, line_shown, list_shown, lists_shown, change_shown, entry_shown, shown, is_line, is_list, is_entry, is_map}
 use Rattle.config_emit.specs.declared.map_keys.ChangeKey.{ChangeKey}
 use Rattle.config_emit.specs.declared.map_keys.ChangeKey.TheVariants as key
 use Rattle.config_emit.specs.declared.map_keys.EntryKey.{EntryKey}
@@ -107,11 +107,11 @@ said_entries a b =
     && (beq (is_some a.lists && a.exact) (is_some b.lists && b.exact)
     && (option_eq (same_items is_list) (option_map lists_said a.lists) (option_map lists_said b.lists) && rest d)))) delete
 
-pub said_maps : (a b : Plain) → same_map a b ≡ is_map (said a) (said b)
+pub said_maps : (a b : Plain) → same_map a b ≡ is_map (said_of_map a) (said_of_map b)
 unfolding same_map
 said_maps a b = items_same same_entry is_entry entry_said said_entries a.entries b.entries
 
--- ---- the tests tell what is said apart
+-- ---- the tests tell what is said_of_map apart
 
 beq_one : (a b : Bool) → beq a b ≡ true → a ≡ b
 beq_one true true e = refl

@@ -10,7 +10,7 @@ use Rattle.route_maps.specs.declared.plain.Plain.{Plain}
 use Rattle.srp_core.specs.declared.route.Act.{Act}
 use Rattle.srp_core.specs.declared.route.Act.TheVariants.{Import, Cost}
 use Rattle.config_emit.specs.Maps.{closed_map, act_in_map, act_out_map, sends_by, is_whole}
-use Rattle.config_emit.specs.MapNumbers.{with_map, number_of, map_number, IsKnown, IsGrown, act_maps, KnowsAct, HasMaps, KnowsClosed, AreKnown}
+use Rattle.config_emit.specs.MapNumbers.{with_map, place_of_map, map_number, IsKnown, IsGrown, act_maps, KnowsAct, HasMaps, KnowsClosed, AreKnown}
 use Rattle.config_emit.specs.declared.act_maps.ActMaps.{ActMaps}
 use Rattle.config_emit.proofs.ListSteps.{no_more}
 use Rattle.config_emit.proofs.MapPlaces.{position_cons, same_self}
@@ -59,12 +59,12 @@ position_kept test (x ∷ xs) ys e = position_cons test x xs ∙ step (position_
   step later true any = refl
   step later false any = ap suc (later any)
 
-number_kept : (m : Plain) (old new : List Plain) → list_any (same_map m) old ≡ true → IsGrown old new → number_of old m ≡ number_of new m
+number_kept : (m : Plain) (old new : List Plain) → list_any (same_map m) old ≡ true → IsGrown old new → place_of_map old m ≡ place_of_map new m
 number_kept m old new any grown = position_kept (same_map m) old grown.more any ∙ ap (position_or_len (same_map m)) (sym grown.is)
 
 map_kept : (m : Plain) (old new : List Plain) → IsKnown old m → IsGrown old new → map_number old m ≡ map_number new m
 map_kept m old new is grown = step (is_whole m.entries) refl where
-  step : (b : Bool) → is_whole m.entries ≡ b → cond b None (Some (number_of old m)) ≡ cond b None (Some (number_of new m))
+  step : (b : Bool) → is_whole m.entries ≡ b → cond b None (Some (place_of_map old m)) ≡ cond b None (Some (place_of_map new m))
   step true e = refl
   step false e = ap (λ n. Some n) (number_kept m old new (is.known e) grown)
 

@@ -7,8 +7,8 @@ use Rattle.std.specs.Option.{option_or}
 use Rattle.cfg_ast.proofs.ClassFacts.{Tells}
 use Rattle.route_maps.specs.Same.{same_map}
 use Rattle.route_maps.specs.declared.plain.Plain.{Plain}
-use Rattle.config_emit.specs.MapKeys.{shown, said, is_map, same_keys}
-use Rattle.config_emit.specs.MapNumbers.{NumbersByKey, place_from, says, AreNumbers, with_map, number_of}
+use Rattle.config_emit.specs.MapKeys.{shown, said_of_map, is_map, same_keys}
+use Rattle.config_emit.specs.MapNumbers.{NumbersByKey, place_from, says, AreNumbers, with_map, place_of_map}
 use Rattle.config_emit.specs.declared.map_keys.EntryKey.{EntryKey}
 use Rattle.config_emit.proofs.KeyEq.{keys_same, said_maps, maps_tell}
 
@@ -74,7 +74,7 @@ position_last {X} test (y ∷ ys) x none here = position_cons test y (ys ++ x �
   step later true at = absurd cc
   step later false at = ap suc (later at here)
 
--- ---- what is said
+-- ---- what is said_of_map
 
 pub tells_turned : {X : Type 0} (p : X → X → Bool) → Tells p → (x y : X) → p x y ≡ p y x
 tells_turned {X} p t x y = step (p x y) (p y x) refl refl where
@@ -84,29 +84,29 @@ tells_turned {X} p t x y = step (p x y) (p y x) refl refl where
   step true false e f = sym (sym f ∙ ap (p y) (t.one x y e) ∙ t.self y)
   step false true e f = sym e ∙ ap (p x) (t.one y x f) ∙ t.self x
 
-pub one_said : (m n : Plain) → same_map m n ≡ true → said m ≡ said n
-one_said m n e = maps_tell.one (said m) (said n) (sym (said_maps m n) ∙ e)
+pub one_said : (m n : Plain) → same_map m n ≡ true → said_of_map m ≡ said_of_map n
+one_said m n e = maps_tell.one (said_of_map m) (said_of_map n) (sym (said_maps m n) ∙ e)
 
 pub same_self : (m : Plain) → same_map m m ≡ true
-same_self m = said_maps m m ∙ maps_tell.self (said m)
+same_self m = said_maps m m ∙ maps_tell.self (said_of_map m)
 
 pub same_turned : (m n : Plain) → same_map m n ≡ same_map n m
-same_turned m n = said_maps m n ∙ tells_turned is_map maps_tell (said m) (said n) ∙ sym (said_maps n m)
+same_turned m n = said_maps m n ∙ tells_turned is_map maps_tell (said_of_map m) (said_of_map n) ∙ sym (said_maps n m)
 
 -- maps that are the same are the same as the same maps
 pub same_as : (m n k : Plain) → same_map m n ≡ true → same_map m k ≡ same_map n k
-same_as m n k e = said_maps m k ∙ ap (λ s. is_map s (said k)) (one_said m n e) ∙ sym (said_maps n k)
+same_as m n k e = said_maps m k ∙ ap (λ s. is_map s (said_of_map k)) (one_said m n e) ∙ sym (said_maps n k)
 
-says_same : (key : Vec EntryKey) (m n : Plain) → shown key ≡ said m → says key n ≡ same_map m n
-says_same key m n is = ap (λ s. is_map s (said n)) is ∙ sym (said_maps m n)
+says_same : (key : Vec EntryKey) (m n : Plain) → shown key ≡ said_of_map m → says key n ≡ same_map m n
+says_same key m n is = ap (λ s. is_map s (said_of_map n)) is ∙ sym (said_maps m n)
 
 -- ---- one map more
 
 pub record IsNumbered (maps more : List Plain) (m : Plain) (k : ℕ) : Type 0 where
   pub grown : more ≡ with_map m maps
-  pub number : k ≡ number_of more m
+  pub number : k ≡ place_of_map more m
 
-pub known : (maps : List Plain) (m : Plain) (key : Vec EntryKey) (k : ℕ) → shown key ≡ said m → place_from (says key) 0 maps ≡ Some k → IsNumbered maps maps m k
+pub known : (maps : List Plain) (m : Plain) (key : Vec EntryKey) (k : ℕ) → shown key ≡ said_of_map m → place_from (says key) 0 maps ≡ Some k → IsNumbered maps maps m k
 known maps m key k is there =
     let at = placed (same_map m) 0 maps k (sym (place_ext (says key) (same_map m) 0 maps (λ n. says_same key m n is)) ∙ there) in
     record {
@@ -114,7 +114,7 @@ known maps m key k is there =
       number = (let place = at.at in omega (arith, place));
     }
 
-pub unknown : (maps : List Plain) (m : Plain) (key : Vec EntryKey) → shown key ≡ said m → place_from (says key) 0 maps ≡ None →
+pub unknown : (maps : List Plain) (m : Plain) (key : Vec EntryKey) → shown key ≡ said_of_map m → place_from (says key) 0 maps ≡ None →
     IsNumbered maps (maps ++ m ∷ []) m (length maps)
 unknown maps m key is there =
     let none = absent (same_map m) 0 maps (sym (place_ext (says key) (same_map m) 0 maps (λ n. says_same key m n is)) ∙ there) in
@@ -123,7 +123,7 @@ unknown maps m key is there =
       number = sym (position_last (same_map m) maps m none (same_self m));
     }
 
-pub added : (old new : NumbersByKey) (maps : List Plain) (m : Plain) (key : Vec EntryKey) (k : ℕ) → shown key ≡ said m → k ≡ length maps →
+pub added : (old new : NumbersByKey) (maps : List Plain) (m : Plain) (key : Vec EntryKey) (k : ℕ) → shown key ≡ said_of_map m → k ≡ length maps →
     place_from (says key) 0 maps ≡ None
     → ((q : Vec EntryKey) → get same_keys new q ≡ cond (same_keys key q) (Some k) (get same_keys old q)) → AreNumbers old maps → AreNumbers new (maps ++ m ∷ [])
 added old new maps m key k is at none put are = record {
@@ -145,5 +145,5 @@ added old new maps m key k is at none put are = record {
   step q true e =
       ap (λ n. Some n) (let here : k ≡ 0 + length maps = omega (arith, at) in here)
       ∙ ap (λ o. option_or o (Some (0 + length maps)))
-      (sym (place_ext (says q) (says key) 0 maps (λ n. ap (λ s. is_map s (said n)) (sym (maps_tell.one (shown key) (shown q) e))) ∙ none))
+      (sym (place_ext (says q) (says key) 0 maps (λ n. ap (λ s. is_map s (said_of_map n)) (sym (maps_tell.one (shown key) (shown q) e))) ∙ none))
   step q false e = no_more (place_from (says q) 0 maps)

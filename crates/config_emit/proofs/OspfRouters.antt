@@ -23,7 +23,7 @@ use Rattle.srp_core.specs.declared.route.Act.{Act}
 use Rattle.srp_core.specs.Problem.{initial, number}
 use Rattle.srp_core.specs.ProblemOf.{route_from, start_route}
 use Rattle.srp_quotient.specs.Groups.{first_member, touches, edge_into, quotient_problem}
-use Rattle.config_emit.specs.ActLinks.{ends_at, act_to, act_link, act_links, LinksByGroup, links_of}
+use Rattle.config_emit.specs.ActLinks.{ends_at, act_to, act_link, act_links, LinksByGroup, group_links}
 use Rattle.config_emit.specs.Emitted.{area_number, ospf_on, ospf_of, written_bgp, emitted_router}
 use Rattle.config_emit.specs.Interfaces.{class_interfaces_on, class_interfaces, is_at, links_at, side_number, link_address, link_interface, link_interfaces, cost_by}
 use Rattle.config_emit.specs.LinkSteps.{act_by, interface_of_link}
@@ -88,7 +88,7 @@ links_at_act e g =
     filter_mapped (ends_at g) draw all ∙ ap (map draw) (filter_ext (λ x. ends_at g (draw x)) (is_at g) all (λ (t, l). refl))
 
 pub links_are : (e : Plan) (g : ℕ) (index : LinksByGroup) → HasLinks e index →
-    links_of index g ≡ map (act_link e.problem.protocol e.problem.edges e.links) (links_at e g)
+    group_links index g ≡ map (act_link e.problem.protocol e.problem.edges e.links) (links_at e g)
 links_are e g index has = has.links.each g ∙ links_at_act e g
 
 by_place : (e : Plan) (o : Option ℕ) → option_map (act_of_place e) o ≡ option_map (act_by e.problem.acts) (option_map (act_at e.problem.edges) o)
@@ -115,7 +115,7 @@ unfolding linked
 one_linked e g k (t, l) at = ap (linked g k t l) (sym (act_same e g t l at))
 
 pub link_interfaces_are : (e : Plan) (g : ℕ) (index : LinksByGroup) → HasLinks e index →
-    map (interface_of_link e.problem.acts g) (enumerate_from 1 (links_of index g)) ≡ link_interfaces e g
+    map (interface_of_link e.problem.acts g) (enumerate_from 1 (group_links index g)) ≡ link_interfaces e g
 unfolding link_interfaces links_at
 link_interfaces_are e g index has =
     let draw = act_link e.problem.protocol e.problem.edges e.links in

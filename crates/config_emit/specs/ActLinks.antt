@@ -102,17 +102,17 @@ act_to g x = if nat_eq x.low g then x.to_low else x.to_high
 abbrev pub LinksByGroup : Type 0
 LinksByGroup = HashMap ℕ (Vec ActLink Global) (BuildHasherDefault FoldHasher)
 
-abbrev pub links_of : LinksByGroup → ℕ → List ActLink
-links_of index g = option_map_or (λ (v : Vec ActLink Global). v.items) (get nat_eq index g) []
+abbrev pub group_links : LinksByGroup → ℕ → List ActLink
+group_links index g = option_map_or (λ (v : Vec ActLink Global). v.items) (get nat_eq index g) []
 
 -- a link was put last at a group
 pub record PutsAt (old new : LinksByGroup) (group : ℕ) (link : ActLink) : Type 0 where
-  pub each : (g : ℕ) → links_of new g ≡ (if nat_eq group g then links_of old g ++ link ∷ [] else links_of old g)
+  pub each : (g : ℕ) → group_links new g ≡ (if nat_eq group g then group_links old g ++ link ∷ [] else group_links old g)
 
 -- a link was put last at both its ends
 pub record PutsLink (old new : LinksByGroup) (link : ActLink) : Type 0 where
-  pub each : (g : ℕ) → links_of new g ≡ (if ends_at g link then links_of old g ++ link ∷ [] else links_of old g)
+  pub each : (g : ℕ) → group_links new g ≡ (if ends_at g link then group_links old g ++ link ∷ [] else group_links old g)
 
 -- each group has the links that end at it, in order
 pub record AreByGroup (index : LinksByGroup) (links : List ActLink) : Type 0 where
-  pub each : (g : ℕ) → links_of index g ≡ filter (ends_at g) links
+  pub each : (g : ℕ) → group_links index g ≡ filter (ends_at g) links

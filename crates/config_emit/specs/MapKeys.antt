@@ -53,8 +53,8 @@ entry_said x = record {
   adds = x.adds;
 }
 
-abbrev pub said : Plain → List EntrySaid
-said m = map entry_said m.entries
+abbrev pub said_of_map : Plain → List EntrySaid
+said_of_map m = map entry_said m.entries
 
 -- ---- what keys show
 
@@ -88,7 +88,7 @@ entry_shown k = record {
 abbrev pub shown : Vec EntryKey → List EntrySaid
 shown k = map entry_shown k.items
 
--- ---- whether the same is said
+-- ---- whether the same is said_of_map
 
 abbrev pub is_line : LineSaid → LineSaid → Bool
 is_line a b = beq a.0 b.0 && bytes_eq a.1 b.1

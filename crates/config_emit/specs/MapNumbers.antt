@@ -11,7 +11,7 @@ use Rattle.route_maps.specs.Same.{same_map}
 use Rattle.route_maps.specs.declared.plain.Plain.{Plain}
 use Rattle.srp_core.specs.declared.route.Act.{Act}
 use Rattle.config_emit.specs.Maps.{closed_map, act_in_map, act_out_map, sends_by, is_whole}
-use Rattle.config_emit.specs.MapKeys.{shown, said, is_map, same_keys}
+use Rattle.config_emit.specs.MapKeys.{shown, said_of_map, is_map, same_keys}
 use Rattle.config_emit.specs.declared.map_keys.EntryKey.{EntryKey}
 use Rattle.config_emit.specs.declared.act_maps.ActMaps.{ActMaps}
 use Rattle.config_emit.specs.declared.act_maps.Policies.{Policies}
@@ -26,7 +26,7 @@ place_from test n (x ∷ xs) = if test x then Some n else place_from test (n + 1
 
 -- the map says what the key shows
 abbrev pub says : Vec EntryKey → Plain → Bool
-says key m = is_map (shown key) (said m)
+says key m = is_map (shown key) (said_of_map m)
 
 -- each key has the place of the first map that says what it shows
 pub record AreNumbers (numbers : NumbersByKey) (maps : List Plain) : Type 0 where
@@ -36,12 +36,12 @@ pub record AreNumbers (numbers : NumbersByKey) (maps : List Plain) : Type 0 wher
 abbrev pub with_map : Plain → List Plain → List Plain
 with_map m maps = if list_any (same_map m) maps then maps else maps ++ m ∷ []
 
-abbrev pub number_of : List Plain → Plain → ℕ
-number_of maps m = position_or_len (same_map m) maps
+abbrev pub place_of_map : List Plain → Plain → ℕ
+place_of_map maps m = position_or_len (same_map m) maps
 
 -- the number under which a map is known, none where it is written as no line
 abbrev pub map_number : List Plain → Plain → Option ℕ
-map_number maps m = if is_whole m.entries then None else Some (number_of maps m)
+map_number maps m = if is_whole m.entries then None else Some (place_of_map maps m)
 
 -- a map that is written is the same as a known one
 pub record IsKnown (maps : List Plain) (m : Plain) : Type 0 where
@@ -65,7 +65,7 @@ pub record HasMaps (maps : List Plain) (act : Act) (numbers : ActMaps) : Type 0 
 
 pub record KnowsClosed (maps : List Plain) (number : ℕ) : Type 0 where
   pub any : list_any (same_map closed_map) maps ≡ true
-  pub is : number ≡ number_of maps closed_map
+  pub is : number ≡ place_of_map maps closed_map
 
 abbrev pub maps_now : List (Bor Plain) → List Plain
 maps_now maps = map (λ m. m.now) maps

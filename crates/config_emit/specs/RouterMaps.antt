@@ -10,7 +10,7 @@ use Rattle.route_maps.specs.declared.plain.Plain.{Plain}
 use Rattle.srp_core.specs.declared.route.Act.{Act}
 use Rattle.config_emit.specs.ActLinks.{act_to}
 use Rattle.config_emit.specs.LinkSteps.{act_by}
-use Rattle.config_emit.specs.MapNumbers.{place_from, number_of, act_maps}
+use Rattle.config_emit.specs.MapNumbers.{place_from, place_of_map, act_maps}
 use Rattle.config_emit.specs.Maps.{act_in_map, act_out_map, map_name, named}
 use Rattle.config_emit.specs.declared.act_links.ActLink.{ActLink}
 use Rattle.config_emit.specs.declared.router_maps.MapUse.{MapUse}
@@ -64,4 +64,4 @@ use_name uses n = named (map_name (use_place uses n))
 
 -- a map under its number among the known ones
 abbrev pub use_of : List Plain → Plain → ℕ × Plain
-use_of known m = (number_of known m, m)
+use_of known m = (place_of_map known m, m)

@@ -2,7 +2,7 @@
 
 ghost use Rattle.std.specs.Prelude.{◌≡◌, map, IfOk};
 ghost use Rattle.std.specs.Option.{option_map};
-ghost use Rattle.config_emit.specs.MapKeys.{line_shown, list_shown, lists_shown, change_shown, entry_shown, shown, line_said, list_said, lists_said, entry_said, said};
+ghost use Rattle.config_emit.specs.MapKeys.{line_shown, list_shown, lists_shown, change_shown, entry_shown, shown, line_said, list_said, lists_said, entry_said, said_of_map};
 
 use base_kit::{List, NoMemory};
 use cfg_ast::{Change, CommunityLine, CommunityList};
@@ -124,7 +124,7 @@ fn entry_key(alloc: Global, entry: &PlainEntry) -> Result<EntryKey, NoMemory>
 
 /// What a plain map says.
 pub(crate) fn map_key(alloc: Global, map: &Plain) -> Result<Vec<EntryKey>, NoMemory>
-    ensures { IfOk result (λ key. shown key ≡ said map.now) }
+    ensures { IfOk result (λ key. shown key ≡ said_of_map map.now) }
 {
     let mut key = Vec::new(alloc);
     for entry in map.entries.as_slice() {

@@ -1,7 +1,7 @@
 //! Maps that say different things, by numbers.
 
 ghost use Rattle.std.specs.Prelude.{◌≡◌, map, IfOk, OnOk};
-ghost use Rattle.config_emit.specs.MapNumbers.{AreNumbers, with_map, number_of};
+ghost use Rattle.config_emit.specs.MapNumbers.{AreNumbers, with_map, place_of_map};
 
 use crate::map_keys::{EntryKey, map_key};
 use base_kit::NoMemory;
@@ -25,7 +25,7 @@ pub(crate) fn number_map<'a>(
     requires { AreNumbers known.old.numbers (map (λ m. m.now) known.old.maps.items) }
     ensures known { OnOk result (AreNumbers known.new.numbers (map (λ m. m.now) known.new.maps.items)) }
     ensures maps { OnOk result (map (λ m. m.now) known.new.maps.items ≡ with_map plain.now (map (λ m. m.now) known.old.maps.items)) }
-    ensures number { IfOk result (λ n. n ≡ number_of (map (λ m. m.now) known.new.maps.items) plain.now) }
+    ensures number { IfOk result (λ n. n ≡ place_of_map (map (λ m. m.now) known.new.maps.items) plain.now) }
 {
     let key = map_key(alloc, plain)?;
     if let Some(number) = known.numbers.get(&key) {

@@ -15,7 +15,7 @@ use Rattle.cut_certificate.specs.Blocks.{Blocks, is_block, are_parts, blocks_aft
 use Rattle.cut_certificate.specs.Evenness.{are_even}
 use Rattle.cut_certificate.specs.Forms.{CertificateLine, certificate_line_of}
 use Rattle.cut_certificate.specs.Forms.CertificateLine.{Head, Divide, Group, End}
-use Rattle.cut_certificate.specs.Laws.{AreRead, NotAdmissibleIsSo}
+use Rattle.cut_certificate.specs.Laws.{AreLinesRead, NotAdmissibleIsSo}
 use Rattle.cut_certificate.specs.Texts.{Standing, opening, router_named, edge_named, routers_named, with_head, with_blocks, with_edge, with_router, with_split, is_next_group, with_members, with_group, with_all_groups, with_closing, with_saying, with_line, ended, go_on, certificate_from, certificate_of_text}
 use Rattle.cut_certificate.proofs.AcceptedTexts.{IsSound, step_sound}
 use Rattle.cut_certificate.proofs.Evened.{admissible_even}
@@ -115,7 +115,7 @@ record StopsUneven (graph : ActGraph) (routers : List ℕ → Option ℕ) (ls : 
   pub lines : ls ≡ before ++ at ∷ behind
   pub number : at.number ≡ line
   pub reading : Standing
-  pub read : AreRead graph.edges routers before s reading
+  pub read : AreLinesRead graph.edges routers before s reading
   pub sound : IsSound graph reading
   pub uneven : IsUneven graph.edges reading
 

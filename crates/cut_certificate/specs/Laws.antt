@@ -37,9 +37,9 @@ pub record IsNotAdmissible (graph : ActGraph) (c : Certificate) : Type 0 where
   pub not : IsAdmissibleOn graph blocks.numbers → ⊥
 
 -- how far the lines bring a reading, each of which can follow those before it
-abbrev pub AreRead : List Edge → (List ℕ → Option ℕ) → List TextLine → Standing → Standing → Type 0
-AreRead edges routers [] s last = s ≡ last
-AreRead edges routers (l ∷ ls) s last = (next : Standing) × (with_line edges routers s l.words ≡ Ok next) × AreRead edges routers ls next last
+abbrev pub AreLinesRead : List Edge → (List ℕ → Option ℕ) → List TextLine → Standing → Standing → Type 0
+AreLinesRead edges routers [] s last = s ≡ last
+AreLinesRead edges routers (l ∷ ls) s last = (next : Standing) × (with_line edges routers s l.words ≡ Ok next) × AreLinesRead edges routers ls next last
 
 -- the lines before the one of that number spell a certificate, all of whose groups are named and which is not admissible
 pub record IsNotAdmissibleAt (graph : ActGraph) (names : List (List ℕ)) (bs : List ℕ) (line : ℕ) : Type 0 where
@@ -49,7 +49,7 @@ pub record IsNotAdmissibleAt (graph : ActGraph) (names : List (List ℕ)) (bs : 
   pub lines : map (text_line bs) (all_lines_of bs) ≡ before ++ at ∷ behind
   pub number : at.number ≡ line
   pub reading : Standing
-  pub read : AreRead graph.edges (router_named names) before (opening graph) reading
+  pub read : AreLinesRead graph.edges (router_named names) before (opening graph) reading
   pub named : reading.named ≡ length (groups_of reading.blocks.numbers)
   pub not : IsNotAdmissible graph (certificate_of reading)
 

@@ -45,16 +45,16 @@ abbrev pub constant_at : Bool → ℕ
 constant_at v = if v then 1 else 0
 
 -- the three numbers of an operation, as its key
-abbrev pub key_of : ℕ → ℕ → ℕ → OpKey
-key_of a b c = record { a = a; b = b; c = c }
+abbrev pub op_key : ℕ → ℕ → ℕ → OpKey
+op_key a b c = record { a = a; b = b; c = c }
 
 -- the node remembered for the operation
 abbrev pub remembered : Shown → ℕ → ℕ → ℕ → Option ℕ
-remembered shown a b c = found (key_of a b c) shown.memory.entries
+remembered shown a b c = found (op_key a b c) shown.memory.entries
 
 -- the store whose memory has the operation at its front, and is otherwise as it was
 abbrev pub recalling : Shown → ℕ → ℕ → ℕ → Shown
-recalling shown a b c = record shown { memory = memory shown.memory.capacity (recalled (key_of a b c) shown.memory.entries) }
+recalling shown a b c = record shown { memory = memory shown.memory.capacity (recalled (op_key a b c) shown.memory.entries) }
 
 -- the store has kept its nodes, and has maybe more
 pub record Grows (old new : Shown) : Type 0 where

@@ -18,7 +18,7 @@ use Rattle.abstract_net.specs.declared.qlink.QLink.{QLink}
 use Rattle.srp_core.specs.declared.route.Act.{Act}
 use Rattle.srp_core.specs.declared.route.Act.TheVariants.{Import, Cost}
 use Rattle.srp_core.specs.Problem.{act_of}
-use Rattle.srp_core.specs.ProblemOf.{Direction, MeansCost, Means}
+use Rattle.srp_core.specs.ProblemOf.{Direction, MeansCost, MeansLink}
 use Rattle.srp_quotient.specs.Groups.{same_pair, or_else, last_of, last_into, edge_into}
 use Rattle.srp_core.specs.ActMaps.{IsPrintableAct}
 use Rattle.config_emit.specs.Laws.{IsPlan}
@@ -152,7 +152,7 @@ act_cost : (e : Plan) → IsPlan e → (g h cost : ℕ) → IsActBetween e g h (
 act_cost e plan g h cost b =
     let p = problem_of e plan in
     let stood = p.of.edges_stand b.edge b.has in
-    let means : Means e.network p.prefix stood.0 (Cost cost) = subst (Means e.network p.prefix stood.0) b.does stood.1.means in
+    let means : MeansLink e.network p.prefix stood.0 (Cost cost) = subst (MeansLink e.network p.prefix stood.0) b.does stood.1.means in
     step means (slice_get means.importer.interfaces stood.0.importer_item) refl means.same
   where
     step : {d : Direction} (means : MeansCost e.network d cost) (o : Option Interface) → slice_get means.importer.interfaces d.importer_item ≡ o →

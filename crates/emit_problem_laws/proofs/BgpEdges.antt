@@ -25,7 +25,7 @@ use Rattle.srp_core.specs.declared.route.Act.TheVariants.{Import, Cost}
 use Rattle.srp_core.specs.declared.route.Route.{Route}
 use Rattle.srp_core.specs.Acts.{IsActOf, import_by}
 use Rattle.srp_core.specs.Problem.{act_of, number, IsProblem}
-use Rattle.srp_core.specs.ProblemOf.{Direction, IsDirection, IsEdgeDirection, SessionEnds, CarriesRoutes, Means, StandsFor, start_route}
+use Rattle.srp_core.specs.ProblemOf.{Direction, IsDirection, IsEdgeDirection, SessionEnds, CarriesRoutes, MeansLink, StandsFor, start_route}
 use Rattle.srp_quotient.specs.Groups.{edge_into, lower_edge, quotient_problem}
 use Rattle.srp_quotient.proofs.Quotient.{into_real}
 use Rattle.config_emit.specs.Maps.{other_end}
@@ -67,7 +67,7 @@ record ImportsSome (a : Act) : Type 0 where
   imported : Imported
   accepted : import_by a comms ≡ Some imported
 
-imports_some : (n : Network) (p : Prefix) (d : Direction) (a : Act) → IsActOf OverBgp a → Means n p d a → CarriesRoutes n p d → ImportsSome a
+imports_some : (n : Network) (p : Prefix) (d : Direction) (a : Act) → IsActOf OverBgp a → MeansLink n p d a → CarriesRoutes n p d → ImportsSome a
 unfolding import_by
 imports_some n p d (Cost c) fits means carried = absurd fits
 imports_some n p d (Import out sends into) fits means carried = record {
@@ -130,11 +130,11 @@ module _ (e : Plan) (plan : IsPlan e) (law : QuotientCarries) (imports : Session
       let stands = of.edges_stand b.edge b.has in
       let same : act_of e.problem b.edge ≡ act_of_place e k = ap (λ j. slice_index_or e.problem.acts j (Cost 0)) b.does in
       let fits = subst (λ (q : Protocol). IsActOf q (act_of_place e k)) over (act_fits e plan law g h k l at joined into) in
-      imports_some e.network p stands.0 (act_of_place e k) fits (subst (Means e.network p stands.0) same stands.1.means)
+      imports_some e.network p stands.0 (act_of_place e k) fits (subst (MeansLink e.network p stands.0) same stands.1.means)
       (subst (λ (q : Protocol). IsEdgeDirection q e.network p stands.0) over stands.1.is_edge)
 
   means_session : (g h t k : ℕ) (l : QLink) (a : Act) → slice_get e.links t ≡ Some l → IsJoined l g h → edge_into e.problem.protocol e.links g l ≡ Some k →
-      act_of_place e k ≡ a → IsActOf OverBgp a → Means (emitted e) p (direction e t g h) a
+      act_of_place e k ≡ a → IsActOf OverBgp a → MeansLink (emitted e) p (direction e t g h) a
   unfolding import_by
   means_session g h t k l (Cost c) at joined into act fits = absurd fits
   means_session g h t k l (Import out sends into_map) at joined into act fits = record {

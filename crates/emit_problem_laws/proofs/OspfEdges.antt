@@ -18,7 +18,7 @@ use Rattle.abstract_net.specs.declared.qlink.QLink.{QLink}
 use Rattle.srp_core.specs.declared.route.Act.{Act}
 use Rattle.srp_core.specs.declared.route.Act.TheVariants.{Import, Cost}
 use Rattle.srp_core.specs.Acts.{IsActOf}
-use Rattle.srp_core.specs.ProblemOf.{Direction, IsDirection, IsEdgeDirection, Means, StandsFor}
+use Rattle.srp_core.specs.ProblemOf.{Direction, IsDirection, IsEdgeDirection, MeansLink, StandsFor}
 use Rattle.srp_quotient.specs.Groups.{same_pair, or_else, last_of, last_into, edge_into, lower_edge, quotient_problem}
 use Rattle.srp_quotient.proofs.Quotient.{into_real}
 use Rattle.config_emit.specs.Plan.{Plan, small, act_of_place}
@@ -127,7 +127,7 @@ module _ (e : Plan) (plan : IsPlan e) (law : QuotientCarries) (over : e.problem.
       ∙ ap (λ (o : Option ℕ). if is_some o then o else default_cost_of (type_of x)) given
 
   means_cost : (p : Prefix) (g h t k : ℕ) (l : QLink) (a : Act) → slice_get e.links t ≡ Some l → IsJoined l g h →
-      edge_into e.problem.protocol e.links g l ≡ Some k → act_of_place e k ≡ a → IsActOf OverOspf a → Means (emitted e) p (direction e t g h) a
+      edge_into e.problem.protocol e.links g l ≡ Some k → act_of_place e k ≡ a → IsActOf OverOspf a → MeansLink (emitted e) p (direction e t g h) a
   means_cost p g h t k l (Import out sends into_map) at joined into act fits = absurd fits
   means_cost p g h t k l (Cost c) at joined into act fits = record {
     importer = emitted_router e g;

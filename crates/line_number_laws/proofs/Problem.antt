@@ -17,7 +17,7 @@ use Rattle.route_maps.specs.Sessions.{session_import}
 use Rattle.srp_core.specs.declared.route.Act.{Act}
 use Rattle.srp_core.specs.declared.route.Act.TheVariants.{Import, Cost}
 use Rattle.srp_core.specs.Problem.{Problem, act_of}
-use Rattle.srp_core.specs.ProblemOf.{as_number_of, start_route, Direction, IsDirection, SessionEnds, IsEdgeDirection, Means, StandsFor}
+use Rattle.srp_core.specs.ProblemOf.{as_number_of, start_route, Direction, IsDirection, SessionEnds, IsEdgeDirection, MeansLink, StandsFor}
 use Rattle.line_number_laws.specs.Laws.{ProblemAside}
 use Rattle.line_number_laws.proofs.Interfaces.{cost_bare, neighbors_bare, as_number_bare, start_route_bare}
 use Rattle.line_number_laws.proofs.Links as links
@@ -115,7 +115,7 @@ edge_aside m n twins OverBgp p d edge =
           edge.comms t.exporters t.outs t.importers t.intos ∙ edge.accepted;
     }
 
-means_aside : (m n : Network) → AreTwins m n → (p : Prefix) (d : Direction) (act : Act) → Means n p d act → Means m p d act
+means_aside : (m n : Network) → AreTwins m n → (p : Prefix) (d : Direction) (act : Act) → MeansLink n p d act → MeansLink m p d act
 means_aside m n twins p d (Import out sends into) means =
     let e = means.ends in
     let t = ends_aside m n twins d e in

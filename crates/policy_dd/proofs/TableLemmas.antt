@@ -9,7 +9,7 @@ use Rattle.base_kit.proofs.SetFacts.{same_number, other_number}
 use Rattle.dd_core.specs.Sets.{Shown, value_of, Grows, Means}
 use Rattle.dd_core.proofs.ShownLemmas.{value_of_kept, grows_inside}
 use Rattle.policy_dd.specs.Edge.{case_or, keys_of}
-use Rattle.policy_dd.specs.Tables.{AllInside, node_at, keys_below, key_at, put_case, IsTableGrown, IsMoreBy, IsTable}
+use Rattle.policy_dd.specs.Tables.{AllInside, node_at, keys_below, key_of_case, put_case, IsTableGrown, IsMoreBy, IsTable}
 
 pub has-append : (xs ys : List ℕ) (k : ℕ) → has (xs ++ ys) k ≡ has xs k || has ys k
 has-append [] ys k = refl
@@ -127,7 +127,7 @@ below_within key (case ∷ cases) = elim (cases_order case.0 key) [
   | inr (inr g) ↦ let count = below_more key case cases (omega arith) in omega arith
 ]
 
-pub put_there : (key node : ℕ) (cases : List (ℕ × ℕ)) → keys_below key cases < length cases → key_at cases (keys_below key cases) ≡ key →
+pub put_there : (key node : ℕ) (cases : List (ℕ × ℕ)) → keys_below key cases < length cases → key_of_case cases (keys_below key cases) ≡ key →
     insert (remove cases (keys_below key cases)) (keys_below key cases) (key, node) ≡ put_case key node cases
 put_there key node [] inside here = absurd (omega arith)
 put_there key node (case ∷ cases) inside here = elim (cases_order case.0 key) [
@@ -135,21 +135,21 @@ put_there key node (case ∷ cases) inside here = elim (cases_order case.0 key) 
   | inr (inl l) ↦
       let count = below_less key case cases l in
       ap (λ (i : ℕ). insert (remove (case ∷ cases) i) i (key, node)) count
-      ∙ ap (λ (t : List (ℕ × ℕ)). case ∷ t) (put_there key node cases (omega arith) (ap (λ (i : ℕ). key_at (case ∷ cases) i) (sym count) ∙ here))
+      ∙ ap (λ (t : List (ℕ × ℕ)). case ∷ t) (put_there key node cases (omega arith) (ap (λ (i : ℕ). key_of_case (case ∷ cases) i) (sym count) ∙ here))
       ∙ sym (put_less key node case cases l)
-  | inr (inr g) ↦ let first : case.0 ≡ key = ap (λ (i : ℕ). key_at (case ∷ cases) i) (sym (below_more key case cases (omega arith))) ∙ here in
+  | inr (inr g) ↦ let first : case.0 ≡ key = ap (λ (i : ℕ). key_of_case (case ∷ cases) i) (sym (below_more key case cases (omega arith))) ∙ here in
       absurd (omega arith)
 ]
 
-pub put_new : (key node : ℕ) (cases : List (ℕ × ℕ)) → (keys_below key cases < length cases → key_at cases (keys_below key cases) ≢ key) →
+pub put_new : (key node : ℕ) (cases : List (ℕ × ℕ)) → (keys_below key cases < length cases → key_of_case cases (keys_below key cases) ≢ key) →
     insert cases (keys_below key cases) (key, node) ≡ put_case key node cases
 put_new key node [] other = refl
 put_new key node (case ∷ cases) other = elim (cases_order case.0 key) [
-  | inl e ↦ let count = below_more key case cases (omega arith) in absurd (other (omega arith) (ap (λ (i : ℕ). key_at (case ∷ cases) i) count ∙ e))
+  | inl e ↦ let count = below_more key case cases (omega arith) in absurd (other (omega arith) (ap (λ (i : ℕ). key_of_case (case ∷ cases) i) count ∙ e))
   | inr (inl l) ↦
       let count = below_less key case cases l in
       ap (λ (i : ℕ). insert (case ∷ cases) i (key, node)) count
-      ∙ ap (λ (t : List (ℕ × ℕ)). case ∷ t) (put_new key node cases (λ inside here. other (omega arith) (ap (λ (i : ℕ). key_at (case ∷ cases) i) count ∙ here)))
+      ∙ ap (λ (t : List (ℕ × ℕ)). case ∷ t) (put_new key node cases (λ inside here. other (omega arith) (ap (λ (i : ℕ). key_of_case (case ∷ cases) i) count ∙ here)))
       ∙ sym (put_less key node case cases l)
   | inr (inr g) ↦ ap (λ (i : ℕ). insert (case ∷ cases) i (key, node)) (below_more key case cases (omega arith)) ∙ sym (put_more key node case cases g)
 ]

@@ -20,8 +20,8 @@ keys_below key [] = 0
 keys_below key (case ∷ cases) = if nat_lt case.0 key then keys_below key cases + 1 else 0
 
 -- the key at a place
-abbrev pub key_at : List (ℕ × ℕ) → ℕ → ℕ
-key_at cases place = (slice_index_or cases place (0, 0)).0
+abbrev pub key_of_case : List (ℕ × ℕ) → ℕ → ℕ
+key_of_case cases place = (slice_index_or cases place (0, 0)).0
 
 -- the node put under the key, in the order of keys
 abbrev pub put_case : ℕ → ℕ → List (ℕ × ℕ) → List (ℕ × ℕ)

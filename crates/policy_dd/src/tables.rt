@@ -4,7 +4,7 @@ ghost use Rattle.std.specs.Prelude.{◌≡◌, ◌≢◌, ◌<◌, ℕ, length, 
 ghost use Rattle.base_kit.specs.Sets.{has};
 ghost use Rattle.dd_core.specs.Sets.{value_of, Grows};
 ghost use Rattle.policy_dd.specs.Edge.{keys_of};
-ghost use Rattle.policy_dd.specs.Tables.{AllInside, node_at, keys_below, key_at, put_case, IsMoreBy, IsTableGrown, IsPushedUnlessPlain};
+ghost use Rattle.policy_dd.specs.Tables.{AllInside, node_at, keys_below, key_of_case, put_case, IsMoreBy, IsTableGrown, IsPushedUnlessPlain};
 
 use base_kit::{List, NoMemory, NumSet};
 use dd_core::{NodeId, Store, is_same};
@@ -46,8 +46,8 @@ fn place_of(cases: &[(u32, NodeId)], key: u32) -> usize
 }
 
 fn has_key_at(cases: &[(u32, NodeId)], place: usize, key: u32) -> bool
-    ensures there { result ≡ true → (place < length cases.now) × (key_at cases.now place ≡ key) }
-    ensures other { result ≡ false → place < length cases.now → key_at cases.now place ≢ key }
+    ensures there { result ≡ true → (place < length cases.now) × (key_of_case cases.now place ≡ key) }
+    ensures other { result ≡ false → place < length cases.now → key_of_case cases.now place ≢ key }
 {
     if place >= cases.len() {
         return false;

@@ -6,7 +6,7 @@ use Rattle.srp_core.specs.Routes.{Key}
 use Rattle.srp_core.specs.Problem.{Problem, count, key_of}
 use Rattle.srp_core.specs.Stability.{label, ForwardsTo, HaveSameKeys}
 use Rattle.srp_core.specs.Quotient.{group_of, IsQuotient, Corresponds}
-use Rattle.quotient_laws.specs.Questions.{Picture, itself, key_at, picture, HaveSamePictures, IsOfPictures, HasOneAnswer, MemberForwards, MemberHolds, PicturesAgree, ShowSame}
+use Rattle.quotient_laws.specs.Questions.{Picture, itself, label_key, picture, HaveSamePictures, IsOfPictures, HasOneAnswer, MemberForwards, MemberHolds, PicturesAgree, ShowSame}
 use Rattle.quotient_laws.proofs.Answered.{Down, Up}
 
 same_keys : (P Q : Problem) (a b : Option Route) → HaveSameKeys P Q a b → option_map (key_of P) a ≡ option_map (key_of Q) b
@@ -16,7 +16,7 @@ same_keys P Q a b (HaveSameKeys.both_some r s is other keys) =
 
 module _ (P Q : Problem) (groups : List ℕ) (q : IsQuotient P groups Q) (labels lower : List (Option Route))
     (c : Corresponds P Q groups labels lower) where
-  keys_at : (u : ℕ) → u < count P → key_at P labels u ≡ key_at Q lower (group_of groups u)
+  keys_at : (u : ℕ) → u < count P → label_key P labels u ≡ label_key Q lower (group_of groups u)
   keys_at u h = same_keys P Q (label labels u) (label lower (group_of groups u)) (c.keys u h)
 
   holds : (g : ℕ) (key : Option Key) → MemberHolds P (group_of groups) labels g key → MemberHolds Q itself lower g key
@@ -30,7 +30,7 @@ module _ (P Q : Problem) (groups : List ℕ) (q : IsQuotient P groups Q) (labels
   held : (g : ℕ) (key : Option Key) → MemberHolds Q itself lower g key → MemberHolds P (group_of groups) labels g key
   held g key h =
       let m = q.onto h.member h.inside in
-      record { member = m.0; inside = m.1; in_group = m.2 ∙ h.in_group; held = keys_at m.0 m.1 ∙ ap (key_at Q lower) m.2 ∙ h.held }
+      record { member = m.0; inside = m.1; in_group = m.2 ∙ h.in_group; held = keys_at m.0 m.1 ∙ ap (label_key Q lower) m.2 ∙ h.held }
 
   forwards : (g h : ℕ) → MemberForwards P (group_of groups) labels g h → MemberForwards Q itself lower g h
   forwards g h m = record {

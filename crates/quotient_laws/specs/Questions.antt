@@ -52,15 +52,15 @@ pub record Picture : Type 1 where
   pub forwards : ℕ → ℕ → Type 0
 
 -- the key of a router's label
-abbrev pub key_at : Problem → List (Option Route) → ℕ → Option Key
-key_at problem labels u = option_map (key_of problem) (label labels u)
+abbrev pub label_key : Problem → List (Option Route) → ℕ → Option Key
+label_key problem labels u = option_map (key_of problem) (label labels u)
 
 -- a member of group g holds that key
 pub record MemberHolds (problem : Problem) (group : ℕ → ℕ) (labels : List (Option Route)) (g : ℕ) (key : Option Key) : Type 0 where
   pub member : ℕ
   pub inside : member < count problem
   pub in_group : group member ≡ g
-  pub held : key_at problem labels member ≡ key
+  pub held : label_key problem labels member ≡ key
 
 -- a member of group g forwards to one of group h
 pub record MemberForwards (problem : Problem) (group : ℕ → ℕ) (labels : List (Option Route)) (g h : ℕ) : Type 0 where

@@ -30,7 +30,7 @@ use Rattle.srp_core.specs.declared.route.Act.TheVariants.{Import, Cost}
 use Rattle.srp_core.specs.declared.route.Route.{Route}
 use Rattle.srp_core.specs.Acts.{import_by}
 use Rattle.srp_core.specs.Problem.{Problem, IsProblem, count, act_of}
-use Rattle.srp_core.specs.ProblemOf.{as_number_of, Direction, Means, IsProblemOf}
+use Rattle.srp_core.specs.ProblemOf.{as_number_of, Direction, MeansLink, IsProblemOf}
 use Rattle.srp_core.specs.Quotient.{group_of, IsUsed, IsQuotient}
 use Rattle.srp_core.specs.Stability.{IsStable}
 use Rattle.solution_length.proofs.Covered.{covered}
@@ -62,7 +62,7 @@ module _ (n : Network) (given : ∥ IsGiven n ∥₁) (faultless : IsFaultless n
       let has = contains_in n.routers router (get_in n.routers place router at) in
       maps_few n router has (given_routers_are_well_formed n given router has)
 
-  means_few : (d : Direction) (act : Act) → Means n p d act → ImportsFew set act
+  means_few : (d : Direction) (act : Act) → MeansLink n p d act → ImportsFew set act
   unfolding import_by
   means_few d (Import out sends into) means comms up within i e =
       let ends = means.ends in

@@ -18,7 +18,7 @@ use Rattle.srp_core.specs.Lifts.{GroupTakes, IsFirstOn}
 use Rattle.srp_core.specs.Filling.{IsFoldedPart, IsNextToFold}
 use Rattle.srp_quotient.specs.Groups.{first_member}
 use Rattle.solution_lift.specs.declared.tasks.Task.{Task}
-use Rattle.solution_lift.specs.Carrying.{Sources, source_of, IsTaken, IsNext, task_of, IsOrder}
+use Rattle.solution_lift.specs.Carrying.{Sources, source_of, IsTaken, GetsRoute, task_of, IsOrder}
 use Rattle.solution_lift.proofs.Ranges.{range_at}
 use Rattle.solution_lift.proofs.TasksDone.{IsSoFar, some_route, cases_route}
 
@@ -175,7 +175,7 @@ pub next_part : (S Q : Problem) (groups : List ℕ) (count : ℕ) (labels E : Li
     → ((s : ℕ) (m : Route) → initial S u ≡ None → IsFirstOn S (path_of r) s → GroupTakes S Q E (group_of groups u) (group_of groups s) m r →
     IsFoldedPart S Q groups labels (slice_set E (group_of groups u) (Some m)))
     → key_of S r ≡ key_of Q r → ((s : ℕ) → IsFirstOn S (path_of r) s → source_of sources r ≡ Some (slice_index groups s)) →
-    IsNext Q labels firsts (range_with_len 0 count) sources E g route
+    GetsRoute Q labels firsts (range_with_len 0 count) sources E g route
     → (m : Route) × (route ≡ Some m) × IsFoldedPart S Q groups labels (slice_set E g (Some m))
 next_part S Q groups count labels E firsts g u r sources route at there origins rules size next started source found taken agree sourced is =
     elim (cases_route (initial S u)) [

@@ -12,7 +12,7 @@ use Rattle.srp_core.specs.Stability.{label}
 use Rattle.srp_core.specs.Lifts.{TakesFrom, IsFirstOn}
 use Rattle.srp_core.specs.Filling.{IsLiftedPart, IsNextToLift}
 use Rattle.solution_lift.specs.declared.tasks.Task.{Task}
-use Rattle.solution_lift.specs.Carrying.{Sources, source_of, IsTaken, IsNext, task_of, IsOrder}
+use Rattle.solution_lift.specs.Carrying.{Sources, source_of, IsTaken, GetsRoute, task_of, IsOrder}
 use Rattle.solution_lift.proofs.TasksDone.{IsSoFar, some_route, cases_route}
 
 module _ (S Q : Problem) (groups : List ℕ) (lower : List (Option Route)) (tasks : List Task) (order : IsOrder lower groups tasks)
@@ -80,7 +80,7 @@ pub next_part : (S Q : Problem) (groups : List ℕ) (lower E : List (Option Rout
     → ((s : ℕ) → initial S u ≡ None → IsFirstOn Q (path_of m) s → (r : Route) × TakesFrom S Q groups E u s r m)
     → ((s : ℕ) (r : Route) → initial S u ≡ None → IsFirstOn Q (path_of m) s → TakesFrom S Q groups E u s r m →
     IsLiftedPart S Q groups lower (slice_set E u (Some r)))
-    → key_of S m ≡ key_of Q m → ((s : ℕ) → IsFirstOn Q (path_of m) s → source_of sources m ≡ Some s) → IsNext S lower groups groups sources E u route
+    → key_of S m ≡ key_of Q m → ((s : ℕ) → IsFirstOn Q (path_of m) s → source_of sources m ≡ Some s) → GetsRoute S lower groups groups sources E u route
     → (r : Route) × (route ≡ Some r) × IsLiftedPart S Q groups lower (slice_set E u (Some r))
 next_part S Q groups lower E u m sources route next started source found taken agree sourced is = elim (cases_route (initial S u)) [
   | inr start ↦ (start.0, is.started start.0 start.1, started start.0 start.1)

@@ -11,7 +11,7 @@ use Rattle.srp_core.specs.Problem.{Problem}
 use Rattle.srp_core.specs.Stability.{label}
 use Rattle.srp_core.specs.Lifts.{IsFirstOn}
 use Rattle.solution_lift.specs.declared.tasks.Task.{Task}
-use Rattle.solution_lift.specs.Carrying.{Sources, source_of, task_of, IsNext, IsOrder}
+use Rattle.solution_lift.specs.Carrying.{Sources, source_of, task_of, GetsRoute, IsOrder}
 
 -- the routers of the first tasks have labels, and those of the others have none
 pub record IsSoFar (tasks : List Task) (labels : List (Option Route)) (i : ℕ) : Type 0 where
@@ -62,11 +62,11 @@ order_of asked lower at items groups made tasks order a b c d =
     (subst (λ (gs : List ℕ). IsOrder asked gs tasks) (b ∙ c) (subst (IsOrder asked at) (sym d) order))
 
 pub next_of : (P : Problem) (asked lower : List (Option Route)) (at at_items groups sides side_items others : List ℕ) (sources : Sources)
-    (E : List (Option Route)) (u : ℕ) (o : Option Route) → IsNext P asked at sides sources E u o → asked ≡ lower → at ≡ at_items → at_items ≡ groups →
-    sides ≡ side_items → side_items ≡ others → IsNext P lower groups others sources E u o
+    (E : List (Option Route)) (u : ℕ) (o : Option Route) → GetsRoute P asked at sides sources E u o → asked ≡ lower → at ≡ at_items → at_items ≡ groups →
+    sides ≡ side_items → side_items ≡ others → GetsRoute P lower groups others sources E u o
 next_of P asked lower at at_items groups sides side_items others sources E u o next a b c d e =
-    subst (λ (ls : List (Option Route)). IsNext P ls groups others sources E u o) a
-    (subst (λ (gs : List ℕ). IsNext P asked gs others sources E u o) (b ∙ c) (subst (λ (ss : List ℕ). IsNext P asked at ss sources E u o) (d ∙ e) next))
+    subst (λ (ls : List (Option Route)). GetsRoute P ls groups others sources E u o) a
+    (subst (λ (gs : List ℕ). GetsRoute P asked gs others sources E u o) (b ∙ c) (subst (λ (ss : List ℕ). GetsRoute P asked at ss sources E u o) (d ∙ e) next))
 
 -- the source of a route is the side of the router that is first on its path
 pub first_sourced : (P : Problem) (sides : List ℕ) (sources : Sources) →

@@ -43,7 +43,7 @@ abbrev pub source_of : Sources → Route → Option ℕ
 source_of sources route = option_and_then (map.get nat_eq sources) (slice_get (path_of route) 0)
 
 -- what the router gets: its initial route, or what it takes from the source of the label asked for
-pub record IsNext (problem : Problem) (asked : List (Option Route)) (at sides : List ℕ) (sources : Sources) (labels : List (Option Route)) (router : ℕ)
+pub record GetsRoute (problem : Problem) (asked : List (Option Route)) (at sides : List ℕ) (sources : Sources) (labels : List (Option Route)) (router : ℕ)
     (next : Option Route) : Type 0 where
   pub started : (i : Route) → initial problem router ≡ Some i → next ≡ Some i
   pub taken : (wanted : Route) (source : ℕ) → initial problem router ≡ None → label asked (slice_index at router) ≡ Some wanted →

@@ -6,7 +6,7 @@ ghost use Rattle.route_keys.specs.Lone.{HasLoneNumbers};
 ghost use Rattle.srp_core.specs.Problem.{count, key_of};
 ghost use Rattle.srp_core.specs.Routes.{path_of, chosen, IsRouteOf};
 ghost use Rattle.srp_core.specs.Stability.{label, AreLabels};
-ghost use Rattle.solution_lift.specs.Carrying.{IsTaken, IsNext, source_of};
+ghost use Rattle.solution_lift.specs.Carrying.{IsTaken, GetsRoute, source_of};
 ghost use Rattle.solution_lift.specs.Sides.{is_from, are_alike};
 
 use base_kit::{Edge, NoMemory, NumSet};
@@ -137,7 +137,7 @@ pub fn next(
     requires labels { AreLabels target.now labels.now }
     requires lone { HasLoneNumbers target.now lone.now }
     requires asked { (u : ℕ) (r : Route) → label asked.now u ≡ Some r → IsRouteOf target.now.protocol r }
-    ensures { IfOk result (IsNext target.now asked.now at.now sides.now sources.now labels.now router) }
+    ensures { IfOk result (GetsRoute target.now asked.now at.now sides.now sources.now labels.now router) }
 {
     let _routers = target.count();
     if let Some(route) = &target.init()[router as usize] {

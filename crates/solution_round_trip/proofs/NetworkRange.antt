@@ -21,7 +21,7 @@ use Rattle.srp_core.specs.declared.route.Act.TheVariants.{Import, Cost}
 use Rattle.srp_core.specs.declared.route.Route.{Route}
 use Rattle.srp_core.specs.Acts.{import_by}
 use Rattle.srp_core.specs.Problem.{Problem, act_of}
-use Rattle.srp_core.specs.ProblemOf.{as_number_of, route_from, start_route, Direction, Means, IsProblemOf}
+use Rattle.srp_core.specs.ProblemOf.{as_number_of, route_from, start_route, Direction, MeansLink, IsProblemOf}
 use Rattle.solution_round_trip.specs.Laws.{IsInRange}
 use Rattle.solution_round_trip.proofs.SessionRange.{AreComms, IsReceived, preference_number, session_range}
 use Rattle.solution_round_trip.proofs.StableRange.{ImportsInRange, HasRange}
@@ -101,7 +101,7 @@ module _ (n : Network) (p : Prefix) (are : (router : Router) → Contains n.rout
   at_place : (place : ℕ) (router : Router) → slice_get n.routers place ≡ Some router → IsWellFormedRouter router
   at_place place router at = are router (contains_in n.routers router (get_in n.routers place router at))
 
-  means_range : (d : Direction) (act : Act) → Means n p d act → ImportsInRange act
+  means_range : (d : Direction) (act : Act) → MeansLink n p d act → ImportsInRange act
   unfolding import_by
   means_range d (Import out sends into) means comms ascending each i e =
       let ends = means.ends in

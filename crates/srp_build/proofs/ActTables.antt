@@ -8,7 +8,7 @@ use Rattle.dd_core.specs.Sets.{Shown, IsShown}
 use Rattle.policy_dd.specs.declared.edge.EdgeFn.{EdgeFn}
 use Rattle.policy_dd.specs.Compare.{OneForm}
 use Rattle.srp_build.specs.declared.acts.BgpAct.{BgpAct}
-use Rattle.srp_build.specs.BgpActs.{low_half, nodes_of, AreApart, AreUnlike, AreListed}
+use Rattle.srp_build.specs.BgpActs.{low_half, nodes_of, AreTwoImports, AreUnlike, AreListed}
 use Rattle.srp_build.proofs.FirstUse.{front_or_last}
 
 pub none_listed : (index : Index ℕ) → AreListed index []
@@ -46,7 +46,7 @@ listed_next old new acts act number listed next pushes = record {
 -- a function unlike those that are found by its nodes is unlike all
 pub unlike_all : OneForm → (shown : Shown) → IsShown shown → (index : Index ℕ) (acts : List BgpAct) (function : EdgeFn) → AreListed index acts →
     AreUnlike shown acts (bucket index (nodes_of function)) function → (other : ℕ) (act : BgpAct) → slice_get acts other ≡ Some act →
-    AreApart shown function act.function
+    AreTwoImports shown function act.function
 unlike_all one_form shown is index acts function listed unlike other act at = record {
   differ = λ F G of_function of_act one.
       let parts = one_form shown function act.function F G is of_function of_act one in

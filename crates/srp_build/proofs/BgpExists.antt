@@ -45,12 +45,12 @@ use Rattle.srp_core.specs.declared.route.Act.{Act}
 use Rattle.srp_core.specs.declared.route.Act.TheVariants.{Cost}
 use Rattle.srp_core.specs.Acts.{import_by, ActsAlike, ChangesToSet, ImportsAlike, IsActOf, KeepsSets, MapsToSets}
 use Rattle.srp_core.specs.Problem.{act_of, count, initial, is_lone, number, Accepts, IsEdgeOf, IsLone, IsProblem, Problem}
-use Rattle.srp_core.specs.ProblemOf.{as_number_of, start_route, CarriesRoutes, Direction, IsDirection, IsProblemOf, Means, SessionEnds, StandsFor}
+use Rattle.srp_core.specs.ProblemOf.{as_number_of, start_route, CarriesRoutes, Direction, IsDirection, IsProblemOf, MeansLink, SessionEnds, StandsFor}
 use Rattle.srp_core.specs.Routes.{comms_of, path_of, IsRouteOf}
 use Rattle.srp_build.specs.declared.hops.Hop.{Hop}
 use Rattle.srp_build.specs.ActOrder.{AreByFirstUse}
 use Rattle.srp_build.specs.Bgp.{IsBgp}
-use Rattle.srp_build.specs.BgpEdges.{originates}
+use Rattle.srp_build.specs.BgpEdges.{has_initial}
 use Rattle.srp_build.specs.Directions.{directions_of}
 use Rattle.srp_build.specs.FirstActs.{HasFirstActs, IsActOfLines}
 use Rattle.srp_build.specs.HopEdges.{edge_with, AreEdgesOf}
@@ -184,11 +184,11 @@ module _ (n : Network) (bgp : IsBgp n) (faultless : IsFaultless n) (few : length
   HasMaps hop = AreSessionMaps (communities_of n) (out_at hop) (into_at hop)
 
   record IsOpen (hop : Hop) : Type 0 where
-    open_to : originates init hop.importer ≡ false
+    open_to : has_initial init hop.importer ≡ false
     some : AcceptsSome (importing hop)
 
   abbrev IsClosed : Hop → Type 0
-  IsClosed hop = (originates init hop.importer ≡ true) ⊎ AcceptsNone (importing hop)
+  IsClosed hop = (has_initial init hop.importer ≡ true) ⊎ AcceptsNone (importing hop)
 
   router_in : (place : ℕ) (router : Router) → slice_get n.routers place ≡ Some router → Contains n.routers router
   router_in place router at = contains_in n.routers router (get_in n.routers place router at)
@@ -224,7 +224,7 @@ module _ (n : Network) (bgp : IsBgp n) (faultless : IsFaultless n) (few : length
   decide a b first second = dec_one (communities_of n) samples (out_at a) (into_at a) (out_at b) (into_at b) (sends_over a) (sends_over b) first second
 
   choose : (a : Hop) → HasMaps a → IsOpen a ⊎ IsClosed a
-  choose a has = elim (bit (originates init a.importer)) [
+  choose a has = elim (bit (has_initial init a.importer)) [
     | inl started ↦ inr (inl started)
     | inr open_to ↦ elim (dec_accepts (communities_of n) samples (out_at a) (into_at a) (sends_over a) has) [
       | inl some ↦ inl (record { open_to = open_to; some = some })
@@ -306,7 +306,7 @@ module _ (n : Network) (bgp : IsBgp n) (faultless : IsFaultless n) (few : length
   record IsActAt (edge : Edge) : Type 0 where
     act : Hop
     at : slice_get acts edge.act ≡ Some act
-    open_to : originates init edge.importer ≡ false
+    open_to : has_initial init edge.importer ≡ false
 
   edge_act : (edge : Edge) → Contains edges edge → IsActAt edge
   edge_act edge inside =
@@ -314,7 +314,7 @@ module _ (n : Network) (bgp : IsBgp n) (faultless : IsFaultless n) (few : length
       record {
         act = f.has.act;
         at = f.has.at;
-        open_to = ap (λ (e : Edge). originates init e.importer) f.same ∙ f.has.carries.open_to;
+        open_to = ap (λ (e : Edge). has_initial init e.importer) f.same ∙ f.has.carries.open_to;
       }
 
   over_edge : (u : ℕ) (edge : Edge) (act : Hop) → edge.importer ≡ u → slice_get acts edge.act ≡ Some act → (lp : ℕ) → Prefers (importing act) lp
@@ -367,7 +367,7 @@ module _ (n : Network) (bgp : IsBgp n) (faultless : IsFaultless n) (few : length
   lone_is u inside =
       read_map (λ v. differ_in (preferences_of v)) (range_with_len 0 (length n.routers)) u u false (range_get 0 (length n.routers) u inside ∙ ap (λ (k : ℕ). Some k) (zero-add u))
 
-  closed_to : (place : ℕ) → originates init place ≡ false → slice_index_or init place None ≡ None
+  closed_to : (place : ℕ) → has_initial init place ≡ false → slice_index_or init place None ≡ None
   closed_to place open_to = none_is (slice_index_or init place None) open_to
 
   only_lone : (u : ℕ) → u < length n.routers → is_lone problem u ≡ true → IsLone problem u
@@ -375,7 +375,7 @@ module _ (n : Network) (bgp : IsBgp n) (faultless : IsFaultless n) (few : length
       let t = two (preferences_of u) (sym (lone_is u inside) ∙ e) in
       let first = accepts u t.first t.first_in in
       record {
-        unoriginated = closed_to u (ap (originates init) (sym first.importer) ∙ (edge_act first.edge first.edge_in).open_to);
+        unoriginated = closed_to u (ap (has_initial init) (sym first.importer) ∙ (edge_act first.edge first.edge_in).open_to);
         first = t.first;
         second = t.second;
         first_accepted = first;
@@ -536,7 +536,7 @@ module _ (n : Network) (bgp : IsBgp n) (faultless : IsFaultless n) (few : length
         }
 
     abbrev MeansAs : Hop → Act → Type 0
-    MeansAs hop act = Means n q (direction_of hop) act
+    MeansAs hop act = MeansLink n q (direction_of hop) act
 
     means_session : (hop : Hop) (edge : Edge) (has : HasEdge hop edge) → SessionEnds n (direction_of hop) → MeansAs hop (written has.act)
     means_session hop edge has ends = record { ends = ends; same = λ comms up. sym (has.like.same comms up) ∙ import_at_ends hop ends comms }
@@ -556,7 +556,7 @@ module _ (n : Network) (bgp : IsBgp n) (faultless : IsFaultless n) (few : length
     never_closed : (d : Direction) → CarriesRoutes n q d → IsClosed (hop_for d) → ⊥
     never_closed d carries (inl started) =
         let none = start_there d.importer carries.ends.importer carries.ends.importer_at ∙ carries.unoriginated in
-        let closed : originates init d.importer ≡ false = ap (λ (o : Option Route). is_some o) none in
+        let closed : has_initial init d.importer ≡ false = ap (λ (o : Option Route). is_some o) none in
         absurd cc
     never_closed d carries (inr nothing) =
         let none = nothing.none carries.comms carries.is_set in

@@ -21,13 +21,13 @@ use Rattle.srp_core.specs.declared.route.Act.{Act}
 use Rattle.srp_core.specs.declared.route.Act.TheVariants.{Cost}
 use Rattle.srp_core.specs.Acts.{import_by}
 use Rattle.srp_core.specs.Problem.{Problem, act_of}
-use Rattle.srp_core.specs.ProblemOf.{as_number_of, start_route, Direction, SessionEnds, IsDirection, CarriesRoutes, Means, StandsFor}
+use Rattle.srp_core.specs.ProblemOf.{as_number_of, start_route, Direction, SessionEnds, IsDirection, CarriesRoutes, MeansLink, StandsFor}
 use Rattle.srp_build.specs.declared.acts.BgpAct.{BgpAct}
 use Rattle.srp_build.specs.declared.bgp_edges.BgpEdges.{BgpEdges}
 use Rattle.srp_build.specs.declared.hops.Hop.{Hop}
 use Rattle.srp_build.specs.declared.imports.ImportByMaps.{ImportByMaps}
 use Rattle.srp_build.specs.Bgp.{IsBgp}
-use Rattle.srp_build.specs.BgpEdges.{originates, import_at, IsLeftOut, started, unjoined, denied, IsEdgeOfSession, AreEdgesOfSessions}
+use Rattle.srp_build.specs.BgpEdges.{has_initial, import_at, IsLeftOut, started, unjoined, denied, IsEdgeOfSession, AreEdgesOfSessions}
 use Rattle.srp_build.specs.HopEdges.{edge_with}
 use Rattle.srp_build.specs.LineMaps.{LineMaps, AreLineMaps}
 use Rattle.srp_build.specs.Lines.{act_of_hop}
@@ -146,7 +146,7 @@ module _ (n : Network) (first p : Prefix) (init : List (Option Route)) (lone : L
   start_there place router at = ap (λ (l : List (Option Route)). slice_index_or l place None) parts.starts
       ∙ read_map (start_route p) n.routers place router None at
 
-  pub closed_to : (place : ℕ) → originates init place ≡ false → slice_index_or init place None ≡ None
+  pub closed_to : (place : ℕ) → has_initial init place ≡ false → slice_index_or init place None ≡ None
   closed_to place open_to = none_is (slice_index_or init place None) open_to
 
   -- ---- edges
@@ -164,7 +164,7 @@ module _ (n : Network) (first p : Prefix) (init : List (Option Route)) (lone : L
       }
 
   abbrev MeansAs : Hop → Act → Type 0
-  MeansAs hop act = Means n p (direction_of hop) act
+  MeansAs hop act = MeansLink n p (direction_of hop) act
 
   means_session : (hop : Hop) (edge : Edge) (has : HasEdge hop edge) → SessionEnds n (direction_of hop) → MeansAs hop (written has.act.act)
   unfolding import_by
@@ -190,7 +190,7 @@ module _ (n : Network) (first p : Prefix) (init : List (Option Route)) (lone : L
   never_left : (d : Direction) → CarriesRoutes n p d → IsLeft (hop_for d) → ⊥
   never_left d carries (started open_to) =
       let none = start_there d.importer carries.ends.importer carries.ends.importer_at ∙ carries.unoriginated in
-      let closed : originates init d.importer ≡ false = ap (λ (o : Option Route). is_some o) none in
+      let closed : has_initial init d.importer ≡ false = ap (λ (o : Option Route). is_some o) none in
       absurd cc
   never_left d carries (unjoined none) = has_import n first maps parts.lines (hop_for d) carries.ends none
   never_left d carries (denied import e nothing) =

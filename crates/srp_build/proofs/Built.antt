@@ -18,7 +18,7 @@ use Rattle.srp_core.specs.declared.route.Act.TheVariants.{Cost}
 use Rattle.srp_core.specs.Routes.{path_of, comms_of, IsRouteOf}
 use Rattle.srp_core.specs.Acts.{import_by, ActsAlike, KeepsSets, IsActOf}
 use Rattle.srp_core.specs.Problem.{Problem, count, initial, is_lone, act_of, IsEdgeOf, IsProblem}
-use Rattle.srp_core.specs.ProblemOf.{as_number_of, start_route, Direction, IsDirection, Means, StandsFor, IsProblemOf}
+use Rattle.srp_core.specs.ProblemOf.{as_number_of, start_route, Direction, IsDirection, MeansLink, StandsFor, IsProblemOf}
 use Rattle.srp_build.specs.declared.hops.Hop.{Hop}
 use Rattle.srp_build.specs.ActOrder.{AreByFirstUse}
 use Rattle.srp_build.specs.Costs.{cost_at, cost_of_hop, IsEdgeOfHop, never_left, NumbersHops}
@@ -169,7 +169,7 @@ module _ (n : Network) (p : Prefix) (init : List (Option Route)) (costs : List �
   }
 
   abbrev MeansAs : Hop → Act → Type 0
-  MeansAs hop a = Means n p (direction_of hop) a
+  MeansAs hop a = MeansLink n p (direction_of hop) a
 
   edge_stands : (hop : Hop) (edge : Edge) → HasCost hop edge → IsHopOf (links_of n) hop → StandsFor made n p edge (direction_of hop)
   edge_stands hop edge has of =

@@ -14,7 +14,7 @@ use Rattle.srp_build.specs.LineMaps.{LineMaps}
 use Rattle.srp_build.specs.declared.imports.ImportByMaps.{ImportByMaps}
 use Rattle.srp_build.specs.ActOrder.{AreByFirstUse}
 use Rattle.srp_build.specs.BgpActs.{IsNewAct}
-use Rattle.srp_build.specs.BgpEdges.{import_at, IsLeftOut, IsEdgeOfSession, Skips, Takes, TakesHop, IsFirstOf, AreEdgesOfSessions}
+use Rattle.srp_build.specs.BgpEdges.{import_at, IsLeftOut, IsEdgeOfSession, Skips, Takes, TakesHop, IsFirstWithAct, AreEdgesOfSessions}
 use Rattle.srp_build.specs.FirstActs.{IsFirstWith}
 use Rattle.srp_build.specs.HopEdges.{edge_with, AreEdgesOf}
 use Rattle.srp_build.specs.MetImports.{IsActOver, AreRight}
@@ -75,10 +75,10 @@ module _ (shown shown' : Shown) (routers : List Router) (init : List (Option Rou
         (left_last (IsEdgeOfSession routers init maps before) (IsLeftOut routers init maps) hop skips.left hops old.edges so_far.each));
     in_order = subst (λ (a : List BgpAct). AreByFirstUse new.edges (length a)) (sym skips.acts)
         (subst (λ (e : List Edge). AreByFirstUse e (length before)) (sym skips.edges) so_far.in_order);
-    first = subst (λ (e : List Edge). (place : ℕ) (edge : Edge) → slice_get e place ≡ Some edge → IsFirstWith e place edge.act → IsFirstOf after edge)
+    first = subst (λ (e : List Edge). (place : ℕ) (edge : Edge) → slice_get e place ≡ Some edge → IsFirstWith e place edge.act → IsFirstWithAct after edge)
         (sym skips.edges)
         (subst (λ (a : List BgpAct). (place : ℕ) (edge : Edge) → slice_get old.edges place ≡ Some edge → IsFirstWith old.edges place edge.act →
-        IsFirstOf a edge) (sym skips.acts) so_far.first);
+        IsFirstWithAct a edge) (sym skips.acts) so_far.first);
   }
 
   -- an edge that is first among more was first, or it is the last one
@@ -89,7 +89,7 @@ module _ (shown shown' : Shown) (routers : List Router) (init : List (Option Rou
 
   -- the last edge is first with its act only if that is new
   last_first : (number : ℕ) (import : ImportByMaps) → CameTo before after hop import number → IsActOver maps.maps after import number →
-      IsFirstWith (old.edges ++ edge_with number hop ∷ []) (length old.edges) number → IsFirstOf after (edge_with number hop)
+      IsFirstWith (old.edges ++ edge_with number hop ∷ []) (length old.edges) number → IsFirstWithAct after (edge_with number hop)
   last_first number import (inl same) over is_first =
       let inside = within_get after number over.act over.at in
       let e = ap (λ (l : List BgpAct). length l) same in
@@ -101,7 +101,7 @@ module _ (shown shown' : Shown) (routers : List Router) (init : List (Option Rou
     same = ap (edge_with number) (sym is.first);
   }
 
-  is_kept : (number : ℕ) (import : ImportByMaps) → CameTo before after hop import number → (edge : Edge) → IsFirstOf before edge → IsFirstOf after edge
+  is_kept : (number : ℕ) (import : ImportByMaps) → CameTo before after hop import number → (edge : Edge) → IsFirstWithAct before edge → IsFirstWithAct after edge
   is_kept number import came edge is = record { act = is.act; at = act_kept before after hop import number came edge.act is.act is.at; same = is.same }
 
   taken : Takes routers init maps old new hop → AreEdgesOfSessions shown' routers init maps (hops ++ hop ∷ []) new
@@ -134,11 +134,11 @@ module _ (shown shown' : Shown) (routers : List Router) (init : List (Option Rou
         in_order = subst (λ (e : List Edge). AreByFirstUse e (length after)) (sym takes.edges)
             (first_use_next (length before) (length after) old.edges last so_far.in_order
             (next_number maps.maps before after hop takes.import takes.number takes.came takes.act));
-        first = subst (λ (e : List Edge). (place : ℕ) (edge : Edge) → slice_get e place ≡ Some edge → IsFirstWith e place edge.act → IsFirstOf after edge)
+        first = subst (λ (e : List Edge). (place : ℕ) (edge : Edge) → slice_get e place ≡ Some edge → IsFirstWith e place edge.act → IsFirstWithAct after edge)
             (sym takes.edges)
             (λ place edge at is_first. elim (front_or_last old.edges last place edge at) [
               | inl there ↦ is_kept takes.number takes.import takes.came edge (so_far.first place edge there (first_kept last edge place there is_first))
-              | inr is_last ↦ subst (IsFirstOf after) is_last.1 (last_first takes.number takes.import takes.came takes.act
+              | inr is_last ↦ subst (IsFirstWithAct after) is_last.1 (last_first takes.number takes.import takes.came takes.act
                   (subst (λ (k : ℕ). IsFirstWith (old.edges ++ last ∷ []) k takes.number) is_last.0
                   (subst (λ (e : Edge). IsFirstWith (old.edges ++ last ∷ []) place e.act) (sym is_last.1) is_first)))
             ]);

@@ -16,7 +16,7 @@ use Rattle.srp_build.specs.declared.imports.ImportByKinds.{ImportByKinds}
 use Rattle.srp_build.specs.declared.imports.ImportByMaps.{ImportByMaps}
 use Rattle.srp_build.specs.BgpEdges.{import_at, AreInside}
 use Rattle.srp_build.specs.Kinds.{map_of_place, IsKindOf, AreKindsOf, HaveKinds, AreKinds, AreImportsOf}
-use Rattle.srp_build.specs.LineMaps.{AreLineMaps, AreMapsOfKinds, number_of, with_maps, line_maps}
+use Rattle.srp_build.specs.LineMaps.{AreLineMaps, AreMapsOfKinds, map_number_at, with_maps, line_maps}
 use Rattle.srp_build.specs.Lines.{map_of_line, sends_at}
 use Rattle.srp_build.specs.Plains.{IsNumberOf, IsGrownBy, IsMapOfPlace, IsNumberOfLine, AreNumbersOf, HaveNumbers, number_at, import_by_kinds}
 use Rattle.srp_build.proofs.FirstUse.{get_front, front_or_last, take_more, length_last, within_get}
@@ -63,7 +63,7 @@ import_parts f sends (Some o) (Some i) import e =
 pub import_numbered : (routers : List Router) (kinds : Kinds) (maps : KindMaps) (hop : Hop) (import : ImportByKinds) →
     import_by_kinds routers kinds.outs kinds.ins hop ≡ Some import → import_at routers (line_maps kinds maps) hop ≡ Some (with_maps maps.numbers.items import)
 import_numbered routers kinds maps hop import e =
-    let f = number_of maps.numbers.items in
+    let f = map_number_at maps.numbers.items in
     let sends = sends_at routers hop.exporter hop.exporter_item in
     (λ j. option_and_then (λ (o : ℕ). option_map (λ (i : ℕ). (let s : ImportByMaps = record { out = o; sends = sends; into = i } in s))
     (table_at f kinds.ins hop.importer hop.importer_item j)) (table_at f kinds.outs hop.exporter hop.exporter_item j))
@@ -135,11 +135,11 @@ maps_next p routers kinds i kind d maps more numbers number inside at so_far is 
 module _ (p : Prefix) (all : List Router) (kinds : List LinePlace) (maps : List Plain) (numbers : List ℕ) (of_kinds : AreMapsOfKinds p all kinds maps numbers)
     (inbound : Bool) where
   line_number : (router : Router) (line : Neighbor) (number : ℕ) → IsKindOf all kinds router inbound line number →
-      IsNumberOf maps (number_of numbers number) (map_of_line p router inbound line)
+      IsNumberOf maps (map_number_at numbers number) (map_of_line p router inbound line)
   line_number router line number of =
       let inside = within_get kinds number of.first of.at in
       let total = of_kinds.total in
-      let there = of_kinds.each number (number_of numbers number) of.first of.at (some_at numbers number 0 (omega arith)) in
+      let there = of_kinds.each number (map_number_at numbers number) of.first of.at (some_at numbers number 0 (omega arith)) in
       record {
         other = there.other;
         at = there.at;
@@ -148,10 +148,10 @@ module _ (p : Prefix) (all : List Router) (kinds : List LinePlace) (maps : List 
       }
 
   router_numbers : (router : Router) (of : List ℕ) → AreKindsOf all router inbound kinds (neighbors_of router) of →
-      AreNumbersOf p router inbound maps (neighbors_of router) (map (number_of numbers) of)
-  router_numbers router of are place number at = by_kind (slice_get of place) refl (sym (get_map (number_of numbers) of place) ∙ at)
+      AreNumbersOf p router inbound maps (neighbors_of router) (map (map_number_at numbers) of)
+  router_numbers router of are place number at = by_kind (slice_get of place) refl (sym (get_map (map_number_at numbers) of place) ∙ at)
     where
-      by_kind : (o : Option ℕ) → slice_get of place ≡ o → option_map (number_of numbers) o ≡ Some number →
+      by_kind : (o : Option ℕ) → slice_get of place ≡ o → option_map (map_number_at numbers) o ≡ Some number →
           IsNumberOfLine p router inbound maps (neighbors_of router) place number
       by_kind None none e = absurd cc
       by_kind (Some kind) some e =
@@ -160,17 +160,17 @@ module _ (p : Prefix) (all : List Router) (kinds : List LinePlace) (maps : List 
             line = there.line;
             at = there.at;
             is =
-                subst (λ (m : ℕ). IsNumberOf maps m (map_of_line p router inbound there.line)) (let same : number_of numbers kind ≡ number = cc in same)
+                subst (λ (m : ℕ). IsNumberOf maps m (map_of_line p router inbound there.line)) (let same : map_number_at numbers kind ≡ number = cc in same)
                 (line_number router there.line kind there.is);
           }
 
   have_numbers : (routers : List Router) (table : List (List ℕ)) → HaveKinds all inbound kinds routers table →
-      HaveNumbers p inbound maps routers (map (map (number_of numbers)) table)
+      HaveNumbers p inbound maps routers (map (map (map_number_at numbers)) table)
   have_numbers [] [] have = tt
   have_numbers [] (of ∷ table) have = absurd have
   have_numbers (router ∷ routers) [] have = absurd have
   have_numbers (router ∷ routers) (of ∷ table) have = (
-    record { total = length-map of (number_of numbers) ∙ have.0.total; each = router_numbers router of have.0.each },
+    record { total = length-map of (map_number_at numbers) ∙ have.0.total; each = router_numbers router of have.0.each },
     have_numbers routers table have.1,
   )
 
@@ -200,7 +200,7 @@ inside_are p routers kinds maps hops imports lines are place import at =
     (import_numbered routers kinds maps hop.item import (are.each place hop.item import hop.at at)) in
     record {
       out = below p false maps.maps.items routers (line_maps kinds maps).outs lines.outs hop.item.exporter hop.item.exporter_item
-          (number_of maps.numbers.items import.out) at_hop.out;
+          (map_number_at maps.numbers.items import.out) at_hop.out;
       into = below p true maps.maps.items routers (line_maps kinds maps).ins lines.ins hop.item.importer hop.item.importer_item
-          (number_of maps.numbers.items import.into) at_hop.into;
+          (map_number_at maps.numbers.items import.into) at_hop.into;
     }

@@ -23,7 +23,7 @@ pub record AreAlike (shown : Shown) (f g : EdgeFn) : Type 0 where
   pub one : (F G : List ℕ → Option Imported) → IsEdgeFn shown f F → IsEdgeFn shown g G → AreOneImport F G
 
 -- the functions do not import alike
-pub record AreApart (shown : Shown) (f g : EdgeFn) : Type 0 where
+pub record AreTwoImports (shown : Shown) (f g : EdgeFn) : Type 0 where
   pub differ : (F G : List ℕ → Option Imported) → IsEdgeFn shown f F → IsEdgeFn shown g G → AreOneImport F G → ⊥
 
 -- the act with the number has a function like this one
@@ -35,7 +35,7 @@ pub record IsLike (shown : Shown) (acts : List BgpAct) (function : EdgeFn) (numb
 -- no act with one of the numbers has a function like this one
 abbrev pub AreUnlike : Shown → List BgpAct → List ℕ → EdgeFn → Type 0
 AreUnlike shown acts numbers function = (number : ℕ) (act : BgpAct) → Contains numbers number → slice_get acts number ≡ Some act →
-    AreApart shown function act.function
+    AreTwoImports shown function act.function
 
 -- each act is found by its nodes
 pub record AreListed (index : Index ℕ) (acts : List BgpAct) : Type 0 where
@@ -53,7 +53,7 @@ pub record IsNewAct (old new : List BgpAct) (hop : Hop) (import : ImportByMaps) 
 pub record IsNewLike (shown : Shown) (old new : List BgpAct) (hop : Hop) (import : ImportByMaps) (function : EdgeFn) (number : ℕ) : Type 0 where
   pub is : IsNewAct old new hop import number
   pub function_is : is.act.function ≡ function
-  pub apart : (other : ℕ) (act : BgpAct) → slice_get old other ≡ Some act → AreApart shown function act.function
+  pub apart : (other : ℕ) (act : BgpAct) → slice_get old other ≡ Some act → AreTwoImports shown function act.function
 
 -- the number is that of an act like this function, which was there or came last
 abbrev pub IsNumberFor : Shown → List BgpAct → List BgpAct → Hop → ImportByMaps → EdgeFn → ℕ → Type 0

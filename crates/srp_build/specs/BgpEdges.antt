@@ -11,7 +11,7 @@ use Rattle.srp_build.specs.declared.acts.BgpAct.{BgpAct}
 use Rattle.srp_build.specs.declared.bgp_edges.BgpEdges.{BgpEdges}
 use Rattle.srp_build.specs.declared.hops.Hop.{Hop}
 use Rattle.srp_build.specs.declared.kind_maps.KindMaps.{KindMaps}
-use Rattle.srp_build.specs.LineMaps.{LineMaps, number_of, with_maps}
+use Rattle.srp_build.specs.LineMaps.{LineMaps, map_number_at, with_maps}
 use Rattle.srp_build.specs.declared.imports.ImportByKinds.{ImportByKinds}
 use Rattle.srp_build.specs.declared.imports.ImportByMaps.{ImportByMaps}
 use Rattle.srp_build.specs.ActOrder.{AreByFirstUse}
@@ -23,13 +23,13 @@ use Rattle.srp_build.specs.Plains.{number_at, import_over}
 use Rattle.srp_build.specs.MetImports.{IsActOver, AreRight}
 
 -- the router has an initial route
-abbrev pub originates : List (Option Route) → ℕ → Bool
-originates init router = is_some (slice_index_or init router None)
+abbrev pub has_initial : List (Option Route) → ℕ → Bool
+has_initial init router = is_some (slice_index_or init router None)
 
 -- the numbers of both maps of an import are places of maps
 pub record IsInside (maps : KindMaps) (import : ImportByKinds) : Type 0 where
-  pub out : number_of maps.numbers.items import.out < length maps.maps.items
-  pub into : number_of maps.numbers.items import.into < length maps.maps.items
+  pub out : map_number_at maps.numbers.items import.out < length maps.maps.items
+  pub into : map_number_at maps.numbers.items import.into < length maps.maps.items
 
 abbrev pub AreInside : KindMaps → List ImportByKinds → Type 0
 AreInside maps imports = (place : ℕ) (import : ImportByKinds) → slice_get imports place ≡ Some import → IsInside maps import
@@ -45,16 +45,16 @@ pub record IsImportOf (routers : List Router) (lines : LineMaps) (maps : KindMap
   pub maps_are : maps.maps.items ≡ lines.maps
   pub is : import_at routers lines hop ≡ Some (with_maps maps.numbers.items import)
 
--- the importer originates, or no lines stand at the ends, or nothing is accepted
+-- the importer has_initial, or no lines stand at the ends, or nothing is accepted
 pub data IsLeftOut (routers : List Router) (init : List (Option Route)) (maps : LineMaps) (hop : Hop) : Type 0 where
-  started : originates init hop.importer ≡ true → IsLeftOut routers init maps hop
+  started : has_initial init hop.importer ≡ true → IsLeftOut routers init maps hop
   unjoined : import_at routers maps hop ≡ None → IsLeftOut routers init maps hop
   denied : (import : ImportByMaps) → import_at routers maps hop ≡ Some import → AcceptsNone (import_over maps.maps import) → IsLeftOut routers init maps hop
 
 -- the edge is that of the direction, and its act imports as the lines there
 pub record IsEdgeOfSession (routers : List Router) (init : List (Option Route)) (maps : LineMaps) (acts : List BgpAct) (hop : Hop) (edge : Edge) : Type 0 where
   pub same : edge ≡ edge_with edge.act hop
-  pub open_to : originates init hop.importer ≡ false
+  pub open_to : has_initial init hop.importer ≡ false
   pub import : ImportByMaps
   pub import_is : import_at routers maps hop ≡ Some import
   pub act : IsActOver maps.maps acts import edge.act
@@ -68,7 +68,7 @@ pub record Skips (routers : List Router) (init : List (Option Route)) (maps : Li
 -- the direction got an edge, and its act came unless it was there
 pub record Takes (routers : List Router) (init : List (Option Route)) (maps : LineMaps) (old new : BgpEdges) (hop : Hop) : Type 0 where
   pub number : ℕ
-  pub open_to : originates init hop.importer ≡ false
+  pub open_to : has_initial init hop.importer ≡ false
   pub import : ImportByMaps
   pub import_is : import_at routers maps hop ≡ Some import
   pub act : IsActOver maps.maps new.acts.acts.items import number
@@ -79,7 +79,7 @@ abbrev pub TakesHop : List Router → List (Option Route) → LineMaps → BgpEd
 TakesHop routers init maps old new hop = Skips routers init maps old new hop ⊎ Takes routers init maps old new hop
 
 -- the act of the edge is first in the direction of the edge
-pub record IsFirstOf (acts : List BgpAct) (edge : Edge) : Type 0 where
+pub record IsFirstWithAct (acts : List BgpAct) (edge : Edge) : Type 0 where
   pub act : BgpAct
   pub at : slice_get acts edge.act ≡ Some act
   pub same : edge ≡ edge_with edge.act act.first
@@ -94,4 +94,4 @@ pub record AreEdgesOfSessions (shown : Shown) (routers : List Router) (init : Li
   pub each : AreEdgesOf (IsEdgeOfSession routers init maps found.acts.acts.items) (IsLeftOut routers init maps) hops found.edges
   pub in_order : AreByFirstUse found.edges (length found.acts.acts.items)
   pub first : (place : ℕ) (edge : Edge) → slice_get found.edges place ≡ Some edge → IsFirstWith found.edges place edge.act →
-      IsFirstOf found.acts.acts.items edge
+      IsFirstWithAct found.acts.acts.items edge

@@ -31,17 +31,17 @@ pub record AreMapsOfKinds (p : Prefix) (routers : List Router) (firsts : List Li
   pub made : (number : ℕ) (map : Plain) → slice_get maps number ≡ Some map → IsMapOfPlace p routers map
 
 -- the number of the map of a kind
-abbrev pub number_of : List ℕ → ℕ → ℕ
-number_of numbers kind = slice_index_or numbers kind 0
+abbrev pub map_number_at : List ℕ → ℕ → ℕ
+map_number_at numbers kind = slice_index_or numbers kind 0
 
 -- an import by the numbers of its maps, from that by the numbers of its kinds
 abbrev pub with_maps : List ℕ → ImportByKinds → ImportByMaps
-with_maps numbers import = record { out = number_of numbers import.out; sends = import.sends; into = number_of numbers import.into }
+with_maps numbers import = record { out = map_number_at numbers import.out; sends = import.sends; into = map_number_at numbers import.into }
 
 -- the maps of all lines, from those of their kinds
 abbrev pub line_maps : Kinds → KindMaps → LineMaps
 line_maps kinds maps = record {
   maps = maps.maps.items;
-  outs = map (map (number_of maps.numbers.items)) kinds.outs;
-  ins = map (map (number_of maps.numbers.items)) kinds.ins;
+  outs = map (map (map_number_at maps.numbers.items)) kinds.outs;
+  ins = map (map (map_number_at maps.numbers.items)) kinds.ins;
 }

@@ -1,7 +1,7 @@
 //! Acts of sessions, found by what they import.
 
 ghost use Rattle.std.specs.Prelude.{◌≡◌, ◌<◌, ◌^◌, [], ◌∷◌, ◌++◌, true, false, None, Some, IfOk, OnOk, IfSome, Contains, length, slice_get};
-ghost use Rattle.srp_build.specs.BgpActs.{nodes_of, AreApart, IsLike, AreUnlike, AreListed, IsActOfFunction, IsNumberFor};
+ghost use Rattle.srp_build.specs.BgpActs.{nodes_of, AreTwoImports, IsLike, AreUnlike, AreListed, IsActOfFunction, IsNumberFor};
 
 use crate::hops::Hop;
 use crate::imports::ImportByMaps;
@@ -34,7 +34,7 @@ pub struct Acts {
 // Whether the act with the number has a function like this one.
 fn is_like(store: &Store, acts: &[BgpAct], function: &EdgeFn, number: u32) -> bool
     ensures like { result ≡ true → IsLike store.now acts.now function.now number }
-    ensures unlike { result ≡ false → (act : BgpAct) → slice_get acts.now number ≡ Some act → AreApart store.now function.now act.function }
+    ensures unlike { result ≡ false → (act : BgpAct) → slice_get acts.now number ≡ Some act → AreTwoImports store.now function.now act.function }
 {
     match acts.get(number as usize) {
         Some(act) => same(store, function, &act.function),

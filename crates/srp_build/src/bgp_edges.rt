@@ -3,7 +3,7 @@
 ghost use Rattle.std.specs.Prelude.{◌≡◌, ◌+◌, ◌<◌, ◌≤◌, ◌^◌, [], IfOk, OnOk, List, length, map};
 ghost use Rattle.cfg_ast.specs.declared.network.Router.{Router};
 ghost use Rattle.dd_core.specs.Sets.{Grows};
-ghost use Rattle.srp_build.specs.BgpEdges.{originates, IsInside, AreInside, IsImportOf, TakesHop, AreEdgesOfSessions};
+ghost use Rattle.srp_build.specs.BgpEdges.{has_initial, IsInside, AreInside, IsImportOf, TakesHop, AreEdgesOfSessions};
 ghost use Rattle.srp_build.specs.Kinds.{AreImportsOf};
 ghost use Rattle.srp_build.specs.LineMaps.{LineMaps, line_maps};
 ghost use Rattle.srp_build.specs.Lines.{act_of_hop};
@@ -34,7 +34,7 @@ pub struct BgpEdges {
 }
 
 fn originates(init: &[Option<Route>], router: u32) -> bool
-    ensures { result ≡ originates init.now router }
+    ensures { result ≡ has_initial init.now router }
 {
     match init.get(router as usize) {
         Some(route) => route.is_some(),

@@ -1,7 +1,7 @@
 //! The maps of all kinds of lines for a prefix.
 
 ghost use Rattle.std.specs.Prelude.{◌≡◌, IfOk};
-ghost use Rattle.srp_build.specs.LineMaps.{AreMapsOfKinds, number_of, with_maps};
+ghost use Rattle.srp_build.specs.LineMaps.{AreMapsOfKinds, map_number_at, with_maps};
 ghost use Rattle.srp_build.specs.ListPlaces.{HavePlaces};
 
 use crate::imports::{ImportByKinds, ImportByMaps};
@@ -44,7 +44,7 @@ pub fn kind_maps(
 }
 
 fn number_of(numbers: &[usize], kind: usize) -> usize
-    ensures { result ≡ number_of numbers.now kind }
+    ensures { result ≡ map_number_at numbers.now kind }
 {
     match numbers.get(kind) {
         Some(number) => *number,

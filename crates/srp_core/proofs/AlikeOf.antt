@@ -15,7 +15,7 @@ use Rattle.srp_core.specs.Acts.{ActsAlike, IsActOf, import_by}
 use Rattle.srp_core.specs.Alike.{EdgesAlike, AllEdgesAlike, ProblemsAlike}
 use Rattle.srp_core.specs.declared.route.Route.{Route}
 use Rattle.srp_core.specs.Problem.{Problem, count, is_lone, act_of, Accepts, IsLone, Precedes, AreOrdered}
-use Rattle.srp_core.specs.ProblemOf.{SessionEnds, Direction, Means, IsEdgeDirection, IsProblemOf}
+use Rattle.srp_core.specs.ProblemOf.{SessionEnds, Direction, MeansLink, IsEdgeDirection, IsProblemOf}
 use Rattle.srp_core.proofs.Alike.{imports_alike}
 use Rattle.srp_core.proofs.GroupMatching.{alike_sym}
 use Rattle.srp_core.proofs.Offers.{edge_act}
@@ -39,7 +39,7 @@ one_protocol OverBgp out into sends cost a b = b
 one_protocol OverOspf out into sends cost a b = a
 
 -- acts that mean the same direction act alike
-pub means_alike : (n : Network) (p : Prefix) (q : Protocol) (d : Direction) (x y : Act) → IsActOf q x → IsActOf q y → Means n p d x → Means n p d y →
+pub means_alike : (n : Network) (p : Prefix) (q : Protocol) (d : Direction) (x y : Act) → IsActOf q x → IsActOf q y → MeansLink n p d x → MeansLink n p d y →
     ActsAlike x y
 unfolding import_by
 means_alike n p q d (Import out sends into) (Import out' sends' into') a b m m' =

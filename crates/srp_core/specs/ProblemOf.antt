@@ -95,9 +95,9 @@ pub record MeansCost (network : Network) (d : Direction) (cost : ℕ) : Type 0 w
   pub same : cost_of importer d.importer_item ≡ Some cost
 
 -- the act does what the direction of the link does
-abbrev pub Means : Network → Prefix → Direction → Act → Type 0
-Means network prefix d (Import out sends into) = MeansSession network prefix d out sends into
-Means network prefix d (Cost cost) = MeansCost network d cost
+abbrev pub MeansLink : Network → Prefix → Direction → Act → Type 0
+MeansLink network prefix d (Import out sends into) = MeansSession network prefix d out sends into
+MeansLink network prefix d (Cost cost) = MeansCost network d cost
 
 -- the edge stands for the direction of a link
 pub record StandsFor (problem : Problem) (network : Network) (prefix : Prefix) (edge : Edge) (d : Direction) : Type 0 where
@@ -106,7 +106,7 @@ pub record StandsFor (problem : Problem) (network : Network) (prefix : Prefix) (
   pub link : edge.link ≡ d.link
   pub importer : edge.importer ≡ d.importer
   pub exporter : edge.exporter ≡ d.exporter
-  pub means : Means network prefix d (act_of problem edge)
+  pub means : MeansLink network prefix d (act_of problem edge)
 
 -- The problem of a network and a prefix. Its edges are exactly the directions of links that carry routes,
 -- each with an act that does the same; which of the acts that act alike it has is free. Its rules say

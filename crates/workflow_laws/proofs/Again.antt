@@ -12,7 +12,7 @@ use Rattle.class_laws.specs.Laws.{BuiltProblemIsOne}
 use Rattle.compress_laws.specs.Laws.{TextHasProblemOfGroups}
 use Rattle.config_emit.specs.Plan.{small}
 use Rattle.group_report.specs.GroupLines.{group_lines}
-use Rattle.quotient_laws.specs.Laws.{IsSingle, QuotientIsSmallest}
+use Rattle.quotient_laws.specs.Laws.{IsDiscrete, QuotientIsSmallest}
 use Rattle.reading_laws.specs.WellRead.{WhatIsReadIsWell}
 use Rattle.srp_core.specs.Problem.{count}
 use Rattle.srp_core.specs.Quotient.{IsQuotient}
@@ -58,7 +58,7 @@ range_numbered n = record {
       (g, lower, range_at n g (omega (arith, lower, inside))));
 }
 
-module _ (n m : ℕ) (hs : List ℕ) (total : length hs ≡ n) (single : IsSingle n hs) (numbered : IsNumbered hs m) where
+module _ (n m : ℕ) (hs : List ℕ) (total : length hs ≡ n) (single : IsDiscrete n hs) (numbered : IsNumbered hs m) where
   long : length (range_with_len 0 n) ≡ n
   long = length-range_with_len 0 n
 
@@ -93,7 +93,7 @@ again is_quotient smallest n m class lower bytes has s prefixes o x =
     let c = same_coarsest R (small e) alike a.groups a.are.coarsest in
     let single = smallest e.problem (small e) e.groups a.groups own.rules low.rules s.is.coarsest q c.admissible in
     let counts : count (small e) ≡ count R = ap (λ (numbers : List ℕ). length numbers) (sym alike.numbers) in
-    let single_here = subst (λ k. IsSingle k a.groups) counts single in
+    let single_here = subst (λ k. IsDiscrete k a.groups) counts single in
     let total = a.are.coarsest.admissible.total in
     let range = is_range (count R) a.lines.count a.groups total single_here a.lines.numbered in
     let number = is_count (count R) a.lines.count a.groups total single_here a.lines.numbered in

@@ -1,7 +1,7 @@
 use Rattle.std.proofs.Common.{◌∙◌, [], ◌∷◌, Bor, ap, map, sym, subst}
 use Rattle.std.proofs.lemmas.List.{map-append, length-map}
 use Rattle.route_maps.specs.declared.plain.Plain.{Plain}
-use Rattle.config_emit.specs.MapNumbers.{AreNumbers, number_of}
+use Rattle.config_emit.specs.MapNumbers.{AreNumbers, place_of_map}
 use Rattle.config_emit.proofs.MapPlaces.{known, unknown, added}
 use Rattle.config_emit.proofs.map_numbers.number_map.Goals as goal
 
@@ -39,4 +39,4 @@ returns-clause-number c =
     let more = ap (map at_now) c.in_ok-push.ensures.items ∙ map-append at_now c.args.known.now.maps.items (c.args.plain ∷ []) in
     c.len-number.ensures ∙ c.args.known.now.maps.ok.0 ∙ sym (length-map c.args.known.now.maps.items at_now)
     ∙ (unknown (map at_now c.args.known.now.maps.items) c.args.plain.now key c.in_ok-key.ensures (sym (c.requires.each key) ∙ sym c.in_default.ensures.value)).number
-    ∙ ap (λ ms. number_of ms c.args.plain.now) (sym more)
+    ∙ ap (λ ms. place_of_map ms c.args.plain.now) (sym more)
