@@ -1,61 +1,61 @@
--- What kinds tell, once more lists are asked.
+-- What cells tell, once more lists are asked.
 use Rattle.std.proofs.Common.{◌≡◌, ℕ, true, ◌&&◌, List, [], ◌∷◌, ◌++◌, map, refl, sym, ◌∙◌, ap, subst, append_assoc}
 use Rattle.std.specs.Prelude.{nat_eq}
 use Rattle.std.specs.List.{AllByRecursion}
 use Rattle.base_kit.specs.Prefixes.{Prefix}
 use Rattle.cfg_ast.specs.declared.classes.Origin.{Origin}
 use Rattle.cfg_ast.specs.declared.policy.PrefixList.{PrefixList}
-use Rattle.dest_classes.specs.declared.kinds.Member.{Member}
-use Rattle.dest_classes.specs.Kinds.{word_of, kind_key, asked, started, entry_of, entries_of, alike_to, IsTold, AreAllTold, AreMembers}
+use Rattle.dest_classes.specs.declared.cells.Member.{Member}
+use Rattle.dest_classes.specs.Cells.{word_of, cell_key, asked, started, entry_of, entries_of, alike_to, IsTold, AreAllTold, AreMembers}
 use Rattle.dest_classes.proofs.Same.{alike-append}
 use Rattle.dest_classes.proofs.Places.{Key, place, is_known, with_key, known_here, place_here, known_then, place_then, one_place}
 use Rattle.dest_classes.proofs.Words.{one_word}
 
-abbrev of_kind : Member → ℕ → Member
-of_kind m kind = record m { kind = kind }
+abbrev of_cell : Member → ℕ → Member
+of_cell m cell = record m { cell = cell }
 
 module _ (lists : List PrefixList) where
   -- the different keys, once those of all members came
   abbrev keys_after : List Key → List Member → List Key
   keys_after keys [] = keys
-  keys_after keys (m ∷ ms) = keys_after (with_key keys (kind_key lists m)) ms
+  keys_after keys (m ∷ ms) = keys_after (with_key keys (cell_key lists m)) ms
 
   known_after : (ms : List Member) (keys : List Key) (key : Key) → is_known keys key ≡ true → is_known (keys_after keys ms) key ≡ true
   known_after [] keys key known = known
-  known_after (m ∷ ms) keys key known = known_after ms (with_key keys (kind_key lists m)) key (known_then keys (kind_key lists m) key known)
+  known_after (m ∷ ms) keys key known = known_after ms (with_key keys (cell_key lists m)) key (known_then keys (cell_key lists m) key known)
 
   place_after : (ms : List Member) (keys : List Key) (key : Key) → is_known keys key ≡ true → place (keys_after keys ms) key ≡ place keys key
   place_after [] keys key known = refl
-  place_after (m ∷ ms) keys key known = place_after ms (with_key keys (kind_key lists m)) key (known_then keys (kind_key lists m) key known)
-      ∙ place_then keys (kind_key lists m) key known
+  place_after (m ∷ ms) keys key known = place_after ms (with_key keys (cell_key lists m)) key (known_then keys (cell_key lists m) key known)
+      ∙ place_then keys (cell_key lists m) key known
 
   -- a member by the place of its key in the end
   abbrev placed : List Key → Member → Member
-  placed keys m = of_kind m (place keys (kind_key lists m))
+  placed keys m = of_cell m (place keys (cell_key lists m))
 
   abbrev IsKnown : List Key → Member → Type 0
-  IsKnown keys m = is_known keys (kind_key lists m) ≡ true
+  IsKnown keys m = is_known keys (cell_key lists m) ≡ true
 
   asked_placed : (ms : List Member) (keys : List Key) → asked lists keys ms ≡ map (placed (keys_after keys ms)) ms
   asked_placed [] keys = refl
   asked_placed (m ∷ ms) keys =
-      let key = kind_key lists m in
-      ap (λ more. of_kind m (place keys key) ∷ more) (asked_placed ms (with_key keys key))
-      ∙ ap (λ kind. of_kind m kind ∷ map (placed (keys_after keys (m ∷ ms))) ms)
+      let key = cell_key lists m in
+      ap (λ more. of_cell m (place keys key) ∷ more) (asked_placed ms (with_key keys key))
+      ∙ ap (λ cell. of_cell m cell ∷ map (placed (keys_after keys (m ∷ ms))) ms)
       (sym (place_after ms (with_key keys key) key (known_here keys key) ∙ place_here keys key))
 
   all_known : (ms : List Member) (keys : List Key) → AllByRecursion (IsKnown (keys_after keys ms)) ms
   all_known [] keys = tt
   all_known (m ∷ ms) keys = (
-    known_after ms (with_key keys (kind_key lists m)) (kind_key lists m) (known_here keys (kind_key lists m)),
-    all_known ms (with_key keys (kind_key lists m)),
+    known_after ms (with_key keys (cell_key lists m)) (cell_key lists m) (known_here keys (cell_key lists m)),
+    all_known ms (with_key keys (cell_key lists m)),
   )
 
   module _ (done : List PrefixList) (keys : List Key) where
     told_placed : (m n : Member) → IsKnown keys m → IsKnown keys n → IsTold done m n → IsTold (done ++ lists) (placed keys m) (placed keys n)
     told_placed m n known later told = record {
       alike =
-          one_place keys (kind_key lists n) (kind_key lists m) later known ∙ ap (λ b. b && nat_eq (word_of lists n.prefix) (word_of lists m.prefix)) told.alike
+          one_place keys (cell_key lists n) (cell_key lists m) later known ∙ ap (λ b. b && nat_eq (word_of lists n.prefix) (word_of lists m.prefix)) told.alike
           ∙ ap (λ b. alike_to done n.prefix m.prefix && b) (one_word lists n.prefix m.prefix) ∙ sym (alike-append n.prefix m.prefix done lists);
     }
 
@@ -70,21 +70,21 @@ module _ (lists : List PrefixList) where
 
   entries_asked : (ms : List Member) (keys : List Key) → entries_of (asked lists keys ms) ≡ entries_of ms
   entries_asked [] keys = refl
-  entries_asked (m ∷ ms) keys = ap (λ es. entry_of m ∷ es) (entries_asked ms (with_key keys (kind_key lists m)))
+  entries_asked (m ∷ ms) keys = ap (λ es. entry_of m ∷ es) (entries_asked ms (with_key keys (cell_key lists m)))
 
 -- what is left to ask, after the next member with its word
-pub asked_step : (lists : List PrefixList) (m : Member) (word : ℕ) (left rest done more : List Member) (keys new : List Key) (kind : ℕ) → left ≡ m ∷ rest →
+pub asked_step : (lists : List PrefixList) (m : Member) (word : ℕ) (left rest done more : List Member) (keys new : List Key) (cell : ℕ) → left ≡ m ∷ rest →
     word ≡ word_of lists m.prefix
-    → kind ≡ place keys (m.kind, word) → new ≡ with_key keys (m.kind, word) → more ≡ done ++ of_kind m kind ∷ [] → more ++ asked lists new rest ≡ done
+    → cell ≡ place keys (m.cell, word) → new ≡ with_key keys (m.cell, word) → more ≡ done ++ of_cell m cell ∷ [] → more ++ asked lists new rest ≡ done
     ++ asked lists keys left
-asked_step lists m word left rest done more keys new kind next told at put pushed =
-    let key = ap (λ (w : ℕ). let k : Key = (m.kind, w) in k) told in
-    ap (λ ms. ms ++ asked lists new rest) pushed ∙ append_assoc done (of_kind m kind ∷ []) (asked lists new rest)
-    ∙ ap (λ k. done ++ of_kind m k ∷ asked lists new rest) (at ∙ ap (place keys) key)
-    ∙ ap (λ ks. done ++ of_kind m (place keys (kind_key lists m)) ∷ asked lists ks rest) (put ∙ ap (with_key keys) key)
+asked_step lists m word left rest done more keys new cell next told at put pushed =
+    let key = ap (λ (w : ℕ). let k : Key = (m.cell, w) in k) told in
+    ap (λ ms. ms ++ asked lists new rest) pushed ∙ append_assoc done (of_cell m cell ∷ []) (asked lists new rest)
+    ∙ ap (λ k. done ++ of_cell m k ∷ asked lists new rest) (at ∙ ap (place keys) key)
+    ∙ ap (λ ks. done ++ of_cell m (place keys (cell_key lists m)) ∷ asked lists ks rest) (put ∙ ap (with_key keys) key)
     ∙ ap (λ ms. done ++ asked lists keys ms) (sym next)
 
--- after more lists the kinds tell what all lists so far answer
+-- after more lists the cells tell what all lists so far answer
 pub asked_told : (done lists : List PrefixList) (entries : List (Prefix × List Origin)) (ms : List Member) → AreMembers entries done ms →
     AreMembers entries (done ++ lists) (asked lists [] ms)
 asked_told done lists entries ms are = record {
@@ -93,7 +93,7 @@ asked_told done lists entries ms are = record {
       (all_placed lists done (keys_after lists [] ms) ms (all_known lists ms []) are.told);
 }
 
--- before any list is asked all are of one kind
+-- before any list is asked all are of one cell
 later_started : (p : Prefix) (origins : List Origin) (es : List (Prefix × List Origin)) → AllByRecursion (IsTold [] (started (p, origins))) (map started es)
 later_started p origins [] = tt
 later_started p origins (e ∷ es) = (record { alike = refl }, later_started p origins es)

@@ -13,7 +13,7 @@ use Rattle.cfg_ast.specs.declared.policy.PrefixList.{PrefixList}
 use Rattle.cfg_ast.specs.meaning.Classes.{is_before, AllAfter, AreAscending, is_same_class, is_least, same_items, same_origin, originated, origins_of, answers_of, class_of, classes_of}
 use Rattle.cfg_ast.proofs.PrefixSets.{not_before_self, not_before_back}
 use Rattle.cfg_ast.proofs.ClassFacts.{one_class, is_one_class, originated_ascends}
-use Rattle.dest_classes.specs.Kinds.{alike_to}
+use Rattle.dest_classes.specs.Cells.{alike_to}
 use Rattle.dest_classes.proofs.Traits.{traits_of, same_traits, Likes, with_like, with_likes, class_of_likes}
 use Rattle.dest_classes.proofs.Bools.{by_both}
 

@@ -1,4 +1,4 @@
--- Groups by kinds are those by what the lists answer.
+-- Groups by cells are those by what the lists answer.
 use Rattle.std.proofs.Common.{◌≡◌, Bool, true, false, cond, ◌&&◌, List, [], ◌∷◌, ◌++◌, map, refl, sym, ◌∙◌, ap, true≢false}
 use Rattle.std.specs.Prelude.{nat_eq}
 use Rattle.std.specs.Bool.{beq}
@@ -8,9 +8,9 @@ use Rattle.cfg_ast.specs.declared.classes.DestClass.{DestClass}
 use Rattle.cfg_ast.specs.declared.classes.Origin.{Origin}
 use Rattle.cfg_ast.specs.declared.policy.PrefixList.{PrefixList}
 use Rattle.cfg_ast.specs.meaning.Classes.{same_items, same_origin}
-use Rattle.dest_classes.specs.declared.kinds.Member.{Member}
+use Rattle.dest_classes.specs.declared.cells.Member.{Member}
 use Rattle.dest_classes.specs.Lists.{answers_to}
-use Rattle.dest_classes.specs.Kinds.{entries_of, IsTold, AreAllTold, AreMembers}
+use Rattle.dest_classes.specs.Cells.{entries_of, IsTold, AreAllTold, AreMembers}
 use Rattle.dest_classes.specs.Groups.{Group, belongs, grouped_with, with_members, class_from}
 use Rattle.dest_classes.proofs.Traits.{Traits, same_traits, Likes, with_like, with_likes, class_of_likes}
 
@@ -18,9 +18,9 @@ module _ (lists : List PrefixList) where
   abbrev traits_at : Member → Traits
   traits_at m = record { origins = m.origins; answers = answers_to lists m.prefix }
 
-  -- a member is of the kind of one group exactly where it is answered as those of the other
+  -- a member is of the cell of one group exactly where it is answered as those of the other
   record IsAlike (group : Group) (likes : Likes) (m : Member) : Type 0 where
-    alike : nat_eq m.kind group.kind ≡ same_items beq (answers_to lists m.prefix) likes.traits.answers
+    alike : nat_eq m.cell group.cell ≡ same_items beq (answers_to lists m.prefix) likes.traits.answers
 
   -- the groups have the same members so far, and will have the same of those that are left
   record IsOne (left : List Member) (group : Group) (likes : Likes) : Type 0 where
@@ -35,7 +35,7 @@ module _ (lists : List PrefixList) where
   AreOne left (group ∷ groups) (like ∷ likes) = IsOne left group like × AreOne left groups likes
 
   new_later : (m : Member) (left : List Member) (prefixes : List Prefix) → AllByRecursion (IsTold lists m) left
-      → AllByRecursion (IsAlike (record { origins = m.origins; kind = m.kind; prefixes = prefixes }) (record { traits = traits_at m; prefixes = prefixes }))
+      → AllByRecursion (IsAlike (record { origins = m.origins; cell = m.cell; prefixes = prefixes }) (record { traits = traits_at m; prefixes = prefixes }))
       left
   new_later m [] prefixes told = tt
   new_later m (n ∷ left) prefixes told = (record { alike = told.0.alike }, new_later m left prefixes told.1)
@@ -47,7 +47,7 @@ module _ (lists : List PrefixList) where
 
   belongs_alike : (m : Member) (left : List Member) (group : Group) (like : Likes) → IsOne (m ∷ left) group like →
       belongs m group ≡ same_traits (traits_at m) like.traits
-  belongs_alike m left group like one = ap (λ origins. same_items same_origin m.origins origins && nat_eq m.kind group.kind) one.origins
+  belongs_alike m left group like one = ap (λ origins. same_items same_origin m.origins origins && nat_eq m.cell group.cell) one.origins
       ∙ ap (λ b. same_items same_origin m.origins like.traits.origins && b) one.later.0.alike
 
   fewer : (m : Member) (left : List Member) (groups : List Group) (likes : List Likes) → AreOne (m ∷ left) groups likes → AreOne left groups likes
@@ -95,8 +95,8 @@ module _ (lists : List PrefixList) where
       ∙ ap (λ os. let c : DestClass = record { prefixes = like.prefixes; origins = os } in c ∷ map class_from groups) are.0.origins
       ∙ ap (λ cs. class_of_likes like ∷ cs) (classes_one groups likes are.1)
 
--- the classes from groups by kinds are those from groups by answers
-pub kinds_do : (lists : List PrefixList) (entries : List (Prefix × List Origin)) (ms : List Member) → AreMembers entries lists ms →
+-- the classes from groups by cells are those from groups by answers
+pub cells_do : (lists : List PrefixList) (entries : List (Prefix × List Origin)) (ms : List Member) → AreMembers entries lists ms →
     map class_from (with_members ms []) ≡ map class_of_likes (with_likes lists entries [])
-kinds_do lists entries ms are = classes_one lists (with_members ms []) (with_likes lists (entries_of ms) []) (all_one lists ms [] [] are.told tt)
+cells_do lists entries ms are = classes_one lists (with_members ms []) (with_likes lists (entries_of ms) []) (all_one lists ms [] [] are.told tt)
     ∙ ap (λ es. map class_of_likes (with_likes lists es [])) are.entries_are

@@ -13,7 +13,7 @@ use Rattle.dest_classes.specs.declared.lists.Rule.{Rule}
 use Rattle.cfg_ast.proofs.ClassFacts.{items_tell}
 use Rattle.dest_classes.proofs.Rules.{rules_tell}
 use Rattle.dest_classes.proofs.Bools.{both_assoc, both_true, both_implied, first_of_both, second_of_both}
-use Rattle.dest_classes.specs.Kinds.{alike_to}
+use Rattle.dest_classes.specs.Cells.{alike_to}
 use Rattle.dest_classes.specs.Lists.{same_rule, rule_of, rules_of, has_rules, with_list, with_lists, lists_asked}
 
 -- what rules answer

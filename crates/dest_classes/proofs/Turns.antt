@@ -5,8 +5,8 @@ use Rattle.std.proofs.lemmas.List.{take-append-drop, take-take, drop-take, take-
 use Rattle.base_kit.specs.Prefixes.{Prefix}
 use Rattle.cfg_ast.specs.declared.classes.Origin.{Origin}
 use Rattle.cfg_ast.specs.declared.policy.PrefixList.{PrefixList}
-use Rattle.dest_classes.specs.declared.kinds.Member.{Member}
-use Rattle.dest_classes.specs.Kinds.{asked, AreMembers}
+use Rattle.dest_classes.specs.declared.cells.Member.{Member}
+use Rattle.dest_classes.specs.Cells.{asked, AreMembers}
 use Rattle.dest_classes.proofs.Asked.{asked_told}
 
 take_further : {X : Type 0} (i j : ℕ) (xs : List X) → i ≤ j → take i xs ++ take (j - i) (drop i xs) ≡ take j xs

@@ -6,7 +6,7 @@ use Rattle.std.proofs.lemmas.Bool.Decides.{nat_tests}
 use Rattle.base_kit.specs.Prefixes.{Prefix}
 use Rattle.cfg_ast.specs.declared.policy.PrefixList.{PrefixList}
 use Rattle.cfg_ast.specs.meaning.PrefixLists.{prefix_list_permits}
-use Rattle.dest_classes.specs.Kinds.{word_from, word_of, alike_to}
+use Rattle.dest_classes.specs.Cells.{word_from, word_of, alike_to}
 use Rattle.dest_classes.proofs.Bools.{both_assoc, both_true}
 
 abbrev bit : Bool → ℕ

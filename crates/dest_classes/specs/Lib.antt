@@ -1,4 +1,4 @@
 pub mod Groups
-pub mod Kinds
+pub mod Cells
 pub mod Lists
 pub mod Routes

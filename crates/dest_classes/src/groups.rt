@@ -1,20 +1,20 @@
-//! Prefixes put together by originators and kind.
+//! Prefixes put together by originators and cell.
 
 ghost use Rattle.std.specs.Prelude.{◌≡◌, [], ◌∷◌, ◌++◌, IfOk, OnOk, map, unwrap_or};
 ghost use Rattle.indexmap.specs.IndexMap.{insert_entry, get};
 ghost use Rattle.dest_classes.specs.Groups.{same_signature, shown_group, with_members, class_from};
 
-use crate::kinds::Member;
+use crate::cells::Member;
 use base_kit::{List, NoMemory, Prefix};
 use cfg_ast::{DestClass, Origin};
 use indexmap::IndexMap;
 use std::alloc::Global;
 
-/// What tells classes apart: the originators of a prefix, with their initial routes, and its kind.
+/// What tells classes apart: the originators of a prefix, with their initial routes, and its cell.
 #[derive(PartialEq, Eq, Hash, Drop)]
 pub struct Signature {
     pub origins: Vec<Origin>,
-    pub kind: usize,
+    pub cell: usize,
 }
 
 /// The prefixes of each signature, by the first prefix that has it.
@@ -45,11 +45,11 @@ pub fn groups_of(alloc: Global, members: Vec<Member>) -> Result<Groups, NoMemory
         let Member {
             prefix,
             origins,
-            kind,
+            cell,
         } = member;
         let signature = Signature {
             origins: origins.into_vec(),
-            kind,
+            cell,
         };
         add(alloc, &mut groups, signature, prefix)?;
     }

@@ -9,7 +9,7 @@
 #![tactic(auto)]
 
 mod groups;
-mod kinds;
+mod cells;
 mod laws;
 mod lists;
 mod network_classes;

@@ -14,7 +14,7 @@ use Rattle.cfg_ast.specs.meaning.Policy.{name_of, prefixes_match, route_map_name
 use Rattle.route_maps.specs.declared.plain.Plain.{Plain}
 use Rattle.route_maps.specs.declared.plain.PlainEntry.{PlainEntry}
 use Rattle.specialize.specs.OnePrefix.{own_preference, plain_entry, plain_of}
-use Rattle.srp_build.specs.Kinds.{IsFixed, names_no_list}
+use Rattle.srp_build.specs.LinePolicies.{IsFixed, names_no_list}
 use Rattle.srp_build.specs.Lines.{map_named, list_named}
 
 abbrev lists_none : MapEntry → Bool

@@ -19,8 +19,8 @@ mod HopEdges
 mod HopNumbers
 mod ImportMaps
 mod ImportSteps
-mod KindMaps
-mod LineKinds
+mod PolicyMaps
+mod LinePolicyLemmas
 mod LinesJoined
 mod LinkEnds
 mod LinkPlaces

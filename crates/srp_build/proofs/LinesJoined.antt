@@ -8,18 +8,18 @@ use Rattle.cfg_ast.specs.declared.network.Router.{Router}
 use Rattle.cfg_ast.specs.meaning.Topology.{links_of, neighbors_of}
 use Rattle.srp_core.specs.ProblemOf.{SessionEnds}
 use Rattle.srp_build.specs.declared.hops.Hop.{Hop}
-use Rattle.srp_build.specs.declared.kinds.Kinds.{Kinds}
+use Rattle.srp_build.specs.declared.policies.LinePolicies.{LinePolicies}
 use Rattle.srp_build.specs.declared.lines.LinePlace.{LinePlace}
-use Rattle.srp_build.specs.declared.imports.ImportByKinds.{ImportByKinds}
+use Rattle.srp_build.specs.declared.imports.ImportByPolicies.{ImportByPolicies}
 use Rattle.srp_build.specs.Bgp.{IsBgp}
 use Rattle.srp_build.specs.Directions.{directions_of}
 use Rattle.srp_build.specs.Hops.{hops_of}
-use Rattle.srp_build.specs.Kinds.{HasLine, JoinsLines, HaveKinds, AreKinds}
+use Rattle.srp_build.specs.LinePolicies.{HasLine, JoinsLines, HavePolicies, AreLinePolicies}
 use Rattle.srp_build.specs.Lines.{sends_at}
-use Rattle.srp_build.specs.Plains.{number_at, import_by_kinds}
+use Rattle.srp_build.specs.Plains.{number_at, import_by_policies}
 use Rattle.srp_build.proofs.BgpLinks.{hop_ends}
 use Rattle.srp_build.proofs.FirstUse.{within_get}
-use Rattle.srp_build.proofs.KindMaps.{has_item}
+use Rattle.srp_build.proofs.PolicyMaps.{has_item}
 use Rattle.srp_build.proofs.LinkPlaces.{direction_of}
 use Rattle.srp_build.proofs.SortedHops.{hop_of, sorted_in}
 
@@ -56,7 +56,7 @@ all_join n bgp k d inside =
 -- ---- their imports
 
 has_number : (all : List Router) (inbound : Bool) (firsts : List LinePlace) (routers : List Router) (table : List (List ℕ)) (place item : ℕ)
-    → HaveKinds all inbound firsts routers table → HasLine routers place item → (number : ℕ) × (number_at table place item ≡ Some number)
+    → HavePolicies all inbound firsts routers table → HasLine routers place item → (number : ℕ) × (number_at table place item ≡ Some number)
 has_number all inbound firsts [] table place item have line = absurd (let e = line.at in cc)
 has_number all inbound firsts (router ∷ routers) [] place item have line = absurd have
 has_number all inbound firsts (router ∷ routers) (numbers ∷ table) zero item have line =
@@ -68,19 +68,19 @@ has_number all inbound firsts (router ∷ routers) (numbers ∷ table) zero item
 has_number all inbound firsts (router ∷ routers) (numbers ∷ table) (suc place) item have line =
     has_number all inbound firsts routers table place item have.1 (record { router = line.router; at = line.at; inside = line.inside })
 
-pub has_import : (routers : List Router) (kinds : Kinds) (hop : Hop) → AreKinds routers kinds → JoinsLines routers hop
-    → (import : ImportByKinds) × (import_by_kinds routers kinds.outs kinds.ins hop ≡ Some import)
-has_import routers kinds hop are joins =
-    let (out, out_at) = has_number routers false kinds.firsts.items routers kinds.outs hop.exporter hop.exporter_item are.outs joins.exporter in
-    let (into, into_at) = has_number routers true kinds.firsts.items routers kinds.ins hop.importer hop.importer_item are.ins joins.importer in
+pub has_import : (routers : List Router) (policies : LinePolicies) (hop : Hop) → AreLinePolicies routers policies → JoinsLines routers hop
+    → (import : ImportByPolicies) × (import_by_policies routers policies.outs policies.ins hop ≡ Some import)
+has_import routers policies hop are joins =
+    let (out, out_at) = has_number routers false policies.firsts.items routers policies.outs hop.exporter hop.exporter_item are.outs joins.exporter in
+    let (into, into_at) = has_number routers true policies.firsts.items routers policies.ins hop.importer hop.importer_item are.ins joins.importer in
     let sends = sends_at routers hop.exporter hop.exporter_item in
-    let made : ℕ → ℕ → ImportByKinds = λ o i. record { out = o; sends = sends; into = i } in
+    let made : ℕ → ℕ → ImportByPolicies = λ o i. record { out = o; sends = sends; into = i } in
     (made out into, (λ j. option_and_then (λ (o : ℕ). option_map (made o) (into_at j)) (out_at j)))
 
-pub import_missing : (routers : List Router) (kinds : Kinds) (outs ins : List (List ℕ)) (hop : Hop) → outs ≡ kinds.outs → ins ≡ kinds.ins
-    → AreKinds routers kinds → JoinsLines routers hop → import_by_kinds routers outs ins hop ≡ None → ⊥
-import_missing routers kinds outs ins hop outs_are ins_are are joins none =
-    let there = has_import routers kinds hop are joins in
-    let same : import_by_kinds routers outs ins hop ≡ import_by_kinds routers kinds.outs kinds.ins hop = λ j. import_by_kinds routers (outs_are j) (ins_are j) hop in
+pub import_missing : (routers : List Router) (policies : LinePolicies) (outs ins : List (List ℕ)) (hop : Hop) → outs ≡ policies.outs → ins ≡ policies.ins
+    → AreLinePolicies routers policies → JoinsLines routers hop → import_by_policies routers outs ins hop ≡ None → ⊥
+import_missing routers policies outs ins hop outs_are ins_are are joins none =
+    let there = has_import routers policies hop are joins in
+    let same : import_by_policies routers outs ins hop ≡ import_by_policies routers policies.outs policies.ins hop = λ j. import_by_policies routers (outs_are j) (ins_are j) hop in
     let e : Some there.0 ≡ None = sym there.1 ∙ sym same ∙ none in
     cc

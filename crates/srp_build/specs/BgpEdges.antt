@@ -10,9 +10,9 @@ use Rattle.srp_core.specs.declared.route.Route.{Route}
 use Rattle.srp_build.specs.declared.acts.BgpAct.{BgpAct}
 use Rattle.srp_build.specs.declared.bgp_edges.BgpEdges.{BgpEdges}
 use Rattle.srp_build.specs.declared.hops.Hop.{Hop}
-use Rattle.srp_build.specs.declared.kind_maps.KindMaps.{KindMaps}
+use Rattle.srp_build.specs.declared.policy_maps.PolicyMaps.{PolicyMaps}
 use Rattle.srp_build.specs.LineMaps.{LineMaps, map_number_at, with_maps}
-use Rattle.srp_build.specs.declared.imports.ImportByKinds.{ImportByKinds}
+use Rattle.srp_build.specs.declared.imports.ImportByPolicies.{ImportByPolicies}
 use Rattle.srp_build.specs.declared.imports.ImportByMaps.{ImportByMaps}
 use Rattle.srp_build.specs.ActOrder.{AreByFirstUse}
 use Rattle.srp_build.specs.BgpActs.{IsNewAct}
@@ -27,12 +27,12 @@ abbrev pub has_initial : List (Option Route) → ℕ → Bool
 has_initial init router = is_some (slice_index_or init router None)
 
 -- the numbers of both maps of an import are places of maps
-pub record IsInside (maps : KindMaps) (import : ImportByKinds) : Type 0 where
+pub record IsInside (maps : PolicyMaps) (import : ImportByPolicies) : Type 0 where
   pub out : map_number_at maps.numbers.items import.out < length maps.maps.items
   pub into : map_number_at maps.numbers.items import.into < length maps.maps.items
 
-abbrev pub AreInside : KindMaps → List ImportByKinds → Type 0
-AreInside maps imports = (place : ℕ) (import : ImportByKinds) → slice_get imports place ≡ Some import → IsInside maps import
+abbrev pub AreInside : PolicyMaps → List ImportByPolicies → Type 0
+AreInside maps imports = (place : ℕ) (import : ImportByPolicies) → slice_get imports place ≡ Some import → IsInside maps import
 
 -- the import of a direction, by the numbers of the maps of the lines at both ends
 abbrev pub import_at : List Router → LineMaps → Hop → Option ImportByMaps
@@ -40,8 +40,8 @@ import_at routers maps hop = option_and_then (λ (out : ℕ).
     option_map (λ (into : ℕ). record { out = out; sends = sends_at routers hop.exporter hop.exporter_item; into = into })
     (number_at maps.ins hop.importer hop.importer_item)) (number_at maps.outs hop.exporter hop.exporter_item)
 
--- the import is that of the direction, by the numbers of kinds
-pub record IsImportOf (routers : List Router) (lines : LineMaps) (maps : KindMaps) (hop : Hop) (import : ImportByKinds) : Type 0 where
+-- the import is that of the direction, by the numbers of policies
+pub record IsImportOf (routers : List Router) (lines : LineMaps) (maps : PolicyMaps) (hop : Hop) (import : ImportByPolicies) : Type 0 where
   pub maps_are : maps.maps.items ≡ lines.maps
   pub is : import_at routers lines hop ≡ Some (with_maps maps.numbers.items import)
 

@@ -11,7 +11,7 @@ use Rattle.srp_build.specs.declared.hops.Hop.{Hop}
 use Rattle.srp_build.specs.declared.session_hops.SessionHops.{SessionHops}
 use Rattle.srp_build.specs.Costs.{NumbersHops}
 use Rattle.srp_build.specs.Hops.{hops_of, sorted_by_ends}
-use Rattle.srp_build.specs.Kinds.{AreKinds, AreImportsOf}
+use Rattle.srp_build.specs.LinePolicies.{AreLinePolicies, AreImportsOf}
 use Rattle.srp_build.specs.ListPlaces.{HavePlaces}
 use Rattle.srp_build.specs.Problem.{is_bgp}
 
@@ -19,13 +19,13 @@ use Rattle.srp_build.specs.Problem.{is_bgp}
 abbrev pub directions_of : Network → List Hop
 directions_of n = sorted_by_ends (length n.routers) (hops_of (links_of n))
 
--- the directions, the places of the routers' lists and maps, the kinds of their lines, and the imports
+-- the directions, the places of the routers' lists and maps, the policies of their lines, and the imports
 -- of the directions
 pub record AreSessionHops (routers : List Router) (hops : List Hop) (found : SessionHops) : Type 0 where
   pub hops_are : found.hops.items ≡ hops
   pub places : HavePlaces routers found.places.items
-  pub kinds : AreKinds routers found.kinds
-  pub imports : AreImportsOf routers found.kinds hops found.imports.items
+  pub policies : AreLinePolicies routers found.policies
+  pub imports : AreImportsOf routers found.policies hops found.imports.items
 
 -- the directions of a BGP network
 pub record AreOfSessions (n : Network) (found : SessionHops) : Type 0 where

@@ -10,7 +10,7 @@ pub mod FirstActs
 pub mod HopEdges
 pub mod HopNumbers
 pub mod Hops
-pub mod Kinds
+pub mod LinePolicies
 pub mod Laws
 pub mod LineMaps
 pub mod Lines

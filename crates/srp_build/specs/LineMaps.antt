@@ -3,12 +3,12 @@ use Rattle.std.specs.Prelude.{◌≡◌, ℕ, true, false, List, length, map, So
 use Rattle.base_kit.specs.Prefixes.{Prefix}
 use Rattle.cfg_ast.specs.declared.network.Router.{Router}
 use Rattle.route_maps.specs.declared.plain.Plain.{Plain}
-use Rattle.srp_build.specs.declared.kind_maps.KindMaps.{KindMaps}
-use Rattle.srp_build.specs.declared.kinds.Kinds.{Kinds}
+use Rattle.srp_build.specs.declared.policy_maps.PolicyMaps.{PolicyMaps}
+use Rattle.srp_build.specs.declared.policies.LinePolicies.{LinePolicies}
 use Rattle.srp_build.specs.declared.lines.LinePlace.{LinePlace}
-use Rattle.srp_build.specs.declared.imports.ImportByKinds.{ImportByKinds}
+use Rattle.srp_build.specs.declared.imports.ImportByPolicies.{ImportByPolicies}
 use Rattle.srp_build.specs.declared.imports.ImportByMaps.{ImportByMaps}
-use Rattle.srp_build.specs.Kinds.{map_of_place}
+use Rattle.srp_build.specs.LinePolicies.{map_of_place}
 use Rattle.srp_build.specs.Plains.{IsNumberOf, IsMapOfPlace, HaveNumbers}
 
 -- each map once, and the numbers of those of each line, outbound and inbound, router by router
@@ -23,25 +23,25 @@ pub record AreLineMaps (p : Prefix) (routers : List Router) (maps : LineMaps) : 
   pub ins : HaveNumbers p true maps.maps routers maps.ins
   pub made : (number : ℕ) (map : Plain) → slice_get maps.maps number ≡ Some map → IsMapOfPlace p routers map
 
--- the numbers are those of the maps of kinds, whose first lines stand at these places
-pub record AreMapsOfKinds (p : Prefix) (routers : List Router) (firsts : List LinePlace) (maps : List Plain) (numbers : List ℕ) : Type 0 where
+-- the numbers are those of the maps of policies, whose first lines stand at these places
+pub record AreMapsOfPolicies (p : Prefix) (routers : List Router) (firsts : List LinePlace) (maps : List Plain) (numbers : List ℕ) : Type 0 where
   pub total : length numbers ≡ length firsts
   pub each : (place number : ℕ) (first : LinePlace) → slice_get firsts place ≡ Some first → slice_get numbers place ≡ Some number →
       IsNumberOf maps number (map_of_place p routers first)
   pub made : (number : ℕ) (map : Plain) → slice_get maps number ≡ Some map → IsMapOfPlace p routers map
 
--- the number of the map of a kind
+-- the number of the map of a policy
 abbrev pub map_number_at : List ℕ → ℕ → ℕ
-map_number_at numbers kind = slice_index_or numbers kind 0
+map_number_at numbers policy = slice_index_or numbers policy 0
 
--- an import by the numbers of its maps, from that by the numbers of its kinds
-abbrev pub with_maps : List ℕ → ImportByKinds → ImportByMaps
+-- an import by the numbers of its maps, from that by the numbers of its policies
+abbrev pub with_maps : List ℕ → ImportByPolicies → ImportByMaps
 with_maps numbers import = record { out = map_number_at numbers import.out; sends = import.sends; into = map_number_at numbers import.into }
 
--- the maps of all lines, from those of their kinds
-abbrev pub line_maps : Kinds → KindMaps → LineMaps
-line_maps kinds maps = record {
+-- the maps of all lines, from those of their policies
+abbrev pub line_maps : LinePolicies → PolicyMaps → LineMaps
+line_maps policies maps = record {
   maps = maps.maps.items;
-  outs = map (map (map_number_at maps.numbers.items)) kinds.outs;
-  ins = map (map (map_number_at maps.numbers.items)) kinds.ins;
+  outs = map (map (map_number_at maps.numbers.items)) policies.outs;
+  ins = map (map (map_number_at maps.numbers.items)) policies.ins;
 }

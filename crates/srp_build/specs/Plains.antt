@@ -10,7 +10,7 @@ use Rattle.route_maps.specs.declared.plain.Plain.{Plain}
 use Rattle.route_maps.specs.declared.plain.Imported.{Imported}
 use Rattle.route_maps.specs.Maps.{verdict, import_of}
 use Rattle.srp_build.specs.declared.hops.Hop.{Hop}
-use Rattle.srp_build.specs.declared.imports.ImportByKinds.{ImportByKinds}
+use Rattle.srp_build.specs.declared.imports.ImportByPolicies.{ImportByPolicies}
 use Rattle.srp_build.specs.declared.imports.ImportByMaps.{ImportByMaps}
 use Rattle.srp_build.specs.Lines.{map_named, list_named, map_of_line, closed, map_at, sends_at}
 
@@ -70,9 +70,9 @@ HaveNumbers p inbound maps (router ∷ routers) (numbers ∷ table) = HasNumbers
 abbrev pub number_at : List (List ℕ) → ℕ → ℕ → Option ℕ
 number_at table router item = option_and_then (λ (numbers : List ℕ). slice_get numbers item) (slice_get table router)
 
--- the numbers of the kinds of the lines at both ends of a direction, and whether communities are sent
-abbrev pub import_by_kinds : List Router → List (List ℕ) → List (List ℕ) → Hop → Option ImportByKinds
-import_by_kinds routers outs ins hop = option_and_then (λ (out : ℕ).
+-- the numbers of the policies of the lines at both ends of a direction, and whether communities are sent
+abbrev pub import_by_policies : List Router → List (List ℕ) → List (List ℕ) → Hop → Option ImportByPolicies
+import_by_policies routers outs ins hop = option_and_then (λ (out : ℕ).
     option_map (λ (into : ℕ). record { out = out; sends = sends_at routers hop.exporter hop.exporter_item; into = into })
     (number_at ins hop.importer hop.importer_item)) (number_at outs hop.exporter hop.exporter_item)
 

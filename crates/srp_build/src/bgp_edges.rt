@@ -4,7 +4,7 @@ ghost use Rattle.std.specs.Prelude.{◌≡◌, ◌+◌, ◌<◌, ◌≤◌, ◌^
 ghost use Rattle.cfg_ast.specs.declared.network.Router.{Router};
 ghost use Rattle.dd_core.specs.Sets.{Grows};
 ghost use Rattle.srp_build.specs.BgpEdges.{has_initial, IsInside, AreInside, IsImportOf, TakesHop, AreEdgesOfSessions};
-ghost use Rattle.srp_build.specs.Kinds.{AreImportsOf};
+ghost use Rattle.srp_build.specs.LinePolicies.{AreImportsOf};
 ghost use Rattle.srp_build.specs.LineMaps.{LineMaps, line_maps};
 ghost use Rattle.srp_build.specs.Lines.{act_of_hop};
 ghost use Rattle.srp_build.specs.ListPlaces.{HavePlaces};
@@ -12,8 +12,8 @@ ghost use Rattle.srp_build.specs.MetImports.{AreRight, AreMapsWithin};
 
 use crate::acts::{Acts, BgpAct};
 use crate::hops::Hop;
-use crate::imports::ImportByKinds;
-use crate::kind_maps::{KindMaps, with_maps};
+use crate::imports::ImportByPolicies;
+use crate::policy_maps::{PolicyMaps, with_maps};
 use crate::lines::act_of_hop;
 use crate::met_imports::{MetImports, act_of_import};
 use crate::session_hops::SessionHops;
@@ -61,9 +61,9 @@ impl BgpEdges {
         alloc: Global,
         store: &mut Store,
         init: &[Option<Route>],
-        maps: &KindMaps,
+        maps: &PolicyMaps,
         hop: &Hop,
-        import: &ImportByKinds,
+        import: &ImportByPolicies,
     ) -> Result<(), NoMemory>
         requires inside { IsInside maps.now import.now }
         requires within { AreMapsWithin store.old.universe maps.now.maps.items }
@@ -107,14 +107,14 @@ pub fn bgp_edges(
     store: &mut Store,
     init: &[Option<Route>],
     directions: &SessionHops,
-    maps: &KindMaps,
+    maps: &PolicyMaps,
 ) -> Result<BgpEdges, NoMemory>
     requires total { length directions.now.imports.items ≡ length directions.now.hops.items }
     requires inside { AreInside maps.now directions.now.imports.items }
     requires within { AreMapsWithin store.old.universe maps.now.maps.items }
     requires few { length directions.now.hops.items < 2 ^ 32 }
     ensures grows { Grows store.old store.new }
-    ensures edges { IfOk result (λ found. (routers : List Router) → AreImportsOf routers directions.now.kinds directions.now.hops.items directions.now.imports.items → AreEdgesOfSessions store.new routers init.now (line_maps directions.now.kinds maps.now) directions.now.hops.items found) }
+    ensures edges { IfOk result (λ found. (routers : List Router) → AreImportsOf routers directions.now.policies directions.now.hops.items directions.now.imports.items → AreEdgesOfSessions store.new routers init.now (line_maps directions.now.policies maps.now) directions.now.hops.items found) }
 {
     growth_adds_up();
     let mut found = BgpEdges::new(alloc);

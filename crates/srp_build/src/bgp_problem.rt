@@ -9,7 +9,7 @@ ghost use Rattle.srp_build.specs.Built.{IsBuiltFor};
 ghost use Rattle.srp_build.specs.Directions.{AreOfSessions};
 
 use crate::bgp_edges::{bgp_edges, written_acts};
-use crate::kind_maps::kind_maps;
+use crate::policy_maps::policy_maps;
 use crate::lone::lone_of;
 use crate::routers::{names_of, numbers_of, starts_of};
 use crate::session_hops::SessionHops;
@@ -54,7 +54,7 @@ pub fn bgp_problem(
     let names = names_of(alloc, routers)?;
     let numbers = numbers_of(alloc, routers)?;
     let init = starts_of(alloc, routers, class.origins.as_slice())?;
-    let maps = kind_maps(alloc, p, routers, places, &directions.kinds.firsts)?;
+    let maps = policy_maps(alloc, p, routers, places, &directions.policies.firsts)?;
     let found = bgp_edges(alloc, store, init.as_slice(), directions, &maps)?;
     let edges = found.edges.as_slice();
     let lone = lone_of(alloc, store, &found.acts.acts, routers.len(), edges)?;

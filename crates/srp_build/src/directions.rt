@@ -21,7 +21,7 @@ use std::alloc::Global;
 /// on a class.
 #[derive(Drop)]
 pub enum Directions {
-    /// Over BGP sessions, with the kinds of the neighbour lines.
+    /// Over BGP sessions, with the policies of the neighbour lines.
     OfSessions(SessionHops),
     /// Over OSPF adjacencies, each as an edge that is numbered by its cost.
     OfAdjacencies(Numbered),

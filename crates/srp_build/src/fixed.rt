@@ -4,7 +4,7 @@ ghost use Rattle.std.specs.Prelude.{◌≡◌, true, is_none};
 ghost use Rattle.std.specs.List.{list_all};
 ghost use Rattle.cfg_ast.specs.declared.policy.MapEntry.{MapEntry};
 ghost use Rattle.specialize.specs.Places.{ArePlacesOfRouter};
-ghost use Rattle.srp_build.specs.Kinds.{IsFixed, names_no_list};
+ghost use Rattle.srp_build.specs.LinePolicies.{IsFixed, names_no_list};
 
 use crate::lines::{list_named, map_named};
 use base_kit::Text;

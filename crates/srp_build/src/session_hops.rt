@@ -1,13 +1,13 @@
-//! The directions of sessions, with the kinds of their lines.
+//! The directions of sessions, with the policies of their lines.
 
 ghost use Rattle.std.specs.Prelude.{All, IfOk};
-ghost use Rattle.srp_build.specs.Kinds.{AreKinds, AreImportsOf, JoinsLines};
+ghost use Rattle.srp_build.specs.LinePolicies.{AreLinePolicies, AreImportsOf, JoinsLines};
 ghost use Rattle.srp_build.specs.Directions.{AreSessionHops};
 ghost use Rattle.srp_build.specs.ListPlaces.{HavePlaces};
 
 use crate::hops::Hop;
-use crate::imports::{ImportByKinds, import_by_kinds};
-use crate::kinds::{Kinds, kinds_of};
+use crate::imports::{ImportByPolicies, import_by_policies};
+use crate::policies::{LinePolicies, policies_of};
 use base_kit::NoMemory;
 use cfg_ast::Router;
 use specialize::{Places, places_of};
@@ -19,9 +19,9 @@ pub struct SessionHops {
     pub hops: Vec<Hop>,
     /// The places of each router's lists and maps.
     pub places: Vec<Places>,
-    pub kinds: Kinds,
-    /// What each direction imports, by the numbers of the kinds of its lines.
-    pub imports: Vec<ImportByKinds>,
+    pub policies: LinePolicies,
+    /// What each direction imports, by the numbers of the policies of its lines.
+    pub imports: Vec<ImportByPolicies>,
 }
 
 fn places_by_router(alloc: Global, routers: &[Router]) -> Result<Vec<Places>, NoMemory>
@@ -37,18 +37,18 @@ fn places_by_router(alloc: Global, routers: &[Router]) -> Result<Vec<Places>, No
 fn imports_of(
     alloc: Global,
     routers: &[Router],
-    kinds: &Kinds,
+    policies: &LinePolicies,
     hops: &[Hop],
-) -> Result<Vec<ImportByKinds>, NoMemory>
-    requires kinds { AreKinds routers.now kinds.now }
+) -> Result<Vec<ImportByPolicies>, NoMemory>
+    requires policies { AreLinePolicies routers.now policies.now }
     requires lines { All (JoinsLines routers.now) hops.now }
-    ensures { IfOk result (λ imports. AreImportsOf routers.now kinds.now hops.now imports.items) }
+    ensures { IfOk result (λ imports. AreImportsOf routers.now policies.now hops.now imports.items) }
 {
-    let outs = kinds.outs.as_slice();
-    let ins = kinds.ins.as_slice();
+    let outs = policies.outs.as_slice();
+    let ins = policies.ins.as_slice();
     let mut imports = Vec::new(alloc);
     for hop in hops {
-        let Some(import) = import_by_kinds(routers, outs, ins, hop) else {
+        let Some(import) = import_by_policies(routers, outs, ins, hop) else {
             unreachable!();
         };
         imports.push(import)?;
@@ -56,7 +56,7 @@ fn imports_of(
     Ok(imports)
 }
 
-/// These directions of sessions, with the kinds of the lines at their ends.
+/// These directions of sessions, with the policies of the lines at their ends.
 pub fn session_hops(
     alloc: Global,
     routers: &[Router],
@@ -66,12 +66,12 @@ pub fn session_hops(
     ensures { IfOk result (AreSessionHops routers.now hops.items) }
 {
     let places = places_by_router(alloc, routers)?;
-    let kinds = kinds_of(alloc, routers, places.as_slice())?;
-    let imports = imports_of(alloc, routers, &kinds, &hops)?;
+    let policies = policies_of(alloc, routers, places.as_slice())?;
+    let imports = imports_of(alloc, routers, &policies, &hops)?;
     Ok(SessionHops {
         hops,
         places,
-        kinds,
+        policies,
         imports,
     })
 }

@@ -10,7 +10,7 @@ use Rattle.srp_build.specs.Costs.{NumbersHops}
 use Rattle.srp_build.specs.Directions.{AreSessionHops, directions_of}
 use Rattle.srp_build.specs.Hops.{hops_of, AreInside}
 use Rattle.srp_build.specs.HopNumbers.{hop_at}
-use Rattle.srp_build.specs.Kinds.{JoinsLines}
+use Rattle.srp_build.specs.LinePolicies.{JoinsLines}
 use Rattle.srp_build.specs.Problem.{is_bgp as is_over_bgp}
 use Rattle.srp_build.proofs.BgpChecked.{is_bgp, bgp_is}
 use Rattle.srp_build.proofs.DirectionsOf.{sorted_are, few_directions}

@@ -2,7 +2,7 @@ use Rattle.std.proofs.Common.{◌≡◌, true, false, Option, Some, None, refl, 
 use Rattle.std.specs.Prelude.{is_some, is_none}
 use Rattle.std.specs.Option.{option_map_or}
 use Rattle.cfg_ast.specs.declared.network.Named.{Named}
-use Rattle.srp_build.specs.Kinds.{names_no_list}
+use Rattle.srp_build.specs.LinePolicies.{names_no_list}
 use Rattle.srp_build.proofs.FixedMaps.{is_fixed}
 use Rattle.srp_build.proofs.fixed.is_fixed.Goals as goal
 

@@ -1,0 +1,103 @@
+//! Prefixes told apart by what prefix lists answer.
+
+ghost use Rattle.std.specs.Prelude.{◌≡◌, ◌≤◌, [], IfOk, OnOk, map, length};
+ghost use Rattle.std.specs.BTreeMap.{IsOrdered};
+ghost use Rattle.dest_classes.specs.Lists.{lists_asked};
+ghost use Rattle.dest_classes.specs.Cells.{word_of, started, asked, entries_of, AreAllTold, AreMembers};
+ghost use Rattle.dest_classes.specs.Routes.{prefix_cmp};
+
+use crate::lists::lists_asked;
+use crate::routes::Originators;
+use base_kit::{List, NoMemory, Prefix};
+use cfg_ast::{Network, Origin, PrefixList};
+use indexmap::IndexSet;
+use prefix_lists::permits;
+use std::alloc::Global;
+
+// So many lists are asked at once, since their answers are the bits of a word.
+const AT_ONCE: usize = 64;
+
+/// A prefix with its originators. Two members are of one cell where the lists that were asked so far
+/// answer both alike.
+#[derive(Drop)]
+pub struct Member {
+    pub prefix: Prefix,
+    pub origins: List<Origin>,
+    pub cell: usize,
+}
+
+// The answers of the lists to a prefix, as the bits of a number.
+fn word_of(lists: &[&PrefixList], prefix: Prefix) -> u64
+    requires { length lists.now ≤ AT_ONCE }
+    ensures { result ≡ word_of (map (λ list. list.now) lists.now) prefix }
+{
+    let mut word = 0;
+    for list in lists {
+        word = 2 * word + u64::from(permits(list, prefix));
+    }
+    word
+}
+
+// The members once these lists are asked too.
+fn ask(alloc: Global, members: Vec<Member>, lists: &[&PrefixList]) -> Result<Vec<Member>, NoMemory>
+    requires { length lists.now ≤ AT_ONCE }
+    ensures { IfOk result (λ v. v.items ≡ asked (map (λ list. list.now) lists.now) [] members.items) }
+{
+    let mut keys = IndexSet::new(alloc);
+    let mut asked = Vec::with_capacity(alloc, members.len())?;
+    for member in members {
+        let word = word_of(lists, member.prefix);
+        let (cell, _) = keys.insert_full((member.cell, word))?;
+        asked.push(Member { cell, ..member })?;
+    }
+    Ok(asked)
+}
+
+// The members once all these lists are asked.
+fn ask_all(
+    alloc: Global,
+    mut members: Vec<Member>,
+    lists: &[&PrefixList],
+) -> Result<Vec<Member>, NoMemory>
+    requires { AreAllTold [] members.items }
+    ensures { IfOk result (λ v. AreMembers (entries_of members.items) (map (λ list. list.now) lists.now) v.items) }
+{
+    let mut done = 0;
+    while done < lists.len() {
+        let end = done + AT_ONCE.min(lists.len() - done);
+        members = ask(alloc, members, &lists[done..end])?;
+        done = end;
+    }
+    Ok(members)
+}
+
+// The prefixes of the map, in its order, before any list is asked.
+fn started(alloc: Global, originators: Originators) -> Result<Vec<Member>, NoMemory>
+    ensures members { IfOk result (λ v. v.items ≡ map started originators.entries) }
+    ensures ordered { OnOk result (IsOrdered prefix_cmp originators) }
+{
+    let mut members = Vec::with_capacity(alloc, originators.len())?;
+    for (prefix, origins) in originators {
+        members.push(Member {
+            prefix,
+            origins,
+            cell: 0,
+        })?;
+    }
+    Ok(members)
+}
+
+/// The prefixes of the map, in its order, each with its cell by the prefix lists of all routers.
+pub fn members_of(
+    alloc: Global,
+    net: &Network,
+    originators: Originators,
+) -> Result<Vec<Member>, NoMemory>
+    ensures members { IfOk result (λ v. AreMembers originators.entries (lists_asked net.now) v.items) }
+    ensures ordered { OnOk result (IsOrdered prefix_cmp originators) }
+{
+    let lists = lists_asked(alloc, net)?;
+    let members = started(alloc, originators)?;
+    let told = ask_all(alloc, members, lists.as_slice())?;
+    Ok(told)
+}
