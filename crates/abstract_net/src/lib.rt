@@ -16,7 +16,7 @@ mod runs;
 mod steps;
 
 pub use links::{quotient, quotient_over};
-pub use qlink::{QLink, Quotient};
+pub use qlink::{QLink, Quotient, act_at};
 
 #[cfg(test)]
 mod tests;

@@ -1,6 +1,9 @@
 //! A link between two groups, and the list of such links.
 
-use base_kit::List;
+ghost use Rattle.std.specs.Prelude.{◌≡◌};
+ghost use Rattle.abstract_net.specs.Carried.{act_at};
+
+use base_kit::{Edge, List};
 
 /// A link between two groups, `low` before `high`, and the edges that it stands for into each of them,
 /// by their places in the graph. At least one of the two is there.
@@ -16,4 +19,14 @@ pub struct QLink {
 #[derive(Drop)]
 pub struct Quotient {
     pub links: List<QLink>,
+}
+
+/// The act of the edge at a place, 0 where no edge stands there.
+pub fn act_at(edges: &[Edge], place: u32) -> u32
+    ensures { result ≡ act_at edges.now place }
+{
+    match edges.get(place as usize) {
+        Some(edge) => edge.act,
+        None => 0,
+    }
 }

@@ -2,7 +2,7 @@
 //!
 //! `check_network` looks for every fault that the meaning of lines can have, as a name, a number or an
 //! address that stands twice, or too many pairs of adjacent interfaces. It refuses the network by the
-//! least line at fault, and of several faults at one line by the least number of their kinds. Where
+//! least line at fault, and of several faults at one line by the first kind in the order of `Kind`. Where
 //! there is none it gives a `Checked`, whose type keeps that some text gives its network and that no
 //! fault stands in it.
 #![tactic(auto)]

@@ -7,7 +7,7 @@ ghost use Rattle.abstract_net.specs.Carried.{act_at, side_of};
 ghost use Rattle.srp_quotient.specs.Groups.{or_else};
 ghost use Rattle.config_emit.specs.ActLinks.{pair_of, own_sides, sides_or, sides_at, NotesSides, AreLastSides, FillsSides, drawn, act_link_by, act_links};
 
-use abstract_net::QLink;
+use abstract_net::{QLink, act_at};
 use base_kit::{Edge, NoMemory, Protocol};
 use srp_core::Srp;
 use std::alloc::Global;
@@ -123,15 +123,6 @@ pub(crate) fn last_sides(
         note_sides(&mut last, link)?;
     }
     Ok(last)
-}
-
-fn act_at(edges: &[Edge], place: u32) -> u32
-    ensures { result ≡ act_at edges.now place }
-{
-    match edges.get(place as usize) {
-        Some(edge) => edge.act,
-        None => 0,
-    }
 }
 
 fn some_act_at(edges: &[Edge], place: Option<u32>) -> Option<u32>

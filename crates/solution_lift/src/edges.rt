@@ -4,12 +4,11 @@ ghost use Rattle.std.specs.Prelude.{◌≡◌, ℕ, ◌<◌, ◌^◌, ◌++◌, 
 ghost use Rattle.std.specs.HashMap as map;
 ghost use Rattle.std.specs.List.{enumerate_from};
 ghost use Rattle.by_key.specs.ByKey.{by_key};
-ghost use Rattle.abstract_net.specs.Carried.{act_at};
 ghost use Rattle.srp_quotient.specs.Groups.{or_else, edge_into, lower_edge, listed, edges_of_link, importer_of, exporter_of, quotient_edges};
 ghost use Rattle.abstract_net.specs.Carried.{IsBelow};
 ghost use Rattle.solution_lift.specs.Lasts.{same_key, last_between, standing};
 
-use abstract_net::QLink;
+use abstract_net::{QLink, act_at};
 use base_kit::{Edge, List, NoMemory, Protocol};
 use std::alloc::Global;
 use std::collections::HashMap;
@@ -55,15 +54,6 @@ fn standing(
     match protocol {
         Protocol::Bgp => side,
         Protocol::Ospf => side.or(lasts.get(&(into, from)).copied()),
-    }
-}
-
-fn act_at(edges: &[Edge], place: u32) -> u32
-    ensures { result ≡ act_at edges.now place }
-{
-    match edges.get(place as usize) {
-        Some(edge) => edge.act,
-        None => 0,
     }
 }
 

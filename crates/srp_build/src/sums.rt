@@ -1,5 +1,5 @@
-//! Pairs of numbers computed from names and maps, equal where these are equal, by which they are looked
-//! up. What a pair is means nothing.
+//! Pairs of numbers computed from names and maps, by which these are looked up: equal names and maps have
+//! equal pairs. No more is promised of a pair.
 
 ghost use Rattle.std.specs.Prelude.{◌≡◌};
 ghost use Rattle.srp_build.specs.BgpActs.{low_half};
