@@ -26,7 +26,7 @@ fn text_of(
     requires { IsBuiltFor checked.now.network class.now problem.now }
     ensures { IfOk result (λ bytes. IsCertifyOf checked.now.network class.now (done bytes.items)) }
 {
-    let _routers = problem.count();
+    let _known = problem.count();
     let graph = problem.graph()?;
     let certificate = certify(alloc, &graph)?;
     let text = print_certificate(alloc, &graph, problem.names(), &certificate)?;

@@ -62,7 +62,7 @@ fn judged(alloc: Global, problem: &Srp, graph: &ActGraph, text: &[u8]) -> Reply
     requires of_problem { IsGraphOf problem.now graph.now }
     ensures { Answers result (IsVerdictOn problem.now graph.now text.now) ⊥ ⊥ }
 {
-    let _routers = problem.count();
+    let _known = problem.count();
     match verify(alloc, graph, problem.names(), text) {
         Ok(_) => yes(alloc),
         Err(CutRefusal::At { line, why }) => certificate_refusal(alloc, line, why),

@@ -45,7 +45,7 @@ fn canonical_over(
     };
     match canon_srp(alloc, &problem, &mut shared.store) {
         Ok(canonical) => {
-            let _rules = canonical.count();
+            let _known = canonical.count();
             Ok(canonical)
         }
         Err(CanonSrpRefusal::NoCanon(place)) => {

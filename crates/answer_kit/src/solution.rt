@@ -47,7 +47,7 @@ fn labels_in(alloc: Global, problem: &Srp, text: &[u8]) -> Result<Labels, Reply>
     ensures read { IfOk result (λ labels. GivesLabels problem.now labels text.now) }
     ensures none { IfErr result (λ reply. Answers reply (IsOfLabelsIn problem.now AllowsNoLabels text.now) ⊥ ⊥) }
 {
-    let _routers = problem.count();
+    let _known = problem.count();
     match read_labels(alloc, text, problem.protocol(), problem.names()) {
         Ok(labels) => Ok(labels),
         Err(SolRefusal::At { line, kind }) => Err(solution_refusal(alloc, line, kind)),

@@ -45,7 +45,7 @@ fn rest_text(alloc: Global, problem: &Srp, labels: &Labels) -> Result<Vec<u8>, N
     requires { AreLabels problem.now labels.now }
     ensures { IfOk result (λ bytes. IsRest problem.now labels.now (done bytes.items)) }
 {
-    let _routers = problem.count();
+    let _known = problem.count();
     let moving = moving(alloc, problem, labels)?;
     let mut text = rest_line(alloc, problem, moving)?;
     let lines = print_labels(alloc, labels, problem.names())?;
@@ -79,7 +79,7 @@ fn run_text(alloc: Global, problem: &Srp, text: &[u8]) -> Reply
     requires { length text.now ≤ schedule_limit }
     ensures { Answers result (IsOfSchedule problem.now text.now) ⊥ ⊥ }
 {
-    let _routers = problem.count();
+    let _known = problem.count();
     match read_schedule(alloc, text, problem.names()) {
         Ok(schedule) => ran(alloc, problem, &schedule),
         Err(ScheduleRefusal::UnknownRouter(line)) => schedule_refusal(alloc, line),

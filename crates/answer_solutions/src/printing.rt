@@ -17,7 +17,7 @@ pub fn printed(alloc: Global, problem: &Srp, labels: &Labels) -> Reply
     requires { AreLabels problem.now labels.now }
     ensures { Answers result (Only (done (labels_text problem.now.names labels.now))) ⊥ ⊥ }
 {
-    let _routers = problem.count();
+    let _known = problem.count();
     match print_labels(alloc, labels, problem.names()) {
         Ok(bytes) => Reply::Output(bytes),
         Err(NoMemory) => Reply::NoMemory,

@@ -34,8 +34,8 @@ pub fn sides_of(alloc: Global, checked: &Checked, class: &DestClass) -> Result<S
         &grouping.groups,
         &grouping.quotient,
     )?;
-    let _count = grouping.groups.groups();
-    let _rules = small.count();
+    let _known = grouping.groups.groups();
+    let _also_known = small.count();
     let Grouping {
         problem,
         groups,

@@ -202,7 +202,7 @@ fn in_list_of(
     requires { IsEdgeForm store.now edge.now }
     ensures { (f : Items ℕ → Option Imported) → IsEdgeFn store.now edge.now f → IsPlain store.now.universe (on_sets f) → fixings.now ≡ settled (length store.now.universe) (split store.now.universe (asked_of store.now.universe (on_sets f) (keys_of (by_number edge.now.outs)))) nothing_fixed → IfOk result (λ list. list ≡ in_list store.now.universe (on_sets f)) }
 {
-    let _count = store.len();
+    let _known = store.len();
     if fixings.len() > MOST_ENTRIES {
         return Ok(None);
     }
@@ -220,7 +220,7 @@ fn out_list_of(
     requires { IsEdgeForm store.now edge.now }
     ensures { (f : Items ℕ → Option Imported) → IsEdgeFn store.now edge.now f → IsPlain store.now.universe (on_sets f) → has_no_count edge.now.adds ≡ false → fixings.now ≡ settled (length store.now.universe) (split store.now.universe (out_asked store.now.universe (on_sets f))) nothing_fixed → IfOk result (λ list. list ≡ out_list store.now.universe (on_sets f)) }
 {
-    let _count = store.len();
+    let _known = store.len();
     if fixings.len() > MOST_ENTRIES {
         return Ok(None);
     }
@@ -234,7 +234,7 @@ fn in_list(alloc: Global, store: &mut Store, edge: &EdgeFn) -> Result<Plain, Can
     ensures grows { Grows store.old store.new }
     ensures list { (f : Items ℕ → Option Imported) → IsEdgeFn store.old edge.now f → IsPlain store.old.universe (on_sets f) → IsListOf result (in_list store.old.universe (on_sets f)) }
 {
-    let _count = store.len();
+    let _known = store.len();
     let nodes = in_nodes(alloc, edge)?;
     match settled_fixings(alloc, store, &nodes) {
         Err(refusal) => Err(refusal),
@@ -275,7 +275,7 @@ fn out_list(alloc: Global, store: &mut Store, edge: &EdgeFn) -> Result<Plain, Ca
     ensures grows { Grows store.old store.new }
     ensures list { (f : Items ℕ → Option Imported) → IsEdgeFn store.old edge.now f → IsPlain store.old.universe (on_sets f) → IsListOf result (out_list store.old.universe (on_sets f)) }
 {
-    let _count = store.len();
+    let _known = store.len();
     let counts = edge.adds.as_slice();
     if adds_nothing(counts) {
         let map = passing(alloc)?;
@@ -301,7 +301,7 @@ pub fn canon(alloc: Global, store: &mut Store, edge: &EdgeFn) -> Result<CanonEdg
     ensures imports { (f : Items ℕ → Option Imported) → IsEdgeFn store.old edge.now f → IfOk result (λ lists. AreOneImport (import_of lists.out true lists.into) f) }
     ensures printable { (f : Items ℕ → Option Imported) → IsEdgeFn store.old edge.now f → AreCommunities store.old.universe → HasSmallNumbers f → IfOk result (λ lists. ArePrintable store.old.universe lists) }
 {
-    let _count = store.len();
+    let _known = store.len();
     let depends = depends_on_others(alloc, store, edge)?;
     if depends {
         return Err(CanonRefusal::NoCanon);

@@ -269,7 +269,7 @@ pub fn in_entry(
     requires { IsEdgeForm store.now edge.now }
     ensures { IfOk result (λ entry. entry ≡ in_made store.now edge.now seq fixing.now) }
 {
-    let _count = store.len();
+    let _known = store.len();
     if !store.eval(edge.permit, &fixing.present) {
         let entry = denying(alloc, seq, fixing)?;
         return Ok(entry);

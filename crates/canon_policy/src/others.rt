@@ -75,7 +75,7 @@ pub fn depends_on_others(alloc: Global, store: &Store, edge: &EdgeFn) -> Result<
     ensures depends { (f : Items ℕ → Option Imported) → IsEdgeFn store.now edge.now f → IfOk result (λ depends. depends ≡ depends_on_others store.now.universe (on_sets f)) }
     ensures plain { (f : Items ℕ → Option Imported) → IsEdgeFn store.now edge.now f → IfOk result (λ depends. depends ≡ false → IsPlain store.now.universe (on_sets f)) }
 {
-    let _count = store.len();
+    let _known = store.len();
     let nodes = nodes_told(alloc, edge)?;
     let depends = any_needs_others(store, nodes.as_slice())?;
     Ok(depends)

@@ -49,7 +49,7 @@ fn least_of(store: &Store, nodes: &[NodeId]) -> Option<Community>
     ensures known { IfSome result (λ c. has store.now.universe c.0 ≡ true) }
     ensures least { (part : Items ℕ → ℕ) → NumberHangsOn store.now.universe part → Tells store.now nodes.now part → option_map community_number result ≡ least store.now.universe part }
 {
-    let _count = store.len();
+    let _known = store.len();
     let mut least = None;
     for node in nodes {
         least = lesser(least, store.first(*node));
@@ -75,7 +75,7 @@ fn least_of_carried(
         → IfOk result (λ r. option_map community_number r ≡ unsettled store.old.universe kept fixing (of_community community.0 test)) }
 {
     let follows = store.var(community)?;
-    let _count = store.len();
+    let _known = store.len();
     let kept = store.eval(rest, &NumSet::new(alloc));
     if kept && is_same(store, node, follows) {
         return Ok(None);
@@ -142,7 +142,7 @@ pub fn split_by(
     ensures split { (asked : Asked) (fixing : Fixing) → AskedHangsOn store.old.universe asked → AreNodesOf store.old fixing nodes.now asked
         → IfOk result (λ r. option_map community_number r ≡ split store.old.universe asked fixing) }
 {
-    let _count = store.len();
+    let _known = store.len();
     let first = store.first(nodes.permit);
     if first.is_some() {
         return Ok(first);

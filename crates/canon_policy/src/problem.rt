@@ -59,7 +59,7 @@ pub fn canon_srp(alloc: Global, srp: &Srp, store: &mut Store) -> Result<Srp, Can
     ensures printable { IfOk result (λ new. AllByRecursion IsPrintableAct new.acts) }
     ensures within { IfOk result (λ new. AllByRecursion (IsActWithin store.old.universe) new.acts) }
 {
-    let _routers = srp.count();
+    let _known = srp.count();
     let acts = canonical_acts(alloc, srp, store)?;
     let names = names_copy(alloc, srp.names().as_slice())?;
     let numbers = Vec::from_slice(alloc, srp.numbers())?;
@@ -130,7 +130,7 @@ fn make_act(
     ensures so_far { OnOk result (AreActsSoFar store.old.universe srp.now (take (place + 1) srp.now.edges) made.new.items done.new.items) }
     ensures refused { IsRefusedAtFirst store.old.universe srp.now result }
 {
-    let _routers = srp.count();
+    let _known = srp.count();
     let act = srp.edges()[place].act as usize;
     if done[act] {
         return Ok(());
@@ -153,7 +153,7 @@ fn canonical_acts(alloc: Global, srp: &Srp, store: &mut Store) -> Result<List<Ac
     ensures grows { Grows store.old store.new }
     ensures acts { AreCanonicalActsOr store.old.universe srp.now result }
 {
-    let _routers = srp.count();
+    let _known = srp.count();
     let mut made = acts_copy(alloc, srp.acts())?;
     let mut done = vec![in alloc; false; srp.acts().len()]?;
     for place in 0..srp.edges().len() {

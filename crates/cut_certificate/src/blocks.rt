@@ -59,7 +59,7 @@ impl Blocks {
     pub(crate) fn first(alloc: Global, graph: &ActGraph) -> Result<Blocks, NoMemory>
         ensures { IfOk result (λ b. b ≡ first_blocks graph.now) }
     {
-        let _count = graph.count;
+        let _known = graph.count;
         let mut colors = Vec::new(alloc);
         for color in graph.colors.as_slice() {
             colors.push(*color as usize)?;

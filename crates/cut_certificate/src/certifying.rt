@@ -117,7 +117,7 @@ fn divided(
     ensures place { IfOk result (λ r. r.1.edge < length graph.now.edges) }
     ensures in_use { IfOk result (λ r. AreInUse r.0.numbers r.0.count) }
 {
-    let _count = blocks.count();
+    let _known = blocks.count();
     let block = blocks.number_of(p.goes);
     let by = blocks.number_of(p.by.edge.exporter);
     let edge = p.by.place;
@@ -125,7 +125,7 @@ fn divided(
     let (next, fault) = blocks.split_by(alloc, graph, outgoing, incoming, split, p.by.edge.act)?;
     match fault {
         None => {
-            let _count = next.count();
+            let _known = next.count();
             Ok((next, split))
         }
         Some(_) => unreachable!(),
@@ -192,7 +192,7 @@ pub fn certify(alloc: Global, graph: &ActGraph) -> Result<Certificate, NoMemory>
     ensures accepted { IfOk result (IsAccepted graph.now) }
     ensures few { IfOk result (λ c. length c.splits ≤ graph.now.count) }
 {
-    let _count = graph.count;
+    let _known = graph.count;
     let outgoing = by_importer(alloc, graph)?;
     let incoming = by_exporter(alloc, graph)?;
     let first = first_course(alloc, graph)?;

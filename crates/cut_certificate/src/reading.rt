@@ -45,7 +45,7 @@ fn read_lines(
     requires within { AreBelow places.now graph.now.count }
     ensures { Verifies result (certificate_from graph.now.edges (place_in places.now) (length (all_lines_of bytes.now) + 1) (map (text_line bytes.now) (all_lines_of bytes.now)) (opening graph.now)) }
 {
-    let _count = graph.count;
+    let _known = graph.count;
     let mut standing = Standing::opening(alloc, graph)?;
     let mut line = 0;
     let mut from = 0;
@@ -92,7 +92,7 @@ pub fn verify(
     ensures accepted { IfOk result (IsAccepted graph.now) }
     ensures coarsest { IfOk result (λ c. AreCoarsest graph.now c.groups) }
 {
-    let _count = graph.count;
+    let _known = graph.count;
     let places = NamePlaces::of(alloc, names.as_slice())?;
     let outgoing = by_importer(alloc, graph)?;
     let incoming = by_exporter(alloc, graph)?;

@@ -70,7 +70,7 @@ impl Cache {
         ensures there { IsSome (found key self.old.entries) → IsOk result }
         ensures bounded { IsBounded self.old }
     {
-        let _count = self.kept.len();
+        let _known = self.kept.len();
         self.kept.put(key, node)?;
         Ok(())
     }

@@ -17,7 +17,7 @@ pub fn reached(alloc: Global, table: &Table, from: usize) -> Result<Vec<bool>, N
     requires inside { from < length table.now }
     ensures { IfOk result (λ marks. AreMarks table.now from marks.items) }
 {
-    let _count = table.len();
+    let _known = table.len();
     let mut marks = vec![in alloc; false; from + 1]?;
     marks[from] = true;
     let mut place = from + 1;

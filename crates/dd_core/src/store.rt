@@ -55,7 +55,7 @@ impl Store {
         ensures { IfOk result (λ s. s ≡ fresh universe.now capacity) }
     {
         let universe = universe.copy()?;
-        let _ascending = universe.as_slice();
+        let _known = universe.as_slice();
         let mut table = Table::new(alloc);
         table.intern(Node::Constant(false))?;
         table.intern(Node::Constant(true))?;
@@ -81,7 +81,7 @@ impl Store {
         ensures len { result ≡ length self.now.nodes }
         ensures shown { IsShown self.now }
     {
-        let _table = &self.table;
+        let _known = &self.table;
         self.table.len()
     }
 
@@ -90,7 +90,7 @@ impl Store {
         ensures number { result ≡ constant_at answer }
         ensures constant { Means self.now result (λ _. answer) }
     {
-        let _table = &self.table;
+        let _known = &self.table;
         if answer {
             NodeId::new(1)
         } else {
@@ -299,6 +299,6 @@ pub fn is_same(store: &Store, a: NodeId, b: NodeId) -> bool
     ensures differ { result ≡ false → DifferOnSet store.now a b }
     ensures different { ((set : List ℕ) → IsAscending set → value_of store.now set a ≡ value_of store.now set b) → result ≡ true }
 {
-    let _count = store.len();
+    let _known = store.len();
     a == b
 }

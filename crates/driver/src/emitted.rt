@@ -28,7 +28,7 @@ pub fn emitted_of(
     ensures { IsEmittedOf checked.now.network class.now problem result }
 {
     let grouping = grouped(alloc, problem)?;
-    let _groups = grouping.groups.groups();
+    let _known = grouping.groups.groups();
     emit(
         alloc,
         checked,

@@ -29,7 +29,7 @@ fn counted<L: Ledger>(alloc: Global, problem: &Srp, blank: Blank) -> Result<Part
     ensures { IfOk result (λ groups. IsCoarsest problem.now groups) }
 {
     let colors = problem.colors()?;
-    let _rules = problem.count();
+    let _known = problem.count();
     let graph = GraphView::over(&colors, problem.edges());
     let mut turns = Steps::<L>::new(blank);
     let partition = coarsest_over(alloc, &graph, &mut turns)?;

@@ -147,6 +147,6 @@ pub fn link_count(
     ensures { IfOk result (λ links. links ≡ length (quotient_links srp.now.edges groups.now group_count)) }
 {
     // The contract of `count` says that both ends of each edge are routers.
-    let _count = srp.count();
+    let _known = srp.count();
     count_over(alloc, srp.edges(), groups, group_count)
 }

@@ -23,8 +23,8 @@ pub fn has_solution_below(srp: &Srp, small: &Srp, groups: &[u32], labels: &Label
     requires stable { IsStable srp.now labels.now }
     ensures { Below srp.now small.now groups.now labels.now }
 {
-    let _routers = srp.count();
-    let _groups = small.count();
+    let _known = srp.count();
+    let _also_known = small.count();
     laws::to_quotient();
 }
 
@@ -43,7 +43,7 @@ pub fn corresponds_when_folded(
     requires fold { IsFold srp.now small.now groups.now labels.now lower.now }
     ensures { Corresponds srp.now small.now groups.now labels.now lower.now }
 {
-    let _routers = srp.count();
-    let _groups = small.count();
+    let _known = srp.count();
+    let _also_known = small.count();
     laws::folds();
 }

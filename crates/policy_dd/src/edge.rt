@@ -71,7 +71,7 @@ pub fn same(store: &Store, a: &EdgeFn, b: &EdgeFn) -> bool
     ensures same { (f g : Items ℕ → Option Imported) → IsEdgeFn store.now a.now f → IsEdgeFn store.now b.now g → result ≡ true → AreOneImport f g }
     ensures different { (f g : Items ℕ → Option Imported) → IsEdgeFn store.now a.now f → IsEdgeFn store.now b.now g → AreOneImport f g → result ≡ true }
 {
-    let _count = store.len();
+    let _known = store.len();
     has_equal_parts(a, b)
 }
 
@@ -93,7 +93,7 @@ pub fn several(store: &Store, a: &EdgeFn, b: &EdgeFn) -> bool
     ensures several { (f g : Items ℕ → Option Imported) → IsEdgeFn store.now a.now f → IsEdgeFn store.now b.now g → result ≡ true → DifferInPreference f g }
     ensures one { (f g : Items ℕ → Option Imported) → IsEdgeFn store.now a.now f → IsEdgeFn store.now b.now g → result ≡ false → HaveOnePreference f g }
 {
-    let _count = store.len();
+    let _known = store.len();
     differ(a.lps.as_slice(), b.lps.as_slice())
 }
 
@@ -102,6 +102,6 @@ pub fn accepts_some(store: &Store, a: &EdgeFn) -> bool
     ensures some { (f : Items ℕ → Option Imported) → IsEdgeFn store.now a.now f → result ≡ true → AcceptsSome f }
     ensures none { (f : Items ℕ → Option Imported) → IsEdgeFn store.now a.now f → result ≡ false → AcceptsNone f }
 {
-    let _count = store.len();
+    let _known = store.len();
     a.permit != store.constant(false)
 }

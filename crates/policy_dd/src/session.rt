@@ -36,10 +36,10 @@ fn read_change(change: &Option<Change>)
 {
     match change {
         Some(Change::Replace(by)) => {
-            let _ascending = by.as_slice();
+            let _known = by.as_slice();
         }
         Some(Change::Append(more)) => {
-            let _ascending = more.as_slice();
+            let _known = more.as_slice();
         }
         Some(Change::Clear) => {}
         None => {}

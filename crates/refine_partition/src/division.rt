@@ -88,7 +88,7 @@ pub fn divide(
     ensures numbers_err { OnErr result (numbers.new.items ≡ numbers.old.items) }
     ensures blocks_err { OnErr result (blocks.new.items ≡ blocks.old.items) }
 {
-    let _count = graph.count();
+    let _known = graph.count();
     let plan = planned(alloc, graph, numbers, blocks, imports, taken)?;
     let next = plan.renumbering.numbers;
     let origins = plan.renumbering.origins;

@@ -84,7 +84,7 @@ pub fn coarsest_over<L: Ledger>(
     ensures splits { IfOk result (λ p. (splits : ℕ) × (turns.new ≡ turns.old + splits) × AreReachedBy graph.now splits p) }
     ensures turns { turns.new ≤ turns.old + 2 * graph.now.count }
 {
-    let _count = graph.count();
+    let _known = graph.count();
     let blocks = refined(alloc, graph, turns)?;
     let (numbers, count) = numbers_of(alloc, &blocks)?;
     let partition = from_numbers(alloc, numbers, count)?;

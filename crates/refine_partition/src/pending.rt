@@ -93,7 +93,7 @@ pub fn refined<L: Ledger>(
     ensures splits { IfOk result (λ numbers. (splits count : ℕ) × (turns.new ≡ turns.old + splits) × AreSplitSoFar graph.now splits numbers.items count) }
     ensures turns { turns.new ≤ turns.old + 2 * graph.now.count }
 {
-    let _count = graph.count();
+    let _known = graph.count();
     let imports = imports_of(alloc, graph)?;
     let mut blocks = start(alloc, graph)?;
     let (mut queue, mut waits) = all_waiting(alloc, blocks.lists.len() as u32)?;

@@ -37,7 +37,7 @@ pub fn planned(
     requires known { taken < length blocks.now }
     ensures { IfOk result (λ p. IsPlanned graph.now taken numbers.now (length blocks.now) p.renumbering.numbers.items p.renumbering.origins.items p.touched.items) }
 {
-    let _count = graph.count();
+    let _known = graph.count();
     let members = &blocks[taken as usize];
     let arrivals = arrivals_at(alloc, graph, imports, numbers, members, taken)?;
     let count = blocks.len() as u32;

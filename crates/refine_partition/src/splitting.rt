@@ -39,7 +39,7 @@ impl Splitting {
         ensures of_graph { IfOk result (IsSplittingOf graph.now) }
         ensures start { IfOk result (IsStartOf graph.now) }
     {
-        let _count = graph.count;
+        let _known = graph.count;
         let (numbers, count) = numbers_of(alloc, graph.colors.as_slice())?;
         let blocks = blocks_of(alloc, &numbers, count)?;
         Ok(Splitting {

@@ -34,7 +34,7 @@ pub fn start(alloc: Global, graph: &GraphView) -> Result<LooseBlocks, NoMemory>
     ensures start { IfOk result (λ b. IsStart graph.now b.numbers.items (length b.lists.items)) }
     ensures settled { IfOk result (λ b. AreSettled b.numbers.items b.classes.items b.lists.items) }
 {
-    let _count = graph.count();
+    let _known = graph.count();
     let (numbers, count) = numbers_of(alloc, graph.colors())?;
     let lists = blocks_of(alloc, &numbers, count)?;
     let classes = widened(alloc, &numbers)?;
@@ -80,7 +80,7 @@ pub fn turn<L: Ledger>(
     ensures parted { IfOk result (λ origins. AreParted graph.now taken blocks.old.numbers.items blocks.new.numbers.items (length blocks.old.lists.items) (length blocks.new.lists.items) origins.items) }
 {
     turns.tick();
-    let _count = graph.count();
+    let _known = graph.count();
     let count = blocks.lists.len() as u32;
     keep_members(&mut blocks.lists, &blocks.numbers, taken);
     let members = &blocks.lists[taken as usize];

@@ -94,6 +94,6 @@ pub fn lone_on(alloc: Global, numbers: &HashSet<u32>, route: &Route) -> Result<N
 pub fn lone_numbers(alloc: Global, srp: &Srp) -> Result<HashSet<u32>, NoMemory>
     ensures { IfOk result (HasLoneNumbers srp.now) }
 {
-    let _routers = srp.count();
+    let _known = srp.count();
     marked(alloc, srp.lone(), srp.numbers())
 }

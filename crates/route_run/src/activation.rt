@@ -93,7 +93,7 @@ impl<'a> Runner<'a> {
         ensures err { OnErr result (labels.new ≡ labels.old) }
         ensures labels { AreLabels self.now labels.new }
     {
-        let _routers = self.count();
+        let _known = self.count();
         match self.choice(labels, router)? {
             Choice::Keep => Ok(false),
             Choice::Take(label) => {

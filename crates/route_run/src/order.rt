@@ -77,7 +77,7 @@ pub fn reach(alloc: Global, srp: &Srp, labels: &Labels) -> Result<List<Activatio
     ensures single { IfOk result (All IsSingle) }
     ensures reached { IfOk result (λ schedule. IsSolutionLike srp.now labels.now (labels_after srp.now (no_labels srp.now) (run_of (count srp.now) schedule))) }
 {
-    let _routers = srp.count();
+    let _known = srp.count();
     let mut ranks = ranks_by_router(alloc, labels.as_slice())?;
     sort_by_size(&mut ranks)?;
     activations_of(alloc, ranks.as_slice())

@@ -58,7 +58,7 @@ pub fn run_schedule(
     ensures rounds { IfOk result (λ labels. (most : ℕ) → HasNoLone srp.now → PrependsAtMost srp.now most → HasRounds srp.now (enough_rounds srp.now most) (run_of (count srp.now) schedule.now) → IsStable srp.now labels) }
     ensures ospf_rounds { IfOk result (λ labels. srp.now.protocol ≡ OverOspf → HasRounds srp.now (count srp.now) (run_of (count srp.now) schedule.now) → IsStable srp.now labels) }
 {
-    let _routers = srp.count();
+    let _known = srp.count();
     let runner = Runner::new(alloc, srp)?;
     let mut labels = runner.no_labels()?;
     for activation in schedule.as_slice() {

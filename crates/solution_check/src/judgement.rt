@@ -57,7 +57,7 @@ fn judge(
     requires lone { IsLoneOf srp.now labels.now lone.now }
     ensures { IfOk result (λ why. MatchOption why (HoldsBest srp.now labels.now router) (BreaksBy srp.now labels.now router)) }
 {
-    let _routers = srp.count();
+    let _known = srp.count();
     let label = &labels.as_slice()[router as usize];
     if is_wrong_origin(srp.protocol(), &srp.init()[router as usize], label) {
         return Ok(Some(1));

@@ -245,7 +245,7 @@ fn weigh_initial(
     requires other { other.now ≡ chosen (is_lone_number srp.now) (path_of route.now) }
     ensures { IfOk result (WeighsAs srp.now route.now (one (initial srp.now router))) }
 {
-    let _routers = srp.count();
+    let _known = srp.count();
     match &srp.init()[router as usize] {
         Some(candidate) => weigh_bare(alloc, candidate, route, other),
         None => Ok(Weight {
@@ -319,7 +319,7 @@ pub(crate) fn has_candidate(
     requires labels { AreLabels srp.now labels.now }
     ensures { IfOk result (λ has. has ≡ list_any always (routes_of srp.now labels.now router edges.now)) }
 {
-    let _routers = srp.count();
+    let _known = srp.count();
     if srp.init()[router as usize].is_some() {
         return Ok(true);
     }

@@ -93,8 +93,8 @@ pub fn fold_into(
     folds();
     ospf_folds();
     equal_keys();
-    let _routers = srp.count();
-    let _rules = small.count();
+    let _known = srp.count();
+    let _also_known = small.count();
     let count = p.groups();
     match srp.protocol() {
         Protocol::Bgp => {
@@ -122,8 +122,8 @@ pub fn fold(alloc: Global, srp: &Srp, p: &Partition, labels: &Labels) -> Result<
     ensures { IfOk result (λ lower. (groups : ℕ) → IsNumbered p.now groups → IsFolding srp.now (small_of srp.now p.now groups) p.now labels.now lower) }
 {
     quotient_is_quotient();
-    let _routers = srp.count();
-    let _groups = p.groups();
+    let _known = srp.count();
+    let _also_known = p.groups();
     let links = links_of_groups(alloc, srp, p)?;
     let small = quotient_srp(alloc, srp, p, &links)?;
     fold_into(alloc, srp, &small, p, labels)

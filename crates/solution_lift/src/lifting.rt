@@ -94,7 +94,7 @@ pub fn lift_from(
     lifts();
     ospf_lifts();
     let routers = srp.count();
-    let _rules = small.count();
+    let _known = small.count();
     match srp.protocol() {
         Protocol::Bgp => {
             let upper = lift_routes(alloc, srp, small, p, labels)?;
@@ -129,8 +129,8 @@ pub fn lift(
     ensures { IfOk result (λ upper. (groups : ℕ) → IsNumbered p.now groups → IsLifting srp.now (small_of srp.now p.now groups) p.now labels.now upper) }
 {
     quotient_is_quotient();
-    let _routers = srp.count();
-    let _groups = p.groups();
+    let _known = srp.count();
+    let _also_known = p.groups();
     let small = quotient_srp(alloc, srp, p, q)?;
     lift_from(alloc, srp, &small, p, labels)
 }

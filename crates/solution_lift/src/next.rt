@@ -92,7 +92,7 @@ fn taken(
     requires lone { HasLoneNumbers target.now lone.now }
     ensures { IfOk result (IsTaken target.now sides.now labels.now router source (key_of target.now asked.now)) }
 {
-    let _routers = target.count();
+    let _known = target.count();
     let wanted = lone_on(alloc, lone, asked)?;
     let edges = target.edges();
     let candidates = target.candidates(labels, router)?;
@@ -139,7 +139,7 @@ pub fn next(
     requires asked { (u : ℕ) (r : Route) → label asked.now u ≡ Some r → IsRouteOf target.now.protocol r }
     ensures { IfOk result (GetsRoute target.now asked.now at.now sides.now sources.now labels.now router) }
 {
-    let _routers = target.count();
+    let _known = target.count();
     if let Some(route) = &target.init()[router as usize] {
         return Ok(Some(route.copy(alloc)?));
     }

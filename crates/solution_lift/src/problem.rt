@@ -36,7 +36,7 @@ pub fn quotient_srp(alloc: Global, srp: &Srp, p: &Partition, q: &Quotient) -> Re
     if links.len() > MOST_LINKS {
         return Err(NoMemory);
     }
-    let _routers = srp.count();
+    let _known = srp.count();
     let count = p.groups();
     let firsts = first_members(alloc, p, count)?;
     let names = names_of(alloc, srp.names().as_slice(), &firsts)?;

@@ -83,7 +83,7 @@ pub fn read_labels(
     let places = NamePlaces::of(alloc, names.as_slice())?;
     match read_lines(alloc, bytes, protocol, &places, names.len()) {
         Ok(labels) => {
-            let _sets = labels.as_slice();
+            let _known = labels.as_slice();
             Ok(labels)
         }
         Err(refusal) => Err(refusal),

@@ -96,7 +96,7 @@ impl Acts {
         ensures number { IfOk result (IsNumberFor store.now self.old.acts.items self.new.acts.items hop.now import.now function) }
     {
         one_form();
-        let _count = store.len();
+        let _known = store.len();
         let nodes = nodes_of(&function);
         let numbers = items_at(&self.by_nodes, nodes);
         if let Some(number) = like_among(store, &self.acts, numbers, &function) {

@@ -69,6 +69,6 @@ pub fn bgp_problem(
         acts,
         found.edges,
     );
-    let _kept = problem.count();
+    let _known = problem.count();
     Ok(problem)
 }

@@ -112,7 +112,7 @@ impl Srp {
         ensures { IfOk result (λ found. found ≡ candidate_of None (initial self.now router)) }
     {
         let mut found = List::new(self.alloc());
-        let _routers = self.count();
+        let _known = self.count();
         if let Some(route) = &self.init()[router as usize] {
             let route = route.copy(self.alloc())?;
             found.push(Candidate { edge: None, route })?;
@@ -151,7 +151,7 @@ impl Srp {
         ensures routes { IfOk result (λ list. All (λ candidate. IsRouteOf self.now.protocol candidate.route) list) }
     {
         let mut found = self.initial_candidate(router)?;
-        let _routers = self.count();
+        let _known = self.count();
         let edges = self.edges();
         let (first, end) = own_edges(edges, router);
         for place in first..end {

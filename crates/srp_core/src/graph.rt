@@ -40,7 +40,7 @@ impl Srp {
         ensures coarsest { IfOk result (λ colors. (graph : ActGraph) → graph.count ≡ count self.now → graph.colors ≡ colors.items → graph.edges ≡ self.now.edges → (groups : List ℕ) → IsCoarsest self.now groups ↔ partition.IsCoarsestOn graph groups) }
     {
         // The count's contract says that this is a problem, which the last two clauses rest on.
-        let _rules = self.count();
+        let _known = self.count();
         let colors = colors(self)?;
         Ok(colors)
     }

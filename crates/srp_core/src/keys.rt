@@ -49,7 +49,7 @@ impl Srp {
     fn is_lone_number(&self, wanted: u32) -> bool
         ensures { result ≡ is_lone_number self.now wanted }
     {
-        let _routers = self.count();
+        let _known = self.count();
         has_marked_number(self.lone(), self.numbers(), wanted)
     }
 

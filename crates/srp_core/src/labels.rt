@@ -32,7 +32,7 @@ fn read_set(label: &Option<Route>)
 {
     match label {
         Some(Route::Bgp { comms, .. }) => {
-            let _numbers = comms.as_slice();
+            let _known = comms.as_slice();
         }
         Some(Route::Ospf { .. }) => {}
         None => {}

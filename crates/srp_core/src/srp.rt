@@ -139,7 +139,7 @@ fn read_change(change: &Option<Change>)
 {
     match change {
         Some(Change::Replace(by)) => {
-            let _numbers = by.as_slice();
+            let _known = by.as_slice();
         }
         Some(Change::Append(_)) => {}
         Some(Change::Clear) => {}

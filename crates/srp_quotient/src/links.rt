@@ -20,6 +20,6 @@ pub fn links_of_groups(alloc: Global, srp: &Srp, groups: &Partition) -> Result<Q
     ensures { IfOk result (λ q. (count : ℕ) → IsNumbered groups.now count → q.links ≡ quotient_links srp.now.edges groups.now count) }
 {
     // The contract of `count` says that both ends of each edge are routers.
-    let _count = srp.count();
+    let _known = srp.count();
     quotient_over(alloc, srp.edges(), groups)
 }

@@ -28,7 +28,7 @@ pub returns-in-Ok-canon_srp-clause-problem : goal.returns-in-Ok-canon_srp-clause
 returns-in-Ok-canon_srp-clause-problem c =
     let of = c.in-Ok-canon_srp.ensures in
     canonical_for c.args.checked.now.network c.args.class.now c.problem.new.self.store.universe c.in-Ok.problem c.in-Ok-canon_srp.canonical
-    c.in-Ok.ensures.built c.problem.ensures.shared.universe of.canonical c.count-rules.ensures.rules of.alike of.printable of.within
+    c.in-Ok.ensures.built c.problem.ensures.shared.universe of.canonical c.count-known.ensures.rules of.alike of.printable of.within
 
 pub returns-in-Err-NoCanon-clause-none : goal.returns-in-Err-NoCanon-clause-none
 returns-in-Err-NoCanon-clause-none c =

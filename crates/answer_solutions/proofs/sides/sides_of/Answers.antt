@@ -12,8 +12,8 @@ pub returns : goal.returns
 returns c = record {
   built = subst (IsBuiltFor c.args.checked.now.network c.args.class.now) (sym c.in_ok-grouping.ensures.problem_is) c.in_ok-problem.ensures;
   coarsest = c.in_ok-grouping.ensures.coarsest;
-  count = c.groups-count.result;
-  numbered = c.groups-count.ensures;
-  small_is = c.in_ok-small.ensures c.groups-count.result c.groups-count.ensures;
-  small_rules = c.count-rules.ensures.rules;
+  count = c.groups-known.result;
+  numbered = c.groups-known.ensures;
+  small_is = c.in_ok-small.ensures c.groups-known.result c.groups-known.ensures;
+  small_rules = c.count-also_known.ensures.rules;
 }

@@ -37,10 +37,10 @@ returns-in-Ok-out_list-clause-canonical c = λ f of.
 
 pub returns-in-Ok-out_list-clause-imports : goal.returns-in-Ok-out_list-clause-imports
 returns-in-Ok-out_list-clause-imports c = λ f of.
-    import_alike c.args.store.now.universe f _ c.len-count.ensures.shown.ascending (c.in_ok-depends.ensures.plain f of c.if-depends.false)
+    import_alike c.args.store.now.universe f _ c.len-known.ensures.shown.ascending (c.in_ok-depends.ensures.plain f of c.if-depends.false)
     (returns-in-Ok-out_list-clause-canonical c f of)
 
 pub returns-in-Ok-out_list-clause-printable : goal.returns-in-Ok-out_list-clause-printable
 returns-in-Ok-out_list-clause-printable c = λ f of communities small.
-    printable_lists c.args.store.now.universe f _ c.len-count.ensures.shown.ascending communities small
+    printable_lists c.args.store.now.universe f _ c.len-known.ensures.shown.ascending communities small
     (c.in_ok-depends.ensures.plain f of c.if-depends.false) (returns-in-Ok-out_list-clause-canonical c f of)

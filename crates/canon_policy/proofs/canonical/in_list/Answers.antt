@@ -13,7 +13,7 @@ use Rattle.canon_policy.proofs.canonical.in_list.Goals as goal
 pub settled_fixings-requires : goal.settled_fixings-requires
 settled_fixings-requires c =
     subst (λ (n : Nodes). AreNodesInside c.args.store.now n) (sym c.in_ok-nodes.ensures)
-    (in_inside c.args.store.now c.len-count.ensures.shown c.args.edge.now c.requires.import c.requires.means)
+    (in_inside c.args.store.now c.len-known.ensures.shown c.args.edge.now c.requires.import c.requires.means)
 
 pub in_list_of-requires : goal.in_list_of-requires
 in_list_of-requires c = form_kept c.args.store.now c.settled_fixings.new.store c.settled_fixings.ensures.grows c.args.edge.now c.requires
@@ -23,11 +23,11 @@ returns-in-Err-clause-list c = λ f of plain.
     refused c.in-Err.refusal _ _ (c.in-Err.ensures.walked
     (asked_of c.args.store.now.universe (on_sets f) (keys_of (by_number c.args.edge.now.outs)))
     (asked_hangs c.args.store.now.universe (on_sets f) plain (keys_of (by_number c.args.edge.now.outs)) of.outs_known
-    (other_carried c.args.store.now c.len-count.ensures.shown c.args.edge.now f of plain))
+    (other_carried c.args.store.now c.len-known.ensures.shown c.args.edge.now f of plain))
     (subst (λ (n : Nodes). AreNodesOf c.args.store.now nothing_fixed n
     (asked_of c.args.store.now.universe (on_sets f) (keys_of (by_number c.args.edge.now.outs))))
-    (sym c.in_ok-nodes.ensures) (in_told c.args.store.now c.len-count.ensures.shown c.args.edge.now f of plain)))
-    (in_over c.args.store.now c.len-count.ensures.shown c.args.edge.now f of plain)
+    (sym c.in_ok-nodes.ensures) (in_told c.args.store.now c.len-known.ensures.shown c.args.edge.now f of plain)))
+    (in_over c.args.store.now c.len-known.ensures.shown c.args.edge.now f of plain)
 
 pub returns-in-None-clause-list : goal.returns-in-None-clause-list
 returns-in-None-clause-list c = λ f of plain.
@@ -36,10 +36,10 @@ returns-in-None-clause-list c = λ f of plain.
     (c.as_slice.ensures ∙ c.in-Ok.ensures.walked
     (asked_of c.args.store.now.universe (on_sets f) (keys_of (by_number c.args.edge.now.outs)))
     (asked_hangs c.args.store.now.universe (on_sets f) plain (keys_of (by_number c.args.edge.now.outs)) of.outs_known
-    (other_carried c.args.store.now c.len-count.ensures.shown c.args.edge.now f of plain))
+    (other_carried c.args.store.now c.len-known.ensures.shown c.args.edge.now f of plain))
     (subst (λ (n : Nodes). AreNodesOf c.args.store.now nothing_fixed n
     (asked_of c.args.store.now.universe (on_sets f) (keys_of (by_number c.args.edge.now.outs))))
-    (sym c.in_ok-nodes.ensures) (in_told c.args.store.now c.len-count.ensures.shown c.args.edge.now f of plain)))
+    (sym c.in_ok-nodes.ensures) (in_told c.args.store.now c.len-known.ensures.shown c.args.edge.now f of plain)))
     ∙ c.in-None.is
 
 pub returns-clause-list : goal.returns-clause-list
@@ -49,8 +49,8 @@ returns-clause-list c = λ f of plain.
     (c.as_slice.ensures ∙ c.in-Ok.ensures.walked
     (asked_of c.args.store.now.universe (on_sets f) (keys_of (by_number c.args.edge.now.outs)))
     (asked_hangs c.args.store.now.universe (on_sets f) plain (keys_of (by_number c.args.edge.now.outs)) of.outs_known
-    (other_carried c.args.store.now c.len-count.ensures.shown c.args.edge.now f of plain))
+    (other_carried c.args.store.now c.len-known.ensures.shown c.args.edge.now f of plain))
     (subst (λ (n : Nodes). AreNodesOf c.args.store.now nothing_fixed n
     (asked_of c.args.store.now.universe (on_sets f) (keys_of (by_number c.args.edge.now.outs))))
-    (sym c.in_ok-nodes.ensures) (in_told c.args.store.now c.len-count.ensures.shown c.args.edge.now f of plain)))
+    (sym c.in_ok-nodes.ensures) (in_told c.args.store.now c.len-known.ensures.shown c.args.edge.now f of plain)))
     ∙ c.in-Some.is

@@ -11,9 +11,9 @@ pub returns : goal.returns
 returns c = λ f of plain e.
     c.limited.ensures ∙ ap limited c.in_ok-entries.ensures
     ∙ ap (λ (l : List Fixing). limited (numbered_from 1 (in_made c.args.store.now c.args.edge.now) l)) e
-    ∙ in_limited c.args.store.now c.len-count.ensures.shown c.args.edge.now f of plain
+    ∙ in_limited c.args.store.now c.len-known.ensures.shown c.args.edge.now f of plain
 
 pub returns-then-fixings-gt-MOST_ENTRIES : goal.returns-then-fixings-gt-MOST_ENTRIES
 returns-then-fixings-gt-MOST_ENTRIES c = λ f of plain e.
-    sym (in_over c.args.store.now c.len-count.ensures.shown c.args.edge.now f of plain
+    sym (in_over c.args.store.now c.len-known.ensures.shown c.args.edge.now f of plain
     (ap are_over (sym e) ∙ over_long c.args.fixings.now c.if-fixings-gt-MOST_ENTRIES.true))

@@ -15,14 +15,14 @@ use Rattle.canon_policy.proofs.canonical.out_list.Goals as goal
 pub settled_fixings-requires : goal.settled_fixings-requires
 settled_fixings-requires c =
     subst (λ (n : Nodes). AreNodesInside c.args.store.now n) (sym c.in_ok-nodes.ensures)
-    (out_inside c.args.store.now c.len-count.ensures.shown c.args.edge.now c.requires.import c.requires.means)
+    (out_inside c.args.store.now c.len-known.ensures.shown c.args.edge.now c.requires.import c.requires.means)
 
 pub out_list_of-requires : goal.out_list_of-requires
 out_list_of-requires c = form_kept c.args.store.now c.settled_fixings.new.store c.settled_fixings.ensures.grows c.args.edge.now c.requires
 
 pub returns-then-adds_nothing-clause-list : goal.returns-then-adds_nothing-clause-list
 returns-then-adds_nothing-clause-list c = λ f of plain.
-    out_passing c.args.store.now c.len-count.ensures.shown c.args.edge.now f of plain
+    out_passing c.args.store.now c.len-known.ensures.shown c.args.edge.now f of plain
     (ap (λ (l : List (ℕ × ℕ)). has_no_count l) (sym c.as_slice-counts.ensures) ∙ sym c.adds_nothing.ensures ∙ c.if-adds_nothing.true)
     ∙ ap (λ (map : Plain). Some map) (sym c.in_ok-map.ensures)
 
@@ -32,8 +32,8 @@ returns-in-Err-clause-list c = λ f of plain.
     (out_asked c.args.store.now.universe (on_sets f))
     (out_asked_hangs c.args.store.now.universe (on_sets f) plain)
     (subst (λ (n : Nodes). AreNodesOf c.args.store.now nothing_fixed n (out_asked c.args.store.now.universe (on_sets f)))
-    (sym c.in_ok-nodes.ensures) (out_told c.args.store.now c.len-count.ensures.shown c.args.edge.now f of plain)))
-    (out_over c.args.store.now c.len-count.ensures.shown c.args.edge.now f of plain
+    (sym c.in_ok-nodes.ensures) (out_told c.args.store.now c.len-known.ensures.shown c.args.edge.now f of plain)))
+    (out_over c.args.store.now c.len-known.ensures.shown c.args.edge.now f of plain
     (ap (λ (l : List (ℕ × ℕ)). has_no_count l) (sym c.as_slice-counts.ensures) ∙ sym c.adds_nothing.ensures ∙ c.if-adds_nothing.false))
 
 pub returns-in-None-clause-list : goal.returns-in-None-clause-list
@@ -45,7 +45,7 @@ returns-in-None-clause-list c = λ f of plain.
     (out_asked c.args.store.now.universe (on_sets f))
     (out_asked_hangs c.args.store.now.universe (on_sets f) plain)
     (subst (λ (n : Nodes). AreNodesOf c.args.store.now nothing_fixed n (out_asked c.args.store.now.universe (on_sets f)))
-    (sym c.in_ok-nodes.ensures) (out_told c.args.store.now c.len-count.ensures.shown c.args.edge.now f of plain)))
+    (sym c.in_ok-nodes.ensures) (out_told c.args.store.now c.len-known.ensures.shown c.args.edge.now f of plain)))
     ∙ c.in-None.is
 
 pub returns-clause-list : goal.returns-clause-list
@@ -57,5 +57,5 @@ returns-clause-list c = λ f of plain.
     (out_asked c.args.store.now.universe (on_sets f))
     (out_asked_hangs c.args.store.now.universe (on_sets f) plain)
     (subst (λ (n : Nodes). AreNodesOf c.args.store.now nothing_fixed n (out_asked c.args.store.now.universe (on_sets f)))
-    (sym c.in_ok-nodes.ensures) (out_told c.args.store.now c.len-count.ensures.shown c.args.edge.now f of plain)))
+    (sym c.in_ok-nodes.ensures) (out_told c.args.store.now c.len-known.ensures.shown c.args.edge.now f of plain)))
     ∙ c.in-Some.is

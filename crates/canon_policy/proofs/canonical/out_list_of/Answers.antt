@@ -11,9 +11,9 @@ pub returns : goal.returns
 returns c = λ f of plain some e.
     c.limited.ensures ∙ ap limited c.in_ok-entries.ensures
     ∙ ap (λ (l : List Fixing). limited (numbered_from 1 (out_made c.args.store.now c.args.edge.now) l)) e
-    ∙ out_limited c.args.store.now c.len-count.ensures.shown c.args.edge.now f of plain some
+    ∙ out_limited c.args.store.now c.len-known.ensures.shown c.args.edge.now f of plain some
 
 pub returns-then-fixings-gt-MOST_ENTRIES : goal.returns-then-fixings-gt-MOST_ENTRIES
 returns-then-fixings-gt-MOST_ENTRIES c = λ f of plain some e.
-    sym (out_over c.args.store.now c.len-count.ensures.shown c.args.edge.now f of plain some
+    sym (out_over c.args.store.now c.len-known.ensures.shown c.args.edge.now f of plain some
     (ap are_over (sym e) ∙ over_long c.args.fixings.now c.if-fixings-gt-MOST_ENTRIES.true))

@@ -12,6 +12,6 @@ returns-clause-acts c =
     let ends = c.loop-place-test.false in
     let whole : length c.args.srp.now.edges ≤ c.loop-place.place = omega arith in
     subst (AreCanonicalActs c.args.store.now.universe c.args.srp.now) (sym c.from_vec.ensures)
-    (all_seen c.args.store.now.universe c.args.srp.now c.loop-place.made.items c.loop-place.done.items (in_acts c.args.srp.now c.count-routers.ensures.rules)
+    (all_seen c.args.store.now.universe c.args.srp.now c.loop-place.made.items c.loop-place.done.items (in_acts c.args.srp.now c.count-known.ensures.rules)
     (subst (λ (l : List Edge). AreActsSoFar c.args.store.now.universe c.args.srp.now l c.loop-place.made.items c.loop-place.done.items)
     (take_all c.loop-place.place c.args.srp.now.edges whole) c.loop-place.invariant.so_far))

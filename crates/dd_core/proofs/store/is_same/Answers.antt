@@ -9,9 +9,9 @@ returns-clause-same c = λ is set. let e : c.args.a ≡ c.args.b = grind (arith,
 
 pub returns-clause-different : goal.returns-clause-different
 returns-clause-different c = λ agree.
-    let same = same_place_on_sets _ c.len-count.ensures.shown _ _ c.requires.a_inside c.requires.b_inside agree in
+    let same = same_place_on_sets _ c.len-known.ensures.shown _ _ c.requires.a_inside c.requires.b_inside agree in
     grind (arith, nat_tests)
 
 pub returns-clause-differ : goal.returns-clause-differ
 returns-clause-differ c = λ no.
-    differ_on_set _ c.len-count.ensures.shown _ _ c.requires.a_inside c.requires.b_inside (grind (arith, nat_tests))
+    differ_on_set _ c.len-known.ensures.shown _ _ c.requires.a_inside c.requires.b_inside (grind (arith, nat_tests))

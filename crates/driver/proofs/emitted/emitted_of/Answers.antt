@@ -14,6 +14,6 @@ emit-requires-clause-links c = c.in_ok-grouping.ensures.links
 
 pub returns : goal.returns
 returns c =
-    emitted_of c.args.checked.now.network c.args.class.now c.args.problem c.in_ok-grouping.grouping c.groups-groups.result c.in_ok-grouping.ensures
-    c.groups-groups.ensures
-    c.emit.result (c.emit.ensures.emits c.groups-groups.result c.groups-groups.ensures)
+    emitted_of c.args.checked.now.network c.args.class.now c.args.problem c.in_ok-grouping.grouping c.groups-known.result c.in_ok-grouping.ensures
+    c.groups-known.ensures
+    c.emit.result (c.emit.ensures.emits c.groups-known.result c.groups-known.ensures)

@@ -27,7 +27,7 @@ returns-clause-rounds c =
     let schedule = c.args.schedule.now in
     let i = c.loop-activation.activation-index in
     let all : take i schedule ≡ schedule = take_all i schedule (omega (arith, c.loop-activation-test.false, ap length c.as_slice-activation-items.ensures)) in
-    rounds_enough_by P c.count-routers.ensures.rules (run_of (count P) schedule) c.requires c.loop-activation.labels (c.loop-activation.invariant.run ∙ ap (λ (xs : List Activation). labels_after P (no_labels P) (run_of (count P) xs)) all)
+    rounds_enough_by P c.count-known.ensures.rules (run_of (count P) schedule) c.requires c.loop-activation.labels (c.loop-activation.invariant.run ∙ ap (λ (xs : List Activation). labels_after P (no_labels P) (run_of (count P) xs)) all)
 
 pub returns-clause-ospf_rounds : goal.returns-clause-ospf_rounds
 returns-clause-ospf_rounds c =
@@ -35,7 +35,7 @@ returns-clause-ospf_rounds c =
     let schedule = c.args.schedule.now in
     let i = c.loop-activation.activation-index in
     let all : take i schedule ≡ schedule = take_all i schedule (omega (arith, c.loop-activation-test.false, ap length c.as_slice-activation-items.ensures)) in
-    ospf_enough_by P c.count-routers.ensures.rules (run_of (count P) schedule) c.requires c.loop-activation.labels (c.loop-activation.invariant.run ∙ ap (λ (xs : List Activation). labels_after P (no_labels P) (run_of (count P) xs)) all)
+    ospf_enough_by P c.count-known.ensures.rules (run_of (count P) schedule) c.requires c.loop-activation.labels (c.loop-activation.invariant.run ∙ ap (λ (xs : List Activation). labels_after P (no_labels P) (run_of (count P) xs)) all)
 
 pub loop-activation-preserved : goal.loop-activation-preserved
 loop-activation-preserved c =

@@ -15,15 +15,15 @@ returns-then-is_wrong_origin c =
     let L = c.args.labels.now in
     let u = c.args.router in
     let held : label L u ≡ c.index-as_slice-router.result = read_at L c.as_slice.result.now u c.index-as_slice-router.result c.as_slice.ensures.all (omega (arith, c.requires.router, c.requires.labels.total)) c.index-as_slice-router.is in
-    let starts : initial P u ≡ c.index-init-router.result = read_at P.init c.init.result.now u c.index-init-router.result c.init.ensures (omega (arith, c.requires.router, c.count-routers.ensures.rules.tables.init)) c.index-init-router.is in
+    let starts : initial P u ≡ c.index-init-router.result = read_at P.init c.init.result.now u c.index-init-router.result c.init.ensures (omega (arith, c.requires.router, c.count-known.ensures.rules.tables.init)) c.index-init-router.is in
     let judged : is_wrong_origin P.protocol (initial P u) (label L u) ≡ true = ap (λ (q : Protocol). is_wrong_origin q (initial P u) (label L u)) (sym c.protocol.ensures) ∙ ap (λ (s : Option Route). is_wrong_origin c.protocol.result s (label L u)) starts ∙ ap (is_wrong_origin c.protocol.result c.index-init-router.result) held ∙ sym c.is_wrong_origin.ensures ∙ c.if-is_wrong_origin.true in
     wrong_origin (wrong_start P L u judged)
 
 pub has_candidate-requires-clause-edges : goal.has_candidate-requires-clause-edges
-has_candidate-requires-clause-edges c = own_fit c.args.srp.now c.args.router c.args.edges.now c.count-routers.ensures.rules c.requires.own
+has_candidate-requires-clause-edges c = own_fit c.args.srp.now c.args.router c.args.edges.now c.count-known.ensures.rules c.requires.own
 
 pub weigh-requires-clause-edges : goal.weigh-requires-clause-edges
-weigh-requires-clause-edges c = own_fit c.args.srp.now c.args.router c.args.edges.now c.count-routers.ensures.rules c.requires.own
+weigh-requires-clause-edges c = own_fit c.args.srp.now c.args.router c.args.edges.now c.count-known.ensures.rules c.requires.own
 
 pub weigh-requires-clause-label : goal.weigh-requires-clause-label
 weigh-requires-clause-label c =
@@ -39,7 +39,7 @@ returns-then-branch c =
     let L = c.args.labels.now in
     let u = c.args.router in
     let held : label L u ≡ c.index-as_slice-router.result = read_at L c.as_slice.result.now u c.index-as_slice-router.result c.as_slice.ensures.all (omega (arith, c.requires.router, c.requires.labels.total)) c.index-as_slice-router.is in
-    let starts : initial P u ≡ c.index-init-router.result = read_at P.init c.init.result.now u c.index-init-router.result c.init.ensures (omega (arith, c.requires.router, c.count-routers.ensures.rules.tables.init)) c.index-init-router.is in
+    let starts : initial P u ≡ c.index-init-router.result = read_at P.init c.init.result.now u c.index-init-router.result c.init.ensures (omega (arith, c.requires.router, c.count-known.ensures.rules.tables.init)) c.index-init-router.is in
     let judged : is_wrong_origin P.protocol (initial P u) (label L u) ≡ false = ap (λ (q : Protocol). is_wrong_origin q (initial P u) (label L u)) (sym c.protocol.ensures) ∙ ap (λ (s : Option Route). is_wrong_origin c.protocol.result s (label L u)) starts ∙ ap (is_wrong_origin c.protocol.result c.index-init-router.result) held ∙ sym c.is_wrong_origin.ensures ∙ c.if-is_wrong_origin.false in
     let own = c.args.edges.now in
     let are = c.requires.own in
@@ -61,7 +61,7 @@ returns-then-not-weight c =
     let L = c.args.labels.now in
     let u = c.args.router in
     let held : label L u ≡ c.index-as_slice-router.result = read_at L c.as_slice.result.now u c.index-as_slice-router.result c.as_slice.ensures.all (omega (arith, c.requires.router, c.requires.labels.total)) c.index-as_slice-router.is in
-    let starts : initial P u ≡ c.index-init-router.result = read_at P.init c.init.result.now u c.index-init-router.result c.init.ensures (omega (arith, c.requires.router, c.count-routers.ensures.rules.tables.init)) c.index-init-router.is in
+    let starts : initial P u ≡ c.index-init-router.result = read_at P.init c.init.result.now u c.index-init-router.result c.init.ensures (omega (arith, c.requires.router, c.count-known.ensures.rules.tables.init)) c.index-init-router.is in
     let judged : is_wrong_origin P.protocol (initial P u) (label L u) ≡ false = ap (λ (q : Protocol). is_wrong_origin q (initial P u) (label L u)) (sym c.protocol.ensures) ∙ ap (λ (s : Option Route). is_wrong_origin c.protocol.result s (label L u)) starts ∙ ap (is_wrong_origin c.protocol.result c.index-init-router.result) held ∙ sym c.is_wrong_origin.ensures ∙ c.if-is_wrong_origin.false in
     let own = c.args.edges.now in
     let are = c.requires.own in
@@ -73,7 +73,7 @@ returns-then-weight c =
     let L = c.args.labels.now in
     let u = c.args.router in
     let held : label L u ≡ c.index-as_slice-router.result = read_at L c.as_slice.result.now u c.index-as_slice-router.result c.as_slice.ensures.all (omega (arith, c.requires.router, c.requires.labels.total)) c.index-as_slice-router.is in
-    let starts : initial P u ≡ c.index-init-router.result = read_at P.init c.init.result.now u c.index-init-router.result c.init.ensures (omega (arith, c.requires.router, c.count-routers.ensures.rules.tables.init)) c.index-init-router.is in
+    let starts : initial P u ≡ c.index-init-router.result = read_at P.init c.init.result.now u c.index-init-router.result c.init.ensures (omega (arith, c.requires.router, c.count-known.ensures.rules.tables.init)) c.index-init-router.is in
     let judged : is_wrong_origin P.protocol (initial P u) (label L u) ≡ false = ap (λ (q : Protocol). is_wrong_origin q (initial P u) (label L u)) (sym c.protocol.ensures) ∙ ap (λ (s : Option Route). is_wrong_origin c.protocol.result s (label L u)) starts ∙ ap (is_wrong_origin c.protocol.result c.index-init-router.result) held ∙ sym c.is_wrong_origin.ensures ∙ c.if-is_wrong_origin.false in
     let own = c.args.edges.now in
     let are = c.requires.own in

@@ -8,7 +8,7 @@ use Rattle.solution_check.proofs.weights.weigh_initial.Goals as goal
 pub returns-in-Some : goal.returns-in-Some
 returns-in-Some c =
     let P = c.args.srp.now in
-    let rules = c.count-routers.ensures.rules in
+    let rules = c.count-known.ensures.rules in
     let same = ap (λ (l : List (Option Route)). length l) c.init.ensures in
     let inside : c.args.router < length c.init.result.now = omega (arith, rules.tables.init, same, c.requires.router) in
     let found : initial P c.args.router ≡ Some c.in-Some.candidate =

@@ -9,8 +9,8 @@ use Rattle.solution_lift.proofs.folding.fold.Goals as goal
 
 pub fold_into-requires-clause-quotient : goal.fold_into-requires-clause-quotient
 fold_into-requires-clause-quotient c =
-    subst (IsQuotient c.args.srp.now c.args.p.now) (sym (c.in_ok-small.ensures c.groups-groups.result c.groups-groups.ensures))
-    (c.quotient_is_quotient.ensures c.args.srp.now c.args.p.now c.groups-groups.result c.count-routers.ensures.rules c.requires.groups c.groups-groups.ensures)
+    subst (IsQuotient c.args.srp.now c.args.p.now) (sym (c.in_ok-small.ensures c.groups-also_known.result c.groups-also_known.ensures))
+    (c.quotient_is_quotient.ensures c.args.srp.now c.args.p.now c.groups-also_known.result c.count-known.ensures.rules c.requires.groups c.groups-also_known.ensures)
 
 pub returns : goal.returns
 returns c =

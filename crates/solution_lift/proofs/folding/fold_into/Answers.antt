@@ -5,8 +5,8 @@ use Rattle.solution_lift.proofs.folding.fold_into.Goals as goal
 pub fold_routes-requires-clause-can : goal.fold_routes-requires-clause-can
 fold_routes-requires-clause-can c =
     record {
-      problem_rules = c.count-routers.ensures.rules;
-      small_rules = c.count-rules.ensures.rules;
+      problem_rules = c.count-known.ensures.rules;
+      small_rules = c.count-also_known.ensures.rules;
       admissible = c.requires.groups;
       quotient = c.requires.quotient;
       protocol = sym c.in-Bgp.ensures;
@@ -24,8 +24,8 @@ returns-in_ok-lower-in-Bgp c =
     let groups : List ℕ = c.args.p.now in
     let labels = c.args.labels.now in
     let lower = c.in_ok-lower-in-Bgp.lower in
-    let rules = c.count-routers.ensures.rules in
-    let small_rules = c.count-rules.ensures.rules in
+    let rules = c.count-known.ensures.rules in
+    let small_rules = c.count-also_known.ensures.rules in
     let bgp = sym c.in-Bgp.ensures in
     let is = c.in_ok-lower-in-Bgp.ensures in
     folding_of_routes S Q groups labels lower bgp
@@ -40,8 +40,8 @@ returns-in_ok-lower-in-Ospf c =
     let groups : List ℕ = c.args.p.now in
     let labels = c.args.labels.now in
     let lower = c.in_ok-lower-in-Ospf.lower in
-    let rules = c.count-routers.ensures.rules in
-    let small_rules = c.count-rules.ensures.rules in
+    let rules = c.count-known.ensures.rules in
+    let small_rules = c.count-also_known.ensures.rules in
     let ospf = sym c.in-Ospf.ensures in
     let costs = member_costs S Q groups c.groups-count.result labels lower c.requires.groups c.groups-count.ensures ospf c.requires.stable
     (λ u v h k same. c.equal_keys.ensures S groups labels rules c.requires.groups c.requires.stable u v h k same) c.in_ok-lower-in-Ospf.ensures.costs in

@@ -10,12 +10,12 @@ use Rattle.solution_lift.proofs.lifting.lift.Goals as goal
 
 pub lift_from-requires-clause-quotient : goal.lift_from-requires-clause-quotient
 lift_from-requires-clause-quotient c =
-    subst (IsQuotient c.args.srp.now c.args.p.now) (sym (c.in_ok-small.ensures c.groups-groups.result c.groups-groups.ensures))
-    (c.quotient_is_quotient.ensures c.args.srp.now c.args.p.now c.groups-groups.result c.count-routers.ensures.rules c.requires.groups c.groups-groups.ensures)
+    subst (IsQuotient c.args.srp.now c.args.p.now) (sym (c.in_ok-small.ensures c.groups-also_known.result c.groups-also_known.ensures))
+    (c.quotient_is_quotient.ensures c.args.srp.now c.args.p.now c.groups-also_known.result c.count-known.ensures.rules c.requires.groups c.groups-also_known.ensures)
 
 pub lift_from-requires-clause-stable : goal.lift_from-requires-clause-stable
 lift_from-requires-clause-stable c =
-    subst (λ (P : Problem). IsStable P c.args.labels.now) (sym (c.in_ok-small.ensures c.groups-groups.result c.groups-groups.ensures)) (c.requires.stable c.groups-groups.result c.groups-groups.ensures)
+    subst (λ (P : Problem). IsStable P c.args.labels.now) (sym (c.in_ok-small.ensures c.groups-also_known.result c.groups-also_known.ensures)) (c.requires.stable c.groups-also_known.result c.groups-also_known.ensures)
 
 pub returns : goal.returns
 returns c =

@@ -7,7 +7,7 @@ pub lift_routes-requires : goal.lift_routes-requires
 lift_routes-requires c =
     record {
       problem_rules = c.count-routers.ensures.rules;
-      small_rules = c.count-rules.ensures.rules;
+      small_rules = c.count-known.ensures.rules;
       admissible = c.requires.groups;
       quotient = c.requires.quotient;
       protocol = sym c.requires.quotient.protocol ∙ sym c.in-Bgp.ensures;
@@ -22,7 +22,7 @@ returns-in_ok-upper-in-Bgp c =
     let lower = c.args.labels.now in
     let upper = c.in_ok-upper-in-Bgp.upper in
     let rules = c.count-routers.ensures.rules in
-    let small_rules = c.count-rules.ensures.rules in
+    let small_rules = c.count-known.ensures.rules in
     let bgp = sym c.in-Bgp.ensures in
     let small_bgp = sym c.requires.quotient.protocol ∙ bgp in
     let is = c.in_ok-upper-in-Bgp.ensures in
@@ -39,7 +39,7 @@ returns-in_ok-upper-in-Ospf c =
     let lower = c.args.labels.now in
     let upper = c.in_ok-upper-in-Ospf.upper in
     let rules = c.count-routers.ensures.rules in
-    let small_rules = c.count-rules.ensures.rules in
+    let small_rules = c.count-known.ensures.rules in
     let ospf = sym c.in-Ospf.ensures in
     let small_ospf = sym c.requires.quotient.protocol ∙ ospf in
     let costs = λ (u : ℕ) (h : u < count S). c.in_ok-upper-in-Ospf.ensures.costs u (subst (λ (n : ℕ). u < n) (sym c.count-routers.ensures.count) h) in

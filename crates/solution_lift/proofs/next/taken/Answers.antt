@@ -18,7 +18,7 @@ returns-then-is_fit c =
     let E = c.edges-edges.result.now in
     let fit = fit_has_key (is_lone_number P) (contains nat_eq c.args.lone.now) c.requires.lone (is_from E c.args.sides.now c.args.source d) d.route c.args.asked.now c.in_ok-wanted.wanted c.in_ok-wanted.ensures c.in_ok-is_fit.is_fit c.in_ok-is_fit.ensures c.if-is_fit.true in
     takes_first P c.args.labels.now c.args.router c.args.sides.now c.args.source (key_of P c.args.asked.now) list
-    (c.as_slice-candidate-items.ensures ∙ c.in_ok-candidates.ensures.list) c.count-routers.ensures.rules.edges.ordered i d _
+    (c.as_slice-candidate-items.ensures ∙ c.in_ok-candidates.ensures.list) c.count-known.ensures.rules.edges.ordered i d _
     (get_is list i d c.loop-candidate-test.true c.candidate-item.is) (ap (λ (edges : List Edge). is_from edges c.args.sides.now c.args.source d) (sym c.edges-edges.ensures) ∙ fit.0) fit.1 c.in_ok-copy.ensures c.loop-candidate.invariant
 
 pub loop-candidate-preserved : goal.loop-candidate-preserved

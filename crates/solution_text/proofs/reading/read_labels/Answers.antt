@@ -28,7 +28,7 @@ pub returns-in-Ok-clause-total : goal.returns-in-Ok-clause-total
 returns-in-Ok-clause-total c = labels_total c.args.protocol c.args.names.now c.args.bytes.now c.in-Ok.labels (returns-in-Ok-clause-exact c)
 
 pub returns-in-Ok-clause-routes : goal.returns-in-Ok-clause-routes
-returns-in-Ok-clause-routes c = labels_routes c.args.protocol c.args.names.now c.args.bytes.now c.in-Ok.labels (returns-in-Ok-clause-exact c) c.as_slice-sets.ensures.sets
+returns-in-Ok-clause-routes c = labels_routes c.args.protocol c.args.names.now c.args.bytes.now c.in-Ok.labels (returns-in-Ok-clause-exact c) c.as_slice-known.ensures.sets
 
 pub returns-clause-exact : goal.returns-clause-exact
 returns-clause-exact c =

@@ -150,4 +150,4 @@ returns-clause-built c =
       numbers_are = c.in_ok-numbers.ensures ∙ ap (λ (r : List Router). map as_number_of r) routers_are;
       acts_are = c.in_ok-acts.ensures ∙ (λ j. map (λ (act : BgpAct). act_of_hop c.first_prefix-p.result (routers_are j) act.first) (c.deref-3.ensures.value j));
     } in
-    is_built n c.args.class.now c.first_prefix-p.result c.in_ok-names.names c.in_ok-numbers.numbers c.in_ok-init.init c.in_ok-lone.lone c.in_ok-acts.acts (line_maps c.args.directions.now.policies c.in_ok-maps.maps) c.bgp_edges.new.store c.in_ok-found.found call few_hops c.new-problem.result c.new-problem.ensures c.count-kept.ensures.rules
+    is_built n c.args.class.now c.first_prefix-p.result c.in_ok-names.names c.in_ok-numbers.numbers c.in_ok-init.init c.in_ok-lone.lone c.in_ok-acts.acts (line_maps c.args.directions.now.policies c.in_ok-maps.maps) c.bgp_edges.new.store c.in_ok-found.found call few_hops c.new-problem.result c.new-problem.ensures c.count-known.ensures.rules

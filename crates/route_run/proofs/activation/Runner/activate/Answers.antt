@@ -12,4 +12,4 @@ returns-in-Take-clause-labels c =
     let L = c.args.labels.now in
     let u = c.args.router in
     let choice = subst (λ (x : Choice). IsChoice (chosen_label P L u) (label L u) x) c.in-Take.is c.in_ok-choice.ensures in
-    subst (AreLabels P) (ap (set L u) choice.0 ∙ sym c.set.ensures) (activated_labels P c.count-routers.ensures.rules L u c.requires.labels)
+    subst (AreLabels P) (ap (set L u) choice.0 ∙ sym c.set.ensures) (activated_labels P c.count-known.ensures.rules L u c.requires.labels)

@@ -27,5 +27,5 @@ returns-clause-number c =
     inr (record {
       is = record { act = act; last = c.in_ok-push.ensures.items; first = refl; over = refl; next = next };
       function_is = refl;
-      apart = unlike_all c.one_form.ensures c.args.store.now c.len-count.ensures.shown c.args.self.now.by_nodes c.args.self.now.acts.items c.args.function c.requires.listed unlike;
+      apart = unlike_all c.one_form.ensures c.args.store.now c.len-known.ensures.shown c.args.self.now.by_nodes c.args.self.now.acts.items c.args.function c.requires.listed unlike;
     })

@@ -23,7 +23,7 @@ over-requires-clause-edge c =
     let inside = c.own_edges-first.ensures.inside in
     let less = c.loop-place-test.true in
     let here : c.loop-place.place < length edges = omega (arith, inside, less) in
-    c.count-routers.ensures.rules.edges.inside (slice_index_or edges c.loop-place.place none) (subst (λ (l : List Edge). Contains l (slice_index_or edges c.loop-place.place none)) c.edges-edges.ensures (All-contains_itself edges c.loop-place.place none here))
+    c.count-known.ensures.rules.edges.inside (slice_index_or edges c.loop-place.place none) (subst (λ (l : List Edge). Contains l (slice_index_or edges c.loop-place.place none)) c.edges-edges.ensures (All-contains_itself edges c.loop-place.place none here))
 
 pub loop-place-preserved : goal.loop-place-preserved
 loop-place-preserved c =
@@ -54,4 +54,4 @@ returns-clause-routes c =
     let own = subst (λ (l : List Edge). AreOwnEdges l c.args.router c.own_edges-first.result.0 c.own_edges-first.result.1) c.edges-edges.ensures c.own_edges-first.ensures in
     let forward = own.forward in
     let list = ended P c.args.labels.now c.args.router c.own_edges-first.result.0 c.own_edges-first.result.1 c.loop-place.place c.loop-place.found own (omega (arith, forward)) c.loop-place.invariant in
-    subst (λ (l : List Candidate). All (λ (k : Candidate). IsRouteOf P.protocol k.route) l) (sym list) (candidate_routes P c.count-routers.ensures.rules c.args.labels.now c.args.router c.requires.labels)
+    subst (λ (l : List Candidate). All (λ (k : Candidate). IsRouteOf P.protocol k.route) l) (sym list) (candidate_routes P c.count-known.ensures.rules c.args.labels.now c.args.router c.requires.labels)
