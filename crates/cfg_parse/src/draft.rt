@@ -2,6 +2,7 @@
 
 ghost use Rattle.std.specs.Prelude.{◌≡◌, OnOk};
 ghost use Rattle.cfg_ast.specs.text.Reading.{no_draft, at_start, with_closed};
+ghost use Rattle.cfg_parse.specs.Open.{stanza_of};
 
 use crate::community_lists::CommunityLists;
 use crate::interfaces::Interfaces;
@@ -83,6 +84,14 @@ pub(crate) fn at_start(alloc: Global) -> State
         routers: List::new(alloc),
         draft: no_draft(alloc),
     }
+}
+
+/// Begins a stanza in place of the one that was open.
+pub(crate) fn begin_stanza(draft: &mut Draft, stanza: Open)
+    ensures { draft.new ≡ record draft.old { stanza = stanza_of stanza } }
+{
+    // The old one goes whole to `drop`, so that the proof does not take each kind of stanza apart.
+    drop(std::mem::replace(&mut draft.stanza, stanza));
 }
 
 /// Closes the open stanza: what it gives goes to the router.

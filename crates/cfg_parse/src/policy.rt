@@ -7,7 +7,7 @@ ghost use Rattle.cfg_ast.specs.text.PolicyLines.{is_policy_line, is_list_word, w
 ghost use Rattle.cfg_ast.specs.text.Reading.{add_prefix_entry, open_entry, take_policy};
 ghost use Rattle.cfg_stanzas.specs.Changes.{Changes};
 
-use crate::draft::{Draft, Open};
+use crate::draft::{Draft, Open, begin_stanza};
 use crate::top::ignore;
 use base_kit::{NoMemory, Text};
 use cfg_ast::{CommunityLine, MapEntry, PolicyItem, PrefixEntry, ReadRefusal, Span};
@@ -104,7 +104,7 @@ fn open_entry(
     if draft.route_maps.has_entry(name.as_str(), entry.seq) {
         return Err(repeated(number));
     }
-    draft.stanza = Open::Entry(name, entry);
+    begin_stanza(draft, Open::Entry(name, entry));
     Ok(())
 }
 

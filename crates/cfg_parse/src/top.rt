@@ -7,7 +7,7 @@ ghost use Rattle.cfg_ast.specs.text.Reading.{new_interface, take_hostname, open_
 ghost use Rattle.cfg_stanzas.specs.Changes.{Changes};
 
 use crate::community_lists::CommunityLists;
-use crate::draft::{Draft, Open, State, no_draft};
+use crate::draft::{Draft, Open, State, begin_stanza, no_draft};
 use crate::prefix_lists::PrefixLists;
 use crate::route_maps::RouteMaps;
 use base_kit::{List, NoMemory, Text};
@@ -43,7 +43,7 @@ fn open_interface(number: u32, name: Text, draft: &mut Draft) -> Result<(), Read
     if draft.interfaces.has(name.as_str()) {
         return Err(repeated(number));
     }
-    draft.stanza = Open::Interface(new_interface(number, name));
+    begin_stanza(draft, Open::Interface(new_interface(number, name)));
     Ok(())
 }
 
@@ -51,7 +51,7 @@ fn open_bgp(alloc: Global, line: u32, number: u32, draft: &mut Draft) -> Result<
     ensures { Changes result draft.new (open_bgp line number draft.old) }
 {
     once(line, draft.bgp.is_some())?;
-    draft.stanza = Open::Bgp(BgpDraft::new(alloc, line, number));
+    begin_stanza(draft, Open::Bgp(BgpDraft::new(alloc, line, number)));
     Ok(())
 }
 
@@ -59,7 +59,7 @@ fn open_ospf(alloc: Global, line: u32, number: u32, draft: &mut Draft) -> Result
     ensures { Changes result draft.new (open_ospf line number draft.old) }
 {
     once(line, draft.ospf.is_some())?;
-    draft.stanza = Open::Ospf(OspfDraft::new(alloc, line, number));
+    begin_stanza(draft, Open::Ospf(OspfDraft::new(alloc, line, number)));
     Ok(())
 }
 
@@ -67,7 +67,7 @@ fn open_ospf(alloc: Global, line: u32, number: u32, draft: &mut Draft) -> Result
 pub(crate) fn ignore(draft: &mut Draft)
     ensures { draft.new ≡ record draft.old { stanza = ignored } }
 {
-    draft.stanza = Open::Ignored;
+    begin_stanza(draft, Open::Ignored);
 }
 
 // The lists and maps of a router, in order.
