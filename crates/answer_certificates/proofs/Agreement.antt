@@ -37,13 +37,17 @@ out_of bytes other same = ap (λ (o : Outcome). o.out) same
 
 -- ---- what is certified
 
-certified_class : (n : Network) → ∥ IsGiven n ∥₁ → IsFaultless n → FewLinks → GivenIsWellFormed → PrintedCertificateIsReadBack → PrintedCertificateIsShort → (class : DestClass) → Contains (classes_of n) class → (bytes : List ℕ) → IsCertifyOf n class (done bytes) → IsVerifyOf n (Some bytes) class (done (codes "yes\n"))
+certified_class : (n : Network) → ∥ IsGiven n ∥₁ → IsFaultless n → FewLinks → GivenIsWellFormed → PrintedCertificateIsReadBack → PrintedCertificateIsShort
+    → (class : DestClass) → Contains (classes_of n) class → (bytes : List ℕ) → IsCertifyOf n class (done bytes)
+        → IsVerifyOf n (Some bytes) class (done (codes "yes\n"))
 certified_class n given faultless links formed back short class has bytes x =
     let is = out_of bytes (certificate_text x.graph.edges x.problem.names x.certificate) x.told in
     let can = can_be_named n (formed n given) faultless links class has x.problem x.graph x.are in
     let few_routers = few n (formed n given) faultless links class has x.problem x.graph x.are in
-    let small : length bytes ≤ certificate_limit = subst (λ (t : List ℕ). length t ≤ certificate_limit) (sym is) (short x.graph x.problem.names x.certificate can x.accepted x.few few_routers) in
-    let read : certificate_of_text x.graph x.problem.names bytes ≡ Ok x.certificate = ap (certificate_of_text x.graph x.problem.names) is ∙ back x.graph x.problem.names x.certificate can x.accepted in
+    let small : length bytes ≤ certificate_limit = subst (λ (t : List ℕ). length t ≤ certificate_limit) (sym is)
+        (short x.graph x.problem.names x.certificate can x.accepted x.few few_routers) in
+    let read : certificate_of_text x.graph x.problem.names bytes ≡ Ok x.certificate = ap (certificate_of_text x.graph x.problem.names) is
+        ∙ back x.graph x.problem.names x.certificate can x.accepted in
     record {
       problem = x.problem;
       graph = x.graph;
@@ -51,7 +55,8 @@ certified_class n given faultless links formed back short class has bytes x =
       verdict = inr (small, subst (λ (r : Result Certificate CutRefusal). IsVerdict r (done (codes "yes\n"))) (sym read) refl);
     }
 
-pub certified_is_verified : (n : Network) → ∥ IsGiven n ∥₁ → IsFaultless n → FewLinks → GivenIsWellFormed → PrintedCertificateIsReadBack → PrintedCertificateIsShort → (number : ℕ) (bytes : List ℕ) (class : Option DestClass) → class_at (classes_of n) number ≡ class
+pub certified_is_verified : (n : Network) → ∥ IsGiven n ∥₁ → IsFaultless n → FewLinks → GivenIsWellFormed → PrintedCertificateIsReadBack
+    → PrintedCertificateIsShort → (number : ℕ) (bytes : List ℕ) (class : Option DestClass) → class_at (classes_of n) number ≡ class
     → IsOfClass class number (IsCertifyOf n) (done bytes) → IsOfClass class number (IsVerifyOf n (Some bytes)) (done (codes "yes\n"))
 certified_is_verified n given faultless links formed back short number bytes None at is = absurd (not_refused bytes (no_class number) is)
 certified_is_verified n given faultless links formed back short number bytes (Some class) at is =
@@ -65,7 +70,8 @@ verdict_spells (Ok c) is = (c, refl)
 verdict_spells (Err (cut_refusal.At line why)) is = absurd (not_refused (codes "yes\n") (certificate_reason line why) is)
 verdict_spells (Err cut_refusal.Memory) is = absurd is
 
-verified_class : (n : Network) (number : ℕ) (class : DestClass) → class_at (classes_of n) number ≡ Some class → (text : List ℕ) → IsVerifyOf n (Some text) class (done (codes "yes\n")) → NamesTheGroups n number text
+verified_class : (n : Network) (number : ℕ) (class : DestClass) → class_at (classes_of n) number ≡ Some class → (text : List ℕ)
+    → IsVerifyOf n (Some text) class (done (codes "yes\n")) → NamesTheGroups n number text
 verified_class n number class at text x = by x.verdict
   where
     has : Contains (classes_of n) class
@@ -87,7 +93,8 @@ verified_class n number class at text x = by x.verdict
           class_is = at;
           problem = x.problem;
           groups = coarsest.numbers;
-          coarsest = record { of_class = x.are.built.of; coarsest = coarsest_from x.problem problem_of.rules x.graph x.are.of_problem coarsest.numbers coarsest.coarsest };
+          coarsest = record { of_class = x.are.built.of; coarsest =
+              coarsest_from x.problem problem_of.rules x.graph x.are.of_problem coarsest.numbers coarsest.coarsest };
           graph = x.graph;
           are = x.are;
           certificate = c;
@@ -95,6 +102,7 @@ verified_class n number class at text x = by x.verdict
           named = coarsest.listed;
         }
 
-pub verified_names_groups : (n : Network) (number : ℕ) (text : List ℕ) (class : Option DestClass) → class_at (classes_of n) number ≡ class → IsOfClass class number (IsVerifyOf n (Some text)) (done (codes "yes\n")) → NamesTheGroups n number text
+pub verified_names_groups : (n : Network) (number : ℕ) (text : List ℕ) (class : Option DestClass) → class_at (classes_of n) number ≡ class
+    → IsOfClass class number (IsVerifyOf n (Some text)) (done (codes "yes\n")) → NamesTheGroups n number text
 verified_names_groups n number text None at is = absurd (not_refused (codes "yes\n") (no_class number) is)
 verified_names_groups n number text (Some class) at is = verified_class n number class at text is

@@ -47,7 +47,8 @@ map_long f (x ∷ xs) = omega (arith, map_long f xs)
 
 -- ---- names
 
-router_names : (routers : List Router) → AllByRecursion IsWellFormedRouter routers → AllByRecursion (λ (name : List ℕ). is_router_name name ≡ true) (map (λ (r : Router). r.name) routers)
+router_names : (routers : List Router) → AllByRecursion IsWellFormedRouter routers
+    → AllByRecursion (λ (name : List ℕ). is_router_name name ≡ true) (map (λ (r : Router). r.name) routers)
 router_names [] all = tt
 router_names (r ∷ rs) all = (all.0.name, router_names rs all.1)
 
@@ -70,11 +71,14 @@ both_same x e is = by (nat_eq x.importer e.importer) refl (nat_eq x.link e.link)
 abbrev AreOne : List Edge → Type 0
 AreOne edges = (a b : Edge) → Contains edges a → Contains edges b → a.importer ≡ b.importer → a.link ≡ b.link → a ≡ b
 
-none_over : (e : Edge) (es : List Edge) → All (Precedes e) es → ((x : Edge) → Contains es x → e.importer ≡ x.importer → e.link ≡ x.link → e ≡ x) → list_any (is_edge_over e.importer e.link) es ≡ false
+none_over : (e : Edge) (es : List Edge) → All (Precedes e) es → ((x : Edge) → Contains es x → e.importer ≡ x.importer → e.link ≡ x.link → e ≡ x)
+    → list_any (is_edge_over e.importer e.link) es ≡ false
 none_over e [] before one = refl
-none_over e (x ∷ es) before one = by (is_edge_over e.importer e.link x) refl (none_over e es (λ k d h. before (suc k) d (omega arith)) (λ y h. one y (behind x y es h)))
+none_over e (x ∷ es) before one = by (is_edge_over e.importer e.link x) refl
+    (none_over e es (λ k d h. before (suc k) d (omega arith)) (λ y h. one y (behind x y es h)))
   where
-    by : (b : Bool) → is_edge_over e.importer e.link x ≡ b → list_any (is_edge_over e.importer e.link) es ≡ false → (b || list_any (is_edge_over e.importer e.link) es) ≡ false
+    by : (b : Bool) → is_edge_over e.importer e.link x ≡ b → list_any (is_edge_over e.importer e.link) es ≡ false
+        → (b || list_any (is_edge_over e.importer e.link) es) ≡ false
     by true f rest =
         let s = both_same x e f in
         let same = one x (in_front x es) s.0 s.1 in
@@ -94,7 +98,8 @@ inside_links n d (inr high) = inside_of (links_of n) d.link (high_imports d) hig
 
 -- ---- a class
 
-module _ (n : Network) (formed : IsWellFormed n) (faultless : IsFaultless n) (links : FewLinks) (class : DestClass) (has : Contains (classes_of n) class) (P : Problem) (graph : ActGraph) (are : IsGraphFor n class P graph) where
+module _ (n : Network) (formed : IsWellFormed n) (faultless : IsFaultless n) (links : FewLinks) (class : DestClass) (has : Contains (classes_of n) class)
+    (P : Problem) (graph : ActGraph) (are : IsGraphFor n class P graph) where
   prefix : (p : Prefix) × Contains class.prefixes p
   prefix = some_prefix n class has
 

@@ -46,14 +46,16 @@ one_verdict (Ok certificate) o p x y = x ∙ sym y
 one_verdict (Err (cut_refusal.At line why)) o p x y = x ∙ sym y
 one_verdict (Err cut_refusal.Memory) o p x y = absurd x
 
-one_text : ColorsAreAside → (P Q : Problem) (g h : ActGraph) → P ≡ Q → IsGraphOf P g → IsGraphOf Q h → (text : List ℕ) (o p : Outcome) → IsVerdictOn P g text o → IsVerdictOn Q h text p → o ≡ p
+one_text : ColorsAreAside → (P Q : Problem) (g h : ActGraph) → P ≡ Q → IsGraphOf P g → IsGraphOf Q h → (text : List ℕ) (o p : Outcome) → IsVerdictOn P g text o
+    → IsVerdictOn Q h text p → o ≡ p
 one_text aside P Q g h same a b text o p x y =
     let other : IsGraphOf P h = subst (λ (R : Problem). IsGraphOf R h) (sym same) b in
     let read : certificate_of_text h Q.names text ≡ certificate_of_text g P.names text =
     ap (λ (R : Problem). certificate_of_text h R.names text) (sym same) ∙ aside h g (one_graph P h g other a) P.names text in
     one_verdict (certificate_of_text g P.names text) o p x (subst (λ (r : Result Certificate CutRefusal). IsVerdict r p) read y)
 
-pub one_verify : (n : Network) (class : DestClass) → Contains (classes_of n) class → BuiltProblemIsOne → ColorsAreAside → (second : Option (List ℕ)) → IsSome second → (o p : Outcome) → IsVerifyOf n second class o → IsVerifyOf n second class p → o ≡ p
+pub one_verify : (n : Network) (class : DestClass) → Contains (classes_of n) class → BuiltProblemIsOne → ColorsAreAside → (second : Option (List ℕ))
+    → IsSome second → (o p : Outcome) → IsVerifyOf n second class o → IsVerifyOf n second class p → o ≡ p
 one_verify n class has one aside second told o p x y =
     let same = one n class has x.problem y.problem x.are.built y.are.built in
     one_of_second certificate_limit long_certificate (IsVerdictOn x.problem x.graph) (IsVerdictOn y.problem y.graph) second told o p

@@ -32,10 +32,12 @@ module _ (P Q : Problem) (same : ProblemsAlike P Q) where
   same_word u = ap (λ (names : List (List ℕ)). codes " " ++ slice_index_or names u []) same.names
 
   same_line : (number : ℕ) (members : List ℕ) → group_line P number members ≡ group_line Q number members
-  same_line number members = λ j. codes "group " ++ decimal number ++ same_group_mark members j ++ codes ":" ++ flat_map_same (member_word P) (member_word Q) members same_word j ++ codes "\n"
+  same_line number members = λ j. codes "group " ++ decimal number ++ same_group_mark members j ++ codes ":"
+      ++ flat_map_same (member_word P) (member_word Q) members same_word j ++ codes "\n"
 
   same_lines : (groups : List ℕ) (count : ℕ) → group_lines P groups count ≡ group_lines Q groups count
-  same_lines groups count = flat_map_same (line_of_group P groups) (line_of_group Q groups) (range_with_len 0 count) (λ group. same_line (group + 1) (members_of groups group))
+  same_lines groups count = flat_map_same (line_of_group P groups) (line_of_group Q groups) (range_with_len 0 count)
+      (λ group. same_line (group + 1) (members_of groups group))
 
   one_text_of : (gs hs bs cs : List ℕ) → IsCoarsest P gs → IsCoarsest Q hs → HasGroupLines P gs bs → HasGroupLines Q hs cs → bs ≡ cs
   one_text_of gs hs bs cs c d x y =
@@ -43,7 +45,9 @@ module _ (P Q : Problem) (same : ProblemsAlike P Q) where
       let counts = one_count_of_groups hs x.count y.count (subst (λ (g : List ℕ). IsNumbered g x.count) groups x.numbered) y.numbered in
       x.lines ∙ same_lines gs x.count ∙ (λ j. group_lines Q (groups j) (counts j)) ∙ sym y.lines
 
-pub one_text : (n : Network) (class : DestClass) → Contains (classes_of n) class → (bs cs : List ℕ) → AreGroupLines n class bs → AreGroupLines n class cs → bs ≡ cs
+pub one_text : (n : Network) (class : DestClass) → Contains (classes_of n) class → (bs cs : List ℕ) → AreGroupLines n class bs → AreGroupLines n class cs
+    → bs ≡ cs
 one_text n class c bs cs x y =
     let p = some_prefix n class c in
-    one_text_of x.problem y.problem (one_problem n p.0 x.problem y.problem (x.are.of_class p.0 p.1) (y.are.of_class p.0 p.1)) x.groups y.groups bs cs x.are.coarsest y.are.coarsest x.lines y.lines
+    one_text_of x.problem y.problem (one_problem n p.0 x.problem y.problem (x.are.of_class p.0 p.1) (y.are.of_class p.0 p.1)) x.groups y.groups bs cs
+        x.are.coarsest y.are.coarsest x.lines y.lines

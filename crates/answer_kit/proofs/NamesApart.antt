@@ -33,7 +33,8 @@ weaker : (q : Router) (past rs : List Router) → AreNew (q ∷ past) rs → Are
 weaker q past [] new = tt
 weaker q past (r ∷ rs) new = ((parted (same_name r) q past (same_name r q) refl new.0).1, weaker q past rs new.1)
 
-joined : (name : List ℕ) (r : Router) (rs : List Router) → bytes_eq name r.name ≡ false → list_any (bytes_eq name) (map name_of rs) ≡ false → list_any (bytes_eq name) (map name_of (r ∷ rs)) ≡ false
+joined : (name : List ℕ) (r : Router) (rs : List Router) → bytes_eq name r.name ≡ false → list_any (bytes_eq name) (map name_of rs) ≡ false
+    → list_any (bytes_eq name) (map name_of (r ∷ rs)) ≡ false
 joined name r rs other others = rw other others
 
 others : (q : Router) (past rs : List Router) → AreNew (q ∷ past) rs → list_any (bytes_eq q.name) (map name_of rs) ≡ false
@@ -58,7 +59,8 @@ unfolding shared_name_lines
 names_apart n faultless = (none_repeat [] n.routers faultless.shared_name).1
 
 -- and so have those of a problem of a class
-pub problem_apart : (n : Network) → IsFaultless n → (class : DestClass) → Contains (classes_of n) class → (P : Problem) → IsProblemOfClass n class P → AreApart P.names
+pub problem_apart : (n : Network) → IsFaultless n → (class : DestClass) → Contains (classes_of n) class → (P : Problem) → IsProblemOfClass n class P
+    → AreApart P.names
 problem_apart n faultless class c P of_class =
     let p = some_prefix n class c in
     let one : P.names ≡ map name_of n.routers = (of_class p.0 p.1).names in

@@ -14,14 +14,16 @@ cases (suc a) (suc b) = elim (cases a b) [
 ]
 
 -- a number that is less than the one at the same place of the other list was met before, at one place in both
-not_less : (xs ys : List ℕ) (n v : ℕ) → length xs ≡ length ys → IsNumbered ys n → Refines (length xs) xs ys → v < length xs → ((u : ℕ) → u < v → slice_index xs u ≡ slice_index ys u) → slice_index xs v < slice_index ys v → ⊥
+not_less : (xs ys : List ℕ) (n v : ℕ) → length xs ≡ length ys → IsNumbered ys n → Refines (length xs) xs ys → v < length xs
+    → ((u : ℕ) → u < v → slice_index xs u ≡ slice_index ys u) → slice_index xs v < slice_index ys v → ⊥
 not_less xs ys n v same numbered there h before less =
     let w = numbered.in_order v (slice_index xs v) (omega (arith, same, h)) less in
     let met : slice_index xs w.0 ≡ slice_index xs v = before w.0 w.1 ∙ w.2 in
     let together : slice_index ys w.0 ≡ slice_index ys v = there w.0 v (omega (arith, w.1, h)) h met in
     omega (arith, less, together, w.2)
 
-module _ (xs ys : List ℕ) (m n : ℕ) (same : length xs ≡ length ys) (a : IsNumbered xs m) (b : IsNumbered ys n) (there : Refines (length xs) xs ys) (back : Refines (length ys) ys xs) where
+module _ (xs ys : List ℕ) (m n : ℕ) (same : length xs ≡ length ys) (a : IsNumbered xs m) (b : IsNumbered ys n) (there : Refines (length xs) xs ys)
+    (back : Refines (length ys) ys xs) where
   at : (bound v : ℕ) → v < bound → v < length xs → slice_index xs v ≡ slice_index ys v
   at zero v below h = absurd (omega (arith, below))
   at (suc bound) v below h =

@@ -23,11 +23,13 @@ some_prefix n class c =
     let m = map_in (class_of n) (filter (is_least n) (originated n)) class (in_contains _ class c) in
     let p = m.0 in
     let inside : In (originated n) p = (filter_in (is_least n) (originated n) p m.1).0 in
-    let own : Contains (class_of n p).prefixes p = contains_in _ p (in_filter (is_same_class n p) (originated n) p inside (is_one_class n p p (record { origins = refl; answers = refl }))) in
+    let own : Contains (class_of n p).prefixes p = contains_in _ p
+        (in_filter (is_same_class n p) (originated n) p inside (is_one_class n p p (record { origins = refl; answers = refl }))) in
     (p, subst (λ (k : DestClass). Contains k.prefixes p) m.2 own)
 
 -- the class of a number is one of the network
-pub found_in : (classes : List DestClass) (k : ℕ) (class : DestClass) (b : Bool) → (if b then None else slice_get classes k) ≡ Some class → Contains classes class
+pub found_in : (classes : List DestClass) (k : ℕ) (class : DestClass) (b : Bool) → (if b then None else slice_get classes k) ≡ Some class
+    → Contains classes class
 found_in classes k class true found = cc
 found_in classes k class false found = contains_in classes class (get_in classes k class found)
 
@@ -35,7 +37,8 @@ found_in classes k class false found = contains_in classes class (get_in classes
 abbrev pub IsOneOfEach : Network → (DestClass → Outcome → Type 0) → Type 0
 IsOneOfEach n IsAllowed = (class : DestClass) → Contains (classes_of n) class → (o p : Outcome) → IsAllowed class o → IsAllowed class p → o ≡ p
 
-pub one_of_class : (n : Network) (IsAllowed : DestClass → Outcome → Type 0) → IsOneOfEach n IsAllowed → (number : ℕ) (class : Option DestClass) → class_at (classes_of n) number ≡ class
+pub one_of_class : (n : Network) (IsAllowed : DestClass → Outcome → Type 0) → IsOneOfEach n IsAllowed → (number : ℕ) (class : Option DestClass)
+    → class_at (classes_of n) number ≡ class
     → (o p : Outcome) → IsOfClass class number IsAllowed o → IsOfClass class number IsAllowed p → o ≡ p
 one_of_class n IsAllowed one number None found o p x y = x ∙ sym y
 one_of_class n IsAllowed one number (Some class) found o p x y = one class (found_in (classes_of n) (number - 1) class (nat_eq number 0) found) o p x y

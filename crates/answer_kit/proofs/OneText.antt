@@ -15,14 +15,16 @@ use Rattle.answer_kit.specs.Outcome.{Outcome}
 use Rattle.answer_kit.specs.SecondFiles.{IsOfText, IsOfSecond, solution_limit, long_solution, IsOfLabels, IsOfLabelsIn, IsOfSolution}
 
 -- of a text one outcome is allowed, where that is so if it is short
-pub one_of_text : (limit : ℕ) (long : List ℕ) (A B : List ℕ → Outcome → Type 0) (text : List ℕ) (o p : Outcome) → (A text o → B text p → o ≡ p) → IsOfText limit long A text o → IsOfText limit long B text p → o ≡ p
+pub one_of_text : (limit : ℕ) (long : List ℕ) (A B : List ℕ → Outcome → Type 0) (text : List ℕ) (o p : Outcome) → (A text o → B text p → o ≡ p)
+    → IsOfText limit long A text o → IsOfText limit long B text p → o ≡ p
 one_of_text limit long A B text o p one (inl x) (inl y) = x.1 ∙ sym y.1
 one_of_text limit long A B text o p one (inl x) (inr y) = absurd (omega (arith, x.0, y.0))
 one_of_text limit long A B text o p one (inr x) (inl y) = absurd (omega (arith, x.0, y.0))
 one_of_text limit long A B text o p one (inr x) (inr y) = one x.1 y.1
 
 -- and so of a file that is told
-pub one_of_second : (limit : ℕ) (long : List ℕ) (A B : List ℕ → Outcome → Type 0) (second : Option (List ℕ)) → IsSome second → (o p : Outcome) → ((text : List ℕ) → A text o → B text p → o ≡ p)
+pub one_of_second : (limit : ℕ) (long : List ℕ) (A B : List ℕ → Outcome → Type 0) (second : Option (List ℕ)) → IsSome second → (o p : Outcome)
+    → ((text : List ℕ) → A text o → B text p → o ≡ p)
     → IsOfSecond limit long second A o → IsOfSecond limit long second B p → o ≡ p
 one_of_second limit long A B None told o p one x y = cc
 one_of_second limit long A B (Some text) told o p one x y = one_of_text limit long A B text o p (one text) x y
@@ -41,7 +43,8 @@ one_of_network A one text o p x y =
     (one_of_reading A one (reading_of text) o p) x y
 
 -- of the labels of a solution one outcome is allowed, where that is so of all labels
-module _ (P Q : Problem) (protocols : P.protocol ≡ Q.protocol) (names : P.names ≡ Q.names) (A B : List (Option Route) → Outcome → Type 0) (one : (labels : List (Option Route)) (o p : Outcome) → A labels o → B labels p → o ≡ p) where
+module _ (P Q : Problem) (protocols : P.protocol ≡ Q.protocol) (names : P.names ≡ Q.names) (A B : List (Option Route) → Outcome → Type 0)
+    (one : (labels : List (Option Route)) (o p : Outcome) → A labels o → B labels p → o ≡ p) where
   one_of_labels : (r : Result (List (Option Route)) SolRefusal) (o p : Outcome) → IsOfLabels A r o → IsOfLabels B r p → o ≡ p
   one_of_labels (Ok labels) o p x y = one labels o p x y
   one_of_labels (Err (sol_refusal.At line kind)) o p x y = x ∙ sym y
@@ -53,4 +56,5 @@ module _ (P Q : Problem) (protocols : P.protocol ≡ Q.protocol) (names : P.name
   pub one_of_solution : (second : Option (List ℕ)) → IsSome second → (o p : Outcome) → IsOfSolution P second A o → IsOfSolution Q second B p → o ≡ p
   one_of_solution second told o p x y =
       one_of_second solution_limit long_solution (IsOfLabelsIn P A) (IsOfLabelsIn Q B) second told o p
-      (λ text a b. one_of_labels (labels_of_text P.protocol P.names text) o p a (subst (λ (r : Result (List (Option Route)) SolRefusal). IsOfLabels B r p) (one_reading text) b)) x y
+      (λ text a b. one_of_labels (labels_of_text P.protocol P.names text) o p a
+          (subst (λ (r : Result (List (Option Route)) SolRefusal). IsOfLabels B r p) (one_reading text) b)) x y

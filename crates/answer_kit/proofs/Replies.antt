@@ -9,7 +9,8 @@ use Rattle.answer_kit.specs.Outcome.{Outcome, done, refused, not_stable}
 use Rattle.answer_kit.specs.Replies.{Answers, Only, IsRefusalFor}
 
 -- a reply that is allowed is so where more is allowed, with weaker causes
-pub answers_as : (reply : Reply) (A B : Outcome → Type 0) (first first' second second' : Type 0) → ((o : Outcome) → A o → B o) → (first → first') → (second → second') → Answers reply A first second → Answers reply B first' second'
+pub answers_as : (reply : Reply) (A B : Outcome → Type 0) (first first' second second' : Type 0) → ((o : Outcome) → A o → B o) → (first → first')
+    → (second → second') → Answers reply A first second → Answers reply B first' second'
 answers_as (Output bytes) A B first first' second second' more f s answers = more (done bytes.items) answers
 answers_as (Refusal reason) A B first first' second second' more f s answers = more (refused reason.items) answers
 answers_as (NotStable reason) A B first first' second second' more f s answers = more (not_stable reason.items) answers
@@ -19,8 +20,10 @@ answers_as SecondFailed A B first first' second second' more f s answers = s ans
 answers_as NoMemory A B first first' second second' more f s answers = tt
 
 -- a reply that is one outcome alone, where that one is allowed
-pub answers_only : (reply : Reply) (allowed : Outcome) (A : Outcome → Type 0) (first second : Type 0) → A allowed → Answers reply (Only allowed) ⊥ ⊥ → Answers reply A first second
-answers_only reply allowed A first second a answers = answers_as reply (Only allowed) A ⊥ first ⊥ second (λ o is. subst A (sym is) a) (λ e. absurd e) (λ e. absurd e) answers
+pub answers_only : (reply : Reply) (allowed : Outcome) (A : Outcome → Type 0) (first second : Type 0) → A allowed → Answers reply (Only allowed) ⊥ ⊥
+    → Answers reply A first second
+answers_only reply allowed A first second a answers = answers_as reply (Only allowed) A ⊥ first ⊥ second (λ o is. subst A (sym is) a) (λ e. absurd e)
+    (λ e. absurd e) answers
 
 -- a refusal for a reason that has these bytes
 pub refused_for : (reply : Reply) (reason : Result (String Global) AllocError) (bytes : List ℕ) → IfOk reason (λ text. string_bytes text ≡ bytes)

@@ -25,13 +25,16 @@ one_report law text n number class has o p x y =
     x.written ∙ ap (λ (plan : Plan). done (text (report_of n number plan))) (one_plan law n class has x.plan y.plan x.is y.is) ∙ sym y.written
 
 pub report_answer_is_one : BuiltProblemIsOne → ReportAnswerIsOne
-report_answer_is_one law n number o p x y = one_of_class n (IsReported report_text n number) (one_report law report_text n number) number (class_at (classes_of n) number) refl o p x y
+report_answer_is_one law n number o p x y = one_of_class n (IsReported report_text n number) (one_report law report_text n number) number
+    (class_at (classes_of n) number) refl o p x y
 
 pub json_answer_is_one : BuiltProblemIsOne → JsonAnswerIsOne
-json_answer_is_one law n number o p x y = one_of_class n (IsReported json_text n number) (one_report law json_text n number) number (class_at (classes_of n) number) refl o p x y
+json_answer_is_one law n number o p x y = one_of_class n (IsReported json_text n number) (one_report law json_text n number) number
+    (class_at (classes_of n) number) refl o p x y
 
 -- classes of the network have one list of plans
-one_list : BuiltProblemIsOne → (n : Network) (cs : List DestClass) (ps qs : List Plan) → ((class : DestClass) → In cs class → Contains (classes_of n) class) → ArePlansOf n cs ps → ArePlansOf n cs qs → ps ≡ qs
+one_list : BuiltProblemIsOne → (n : Network) (cs : List DestClass) (ps qs : List Plan) → ((class : DestClass) → In cs class → Contains (classes_of n) class)
+    → ArePlansOf n cs ps → ArePlansOf n cs qs → ps ≡ qs
 one_list law n [] [] [] among x y = refl
 one_list law n [] [] (q ∷ qs) among x y = absurd y
 one_list law n [] (p ∷ ps) qs among x y = absurd x

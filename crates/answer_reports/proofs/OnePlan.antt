@@ -16,9 +16,11 @@ use Rattle.answer_kit.proofs.NumberedOnce.{one_count_of_groups}
 use Rattle.answer_kit.proofs.OneClass.{some_prefix, one_list_of_groups}
 
 abbrev plan_with : Network → DestClass → Problem → List ℕ → ℕ → List QLink → Plan
-plan_with network class problem groups count links = record { network = network; class = class; problem = problem; groups = groups; count = count; links = links }
+plan_with network class problem groups count links = record { network = network; class = class; problem = problem; groups = groups; count = count; links =
+    links }
 
-pub one_plan : BuiltProblemIsOne → (n : Network) (class : DestClass) → Contains (classes_of n) class → (e f : Plan) → IsPlanOf n class e → IsPlanOf n class f → e ≡ f
+pub one_plan : BuiltProblemIsOne → (n : Network) (class : DestClass) → Contains (classes_of n) class → (e f : Plan) → IsPlanOf n class e → IsPlanOf n class f
+    → e ≡ f
 one_plan law n class has e f x y =
     let p = some_prefix n class has in
     let alike = problems_alike n p.0 e.problem f.problem (x.built.of p.0 p.1) (y.built.of p.0 p.1) in

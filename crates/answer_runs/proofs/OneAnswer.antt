@@ -10,7 +10,9 @@ use Rattle.answer_runs.proofs.OneReach.{one_reach}
 use Rattle.answer_runs.proofs.OneRun.{one_run}
 
 pub run_answer_is_one : RunAnswerIsOne
-run_answer_is_one n number second told o p x y = one_of_class n (IsRunOf n second) (λ class c. one_run n class c second told) number (class_at (classes_of n) number) refl o p x y
+run_answer_is_one n number second told o p x y = one_of_class n (IsRunOf n second) (λ class c. one_run n class c second told) number
+    (class_at (classes_of n) number) refl o p x y
 
 pub reach_answer_is_one : ReachAnswerIsOne
-reach_answer_is_one n number second told o p x y = one_of_class n (IsReachOf n second) (λ class c. one_reach n class c second told) number (class_at (classes_of n) number) refl o p x y
+reach_answer_is_one n number second told o p x y = one_of_class n (IsReachOf n second) (λ class c. one_reach n class c second told) number
+    (class_at (classes_of n) number) refl o p x y

@@ -21,7 +21,8 @@ pub record IsFound (groups : List ℕ) (g k : ℕ) : Type 0 where
   pub inside : k < length groups
   pub there : slice_index groups k ≡ g
 
-found_step : (x g : ℕ) (xs : List ℕ) (b : Bool) → nat_eq x g ≡ b → (b ≡ false → IsFound xs g (first_member xs g)) → IsFound (x ∷ xs) g (if b then 0 else suc (first_member xs g))
+found_step : (x g : ℕ) (xs : List ℕ) (b : Bool) → nat_eq x g ≡ b → (b ≡ false → IsFound xs g (first_member xs g))
+    → IsFound (x ∷ xs) g (if b then 0 else suc (first_member xs g))
 found_step x g xs true e rest = record { inside = omega arith; there = grind (arith, nat_tests) }
 found_step x g xs false e rest = (let r = rest refl in record { inside = (let i = r.inside in omega arith); there = r.there })
 
@@ -56,13 +57,15 @@ apart_at (x ∷ xs) apart i zero less h = absurd (omega arith)
 apart_at (x ∷ xs) apart zero (suc j) less h = not_any x xs j apart.0 (omega arith)
 apart_at (x ∷ xs) apart (suc i) (suc j) less h = apart_at xs apart.1 i j (omega arith) (omega arith)
 
-apart_two : (xs : List (List ℕ)) → AreApart xs → (u v : ℕ) → u < length xs → v < length xs → u ≢ v → bytes_eq (slice_index_or xs u []) (slice_index_or xs v []) ≡ false
+apart_two : (xs : List (List ℕ)) → AreApart xs → (u v : ℕ) → u < length xs → v < length xs → u ≢ v
+    → bytes_eq (slice_index_or xs u []) (slice_index_or xs v []) ≡ false
 apart_two xs apart u v hu hv differ = elim (cases_lt u v) [
   | inl less ↦ apart_at xs apart u v less hv
   | inr not_less ↦ bytes_eq-sym (slice_index_or xs u []) (slice_index_or xs v []) ∙ apart_at xs apart v u (omega arith) hu
 ]
 
-any_none : (name : List ℕ) (xs : List (List ℕ)) → ((j : ℕ) → j < length xs → bytes_eq name (slice_index_or xs j []) ≡ false) → list_any (bytes_eq name) xs ≡ false
+any_none : (name : List ℕ) (xs : List (List ℕ)) → ((j : ℕ) → j < length xs → bytes_eq name (slice_index_or xs j []) ≡ false)
+    → list_any (bytes_eq name) xs ≡ false
 any_none name [] each = refl
 any_none name (x ∷ xs) each =
     let first : bytes_eq name x ≡ false = each 0 (omega arith) in
@@ -71,7 +74,8 @@ any_none name (x ∷ xs) each =
 
 all_apart : (xs : List (List ℕ)) → ((i j : ℕ) → i < j → j < length xs → bytes_eq (slice_index_or xs i []) (slice_index_or xs j []) ≡ false) → AreApart xs
 all_apart [] each = tt
-all_apart (x ∷ xs) each = (any_none x xs (λ j h. each 0 (suc j) (omega arith) (omega arith)), all_apart xs (λ i j less h. each (suc i) (suc j) (omega arith) (omega arith)))
+all_apart (x ∷ xs) each = (any_none x xs (λ j h. each 0 (suc j) (omega arith) (omega arith)),
+    all_apart xs (λ i j less h. each (suc i) (suc j) (omega arith) (omega arith)))
 
 -- the names of so many groups
 abbrev names_with : Problem → List ℕ → ℕ → List (List ℕ)
@@ -81,7 +85,8 @@ module _ (P : Problem) (groups : List ℕ) (count : ℕ) (numbered : IsNumbered 
   name_at : (g : ℕ) → g < count → slice_index_or (names_with P groups count) g [] ≡ slice_index_or P.names (first_member groups g) []
   name_at g h = get_or-map-range_with_len (λ g. slice_index_or P.names (first_member groups g) []) 0 count g g [] h (omega arith)
 
-  two_names : AreApart P.names → (i j : ℕ) → i < j → j < count → bytes_eq (slice_index_or (names_with P groups count) i []) (slice_index_or (names_with P groups count) j []) ≡ false
+  two_names : AreApart P.names → (i j : ℕ) → i < j → j < count
+      → bytes_eq (slice_index_or (names_with P groups count) i []) (slice_index_or (names_with P groups count) j []) ≡ false
   two_names apart i j less h =
       let a = first_of groups count i numbered (omega arith) in
       let b = first_of groups count j numbered h in
@@ -94,7 +99,8 @@ module _ (P : Problem) (groups : List ℕ) (count : ℕ) (numbered : IsNumbered 
       (λ same. (let one : i ≡ j = sym a.there ∙ ap (slice_index groups) same ∙ b.there in omega arith))
 
   names_apart : AreApart P.names → AreApart (names_with P groups count)
-  names_apart apart = all_apart (names_with P groups count) (λ i j less h. (let long = length-map-range_with_len (λ g. slice_index_or P.names (first_member groups g) []) 0 count in two_names apart i j less (omega arith)))
+  names_apart apart = all_apart (names_with P groups count) (λ i j less h.
+      (let long = length-map-range_with_len (λ g. slice_index_or P.names (first_member groups g) []) 0 count in two_names apart i j less (omega arith)))
 
   pub group_names_apart : AreApart P.names → AreApart (small_of P groups count).names
   unfolding quotient_problem
@@ -114,7 +120,8 @@ all_map : {X Y : Type 0} (A : Y → Type 0) (f : X → Y) (xs : List X) → ((x 
 all_map A f [] each = tt
 all_map A f (x ∷ xs) each = (each x (inl refl), all_map A f xs (λ y at. each y (inr at)))
 
-pub router_names : (routers : List Router) → AllByRecursion IsWellFormedRouter routers → AllByRecursion (λ (name : List ℕ). is_router_name name ≡ true) (map (λ (r : Router). r.name) routers)
+pub router_names : (routers : List Router) → AllByRecursion IsWellFormedRouter routers
+    → AllByRecursion (λ (name : List ℕ). is_router_name name ≡ true) (map (λ (r : Router). r.name) routers)
 router_names [] all = tt
 router_names (r ∷ rs) all = (all.0.name, router_names rs all.1)
 
@@ -127,6 +134,7 @@ module _ (P : Problem) (groups : List ℕ) (count : ℕ) (numbered : IsNumbered 
       let inside = f.inside in
       all_at IsName P.names (first_member groups g) [] all (omega arith)))
 
-  pub group_names : AllByRecursion (λ (name : List ℕ). is_router_name name ≡ true) P.names → AllByRecursion (λ (name : List ℕ). is_router_name name ≡ true) (small_of P groups count).names
+  pub group_names : AllByRecursion (λ (name : List ℕ). is_router_name name ≡ true) P.names
+      → AllByRecursion (λ (name : List ℕ). is_router_name name ≡ true) (small_of P groups count).names
   unfolding quotient_problem
   group_names all = names_are all

@@ -8,4 +8,5 @@ use Rattle.answer_solutions.specs.OneAnswer.{CheckAnswerIsOne}
 use Rattle.answer_solutions.proofs.OneCheck.{one_check}
 
 pub check_answer_is_one : CheckAnswerIsOne
-check_answer_is_one n number second told o p x y = one_of_class n (IsCheckOf n second) (λ class c. one_check n class c second told) number (class_at (classes_of n) number) refl o p x y
+check_answer_is_one n number second told o p x y = one_of_class n (IsCheckOf n second) (λ class c. one_check n class c second told) number
+    (class_at (classes_of n) number) refl o p x y

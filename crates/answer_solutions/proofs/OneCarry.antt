@@ -37,11 +37,13 @@ use Rattle.answer_solutions.specs.Carries.{AreSides, IsIfStable, IsOfStable, IsF
 abbrev sides_with : Problem → List ℕ → Problem → Sides
 sides_with problem groups small = record { problem = problem; groups = groups; small = small }
 
-pub one_sides : (n : Network) (class : DestClass) → Contains (classes_of n) class → BuiltProblemIsOne → (s t : Sides) → AreSides n class s → AreSides n class t → s ≡ t
+pub one_sides : (n : Network) (class : DestClass) → Contains (classes_of n) class → BuiltProblemIsOne → (s t : Sides) → AreSides n class s → AreSides n class t
+    → s ≡ t
 one_sides n class has built s t x y =
     let p = some_prefix n class has in
     let problems = built n class has s.problem t.problem x.built y.built in
-    let groups = one_list_of_groups s.problem t.problem (problems_alike n p.0 s.problem t.problem (x.built.of p.0 p.1) (y.built.of p.0 p.1)) s.groups t.groups x.count y.count x.coarsest y.coarsest x.numbered y.numbered in
+    let groups = one_list_of_groups s.problem t.problem (problems_alike n p.0 s.problem t.problem (x.built.of p.0 p.1) (y.built.of p.0 p.1)) s.groups t.groups
+        x.count y.count x.coarsest y.coarsest x.numbered y.numbered in
     let counts = one_count_of_groups t.groups x.count y.count (subst (λ (g : List ℕ). IsNumbered g x.count) groups x.numbered) y.numbered in
     let smalls = x.small_is ∙ (λ j. small_of (problems j) (groups j) (counts j)) ∙ sym y.small_is in
     λ j. sides_with (problems j) (groups j) (smalls j)
@@ -61,7 +63,8 @@ module _ (P : Problem) (labels : List (Option Route)) (A : Outcome → Type 0) (
   by_answer (Not router why) b same judged o p x y = x ∙ sym (subst (λ (c : Answer). IsIfStable P A c p) (sym same) y)
 
   one_of_stable : IsProblem P → (o p : Outcome) → IsOfStable P labels A o → IsOfStable P labels A p → o ≡ p
-  one_of_stable rules o p x y = by_answer x.answer y.answer (one_answer P P labels rules (problem_self P) x.fitting x.answer y.answer x.judged y.judged) x.judged o p x.told y.told
+  one_of_stable rules o p x y = by_answer x.answer y.answer (one_answer P P labels rules (problem_self P) x.fitting x.answer y.answer x.judged y.judged)
+      x.judged o p x.told y.told
 
 -- ---- one outcome
 
@@ -70,7 +73,8 @@ module _ (n : Network) (class : DestClass) (has : Contains (classes_of n) class)
   rules_of s are = (let p = some_prefix n class has in (are.built.of p.0 p.1).rules)
 
   pub quotient_of : (s : Sides) → AreSides n class s → IsQuotient s.problem s.groups s.small
-  quotient_of s are = subst (IsQuotient s.problem s.groups) (sym are.small_is) (quotient s.problem s.groups are.count (rules_of s are) are.coarsest.admissible are.numbered)
+  quotient_of s are = subst (IsQuotient s.problem s.groups) (sym are.small_is)
+      (quotient s.problem s.groups are.count (rules_of s are) are.coarsest.admissible are.numbered)
 
   -- the problem from which labels are carried keeps its rules
   carried_rules : (way : Way) (s : Sides) → AreSides n class s → IsProblem (carried_from way s)
@@ -78,25 +82,35 @@ module _ (n : Network) (class : DestClass) (has : Contains (classes_of n) class)
   carried_rules Lift s are = are.small_rules
 
   -- one way of stable labels gives one outcome
-  module _ (built : BuiltProblemIsOne) (way : Way) (one : (s : Sides) → AreSides n class s → (labels : List (Option Route)) → IsStable (carried_from way s) labels → (o p : Outcome) → IsCarriedBy way s labels o → IsCarriedBy way s labels p → o ≡ p) where
+  module _ (built : BuiltProblemIsOne) (way : Way) (one : (s : Sides) → AreSides n class s → (labels : List (Option Route))
+      → IsStable (carried_from way s) labels → (o p : Outcome) → IsCarriedBy way s labels o → IsCarriedBy way s labels p → o ≡ p) where
     one_carry : (second : Option (List ℕ)) → IsSome second → (o p : Outcome) → IsCarryOf way n second class o → IsCarryOf way n second class p → o ≡ p
     one_carry second told o p x y =
         let s = x.sides in
         let P = carried_from way s in
         let same = one_sides n class has built x.sides y.sides x.are y.are in
         let other = subst (λ (t : Sides). IsOfSolution (carried_from way t) second (IsCarryOfLabels way t (carried_from way t)) p) (sym same) y.solution in
-        one_of_solution P P refl refl (IsCarryOfLabels way s P) (IsCarryOfLabels way s P) (λ labels. one_of_stable P labels (IsCarriedBy way s labels) (one s x.are labels) (carried_rules way s x.are)) second told o p x.solution other
+        one_of_solution P P refl refl (IsCarryOfLabels way s P) (IsCarryOfLabels way s P)
+            (λ labels. one_of_stable P labels (IsCarriedBy way s labels) (one s x.are labels) (carried_rules way s x.are)) second told o p x.solution other
 
-  one_folded : FoldingIsOne → (s : Sides) → AreSides n class s → (labels : List (Option Route)) → IsStable s.problem labels → (o p : Outcome) → IsFolded s labels o → IsFolded s labels p → o ≡ p
+  one_folded : FoldingIsOne → (s : Sides) → AreSides n class s → (labels : List (Option Route)) → IsStable s.problem labels → (o p : Outcome)
+      → IsFolded s labels o → IsFolded s labels p → o ≡ p
   one_folded one s are labels stable o p x y =
-      x.written ∙ ap (λ (ls : List (Option Route)). done (labels_text s.small.names ls)) (one s.problem s.small s.groups labels (rules_of s are) are.small_rules are.coarsest.admissible (quotient_of s are) stable x.lower y.lower x.is y.is) ∙ sym y.written
+      x.written ∙ ap (λ (ls : List (Option Route)). done (labels_text s.small.names ls))
+          (one s.problem s.small s.groups labels (rules_of s are) are.small_rules are.coarsest.admissible (quotient_of s are) stable x.lower y.lower x.is y.is)
+              ∙ sym y.written
 
-  one_lifted : LiftingIsOne → (s : Sides) → AreSides n class s → (lower : List (Option Route)) → IsStable s.small lower → (o p : Outcome) → IsLifted s lower o → IsLifted s lower p → o ≡ p
+  one_lifted : LiftingIsOne → (s : Sides) → AreSides n class s → (lower : List (Option Route)) → IsStable s.small lower → (o p : Outcome) → IsLifted s lower o
+      → IsLifted s lower p → o ≡ p
   one_lifted one s are lower stable o p x y =
-      x.written ∙ ap (λ (ls : List (Option Route)). done (labels_text s.problem.names ls)) (one s.problem s.small s.groups lower (rules_of s are) are.small_rules are.coarsest.admissible (quotient_of s are) stable x.labels y.labels x.is y.is) ∙ sym y.written
+      x.written ∙ ap (λ (ls : List (Option Route)). done (labels_text s.problem.names ls))
+          (one s.problem s.small s.groups lower (rules_of s are) are.small_rules are.coarsest.admissible (quotient_of s are) stable x.labels y.labels x.is y.is)
+              ∙ sym y.written
 
-  pub one_fold : BuiltProblemIsOne → FoldingIsOne → (second : Option (List ℕ)) → IsSome second → (o p : Outcome) → IsFoldOf n second class o → IsFoldOf n second class p → o ≡ p
+  pub one_fold : BuiltProblemIsOne → FoldingIsOne → (second : Option (List ℕ)) → IsSome second → (o p : Outcome) → IsFoldOf n second class o
+      → IsFoldOf n second class p → o ≡ p
   one_fold built one = one_carry built Fold (one_folded one)
 
-  pub one_lift : BuiltProblemIsOne → LiftingIsOne → (second : Option (List ℕ)) → IsSome second → (o p : Outcome) → IsLiftOf n second class o → IsLiftOf n second class p → o ≡ p
+  pub one_lift : BuiltProblemIsOne → LiftingIsOne → (second : Option (List ℕ)) → IsSome second → (o p : Outcome) → IsLiftOf n second class o
+      → IsLiftOf n second class p → o ≡ p
   one_lift built one = one_carry built Lift (one_lifted one)

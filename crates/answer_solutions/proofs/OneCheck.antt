@@ -25,9 +25,11 @@ module _ (P Q : Problem) (same : ProblemsAlike P Q) (rules : IsProblem P) where
   one_judgement labels o p x y =
       x.told ∙ ap (told_of P) (one_answer P Q labels rules same x.fitting x.answer y.answer x.judged y.judged) ∙ one_told y.answer ∙ sym y.told
 
-pub one_check : (n : Network) (class : DestClass) → Contains (classes_of n) class → (second : Option (List ℕ)) → IsSome second → (o p : Outcome) → IsCheckOf n second class o → IsCheckOf n second class p → o ≡ p
+pub one_check : (n : Network) (class : DestClass) → Contains (classes_of n) class → (second : Option (List ℕ)) → IsSome second → (o p : Outcome)
+    → IsCheckOf n second class o → IsCheckOf n second class p → o ≡ p
 one_check n class c second told o p x y =
     let prefix = some_prefix n class c in
     let first = x.of_class prefix.0 prefix.1 in
     let same = one_problem n prefix.0 x.problem y.problem first (y.of_class prefix.0 prefix.1) in
-    one_of_solution x.problem y.problem same.protocol same.names (IsJudgement x.problem) (IsJudgement y.problem) (one_judgement x.problem y.problem same first.rules) second told o p x.judgement y.judgement
+    one_of_solution x.problem y.problem same.protocol same.names (IsJudgement x.problem) (IsJudgement y.problem)
+        (one_judgement x.problem y.problem same first.rules) second told o p x.judgement y.judgement

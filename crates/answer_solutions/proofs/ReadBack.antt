@@ -54,30 +54,36 @@ pub record IsGivenBy (P : Problem) (text : List ℕ) (A : List (Option Route) �
   pub read : labels_of_text P.protocol P.names text ≡ Ok labels
   pub allowed : A labels o
 
-given_by : (P : Problem) (text bytes : List ℕ) (A : List (Option Route) → Outcome → Type 0) (r : Result (List (Option Route)) SolRefusal) → labels_of_text P.protocol P.names text ≡ r → IsOfLabels A r (done bytes) → IsGivenBy P text A (done bytes)
+given_by : (P : Problem) (text bytes : List ℕ) (A : List (Option Route) → Outcome → Type 0) (r : Result (List (Option Route)) SolRefusal)
+    → labels_of_text P.protocol P.names text ≡ r → IsOfLabels A r (done bytes) → IsGivenBy P text A (done bytes)
 given_by P text bytes A (Ok labels) is of = record { labels = labels; read = is; allowed = of }
 given_by P text bytes A (Err (sol_refusal.At line kind)) is of = absurd (not_refused bytes (solution_reason line kind) of)
 given_by P text bytes A (Err sol_refusal.Memory) is of = absurd of
 
-given_text : (P : Problem) (text bytes : List ℕ) (A : List (Option Route) → Outcome → Type 0) → IsOfSolution P (Some text) A (done bytes) → IsGivenBy P text A (done bytes)
+given_text : (P : Problem) (text bytes : List ℕ) (A : List (Option Route) → Outcome → Type 0) → IsOfSolution P (Some text) A (done bytes)
+    → IsGivenBy P text A (done bytes)
 given_text P text bytes A (inl long) = absurd (not_refused bytes long_solution long.1)
 given_text P text bytes A (inr short) = given_by P text bytes A (labels_of_text P.protocol P.names text) refl short.1
 
 -- what is done was done with stable labels
-if_stable : (P : Problem) (labels : List (Option Route)) (A : Outcome → Type 0) (bytes : List ℕ) (a : Answer) → Judges P labels a → IsIfStable P A a (done bytes) → IsStable P labels × A (done bytes)
+if_stable : (P : Problem) (labels : List (Option Route)) (A : Outcome → Type 0) (bytes : List ℕ) (a : Answer) → Judges P labels a
+    → IsIfStable P A a (done bytes) → IsStable P labels × A (done bytes)
 if_stable P labels A bytes Stable judged told = (judged, told)
 if_stable P labels A bytes (Not router why) judged told = absurd (not_broken bytes (break_reason P router why) told)
 
-stable_labels : (P : Problem) (labels : List (Option Route)) (A : Outcome → Type 0) (bytes : List ℕ) → IsOfStable P labels A (done bytes) → IsStable P labels × A (done bytes)
+stable_labels : (P : Problem) (labels : List (Option Route)) (A : Outcome → Type 0) (bytes : List ℕ) → IsOfStable P labels A (done bytes) → IsStable P labels
+    × A (done bytes)
 stable_labels P labels A bytes is = if_stable P labels A bytes is.answer is.judged is.told
 
 -- printed labels are read
-read_again : (P : Problem) (labels : List (Option Route)) (bytes : List ℕ) → PrintedSolutionIsReadBack → IsProblem P → AreNames P.names → IsStable P labels → AllByRecursion (IsLabelInRange P.protocol) labels → bytes ≡ labels_text P.names labels
+read_again : (P : Problem) (labels : List (Option Route)) (bytes : List ℕ) → PrintedSolutionIsReadBack → IsProblem P → AreNames P.names → IsStable P labels
+    → AllByRecursion (IsLabelInRange P.protocol) labels → bytes ≡ labels_text P.names labels
     → labels_of_text P.protocol P.names bytes ≡ Ok labels
 read_again P labels bytes law rules names stable range is =
     ap (labels_of_text P.protocol P.names) is ∙ law P.protocol P.names labels names (stable.fitting.total ∙ sym rules.tables.names) range
 
-module _ (n : Network) (given : ∥ IsGiven n ∥₁) (faultless : IsFaultless n) (quotient : QuotientIsQuotient) (formed : GivenIsWellFormed) (printed : PrintedSolutionIsReadBack) (class : DestClass) (has : Contains (classes_of n) class) (s : Sides) (are : AreSides n class s) where
+module _ (n : Network) (given : ∥ IsGiven n ∥₁) (faultless : IsFaultless n) (quotient : QuotientIsQuotient) (formed : GivenIsWellFormed)
+    (printed : PrintedSolutionIsReadBack) (class : DestClass) (has : Contains (classes_of n) class) (s : Sides) (are : AreSides n class s) where
   prefix : (p : Prefix) × Contains class.prefixes p
   prefix = some_prefix n class has
 
@@ -92,14 +98,16 @@ module _ (n : Network) (given : ∥ IsGiven n ∥₁) (faultless : IsFaultless n
 
   names_of_groups : AreNames s.small.names
   names_of_groups = record {
-    each = subst (λ (P : Problem). AllByRecursion (λ (name : List ℕ). is_router_name name ≡ true) P.names) (sym are.small_is) (group_names s.problem s.groups are.count are.numbered (named n faultless class has s are) names_of.each);
+    each = subst (λ (P : Problem). AllByRecursion (λ (name : List ℕ). is_router_name name ≡ true) P.names) (sym are.small_is)
+        (group_names s.problem s.groups are.count are.numbered (named n faultless class has s are) names_of.each);
     apart = groups_apart n faultless class has s are;
   }
 
   is_quotient : IsQuotient s.problem s.groups s.small
   is_quotient = quotient_of n class has quotient s are
 
-  fold_of_labels : StableOfGroupsIsInRange → (number : ℕ) → class_at (classes_of n) number ≡ Some class → (text bytes : List ℕ) → IsGivenBy s.problem text (IsFoldOfLabels s) (done bytes) → IsReadAsFold n number text bytes
+  fold_of_labels : StableOfGroupsIsInRange → (number : ℕ) → class_at (classes_of n) number ≡ Some class → (text bytes : List ℕ)
+      → IsGivenBy s.problem text (IsFoldOfLabels s) (done bytes) → IsReadAsFold n number text bytes
   fold_of_labels range number at text bytes by =
       let z = stable_labels s.problem by.labels (IsFolded s by.labels) bytes by.allowed in
       let lower = z.1.lower in
@@ -113,13 +121,16 @@ module _ (n : Network) (given : ∥ IsGiven n ∥₁) (faultless : IsFaultless n
         labels = by.labels;
         lower = lower;
         read = by.read;
-        reads = read_again s.small lower bytes printed are.small_rules names_of_groups below (range n given prefix.0 s.problem s.small s.groups lower problem_of are.small_rules is_quotient below) (out_of bytes (labels_text s.small.names lower) z.1.written);
+        reads = read_again s.small lower bytes printed are.small_rules names_of_groups below
+            (range n given prefix.0 s.problem s.small s.groups lower problem_of are.small_rules is_quotient below)
+                (out_of bytes (labels_text s.small.names lower) z.1.written);
         stable = z.0;
         stable_below = below;
         correspond = z.1.is.corresponds;
       }
 
-  lift_of_labels : StableIsInRange → (number : ℕ) → class_at (classes_of n) number ≡ Some class → (text bytes : List ℕ) → IsGivenBy s.small text (IsLiftOfLabels s) (done bytes) → IsReadAsLift n number text bytes
+  lift_of_labels : StableIsInRange → (number : ℕ) → class_at (classes_of n) number ≡ Some class → (text bytes : List ℕ)
+      → IsGivenBy s.small text (IsLiftOfLabels s) (done bytes) → IsReadAsLift n number text bytes
   lift_of_labels range number at text bytes by =
       let z = stable_labels s.small by.labels (IsLifted s by.labels) bytes by.allowed in
       let labels = z.1.labels in
@@ -133,19 +144,25 @@ module _ (n : Network) (given : ∥ IsGiven n ∥₁) (faultless : IsFaultless n
         lower = by.labels;
         labels = labels;
         read = by.read;
-        reads = read_again s.problem labels bytes printed problem_of.rules names_of above (range n given prefix.0 s.problem labels problem_of above) (out_of bytes (labels_text s.problem.names labels) z.1.written);
+        reads = read_again s.problem labels bytes printed problem_of.rules names_of above (range n given prefix.0 s.problem labels problem_of above)
+            (out_of bytes (labels_text s.problem.names labels) z.1.written);
         stable = z.0;
         stable_above = above;
         correspond = z.1.is.corresponds;
       }
 
-module _ (n : Network) (given : ∥ IsGiven n ∥₁) (faultless : IsFaultless n) (quotient : QuotientIsQuotient) (formed : GivenIsWellFormed) (printed : PrintedSolutionIsReadBack) (number : ℕ) (text bytes : List ℕ) where
-  pub fold_read : StableOfGroupsIsInRange → (class : Option DestClass) → class_at (classes_of n) number ≡ class → IsOfClass class number (IsFoldOf n (Some text)) (done bytes) → IsReadAsFold n number text bytes
+module _ (n : Network) (given : ∥ IsGiven n ∥₁) (faultless : IsFaultless n) (quotient : QuotientIsQuotient) (formed : GivenIsWellFormed)
+    (printed : PrintedSolutionIsReadBack) (number : ℕ) (text bytes : List ℕ) where
+  pub fold_read : StableOfGroupsIsInRange → (class : Option DestClass) → class_at (classes_of n) number ≡ class
+      → IsOfClass class number (IsFoldOf n (Some text)) (done bytes) → IsReadAsFold n number text bytes
   fold_read range None at is = absurd (not_refused bytes (no_class number) is)
   fold_read range (Some class) at is =
-      fold_of_labels n given faultless quotient formed printed class (found_in (classes_of n) (number - 1) class (nat_eq number 0) at) is.sides is.are range number at text bytes (given_text is.sides.problem text bytes (IsFoldOfLabels is.sides) is.solution)
+      fold_of_labels n given faultless quotient formed printed class (found_in (classes_of n) (number - 1) class (nat_eq number 0) at) is.sides is.are range
+          number at text bytes (given_text is.sides.problem text bytes (IsFoldOfLabels is.sides) is.solution)
 
-  pub lift_read : StableIsInRange → (class : Option DestClass) → class_at (classes_of n) number ≡ class → IsOfClass class number (IsLiftOf n (Some text)) (done bytes) → IsReadAsLift n number text bytes
+  pub lift_read : StableIsInRange → (class : Option DestClass) → class_at (classes_of n) number ≡ class
+      → IsOfClass class number (IsLiftOf n (Some text)) (done bytes) → IsReadAsLift n number text bytes
   lift_read range None at is = absurd (not_refused bytes (no_class number) is)
   lift_read range (Some class) at is =
-      lift_of_labels n given faultless quotient formed printed class (found_in (classes_of n) (number - 1) class (nat_eq number 0) at) is.sides is.are range number at text bytes (given_text is.sides.small text bytes (IsLiftOfLabels is.sides) is.solution)
+      lift_of_labels n given faultless quotient formed printed class (found_in (classes_of n) (number - 1) class (nat_eq number 0) at) is.sides is.are range
+          number at text bytes (given_text is.sides.small text bytes (IsLiftOfLabels is.sides) is.solution)

@@ -45,14 +45,19 @@ module _ (A : List (Option Route) → Outcome → Type 0) (well : (labels : List
   of_solution problem text o status (inl long) = absurd (not_refused long_solution o status long.1)
   of_solution problem text o status (inr short) = of_labels (labels_of_text problem.protocol problem.names text) o status short.1
 
-of_class : (found : Option DestClass) (number : ℕ) (A : DestClass → Outcome → Type 0) → ((class : DestClass) → IsDone (A class)) → IsDone (IsOfClass found number A)
+of_class : (found : Option DestClass) (number : ℕ) (A : DestClass → Outcome → Type 0) → ((class : DestClass) → IsDone (A class))
+    → IsDone (IsOfClass found number A)
 of_class None number A well o status is = absurd (not_refused (no_class number) o status is)
 of_class (Some class) number A well o status is = well class o status is
 
 pub fold_is_done : (n : Network) (number : ℕ) (text : List ℕ) → IsDone (IsFoldAnswer n number (Some text))
 fold_is_done n number text = of_class (class_at (classes_of n) number) number (IsFoldOf n (Some text)) (λ class o status is.
-    of_solution (IsFoldOfLabels is.sides) (λ labels p done_status x. of_stable is.sides.problem (IsFolded is.sides labels) (λ q q_status y. of_bytes (labels_text is.sides.small.names y.lower) q y.written) x.answer p done_status x.told) is.sides.problem text o status is.solution)
+    of_solution (IsFoldOfLabels is.sides) (λ labels p done_status x.
+        of_stable is.sides.problem (IsFolded is.sides labels) (λ q q_status y. of_bytes (labels_text is.sides.small.names y.lower) q y.written) x.answer p
+            done_status x.told) is.sides.problem text o status is.solution)
 
 pub lift_is_done : (n : Network) (number : ℕ) (text : List ℕ) → IsDone (IsLiftAnswer n number (Some text))
 lift_is_done n number text = of_class (class_at (classes_of n) number) number (IsLiftOf n (Some text)) (λ class o status is.
-    of_solution (IsLiftOfLabels is.sides) (λ lower p done_status x. of_stable is.sides.small (IsLifted is.sides lower) (λ q q_status y. of_bytes (labels_text is.sides.problem.names y.labels) q y.written) x.answer p done_status x.told) is.sides.small text o status is.solution)
+    of_solution (IsLiftOfLabels is.sides) (λ lower p done_status x.
+        of_stable is.sides.small (IsLifted is.sides lower) (λ q q_status y. of_bytes (labels_text is.sides.problem.names y.labels) q y.written) x.answer p
+            done_status x.told) is.sides.small text o status is.solution)

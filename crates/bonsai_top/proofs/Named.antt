@@ -14,12 +14,16 @@ unfolding IsOutcome
 outcome_misuse words contents none = subst (λ (n : Option Command). IsOutcomeAt n (contents (file_of words)) (contents (second_of words)) usage) (sym none) refl
 
 -- words that name one
-pub answers_words : (reply : Reply) (words : List (List ℕ)) (contents : List ℕ → Option (List ℕ)) (command : Command) (first second : List ℕ) (before now before' now' : ℕ)
+pub answers_words : (reply : Reply) (words : List (List ℕ)) (contents : List ℕ → Option (List ℕ)) (command : Command) (first second : List ℕ)
+    (before now before' now' : ℕ)
     → command_of words ≡ Some command → first ≡ file_of words → second ≡ second_of words
     → Answers reply (IsOutcomeOf command (contents first) (contents second)) (FirstRose (Some command) before now) (SecondRose (Some command) before' now')
     → Answers reply (IsOutcome words contents) (FirstRose (command_of words) before now) (SecondRose (command_of words) before' now')
 unfolding IsOutcome
 answers_words reply words contents command first second before now before' now' named file other answers =
-    let at_file = subst (λ (n : List ℕ). Answers reply (IsOutcomeOf command (contents n) (contents second)) (FirstRose (Some command) before now) (SecondRose (Some command) before' now')) file answers in
-    let at_both = subst (λ (n : List ℕ). Answers reply (IsOutcomeOf command (contents (file_of words)) (contents n)) (FirstRose (Some command) before now) (SecondRose (Some command) before' now')) other at_file in
-    subst (λ (n : Option Command). Answers reply (IsOutcomeAt n (contents (file_of words)) (contents (second_of words))) (FirstRose n before now) (SecondRose n before' now')) (sym named) at_both
+    let at_file = subst (λ (n : List ℕ). Answers reply (IsOutcomeOf command (contents n) (contents second)) (FirstRose (Some command) before now)
+        (SecondRose (Some command) before' now')) file answers in
+    let at_both = subst (λ (n : List ℕ). Answers reply (IsOutcomeOf command (contents (file_of words)) (contents n)) (FirstRose (Some command) before now)
+        (SecondRose (Some command) before' now')) other at_file in
+    subst (λ (n : Option Command). Answers reply (IsOutcomeAt n (contents (file_of words)) (contents (second_of words))) (FirstRose n before now)
+        (SecondRose n before' now')) (sym named) at_both

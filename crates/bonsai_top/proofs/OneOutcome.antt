@@ -27,7 +27,9 @@ abbrev IsToldTo : Command → Option (List ℕ) → Type 0
 IsToldTo command second = reads_second command ≡ true → IsSome second
 
 -- the laws of the commands
-module _ (groups : GroupsAnswerIsOne) (compress : CompressAnswerIsOne) (canon : CanonAnswerIsOne) (check : CheckAnswerIsOne) (fold : FoldAnswerIsOne) (lift : LiftAnswerIsOne) (verify : VerifyAnswerIsOne) (run : RunAnswerIsOne) (reach : ReachAnswerIsOne) (report : ReportAnswerIsOne) (json : JsonAnswerIsOne) (summary : SummaryAnswerIsOne) (trial : TrialAnswerIsOne) where
+module _ (groups : GroupsAnswerIsOne) (compress : CompressAnswerIsOne) (canon : CanonAnswerIsOne) (check : CheckAnswerIsOne) (fold : FoldAnswerIsOne)
+    (lift : LiftAnswerIsOne) (verify : VerifyAnswerIsOne) (run : RunAnswerIsOne) (reach : ReachAnswerIsOne) (report : ReportAnswerIsOne)
+        (json : JsonAnswerIsOne) (summary : SummaryAnswerIsOne) (trial : TrialAnswerIsOne) where
   one_on_network : (of : NetworkCommand) (n : Network) (o p : Outcome) → IsOnNetwork of n o → IsOnNetwork of n p → o ≡ p
   one_on_network on_network.Classes n o p x y = x ∙ sym y
   one_on_network on_network.Summary n o p x y = summary n o p x y
@@ -50,16 +52,19 @@ module _ (groups : GroupsAnswerIsOne) (compress : CompressAnswerIsOne) (canon : 
   one_on_second on_second.Reach number n second told o p x y = reach n number second told o p x y
   one_on_second on_second.Verify number n second told o p x y = verify n number second told o p x y
 
-  one_answer : (command : Command) → is_free command ≡ false → (n : Network) (second : Option (List ℕ)) → IsToldTo command second → (o p : Outcome) → IsAnswerTo command n second o → IsAnswerTo command n second p → o ≡ p
+  one_answer : (command : Command) → is_free command ≡ false → (n : Network) (second : Option (List ℕ)) → IsToldTo command second → (o p : Outcome)
+      → IsAnswerTo command n second o → IsAnswerTo command n second p → o ≡ p
   one_answer (command.OnNetwork of) fixed n second told o p x y = one_on_network of n o p x y
   one_answer (command.OnClass of number) fixed n second told o p x y = one_on_class of number fixed n second o p x y
   one_answer (command.OnSecond of number) fixed n second told o p x y = one_on_second of number n second (told refl) o p x y
   one_answer (command.Trial size) fixed n second told o p x y = trial size o p x y
 
-  one_of_text : (command : Command) → is_free command ≡ false → (second : Option (List ℕ)) → IsToldTo command second → (text : List ℕ) (o p : Outcome) → IsOutcomeOfText command second text o → IsOutcomeOfText command second text p → o ≡ p
+  one_of_text : (command : Command) → is_free command ≡ false → (second : Option (List ℕ)) → IsToldTo command second → (text : List ℕ) (o p : Outcome)
+      → IsOutcomeOfText command second text o → IsOutcomeOfText command second text p → o ≡ p
   one_of_text command fixed second told = one_of_network (λ n o. IsAnswerTo command n second o) (λ n. one_answer command fixed n second told)
 
-  one_of_files : (command : Command) → is_free command ≡ false → (first second : Option (List ℕ)) → IsSome first → IsToldTo command second → (o p : Outcome) → IsOutcomeOfFiles command first second o → IsOutcomeOfFiles command first second p → o ≡ p
+  one_of_files : (command : Command) → is_free command ≡ false → (first second : Option (List ℕ)) → IsSome first → IsToldTo command second → (o p : Outcome)
+      → IsOutcomeOfFiles command first second o → IsOutcomeOfFiles command first second p → o ≡ p
   one_of_files command fixed None second told_first told o p x y = cc
   one_of_files command fixed (Some text) second told_first told o p x y = one_of_text command fixed second told text o p x y
 
@@ -69,14 +74,19 @@ module _ (groups : GroupsAnswerIsOne) (compress : CompressAnswerIsOne) (canon : 
   one_without_files (command.OnClass of number) o p x y = absurd x
   one_without_files (command.OnSecond of number) o p x y = absurd x
 
-  one_by : (reads : Bool) (command : Command) → is_free command ≡ false → reads_first command ≡ reads → (first second : Option (List ℕ)) → (reads ≡ true → IsSome first) → IsToldTo command second → (o p : Outcome) → IsOutcomeBy reads command first second o → IsOutcomeBy reads command first second p → o ≡ p
+  one_by : (reads : Bool) (command : Command) → is_free command ≡ false → reads_first command ≡ reads → (first second : Option (List ℕ))
+      → (reads ≡ true → IsSome first) → IsToldTo command second → (o p : Outcome) → IsOutcomeBy reads command first second o
+          → IsOutcomeBy reads command first second p → o ≡ p
   one_by true command fixed is first second told_first told o p x y = one_of_files command fixed first second (told_first refl) told o p x y
   one_by false command fixed is first second told_first told o p x y = one_without_files command o p x y
 
-  one_at : (command : Option Command) → leaves_free command ≡ false → (first second : Option (List ℕ)) → (is_read reads_first command ≡ true → IsSome first) → (is_read reads_second command ≡ true → IsSome second) → (o p : Outcome) → IsOutcomeAt command first second o → IsOutcomeAt command first second p → o ≡ p
+  one_at : (command : Option Command) → leaves_free command ≡ false → (first second : Option (List ℕ)) → (is_read reads_first command ≡ true → IsSome first)
+      → (is_read reads_second command ≡ true → IsSome second) → (o p : Outcome) → IsOutcomeAt command first second o → IsOutcomeAt command first second p
+          → o ≡ p
   one_at None fixed first second told_first told o p x y = x ∙ sym y
   one_at (Some command) fixed first second told_first told o p x y = one_by (reads_first command) command fixed refl first second told_first told o p x y
 
   pub outcome_is_one : OutcomeIsOne
   unfolding IsOutcome
-  outcome_is_one words contents told fixed o p x y = one_at (command_of words) fixed (contents (file_of words)) (contents (second_of words)) told.first told.second o p x y
+  outcome_is_one words contents told fixed o p x y = one_at (command_of words) fixed (contents (file_of words)) (contents (second_of words)) told.first
+      told.second o p x y

@@ -8,7 +8,8 @@ use Rattle.answer_kit.specs.Outcome.{Outcome}
 use Rattle.bonsai_top.specs.Meets.{Tells, HasCause, IsWhole, RunMeets}
 use Rattle.answer_kit.specs.Replies.{Answers, told_by}
 
-module _ (IsAllowed : Outcome → Type 0) (first second : List ℕ) (first_rose second_rose : Type 0) (result : Status) (out_old out_new : Option (List ℕ)) (out_before out_now : ℕ) (err_old err_new : Option (List ℕ)) (err_before err_now : ℕ) where
+module _ (IsAllowed : Outcome → Type 0) (first second : List ℕ) (first_rose second_rose : Type 0) (result : Status) (out_old out_new : Option (List ℕ))
+    (out_before out_now : ℕ) (err_old err_new : Option (List ℕ)) (err_before err_now : ℕ) where
   abbrev Told : Outcome → Type 0
   Told o = Tells o result out_old out_new out_before out_now err_old err_new err_before err_now
 
@@ -32,7 +33,8 @@ module _ (IsAllowed : Outcome → Type 0) (first second : List ℕ) (first_rose 
   allowed_or_memory o (inr (inr (inl failed))) told nw nf ns = absurd (ns failed.0)
   allowed_or_memory o (inr (inr (inr memory))) told nw nf ns = inr (status_told o told nw ∙ ap (λ (p : Outcome). p.status) memory)
 
-  pub meets : (o : Outcome) → Caused o → Told o → RunMeets IsAllowed first second first_rose second_rose result out_old out_new out_before out_now err_old err_new err_before err_now
+  pub meets : (o : Outcome) → Caused o → Told o → RunMeets IsAllowed first second first_rose second_rose result out_old out_new out_before out_now err_old
+      err_new err_before err_now
   meets o caused told = record {
     outcome = o;
     cause = caused;

@@ -41,11 +41,13 @@ entry_puts universe f seq fixing = by (accepts f fixing.present)
     by true = refl
     by false = refl
 
-entries_put : (universe : List ℕ) (f : List ℕ → Option Imported) (k : ℕ) (fixings : List Fixing) → AllByRecursion PutsNothing (numbered_from k (in_entry universe f) fixings)
+entries_put : (universe : List ℕ) (f : List ℕ → Option Imported) (k : ℕ) (fixings : List Fixing)
+    → AllByRecursion PutsNothing (numbered_from k (in_entry universe f) fixings)
 entries_put universe f k [] = tt
 entries_put universe f k (x ∷ xs) = (entry_puts universe f k x, entries_put universe f (k + 1) xs)
 
-limited_puts : (entries : List PlainEntry) (list : Plain) → AllByRecursion PutsNothing entries → limited entries ≡ Some list → AllByRecursion PutsNothing list.entries
+limited_puts : (entries : List PlainEntry) (list : Plain) → AllByRecursion PutsNothing entries → limited entries ≡ Some list
+    → AllByRecursion PutsNothing list.entries
 unfolding limited
 limited_puts entries list all e = by (nat_lt 65535 (length entries) || list_any is_wide entries) e
   where
@@ -60,7 +62,8 @@ into_of None into lists e = absurd cc
 into_of (Some out) None lists e = absurd cc
 into_of (Some out) (Some into) lists e = let same : record { out = out; into = into } ≡ lists = cc in ap (λ (l : CanonEdge). Some l.into) same
 
-pub into_puts : (universe : List ℕ) (f : List ℕ → Option Imported) (lists : CanonEdge) → canonical_lists_of universe f ≡ Some lists → AllByRecursion PutsNothing lists.into.entries
+pub into_puts : (universe : List ℕ) (f : List ℕ → Option Imported) (lists : CanonEdge) → canonical_lists_of universe f ≡ Some lists
+    → AllByRecursion PutsNothing lists.into.entries
 unfolding canonical_of canonical_lists_of
 into_puts universe f lists e = by (depends_on_others universe (on_sets f)) e
   where
@@ -68,7 +71,8 @@ into_puts universe f lists e = by (depends_on_others universe (on_sets f)) e
         → AllByRecursion PutsNothing lists.into.entries
     by true e = absurd cc
     by false e =
-        limited_puts (numbered_from 1 (in_entry universe (on_sets f)) (settled (length universe) (split universe (in_asked universe (on_sets f))) nothing_fixed)) lists.into
+        limited_puts (numbered_from 1 (in_entry universe (on_sets f))
+            (settled (length universe) (split universe (in_asked universe (on_sets f))) nothing_fixed)) lists.into
         (entries_put universe (on_sets f) 1 (settled (length universe) (split universe (in_asked universe (on_sets f))) nothing_fixed))
         (into_of (out_list universe (on_sets f)) (in_list universe (on_sets f)) lists e)
 
@@ -87,7 +91,8 @@ session_fits : (out : Plain) (sends : Bool) (into : Plain) (lists : CanonEdge) �
 session_fits out sends into lists puts OverBgp is = All-from_recursion PutsNothing lists.into.entries puts
 session_fits out sends into lists puts OverOspf is = is
 
-pub session_for : (universe : List ℕ) (out : Plain) (sends : Bool) (into : Plain) (lists : CanonEdge) → canonical_lists_of universe (import_of out sends into) ≡ Some lists
+pub session_for : (universe : List ℕ) (out : Plain) (sends : Bool) (into : Plain) (lists : CanonEdge)
+    → canonical_lists_of universe (import_of out sends into) ≡ Some lists
     → AreOneImport (import_of lists.out true lists.into) (import_of out sends into) → ArePrintable universe lists
     → IsActFor universe (Import out sends into) (session_with lists)
 unfolding import_by
@@ -98,7 +103,8 @@ session_for universe out sends into lists canonical one printable = record {
   within = (printable.out_within, printable.into_within);
 }
 
-pub session_is : (universe : List ℕ) (out : Plain) (sends : Bool) (into : Plain) (lists : CanonEdge) → canonical_lists_of universe (import_of out sends into) ≡ Some lists
+pub session_is : (universe : List ℕ) (out : Plain) (sends : Bool) (into : Plain) (lists : CanonEdge)
+    → canonical_lists_of universe (import_of out sends into) ≡ Some lists
     → canonical_act universe (Import out sends into) ≡ Some (session_with lists)
 unfolding canonical_act
 session_is universe out sends into lists e = ap (option_map session_with) e

@@ -136,7 +136,8 @@ module _ (universe : List ℕ) (problem : Problem) where
       where
         by : IsActSoFar universe problem edges acts done edge.act → canonical_act universe (act_of problem edge) ≡ Some (act_at acts edge.act)
         by (is_done marked other i same canonical) = canonical
-        by (not_done marked same) = let yes = pick (λ e. is_marked done e.act ≡ true) edges edge so.seen h in absurd (let wrong : true ≡ false = sym yes ∙ marked in cc)
+        by (not_done marked same) = let yes = pick (λ e. is_marked done e.act ≡ true) edges edge so.seen h in
+            absurd (let wrong : true ≡ false = sym yes ∙ marked in cc)
 
     -- all edges are seen
     pub all_seen : AreActsSoFar universe problem problem.edges acts done → AreCanonicalActs universe problem acts

@@ -45,10 +45,13 @@ same_itself true false e = cc
 same_itself false true e = cc
 same_itself false false e = refl
 
-module _ (universe : List ℕ) (f : List ℕ → Option Imported) (plain : IsPlain universe f) (keys : List ℕ) (keys_known : (c : ℕ) → has keys c ≡ true → has universe c ≡ true)
+module _ (universe : List ℕ) (f : List ℕ → Option Imported) (plain : IsPlain universe f) (keys : List ℕ)
+    (keys_known : (c : ℕ) → has keys c ≡ true → has universe c ≡ true)
     (others : (c : ℕ) → has keys c ≡ false → (set : List ℕ) → carries f c set ≡ has set c && keeps f universe set) where
   -- where keeping is settled, so is a community without a key
-  settled_by : (fixing : Fixing) (c : ℕ) → has keys c ≡ false → ((set : List ℕ) → keeps f universe (agreeing fixing set) ≡ keeps f universe (agreeing fixing [])) → (b : Bool) → keeps f universe (agreeing fixing []) ≡ b
+  settled_by : (fixing : Fixing) (c : ℕ) → has keys c ≡ false
+      → ((set : List ℕ) → keeps f universe (agreeing fixing set) ≡ keeps f universe (agreeing fixing [])) → (b : Bool)
+          → keeps f universe (agreeing fixing []) ≡ b
       → (if b && follows universe fixing c (carries f c) then None else least universe (λ set. yes (carries f c (agreeing fixing set)))) ≡ None
   unfolding follows
   settled_by fixing c none one true e =
@@ -61,26 +64,31 @@ module _ (universe : List ℕ) (f : List ℕ → Option Imported) (plain : IsPla
       all false = refl
   settled_by fixing c none one false e =
       least_constant universe (λ set. yes (carries f c (agreeing fixing set))) 0 (λ set.
-      let zero : carries f c (agreeing fixing set) ≡ false = others c none (agreeing fixing set) ∙ ap (λ k. has (agreeing fixing set) c && k) (one set ∙ e) ∙ nothing (has (agreeing fixing set) c) in
+      let zero : carries f c (agreeing fixing set) ≡ false = others c none (agreeing fixing set) ∙ ap (λ k. has (agreeing fixing set) c && k) (one set ∙ e)
+          ∙ nothing (has (agreeing fixing set) c) in
       ap yes zero)
     where
       nothing : (b : Bool) → b && false ≡ false
       nothing true = refl
       nothing false = refl
 
-  never_splits : (fixing : Fixing) → least universe (λ set. yes (keeps f universe (agreeing fixing set))) ≡ None → (c : ℕ) → has keys c ≡ false → unsettled universe (keeps f universe) fixing (community c (carries f c)) ≡ None
+  never_splits : (fixing : Fixing) → least universe (λ set. yes (keeps f universe (agreeing fixing set))) ≡ None → (c : ℕ) → has keys c ≡ false
+      → unsettled universe (keeps f universe) fixing (community c (carries f c)) ≡ None
   never_splits fixing settled c none =
       settled_by fixing c none
       (λ set. yes_one (keeps f universe (agreeing fixing set)) (keeps f universe (agreeing fixing []))
-      (least_none universe (λ set. yes (keeps f universe (agreeing fixing set))) (under_hangs universe (λ set. yes (keeps f universe set)) fixing (yes_hangs universe (keeps f universe) plain.kept)) settled set))
+      (least_none universe (λ set. yes (keeps f universe (agreeing fixing set)))
+          (under_hangs universe (λ set. yes (keeps f universe set)) fixing (yes_hangs universe (keeps f universe) plain.kept)) settled set))
       (keeps f universe (agreeing fixing [])) refl
 
-  few_parts : (ask : Part → Option ℕ) (cs : List ℕ) → ((c : ℕ) → has keys c ≡ false → ask (community c (carries f c)) ≡ None) → first_unsettled ask (in_parts universe f (filter (has keys) cs)) ≡ first_unsettled ask (in_parts universe f cs)
+  few_parts : (ask : Part → Option ℕ) (cs : List ℕ) → ((c : ℕ) → has keys c ≡ false → ask (community c (carries f c)) ≡ None)
+      → first_unsettled ask (in_parts universe f (filter (has keys) cs)) ≡ first_unsettled ask (in_parts universe f cs)
   few_parts ask [] none = refl
   few_parts ask (c ∷ cs) none = by (has keys c) refl (few_parts ask cs none)
     where
       by : (b : Bool) → has keys c ≡ b → first_unsettled ask (in_parts universe f (filter (has keys) cs)) ≡ first_unsettled ask (in_parts universe f cs)
-          → first_unsettled ask (in_parts universe f (cond b (c ∷ filter (has keys) cs) (filter (has keys) cs))) ≡ option_or (ask (community c (carries f c))) (first_unsettled ask (in_parts universe f cs))
+          → first_unsettled ask (in_parts universe f (cond b (c ∷ filter (has keys) cs) (filter (has keys) cs)))
+              ≡ option_or (ask (community c (carries f c))) (first_unsettled ask (in_parts universe f cs))
       by true e rest = ap (λ (o : Option ℕ). option_or (ask (community c (carries f c))) o) rest
       by false e rest = rest ∙ ap (λ (o : Option ℕ). option_or o (first_unsettled ask (in_parts universe f cs))) (sym (none c e))
 
@@ -89,18 +97,23 @@ module _ (universe : List ℕ) (f : List ℕ → Option Imported) (plain : IsPla
   and_known false u g = refl
 
   keys_are : IsAscending universe → IsAscending keys → filter (has keys) universe ≡ keys
-  keys_are up keys_up = one_list (filter (has keys) universe) keys (ascending_filter (has keys) universe up) keys_up (λ c. has-filter (has keys) universe c ∙ and_known (has keys c) (has universe c) (keys_known c))
+  keys_are up keys_up = one_list (filter (has keys) universe) keys (ascending_filter (has keys) universe up) keys_up
+      (λ c. has-filter (has keys) universe c ∙ and_known (has keys c) (has universe c) (keys_known c))
 
   either_same : (a b c : Option ℕ) → (a ≡ None → b ≡ c) → option_or a b ≡ option_or a c
   either_same None b c g = g refl
   either_same (Some x) b c g = refl
 
-  pub split_same : IsAscending universe → IsAscending keys → (fixing : Fixing) → split universe (asked_of universe f keys) fixing ≡ split universe (in_asked universe f) fixing
+  pub split_same : IsAscending universe → IsAscending keys → (fixing : Fixing)
+      → split universe (asked_of universe f keys) fixing ≡ split universe (in_asked universe f) fixing
   unfolding split
   split_same up keys_up fixing =
       ap (λ (o : Option ℕ). option_or (least universe (λ set. yes (accepts f (agreeing fixing set)))) (if accepts f (agreeing fixing []) then o else None))
-      (either_same (least universe (λ set. yes (keeps f universe (agreeing fixing set)))) (option_or (least universe (λ set. preference f (agreeing fixing set))) (first_unsettled (unsettled universe (keeps f universe) fixing) (in_parts universe f keys)))
-      (option_or (least universe (λ set. preference f (agreeing fixing set))) (first_unsettled (unsettled universe (keeps f universe) fixing) (in_parts universe f universe)))
+      (either_same (least universe (λ set. yes (keeps f universe (agreeing fixing set))))
+          (option_or (least universe (λ set. preference f (agreeing fixing set)))
+              (first_unsettled (unsettled universe (keeps f universe) fixing) (in_parts universe f keys)))
+      (option_or (least universe (λ set. preference f (agreeing fixing set)))
+          (first_unsettled (unsettled universe (keeps f universe) fixing) (in_parts universe f universe)))
       (λ settled. ap (λ (o : Option ℕ). option_or (least universe (λ set. preference f (agreeing fixing set))) o)
       (ap (λ (cs : List ℕ). first_unsettled (unsettled universe (keeps f universe) fixing) (in_parts universe f cs)) (sym (keys_are up keys_up))
       ∙ few_parts (unsettled universe (keeps f universe) fixing) universe (never_splits fixing settled))))
@@ -123,24 +136,29 @@ module _ (shown : Shown) (is : IsShown shown) where
   free_value : (node : ℕ) → node < length shown.nodes → (set : List ℕ) → value_of shown (agreeing nothing_fixed set) node ≡ value_of shown set node
   free_value node inside set = value_same shown is node inside (agreeing nothing_fixed set) set (free_same set)
 
-  agree_free : (nodes a b : List ℕ) → AreInside shown nodes → AgreeAt shown nodes a b → AgreeAt shown nodes (agreeing nothing_fixed a) (agreeing nothing_fixed b)
+  agree_free : (nodes a b : List ℕ) → AreInside shown nodes → AgreeAt shown nodes a b
+      → AgreeAt shown nodes (agreeing nothing_fixed a) (agreeing nothing_fixed b)
   agree_free [] a b all agree = tt
   agree_free (n ∷ ns) a b all agree = (free_value n all.0 a ∙ agree.0 ∙ sym (free_value n all.0 b), agree_free ns a b all.1 agree.1)
 
-  agree_bare : (nodes a b : List ℕ) → AreInside shown nodes → AgreeAt shown nodes (agreeing nothing_fixed a) (agreeing nothing_fixed b) → AgreeAt shown nodes a b
+  agree_bare : (nodes a b : List ℕ) → AreInside shown nodes → AgreeAt shown nodes (agreeing nothing_fixed a) (agreeing nothing_fixed b)
+      → AgreeAt shown nodes a b
   agree_bare [] a b all agree = tt
   agree_bare (n ∷ ns) a b all agree = (sym (free_value n all.0 a) ∙ agree.0 ∙ free_value n all.0 b, agree_bare ns a b all.1 agree.1)
 
-  free_tells : (nodes : List ℕ) (part : List ℕ → ℕ) → AreInside shown nodes → Tells shown nodes part → Tells shown nodes (λ set. part (agreeing nothing_fixed set))
+  free_tells : (nodes : List ℕ) (part : List ℕ → ℕ) → AreInside shown nodes → Tells shown nodes part
+      → Tells shown nodes (λ set. part (agreeing nothing_fixed set))
   free_tells nodes part all tells = record {
     same = λ a b agree. tells.same (agreeing nothing_fixed a) (agreeing nothing_fixed b) (agree_free nodes a b all agree);
     apart = λ a b e. agree_bare nodes a b all (tells.apart (agreeing nothing_fixed a) (agreeing nothing_fixed b) e);
   }
 
   module _ (edge : EdgeFn) (f : List ℕ → Option Imported) (of : IsEdgeFn shown edge f) where
-    outs_inside : (cases : List (Community × ℕ)) → AreInside shown (nodes_of (by_number cases)) → ((c : ℕ) → has (keys_of (by_number cases)) c ≡ true → has shown.universe c ≡ true) → AllByRecursion (IsPartInside shown) (carried_nodes cases)
+    outs_inside : (cases : List (Community × ℕ)) → AreInside shown (nodes_of (by_number cases))
+        → ((c : ℕ) → has (keys_of (by_number cases)) c ≡ true → has shown.universe c ≡ true) → AllByRecursion (IsPartInside shown) (carried_nodes cases)
     outs_inside [] all known = tt
-    outs_inside (case ∷ cases) all known = ((known case.0.0 (or_left (nat_eq case.0.0 case.0.0) (has (keys_of (by_number cases)) case.0.0) (itself case.0.0)), all.0), outs_inside cases all.1 (λ c h. known c (or_right (nat_eq case.0.0 c) (has (keys_of (by_number cases)) c) h)))
+    outs_inside (case ∷ cases) all known = ((known case.0.0 (or_left (nat_eq case.0.0 case.0.0) (has (keys_of (by_number cases)) case.0.0) (itself case.0.0)),
+        all.0), outs_inside cases all.1 (λ c h. known c (or_right (nat_eq case.0.0 c) (has (keys_of (by_number cases)) c) h)))
       where
         or_left : (a b : Bool) → a ≡ true → a || b ≡ true
         or_left true b e = refl
@@ -179,10 +197,12 @@ module _ (shown : Shown) (is : IsShown shown) where
     pub kept_is : (set : List ℕ) → keeps (on_sets f) shown.universe set ≡ value_of shown set edge.rest
     kept_is = keeps_is shown is edge f of permit_hangs
 
-    pub other_carried : (c : ℕ) → has (keys_of (by_number edge.outs)) c ≡ false → (set : List ℕ) → carries (on_sets f) c set ≡ has set c && keeps (on_sets f) shown.universe set
+    pub other_carried : (c : ℕ) → has (keys_of (by_number edge.outs)) c ≡ false → (set : List ℕ)
+        → carries (on_sets f) c set ≡ has set c && keeps (on_sets f) shown.universe set
     other_carried c none set = by_rest shown is edge f of set c none ∙ ap (λ b. has set c && b) (sym (kept_is set))
 
-    means_free : (node : ℕ) (test : List ℕ → Bool) → node < length shown.nodes → ((set : List ℕ) → test set ≡ value_of shown set node) → Means shown node (λ set. test (agreeing nothing_fixed set))
+    means_free : (node : ℕ) (test : List ℕ → Bool) → node < length shown.nodes → ((set : List ℕ) → test set ≡ value_of shown set node)
+        → Means shown node (λ set. test (agreeing nothing_fixed set))
     means_free node test inside says = record { inside = inside; value = λ set. sym (free_value node inside set) ∙ sym (says (agreeing nothing_fixed set)) }
 
     rest_tells : Tells shown (edge.rest ∷ []) (λ set. yes (keeps (on_sets f) shown.universe set))
@@ -191,10 +211,12 @@ module _ (shown : Shown) (is : IsShown shown) where
       apart = λ a b e. (sym (kept_is a) ∙ yes_one (keeps (on_sets f) shown.universe a) (keeps (on_sets f) shown.universe b) e ∙ kept_is b, tt);
     }
 
-    outs_told : (cases : List (Community × ℕ)) → AreInside shown (nodes_of (by_number cases)) → ((case : ℕ × ℕ) → In (by_number cases) case → (set : List ℕ) → carries (on_sets f) case.0 set ≡ value_of shown set case.1)
+    outs_told : (cases : List (Community × ℕ)) → AreInside shown (nodes_of (by_number cases))
+        → ((case : ℕ × ℕ) → In (by_number cases) case → (set : List ℕ) → carries (on_sets f) case.0 set ≡ value_of shown set case.1)
         → ArePartsTold shown nothing_fixed (carried_nodes cases) (in_parts shown.universe (on_sets f) (keys_of (by_number cases)))
     outs_told [] all says = tt
-    outs_told (case ∷ cases) all says = ((refl, means_free case.1 (carries (on_sets f) case.0.0) all.0 (says (case.0.0, case.1) (inl refl))), outs_told cases all.1 (λ c h. says c (inr h)))
+    outs_told (case ∷ cases) all says = ((refl, means_free case.1 (carries (on_sets f) case.0.0) all.0 (says (case.0.0, case.1) (inl refl))),
+        outs_told cases all.1 (λ c h. says c (inr h)))
 
     pub in_told : AreNodesOf shown nothing_fixed (in_nodes edge) (asked_of shown.universe (on_sets f) (keys_of (by_number edge.outs)))
     in_told = record {
@@ -203,7 +225,8 @@ module _ (shown : Shown) (is : IsShown shown) where
       parts = (
         free_tells (edge.rest ∷ []) (λ set. yes (keeps (on_sets f) shown.universe set)) (of.rest_inside, tt) rest_tells,
         (
-          free_tells (nodes_of edge.lps) (preference (on_sets f)) (lps_inside edge f of) (table_tells shown edge.permit edge.lps (preference (on_sets f)) (lps_table shown is edge f of)),
+          free_tells (nodes_of edge.lps) (preference (on_sets f)) (lps_inside edge f of)
+              (table_tells shown edge.permit edge.lps (preference (on_sets f)) (lps_table shown is edge f of)),
           outs_told edge.outs (out_cases_inside edge f of) (λ case h set. by_node shown is edge f of set case h),
         ),
       );
@@ -213,5 +236,6 @@ module _ (shown : Shown) (is : IsShown shown) where
     out_told = record {
       permit = means_free edge.permit (accepts (on_sets f)) of.permit_inside (accepts_is shown is edge f of);
       rest = means_free edge.rest (keeps (on_sets f) shown.universe) of.rest_inside kept_is;
-      parts = (free_tells (nodes_of edge.adds) (added_count (on_sets f)) (adds_inside edge f of) (table_tells shown edge.permit edge.adds (added_count (on_sets f)) (adds_table shown is edge f of)), tt);
+      parts = (free_tells (nodes_of edge.adds) (added_count (on_sets f)) (adds_inside edge f of)
+          (table_tells shown edge.permit edge.adds (added_count (on_sets f)) (adds_table shown is edge f of)), tt);
     }

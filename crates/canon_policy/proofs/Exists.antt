@@ -99,7 +99,8 @@ used_by (x ∷ xs) place e = by (used_by xs place) (nat_eq x.act place) refl e
 
 by_used : (edges : List Edge) (edge : Edge) (place : ℕ) → In edges edge → edge.act ≡ place → is_used edges place ≡ true
 by_used [] edge place at same = absurd at
-by_used (x ∷ xs) edge place (inl here) same = yes (nat_eq x.act place) (is_used xs place) (let e : x.act ≡ place = ap (λ (y : Edge). y.act) here ∙ same in grind (arith, nat_tests))
+by_used (x ∷ xs) edge place (inl here) same = yes (nat_eq x.act place) (is_used xs place)
+    (let e : x.act ≡ place = ap (λ (y : Edge). y.act) here ∙ same in grind (arith, nat_tests))
   where
     yes : (a b : Bool) → a ≡ true → a || b ≡ true
     yes true b e = refl
@@ -117,17 +118,20 @@ bit false = inr refl
 -- ---- one act
 
 -- a function with canonical lists does not depend on what is outside
-independent : (universe : List ℕ) (f : List ℕ → Option Imported) (lists : CanonEdge) → canonical_lists_of universe f ≡ Some lists → depends_on_others universe (on_sets f) ≡ false
+independent : (universe : List ℕ) (f : List ℕ → Option Imported) (lists : CanonEdge) → canonical_lists_of universe f ≡ Some lists
+    → depends_on_others universe (on_sets f) ≡ false
 unfolding canonical_lists_of canonical_of
 independent universe f lists e = by (depends_on_others universe (on_sets f)) refl e
   where
-    by : (b : Bool) → depends_on_others universe (on_sets f) ≡ b → (if b then None else lists_of (out_list universe (on_sets f)) (in_list universe (on_sets f))) ≡ Some lists
+    by : (b : Bool) → depends_on_others universe (on_sets f) ≡ b
+        → (if b then None else lists_of (out_list universe (on_sets f)) (in_list universe (on_sets f))) ≡ Some lists
         → depends_on_others universe (on_sets f) ≡ false
     by true is e = absurd cc
     by false is e = is
 
 module _ (universe : List ℕ) (up : IsAscending universe) (communities : AreCommunities universe) where
-  import_for : (out : Plain) (sends : Bool) (into : Plain) (lists : CanonEdge) → IsPrintableAct (Import out sends into) → IsActWithin universe (Import out sends into)
+  import_for : (out : Plain) (sends : Bool) (into : Plain) (lists : CanonEdge) → IsPrintableAct (Import out sends into)
+      → IsActWithin universe (Import out sends into)
       → canonical_lists_of universe (import_of out sends into) ≡ Some lists → IsActFor universe (Import out sends into) (session_with lists)
   import_for out sends into lists printable within e =
       let uniform = import_uniform universe out sends into printable.0 printable.1 within.0 within.1 in
@@ -139,9 +143,11 @@ module _ (universe : List ℕ) (up : IsAscending universe) (communities : AreCom
   unfolding canonical_act
   act_for (Import out sends into) new printable within e = by (canonical_lists_of universe (import_of out sends into)) refl e
     where
-      by : (o : Option CanonEdge) → canonical_lists_of universe (import_of out sends into) ≡ o → option_map session_with o ≡ Some new → IsActFor universe (Import out sends into) new
+      by : (o : Option CanonEdge) → canonical_lists_of universe (import_of out sends into) ≡ o → option_map session_with o ≡ Some new
+          → IsActFor universe (Import out sends into) new
       by None is e = absurd cc
-      by (Some lists) is e = (let same : session_with lists ≡ new = cc in subst (IsActFor universe (Import out sends into)) same (import_for out sends into lists printable within is))
+      by (Some lists) is e = (let same : session_with lists ≡ new = cc in
+          subst (IsActFor universe (Import out sends into)) same (import_for out sends into lists printable within is))
   act_for (Cost cost) new printable within e = (let same : Cost cost ≡ new = cc in subst (IsActFor universe (Cost cost)) same (cost_for universe cost))
 
   -- ---- the first edge without
@@ -162,7 +168,8 @@ module _ (universe : List ℕ) (up : IsAscending universe) (communities : AreCom
     all_or_first [] = inl tt
     all_or_first (x ∷ xs) = by (all_or_first xs) (canonical_act universe (act_of problem x)) refl
       where
-        by : AllByRecursion HasOne xs ⊎ Without xs → (o : Option Act) → canonical_act universe (act_of problem x) ≡ o → AllByRecursion HasOne (x ∷ xs) ⊎ Without (x ∷ xs)
+        by : AllByRecursion HasOne xs ⊎ Without xs → (o : Option Act) → canonical_act universe (act_of problem x) ≡ o → AllByRecursion HasOne (x ∷ xs)
+            ⊎ Without (x ∷ xs)
         by rest None is = inr (record { before = []; edge = x; after = xs; split = refl; none = is; earlier = tt })
         by (inl all) (Some new) is = inl ((new, is), all)
         by (inr w) (Some new) is = inr (record {
@@ -235,7 +242,8 @@ module _ (universe : List ℕ) (up : IsAscending universe) (communities : AreCom
                 subst (λ (k : ℕ). canonical_act universe (act_at problem.acts k) ≡ Some (act_at acts k)) u.same (used_at u.edge u.edge_in) in
                 act_for (act_at problem.acts place) (act_at acts place) old_printable old_within e)
             | inr unused ↦ subst (IsActFor universe (act_at problem.acts place))
-                (sym (at_acts place inside ∙ picked (is_used problem.edges place) (canonical_act universe (act_at problem.acts place)) (act_at problem.acts place) unused))
+                (sym (at_acts place inside ∙ picked (is_used problem.edges place) (canonical_act universe (act_at problem.acts place))
+                    (act_at problem.acts place) unused))
                 (same_act universe (act_at problem.acts place) old_printable old_within)
           ]
 
@@ -244,7 +252,8 @@ module _ (universe : List ℕ) (up : IsAscending universe) (communities : AreCom
       unused_at place none = elim (cases_lt place (length problem.acts)) [
         | inl inside ↦ elim (bit (is_used problem.edges place)) [
           | inl used ↦ (let u = used_by problem.edges place used in absurd (none u.edge (contains_in problem.edges u.edge u.edge_in) u.same))
-          | inr unused ↦ at_acts place inside ∙ picked (is_used problem.edges place) (canonical_act universe (act_at problem.acts place)) (act_at problem.acts place) unused
+          | inr unused ↦ at_acts place inside ∙ picked (is_used problem.edges place) (canonical_act universe (act_at problem.acts place))
+              (act_at problem.acts place) unused
         ]
         | inr past ↦ beyond acts place (Cost 0) (let n = acts_count in omega arith) ∙ sym (beyond problem.acts place (Cost 0) past)
       ]

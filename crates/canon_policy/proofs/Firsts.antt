@@ -25,7 +25,8 @@ pub nothing_found : {X : Type 0} (p : X → Bool) (xs : List X) → ((x : X) →
 nothing_found p [] none = refl
 nothing_found p (y ∷ ys) none = rw (none y (inl refl)) (nothing_found p ys (λ x h. none x (inr h)))
 
-found_step : (p : ℕ → Bool) (y : ℕ) (ys : List ℕ) (c : ℕ) → AllAbove y ys → In ys c → (p y ≡ true → c ≤ y) → find p ys ≡ Some c → (b : Bool) → p y ≡ b → cond b (Some y) (find p ys) ≡ Some c
+found_step : (p : ℕ → Bool) (y : ℕ) (ys : List ℕ) (c : ℕ) → AllAbove y ys → In ys c → (p y ≡ true → c ≤ y) → find p ys ≡ Some c → (b : Bool) → p y ≡ b
+    → cond b (Some y) (find p ys) ≡ Some c
 found_step p y ys c up h le rest true e =
     let less = le e in
     let inside = in_has ys c h in
@@ -36,7 +37,8 @@ found_step p y ys c up h le rest false e = rest
 pub found_least : (p : ℕ → Bool) (xs : List ℕ) (c : ℕ) → IsAscending xs → In xs c → p c ≡ true → ((d : ℕ) → In xs d → p d ≡ true → c ≤ d) → find p xs ≡ Some c
 found_least p [] c up h e first = absurd h
 found_least p (y ∷ ys) c up (inl same) e first = rw (ap p same ∙ e) (ap Some same)
-found_least p (y ∷ ys) c up (inr h) e first = found_step p y ys c up.0 h (first y (inl refl)) (found_least p ys c up.1 h e (λ d h' e'. first d (inr h') e')) (p y) refl
+found_least p (y ∷ ys) c up (inr h) e first = found_step p y ys c up.0 h (first y (inl refl)) (found_least p ys c up.1 h e (λ d h' e'. first d (inr h') e'))
+    (p y) refl
 
 pub find_same : (p q : ℕ → Bool) (xs : List ℕ) → ((x : ℕ) → p x ≡ q x) → find p xs ≡ find q xs
 find_same p q xs same = ap (λ (f : ℕ → Bool). find f xs) (fun_ext same)
@@ -69,7 +71,8 @@ pub find_either : (p q : ℕ → Bool) (xs : List ℕ) → IsAscending xs → le
 find_either p q [] up = refl
 find_either p q (y ∷ ys) up = by (p y) (q y) (find_either p q ys up.1)
   where
-    by : (a b : Bool) → lesser (find p ys) (find q ys) ≡ find (λ x. p x || q x) ys → lesser (cond a (Some y) (find p ys)) (cond b (Some y) (find q ys)) ≡ cond (a || b) (Some y) (find (λ x. p x || q x) ys)
+    by : (a b : Bool) → lesser (find p ys) (find q ys) ≡ find (λ x. p x || q x) ys
+        → lesser (cond a (Some y) (find p ys)) (cond b (Some y) (find q ys)) ≡ cond (a || b) (Some y) (find (λ x. p x || q x) ys)
     by true true e = same_least y
     by true false e = none_before q y ys (find q ys) up.0 refl
     by false true e = none_before' p y ys (find p ys) up.0 refl
@@ -87,7 +90,8 @@ module _ (shown : Shown) (is : IsShown shown) (node : ℕ) (hangs : TestHangsOn 
   differing_depends x d =
       let set : List ℕ = as_set (without_number x d.set) in
       let first : value (with_number x set) ≡ value (with_number x d.set) = value_hangs.same (with_number x set) (with_number x d.set) (with_both x d.set) in
-      let second : value set ≡ value (without_number x d.set) = value_hangs.same set (without_number x d.set) (same_sets shown.universe set (without_number x d.set) (has-as_set (without_number x d.set))) in
+      let second : value set ≡ value (without_number x d.set) =
+          value_hangs.same set (without_number x d.set) (same_sets shown.universe set (without_number x d.set) (has-as_set (without_number x d.set))) in
       record {
         set = set;
         ascending = ascending-as_set (without_number x d.set);
@@ -95,7 +99,8 @@ module _ (shown : Shown) (is : IsShown shown) (node : ℕ) (hangs : TestHangsOn 
       }
     where
       with_both : (x : ℕ) (s : List ℕ) → SameOn shown.universe (with_number x (as_set (without_number x s))) (with_number x s)
-      with_both x s = record { same = λ c known. has-with_number x (as_set (without_number x s)) c ∙ ap (λ b. nat_eq x c || b) (has-as_set (without_number x s) c ∙ has-without_number x s c) ∙ by (nat_eq x c) (has s c) ∙ sym (has-with_number x s c) }
+      with_both x s = record { same = λ c known. has-with_number x (as_set (without_number x s)) c
+          ∙ ap (λ b. nat_eq x c || b) (has-as_set (without_number x s) c ∙ has-without_number x s c) ∙ by (nat_eq x c) (has s c) ∙ sym (has-with_number x s c) }
         where
           by : (n b : Bool) → n || (not n && b) ≡ n || b
           by true b = refl
@@ -111,17 +116,24 @@ module _ (shown : Shown) (is : IsShown shown) (node : ℕ) (hangs : TestHangsOn 
   depends_differing x d = by (has d.set x) refl
     where
       by : (b : Bool) → has d.set x ≡ b → depends shown.universe value x ≡ true
-      by true there = absurd (d.differ (hangs.same (with_number x d.set) d.set (same_sets shown.universe (with_number x d.set) d.set (with_there x d.set there))))
-      by false there = differ_depends shown.universe value x d.set value_hangs (λ e. d.differ (yes_one (value_of shown (with_number x d.set) node) (value_of shown d.set node) (e ∙ value_hangs.same (without_number x d.set) d.set (same_sets shown.universe (without_number x d.set) d.set (without_absent x d.set there)))))
+      by true there = absurd (d.differ (hangs.same (with_number x d.set) d.set
+          (same_sets shown.universe (with_number x d.set) d.set (with_there x d.set there))))
+      by false there = differ_depends shown.universe value x d.set value_hangs
+          (λ e. d.differ (yes_one (value_of shown (with_number x d.set) node) (value_of shown d.set node)
+              (e ∙ value_hangs.same (without_number x d.set) d.set (same_sets shown.universe (without_number x d.set) d.set (without_absent x d.set there)))))
 
   not_true : (b : Bool) → (b ≡ true → ⊥) → b ≡ false
   not_true true f = absurd (f refl)
   not_true false f = refl
 
-  pub first_is_least : (r : Option Community) → MatchOption r (DependsOnNone shown node) (λ c. IsFirstOf shown node c.0) → option_map community_number r ≡ least shown.universe value
+  pub first_is_least : (r : Option Community) → MatchOption r (DependsOnNone shown node) (λ c. IsFirstOf shown node c.0)
+      → option_map community_number r ≡ least shown.universe value
   unfolding least
-  first_is_least None none = sym (nothing_found (depends shown.universe value) shown.universe (λ x h. not_true (depends shown.universe value x) (λ e. none.none x (in_has shown.universe x h) (differing_depends x (depends_differ shown.universe value x e)))))
-  first_is_least (Some c) first = sym (found_least (depends shown.universe value) shown.universe c.0 is.ascending (has_in shown.universe c.0 first.known) (depends_differing c.0 first.needed)
+  first_is_least None none = sym (nothing_found (depends shown.universe value) shown.universe
+      (λ x h. not_true (depends shown.universe value x) (λ e.
+          none.none x (in_has shown.universe x h) (differing_depends x (depends_differ shown.universe value x e)))))
+  first_is_least (Some c) first = sym (found_least (depends shown.universe value) shown.universe c.0 is.ascending (has_in shown.universe c.0 first.known)
+      (depends_differing c.0 first.needed)
       (λ d h e. first.least d (in_has shown.universe d h) (differing_depends d (depends_differ shown.universe value d e))))
 
 -- several nodes
@@ -150,11 +162,13 @@ any-append p (x ∷ xs) y = ap (λ b. p x || b) (any-append p xs y) ∙ assoc (p
     assoc true b c = refl
     assoc false b c = refl
 
-pub least_of_more : (shown : Shown) → IsShown shown → (nodes : List ℕ) (node : ℕ) → lesser (least_among shown nodes) (least shown.universe (λ set. yes (value_of shown set node))) ≡ least_among shown (nodes ++ node ∷ [])
+pub least_of_more : (shown : Shown) → IsShown shown → (nodes : List ℕ) (node : ℕ)
+    → lesser (least_among shown nodes) (least shown.universe (λ set. yes (value_of shown set node))) ≡ least_among shown (nodes ++ node ∷ [])
 unfolding least_among least
 least_of_more shown is nodes node =
     find_either (λ x. list_any (node_depends shown x) nodes) (λ x. node_depends shown x node) shown.universe is.ascending
-    ∙ find_same (λ x. list_any (node_depends shown x) nodes || node_depends shown x node) (λ x. list_any (node_depends shown x) (nodes ++ node ∷ [])) shown.universe (λ x. sym (any-append (node_depends shown x) nodes node))
+    ∙ find_same (λ x. list_any (node_depends shown x) nodes || node_depends shown x node) (λ x. list_any (node_depends shown x) (nodes ++ node ∷ []))
+        shown.universe (λ x. sym (any-append (node_depends shown x) nodes node))
 
 -- nodes that tell a part depend on what it depends on
 both_true : (a b : Bool) → (a ≡ true → b ≡ true) → (b ≡ true → a ≡ true) → a ≡ b
@@ -178,10 +192,14 @@ unless true false f = absurd (f (λ e. cc))
 unless false true f = absurd (f (λ e. cc))
 unless false false f = refl
 
-none_differ : (shown : Shown) (nodes : List ℕ) (x : ℕ) (set : List ℕ) → ((node : ℕ) → In nodes node → TestHangsOn shown.universe (λ s. value_of shown s node)) → (list_any (node_depends shown x) nodes ≡ true → ⊥) → AgreeAt shown nodes (with_number x set) (without_number x set)
+none_differ : (shown : Shown) (nodes : List ℕ) (x : ℕ) (set : List ℕ) → ((node : ℕ) → In nodes node → TestHangsOn shown.universe (λ s. value_of shown s node))
+    → (list_any (node_depends shown x) nodes ≡ true → ⊥) → AgreeAt shown nodes (with_number x set) (without_number x set)
 none_differ shown [] x set hang none = tt
 none_differ shown (n ∷ ns) x set hang none = (
-  unless (value_of shown (with_number x set) n) (value_of shown (without_number x set) n) (λ ne. none (any_in (node_depends shown x) (n ∷ ns) n (inl refl) (differ_depends shown.universe (λ s. yes (value_of shown s n)) x set (yes_hangs shown.universe (λ s. value_of shown s n) (hang n (inl refl))) (λ e. ne (one (value_of shown (with_number x set) n) (value_of shown (without_number x set) n) e))))),
+  unless (value_of shown (with_number x set) n) (value_of shown (without_number x set) n)
+      (λ ne. none (any_in (node_depends shown x) (n ∷ ns) n (inl refl)
+          (differ_depends shown.universe (λ s. yes (value_of shown s n)) x set (yes_hangs shown.universe (λ s. value_of shown s n) (hang n (inl refl)))
+              (λ e. ne (one (value_of shown (with_number x set) n) (value_of shown (without_number x set) n) e))))),
   none_differ shown ns x set (λ m h. hang m (inr h)) (λ e. none (later (node_depends shown x n) (list_any (node_depends shown x) ns) e)),
 )
   where
@@ -195,22 +213,28 @@ none_differ shown (n ∷ ns) x set hang none = (
     later true b e = refl
     later false b e = e
 
-pub told_depends : (shown : Shown) (nodes : List ℕ) (part : List ℕ → ℕ) → NumberHangsOn shown.universe part → Tells shown nodes part → (x : ℕ) → depends shown.universe part x ≡ list_any (node_depends shown x) nodes
+pub told_depends : (shown : Shown) (nodes : List ℕ) (part : List ℕ → ℕ) → NumberHangsOn shown.universe part → Tells shown nodes part → (x : ℕ)
+    → depends shown.universe part x ≡ list_any (node_depends shown x) nodes
 told_depends shown nodes part hangs tells x =
     let hang = told_hang shown nodes part hangs tells in
     both_true (depends shown.universe part x) (list_any (node_depends shown x) nodes)
     (λ e.
     let d = depends_differ shown.universe part x e in
-    by (list_any (node_depends shown x) nodes) (λ none. d.differ (tells.same (with_number x d.set) (without_number x d.set) (none_differ shown nodes x d.set hang.each none))))
+    by (list_any (node_depends shown x) nodes) (λ none. d.differ
+        (tells.same (with_number x d.set) (without_number x d.set) (none_differ shown nodes x d.set hang.each none))))
     (λ e.
     let f = in_any (node_depends shown x) nodes e in
     let d = depends_differ shown.universe (λ s. yes (value_of shown s f.item)) x f.passes in
-    differ_depends shown.universe part x d.set hangs (λ same. d.differ (ap yes (agree_at shown nodes (with_number x d.set) (without_number x d.set) f.item (tells.apart (with_number x d.set) (without_number x d.set) same) f.there))))
+    differ_depends shown.universe part x d.set hangs (λ same.
+        d.differ (ap yes (agree_at shown nodes (with_number x d.set) (without_number x d.set) f.item
+            (tells.apart (with_number x d.set) (without_number x d.set) same) f.there))))
   where
     by : (b : Bool) → ((b ≡ true → ⊥) → ⊥) → b ≡ true
     by true f = refl
     by false f = absurd (f (λ e. cc))
 
-pub told_least : (shown : Shown) (nodes : List ℕ) (part : List ℕ → ℕ) → NumberHangsOn shown.universe part → Tells shown nodes part → least_among shown nodes ≡ least shown.universe part
+pub told_least : (shown : Shown) (nodes : List ℕ) (part : List ℕ → ℕ) → NumberHangsOn shown.universe part → Tells shown nodes part
+    → least_among shown nodes ≡ least shown.universe part
 unfolding least_among least
-told_least shown nodes part hangs tells = find_same (λ x. list_any (node_depends shown x) nodes) (depends shown.universe part) shown.universe (λ x. sym (told_depends shown nodes part hangs tells x))
+told_least shown nodes part hangs tells = find_same (λ x. list_any (node_depends shown x) nodes) (depends shown.universe part) shown.universe
+    (λ x. sym (told_depends shown nodes part hangs tells x))

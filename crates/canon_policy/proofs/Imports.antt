@@ -34,7 +34,8 @@ abbrev given : ℕ → Imported → Imported
 given adds import = record { lp = import.lp; comms = import.comms; adds = adds }
 
 -- a list that is not too long
-limited_by : (b : Bool) (entries : List PlainEntry) (list : Plain) → (if b then None else Some (record { entries = without_last_denies entries })) ≡ Some list → list.entries ≡ without_last_denies entries
+limited_by : (b : Bool) (entries : List PlainEntry) (list : Plain) → (if b then None else Some (record { entries = without_last_denies entries })) ≡ Some list
+    → list.entries ≡ without_last_denies entries
 limited_by true entries list e = absurd cc
 limited_by false entries list e = let same : record { entries = without_last_denies entries } ≡ list = cc in sym (ap (λ (p : Plain). p.entries) same)
 
@@ -45,7 +46,8 @@ limited_is entries list e = limited_by (nat_lt 65535 (length entries) || list_an
 nothing_agrees : (set : List ℕ) → Agrees nothing_fixed set
 nothing_agrees set = record { present = λ c h. cc; absent = λ c h. cc }
 
-list_says : (universe : List ℕ) (asked : Asked) → AskedHangsOn universe asked → (entry : ℕ → Fixing → PlainEntry) → AreEntries entry → (list : Plain) → limited (canonical_entries universe asked entry) ≡ Some list → (set : List ℕ) → Decided entry (split universe asked) set (verdict list.entries set)
+list_says : (universe : List ℕ) (asked : Asked) → AskedHangsOn universe asked → (entry : ℕ → Fixing → PlainEntry) → AreEntries entry → (list : Plain)
+    → limited (canonical_entries universe asked entry) ≡ Some list → (set : List ℕ) → Decided entry (split universe asked) set (verdict list.entries set)
 list_says universe asked hang entry are list e set =
     let d = decided universe asked hang entry are (length universe) 1 nothing_fixed set [] (count_free-start universe) (nothing_agrees set) in
     record {
@@ -58,8 +60,10 @@ list_says universe asked hang entry are list e set =
           ∙ d.says;
     }
 
-module _ (universe : List ℕ) (f : List ℕ → Option Imported) (plain : IsPlain universe f) (up : IsAscending universe) (set : List ℕ) (set_up : IsAscending set) where
-  in_leaf : (adds : ℕ) (fixing : Fixing) → split universe (in_asked universe f) fixing ≡ None → Agrees fixing set → (b : Bool) → accepts f fixing.present ≡ b → (o : Option Imported) → f set ≡ o → accepted adds (entry_verdict (in_by universe f b 0 fixing) set) ≡ option_map (given adds) o
+module _ (universe : List ℕ) (f : List ℕ → Option Imported) (plain : IsPlain universe f) (up : IsAscending universe) (set : List ℕ) (set_up : IsAscending set)
+    where
+  in_leaf : (adds : ℕ) (fixing : Fixing) → split universe (in_asked universe f) fixing ≡ None → Agrees fixing set → (b : Bool) → accepts f fixing.present ≡ b
+      → (o : Option Imported) → f set ≡ o → accepted adds (entry_verdict (in_by universe f b 0 fixing) set) ≡ option_map (given adds) o
   in_leaf adds fixing none agrees true yes' None e =
       let same = in_accepted universe f fixing fixing.present set plain none (present_agrees fixing set agrees) agrees in
       let here : accepts f set ≡ false = ap (λ (o : Option Imported). is_some o) e in
@@ -88,27 +92,32 @@ module _ (universe : List ℕ) (f : List ℕ → Option Imported) (plain : IsPla
   out_verdict None = Deny
   out_verdict (Some import) = Permit None set import.adds
 
-  out_leaf : (fixing : Fixing) → split universe (out_asked universe f) fixing ≡ None → Agrees fixing set → (b : Bool) → accepts f fixing.present ≡ b → (o : Option Imported) → f set ≡ o → entry_verdict (out_by f b 0 fixing) set ≡ out_verdict o
+  out_leaf : (fixing : Fixing) → split universe (out_asked universe f) fixing ≡ None → Agrees fixing set → (b : Bool) → accepts f fixing.present ≡ b
+      → (o : Option Imported) → f set ≡ o → entry_verdict (out_by f b 0 fixing) set ≡ out_verdict o
   out_leaf fixing none agrees true yes' None e =
-      let same = one_answer universe (accepts f) fixing fixing.present set plain.accepted (no_split universe (out_asked universe f) fixing none).accepted (present_agrees fixing set agrees) agrees in
+      let same = one_answer universe (accepts f) fixing fixing.present set plain.accepted (no_split universe (out_asked universe f) fixing none).accepted
+          (present_agrees fixing set agrees) agrees in
       let here : accepts f set ≡ false = ap (λ (o : Option Imported). is_some o) e in
       absurd cc
   out_leaf fixing none agrees false no' None e = refl
   out_leaf fixing none agrees false no' (Some import) e =
-      let same = one_answer universe (accepts f) fixing fixing.present set plain.accepted (no_split universe (out_asked universe f) fixing none).accepted (present_agrees fixing set agrees) agrees in
+      let same = one_answer universe (accepts f) fixing fixing.present set plain.accepted (no_split universe (out_asked universe f) fixing none).accepted
+          (present_agrees fixing set agrees) agrees in
       let here : accepts f set ≡ true = ap (λ (o : Option Imported). is_some o) e in
       absurd cc
   out_leaf fixing none agrees true yes' (Some import) e =
       let least_agrees = present_agrees fixing set agrees in
       let parts = no_split universe (out_asked universe f) fixing none in
-      let start : accepts f (agreeing fixing []) ≡ true = at_least_set universe (accepts f) fixing fixing.present plain.accepted parts.accepted least_agrees ∙ yes' in
+      let start : accepts f (agreeing fixing []) ≡ true = at_least_set universe (accepts f) fixing fixing.present plain.accepted parts.accepted least_agrees
+          ∙ yes' in
       let settled = (or_none (least universe (λ set. added_count f (agreeing fixing set))) None (parts.parts start)).0 in
       let here : added_count f set ≡ import.adds + 1 = ap (λ (o : Option Imported). option_map_or (λ (i : Imported). i.adds + 1) o 0) e in
       let same = one_value universe (added_count f) fixing fixing.present set plain.adds settled least_agrees agrees in
       let adds : added_count f fixing.present - 1 ≡ import.adds = omega arith in
       ap (λ n. Permit None set n) adds
 
-  out_list_says : (out : Plain) → limited (canonical_entries universe (out_asked universe f) (out_entry f)) ≡ Some out → verdict out.entries set ≡ out_verdict (f set)
+  out_list_says : (out : Plain) → limited (canonical_entries universe (out_asked universe f) (out_entry f)) ≡ Some out
+      → verdict out.entries set ≡ out_verdict (f set)
   out_list_says out e =
       let d = list_says universe (out_asked universe f) (out_asked_hangs universe f plain) (out_entry f) (out_entries f) out e set in
       d.says ∙ out_leaf d.fixing d.settled d.agrees (accepts f d.fixing.present) refl (f set) refl
@@ -128,11 +137,14 @@ module _ (universe : List ℕ) (f : List ℕ → Option Imported) (plain : IsPla
       less : (n : ℕ) → nat_lt n 2 ≡ true → n < 2
       less n e = grind (arith, nat_tests)
 
-  out_given : (o : Option Imported) (into : Plain) → ((adds : ℕ) → accepted adds (verdict into.entries set) ≡ option_map (given adds) o) → received true into.entries (out_verdict o) ≡ o
+  out_given : (o : Option Imported) (into : Plain) → ((adds : ℕ) → accepted adds (verdict into.entries set) ≡ option_map (given adds) o)
+      → received true into.entries (out_verdict o) ≡ o
   out_given None into says = refl
   out_given (Some import) into says = says import.adds
 
-  by_out : (b : Bool) → adds_nothing universe f ≡ b → (out into : Plain) → (if b then Some passing else limited (canonical_entries universe (out_asked universe f) (out_entry f))) ≡ Some out → in_list universe f ≡ Some into → import_of out true into set ≡ f set
+  by_out : (b : Bool) → adds_nothing universe f ≡ b → (out into : Plain)
+      → (if b then Some passing else limited (canonical_entries universe (out_asked universe f) (out_entry f))) ≡ Some out → in_list universe f ≡ Some into
+          → import_of out true into set ≡ f set
   by_out true none out into e e' =
       let is : passing ≡ out = cc in
       ap (λ (p : Plain). received true into.entries (verdict p.entries set)) (sym is)
@@ -149,7 +161,8 @@ module _ (universe : List ℕ) (f : List ℕ → Option Imported) (plain : IsPla
       let same : record { out = out; into = into } ≡ lists = cc in
       (ap (λ (l : CanonEdge). Some l.out) same, ap (λ (l : CanonEdge). Some l.into) same)
 
-  canonical_by : (b : Bool) (lists : CanonEdge) → (if b then None else lists_of (out_list universe f) (in_list universe f)) ≡ Some lists → (out_list universe f ≡ Some lists.out) × (in_list universe f ≡ Some lists.into)
+  canonical_by : (b : Bool) (lists : CanonEdge) → (if b then None else lists_of (out_list universe f) (in_list universe f)) ≡ Some lists
+      → (out_list universe f ≡ Some lists.out) × (in_list universe f ≡ Some lists.into)
   canonical_by true lists e = absurd cc
   canonical_by false lists e = both_lists (out_list universe f) (in_list universe f) lists e
 

@@ -27,7 +27,8 @@ pub record IsFound {X : Type 0} (p : X → Bool) (xs : List X) (x : X) : Type 0 
   pub there : In xs x
   pub passes : p x ≡ true
 
-found_step : {X : Type 0} (p : X → Bool) (y : X) (ys : List X) (x : X) (b : Bool) → p y ≡ b → cond b (Some y) (find p ys) ≡ Some x → (find p ys ≡ Some x → IsFound p ys x) → IsFound p (y ∷ ys) x
+found_step : {X : Type 0} (p : X → Bool) (y : X) (ys : List X) (x : X) (b : Bool) → p y ≡ b → cond b (Some y) (find p ys) ≡ Some x
+    → (find p ys ≡ Some x → IsFound p ys x) → IsFound p (y ∷ ys) x
 found_step p y ys x true e is rest = let same : y ≡ x = cc in record { there = inl same; passes = ap p (sym same) ∙ e }
 found_step p y ys x false e is rest = let f = rest is in record { there = inr f.there; passes = f.passes }
 
@@ -73,12 +74,14 @@ not_apart a b e = elim (cases_eq a b) [
     by false e f = cc
 
 -- a part that does not depend on a community is the same with it and without it, on every set
-pub not_depends : (universe : List ℕ) (part : List ℕ → ℕ) (x : ℕ) (set : List ℕ) → NumberHangsOn universe part → depends universe part x ≡ false → part (with_number x set) ≡ part (without_number x set)
+pub not_depends : (universe : List ℕ) (part : List ℕ → ℕ) (x : ℕ) (set : List ℕ) → NumberHangsOn universe part → depends universe part x ≡ false
+    → part (with_number x set) ≡ part (without_number x set)
 unfolding depends
 not_depends universe part x set hangs e =
     let inner = named universe set in
     let same = named_same universe set in
-    let here = not_apart (part (with_number x inner)) (part (without_number x inner)) (none_in (differs part x) (sets_of universe) inner e (filtered_in (has set) universe)) in
+    let here = not_apart (part (with_number x inner)) (part (without_number x inner))
+        (none_in (differs part x) (sets_of universe) inner e (filtered_in (has set) universe)) in
     hangs.same (with_number x set) (with_number x inner) (with_same_on universe set inner x (same_back universe inner set same))
     ∙ here
     ∙ hangs.same (without_number x inner) (without_number x set) (without_same_on universe inner set x same)
@@ -86,7 +89,8 @@ not_depends universe part x set hangs e =
 differ_test : (a b : ℕ) → a ≢ b → not (nat_eq a b) ≡ true
 differ_test a b ne = rw (other_number a b ne) refl
 
-pub differ_depends : (universe : List ℕ) (part : List ℕ → ℕ) (x : ℕ) (set : List ℕ) → NumberHangsOn universe part → part (with_number x set) ≢ part (without_number x set) → depends universe part x ≡ true
+pub differ_depends : (universe : List ℕ) (part : List ℕ → ℕ) (x : ℕ) (set : List ℕ) → NumberHangsOn universe part
+    → part (with_number x set) ≢ part (without_number x set) → depends universe part x ≡ true
 differ_depends universe part x set hangs ne = by (depends universe part x) refl
   where
     by : (b : Bool) → depends universe part x ≡ b → b ≡ true
@@ -94,7 +98,8 @@ differ_depends universe part x set hangs ne = by (depends universe part x) refl
     by false e = absurd (ne (not_depends universe part x set hangs e))
 
 -- putting in or taking out
-pub put_same : (universe : List ℕ) (part : List ℕ → ℕ) (x : ℕ) (set : List ℕ) → NumberHangsOn universe part → part (with_number x set) ≡ part (without_number x set) → part (with_number x set) ≡ part set
+pub put_same : (universe : List ℕ) (part : List ℕ → ℕ) (x : ℕ) (set : List ℕ) → NumberHangsOn universe part
+    → part (with_number x set) ≡ part (without_number x set) → part (with_number x set) ≡ part set
 put_same universe part x set hangs e = by (has set x) refl
   where
     by : (b : Bool) → has set x ≡ b → part (with_number x set) ≡ part set
@@ -102,11 +107,14 @@ put_same universe part x set hangs e = by (has set x) refl
     by false there = e ∙ hangs.same (without_number x set) set (same_sets universe (without_number x set) set (without_absent x set there))
 
 -- a part that depends on no community is the same on all sets
-walk_step : (universe : List ℕ) (part : List ℕ → ℕ) (x : ℕ) (rest : List ℕ) (b : Bool) → NumberHangsOn universe part → part (with_number x rest) ≡ part rest → part (cond b (x ∷ rest) rest) ≡ part rest
-walk_step universe part x rest true hangs e = hangs.same (x ∷ rest) (with_number x rest) (same_sets universe (x ∷ rest) (with_number x rest) (λ c. sym (has-with_number x rest c))) ∙ e
+walk_step : (universe : List ℕ) (part : List ℕ → ℕ) (x : ℕ) (rest : List ℕ) (b : Bool) → NumberHangsOn universe part → part (with_number x rest) ≡ part rest
+    → part (cond b (x ∷ rest) rest) ≡ part rest
+walk_step universe part x rest true hangs e = hangs.same (x ∷ rest) (with_number x rest)
+    (same_sets universe (x ∷ rest) (with_number x rest) (λ c. sym (has-with_number x rest c))) ∙ e
 walk_step universe part x rest false hangs e = refl
 
-walk : (universe : List ℕ) (part : List ℕ → ℕ) (p : ℕ → Bool) (cs : List ℕ) → NumberHangsOn universe part → ((x : ℕ) (set : List ℕ) → In cs x → part (with_number x set) ≡ part set) → part (filter p cs) ≡ part []
+walk : (universe : List ℕ) (part : List ℕ → ℕ) (p : ℕ → Bool) (cs : List ℕ) → NumberHangsOn universe part
+    → ((x : ℕ) (set : List ℕ) → In cs x → part (with_number x set) ≡ part set) → part (filter p cs) ≡ part []
 walk universe part p [] hangs none = refl
 walk universe part p (c ∷ cs) hangs none =
     walk_step universe part c (filter p cs) (p c) hangs (none c (filter p cs) (inl refl))
@@ -116,7 +124,8 @@ pub least_none : (universe : List ℕ) (part : List ℕ → ℕ) → NumberHangs
 unfolding least
 least_none universe part hangs e a =
     hangs.same a (named universe a) (same_back universe (named universe a) a (named_same universe a))
-    ∙ walk universe part (has a) universe hangs (λ x set h. put_same universe part x set hangs (not_depends universe part x set hangs (none_found (depends universe part) universe x e h)))
+    ∙ walk universe part (has a) universe hangs (λ x set h. put_same universe part x set hangs
+        (not_depends universe part x set hangs (none_found (depends universe part) universe x e h)))
 
 pub least_some : (universe : List ℕ) (part : List ℕ → ℕ) (x : ℕ) → least universe part ≡ Some x → (has universe x ≡ true) × Differing part x
 unfolding least
@@ -125,7 +134,8 @@ least_some universe part x e =
     (in_has universe x f.there, depends_differ universe part x f.passes)
 
 -- on sets that agree with a fixing
-pub under_hangs : (universe : List ℕ) (part : List ℕ → ℕ) (fixing : Fixing) → NumberHangsOn universe part → NumberHangsOn universe (λ set. part (agreeing fixing set))
+pub under_hangs : (universe : List ℕ) (part : List ℕ → ℕ) (fixing : Fixing) → NumberHangsOn universe part
+    → NumberHangsOn universe (λ set. part (agreeing fixing set))
 under_hangs universe part fixing hangs = record { same = λ a b s. hangs.same (agreeing fixing a) (agreeing fixing b) (agreeing_same_on universe a b fixing s) }
 
 -- a community of the universe that is not fixed
@@ -135,7 +145,8 @@ pub record IsFree (universe : List ℕ) (fixing : Fixing) (x : ℕ) : Type 0 whe
   pub not_absent : has fixing.absent x ≡ false
 
 -- where it is fixed, putting it in and taking it out make no difference
-pub fixed_same : (fixing : Fixing) (x : ℕ) (set : List ℕ) → (has fixing.present x ≡ true) ⊎ (has fixing.absent x ≡ true) → (c : ℕ) → has (agreeing fixing (with_number x set)) c ≡ has (agreeing fixing (without_number x set)) c
+pub fixed_same : (fixing : Fixing) (x : ℕ) (set : List ℕ) → (has fixing.present x ≡ true) ⊎ (has fixing.absent x ≡ true) → (c : ℕ)
+    → has (agreeing fixing (with_number x set)) c ≡ has (agreeing fixing (without_number x set)) c
 fixed_same fixing x set fixed c =
     has-agreeing fixing (with_number x set) c
     ∙ ap (λ b. not (has fixing.absent c) && (has fixing.present c || b)) (has-with_number x set c)
@@ -157,11 +168,14 @@ not_true : (b : Bool) → (b ≡ true → ⊥) → b ≡ false
 not_true true f = absurd (f refl)
 not_true false f = refl
 
-pub least_free : (universe : List ℕ) (part : List ℕ → ℕ) (fixing : Fixing) (x : ℕ) → NumberHangsOn universe part → least universe (λ set. part (agreeing fixing set)) ≡ Some x → IsFree universe fixing x
+pub least_free : (universe : List ℕ) (part : List ℕ → ℕ) (fixing : Fixing) (x : ℕ) → NumberHangsOn universe part
+    → least universe (λ set. part (agreeing fixing set)) ≡ Some x → IsFree universe fixing x
 least_free universe part fixing x hangs e =
     let found = least_some universe (λ set. part (agreeing fixing set)) x e in
     let set = found.1.set in
-    let no : ((has fixing.present x ≡ true) ⊎ (has fixing.absent x ≡ true)) → ⊥ = λ fixed. found.1.differ (hangs.same (agreeing fixing (with_number x set)) (agreeing fixing (without_number x set)) (same_sets universe (agreeing fixing (with_number x set)) (agreeing fixing (without_number x set)) (fixed_same fixing x set fixed))) in
+    let no : ((has fixing.present x ≡ true) ⊎ (has fixing.absent x ≡ true)) → ⊥ = λ fixed.
+        found.1.differ (hangs.same (agreeing fixing (with_number x set)) (agreeing fixing (without_number x set))
+            (same_sets universe (agreeing fixing (with_number x set)) (agreeing fixing (without_number x set)) (fixed_same fixing x set fixed))) in
     record {
       known = found.0;
       not_present = not_true (has fixing.present x) (λ h. no (inl h));

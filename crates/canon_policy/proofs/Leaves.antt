@@ -56,11 +56,13 @@ in_entries universe f = record {
     by true seq fixing set = match_holds set fixing.present
     by false seq fixing set = match_holds set fixing.present
 
-    says_by : (b : Bool) (seq : ℕ) (fixing : Fixing) (set : List ℕ) → entry_verdict (in_by universe f b seq fixing) set ≡ entry_verdict (in_by universe f b 0 fixing) set
+    says_by : (b : Bool) (seq : ℕ) (fixing : Fixing) (set : List ℕ)
+        → entry_verdict (in_by universe f b seq fixing) set ≡ entry_verdict (in_by universe f b 0 fixing) set
     says_by true seq fixing set = refl
     says_by false seq fixing set = refl
 
-    denies_by : (b : Bool) (seq : ℕ) (fixing : Fixing) (set : List ℕ) → (in_by universe f b seq fixing).permit ≡ false → entry_verdict (in_by universe f b seq fixing) set ≡ Deny
+    denies_by : (b : Bool) (seq : ℕ) (fixing : Fixing) (set : List ℕ) → (in_by universe f b seq fixing).permit ≡ false
+        → entry_verdict (in_by universe f b seq fixing) set ≡ Deny
     denies_by true seq fixing set e = absurd cc
     denies_by false seq fixing set e = refl
 
@@ -91,7 +93,8 @@ out_entries f = record {
     says_by true seq fixing set = refl
     says_by false seq fixing set = refl
 
-    denies_by : (b : Bool) (seq : ℕ) (fixing : Fixing) (set : List ℕ) → (out_by f b seq fixing).permit ≡ false → entry_verdict (out_by f b seq fixing) set ≡ Deny
+    denies_by : (b : Bool) (seq : ℕ) (fixing : Fixing) (set : List ℕ) → (out_by f b seq fixing).permit ≡ false
+        → entry_verdict (out_by f b seq fixing) set ≡ Deny
     denies_by true seq fixing set e = absurd cc
     denies_by false seq fixing set e = refl
 
@@ -108,7 +111,8 @@ line_case false b r e = rw (← e) refl
 
 lines_permit : (ds : List ℕ) (c : ℕ) → first_line_decides (line_holds (c ∷ [])) (map alone ds) ≡ has ds c
 lines_permit [] c = refl
-lines_permit (d ∷ ds) c = ap (λ b. if (nat_eq c d || false) && true then true else b) (lines_permit ds c) ∙ line_case (nat_eq c d) (nat_eq d c) (has ds c) (same_bit d c)
+lines_permit (d ∷ ds) c = ap (λ b. if (nat_eq c d || false) && true then true else b) (lines_permit ds c)
+    ∙ line_case (nat_eq c d) (nat_eq d c) (has ds c) (same_bit d c)
 
 has-deleted : (ds set : List ℕ) (c : ℕ) → has (without_deleted_by (deletion_of ds) set) c ≡ not (has ds c) && has set c
 has-deleted [] set c = refl
@@ -139,7 +143,8 @@ lp_is lp = elim (cases_eq lp 100) [
   | inr ne ↦ rw (other_number lp 100 ne) refl
 ]
 
-module _ (universe : List ℕ) (f : List ℕ → Option Imported) (plain : IsPlain universe f) (up : IsAscending universe) (fixing : Fixing) (settled : AreSettled universe f fixing) (set : List ℕ) (agrees : Agrees fixing set) where
+module _ (universe : List ℕ) (f : List ℕ → Option Imported) (plain : IsPlain universe f) (up : IsAscending universe) (fixing : Fixing)
+    (settled : AreSettled universe f fixing) (set : List ℕ) (agrees : Agrees fixing set) where
   least_agrees : Agrees fixing fixing.present
   least_agrees = present_agrees fixing set agrees
 
@@ -148,15 +153,18 @@ module _ (universe : List ℕ) (f : List ℕ → Option Imported) (plain : IsPla
   more c = with_number c fixing.present
 
   not_deleted_present : (c : ℕ) → has universe c ≡ true → has fixing.present c ≡ true → carries f c (with_number c fixing.present) ≡ carries f c fixing.present
-  not_deleted_present c known there = (plain.carried c known).same (with_number c fixing.present) fixing.present (same_sets universe (with_number c fixing.present) fixing.present (with_there c fixing.present there))
+  not_deleted_present c known there = (plain.carried c known).same (with_number c fixing.present) fixing.present
+      (same_sets universe (with_number c fixing.present) fixing.present (with_there c fixing.present there))
 
   -- in the result: added, or in the set and not deleted
   abbrev left : (p n v w s : Bool) → Bool
   left p n v w s = (v && not p) || (not (not n && not w) && s)
 
   one_case : (c : ℕ) → has universe c ≡ true → ((a b : List ℕ) → Agrees fixing a → Agrees fixing b → carries f c a ≡ carries f c b)
-      → left (has fixing.present c) (has fixing.absent c) (carries f c fixing.present) (carries f c (with_number c fixing.present)) (has set c) ≡ carries f c fixing.present
-  one_case c known same = by (has fixing.present c) (has fixing.absent c) (carries f c fixing.present) (carries f c (with_number c fixing.present)) (has set c) refl (agrees.present c) (agrees.absent c) (not_deleted_present c known)
+      → left (has fixing.present c) (has fixing.absent c) (carries f c fixing.present) (carries f c (with_number c fixing.present)) (has set c)
+          ≡ carries f c fixing.present
+  one_case c known same = by (has fixing.present c) (has fixing.absent c) (carries f c fixing.present) (carries f c (with_number c fixing.present)) (has set c)
+      refl (agrees.present c) (agrees.absent c) (not_deleted_present c known)
       (λ free. same (with_number c fixing.present) fixing.present (more_agrees fixing c least_agrees free) least_agrees)
     where
       by : (p n v w s : Bool) → has set c ≡ s → (p ≡ true → s ≡ true) → (n ≡ true → s ≡ false) → (p ≡ true → w ≡ v) → (n ≡ false → w ≡ v) → left p n v w s ≡ v
@@ -174,8 +182,10 @@ module _ (universe : List ℕ) (f : List ℕ → Option Imported) (plain : IsPla
 
   follow_case : (c : ℕ) → ((a : List ℕ) → Agrees fixing a → carries f c a ≡ has a c)
       → left (has fixing.present c) (has fixing.absent c) (carries f c fixing.present) (carries f c (with_number c fixing.present)) (has set c) ≡ has set c
-  follow_case c follows = by (has fixing.present c) (has fixing.absent c) (carries f c fixing.present) (carries f c (with_number c fixing.present)) (has set c) (follows fixing.present least_agrees)
-      (λ free. follows (with_number c fixing.present) (more_agrees fixing c least_agrees free) ∙ has-with_number c fixing.present c ∙ rw (same_number c c refl) refl)
+  follow_case c follows = by (has fixing.present c) (has fixing.absent c) (carries f c fixing.present) (carries f c (with_number c fixing.present)) (has set c)
+      (follows fixing.present least_agrees)
+      (λ free. follows (with_number c fixing.present) (more_agrees fixing c least_agrees free) ∙ has-with_number c fixing.present c
+          ∙ rw (same_number c c refl) refl)
     where
       by : (p n v w s : Bool) → v ≡ p → (n ≡ false → w ≡ true) → left p n v w s ≡ s
       by true true v w s e k = rw e refl
@@ -193,18 +203,22 @@ module _ (universe : List ℕ) (f : List ℕ → Option Imported) (plain : IsPla
   outside false false true k e = sym e
   outside false false false k e = refl
 
-  kept_known : (c : ℕ) → has universe c ≡ true → IsSettled f fixing c (keeps f universe fixing.present) → left (has fixing.present c) (has fixing.absent c) (carries f c fixing.present) (carries f c (with_number c fixing.present)) (has set c) ≡ carries f c set
+  kept_known : (c : ℕ) → has universe c ≡ true → IsSettled f fixing c (keeps f universe fixing.present)
+      → left (has fixing.present c) (has fixing.absent c) (carries f c fixing.present) (carries f c (with_number c fixing.present)) (has set c)
+          ≡ carries f c set
   kept_known c known (one same) = one_case c known same ∙ same fixing.present set least_agrees agrees
   kept_known c known (following kept follows) = follow_case c follows ∙ sym (follows set agrees)
 
-  kept_has : keeps f universe fixing.present ≡ true → (c : ℕ) (u : Bool) → has universe c ≡ u → (is_added f fixing c && u) || (not (is_removed f fixing c && u) && has set c) ≡ carries f c set
+  kept_has : keeps f universe fixing.present ≡ true → (c : ℕ) (u : Bool) → has universe c ≡ u
+      → (is_added f fixing c && u) || (not (is_removed f fixing c && u) && has set c) ≡ carries f c set
   kept_has kept c true known = two (is_added f fixing c) (is_removed f fixing c) (has set c) ∙ kept_known c known (settled.communities c known)
     where
       two : (a b s : Bool) → (a && true) || (not (b && true) && s) ≡ a || (not b && s)
       two true b s = refl
       two false true s = refl
       two false false s = refl
-  kept_has kept c false known = outside (is_added f fixing c) (is_removed f fixing c) (has set c) (keeps f universe set) (settled.kept set fixing.present agrees least_agrees ∙ kept) ∙ sym (plain.unnamed set c known)
+  kept_has kept c false known = outside (is_added f fixing c) (is_removed f fixing c) (has set c) (keeps f universe set)
+      (settled.kept set fixing.present agrees least_agrees ∙ kept) ∙ sym (plain.unnamed set c known)
 
   replaced_has : keeps f universe fixing.present ≡ false → (c : ℕ) (u : Bool) → has universe c ≡ u → always_carried f fixing c && u ≡ carries f c set
   replaced_has kept c true known = by (settled.communities c known)
@@ -216,7 +230,8 @@ module _ (universe : List ℕ) (f : List ℕ → Option Imported) (plain : IsPla
       by : IsSettled f fixing c (keeps f universe fixing.present) → always_carried f fixing c && true ≡ carries f c set
       by (one same) = all (carries f c fixing.present) ∙ same fixing.present set least_agrees agrees
       by (following is follows) = absurd cc
-  replaced_has kept c false known = none (carries f c fixing.present) (has set c) (keeps f universe set) (settled.kept set fixing.present agrees least_agrees ∙ kept) ∙ sym (plain.unnamed set c known)
+  replaced_has kept c false known = none (carries f c fixing.present) (has set c) (keeps f universe set)
+      (settled.kept set fixing.present agrees least_agrees ∙ kept) ∙ sym (plain.unnamed set c known)
     where
       none : (b s k : Bool) → k ≡ false → b && false ≡ s && k
       none true true k e = sym e
@@ -226,7 +241,8 @@ module _ (universe : List ℕ) (f : List ℕ → Option Imported) (plain : IsPla
 
   -- the communities that the entry leaves
   abbrev left_by : Bool → List ℕ
-  left_by kept = after_change (if kept then addition_of (filter (is_added f fixing) universe) else replacement_by (filter (always_carried f fixing) universe)) (without_deleted_by (if kept then deletion_of (filter (is_removed f fixing) universe) else None) set)
+  left_by kept = after_change (if kept then addition_of (filter (is_added f fixing) universe) else replacement_by (filter (always_carried f fixing) universe))
+      (without_deleted_by (if kept then deletion_of (filter (is_removed f fixing) universe) else None) set)
 
   left_has : (kept : Bool) → keeps f universe fixing.present ≡ kept → (c : ℕ) → has (left_by kept) c ≡ carries f c set
   left_has true kept c =
@@ -241,10 +257,12 @@ module _ (universe : List ℕ) (f : List ℕ → Option Imported) (plain : IsPla
       ∙ replaced_has kept c (has universe c) refl
 
   left_ascends : (kept : Bool) → IsAscending set → IsAscending (left_by kept)
-  left_ascends true set_up = ascending-added (filter (is_added f fixing) universe) (without_deleted_by (deletion_of (filter (is_removed f fixing) universe)) set) (ascending-deleted (filter (is_removed f fixing) universe) set set_up)
+  left_ascends true set_up = ascending-added (filter (is_added f fixing) universe)
+      (without_deleted_by (deletion_of (filter (is_removed f fixing) universe)) set) (ascending-deleted (filter (is_removed f fixing) universe) set set_up)
   left_ascends false set_up = rw (replaced (filter (always_carried f fixing) universe) set) (ascending_filter (always_carried f fixing) universe up)
 
   -- they are those of the import
   pub left_is : IsAscending set → (import : Imported) → f set ≡ Some import → left_by (keeps f universe fixing.present) ≡ import.comms
-  left_is set_up import is = one_list (left_by (keeps f universe fixing.present)) import.comms (left_ascends (keeps f universe fixing.present) set_up) (plain.ascending set import is)
+  left_is set_up import is = one_list (left_by (keeps f universe fixing.present)) import.comms (left_ascends (keeps f universe fixing.present) set_up)
+      (plain.ascending set import is)
       (λ c. left_has (keeps f universe fixing.present) refl c ∙ ap (λ (o : Option Imported). option_map_or (λ (i : Imported). has i.comms c) o false) is)

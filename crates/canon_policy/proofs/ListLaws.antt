@@ -28,13 +28,15 @@ two_universes universe other f g up up' uniform uniform' one =
     one_over_both universe other up up' (on_sets f) uniform (subst (IsUniform other) (sym same) uniform')
     ∙ ap (λ (h : List ℕ → Option Imported). canonical_of other h) same
 
-pub import_alike : (universe : List ℕ) (f : List ℕ → Option Imported) (lists : CanonEdge) → IsAscending universe → IsPlain universe (on_sets f) → canonical_lists_of universe f ≡ Some lists → AreOneImport (import_of lists.out true lists.into) f
+pub import_alike : (universe : List ℕ) (f : List ℕ → Option Imported) (lists : CanonEdge) → IsAscending universe → IsPlain universe (on_sets f)
+    → canonical_lists_of universe f ≡ Some lists → AreOneImport (import_of lists.out true lists.into) f
 unfolding canonical_lists_of
 import_alike universe f lists up plain e = record {
   same = λ set set_up. imports_as universe (on_sets f) plain up set set_up lists e ∙ ap f (as_set-ascending set set_up);
 }
 
-pub equal_functions : (universe : List ℕ) (f g : List ℕ → Option Imported) (lists : CanonEdge) → IsAscending universe → IsPlain universe (on_sets f) → IsPlain universe (on_sets g) → canonical_lists_of universe f ≡ Some lists → canonical_lists_of universe g ≡ Some lists → AreOneImport f g
+pub equal_functions : (universe : List ℕ) (f g : List ℕ → Option Imported) (lists : CanonEdge) → IsAscending universe → IsPlain universe (on_sets f)
+    → IsPlain universe (on_sets g) → canonical_lists_of universe f ≡ Some lists → canonical_lists_of universe g ≡ Some lists → AreOneImport f g
 equal_functions universe f g lists up of_f of_g e e' =
     let one = import_alike universe f lists up of_f e in
     let two = import_alike universe g lists up of_g e' in

@@ -39,12 +39,14 @@ pub outs_more : (xs : List (Community × ℕ)) (x : Community × ℕ) → nodes_
 outs_more [] x = refl
 outs_more (y ∷ ys) x = ap (λ (l : List ℕ). y.1 ∷ l) (outs_more ys x)
 
-pub pair_inside : (shown : Shown) (xs : List (ℕ × ℕ)) (i : ℕ) (x : ℕ × ℕ) → i < length xs → x ≡ get_or xs i x → AreInside shown (nodes_of xs) → x.1 < length shown.nodes
+pub pair_inside : (shown : Shown) (xs : List (ℕ × ℕ)) (i : ℕ) (x : ℕ × ℕ) → i < length xs → x ≡ get_or xs i x → AreInside shown (nodes_of xs)
+    → x.1 < length shown.nodes
 pair_inside shown [] i x lt e all = absurd (omega arith)
 pair_inside shown (y ∷ ys) zero x lt e all = rw e all.0
 pair_inside shown (y ∷ ys) (suc i) x lt e all = pair_inside shown ys i x (omega arith) e all.1
 
-pub case_inside : (shown : Shown) (xs : List (Community × ℕ)) (i : ℕ) (x : Community × ℕ) → i < length xs → x ≡ get_or xs i x → AreInside shown (nodes_of (by_number xs)) → x.1 < length shown.nodes
+pub case_inside : (shown : Shown) (xs : List (Community × ℕ)) (i : ℕ) (x : Community × ℕ) → i < length xs → x ≡ get_or xs i x
+    → AreInside shown (nodes_of (by_number xs)) → x.1 < length shown.nodes
 case_inside shown [] i x lt e all = absurd (omega arith)
 case_inside shown (y ∷ ys) zero x lt e all = rw e all.0
 case_inside shown (y ∷ ys) (suc i) x lt e all = case_inside shown ys i x (omega arith) e all.1
@@ -58,16 +60,20 @@ cond_push : (b : Bool) (y : ℕ) (xs more : List ℕ) → (if b then y ∷ (xs +
 cond_push true y xs more = refl
 cond_push false y xs more = refl
 
-pub carried_more : (shown : Shown) (set : List ℕ) (xs : List (Community × ℕ)) (x : Community × ℕ) → carried_in shown set (xs ++ x ∷ []) ≡ carried_in shown set xs ++ (if value_of shown set x.1 then x.0.0 ∷ [] else [])
+pub carried_more : (shown : Shown) (set : List ℕ) (xs : List (Community × ℕ)) (x : Community × ℕ)
+    → carried_in shown set (xs ++ x ∷ []) ≡ carried_in shown set xs ++ (if value_of shown set x.1 then x.0.0 ∷ [] else [])
 carried_more shown set [] x = refl
 carried_more shown set (y ∷ ys) x =
-    cons_cond (value_of shown set y.1) y.0.0 (carried_in shown set (ys ++ x ∷ [])) (carried_in shown set ys ++ (if value_of shown set x.1 then x.0.0 ∷ [] else [])) (carried_more shown set ys x)
+    cons_cond (value_of shown set y.1) y.0.0 (carried_in shown set (ys ++ x ∷ []))
+        (carried_in shown set ys ++ (if value_of shown set x.1 then x.0.0 ∷ [] else [])) (carried_more shown set ys x)
     ∙ cond_push (value_of shown set y.1) y.0.0 (carried_in shown set ys) (if value_of shown set x.1 then x.0.0 ∷ [] else [])
 
-pub deleted_more : (shown : Shown) (fixing : Fixing) (xs : List (Community × ℕ)) (x : Community × ℕ) → deleted_in shown fixing (xs ++ x ∷ []) ≡ deleted_in shown fixing xs ++ (if is_out shown fixing x then x.0.0 ∷ [] else [])
+pub deleted_more : (shown : Shown) (fixing : Fixing) (xs : List (Community × ℕ)) (x : Community × ℕ)
+    → deleted_in shown fixing (xs ++ x ∷ []) ≡ deleted_in shown fixing xs ++ (if is_out shown fixing x then x.0.0 ∷ [] else [])
 deleted_more shown fixing [] x = refl
 deleted_more shown fixing (y ∷ ys) x =
-    cons_cond (is_out shown fixing y) y.0.0 (deleted_in shown fixing (ys ++ x ∷ [])) (deleted_in shown fixing ys ++ (if is_out shown fixing x then x.0.0 ∷ [] else [])) (deleted_more shown fixing ys x)
+    cons_cond (is_out shown fixing y) y.0.0 (deleted_in shown fixing (ys ++ x ∷ []))
+        (deleted_in shown fixing ys ++ (if is_out shown fixing x then x.0.0 ∷ [] else [])) (deleted_more shown fixing ys x)
     ∙ cond_push (is_out shown fixing y) y.0.0 (deleted_in shown fixing ys) (if is_out shown fixing x then x.0.0 ∷ [] else [])
 
 pub filter_more : (p : ℕ → Bool) (xs : List ℕ) (x : ℕ) → filter p (xs ++ x ∷ []) ≡ filter p xs ++ (if p x then x ∷ [] else [])
@@ -95,7 +101,8 @@ lp_here shown set x xs ne e = by (nat_eq x.0 100) refl (value_of shown set x.1) 
     by false is true e = refl
     by false is false e = absurd cc
 
-pub lp_later : (shown : Shown) (set : List ℕ) (x : ℕ × ℕ) (xs : List (ℕ × ℕ)) → (x.0 ≢ 100 → value_of shown set x.1 ≡ true → ⊥) → lp_in shown set (x ∷ xs) ≡ lp_in shown set xs
+pub lp_later : (shown : Shown) (set : List ℕ) (x : ℕ × ℕ) (xs : List (ℕ × ℕ)) → (x.0 ≢ 100 → value_of shown set x.1 ≡ true → ⊥)
+    → lp_in shown set (x ∷ xs) ≡ lp_in shown set xs
 lp_later shown set x xs none = by (nat_eq x.0 100) refl (value_of shown set x.1) refl
   where
     by : (b : Bool) → nat_eq x.0 100 ≡ b → (v : Bool) → value_of shown set x.1 ≡ v → (if not b && v then Some x.0 else lp_in shown set xs) ≡ lp_in shown set xs
@@ -106,7 +113,8 @@ lp_later shown set x xs none = by (nat_eq x.0 100) refl (value_of shown set x.1)
 pub count_here : (shown : Shown) (set : List ℕ) (x : ℕ × ℕ) (xs : List (ℕ × ℕ)) → value_of shown set x.1 ≡ true → count_in shown set (x ∷ xs) ≡ x.0
 count_here shown set x xs e = rw e refl
 
-pub count_later : (shown : Shown) (set : List ℕ) (x : ℕ × ℕ) (xs : List (ℕ × ℕ)) → value_of shown set x.1 ≡ false → count_in shown set (x ∷ xs) ≡ count_in shown set xs
+pub count_later : (shown : Shown) (set : List ℕ) (x : ℕ × ℕ) (xs : List (ℕ × ℕ)) → value_of shown set x.1 ≡ false
+    → count_in shown set (x ∷ xs) ≡ count_in shown set xs
 count_later shown set x xs e = rw e refl
 
 -- what is carried ascends
@@ -118,7 +126,8 @@ above_carried shown set n (x ∷ xs) all = by (value_of shown set x.1) (above_ca
     by true rest = (all.0, rest)
     by false rest = rest
 
-pub ascending_carried : (shown : Shown) (set : List ℕ) (xs : List (Community × ℕ)) → IsAscending (keys_of (by_number xs)) → IsAscending (carried_in shown set xs)
+pub ascending_carried : (shown : Shown) (set : List ℕ) (xs : List (Community × ℕ)) → IsAscending (keys_of (by_number xs))
+    → IsAscending (carried_in shown set xs)
 ascending_carried shown set [] up = tt
 ascending_carried shown set (x ∷ xs) up = by (value_of shown set x.1) (ascending_carried shown set xs up.1)
   where
@@ -127,29 +136,38 @@ ascending_carried shown set (x ∷ xs) up = by (value_of shown set x.1) (ascendi
     by false rest = rest
 
 -- steps of the loops
-pub more_carried : (shown : Shown) (set : List ℕ) (xs : List (Community × ℕ)) (i : ℕ) (x : Community × ℕ) (old new : List ℕ) → i < length xs → x ≡ get_or xs i x → old ≡ carried_in shown set (take i xs) → value_of shown set x.1 ≡ true → new ≡ old ++ x.0.0 ∷ [] → new ≡ carried_in shown set (take (i + 1) xs)
+pub more_carried : (shown : Shown) (set : List ℕ) (xs : List (Community × ℕ)) (i : ℕ) (x : Community × ℕ) (old new : List ℕ) → i < length xs → x ≡ get_or xs i x
+    → old ≡ carried_in shown set (take i xs) → value_of shown set x.1 ≡ true → new ≡ old ++ x.0.0 ∷ [] → new ≡ carried_in shown set (take (i + 1) xs)
 more_carried shown set xs i x old new lt e is holds made =
     made ∙ ap (λ (l : List ℕ). l ++ x.0.0 ∷ []) is
-    ∙ sym (ap (λ (l : List (Community × ℕ)). carried_in shown set l) (taken xs i x lt e) ∙ carried_more shown set (take i xs) x ∙ ap (λ (b : Bool). carried_in shown set (take i xs) ++ (if b then x.0.0 ∷ [] else [])) holds)
+    ∙ sym (ap (λ (l : List (Community × ℕ)). carried_in shown set l) (taken xs i x lt e) ∙ carried_more shown set (take i xs) x
+        ∙ ap (λ (b : Bool). carried_in shown set (take i xs) ++ (if b then x.0.0 ∷ [] else [])) holds)
 
-pub none_carried : (shown : Shown) (set : List ℕ) (xs : List (Community × ℕ)) (i : ℕ) (x : Community × ℕ) (old : List ℕ) → i < length xs → x ≡ get_or xs i x → old ≡ carried_in shown set (take i xs) → value_of shown set x.1 ≡ false → old ≡ carried_in shown set (take (i + 1) xs)
+pub none_carried : (shown : Shown) (set : List ℕ) (xs : List (Community × ℕ)) (i : ℕ) (x : Community × ℕ) (old : List ℕ) → i < length xs → x ≡ get_or xs i x
+    → old ≡ carried_in shown set (take i xs) → value_of shown set x.1 ≡ false → old ≡ carried_in shown set (take (i + 1) xs)
 none_carried shown set xs i x old lt e is holds =
     is ∙ sym (append_none (carried_in shown set (take i xs)))
-    ∙ sym (ap (λ (l : List (Community × ℕ)). carried_in shown set l) (taken xs i x lt e) ∙ carried_more shown set (take i xs) x ∙ ap (λ (b : Bool). carried_in shown set (take i xs) ++ (if b then x.0.0 ∷ [] else [])) holds)
+    ∙ sym (ap (λ (l : List (Community × ℕ)). carried_in shown set l) (taken xs i x lt e) ∙ carried_more shown set (take i xs) x
+        ∙ ap (λ (b : Bool). carried_in shown set (take i xs) ++ (if b then x.0.0 ∷ [] else [])) holds)
   where
     append_none : (l : List ℕ) → l ++ [] ≡ l
     append_none [] = refl
     append_none (y ∷ ys) = ap (λ (l : List ℕ). y ∷ l) (append_none ys)
 
-pub more_deleted : (shown : Shown) (fixing : Fixing) (xs : List (Community × ℕ)) (i : ℕ) (x : Community × ℕ) (old new : List ℕ) → i < length xs → x ≡ get_or xs i x → old ≡ deleted_in shown fixing (take i xs) → is_out shown fixing x ≡ true → new ≡ old ++ x.0.0 ∷ [] → new ≡ deleted_in shown fixing (take (i + 1) xs)
+pub more_deleted : (shown : Shown) (fixing : Fixing) (xs : List (Community × ℕ)) (i : ℕ) (x : Community × ℕ) (old new : List ℕ) → i < length xs
+    → x ≡ get_or xs i x → old ≡ deleted_in shown fixing (take i xs) → is_out shown fixing x ≡ true → new ≡ old ++ x.0.0 ∷ []
+        → new ≡ deleted_in shown fixing (take (i + 1) xs)
 more_deleted shown fixing xs i x old new lt e is holds made =
     made ∙ ap (λ (l : List ℕ). l ++ x.0.0 ∷ []) is
-    ∙ sym (ap (λ (l : List (Community × ℕ)). deleted_in shown fixing l) (taken xs i x lt e) ∙ deleted_more shown fixing (take i xs) x ∙ ap (λ (b : Bool). deleted_in shown fixing (take i xs) ++ (if b then x.0.0 ∷ [] else [])) holds)
+    ∙ sym (ap (λ (l : List (Community × ℕ)). deleted_in shown fixing l) (taken xs i x lt e) ∙ deleted_more shown fixing (take i xs) x
+        ∙ ap (λ (b : Bool). deleted_in shown fixing (take i xs) ++ (if b then x.0.0 ∷ [] else [])) holds)
 
-pub none_deleted : (shown : Shown) (fixing : Fixing) (xs : List (Community × ℕ)) (i : ℕ) (x : Community × ℕ) (old : List ℕ) → i < length xs → x ≡ get_or xs i x → old ≡ deleted_in shown fixing (take i xs) → is_out shown fixing x ≡ false → old ≡ deleted_in shown fixing (take (i + 1) xs)
+pub none_deleted : (shown : Shown) (fixing : Fixing) (xs : List (Community × ℕ)) (i : ℕ) (x : Community × ℕ) (old : List ℕ) → i < length xs → x ≡ get_or xs i x
+    → old ≡ deleted_in shown fixing (take i xs) → is_out shown fixing x ≡ false → old ≡ deleted_in shown fixing (take (i + 1) xs)
 none_deleted shown fixing xs i x old lt e is holds =
     is ∙ sym (append_none (deleted_in shown fixing (take i xs)))
-    ∙ sym (ap (λ (l : List (Community × ℕ)). deleted_in shown fixing l) (taken xs i x lt e) ∙ deleted_more shown fixing (take i xs) x ∙ ap (λ (b : Bool). deleted_in shown fixing (take i xs) ++ (if b then x.0.0 ∷ [] else [])) holds)
+    ∙ sym (ap (λ (l : List (Community × ℕ)). deleted_in shown fixing l) (taken xs i x lt e) ∙ deleted_more shown fixing (take i xs) x
+        ∙ ap (λ (b : Bool). deleted_in shown fixing (take i xs) ++ (if b then x.0.0 ∷ [] else [])) holds)
   where
     append_none : (l : List ℕ) → l ++ [] ≡ l
     append_none [] = refl

@@ -39,7 +39,8 @@ change_ascends (Some Clear) is = tt
 change_ascends (Some (Replace by)) is = is.ascending
 change_ascends (Some (Append more)) is = is.ascending
 
-changes_ascend : (entries : List PlainEntry) → AllByRecursion IsPrintableEntry entries → AllByRecursion (λ (e : PlainEntry). IsAscending (put_by_change e.change)) entries
+changes_ascend : (entries : List PlainEntry) → AllByRecursion IsPrintableEntry entries
+    → AllByRecursion (λ (e : PlainEntry). IsAscending (put_by_change e.change)) entries
 changes_ascend [] all = tt
 changes_ascend (e ∷ es) all = (change_ascends e.change all.0.change, changes_ascend es all.1)
 
@@ -68,7 +69,8 @@ module _ (universe : List ℕ) where
   }
   seen there false = record { there_is = inner_has there; others_is = sym (none_others universe (filter there universe)) }
 
-  one_first : (there there' : ℕ → Bool) (others : Bool) → ((c : ℕ) → has universe c ≡ true → there c ≡ there' c) → (entries : List PlainEntry) → AreFit universe entries
+  one_first : (there there' : ℕ → Bool) (others : Bool) → ((c : ℕ) → has universe c ≡ true → there c ≡ there' c) → (entries : List PlainEntry)
+      → AreFit universe entries
       → first_of universe entries there others ≡ first_of universe entries there' others
   one_first there there' others same entries fit =
       let is = seen there others in
@@ -150,7 +152,8 @@ module _ (universe : List ℕ) where
           let b = equal (unwrap_or e.lp 100) j.lp (and_both e.permit (nat_eq (unwrap_or e.lp 100) j.lp) g'.lp).1 in
           ap (λ n. n + 1) (sym a ∙ b)
 
-      adds_by : (one two : Option PlainEntry) (there there' : ℕ → Bool) (o o' : Option Imported) → GivenBy sends one two there o → GivenBy sends one two there' o'
+      adds_by : (one two : Option PlainEntry) (there there' : ℕ → Bool) (o o' : Option Imported) → GivenBy sends one two there o
+          → GivenBy sends one two there' o'
           → option_map_or (λ (i : Imported). i.adds + 1) o 0 ≡ option_map_or (λ (i : Imported). i.adds + 1) o' 0
       adds_by one two there there' None None g g' = refl
       adds_by one two there there' None (Some j) g g' = absurd (let wrong : true ≡ false = sym (both one two there' j g') ∙ g in cc)
@@ -189,7 +192,8 @@ module _ (universe : List ℕ) where
           (subst (λ (o : Option PlainEntry). GivenBy sends (first (as_set b)) o (has (as_set b)) (f b)) (sym two) (given b))
 
       -- a community outside that both sets have is in both results or in none
-      outside_both : (a b : List ℕ) (c d : ℕ) → HaveOneTrace universe a b → has universe c ≡ false → has universe d ≡ false → has a c ≡ has b d → carries f c a ≡ carries f d b
+      outside_both : (a b : List ℕ) (c d : ℕ) → HaveOneTrace universe a b → has universe c ≡ false → has universe d ≡ false → has a c ≡ has b d
+          → carries f c a ≡ carries f d b
       outside_both a b c d trace none none' there =
           carried_by (first (as_set a)) (second (as_set a)) (has (as_set a)) (has (as_set b)) c d (f a) (f b) (given a) (moved a b trace)
           (outside_after c none (first (as_set a)) (second (as_set a)) (first_fits (as_set a)) (second_fits (as_set a)) (has (as_set a))
@@ -241,7 +245,8 @@ module _ (universe : List ℕ) where
         adds = λ a b trace. adds_by (first (as_set a)) (second (as_set a)) (has (as_set a)) (has (as_set b)) (f a) (f b) (given a) (moved a b trace);
         carried = λ c known a b trace.
             carried_by (first (as_set a)) (second (as_set a)) (has (as_set a)) (has (as_set b)) c c (f a) (f b) (given a) (moved a b trace)
-            (ap (λ h. decided (puts c) (second (as_set a)) || ((sends && (decided (puts c) (first (as_set a)) || (h && decided (leaves_it c) (first (as_set a)))))
+            (ap (λ h. decided (puts c) (second (as_set a)) ||
+                ((sends && (decided (puts c) (first (as_set a)) || (h && decided (leaves_it c) (first (as_set a)))))
             && decided (leaves_it c) (second (as_set a)))) (has-as_set a c ∙ trace.named.same c known ∙ sym (has-as_set b c)));
         kept = record {
           same = λ a b same.
@@ -257,20 +262,26 @@ module _ (universe : List ℕ) where
               outside_both set (put set) c (outside_of universe) (put_trace set c none there) none (outside_not universe) (there ∙ sym (put_there set))
           by set c none false there = outside_lacks set c none there
 
-module _ (universe : List ℕ) (out : Plain) (sends : Bool) (into : Plain) (printable : IsPrintable out) (printable' : IsPrintable into) (within : IsMapWithin universe out)
+module _ (universe : List ℕ) (out : Plain) (sends : Bool) (into : Plain) (printable : IsPrintable out) (printable' : IsPrintable into)
+    (within : IsMapWithin universe out)
     (within' : IsMapWithin universe into) where
-  import_given : (set : List ℕ) → GivenBy sends (first universe out.entries sends into.entries (map_fits universe out printable within) (map_fits universe into printable' within') (as_set set))
-      (second universe out.entries sends into.entries (map_fits universe out printable within) (map_fits universe into printable' within') (as_set set)) (has (as_set set))
+  import_given : (set : List ℕ) → GivenBy sends (first universe out.entries sends into.entries (map_fits universe out printable within)
+      (map_fits universe into printable' within') (as_set set))
+      (second universe out.entries sends into.entries (map_fits universe out printable within) (map_fits universe into printable' within') (as_set set))
+          (has (as_set set))
       (on_sets (import_of out sends into) set)
   import_given set =
-      import_seen universe (as_set set) out.entries sends into.entries (ascending-as_set set) (map_fits universe out printable within) (map_fits universe into printable' within')
+      import_seen universe (as_set set) out.entries sends into.entries (ascending-as_set set) (map_fits universe out printable within)
+          (map_fits universe into printable' within')
 
   import_ascends : (set : List ℕ) (import : Imported) → on_sets (import_of out sends into) set ≡ Some import → IsAscending import.comms
   import_ascends set import e = by (on_sets (import_of out sends into) set) e (import_given set)
     where
       by : (o : Option Imported) → o ≡ Some import
-          → GivenBy sends (first universe out.entries sends into.entries (map_fits universe out printable within) (map_fits universe into printable' within') (as_set set))
-          (second universe out.entries sends into.entries (map_fits universe out printable within) (map_fits universe into printable' within') (as_set set)) (has (as_set set)) o
+          → GivenBy sends (first universe out.entries sends into.entries (map_fits universe out printable within) (map_fits universe into printable' within')
+              (as_set set))
+          (second universe out.entries sends into.entries (map_fits universe out printable within) (map_fits universe into printable' within') (as_set set))
+              (has (as_set set)) o
           → IsAscending import.comms
       by None e g = absurd cc
       by (Some i) e g = let same : i ≡ import = cc in rw (← same) g.ascending

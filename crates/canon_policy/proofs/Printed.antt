@@ -71,7 +71,8 @@ module _ (universe : List ℕ) (asked : Asked) (hang : AskedHangsOn universe ask
       (λ c. settled depth (split universe asked) (with_present c fixing) ++ settled depth (split universe asked) (with_absent c fixing)) o (fixing ∷ []))
   within_by depth rest fixing is None e = (is, tt)
   within_by depth rest fixing is (Some x) e =
-      all_append (IsFixedWithin universe) (settled depth (split universe asked) (with_present x fixing)) (settled depth (split universe asked) (with_absent x fixing))
+      all_append (IsFixedWithin universe) (settled depth (split universe asked) (with_present x fixing))
+          (settled depth (split universe asked) (with_absent x fixing))
       (rest (with_present x fixing) (one_more fixing x is (split_free universe asked fixing x hang e).known))
       (rest (with_absent x fixing) (record { ascending = is.ascending; known = is.known }))
 
@@ -148,7 +149,8 @@ module _ (universe : List ℕ) (up : IsAscending universe) (communities : AreCom
   or_false true e = absurd cc
   or_false false e = refl
 
-  match_printable : (comms : List ℕ) → IsSmallSet comms → list_any match_is_wide (unwrap_or (match_of comms) []) ≡ false → IfSome (match_of comms) ArePrintableLists
+  match_printable : (comms : List ℕ) → IsSmallSet comms → list_any match_is_wide (unwrap_or (match_of comms) []) ≡ false
+      → IfSome (match_of comms) ArePrintableLists
   match_printable [] is e = tt
   match_printable (c ∷ cs) is e =
       let few = at_most 32 (length (c ∷ cs)) (or_false (nat_lt 32 (length (c ∷ cs))) e) in
@@ -158,7 +160,8 @@ module _ (universe : List ℕ) (up : IsAscending universe) (communities : AreCom
   match_within [] is = tt
   match_within (c ∷ cs) is = ((within (c ∷ cs) is, tt), tt)
 
-  addition_printable : (comms : List ℕ) → IsSmallSet comms → nat_lt 32 (names_in_change (addition_of comms)) ≡ false → IfSome (addition_of comms) IsWellFormedChange
+  addition_printable : (comms : List ℕ) → IsSmallSet comms → nat_lt 32 (names_in_change (addition_of comms)) ≡ false
+      → IfSome (addition_of comms) IsWellFormedChange
   addition_printable [] is e = tt
   addition_printable (c ∷ cs) is e = set_of c cs is (at_most 32 (length (c ∷ cs)) e)
 
@@ -221,7 +224,8 @@ module _ (universe : List ℕ) (up : IsAscending universe) (communities : AreCom
     present_set : (fixing : Fixing) → IsFixedWithin universe fixing → IsSmallSet fixing.present
     present_set fixing is = record { ascending = is.ascending; known = is.known }
 
-    denying_good : (seq : ℕ) (fixing : Fixing) → IsFixedWithin universe fixing → seq ≤ 65535 → is_wide (denying seq fixing) ≡ false → IsGood (denying seq fixing)
+    denying_good : (seq : ℕ) (fixing : Fixing) → IsFixedWithin universe fixing → seq ≤ 65535 → is_wide (denying seq fixing) ≡ false
+        → IsGood (denying seq fixing)
     denying_good seq fixing is le e = record {
       printable = record {
         seq = le;
@@ -299,7 +303,8 @@ module _ (universe : List ℕ) (up : IsAscending universe) (communities : AreCom
     out_good_by false seq fixing is le e = denying_good seq fixing is le e
 
     abbrev AreGoodEntries : (ℕ → Fixing → PlainEntry) → Type 0
-    AreGoodEntries entry = (seq : ℕ) (fixing : Fixing) → IsFixedWithin universe fixing → seq ≤ 65535 → is_wide (entry seq fixing) ≡ false → IsGood (entry seq fixing)
+    AreGoodEntries entry = (seq : ℕ) (fixing : Fixing) → IsFixedWithin universe fixing → seq ≤ 65535 → is_wide (entry seq fixing) ≡ false
+        → IsGood (entry seq fixing)
 
     all_good : (entry : ℕ → Fixing → PlainEntry) → AreGoodEntries entry → (k : ℕ) (fixings : List Fixing) → k + length fixings ≤ 65536
         → AllByRecursion (IsFixedWithin universe) fixings → list_any is_wide (numbered_from k entry fixings) ≡ false
@@ -324,9 +329,11 @@ module _ (universe : List ℕ) (up : IsAscending universe) (communities : AreCom
     }
 
     limited_good : (entry : ℕ → Fixing → PlainEntry) → AreGoodEntries entry → ((seq : ℕ) (fixing : Fixing) → (entry seq fixing).seq ≡ seq)
-        → (fixings : List Fixing) → AllByRecursion (IsFixedWithin universe) fixings → (list : Plain) → limited (numbered_from 1 entry fixings) ≡ Some list → IsGoodList list
+        → (fixings : List Fixing) → AllByRecursion (IsFixedWithin universe) fixings → (list : Plain) → limited (numbered_from 1 entry fixings) ≡ Some list
+            → IsGoodList list
     unfolding limited
-    limited_good entry good seqs fixings all list e = by (nat_lt 65535 (length (numbered_from 1 entry fixings)) || list_any is_wide (numbered_from 1 entry fixings)) refl e
+    limited_good entry good seqs fixings all list e = by (nat_lt 65535 (length (numbered_from 1 entry fixings)) || list_any is_wide
+        (numbered_from 1 entry fixings)) refl e
       where
         by : (b : Bool) → nat_lt 65535 (length (numbered_from 1 entry fixings)) || list_any is_wide (numbered_from 1 entry fixings) ≡ b
             → (if b then None else Some (record { entries = without_last_denies (numbered_from 1 entry fixings) })) ≡ Some list → IsGoodList list
@@ -377,7 +384,8 @@ module _ (universe : List ℕ) (up : IsAscending universe) (communities : AreCom
       out_good : (list : Plain) → out_list universe f ≡ Some list → IsGoodList list
       out_good list e = by (adds_nothing universe f) e
         where
-          by : (b : Bool) → (if b then Some passing else limited (numbered_from 1 (out_entry f) (settled (length universe) (split universe (out_asked universe f)) nothing_fixed))) ≡ Some list → IsGoodList list
+          by : (b : Bool) → (if b then Some passing else limited
+              (numbered_from 1 (out_entry f) (settled (length universe) (split universe (out_asked universe f)) nothing_fixed))) ≡ Some list → IsGoodList list
           by true e = let same : passing ≡ list = cc in subst IsGoodList same passing_good
           by false e =
               limited_good (out_entry f) (λ seq fixing. out_good_by (accepts f fixing.present) seq fixing) out_seqs
@@ -404,7 +412,8 @@ module _ (universe : List ℕ) (up : IsAscending universe) (communities : AreCom
               record { out = out.printable; into = into.printable; out_within = out.within; into_within = into.within }
 
 -- the canonical lists of a function with small numbers can be printed
-pub printable_lists : (universe : List ℕ) (f : List ℕ → Option Imported) (lists : CanonEdge) → IsAscending universe → AreCommunities universe → HasSmallNumbers f
+pub printable_lists : (universe : List ℕ) (f : List ℕ → Option Imported) (lists : CanonEdge) → IsAscending universe → AreCommunities universe
+    → HasSmallNumbers f
     → IsPlain universe (on_sets f) → canonical_lists_of universe f ≡ Some lists → ArePrintable universe lists
 unfolding canonical_lists_of
 printable_lists universe f lists up communities small plain e =

@@ -73,7 +73,8 @@ has-without_number n [] c = by (nat_eq n c)
     by false = refl
 has-without_number n (x ∷ xs) c = elim (cases_eq n x) [
   | inl e ↦ rw (same_number n x e) (has-without_number n xs c ∙ here (nat_eq n c) (nat_eq x c) (has xs c) (ap (λ m. nat_eq m c) e))
-  | inr ne ↦ rw (other_number n x ne) (ap (λ b. nat_eq x c || b) (has-without_number n xs c) ∙ there (nat_eq n c) (nat_eq x c) (has xs c) (λ e e'. ne (equal n c e ∙ sym (equal x c e'))))
+  | inr ne ↦ rw (other_number n x ne) (ap (λ b. nat_eq x c || b) (has-without_number n xs c)
+      ∙ there (nat_eq n c) (nat_eq x c) (has xs c) (λ e e'. ne (equal n c e ∙ sym (equal x c e'))))
 ]
   where
     equal : (a b : ℕ) → nat_eq a b ≡ true → a ≡ b
@@ -91,7 +92,8 @@ has-without_number n (x ∷ xs) c = elim (cases_eq n x) [
     there false false r ne = refl
 
 pub has-agreeing : (fixing : Fixing) (set : List ℕ) (c : ℕ) → has (agreeing fixing set) c ≡ not (has fixing.absent c) && (has fixing.present c || has set c)
-has-agreeing fixing set c = has-filter (λ d. not (has fixing.absent d)) (with_numbers fixing.present set) c ∙ ap (λ b. not (has fixing.absent c) && b) (has-with_numbers fixing.present set c)
+has-agreeing fixing set c = has-filter (λ d. not (has fixing.absent d)) (with_numbers fixing.present set) c
+    ∙ ap (λ b. not (has fixing.absent c) && b) (has-with_numbers fixing.present set c)
 
 or_false : (b : Bool) → b || false ≡ b
 or_false true = refl
@@ -111,7 +113,8 @@ pub as_set-ascending : (xs : List ℕ) → IsAscending xs → as_set xs ≡ xs
 as_set-ascending xs up = one_list (as_set xs) xs (ascending-as_set xs) up (has-as_set xs)
 
 -- what the enumeration of sets has
-cond_case : (b : Bool) (c : ℕ) (rest : List ℕ) (sets : List (List ℕ)) → In sets rest → In (map (λ (set : List ℕ). c ∷ set) sets ++ sets) (cond b (c ∷ rest) rest)
+cond_case : (b : Bool) (c : ℕ) (rest : List ℕ) (sets : List (List ℕ)) → In sets rest
+    → In (map (λ (set : List ℕ). c ∷ set) sets ++ sets) (cond b (c ∷ rest) rest)
 cond_case true c rest sets h = in_left (map (λ (set : List ℕ). c ∷ set) sets) sets (c ∷ rest) (in_map (λ (set : List ℕ). c ∷ set) sets rest h)
 cond_case false c rest sets h = in_right (map (λ (set : List ℕ). c ∷ set) sets) sets rest h
 
@@ -144,10 +147,12 @@ pub with_same_on : (universe a b : List ℕ) (n : ℕ) → SameOn universe a b �
 with_same_on universe a b n s = record { same = λ c known. has-with_number n a c ∙ ap (λ x. nat_eq n c || x) (s.same c known) ∙ sym (has-with_number n b c) }
 
 pub without_same_on : (universe a b : List ℕ) (n : ℕ) → SameOn universe a b → SameOn universe (without_number n a) (without_number n b)
-without_same_on universe a b n s = record { same = λ c known. has-without_number n a c ∙ ap (λ x. not (nat_eq n c) && x) (s.same c known) ∙ sym (has-without_number n b c) }
+without_same_on universe a b n s = record { same = λ c known. has-without_number n a c ∙ ap (λ x. not (nat_eq n c) && x) (s.same c known)
+    ∙ sym (has-without_number n b c) }
 
 pub agreeing_same_on : (universe a b : List ℕ) (fixing : Fixing) → SameOn universe a b → SameOn universe (agreeing fixing a) (agreeing fixing b)
-agreeing_same_on universe a b fixing s = record { same = λ c known. has-agreeing fixing a c ∙ ap (λ x. not (has fixing.absent c) && (has fixing.present c || x)) (s.same c known) ∙ sym (has-agreeing fixing b c) }
+agreeing_same_on universe a b fixing s = record { same = λ c known. has-agreeing fixing a c
+    ∙ ap (λ x. not (has fixing.absent c) && (has fixing.present c || x)) (s.same c known) ∙ sym (has-agreeing fixing b c) }
 
 -- putting in what a set has, and taking out what it has not
 pub with_there : (n : ℕ) (set : List ℕ) → has set n ≡ true → (c : ℕ) → has (with_number n set) c ≡ has set c
@@ -163,7 +168,8 @@ without_absent n set e c = has-without_number n set c ∙ elim (cases_eq n c) as
 ]
 
 -- a fixing that fixes one more, on a set made to have it or not
-pub present_first : (fixing : Fixing) (x : ℕ) (set : List ℕ) → has fixing.absent x ≡ false → (c : ℕ) → has (agreeing (with_present x fixing) set) c ≡ has (agreeing fixing (with_number x set)) c
+pub present_first : (fixing : Fixing) (x : ℕ) (set : List ℕ) → has fixing.absent x ≡ false → (c : ℕ)
+    → has (agreeing (with_present x fixing) set) c ≡ has (agreeing fixing (with_number x set)) c
 present_first fixing x set free c =
     has-agreeing (with_present x fixing) set c
     ∙ ap (λ b. not (has fixing.absent c) && (b || has set c)) (has-with_number x fixing.present c)
@@ -177,7 +183,8 @@ present_first fixing x set free c =
     swap true false p s = refl
     swap false n p s = refl
 
-pub absent_first : (fixing : Fixing) (x : ℕ) (set : List ℕ) → has fixing.present x ≡ false → (c : ℕ) → has (agreeing (with_absent x fixing) set) c ≡ has (agreeing fixing (without_number x set)) c
+pub absent_first : (fixing : Fixing) (x : ℕ) (set : List ℕ) → has fixing.present x ≡ false → (c : ℕ)
+    → has (agreeing (with_absent x fixing) set) c ≡ has (agreeing fixing (without_number x set)) c
 absent_first fixing x set free c =
     has-agreeing (with_absent x fixing) set c
     ∙ ap (λ b. not b && (has fixing.present c || has set c)) (has-with_number x fixing.absent c)
@@ -200,7 +207,8 @@ pub record Agrees (fixing : Fixing) (set : List ℕ) : Type 0 where
   pub absent : (c : ℕ) → has fixing.absent c ≡ true → has set c ≡ false
 
 pub agreeing_stays : (fixing : Fixing) (set : List ℕ) → Agrees fixing set → (c : ℕ) → has (agreeing fixing set) c ≡ has set c
-agreeing_stays fixing set agrees c = has-agreeing fixing set c ∙ by (has fixing.absent c) (has fixing.present c) (has set c) (agrees.present c) (agrees.absent c)
+agreeing_stays fixing set agrees c = has-agreeing fixing set c
+    ∙ by (has fixing.absent c) (has fixing.present c) (has set c) (agrees.present c) (agrees.absent c)
   where
     by : (a p s : Bool) → (p ≡ true → s ≡ true) → (a ≡ true → s ≡ false) → not a && (p || s) ≡ s
     by true p s f g = sym (g refl)

@@ -47,7 +47,8 @@ module _ (shown : Shown) (is : IsShown shown) (edge : EdgeFn) (f : List ℕ → 
   pub carries_is : (set : List ℕ) (c : ℕ) → carries (on_sets f) c set ≡ is_carried shown edge set c
   carries_is set c = by (f (as_set set)) (of.means (as_set set) (ascending-as_set set)) ∙ carried_as_set set c
     where
-      by : (o : Option Imported) → ImportIs shown edge (as_set set) o → option_map_or (λ (import : Imported). has import.comms c) o false ≡ is_carried shown edge (as_set set) c
+      by : (o : Option Imported) → ImportIs shown edge (as_set set) o
+          → option_map_or (λ (import : Imported). has import.comms c) o false ≡ is_carried shown edge (as_set set) c
       by None says = sym (of.outs_implied (as_set set) c (ascending-as_set set) says)
       by (Some import) says = says.comms c
 
@@ -70,25 +71,32 @@ module _ (shown : Shown) (is : IsShown shown) (edge : EdgeFn) (f : List ℕ → 
   keeps_more set =
       by_rest (with_number (outside_of shown.universe) set) (outside_of shown.universe) (no_key (outside_of shown.universe) (outside_not shown.universe))
       ∙ ap (λ b. b && value_of shown (with_number (outside_of shown.universe) set) edge.rest)
-      (has-with_number (outside_of shown.universe) set (outside_of shown.universe) ∙ ap (λ b. b || has set (outside_of shown.universe)) (same_number (outside_of shown.universe) (outside_of shown.universe) refl))
+      (has-with_number (outside_of shown.universe) set (outside_of shown.universe)
+          ∙ ap (λ b. b || has set (outside_of shown.universe)) (same_number (outside_of shown.universe) (outside_of shown.universe) refl))
 
-  pub rest_is : (set : List ℕ) → value_of shown set edge.rest ≡ value_of shown set edge.permit && value_of shown (with_number (outside_of shown.universe) set) edge.rest
+  pub rest_is : (set : List ℕ) → value_of shown set edge.rest ≡ value_of shown set edge.permit
+      && value_of shown (with_number (outside_of shown.universe) set) edge.rest
   rest_is set =
       sym (rest_as_set set)
       ∙ of.rest (as_set set) (outside_of shown.universe) (ascending-as_set set) (outside_not shown.universe)
       ∙ ap (λ b. b && value_of shown (with_number (outside_of shown.universe) (as_set set)) edge.rest) (permit_as_set set)
       ∙ ap (λ b. value_of shown set edge.permit && b)
       (value_same shown is edge.rest of.rest_inside (with_number (outside_of shown.universe) (as_set set)) (with_number (outside_of shown.universe) set)
-      (λ c. has-with_number (outside_of shown.universe) (as_set set) c ∙ ap (λ b. nat_eq (outside_of shown.universe) c || b) (has-as_set set c) ∙ sym (has-with_number (outside_of shown.universe) set c)))
+      (λ c. has-with_number (outside_of shown.universe) (as_set set) c ∙ ap (λ b. nat_eq (outside_of shown.universe) c || b) (has-as_set set c)
+          ∙ sym (has-with_number (outside_of shown.universe) set c)))
 
   pub rest_permits : (set : List ℕ) → value_of shown set edge.rest ≡ true → value_of shown set edge.permit ≡ true
-  rest_permits set e = (and_both (value_of shown set edge.permit) (value_of shown (with_number (outside_of shown.universe) set) edge.rest) (sym (rest_is set) ∙ e)).0
+  rest_permits set e = (and_both (value_of shown set edge.permit) (value_of shown (with_number (outside_of shown.universe) set) edge.rest)
+      (sym (rest_is set) ∙ e)).0
 
   -- the preference and the count
-  cases_as_set : (cases : List (ℕ × ℕ)) → AreCases shown never cases → (set : List ℕ) (key : ℕ) → case_or shown (as_set set) cases key false ≡ case_or shown set cases key false
-  cases_as_set cases are set key = agree_cases shown cases (as_set set) set key false false refl (agree_as_set shown is (nodes_of cases) (nodes_inside shown never cases are.each) set)
+  cases_as_set : (cases : List (ℕ × ℕ)) → AreCases shown never cases → (set : List ℕ) (key : ℕ)
+      → case_or shown (as_set set) cases key false ≡ case_or shown set cases key false
+  cases_as_set cases are set key = agree_cases shown cases (as_set set) set key false false refl
+      (agree_as_set shown is (nodes_of cases) (nodes_inside shown never cases are.each) set)
 
-  one_as_set : (cases : List (ℕ × ℕ)) → AreCases shown never cases → (set : List ℕ) → IsOneOf shown edge.permit cases (as_set set) → IsOneOf shown edge.permit cases set
+  one_as_set : (cases : List (ℕ × ℕ)) → AreCases shown never cases → (set : List ℕ) → IsOneOf shown edge.permit cases (as_set set)
+      → IsOneOf shown edge.permit cases set
   one_as_set cases are set one = record {
     one = λ v w e e'. one.one v w (cases_as_set cases are set v ∙ e) (cases_as_set cases are set w ∙ e');
     implied = λ v denied. sym (cases_as_set cases are set v) ∙ one.implied v (permit_as_set set ∙ denied);
@@ -101,7 +109,8 @@ module _ (shown : Shown) (is : IsShown shown) (edge : EdgeFn) (f : List ℕ → 
     are = of.lps;
   }
     where
-      by : (set : List ℕ) (o : Option Imported) → ImportIs shown edge (as_set set) o → NumberAt shown edge.permit edge.lps set (option_map_or (λ (import : Imported). import.lp + 1) o 0)
+      by : (set : List ℕ) (o : Option Imported) → ImportIs shown edge (as_set set) o
+          → NumberAt shown edge.permit edge.lps set (option_map_or (λ (import : Imported). import.lp + 1) o 0)
       by set None says = none (sym (permit_as_set set) ∙ says) refl
       by set (Some import) says = some import.lp refl (sym (cases_as_set edge.lps of.lps set import.lp) ∙ says.lp)
 
@@ -112,7 +121,8 @@ module _ (shown : Shown) (is : IsShown shown) (edge : EdgeFn) (f : List ℕ → 
     are = of.adds;
   }
     where
-      by : (set : List ℕ) (o : Option Imported) → ImportIs shown edge (as_set set) o → NumberAt shown edge.permit edge.adds set (option_map_or (λ (import : Imported). import.adds + 1) o 0)
+      by : (set : List ℕ) (o : Option Imported) → ImportIs shown edge (as_set set) o
+          → NumberAt shown edge.permit edge.adds set (option_map_or (λ (import : Imported). import.adds + 1) o 0)
       by set None says = none (sym (permit_as_set set) ∙ says) refl
       by set (Some import) says = some import.adds refl (sym (cases_as_set edge.adds of.adds set import.adds) ∙ says.adds)
 
@@ -124,15 +134,19 @@ module _ (shown : Shown) (is : IsShown shown) (edge : EdgeFn) (f : List ℕ → 
       by (Some other) e says = let same : other ≡ import = cc in rw (← same) says.ascending
 
   -- where acceptance does not depend on communities outside the universe, `rest` tells what is kept
-  pub keeps_is : TestHangsOn shown.universe (λ set. value_of shown set edge.permit) → (set : List ℕ) → keeps (on_sets f) shown.universe set ≡ value_of shown set edge.rest
+  pub keeps_is : TestHangsOn shown.universe (λ set. value_of shown set edge.permit) → (set : List ℕ)
+      → keeps (on_sets f) shown.universe set ≡ value_of shown set edge.rest
   keeps_is hangs set =
       keeps_more set ∙ by (value_of shown (with_number (outside_of shown.universe) set) edge.rest) refl ∙ sym (rest_is set)
     where
       outside_same : SameOn shown.universe (with_number (outside_of shown.universe) set) set
-      outside_same = record { same = λ c known. has-with_number (outside_of shown.universe) set c ∙ ap (λ b. b || has set c) (other_number (outside_of shown.universe) c (λ e. let wrong = outside_not shown.universe in let h = ap (has shown.universe) e in absurd cc)) }
+      outside_same = record { same = λ c known. has-with_number (outside_of shown.universe) set c
+          ∙ ap (λ b. b || has set c) (other_number (outside_of shown.universe) c
+              (λ e. let wrong = outside_not shown.universe in let h = ap (has shown.universe) e in absurd cc)) }
 
       by : (b : Bool) → value_of shown (with_number (outside_of shown.universe) set) edge.rest ≡ b → b ≡ value_of shown set edge.permit && b
-      by true e = rw (sym (hangs.same (with_number (outside_of shown.universe) set) set outside_same) ∙ rest_permits (with_number (outside_of shown.universe) set) e) refl
+      by true e = rw (sym (hangs.same (with_number (outside_of shown.universe) set) set outside_same)
+          ∙ rest_permits (with_number (outside_of shown.universe) set) e) refl
       by false e = nothing (value_of shown set edge.permit)
         where
           nothing : (p : Bool) → false ≡ p && false
@@ -154,7 +168,8 @@ module _ (shown : Shown) (is : IsShown shown) (edge : EdgeFn) (f : List ℕ → 
       others_in set = any-with_number (λ c. not (has shown.universe c)) (outside_of shown.universe) set ∙ rw (outside_not shown.universe) refl
 
   -- each community of the universe
-  carried_hangs : TestHangsOn shown.universe (λ set. value_of shown set edge.rest) → AllHang shown (nodes_of (by_number edge.outs)) → (c : ℕ) → has shown.universe c ≡ true → TestHangsOn shown.universe (carries (on_sets f) c)
+  carried_hangs : TestHangsOn shown.universe (λ set. value_of shown set edge.rest) → AllHang shown (nodes_of (by_number edge.outs)) → (c : ℕ)
+      → has shown.universe c ≡ true → TestHangsOn shown.universe (carries (on_sets f) c)
   carried_hangs rest hang c known = record {
     same = λ a b s.
         carries_is a c
@@ -168,7 +183,8 @@ module _ (shown : Shown) (is : IsShown shown) (edge : EdgeFn) (f : List ℕ → 
       agree_hang [] hang a b s = tt
       agree_hang (node ∷ nodes) hang a b s = (hang.0.same a b s, agree_hang nodes hang.1 a b s)
 
-  pub plain_from : TestHangsOn shown.universe (λ set. value_of shown set edge.permit) → AllHang shown (nodes_of edge.lps) → AllHang shown (nodes_of edge.adds) → AllHang shown (nodes_of (by_number edge.outs)) → IsPlain shown.universe (on_sets f)
+  pub plain_from : TestHangsOn shown.universe (λ set. value_of shown set edge.permit) → AllHang shown (nodes_of edge.lps) → AllHang shown (nodes_of edge.adds)
+      → AllHang shown (nodes_of (by_number edge.outs)) → IsPlain shown.universe (on_sets f)
   plain_from permit lps adds outs = record {
     accepted = record { same = λ a b s. accepts_is a ∙ permit.same a b s ∙ sym (accepts_is b) };
     kept = record { same = λ a b s. keeps_is permit a ∙ (rest_hangs permit).same a b s ∙ sym (keeps_is permit b) };

@@ -44,7 +44,8 @@ accepted_small : (adds : ℕ) (v : Verdict) → adds ≤ 10 → IsSmall v → Is
 accepted_small adds Deny few is = tt
 accepted_small adds (Permit lp comms more) few is = (lp_small lp is.0, few)
 
-received_small : (sends : Bool) (into : List PlainEntry) (v : Verdict) → AllByRecursion IsPrintableEntry into → IsSmall v → IsSmallImport (received sends into v)
+received_small : (sends : Bool) (into : List PlainEntry) (v : Verdict) → AllByRecursion IsPrintableEntry into → IsSmall v
+    → IsSmallImport (received sends into v)
 received_small sends into Deny all is = tt
 received_small sends into (Permit lp comms adds) all is =
     accepted_small adds (verdict into (if sends then comms else [])) is.1 (verdict_small into (if sends then comms else []) all)

@@ -15,13 +15,16 @@ use Rattle.canon_policy.proofs.Least.{IsFree, least_free, has_in}
 pub yes_hangs : (universe : List ℕ) (test : List ℕ → Bool) → TestHangsOn universe test → NumberHangsOn universe (λ set. yes (test set))
 yes_hangs universe test hangs = record { same = λ a b s. ap yes (hangs.same a b s) }
 
-community_free : (universe : List ℕ) (test : List ℕ → Bool) (fixing : Fixing) (x : ℕ) (b : Bool) → TestHangsOn universe test → (if b then None else least universe (λ set. yes (test (agreeing fixing set)))) ≡ Some x → IsFree universe fixing x
+community_free : (universe : List ℕ) (test : List ℕ → Bool) (fixing : Fixing) (x : ℕ) (b : Bool) → TestHangsOn universe test
+    → (if b then None else least universe (λ set. yes (test (agreeing fixing set)))) ≡ Some x → IsFree universe fixing x
 community_free universe test fixing x true hangs e = absurd cc
 community_free universe test fixing x false hangs e = least_free universe (λ set. yes (test set)) fixing x (yes_hangs universe test hangs) e
 
-part_free : (universe : List ℕ) (kept : List ℕ → Bool) (fixing : Fixing) (x : ℕ) (part : Part) → PartHangsOn universe part → unsettled universe kept fixing part ≡ Some x → IsFree universe fixing x
+part_free : (universe : List ℕ) (kept : List ℕ → Bool) (fixing : Fixing) (x : ℕ) (part : Part) → PartHangsOn universe part
+    → unsettled universe kept fixing part ≡ Some x → IsFree universe fixing x
 part_free universe kept fixing x (number part) hangs e = least_free universe part fixing x hangs e
-part_free universe kept fixing x (community c test) hangs e = community_free universe test fixing x (kept (agreeing fixing []) && follows universe fixing c test) hangs e
+part_free universe kept fixing x (community c test) hangs e =
+    community_free universe test fixing x (kept (agreeing fixing []) && follows universe fixing c test) hangs e
 
 or_some : (a b : Option ℕ) (x : ℕ) → option_or a b ≡ Some x → (a ≡ Some x) ⊎ (b ≡ Some x)
 or_some None b x e = inr e
@@ -31,9 +34,11 @@ pub or_none : (a b : Option ℕ) → option_or a b ≡ None → (a ≡ None) × 
 or_none None b e = (refl, e)
 or_none (Some y) b e = absurd cc
 
-parts_free : (universe : List ℕ) (kept : List ℕ → Bool) (fixing : Fixing) (x : ℕ) (parts : List Part) → PartsHangOn universe parts → first_unsettled (unsettled universe kept fixing) parts ≡ Some x → IsFree universe fixing x
+parts_free : (universe : List ℕ) (kept : List ℕ → Bool) (fixing : Fixing) (x : ℕ) (parts : List Part) → PartsHangOn universe parts
+    → first_unsettled (unsettled universe kept fixing) parts ≡ Some x → IsFree universe fixing x
 parts_free universe kept fixing x [] hang e = absurd cc
-parts_free universe kept fixing x (part ∷ parts) hang e = elim (or_some (unsettled universe kept fixing part) (first_unsettled (unsettled universe kept fixing) parts) x e) [
+parts_free universe kept fixing x (part ∷ parts) hang e = elim
+    (or_some (unsettled universe kept fixing part) (first_unsettled (unsettled universe kept fixing) parts) x e) [
   | inl here ↦ part_free universe kept fixing x part hang.0 here
   | inr later ↦ parts_free universe kept fixing x parts hang.1 later
 ]
@@ -42,11 +47,14 @@ where_accepted : (b : Bool) (o : Option ℕ) (x : ℕ) → (if b then o else Non
 where_accepted true o x e = e
 where_accepted false o x e = absurd cc
 
-pub split_free : (universe : List ℕ) (asked : Asked) (fixing : Fixing) (x : ℕ) → AskedHangsOn universe asked → split universe asked fixing ≡ Some x → IsFree universe fixing x
+pub split_free : (universe : List ℕ) (asked : Asked) (fixing : Fixing) (x : ℕ) → AskedHangsOn universe asked → split universe asked fixing ≡ Some x
+    → IsFree universe fixing x
 unfolding split
-split_free universe asked fixing x hang e = elim (or_some (least universe (λ set. yes (asked.accepted (agreeing fixing set)))) (if asked.accepted (agreeing fixing []) then first_unsettled (unsettled universe asked.kept fixing) asked.parts else None) x e) [
+split_free universe asked fixing x hang e = elim (or_some (least universe (λ set. yes (asked.accepted (agreeing fixing set))))
+    (if asked.accepted (agreeing fixing []) then first_unsettled (unsettled universe asked.kept fixing) asked.parts else None) x e) [
   | inl here ↦ least_free universe (λ set. yes (asked.accepted set)) fixing x (yes_hangs universe asked.accepted hang.accepted) here
-  | inr later ↦ parts_free universe asked.kept fixing x asked.parts hang.parts (where_accepted (asked.accepted (agreeing fixing [])) (first_unsettled (unsettled universe asked.kept fixing) asked.parts) x later)
+  | inr later ↦ parts_free universe asked.kept fixing x asked.parts hang.parts
+      (where_accepted (asked.accepted (agreeing fixing [])) (first_unsettled (unsettled universe asked.kept fixing) asked.parts) x later)
 ]
 
 -- what no split leaves: acceptance is settled, and where it is given, each part
@@ -61,8 +69,10 @@ given false o e is = absurd cc
 pub no_split : (universe : List ℕ) (asked : Asked) (fixing : Fixing) → split universe asked fixing ≡ None → NoSplit universe asked fixing
 unfolding split
 no_split universe asked fixing e =
-    let both = or_none (least universe (λ set. yes (asked.accepted (agreeing fixing set)))) (if asked.accepted (agreeing fixing []) then first_unsettled (unsettled universe asked.kept fixing) asked.parts else None) e in
-    record { accepted = both.0; parts = given (asked.accepted (agreeing fixing [])) (first_unsettled (unsettled universe asked.kept fixing) asked.parts) both.1 }
+    let both = or_none (least universe (λ set. yes (asked.accepted (agreeing fixing set))))
+        (if asked.accepted (agreeing fixing []) then first_unsettled (unsettled universe asked.kept fixing) asked.parts else None) e in
+    record { accepted = both.0; parts = given (asked.accepted (agreeing fixing [])) (first_unsettled (unsettled universe asked.kept fixing) asked.parts) both.1
+        }
 
 -- how many communities are free
 abbrev pub is_free : Fixing → ℕ → Bool
@@ -88,13 +98,15 @@ module _ (p q : ℕ → Bool) (less : (c : ℕ) → q c ≡ true → p c ≡ tru
   no_more [] = omega arith
   no_more (x ∷ xs) = by (q x) (p x) (less x) (no_more xs)
     where
-      by : (b d : Bool) → (b ≡ true → d ≡ true) → length (filter q xs) ≤ length (filter p xs) → length (cond b (x ∷ filter q xs) (filter q xs)) ≤ length (cond d (x ∷ filter p xs) (filter p xs))
+      by : (b d : Bool) → (b ≡ true → d ≡ true) → length (filter q xs) ≤ length (filter p xs)
+          → length (cond b (x ∷ filter q xs) (filter q xs)) ≤ length (cond d (x ∷ filter p xs) (filter p xs))
       by true true f le = omega arith
       by true false f le = absurd (let e = f refl in cc)
       by false true f le = omega arith
       by false false f le = le
 
-  fewer_step : (y : ℕ) (ys : List ℕ) (b d : Bool) → (b ≡ true → d ≡ true) → ((b ≡ false) × (d ≡ true) × (length (filter q ys) ≤ length (filter p ys))) ⊎ (length (filter q ys) < length (filter p ys)) → length (cond b (y ∷ filter q ys) (filter q ys)) < length (cond d (y ∷ filter p ys) (filter p ys))
+  fewer_step : (y : ℕ) (ys : List ℕ) (b d : Bool) → (b ≡ true → d ≡ true) → ((b ≡ false) × (d ≡ true) × (length (filter q ys) ≤ length (filter p ys)))
+      ⊎ (length (filter q ys) < length (filter p ys)) → length (cond b (y ∷ filter q ys) (filter q ys)) < length (cond d (y ∷ filter p ys) (filter p ys))
   fewer_step y ys true true f (inl h) = absurd (let e = h.0 in cc)
   fewer_step y ys true true f (inr lt) = omega arith
   fewer_step y ys true false f h = absurd (let e = f refl in cc)
@@ -111,7 +123,8 @@ module _ (p q : ℕ → Bool) (less : (c : ℕ) → q c ≡ true → p c ≡ tru
 free_test : (universe : List ℕ) (fixing : Fixing) (x : ℕ) → IsFree universe fixing x → is_free fixing x ≡ true
 free_test universe fixing x free = rw (free.not_present, free.not_absent) refl
 
-pub fewer_present : (universe : List ℕ) (fixing : Fixing) (x : ℕ) → IsFree universe fixing x → count_free universe (with_present x fixing) < count_free universe fixing
+pub fewer_present : (universe : List ℕ) (fixing : Fixing) (x : ℕ) → IsFree universe fixing x
+    → count_free universe (with_present x fixing) < count_free universe fixing
 unfolding count_free
 fewer_present universe fixing x free =
     fewer (is_free fixing) (is_free (with_present x fixing))
@@ -126,7 +139,8 @@ fewer_present universe fixing x free =
     by : (c : ℕ) → is_free (with_present x fixing) c ≡ not (nat_eq x c) && is_free fixing c
     by c = ap (λ b. not b && not (has fixing.absent c)) (has-with_number x fixing.present c) ∙ either (nat_eq x c) (has fixing.present c) (has fixing.absent c)
 
-pub fewer_absent : (universe : List ℕ) (fixing : Fixing) (x : ℕ) → IsFree universe fixing x → count_free universe (with_absent x fixing) < count_free universe fixing
+pub fewer_absent : (universe : List ℕ) (fixing : Fixing) (x : ℕ) → IsFree universe fixing x
+    → count_free universe (with_absent x fixing) < count_free universe fixing
 unfolding count_free
 fewer_absent universe fixing x free =
     fewer (is_free fixing) (is_free (with_absent x fixing))
@@ -146,7 +160,8 @@ some_free : (universe : List ℕ) (fixing : Fixing) (x : ℕ) → IsFree univers
 some_free universe fixing x free = let lt = fewer_present universe fixing x free in omega arith
 
 -- where nothing is free, nothing splits
-pub none_free : (universe : List ℕ) (asked : Asked) (fixing : Fixing) → AskedHangsOn universe asked → count_free universe fixing ≤ 0 → split universe asked fixing ≡ None
+pub none_free : (universe : List ℕ) (asked : Asked) (fixing : Fixing) → AskedHangsOn universe asked → count_free universe fixing ≤ 0
+    → split universe asked fixing ≡ None
 none_free universe asked fixing hang none = by (split universe asked fixing) refl
   where
     by : (o : Option ℕ) → split universe asked fixing ≡ o → o ≡ None

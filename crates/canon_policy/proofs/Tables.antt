@@ -21,7 +21,8 @@ above_in n [] case all h = absurd h
 above_in n (head ∷ cases) case all (inl e) = let lt = all.0 in let same = ap (λ (c : ℕ × ℕ). c.0) e in omega arith
 above_in n (head ∷ cases) case all (inr h) = above_in n cases case all.1 h
 
-pub at_key : (shown : Shown) (set : List ℕ) (cases : List (ℕ × ℕ)) (case : ℕ × ℕ) (other : Bool) → IsAscending (keys_of cases) → In cases case → case_or shown set cases case.0 other ≡ value_of shown set case.1
+pub at_key : (shown : Shown) (set : List ℕ) (cases : List (ℕ × ℕ)) (case : ℕ × ℕ) (other : Bool) → IsAscending (keys_of cases) → In cases case
+    → case_or shown set cases case.0 other ≡ value_of shown set case.1
 at_key shown set [] case other up h = absurd h
 at_key shown set (head ∷ cases) case other up (inl e) =
     case_here shown set head cases case.0 other (ap (λ (c : ℕ × ℕ). c.0) e) ∙ ap (λ (c : ℕ × ℕ). value_of shown set c.1) e
@@ -52,16 +53,19 @@ key_at (head ∷ cases) key h = elim (cases_eq head.0 key) [
 ]
 
 -- what holds of the node of each case holds of all nodes
-pub agree_each : (shown : Shown) (cases : List (ℕ × ℕ)) (a b : List ℕ) → ((case : ℕ × ℕ) → In cases case → value_of shown a case.1 ≡ value_of shown b case.1) → AgreeAt shown (nodes_of cases) a b
+pub agree_each : (shown : Shown) (cases : List (ℕ × ℕ)) (a b : List ℕ) → ((case : ℕ × ℕ) → In cases case → value_of shown a case.1 ≡ value_of shown b case.1)
+    → AgreeAt shown (nodes_of cases) a b
 agree_each shown [] a b each = tt
 agree_each shown (case ∷ cases) a b each = (each case (inl refl), agree_each shown cases a b (λ c h. each c (inr h)))
 
-pub agree_in : (shown : Shown) (cases : List (ℕ × ℕ)) (a b : List ℕ) → AgreeAt shown (nodes_of cases) a b → (case : ℕ × ℕ) → In cases case → value_of shown a case.1 ≡ value_of shown b case.1
+pub agree_in : (shown : Shown) (cases : List (ℕ × ℕ)) (a b : List ℕ) → AgreeAt shown (nodes_of cases) a b → (case : ℕ × ℕ) → In cases case
+    → value_of shown a case.1 ≡ value_of shown b case.1
 agree_in shown [] a b agree case h = absurd h
 agree_in shown (head ∷ cases) a b agree case (inl e) = rw (← e) agree.0
 agree_in shown (head ∷ cases) a b agree case (inr h) = agree_in shown cases a b agree.1 case h
 
-pub agree_cases : (shown : Shown) (cases : List (ℕ × ℕ)) (a b : List ℕ) (key : ℕ) (x y : Bool) → x ≡ y → AgreeAt shown (nodes_of cases) a b → case_or shown a cases key x ≡ case_or shown b cases key y
+pub agree_cases : (shown : Shown) (cases : List (ℕ × ℕ)) (a b : List ℕ) (key : ℕ) (x y : Bool) → x ≡ y → AgreeAt shown (nodes_of cases) a b
+    → case_or shown a cases key x ≡ case_or shown b cases key y
 agree_cases shown [] a b key x y e agree = e
 agree_cases shown (case ∷ cases) a b key x y e agree = elim (cases_eq case.0 key) [
   | inl same ↦ case_here shown a case cases key x same ∙ agree.0 ∙ sym (case_here shown b case cases key y same)
@@ -106,7 +110,8 @@ module _ (shown : Shown) (permit : ℕ) (cases : List (ℕ × ℕ)) (part : List
       let same = (table.one b).one key key' here t' in
       omega arith
 
-  keys_by : (m n key : ℕ) → m ≡ n → NumberAt shown permit cases a m → NumberAt shown permit cases b n → case_or shown a cases key false ≡ true → case_or shown b cases key false ≡ true
+  keys_by : (m n key : ℕ) → m ≡ n → NumberAt shown permit cases a m → NumberAt shown permit cases b n → case_or shown a cases key false ≡ true
+      → case_or shown b cases key false ≡ true
   keys_by m n key same (none p e) at t = let no = (table.one a).implied key p in absurd cc
   keys_by m n key same (some k e t') (none p e') t = absurd (omega arith)
   keys_by m n key same (some k e t') (some k' e' t'') t =

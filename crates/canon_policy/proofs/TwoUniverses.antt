@@ -74,7 +74,8 @@ known_of universe part x hangs d = by (has universe x) refl
 
 module _ (universe other : List ℕ) (up : IsAscending universe) (other_up : IsAscending other) where
   -- what is least over one universe is at least what is least over the other
-  at_most : (part : List ℕ → ℕ) (x y : ℕ) → NumberHangsOn universe part → NumberHangsOn other part → least universe part ≡ Some x → least other part ≡ Some y → x ≤ y
+  at_most : (part : List ℕ → ℕ) (x y : ℕ) → NumberHangsOn universe part → NumberHangsOn other part → least universe part ≡ Some x → least other part ≡ Some y
+      → x ≤ y
   at_most part x y hangs hangs' e e' =
       let d = (least_some other part y e').1 in
       least_first universe part x y up e (known_of universe part y hangs d) (differ_depends universe part y d.set hangs d.differ)
@@ -234,7 +235,8 @@ module _ (universe other : List ℕ) (up : IsAscending universe) (other_up : IsA
       λ i. if k i && w i then None else l i
 
   one_parts : (fixing : Fixing) (cs : List ℕ) → ((c : ℕ) → In cs c → has keys c ≡ true)
-      → first_unsettled (unsettled universe (keeps f universe) fixing) (in_parts universe f cs) ≡ first_unsettled (unsettled other (keeps f other) fixing) (in_parts other f cs)
+      → first_unsettled (unsettled universe (keeps f universe) fixing) (in_parts universe f cs)
+          ≡ first_unsettled (unsettled other (keeps f other) fixing) (in_parts other f cs)
   one_parts fixing [] known = refl
   one_parts fixing (c ∷ cs) known =
       let first = one_community fixing c (known c (inl refl)) in
@@ -268,7 +270,8 @@ module _ (universe other : List ℕ) (up : IsAscending universe) (other_up : IsA
   out_splits : split universe (out_asked universe f) ≡ split other (out_asked other f)
   out_splits = fun_ext (λ (fixing : Fixing). out_split fixing)
 
-  fixings : (asked asked' : Asked) → split universe asked ≡ split other asked' → ((fixing : Fixing) (x : ℕ) → split universe asked fixing ≡ Some x → IsFree universe fixing x)
+  fixings : (asked asked' : Asked) → split universe asked ≡ split other asked'
+      → ((fixing : Fixing) (x : ℕ) → split universe asked fixing ≡ Some x → IsFree universe fixing x)
       → ((fixing : Fixing) (x : ℕ) → split other asked' fixing ≡ Some x → IsFree other fixing x)
       → settled (length universe) (split universe asked) nothing_fixed ≡ settled (length other) (split other asked') nothing_fixed
   fixings asked asked' same free free' =
@@ -276,13 +279,15 @@ module _ (universe other : List ℕ) (up : IsAscending universe) (other_up : IsA
       (length universe) (length other) nothing_fixed (count_free-start universe) (count_free-start other)
       ∙ ap (λ (by : Fixing → Option ℕ). settled (length other) by nothing_fixed) same
 
-  in_fixings : settled (length universe) (split universe (in_asked universe f)) nothing_fixed ≡ settled (length other) (split other (in_asked other f)) nothing_fixed
+  in_fixings : settled (length universe) (split universe (in_asked universe f)) nothing_fixed
+      ≡ settled (length other) (split other (in_asked other f)) nothing_fixed
   in_fixings =
       fixings (in_asked universe f) (in_asked other f) in_splits
       (λ fixing x e. split_free universe (in_asked universe f) fixing x (in_asked_hangs universe f plain) e)
       (λ fixing x e. split_free other (in_asked other f) fixing x (in_asked_hangs other f plain') e)
 
-  out_fixings : settled (length universe) (split universe (out_asked universe f)) nothing_fixed ≡ settled (length other) (split other (out_asked other f)) nothing_fixed
+  out_fixings : settled (length universe) (split universe (out_asked universe f)) nothing_fixed
+      ≡ settled (length other) (split other (out_asked other f)) nothing_fixed
   out_fixings =
       fixings (out_asked universe f) (out_asked other f) out_splits
       (λ fixing x e. split_free universe (out_asked universe f) fixing x (out_asked_hangs universe f plain) e)
@@ -323,7 +328,8 @@ module _ (universe other : List ℕ) (up : IsAscending universe) (other_up : IsA
     still_kept : (c : ℕ) → has keys c ≡ false → keeps f universe (with_number c fixing.present) ≡ keeps f universe fixing.present
     still_kept c none = by (has other c) (has universe c) refl refl (sym (both_known c) ∙ none)
       where
-        by : (a b : Bool) → has other c ≡ a → has universe c ≡ b → a && b ≡ false → keeps f universe (with_number c fixing.present) ≡ keeps f universe fixing.present
+        by : (a b : Bool) → has other c ≡ a → has universe c ≡ b → a && b ≡ false
+            → keeps f universe (with_number c fixing.present) ≡ keeps f universe fixing.present
         by true true ea eb e = absurd cc
         by true false ea eb e = plain.kept.same (with_number c fixing.present) fixing.present (outside_same universe c eb fixing.present)
         by false b ea eb e =

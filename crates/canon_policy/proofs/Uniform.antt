@@ -73,7 +73,8 @@ module _ (universe : List ℕ) (f : List ℕ → Option Imported) (uniform : IsU
         by : (b : Bool) → has_others universe set ≡ b → part set ≡ part (named universe set)
         by true e =
             traced set (put (named universe set)) (record {
-              named = same_on universe set (named universe set) (put (named universe set)) (same_back universe (named universe set) set (named_same universe set))
+              named = same_on universe set (named universe set) (put (named universe set))
+                  (same_back universe (named universe set) set (named_same universe set))
                   (same_back universe (put (named universe set)) (named universe set)
                   (outside_same universe (outside_of universe) (outside_not universe) (named universe set)));
               others = e ∙ sym (others_put universe (outside_of universe) (outside_not universe) (named universe set));
@@ -151,7 +152,8 @@ module _ (universe other : List ℕ) (f : List ℕ → Option Imported) (plain :
 
   nothing_differs : (set : List ℕ) → differs_with_outside other f set ≡ false
   nothing_differs set =
-      neither (nat_eq (preference f set) (preference f (with_number (outside_of other) set))) (nat_eq (added_count f set) (added_count f (with_number (outside_of other) set)))
+      neither (nat_eq (preference f set) (preference f (with_number (outside_of other) set)))
+          (nat_eq (added_count f set) (added_count f (with_number (outside_of other) set)))
       (list_any (λ c. not (beq (carries f c set) (carries f c (with_number (outside_of other) set)))) other)
       (same_number (preference f set) (preference f (with_number (outside_of other) set))
       (sym (uniform.lp (with_number (outside_of other) set) (with_number beyond set) (moved set) ∙ plain.lp.same (with_number beyond set) set (gone set))))

@@ -13,7 +13,8 @@ use Rattle.srp_core.specs.ActMaps.{IsPrintableAct, IsActWithin}
 use Rattle.canon_policy.proofs.ListLaws.{two_universes}
 use Rattle.canon_policy.proofs.MapsUniform.{import_uniform}
 
-one_import : (out : Plain) (sends : Bool) (into : Plain) (out' : Plain) (sends' : Bool) (into' : Plain) → ImportsAlike (Import out sends into) (Import out' sends' into')
+one_import : (out : Plain) (sends : Bool) (into : Plain) (out' : Plain) (sends' : Bool) (into' : Plain)
+    → ImportsAlike (Import out sends into) (Import out' sends' into')
     → AreOneImport (import_of out sends into) (import_of out' sends' into')
 unfolding import_by
 one_import out sends into out' sends' into' alike = record { same = λ set up. alike.same set up }

@@ -46,7 +46,8 @@ pub record IsPlanText (n : Network) (class : DestClass) (bytes : List ℕ) : Typ
   pub text : bytes ≡ compressed_text plan
 
 module _ (n : Network) (class : DestClass) (bytes : List ℕ) where
-  of_length : (plan : Plan) → IsPlanOf n class plan → pool_line n class ≡ None → (b : Bool) → is_too_long (compressed_text plan) ≡ b → IsTextOr b (compressed_text plan) (done bytes) → IsPlanText n class bytes
+  of_length : (plan : Plan) → IsPlanOf n class plan → pool_line n class ≡ None → (b : Bool) → is_too_long (compressed_text plan) ≡ b
+      → IsTextOr b (compressed_text plan) (done bytes) → IsPlanText n class bytes
   of_length plan is apart true long written = absurd (not_refused bytes (codes "OutputTooLong") written)
   of_length plan is apart false short written = record { plan = plan; is = is; apart = apart; short = short; text = ap (λ (o : Outcome). o.out) written }
 
@@ -54,13 +55,15 @@ module _ (n : Network) (class : DestClass) (bytes : List ℕ) where
   of_pool (Some line) at is = absurd (not_refused bytes (pool_overlap line) is)
   of_pool None at is = of_length is.plan is.is at (is_too_long (compressed_text is.plan)) refl is.written
 
-pub plan_text : (n : Network) (number : ℕ) (class : DestClass) (bytes : List ℕ) → class_at (classes_of n) number ≡ Some class → IsCompressAnswer n number (done bytes) → IsPlanText n class bytes
+pub plan_text : (n : Network) (number : ℕ) (class : DestClass) (bytes : List ℕ) → class_at (classes_of n) number ≡ Some class
+    → IsCompressAnswer n number (done bytes) → IsPlanText n class bytes
 plan_text n number class bytes at is =
     of_pool n class bytes (pool_line n class) refl (subst (λ (found : Option DestClass). IsOfClass found number (IsCompressOf n) (done bytes)) at is)
 
 -- ---- one problem of the groups
 
-module _ (n : Network) (class : DestClass) (has : Contains (classes_of n) class) (built : BuiltProblemIsOne) (e : Plan) (plan : IsPlanOf n class e) (s : Sides) (are : AreSides n class s) where
+module _ (n : Network) (class : DestClass) (has : Contains (classes_of n) class) (built : BuiltProblemIsOne) (e : Plan) (plan : IsPlanOf n class e) (s : Sides)
+    (are : AreSides n class s) where
   pub one_small : s.small ≡ small e
   one_small =
       let p = some_prefix n class has in
@@ -72,32 +75,39 @@ module _ (n : Network) (class : DestClass) (has : Contains (classes_of n) class)
 
 -- ---- stable labels of the groups
 
-same_reading : (P Q : Problem) → P.protocol ≡ Q.protocol → P.names ≡ Q.names → (bytes : List ℕ) → labels_of_text P.protocol P.names bytes ≡ labels_of_text Q.protocol Q.names bytes
+same_reading : (P Q : Problem) → P.protocol ≡ Q.protocol → P.names ≡ Q.names → (bytes : List ℕ)
+    → labels_of_text P.protocol P.names bytes ≡ labels_of_text Q.protocol Q.names bytes
 same_reading P Q protocols names bytes = λ j. labels_of_text (protocols j) (names j) bytes
 
-module _ (has_problem : TextHasProblemOfGroups) (built : BuiltProblemIsOne) (n : Network) (given : ∥ IsGiven n ∥₁) (faultless : IsFaultless n) (number : ℕ) (class : DestClass) (at : class_at (classes_of n) number ≡ Some class) (s : Sides) (are : AreSides n class s) where
-  solves : (solution configurations : List ℕ) (labels : List (Option Route)) → IsCompressAnswer n number (done configurations) → labels_of_text s.small.protocol s.small.names solution ≡ Ok labels → IsStable s.small labels → Solves solution configurations class
+module _ (has_problem : TextHasProblemOfGroups) (built : BuiltProblemIsOne) (n : Network) (given : ∥ IsGiven n ∥₁) (faultless : IsFaultless n) (number : ℕ)
+    (class : DestClass) (at : class_at (classes_of n) number ≡ Some class) (s : Sides) (are : AreSides n class s) where
+  solves : (solution configurations : List ℕ) (labels : List (Option Route)) → IsCompressAnswer n number (done configurations)
+      → labels_of_text s.small.protocol s.small.names solution ≡ Ok labels → IsStable s.small labels → Solves solution configurations class
   solves solution configurations labels written reads stable =
       let has = found_in (classes_of n) (number - 1) class (nat_eq number 0) at in
       let t = plan_text n number class configurations at written in
       let r = has_problem n class t.plan given faultless has t.is t.apart t.short in
       let one = one_small n class has built t.plan t.is s are in
-      let own : (p : Prefix) → Contains class.prefixes p → IsProblemOf r.read p s.small = λ p i. subst (IsProblemOf r.read p) (sym one) (r.problem p (subst (λ (c : DestClass). Contains c.prefixes p) (sym t.is.class_is) i)) in
+      let own : (p : Prefix) → Contains class.prefixes p → IsProblemOf r.read p s.small = λ p i.
+          subst (IsProblemOf r.read p) (sym one) (r.problem p (subst (λ (c : DestClass). Contains c.prefixes p) (sym t.is.class_is) i)) in
       record {
         read = r.read;
         reads = subst (λ (bytes : List ℕ). reading_of bytes ≡ Ok r.read) (sym t.text) r.reads;
         problem = λ p i. (s.small, own p i);
         stable = λ p i problem of. (
             let alike = problems_alike r.read p s.small problem (own p i) of in
-            record { labels = labels; reads = sym (same_reading s.small problem alike.protocol alike.names solution) ∙ reads; stable = same_stable s.small problem alike labels stable });
+            record { labels = labels; reads = sym (same_reading s.small problem alike.protocol alike.names solution) ∙ reads; stable =
+                same_stable s.small problem alike labels stable });
       }
 
 pub fold_solves : FoldIsReadBack → BuiltProblemIsOne → TextHasProblemOfGroups → FoldSolvesCompressed
 fold_solves back built has_problem n given faultless number solution written configurations compressed folded =
     let f = back n given faultless number solution written folded in
-    record { class = f.class; class_is = f.class_is; solves = solves has_problem built n given faultless number f.class f.class_is f.sides f.are written configurations f.lower compressed f.reads f.stable_below }
+    record { class = f.class; class_is = f.class_is; solves =
+        solves has_problem built n given faultless number f.class f.class_is f.sides f.are written configurations f.lower compressed f.reads f.stable_below }
 
 pub lift_takes : LiftIsReadBack → BuiltProblemIsOne → TextHasProblemOfGroups → LiftTakesCompressed
 lift_takes back built has_problem n given faultless number solution written configurations compressed lifted =
     let l = back n given faultless number solution written lifted in
-    record { class = l.class; class_is = l.class_is; solves = solves has_problem built n given faultless number l.class l.class_is l.sides l.are solution configurations l.lower compressed l.read l.stable }
+    record { class = l.class; class_is = l.class_is; solves =
+        solves has_problem built n given faultless number l.class l.class_is l.sides l.are solution configurations l.lower compressed l.read l.stable }

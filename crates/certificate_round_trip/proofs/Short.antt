@@ -58,7 +58,8 @@ seen_few : (seen ns : List ℕ) → length (seen_after seen ns) ≤ length seen 
 seen_few seen [] = omega arith
 seen_few seen (n ∷ ns) = by (has seen n) refl (seen_few (with_new seen n) ns)
   where
-    by : (b : Bool) → has seen n ≡ b → length (seen_after (with_new seen n) ns) ≤ length (with_new seen n) + length ns → length (seen_after (with_new seen n) ns) ≤ length seen + length (n ∷ ns)
+    by : (b : Bool) → has seen n ≡ b → length (seen_after (with_new seen n) ns) ≤ length (with_new seen n) + length ns
+        → length (seen_after (with_new seen n) ns) ≤ length seen + length (n ∷ ns)
     by true e few = omega (arith, few, ap length (with_old seen n e))
     by false e few = omega (arith, few, ap length (with_next seen n e), length_push seen n)
 
@@ -106,7 +107,8 @@ parted_more f r rs [] = refl
 parted_more f r rs (n ∷ ns) = by (nat_eq (f r) n) refl (parted_more f r rs ns)
   where
     by : (b : Bool) → nat_eq (f r) n ≡ b → total (parted f (r ∷ rs) ns) ≡ hits (f r) ns + total (parted f rs ns)
-        → length (cond b (r ∷ filter (λ k. nat_eq (f k) n) rs) (filter (λ k. nat_eq (f k) n) rs)) + total (parted f (r ∷ rs) ns) ≡ cond b 1 0 + hits (f r) ns + (length (filter (λ k. nat_eq (f k) n) rs) + total (parted f rs ns))
+        → length (cond b (r ∷ filter (λ k. nat_eq (f k) n) rs) (filter (λ k. nat_eq (f k) n) rs)) + total (parted f (r ∷ rs) ns)
+            ≡ cond b 1 0 + hits (f r) ns + (length (filter (λ k. nat_eq (f k) n) rs) + total (parted f rs ns))
     by true e more = omega (arith, more)
     by false e more = omega (arith, more)
 
@@ -117,7 +119,8 @@ parted_few f (r ∷ rs) ns once = omega (arith, parted_more f r rs ns, hits_few 
 groups_few : (numbers : List ℕ) → (total (groups_of numbers) ≤ length numbers) × (length (groups_of numbers) ≤ length numbers)
 unfolding groups_of
 groups_few numbers = (
-  omega (arith, parted_few (slice_index numbers) (range_with_len 0 (length numbers)) (distinct numbers) (distinct_once numbers), length-range_with_len 0 (length numbers)),
+  omega (arith, parted_few (slice_index numbers) (range_with_len 0 (length numbers)) (distinct numbers) (distinct_once numbers),
+      length-range_with_len 0 (length numbers)),
   omega (arith, map_long (members_of numbers) (distinct numbers), distinct_few numbers),
 )
   where
@@ -152,12 +155,15 @@ module _ (graph : ActGraph) (names : List (List ℕ)) (can : CanBeNamed graph na
   groups_size [] known = omega arith
   groups_size (group ∷ groups) known = omega (arith, names_weight group known.0.1, groups_size groups known.1)
 
-  splits_size : (splits : List Split) (blocks last : Blocks) → AreInUse blocks.numbers blocks.count → length blocks.numbers ≡ graph.count → AreAfter graph blocks splits last → size (map (split_line graph.edges names) splits) ≤ 104 * length splits
+  splits_size : (splits : List Split) (blocks last : Blocks) → AreInUse blocks.numbers blocks.count → length blocks.numbers ≡ graph.count
+      → AreAfter graph blocks splits last → size (map (split_line graph.edges names) splits) ≤ 104 * length splits
   splits_size [] blocks last used long after = omega arith
   splits_size (split ∷ splits) blocks last used long (next, inside, is, rest) =
       let small = small_block graph names can blocks split next used long is in
       let none : Edge = record { importer = 0; exporter = 0; act = 0; link = 0 } in
-      let known : edge_importer graph.edges split.edge < length names = (let h = graph.importers_in_range split.edge none inside in let e = importer_is graph.edges split.edge none inside in let t = can.one_each in omega arith) in
+      let known : edge_importer graph.edges split.edge < length names =
+          (let h = graph.importers_in_range split.edge none inside in let e = importer_is graph.edges split.edge none inside in let t = can.one_each in
+              omega arith) in
       omega (
         arith,
         number_short split.block small.0,
@@ -167,13 +173,15 @@ module _ (graph : ActGraph) (names : List (List ℕ)) (can : CanBeNamed graph na
         splits_size splits next last (used_next graph names can blocks split next used is) (split_total graph.edges blocks split next is ∙ long) rest,
       )
 
-  text_short : (c : Certificate) → IsAccepted graph c → length c.splits ≤ graph.count → graph.count ≤ 4096 → length (certificate_text graph.edges names c) ≤ 16777216
+  text_short : (c : Certificate) → IsAccepted graph c → length c.splits ≤ graph.count → graph.count ≤ 4096
+      → length (certificate_text graph.edges names c) ≤ 16777216
   unfolding certificate_text
   text_short c accepted splits few =
       let reached = all_reached graph c.splits (first_blocks graph) accepted.blocks (first_reached graph) accepted.split in
       let numbers = accepted.blocks.numbers in
       let known : AllByRecursion (λ (group : List ℕ). (0 < length group) × AllByRecursion (λ u. u < length names) group) c.groups =
-      subst (λ (gs : List (List ℕ)). AllByRecursion (λ (group : List ℕ). (0 < length group) × AllByRecursion (λ u. u < length names) group) gs) (sym accepted.groups) (all_groups numbers (length names) (reached.total ∙ sym can.one_each)) in
+      subst (λ (gs : List (List ℕ)). AllByRecursion (λ (group : List ℕ). (0 < length group) × AllByRecursion (λ u. u < length names) group) gs)
+          (sym accepted.groups) (all_groups numbers (length names) (reached.total ∙ sym can.one_each)) in
       let fit = groups_few numbers in
       let first = head_line ∷ map (split_line graph.edges names) c.splits in
       let middle = map (named_group_line names) c.groups in

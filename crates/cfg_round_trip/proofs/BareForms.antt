@@ -80,7 +80,8 @@ unfolding network_form
 network_same line (_ ∷ address ∷ []) = given_same bare_item (address_word address) _ _
     (λ addr. given_same bare_item (classful_len_of addr) _ _ (λ len. net_same line addr len))
 network_same line (_ ∷ address ∷ word ∷ mask ∷ []) =
-    fits_same bare_item (bytes_eq word (codes "mask")) _ _ (given_same bare_item (address_word address) _ _ (λ addr. given_same bare_item (mask_len_of mask) _ _ (λ len. net_same line addr len)))
+    fits_same bare_item (bytes_eq word (codes "mask")) _ _ (given_same bare_item (address_word address) _ _
+        (λ addr. given_same bare_item (mask_len_of mask) _ _ (λ len. net_same line addr len)))
 network_same line _ = refl
 
 remote_as_same : (words : List (List ℕ)) → remote_as_form words ≡ on_ok bare_item (remote_as_form words)
@@ -119,7 +120,8 @@ peer_map_same line _ = refl
 area_same : (line : ℕ) (words : List (List ℕ)) → area_form 0 words ≡ on_ok bare_item (area_form line words)
 unfolding area_form
 area_same line (_ ∷ address ∷ wildcard ∷ word ∷ number ∷ []) =
-    fits_same bare_item (bytes_eq word (codes "area")) _ _ (given_same bare_item (address_word address) _ _ (λ addr. given_same bare_item (address_word wildcard) _ _ (λ wild. given_same bare_item (area_word number) _ _ (λ area. refl))))
+    fits_same bare_item (bytes_eq word (codes "area")) _ _ (given_same bare_item (address_word address) _ _
+        (λ addr. given_same bare_item (address_word wildcard) _ _ (λ wild. given_same bare_item (area_word number) _ _ (λ area. refl))))
 area_same line _ = refl
 
 passive_same : (words : List (List ℕ)) → passive_form words ≡ on_ok bare_item (passive_form words)
@@ -194,7 +196,8 @@ unfolding community_line_form
 list_line_same line (_ ∷ _ ∷ word ∷ []) = refl
 list_line_same line (_ ∷ _ ∷ word ∷ next ∷ []) = refl
 list_line_same line (_ ∷ _ ∷ word ∷ next ∷ third ∷ words) =
-    either_same bare_policy (bytes_eq word (codes "standard")) _ _ _ _ (community_line_same line next third words) (numbered_same line word next (third ∷ words))
+    either_same bare_policy (bytes_eq word (codes "standard")) _ _ _ _ (community_line_same line next third words)
+        (numbered_same line word next (third ∷ words))
 list_line_same line _ = refl
 
 map_head_same : (line : ℕ) (words : List (List ℕ)) → map_head_form 0 words ≡ on_ok bare_policy (map_head_form line words)
@@ -215,7 +218,8 @@ comms_match_same line exact words = after_same bare_policy (list_names_of words)
 
 marked_same : (line : ℕ) (words : List (List ℕ)) → marked_match 0 words ≡ on_ok bare_policy (marked_match line words)
 unfolding marked_match
-marked_same line words = either_same bare_policy (has_mark (codes "exact-match") words) _ _ _ _ (comms_match_same line true (but_last words)) (comms_match_same line false words)
+marked_same line words = either_same bare_policy (has_mark (codes "exact-match") words) _ _ _ _ (comms_match_same line true (but_last words))
+    (comms_match_same line false words)
 
 match_comms_same : (line : ℕ) (words : List (List ℕ)) → match_comms_form 0 words ≡ on_ok bare_policy (match_comms_form line words)
 unfolding match_comms_form
@@ -234,7 +238,8 @@ set_comms_same _ = refl
 
 delete_same : (line : ℕ) (words : List (List ℕ)) → delete_form 0 words ≡ on_ok bare_policy (delete_form line words)
 unfolding delete_form
-delete_same line (_ ∷ _ ∷ name ∷ word ∷ []) = fits_same bare_policy (bytes_eq word (codes "delete")) _ _ (after_bare bare_policy bare_named (named_of 0 name) (named_of line name) _ _ (named_same line name) (λ list. refl))
+delete_same line (_ ∷ _ ∷ name ∷ word ∷ []) = fits_same bare_policy (bytes_eq word (codes "delete")) _ _
+    (after_bare bare_policy bare_named (named_of 0 name) (named_of line name) _ _ (named_same line name) (λ list. refl))
 delete_same line _ = refl
 
 prepend_same : (line : ℕ) (words : List (List ℕ)) → prepend_form 0 words ≡ on_ok bare_policy (prepend_form line words)

@@ -41,11 +41,13 @@ pub end_head : IsHeadOf scope.Top form.End (codes "end" ∷ [])
 unfolding heads_of known_at_top refused_at_top ignored_services ignored_device
 end_head = refl
 
-pub prefix_list_head : (name : List ℕ) (rest : List (List ℕ)) → IsPolicyHeadOf policy_scope.Top policy_form.PrefixEntry (codes "ip" ∷ codes "prefix-list" ∷ name ∷ codes "seq" ∷ rest)
+pub prefix_list_head : (name : List ℕ) (rest : List (List ℕ))
+    → IsPolicyHeadOf policy_scope.Top policy_form.PrefixEntry (codes "ip" ∷ codes "prefix-list" ∷ name ∷ codes "seq" ∷ rest)
 unfolding policy_heads_of known_at_top refused_at_top ignored_services ignored_device
 prefix_list_head name rest = refl
 
-pub standard_head : (rest : List (List ℕ)) → IsPolicyHeadOf policy_scope.Top policy_form.CommunityLine (codes "ip" ∷ codes "community-list" ∷ codes "standard" ∷ rest)
+pub standard_head : (rest : List (List ℕ)) → IsPolicyHeadOf policy_scope.Top policy_form.CommunityLine
+    (codes "ip" ∷ codes "community-list" ∷ codes "standard" ∷ rest)
 unfolding policy_heads_of known_at_top refused_at_top ignored_services ignored_device number_between number_word
 standard_head rest = refl
 
@@ -118,7 +120,8 @@ not_passive_head rest = refl
 
 -- ---- lines of an entry of a route map
 
-pub match_prefixes_head : (rest : List (List ℕ)) → IsPolicyHeadOf policy_scope.Entry policy_form.MatchPrefixes (codes "match" ∷ codes "ip" ∷ codes "address" ∷ codes "prefix-list" ∷ rest)
+pub match_prefixes_head : (rest : List (List ℕ)) → IsPolicyHeadOf policy_scope.Entry policy_form.MatchPrefixes
+    (codes "match" ∷ codes "ip" ∷ codes "address" ∷ codes "prefix-list" ∷ rest)
 unfolding policy_heads_of known_in_entry refused_in_entry ignored_in_entry
 match_prefixes_head rest = refl
 

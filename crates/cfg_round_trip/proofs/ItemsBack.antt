@@ -114,13 +114,15 @@ unfolding is_inward
 way_back true = refl
 way_back false = refl
 
-pub peer_list_item : (addr : ℕ) (inward : Bool) (list : Named) → IsNumber addr → IsWellFormedNamed list → router_item_of scope.Bgp 0 (applied_line addr (codes "prefix-list") (way_text inward) list).words ≡ Ok (item.PeerList addr (bare_named list) inward)
+pub peer_list_item : (addr : ℕ) (inward : Bool) (list : Named) → IsNumber addr → IsWellFormedNamed list
+    → router_item_of scope.Bgp 0 (applied_line addr (codes "prefix-list") (way_text inward) list).words ≡ Ok (item.PeerList addr (bare_named list) inward)
 unfolding applied_line router_form peer_list_form
 peer_list_item addr inward list is named =
     of_head scope.Bgp form.PeerList _ _ (peer_list_head (address_text addr) (list.name ∷ way_text inward ∷ []))
     (rw (address_back addr is, way_back inward, named_back list named) refl)
 
-pub peer_map_item : (addr : ℕ) (inward : Bool) (map : Named) → IsNumber addr → IsWellFormedNamed map → router_item_of scope.Bgp 0 (applied_line addr (codes "route-map") (way_text inward) map).words ≡ Ok (item.PeerMap addr (bare_named map) inward)
+pub peer_map_item : (addr : ℕ) (inward : Bool) (map : Named) → IsNumber addr → IsWellFormedNamed map
+    → router_item_of scope.Bgp 0 (applied_line addr (codes "route-map") (way_text inward) map).words ≡ Ok (item.PeerMap addr (bare_named map) inward)
 unfolding applied_line router_form peer_map_form
 peer_map_item addr inward map is named =
     of_head scope.Bgp form.PeerMap _ _ (peer_map_head (address_text addr) (map.name ∷ way_text inward ∷ []))
@@ -135,7 +137,8 @@ area_back n is = rw (number_back n is) refl
 pub area_item : (area : AreaLine) → IsWellFormedArea area → router_item_of scope.Ospf 0 (network_area_line area).words ≡ Ok (item.Area (bare_area area))
 unfolding network_area_line router_form area_form
 area_item area is =
-    of_head scope.Ospf form.Area _ _ (area_head (address_text area.addr ∷ address_text area.wild ∷ codes "area" ∷ decimal area.area ∷ [])) (rw (address_back area.addr is.addr, address_back area.wild is.wild, area_back area.area is.area) refl)
+    of_head scope.Ospf form.Area _ _ (area_head (address_text area.addr ∷ address_text area.wild ∷ codes "area" ∷ decimal area.area ∷ []))
+        (rw (address_back area.addr is.addr, address_back area.wild is.wild, area_back area.area is.area) refl)
 
 pub passive_default_item : router_item_of scope.Ospf 0 passive_default_line.words ≡ Ok item.PassiveDefault
 unfolding router_form passive_form

@@ -84,13 +84,15 @@ closed_lines (l ∷ ls) each = each_append IsPrintedLine (l ∷ ls) (closing ∷
 
 address_is : (a : Address) → IsWellFormedAddress a → IsPrintedLine (ip_address_line a)
 unfolding ip_address_line
-address_is a is = words_line 1 (codes "ip") (codes "address" ∷ address_text a.addr ∷ address_text (mask_of a.len) ∷ []) (word_as_tested (codes "ip") refl) (word_as_tested (codes "address") refl, (address_prints a.addr is.addr, (mask_prints a.len, tt)))
+address_is a is = words_line 1 (codes "ip") (codes "address" ∷ address_text a.addr ∷ address_text (mask_of a.len) ∷ []) (word_as_tested (codes "ip") refl)
+    (word_as_tested (codes "address") refl, (address_prints a.addr is.addr, (mask_prints a.len, tt)))
 
 cost_is : (cost : ℕ) → IsBetween 1 65535 cost → IsPrintedLine (cost_line cost)
 unfolding cost_line
 cost_is cost is =
     let small = is.1 in
-    words_line 1 (codes "ip") (codes "ospf" ∷ codes "cost" ∷ decimal cost ∷ []) (word_as_tested (codes "ip") refl) (word_as_tested (codes "ospf") refl, (word_as_tested (codes "cost") refl, (decimal_prints cost (omega arith), tt)))
+    words_line 1 (codes "ip") (codes "ospf" ∷ codes "cost" ∷ decimal cost ∷ []) (word_as_tested (codes "ip") refl)
+        (word_as_tested (codes "ospf") refl, (word_as_tested (codes "cost") refl, (decimal_prints cost (omega arith), tt)))
 
 shutdown_is : IsPrintedLine shutdown_line
 shutdown_is = words_line 1 (codes "shutdown") [] (word_as_tested (codes "shutdown") refl) tt
@@ -115,19 +117,23 @@ interface_is i is =
 base_is : (base : Base) → IsWellFormedBase base → IsPrintedLine (base_line base)
 unfolding base_line
 base_is base is =
-    words_line 1 (codes "bgp") (codes "default" ∷ codes "local-preference" ∷ decimal base.value ∷ []) (word_as_tested (codes "bgp") refl) (word_as_tested (codes "default") refl, (word_as_tested (codes "local-preference") refl, (decimal_prints base.value is, tt)))
+    words_line 1 (codes "bgp") (codes "default" ∷ codes "local-preference" ∷ decimal base.value ∷ []) (word_as_tested (codes "bgp") refl)
+        (word_as_tested (codes "default") refl, (word_as_tested (codes "local-preference") refl, (decimal_prints base.value is, tt)))
 
 network_is : (n : NetLine) → IsWellFormedNetLine n → IsPrintedLine (network_line n)
 unfolding network_line
 network_is n is =
-    words_line 1 (codes "network") (address_text n.prefix.addr ∷ codes "mask" ∷ address_text (mask_of n.prefix.len) ∷ []) (word_as_tested (codes "network") refl) (address_prints n.prefix.addr is.prefix.addr, (word_as_tested (codes "mask") refl, (mask_prints n.prefix.len, tt)))
+    words_line 1 (codes "network") (address_text n.prefix.addr ∷ codes "mask" ∷ address_text (mask_of n.prefix.len) ∷ [])
+        (word_as_tested (codes "network") refl) (address_prints n.prefix.addr is.prefix.addr,
+            (word_as_tested (codes "mask") refl, (mask_prints n.prefix.len, tt)))
 
 neighbor_is : (addr : ℕ) (ws : List (List ℕ)) → IsNumber addr → AreWords ws → IsPrintedLine (peer_line addr ws)
 neighbor_is addr ws is more = words_line 1 (codes "neighbor") (address_text addr ∷ ws) (word_as_tested (codes "neighbor") refl) (address_prints addr is, more)
 
 remote_is : (addr remote : ℕ) → IsNumber addr → IsBetween 1 4294967295 remote → IsPrintedLine (remote_line addr remote)
 unfolding remote_line
-remote_is addr remote is number = neighbor_is addr (codes "remote-as" ∷ decimal remote ∷ []) is (word_as_tested (codes "remote-as") refl, (decimal_prints remote number.1, tt))
+remote_is addr remote is number = neighbor_is addr (codes "remote-as" ∷ decimal remote ∷ []) is
+    (word_as_tested (codes "remote-as") refl, (decimal_prints remote number.1, tt))
 
 peer_shut_is : (addr : ℕ) → IsNumber addr → IsPrintedLine (peer_shut_line addr)
 unfolding peer_shut_line
@@ -155,10 +161,14 @@ peer_is p is =
     let d = line_of_given (applied_line p.addr (codes "prefix-list") (codes "out")) p.list_out in
     let e = line_of_given (applied_line p.addr (codes "route-map") (codes "in")) p.map_in in
     let f = line_of_given (applied_line p.addr (codes "route-map") (codes "out")) p.map_out in
-    let is_c = some_line IsWellFormedNamed (applied_line p.addr (codes "prefix-list") (codes "in")) (applied_is p.addr (codes "prefix-list") (codes "in") is.addr list inward) p.list_in is.list_in in
-    let is_d = some_line IsWellFormedNamed (applied_line p.addr (codes "prefix-list") (codes "out")) (applied_is p.addr (codes "prefix-list") (codes "out") is.addr list outward) p.list_out is.list_out in
-    let is_e = some_line IsWellFormedNamed (applied_line p.addr (codes "route-map") (codes "in")) (applied_is p.addr (codes "route-map") (codes "in") is.addr map inward) p.map_in is.map_in in
-    let is_f = some_line IsWellFormedNamed (applied_line p.addr (codes "route-map") (codes "out")) (applied_is p.addr (codes "route-map") (codes "out") is.addr map outward) p.map_out is.map_out in
+    let is_c = some_line IsWellFormedNamed (applied_line p.addr (codes "prefix-list") (codes "in"))
+        (applied_is p.addr (codes "prefix-list") (codes "in") is.addr list inward) p.list_in is.list_in in
+    let is_d = some_line IsWellFormedNamed (applied_line p.addr (codes "prefix-list") (codes "out"))
+        (applied_is p.addr (codes "prefix-list") (codes "out") is.addr list outward) p.list_out is.list_out in
+    let is_e = some_line IsWellFormedNamed (applied_line p.addr (codes "route-map") (codes "in"))
+        (applied_is p.addr (codes "route-map") (codes "in") is.addr map inward) p.map_in is.map_in in
+    let is_f = some_line IsWellFormedNamed (applied_line p.addr (codes "route-map") (codes "out"))
+        (applied_is p.addr (codes "route-map") (codes "out") is.addr map outward) p.map_out is.map_out in
     let two = each_append IsPrintedLine a b (chosen_line p.shut (peer_shut_line p.addr) (peer_shut_is p.addr is.addr))
     (chosen_line p.sends (peer_sends_line p.addr) (peer_sends_is p.addr is.addr)) in
     let three = each_append IsPrintedLine (a ++ b) c two is_c in
@@ -169,7 +179,8 @@ peer_is p is =
 bgp_is : (b : BgpProcess) → IsWellFormedBgp b → AreLines (bgp_lines b)
 unfolding bgp_lines
 bgp_is b is =
-    let head = words_line 0 (codes "router") (codes "bgp" ∷ decimal b.number ∷ []) (word_as_tested (codes "router") refl) (word_as_tested (codes "bgp") refl, (decimal_prints b.number is.number.1, tt)) in
+    let head = words_line 0 (codes "router") (codes "bgp" ∷ decimal b.number ∷ []) (word_as_tested (codes "router") refl)
+        (word_as_tested (codes "bgp") refl, (decimal_prints b.number is.number.1, tt)) in
     let x = line_of_given base_line b.base in
     let y = map network_line b.networks in
     let z = flat_map neighbor_lines b.neighbors in
@@ -187,21 +198,25 @@ passive_is : (name : List ℕ) → IsInterfaceName name → IsPrintedLine (passi
 passive_is name is = words_line 1 (codes "passive-interface") (name ∷ []) (word_as_tested (codes "passive-interface") refl) (interface_name_prints name is, tt)
 
 not_passive_is : (name : List ℕ) → IsInterfaceName name → IsPrintedLine (not_passive_line name)
-not_passive_is name is = words_line 1 (codes "no") (codes "passive-interface" ∷ name ∷ []) (word_as_tested (codes "no") refl) (word_as_tested (codes "passive-interface") refl, (interface_name_prints name is, tt))
+not_passive_is name is = words_line 1 (codes "no") (codes "passive-interface" ∷ name ∷ []) (word_as_tested (codes "no") refl)
+    (word_as_tested (codes "passive-interface") refl, (interface_name_prints name is, tt))
 
 default_is : IsPrintedLine passive_default_line
-default_is = words_line 1 (codes "passive-interface") (codes "default" ∷ []) (word_as_tested (codes "passive-interface") refl) (word_as_tested (codes "default") refl, tt)
+default_is = words_line 1 (codes "passive-interface") (codes "default" ∷ []) (word_as_tested (codes "passive-interface") refl)
+    (word_as_tested (codes "default") refl, tt)
 
 area_is : (a : AreaLine) → IsWellFormedArea a → IsPrintedLine (network_area_line a)
 unfolding network_area_line
 area_is a is =
-    words_line 1 (codes "network") (address_text a.addr ∷ address_text a.wild ∷ codes "area" ∷ decimal a.area ∷ []) (word_as_tested (codes "network") refl) (address_prints a.addr is.addr, (address_prints a.wild is.wild, (word_as_tested (codes "area") refl, (decimal_prints a.area is.area, tt))))
+    words_line 1 (codes "network") (address_text a.addr ∷ address_text a.wild ∷ codes "area" ∷ decimal a.area ∷ []) (word_as_tested (codes "network") refl)
+        (address_prints a.addr is.addr, (address_prints a.wild is.wild, (word_as_tested (codes "area") refl, (decimal_prints a.area is.area, tt))))
 
 ospf_is : (o : OspfProcess) → IsWellFormedOspf o → AreLines (ospf_lines o)
 unfolding ospf_lines
 ospf_is o is =
     let small = is.number.1 in
-    let head = words_line 0 (codes "router") (codes "ospf" ∷ decimal o.number ∷ []) (word_as_tested (codes "router") refl) (word_as_tested (codes "ospf") refl, (decimal_prints o.number (omega arith), tt)) in
+    let head = words_line 0 (codes "router") (codes "ospf" ∷ decimal o.number ∷ []) (word_as_tested (codes "router") refl)
+        (word_as_tested (codes "ospf") refl, (decimal_prints o.number (omega arith), tt)) in
     let w = line_if o.passive_default passive_default_line in
     let x = map passive_line o.passive in
     let y = map not_passive_line o.not_passive in
@@ -230,9 +245,13 @@ prefix_entry_is : (name : List ℕ) → IsListName name → (e : PrefixEntry) �
 unfolding prefix_entry_line
 prefix_entry_is name named e is =
     let small = bounds_are e.prefix.len e.ge e.le is.bounds in
-    let bounds = each_append IsPrintedWord (bound_words (codes "ge") e.ge) (bound_words (codes "le") e.le) (bound_is (codes "ge") (word_as_tested (codes "ge") refl) e.ge small.0) (bound_is (codes "le") (word_as_tested (codes "le") refl) e.le small.1) in
-    words_line 0 (codes "ip") (codes "prefix-list" ∷ name ∷ codes "seq" ∷ decimal e.seq ∷ act_text e.permit ∷ prefix_text e.prefix ∷ (bound_words (codes "ge") e.ge ++ bound_words (codes "le") e.le)) (word_as_tested (codes "ip") refl)
-    (word_as_tested (codes "prefix-list") refl, (list_name_prints name named, (word_as_tested (codes "seq") refl, (decimal_prints e.seq is.seq.1, (act_prints e.permit, (prefix_prints e.prefix is.prefix.addr is.prefix.len, bounds))))))
+    let bounds = each_append IsPrintedWord (bound_words (codes "ge") e.ge) (bound_words (codes "le") e.le)
+        (bound_is (codes "ge") (word_as_tested (codes "ge") refl) e.ge small.0) (bound_is (codes "le") (word_as_tested (codes "le") refl) e.le small.1) in
+    words_line 0 (codes "ip") (codes "prefix-list" ∷ name ∷ codes "seq" ∷ decimal e.seq ∷ act_text e.permit ∷ prefix_text e.prefix
+        ∷ (bound_words (codes "ge") e.ge ++ bound_words (codes "le") e.le)) (word_as_tested (codes "ip") refl)
+    (word_as_tested (codes "prefix-list") refl, (list_name_prints name named,
+        (word_as_tested (codes "seq") refl, (decimal_prints e.seq is.seq.1,
+            (act_prints e.permit, (prefix_prints e.prefix is.prefix.addr is.prefix.len, bounds))))))
 
 prefix_list_is : (l : PrefixList) → IsWellFormedPrefixList l → AreLines (map (prefix_entry_line l.name) l.entries)
 prefix_list_is l is = each_map IsWellFormedPrefixEntry IsPrintedLine (prefix_entry_line l.name) (prefix_entry_is l.name is.name) l.entries is.entries
@@ -246,8 +265,10 @@ unfolding community_list_line
 community_line_is name named c is =
     let comms = each_map (IsBetween 1 4294901759) IsPrintedWord community_text community_prints c.comms is.each in
     let names = list_name_is (is_some (number_between 1 99 name)) name (list_name_prints name named) in
-    words_line 0 (codes "ip") (codes "community-list" ∷ (community_list_name name ++ act_text c.permit ∷ map community_text c.comms)) (word_as_tested (codes "ip") refl)
-    (word_as_tested (codes "community-list") refl, each_append IsPrintedWord (community_list_name name) (act_text c.permit ∷ map community_text c.comms) names (act_prints c.permit, comms))
+    words_line 0 (codes "ip") (codes "community-list" ∷ (community_list_name name ++ act_text c.permit ∷ map community_text c.comms))
+        (word_as_tested (codes "ip") refl)
+    (word_as_tested (codes "community-list") refl, each_append IsPrintedWord (community_list_name name) (act_text c.permit ∷ map community_text c.comms) names
+        (act_prints c.permit, comms))
 
 community_list_is : (l : CommunityList) → IsWellFormedCommunityList l → AreLines (map (community_list_line l.name) l.lines)
 community_list_is l is = each_map IsWellFormedCommunityLine IsPrintedLine (community_list_line l.name) (community_line_is l.name is.name) l.lines is.lines
@@ -256,7 +277,8 @@ community_list_is l is = each_map IsWellFormedCommunityLine IsPrintedLine (commu
 
 head_is : (name : List ℕ) (e : MapEntry) → IsListName name → e.seq ≤ 65535 → IsPrintedLine (map_head_line name e)
 unfolding map_head_line
-head_is name e named small = words_line 0 (codes "route-map") (name ∷ act_text e.permit ∷ decimal e.seq ∷ []) (word_as_tested (codes "route-map") refl) (list_name_prints name named, (act_prints e.permit, (decimal_prints e.seq (omega arith), tt)))
+head_is name e named small = words_line 0 (codes "route-map") (name ∷ act_text e.permit ∷ decimal e.seq ∷ []) (word_as_tested (codes "route-map") refl)
+    (list_name_prints name named, (act_prints e.permit, (decimal_prints e.seq (omega arith), tt)))
 
 names_are : (l : NameLine) → IsWellFormedNameLine l → AreWords l.names
 names_are l is = each_words l.names is.each
@@ -268,7 +290,8 @@ names_are l is = each_words l.names is.each
 match_prefixes_is : (l : NameLine) → IsWellFormedNameLine l → IsPrintedLine (match_prefixes_line l)
 unfolding match_prefixes_line
 match_prefixes_is l is =
-    words_line 1 (codes "match") (codes "ip" ∷ codes "address" ∷ codes "prefix-list" ∷ l.names) (word_as_tested (codes "match") refl) (word_as_tested (codes "ip") refl, (word_as_tested (codes "address") refl, (word_as_tested (codes "prefix-list") refl, names_are l is)))
+    words_line 1 (codes "match") (codes "ip" ∷ codes "address" ∷ codes "prefix-list" ∷ l.names) (word_as_tested (codes "match") refl)
+        (word_as_tested (codes "ip") refl, (word_as_tested (codes "address") refl, (word_as_tested (codes "prefix-list") refl, names_are l is)))
 
 mark_is : (exact : Bool) → AreWords (if exact then codes "exact-match" ∷ [] else [])
 mark_is true = (word_as_tested (codes "exact-match") refl, tt)
@@ -278,26 +301,32 @@ match_comms_is : (exact : Bool) (l : NameLine) → IsWellFormedNameLine l → Is
 unfolding match_comms_line
 match_comms_is exact l is =
     words_line 1 (codes "match") (codes "community" ∷ (l.names ++ (if exact then codes "exact-match" ∷ [] else []))) (word_as_tested (codes "match") refl)
-    (word_as_tested (codes "community") refl, each_append IsPrintedWord l.names (if exact then codes "exact-match" ∷ [] else []) (names_are l is) (mark_is exact))
+    (word_as_tested (codes "community") refl, each_append IsPrintedWord l.names (if exact then codes "exact-match" ∷ [] else []) (names_are l is)
+        (mark_is exact))
 
 lp_is : (lp : ℕ) → IsNumber lp → IsPrintedLine (lp_line lp)
 unfolding lp_line
-lp_is lp is = words_line 1 (codes "set") (codes "local-preference" ∷ decimal lp ∷ []) (word_as_tested (codes "set") refl) (word_as_tested (codes "local-preference") refl, (decimal_prints lp is, tt))
+lp_is lp is = words_line 1 (codes "set") (codes "local-preference" ∷ decimal lp ∷ []) (word_as_tested (codes "set") refl)
+    (word_as_tested (codes "local-preference") refl, (decimal_prints lp is, tt))
 
 comms_are : (comms : List ℕ) → IsCommunitySet comms → AreWords (map community_text comms)
 comms_are comms is = each_map (IsBetween 1 4294901759) IsPrintedWord community_text community_prints comms is.each
 
 change_is : (change : Change) → IsWellFormedChange change → IsPrintedLine (change_line change)
 unfolding change_line
-change_is Clear is = words_line 1 (codes "set") (codes "community" ∷ codes "none" ∷ []) (word_as_tested (codes "set") refl) (word_as_tested (codes "community") refl, (word_as_tested (codes "none") refl, tt))
-change_is (Replace comms) is = words_line 1 (codes "set") (codes "community" ∷ map community_text comms) (word_as_tested (codes "set") refl) (word_as_tested (codes "community") refl, comms_are comms is)
+change_is Clear is = words_line 1 (codes "set") (codes "community" ∷ codes "none" ∷ []) (word_as_tested (codes "set") refl)
+    (word_as_tested (codes "community") refl, (word_as_tested (codes "none") refl, tt))
+change_is (Replace comms) is = words_line 1 (codes "set") (codes "community" ∷ map community_text comms) (word_as_tested (codes "set") refl)
+    (word_as_tested (codes "community") refl, comms_are comms is)
 change_is (Append comms) is =
     words_line 1 (codes "set") (codes "community" ∷ (map community_text comms ++ codes "additive" ∷ [])) (word_as_tested (codes "set") refl)
-    (word_as_tested (codes "community") refl, each_append IsPrintedWord (map community_text comms) (codes "additive" ∷ []) (comms_are comms is) (word_as_tested (codes "additive") refl, tt))
+    (word_as_tested (codes "community") refl, each_append IsPrintedWord (map community_text comms) (codes "additive" ∷ []) (comms_are comms is)
+        (word_as_tested (codes "additive") refl, tt))
 
 delete_is : (list : Named) → IsWellFormedNamed list → IsPrintedLine (delete_line list)
 unfolding delete_line
-delete_is list is = words_line 1 (codes "set") (codes "comm-list" ∷ list.name ∷ codes "delete" ∷ []) (word_as_tested (codes "set") refl) (word_as_tested (codes "comm-list") refl, (list_name_prints list.name is, (word_as_tested (codes "delete") refl, tt)))
+delete_is list is = words_line 1 (codes "set") (codes "comm-list" ∷ list.name ∷ codes "delete" ∷ []) (word_as_tested (codes "set") refl)
+    (word_as_tested (codes "comm-list") refl, (list_name_prints list.name is, (word_as_tested (codes "delete") refl, tt)))
 
 as_number_prints : (n : ℕ) → IsBetween 1 4294967295 n → IsPrintedWord (decimal n)
 as_number_prints n is = decimal_prints n is.1
@@ -306,7 +335,8 @@ prepend_is : (p : Prepend) → IsWellFormedPrepend p → IsPrintedLine (prepend_
 unfolding prepend_line
 prepend_is p is =
     words_line 1 (codes "set") (codes "as-path" ∷ codes "prepend" ∷ map decimal p.numbers) (word_as_tested (codes "set") refl)
-    (word_as_tested (codes "as-path") refl, (word_as_tested (codes "prepend") refl, each_map (IsBetween 1 4294967295) IsPrintedWord decimal as_number_prints p.numbers is.each))
+    (word_as_tested (codes "as-path") refl, (word_as_tested (codes "prepend") refl,
+        each_map (IsBetween 1 4294967295) IsPrintedWord decimal as_number_prints p.numbers is.each))
 
 entry_is : (name : List ℕ) → IsListName name → (e : MapEntry) → IsWellFormedMapEntry e → AreLines (map_entry_lines name e)
 unfolding map_entry_lines
@@ -332,7 +362,8 @@ route_map_is m is = each_flat_map IsWellFormedMapEntry IsPrintedLine (map_entry_
 
 member_is : (name : List ℕ) → IsRouterName name → IsPrintedLine (member_line name)
 unfolding member_line
-member_is name is = words_line 0 (codes "!") (codes "member" ∷ name ∷ []) (word_as_tested (codes "!") refl) (word_as_tested (codes "member") refl, (router_name_prints name is, tt))
+member_is name is = words_line 0 (codes "!") (codes "member" ∷ name ∷ []) (word_as_tested (codes "!") refl)
+    (word_as_tested (codes "member") refl, (router_name_prints name is, tt))
 
 end_is : IsPrintedLine (line 0 (codes "end" ∷ []))
 end_is = words_line 0 (codes "end") [] (word_as_tested (codes "end") refl) tt

@@ -71,7 +71,8 @@ pieces a b first second = each_append IsShortLine a b first second
 
 address_line_short : (a : Address) → IsWellFormedAddress a → IsShortLine (ip_address_line a)
 unfolding ip_address_line
-address_line_short a is = light_line 1 (codes "ip" ∷ codes "address" ∷ address_text a.addr ∷ address_text (mask_of a.len) ∷ []) (omega (arith, address_short a.addr is.addr, mask_short a.len))
+address_line_short a is = light_line 1 (codes "ip" ∷ codes "address" ∷ address_text a.addr ∷ address_text (mask_of a.len) ∷ [])
+    (omega (arith, address_short a.addr is.addr, mask_short a.len))
 
 cost_line_short : (n : ℕ) → IsBetween 1 65535 n → IsShortLine (cost_line n)
 unfolding cost_line
@@ -84,23 +85,29 @@ interface_short i is =
     let b = line_of_given cost_line i.cost in
     let c = line_if i.shut shutdown_line in (
       light_line 0 (codes "interface" ∷ i.name ∷ []) (omega (arith, interface_name_short i.name is.name)),
-      pieces (a ++ b ++ c) (closing ∷ []) (pieces (a ++ b) c (pieces a b (some_line IsWellFormedAddress ip_address_line address_line_short i.address is.address) (some_line (IsBetween 1 65535) cost_line cost_line_short i.cost is.cost)) (line_when i.shut shutdown_line (light_line 1 (codes "shutdown" ∷ []) (omega arith)))) (closing_short, tt),
+      pieces (a ++ b ++ c) (closing ∷ []) (pieces (a ++ b) c
+          (pieces a b (some_line IsWellFormedAddress ip_address_line address_line_short i.address is.address)
+              (some_line (IsBetween 1 65535) cost_line cost_line_short i.cost is.cost))
+                  (line_when i.shut shutdown_line (light_line 1 (codes "shutdown" ∷ []) (omega arith)))) (closing_short, tt),
     )
 
 -- ---- BGP
 
 base_line_short : (base : Base) → IsWellFormedBase base → IsShortLine (base_line base)
 unfolding base_line
-base_line_short base is = light_line 1 (codes "bgp" ∷ codes "default" ∷ codes "local-preference" ∷ decimal base.value ∷ []) (omega (arith, number_short base.value is))
+base_line_short base is = light_line 1 (codes "bgp" ∷ codes "default" ∷ codes "local-preference" ∷ decimal base.value ∷ [])
+    (omega (arith, number_short base.value is))
 
 network_line_short : (net : NetLine) → IsWellFormedNetLine net → IsShortLine (network_line net)
 unfolding network_line
 network_line_short net is =
-    light_line 1 (codes "network" ∷ address_text net.prefix.addr ∷ codes "mask" ∷ address_text (mask_of net.prefix.len) ∷ []) (omega (arith, address_short net.prefix.addr is.prefix.addr, mask_short net.prefix.len))
+    light_line 1 (codes "network" ∷ address_text net.prefix.addr ∷ codes "mask" ∷ address_text (mask_of net.prefix.len) ∷ [])
+        (omega (arith, address_short net.prefix.addr is.prefix.addr, mask_short net.prefix.len))
 
 remote_line_short : (addr remote : ℕ) → IsNumber addr → IsNumber remote → IsShortLine (remote_line addr remote)
 unfolding remote_line
-remote_line_short addr remote is number = light_line 1 (codes "neighbor" ∷ address_text addr ∷ codes "remote-as" ∷ decimal remote ∷ []) (omega (arith, address_short addr is, number_short remote number))
+remote_line_short addr remote is number = light_line 1 (codes "neighbor" ∷ address_text addr ∷ codes "remote-as" ∷ decimal remote ∷ [])
+    (omega (arith, address_short addr is, number_short remote number))
 
 peer_shut_short : (addr : ℕ) → IsNumber addr → IsShortLine (peer_shut_line addr)
 unfolding peer_shut_line
@@ -113,7 +120,8 @@ peer_sends_short addr is = light_line 1 (codes "neighbor" ∷ address_text addr 
 applied_short : (addr : ℕ) (what way : List ℕ) → IsNumber addr → length what ≤ 20 → length way ≤ 20 → (named : Named) → IsWellFormedNamed named →
     IsShortLine (applied_line addr what way named)
 unfolding applied_line
-applied_short addr what way is first last named name = light_line 1 (codes "neighbor" ∷ address_text addr ∷ what ∷ named.name ∷ way ∷ []) (omega (arith, address_short addr is, list_name_short named.name name))
+applied_short addr what way is first last named name = light_line 1 (codes "neighbor" ∷ address_text addr ∷ what ∷ named.name ∷ way ∷ [])
+    (omega (arith, address_short addr is, list_name_short named.name name))
 
 neighbor_short : (p : Neighbor) → IsWellFormedNeighbor p → AreShort (neighbor_lines p)
 unfolding neighbor_lines
@@ -133,10 +141,14 @@ neighbor_short p is =
     (pieces (one ++ two) three
     (pieces one two (remote_line_short p.addr p.remote is.addr high, tt) (line_when p.shut (peer_shut_line p.addr) (peer_shut_short p.addr is.addr)))
     (line_when p.sends (peer_sends_line p.addr) (peer_sends_short p.addr is.addr)))
-    (some_line IsWellFormedNamed (applied_line p.addr (codes "prefix-list") (codes "in")) (applied_short p.addr (codes "prefix-list") (codes "in") is.addr (omega arith) (omega arith)) p.list_in is.list_in))
-    (some_line IsWellFormedNamed (applied_line p.addr (codes "prefix-list") (codes "out")) (applied_short p.addr (codes "prefix-list") (codes "out") is.addr (omega arith) (omega arith)) p.list_out is.list_out))
-    (some_line IsWellFormedNamed (applied_line p.addr (codes "route-map") (codes "in")) (applied_short p.addr (codes "route-map") (codes "in") is.addr (omega arith) (omega arith)) p.map_in is.map_in))
-    (some_line IsWellFormedNamed (applied_line p.addr (codes "route-map") (codes "out")) (applied_short p.addr (codes "route-map") (codes "out") is.addr (omega arith) (omega arith)) p.map_out is.map_out)
+    (some_line IsWellFormedNamed (applied_line p.addr (codes "prefix-list") (codes "in"))
+        (applied_short p.addr (codes "prefix-list") (codes "in") is.addr (omega arith) (omega arith)) p.list_in is.list_in))
+    (some_line IsWellFormedNamed (applied_line p.addr (codes "prefix-list") (codes "out"))
+        (applied_short p.addr (codes "prefix-list") (codes "out") is.addr (omega arith) (omega arith)) p.list_out is.list_out))
+    (some_line IsWellFormedNamed (applied_line p.addr (codes "route-map") (codes "in"))
+        (applied_short p.addr (codes "route-map") (codes "in") is.addr (omega arith) (omega arith)) p.map_in is.map_in))
+    (some_line IsWellFormedNamed (applied_line p.addr (codes "route-map") (codes "out"))
+        (applied_short p.addr (codes "route-map") (codes "out") is.addr (omega arith) (omega arith)) p.map_out is.map_out)
 
 bgp_short : (b : BgpProcess) → IsWellFormedBgp b → AreShort (bgp_lines b)
 unfolding bgp_lines
@@ -162,7 +174,8 @@ not_passive_short name is = light_line 1 (codes "no" ∷ codes "passive-interfac
 
 area_short : (a : AreaLine) → IsWellFormedArea a → IsShortLine (network_area_line a)
 unfolding network_area_line
-area_short a is = light_line 1 (codes "network" ∷ address_text a.addr ∷ address_text a.wild ∷ codes "area" ∷ decimal a.area ∷ []) (omega (arith, address_short a.addr is.addr, address_short a.wild is.wild, number_short a.area is.area))
+area_short a is = light_line 1 (codes "network" ∷ address_text a.addr ∷ address_text a.wild ∷ codes "area" ∷ decimal a.area ∷ [])
+    (omega (arith, address_short a.addr is.addr, address_short a.wild is.wild, number_short a.area is.area))
 
 ospf_short : (o : OspfProcess) → IsWellFormedOspf o → AreShort (ospf_lines o)
 unfolding ospf_lines
@@ -173,7 +186,12 @@ ospf_short o is =
     let three = map not_passive_line o.not_passive in
     let four = map network_area_line o.areas in (
       light_line 0 (codes "router" ∷ codes "ospf" ∷ decimal o.number ∷ []) (omega (arith, number_short o.number (omega arith))),
-      pieces (one ++ two ++ three ++ four) (closing ∷ []) (pieces (one ++ two ++ three) four (pieces (one ++ two) three (pieces one two (line_when o.passive_default passive_default_line (light_line 1 (codes "passive-interface" ∷ codes "default" ∷ []) (omega arith))) (each_map IsInterfaceName IsShortLine passive_line passive_short o.passive is.passive)) (each_map IsInterfaceName IsShortLine not_passive_line not_passive_short o.not_passive is.not_passive)) (each_map IsWellFormedArea IsShortLine network_area_line area_short o.areas is.areas)) (closing_short, tt),
+      pieces (one ++ two ++ three ++ four) (closing ∷ []) (pieces (one ++ two ++ three) four
+          (pieces (one ++ two) three (pieces one two (line_when o.passive_default passive_default_line
+              (light_line 1 (codes "passive-interface" ∷ codes "default" ∷ []) (omega arith)))
+                  (each_map IsInterfaceName IsShortLine passive_line passive_short o.passive is.passive))
+                      (each_map IsInterfaceName IsShortLine not_passive_line not_passive_short o.not_passive is.not_passive))
+                          (each_map IsWellFormedArea IsShortLine network_area_line area_short o.areas is.areas)) (closing_short, tt),
     )
 
 -- ---- lists
@@ -206,7 +224,9 @@ prefix_entry_short name named e is =
     let low = bound_words (codes "ge") e.ge in
     let top = bound_words (codes "le") e.le in
     light_line 0 (codes "ip" ∷ codes "prefix-list" ∷ name ∷ codes "seq" ∷ decimal e.seq ∷ act_text e.permit ∷ prefix_text e.prefix ∷ low ++ top)
-    (omega (arith, list_name_short name named, number_short e.seq high, act_short e.permit, prefix_short e.prefix is.prefix, weight_append low top, bound_weight (codes "ge") e.ge (omega arith) (lower_bound e.prefix.len e.ge e.le is.bounds), bound_weight (codes "le") e.le (omega arith) (upper_bound e.prefix.len e.ge e.le is.bounds)))
+    (omega (arith, list_name_short name named, number_short e.seq high, act_short e.permit, prefix_short e.prefix is.prefix, weight_append low top,
+        bound_weight (codes "ge") e.ge (omega arith) (lower_bound e.prefix.len e.ge e.le is.bounds),
+            bound_weight (codes "le") e.le (omega arith) (upper_bound e.prefix.len e.ge e.le is.bounds)))
 
 prefix_list_short : (l : PrefixList) → IsWellFormedPrefixList l → AreShort (map (prefix_entry_line l.name) l.entries)
 prefix_list_short l is = each_map IsWellFormedPrefixEntry IsShortLine (prefix_entry_line l.name) (prefix_entry_short l.name is.name) l.entries is.entries
@@ -230,7 +250,8 @@ unfolding community_list_line
 community_line_short name named c is =
     let names = community_list_name name in
     let rest = act_text c.permit ∷ map community_text c.comms in
-    light_line 0 (codes "ip" ∷ codes "community-list" ∷ names ++ rest) (omega (arith, weight_append names rest, name_weight name (list_name_short name named), act_short c.permit, set_weight c.comms is))
+    light_line 0 (codes "ip" ∷ codes "community-list" ∷ names ++ rest)
+        (omega (arith, weight_append names rest, name_weight name (list_name_short name named), act_short c.permit, set_weight c.comms is))
 
 community_list_short : (l : CommunityList) → IsWellFormedCommunityList l → AreShort (map (community_list_line l.name) l.lines)
 community_list_short l is = each_map IsWellFormedCommunityLine IsShortLine (community_list_line l.name) (community_line_short l.name is.name) l.lines is.lines
@@ -239,7 +260,8 @@ community_list_short l is = each_map IsWellFormedCommunityLine IsShortLine (comm
 
 map_head_short : (name : List ℕ) (e : MapEntry) → IsListName name → e.seq ≤ 65535 → IsShortLine (map_head_line name e)
 unfolding map_head_line
-map_head_short name e named short = light_line 0 (codes "route-map" ∷ name ∷ act_text e.permit ∷ decimal e.seq ∷ []) (omega (arith, list_name_short name named, act_short e.permit, number_short e.seq (omega arith)))
+map_head_short name e named short = light_line 0 (codes "route-map" ∷ name ∷ act_text e.permit ∷ decimal e.seq ∷ [])
+    (omega (arith, list_name_short name named, act_short e.permit, number_short e.seq (omega arith)))
 
 lp_short : (n : ℕ) → IsNumber n → IsShortLine (lp_line n)
 unfolding lp_line
@@ -250,7 +272,8 @@ unfolding change_line
 change_short Clear is = light_line 1 (codes "set" ∷ codes "community" ∷ codes "none" ∷ []) (omega arith)
 change_short (Replace comms) is = light_line 1 (codes "set" ∷ codes "community" ∷ map community_text comms) (omega (arith, set_weight comms is))
 change_short (Append comms) is =
-    light_line 1 (codes "set" ∷ codes "community" ∷ map community_text comms ++ codes "additive" ∷ []) (omega (arith, set_weight comms is, weight_append (map community_text comms) (codes "additive" ∷ [])))
+    light_line 1 (codes "set" ∷ codes "community" ∷ map community_text comms ++ codes "additive" ∷ [])
+        (omega (arith, set_weight comms is, weight_append (map community_text comms) (codes "additive" ∷ [])))
 
 delete_short : (list : Named) → IsWellFormedNamed list → IsShortLine (delete_line list)
 unfolding delete_line
@@ -262,7 +285,8 @@ numbers_weight (n ∷ ns) all = let high = all.0.1 in omega (arith, number_short
 
 prepend_short : (p : Prepend) → IsWellFormedPrepend p → IsShortLine (prepend_line p)
 unfolding prepend_line
-prepend_short p is = let few = is.count.1 in light_line 1 (codes "set" ∷ codes "as-path" ∷ codes "prepend" ∷ map decimal p.numbers) (omega (arith, numbers_weight p.numbers is.each))
+prepend_short p is = let few = is.count.1 in light_line 1 (codes "set" ∷ codes "as-path" ∷ codes "prepend" ∷ map decimal p.numbers)
+    (omega (arith, numbers_weight p.numbers is.each))
 
 -- well formed, and its match lines are short
 record IsGoodEntry (e : MapEntry) : Type 0 where
@@ -326,7 +350,8 @@ router_short r names is maps are =
     (pieces (zero ++ one ++ two) three
     (pieces (zero ++ one) two
     (pieces zero one
-    (light_line 0 (codes "hostname" ∷ r.name ∷ []) (omega (arith, router_name_short r.name is.name)), each_map IsRouterName IsShortLine member_line member_short names are)
+    (light_line 0 (codes "hostname" ∷ r.name ∷ []) (omega (arith, router_name_short r.name is.name)),
+        each_map IsRouterName IsShortLine member_line member_short names are)
     (closing_short, each_flat_map IsWellFormedInterface IsShortLine interface_lines interface_short r.interfaces is.interfaces))
     (some_lines IsWellFormedBgp bgp_lines bgp_short r.bgp is.bgp))
     (some_lines IsWellFormedOspf ospf_lines ospf_short r.ospf is.ospf))

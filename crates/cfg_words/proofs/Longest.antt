@@ -36,9 +36,11 @@ other_word false false false between rest none = refl
 -- a word that is none of those that stand for others fits only itself
 unfit : (head_word word : List ℕ) → can_stand_for head_word (get_or word 0 0) ≡ false → is_word_for head_word word ≡ false
 unfit [] word none = absurd cc
-unfit (b ∷ head_word) [] none = no_word (nat_eq b 0) (bytes_eq (b ∷ head_word) (codes "A")) (bytes_eq (b ∷ head_word) (codes "100-500")) (is_some (number_between 100 500 [])) none
+unfit (b ∷ head_word) [] none = no_word (nat_eq b 0) (bytes_eq (b ∷ head_word) (codes "A")) (bytes_eq (b ∷ head_word) (codes "100-500"))
+    (is_some (number_between 100 500 [])) none
 unfit (b ∷ head_word) (c ∷ word) none =
-    other_word (nat_eq b c) (bytes_eq (b ∷ head_word) (codes "A")) (bytes_eq (b ∷ head_word) (codes "100-500")) (is_some (number_between 100 500 (c ∷ word))) (bytes_eq head_word word) none
+    other_word (nat_eq b c) (bytes_eq (b ∷ head_word) (codes "A")) (bytes_eq (b ∷ head_word) (codes "100-500")) (is_some (number_between 100 500 (c ∷ word)))
+        (bytes_eq head_word word) none
 
 begins_none : (head words : List (List ℕ)) → can_begin (first_byte words) head ≡ false → begins head words ≡ false
 begins_none [] words none = absurd cc

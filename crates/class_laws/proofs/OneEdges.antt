@@ -19,7 +19,8 @@ module _ (P Q : Problem) where
   same_length (x ∷ xs) (y ∷ ys) same = let r = same_length xs ys same.1 in omega arith
 
   -- the edge at the same place of the other list
-  pub same_at : (xs ys : List Edge) (k : ℕ) (x : Edge) → AllEdgesAlike P Q xs ys → slice_get xs k ≡ Some x → (y : Edge) × (slice_get ys k ≡ Some y) × EdgesAlike P Q x y
+  pub same_at : (xs ys : List Edge) (k : ℕ) (x : Edge) → AllEdgesAlike P Q xs ys → slice_get xs k ≡ Some x → (y : Edge) × (slice_get ys k ≡ Some y)
+      × EdgesAlike P Q x y
   same_at [] ys k x same at = absurd cc
   same_at (z ∷ xs) [] k x same at = absurd same
   same_at (z ∷ xs) (y ∷ ys) zero x same at = (y, refl, subst (λ (e : Edge). EdgesAlike P Q e y) (let here : z ≡ x = cc in here) same.0)

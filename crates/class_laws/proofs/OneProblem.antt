@@ -57,15 +57,18 @@ record FirstAt (edges : List Edge) (act : ℕ) : Type 0 where
 
 find_first : (edges : List Edge) (act k : ℕ) (edge : Edge) → slice_get edges k ≡ Some edge → edge.act ≡ act → FirstAt edges act
 find_first [] act k edge at same = absurd cc
-find_first (x ∷ xs) act zero edge at same = record { place = zero; edge = edge; at = at; same = same; first = record { first = λ earlier other less found. absurd (omega arith) } }
+find_first (x ∷ xs) act zero edge at same = record { place = zero; edge = edge; at = at; same = same; first =
+    record { first = λ earlier other less found. absurd (omega arith) } }
 find_first (x ∷ xs) act (suc k) edge at same = elim (cases_eq x.act act) [
   | inl here ↦ record { place = zero; edge = x; at = refl; same = here; first = record { first = λ earlier other less found. absurd (omega arith) } }
   | inr not_here ↦ (
       let later = find_first xs act k edge at same in
-      record { place = suc later.place; edge = later.edge; at = later.at; same = later.same; first = record { first = before x xs act later.place not_here later.first } })
+      record { place = suc later.place; edge = later.edge; at = later.at; same = later.same; first =
+          record { first = before x xs act later.place not_here later.first } })
 ]
   where
-    before : (x : Edge) (xs : List Edge) (act place : ℕ) → x.act ≢ act → IsFirstWith xs place act → (earlier : ℕ) (other : Edge) → earlier < suc place → slice_get (x ∷ xs) earlier ≡ Some other → other.act ≢ act
+    before : (x : Edge) (xs : List Edge) (act place : ℕ) → x.act ≢ act → IsFirstWith xs place act → (earlier : ℕ) (other : Edge) → earlier < suc place
+        → slice_get (x ∷ xs) earlier ≡ Some other → other.act ≢ act
     before x xs act place not_here later zero other less found = λ e. not_here (ap edge_act (let one : x ≡ other = cc in one) ∙ e)
     before x xs act place not_here later (suc earlier) other less found = later.first earlier other (omega arith) found
 
@@ -75,19 +78,22 @@ one_protocol : (q : Protocol) (out into : Plain) (sends : Bool) (cost : ℕ) →
 one_protocol OverBgp out into sends cost a b = b
 one_protocol OverOspf out into sends cost a b = a
 
-one_direction : (n : Network) (d e : Direction) → IsDirection n d → IsDirection n e → d.link ≡ e.link → d.importer ≡ e.importer → d.exporter ≡ e.exporter → d.importer ≢ d.exporter → d ≡ e
+one_direction : (n : Network) (d e : Direction) → IsDirection n d → IsDirection n e → d.link ≡ e.link → d.importer ≡ e.importer → d.exporter ≡ e.exporter
+    → d.importer ≢ d.exporter → d ≡ e
 one_direction n d e (inl a) (inl b) link importer exporter apart =
     let one : low_imports d ≡ low_imports e = cc (a, b, link) in
     λ j. made (link j) (importer j) (exporter j) (ap (λ (l : Link). l.low_item) one j) (ap (λ (l : Link). l.high_item) one j)
   where
     made : ℕ → ℕ → ℕ → ℕ → ℕ → Direction
-    made link importer exporter importer_item exporter_item = record { link = link; importer = importer; exporter = exporter; importer_item = importer_item; exporter_item = exporter_item }
+    made link importer exporter importer_item exporter_item =
+        record { link = link; importer = importer; exporter = exporter; importer_item = importer_item; exporter_item = exporter_item }
 one_direction n d e (inr a) (inr b) link importer exporter apart =
     let one : high_imports d ≡ high_imports e = cc (a, b, link) in
     λ j. made (link j) (importer j) (exporter j) (ap (λ (l : Link). l.high_item) one j) (ap (λ (l : Link). l.low_item) one j)
   where
     made : ℕ → ℕ → ℕ → ℕ → ℕ → Direction
-    made link importer exporter importer_item exporter_item = record { link = link; importer = importer; exporter = exporter; importer_item = importer_item; exporter_item = exporter_item }
+    made link importer exporter importer_item exporter_item =
+        record { link = link; importer = importer; exporter = exporter; importer_item = importer_item; exporter_item = exporter_item }
 one_direction n d e (inl a) (inr b) link importer exporter apart =
     let one : low_imports d ≡ high_imports e = cc (a, b, link) in
     absurd (apart (ap (λ (l : Link). l.low) one ∙ sym exporter))
@@ -95,7 +101,8 @@ one_direction n d e (inr a) (inl b) link importer exporter apart =
     let one : high_imports d ≡ low_imports e = cc (a, b, link) in
     absurd (apart (sym (ap (λ (l : Link). l.low) one ∙ sym importer)))
 
-one_written : (n : Network) (p : Prefix) (q : Protocol) (d : Direction) (x y : Act) → IsActOf q x → IsActOf q y → IsActOfLines n p d x → IsActOfLines n p d y → MeansLink n p d x → MeansLink n p d y → x ≡ y
+one_written : (n : Network) (p : Prefix) (q : Protocol) (d : Direction) (x y : Act) → IsActOf q x → IsActOf q y → IsActOfLines n p d x → IsActOfLines n p d y
+    → MeansLink n p d x → MeansLink n p d y → x ≡ y
 one_written n p q d (Import out sends into) (Import out' sends' into') a b w v m l =
     let e : w.ends.exporter ≡ v.ends.exporter = cc (w.ends.exporter_at, v.ends.exporter_at) in
     let i : w.ends.importer ≡ v.ends.importer = cc (w.ends.importer_at, v.ends.importer_at) in
@@ -114,7 +121,8 @@ one_written n p q d (Cost cost) (Cost other) a b w v m l =
 -- ---- one problem
 
 module _ (P : Problem) (order : AreActsByFirstUse P) (inside : (e : Edge) → Contains P.edges e → e.act < length P.acts) where
-  all_below : (edges : List Edge) → ((e : Edge) → In edges e → e.act < length P.acts) → (k d : ℕ) → k < length (map edge_act edges) → slice_index_or (map edge_act edges) k d < length P.acts
+  all_below : (edges : List Edge) → ((e : Edge) → In edges e → e.act < length P.acts) → (k d : ℕ) → k < length (map edge_act edges)
+      → slice_index_or (map edge_act edges) k d < length P.acts
   all_below [] each k d h = absurd (omega arith)
   all_below (x ∷ xs) each zero d h = each x (inl refl)
   all_below (x ∷ xs) each (suc k) d h = all_below xs (λ e at. each e (inr at)) k d (omega arith)
@@ -150,10 +158,12 @@ module _ (P Q : Problem) (x : IsProblem P) (y : IsProblem Q) (same : ProblemsAli
       let one : f.0.act ≡ e.0.act = sym (read_acts P.edges v 0 f.0 f.1) ∙ sym one_act ∙ read_acts P.edges u 0 e.0 e.1 in
       let e_alike : ActsAlike (act_of Q g.0) (act_of P e.0) = alike_sym (act_of P e.0) (act_of Q g.0) g.2.acts in
       let f_alike : ActsAlike (act_of P e.0) (act_of Q h.0) = subst (λ (k : ℕ). ActsAlike (slice_index_or P.acts k (Cost 0)) (act_of Q h.0)) one h.2.acts in
-      let acts = y.acts.differ g.0.act h.0.act (y.edges.inside g.0 g_in).act_in (y.edges.inside h.0 h_in).act_in (alike_trans (act_of Q g.0) (act_of P e.0) (act_of Q h.0) e_alike f_alike) in
+      let acts = y.acts.differ g.0.act h.0.act (y.edges.inside g.0 g_in).act_in (y.edges.inside h.0 h_in).act_in
+          (alike_trans (act_of Q g.0) (act_of P e.0) (act_of Q h.0) e_alike f_alike) in
       read_acts Q.edges u 0 g.0 g.1 ∙ acts ∙ sym (read_acts Q.edges v 0 h.0 h.1)
 
-module _ (n : Network) (p : Prefix) (P Q : Problem) (a : IsProblemOf n p P) (b : IsProblemOf n p Q) (x : AreActsByFirstUse P) (y : AreActsByFirstUse Q) (u : HasFirstActs n p P) (v : HasFirstActs n p Q) where
+module _ (n : Network) (p : Prefix) (P Q : Problem) (a : IsProblemOf n p P) (b : IsProblemOf n p Q) (x : AreActsByFirstUse P) (y : AreActsByFirstUse Q)
+    (u : HasFirstActs n p P) (v : HasFirstActs n p Q) where
   same : ProblemsAlike P Q
   same = problems_alike n p P Q a b
 
@@ -168,13 +178,15 @@ module _ (n : Network) (p : Prefix) (P Q : Problem) (a : IsProblemOf n p P) (b :
       let lengths = same_length P Q P.edges Q.edges same.edges in
       let p_length = length-map P.edges edge_act in
       let q_length = length-map Q.edges edge_act in
-      one_numbering (map edge_act P.edges) (map edge_act Q.edges) (length P.acts) (length Q.acts) (omega arith) numbered_p numbered_q (refined P Q a.rules b.rules same) (refined Q P b.rules a.rules (turned P Q same))
+      one_numbering (map edge_act P.edges) (map edge_act Q.edges) (length P.acts) (length Q.acts) (omega arith) numbered_p numbered_q
+          (refined P Q a.rules b.rules same) (refined Q P b.rules a.rules (turned P Q same))
 
   pub one_edges : P.edges ≡ Q.edges
   one_edges = one_list P Q P.edges Q.edges same.edges same_acts_of_edges
 
   one_count : length P.acts ≡ length Q.acts
-  one_count = one_count_of_groups (map edge_act Q.edges) (length P.acts) (length Q.acts) (subst (λ (l : List ℕ). IsNumbered l (length P.acts)) same_acts_of_edges numbered_p) numbered_q
+  one_count = one_count_of_groups (map edge_act Q.edges) (length P.acts) (length Q.acts)
+      (subst (λ (l : List ℕ). IsNumbered l (length P.acts)) same_acts_of_edges numbered_p) numbered_q
 
   -- the act of the first edge that has it
   one_act : (k : ℕ) → k < length P.acts → slice_index_or P.acts k (Cost 0) ≡ slice_index_or Q.acts k (Cost 0)
@@ -189,16 +201,21 @@ module _ (n : Network) (p : Prefix) (P Q : Problem) (a : IsProblemOf n p P) (b :
       let inside = contains_in P.edges e (get_in P.edges first.place e first.at) in
       let also = contains_in Q.edges e (get_in Q.edges first.place e at) in
       let apart = (a.rules.edges.inside e inside).differ in
-      let one : w.d ≡ z.d = one_direction n w.d z.d w.stands.is_direction z.stands.is_direction (sym w.stands.link ∙ z.stands.link) (sym w.stands.importer ∙ z.stands.importer) (sym w.stands.exporter ∙ z.stands.exporter) (λ equal. apart (w.stands.importer ∙ equal ∙ sym w.stands.exporter)) in
-      let acts = one_written n p P.protocol w.d (act_of P e) (act_of Q e) (edge_fits P a.rules e inside) (subst (λ (q : Protocol). IsActOf q (act_of Q e)) (sym same.protocol) (edge_fits Q b.rules e also))
-      w.act (subst (λ (d : Direction). IsActOfLines n p d (act_of Q e)) (sym one) z.act) w.stands.means (subst (λ (d : Direction). MeansLink n p d (act_of Q e)) (sym one) z.stands.means) in
+      let one : w.d ≡ z.d = one_direction n w.d z.d w.stands.is_direction z.stands.is_direction (sym w.stands.link ∙ z.stands.link)
+          (sym w.stands.importer ∙ z.stands.importer) (sym w.stands.exporter ∙ z.stands.exporter)
+              (λ equal. apart (w.stands.importer ∙ equal ∙ sym w.stands.exporter)) in
+      let acts = one_written n p P.protocol w.d (act_of P e) (act_of Q e) (edge_fits P a.rules e inside)
+          (subst (λ (q : Protocol). IsActOf q (act_of Q e)) (sym same.protocol) (edge_fits Q b.rules e also))
+      w.act (subst (λ (d : Direction). IsActOfLines n p d (act_of Q e)) (sym one) z.act) w.stands.means
+          (subst (λ (d : Direction). MeansLink n p d (act_of Q e)) (sym one) z.stands.means) in
       ap (λ (m : ℕ). slice_index_or P.acts m (Cost 0)) (sym first.same) ∙ acts ∙ ap (λ (m : ℕ). slice_index_or Q.acts m (Cost 0)) first.same
 
   one_acts : P.acts ≡ Q.acts
   one_acts = ext_get_or (Cost 0) P.acts Q.acts one_count one_act
 
   abbrev with_parts : Protocol → List (List ℕ) → List ℕ → List (Option Route) → List Bool → List Act → List Edge → Problem
-  with_parts protocol names numbers init lone acts edges = record { protocol = protocol; names = names; numbers = numbers; init = init; lone = lone; acts = acts; edges = edges }
+  with_parts protocol names numbers init lone acts edges = record
+      { protocol = protocol; names = names; numbers = numbers; init = init; lone = lone; acts = acts; edges = edges }
 
   pub one_problem : P ≡ Q
   one_problem = λ j. with_parts (same.protocol j) (same.names j) (same.numbers j) (same.init j) (same.lone j) (one_acts j) (one_edges j)

@@ -29,7 +29,8 @@ beside : (P Q : Problem) (es fs : List Edge) → AllEdgesAlike P Q es fs → (k 
 beside P Q [] [] same k e at = absurd cc
 beside P Q [] (f ∷ fs) same k e at = absurd same
 beside P Q (d ∷ es) [] same k e at = absurd same
-beside P Q (d ∷ es) (f ∷ fs) same zero e at = let here : d ≡ e = cc in record { other = f; at = refl; alike = subst (λ (x : Edge). EdgesAlike P Q x f) here same.0 }
+beside P Q (d ∷ es) (f ∷ fs) same zero e at = let here : d ≡ e = cc in
+    record { other = f; at = refl; alike = subst (λ (x : Edge). EdgesAlike P Q x f) here same.0 }
 beside P Q (d ∷ es) (f ∷ fs) same (suc k) e at = let r = beside P Q es fs same.1 k e at in record { other = r.other; at = r.at; alike = r.alike }
 
 nowhere : Edge
@@ -71,13 +72,17 @@ module _ (P Q : Problem) (rules : IsProblem P) (same : ProblemsAlike P Q) (group
         alike = subst (λ (x : Edge). ActsAlike (act_of P goes.edge) (act_of Q x)) (sym is) b.alike.acts;
       }
 
-  one_act : (k j : ℕ) → GoesAt P.edges groups g h k → GoesAt P.edges groups g h j → ActsAlike (act_of Q (edge_at Q.edges k)) (act_of Q (edge_at Q.edges j)) → act_at P.edges k ≡ act_at P.edges j
+  one_act : (k j : ℕ) → GoesAt P.edges groups g h k → GoesAt P.edges groups g h j → ActsAlike (act_of Q (edge_at Q.edges k)) (act_of Q (edge_at Q.edges j))
+      → act_at P.edges k ≡ act_at P.edges j
   one_act k j goes_k goes_j alike =
       let x = both_at k goes_k in
       let y = both_at j goes_j in
-      let far = alike_trans (act_of P x.edge) (act_of Q (edge_at Q.edges k)) (act_of P y.edge) x.alike (alike_trans (act_of Q (edge_at Q.edges k)) (act_of Q (edge_at Q.edges j)) (act_of P y.edge) alike (alike_sym (act_of P y.edge) (act_of Q (edge_at Q.edges j)) y.alike)) in
+      let far = alike_trans (act_of P x.edge) (act_of Q (edge_at Q.edges k)) (act_of P y.edge) x.alike
+          (alike_trans (act_of Q (edge_at Q.edges k)) (act_of Q (edge_at Q.edges j)) (act_of P y.edge) alike
+              (alike_sym (act_of P y.edge) (act_of Q (edge_at Q.edges j)) y.alike)) in
       let inside = λ (m : ℕ) (e : Edge) (at : slice_get P.edges m ≡ Some e). (rules.edges.inside e (contains_in P.edges e (get_in P.edges m e at))).act_in in
-      (at_place P.edges groups k x.edge x.at).does ∙ rules.acts.differ x.edge.act y.edge.act (inside k x.edge x.at) (inside j y.edge y.at) far ∙ sym (at_place P.edges groups j y.edge y.at).does
+      (at_place P.edges groups k x.edge x.at).does ∙ rules.acts.differ x.edge.act y.edge.act (inside k x.edge x.at) (inside j y.edge y.at) far
+          ∙ sym (at_place P.edges groups j y.edge y.at).does
 
   own_acts : (ks : List ℕ) → ((k : ℕ) → In ks k → GoesAt P.edges groups g h k) → HaveOwnActs P.edges ks → ActDifferently Q (edges_at Q.edges ks)
   unfolding edges_at
@@ -85,21 +90,25 @@ module _ (P Q : Problem) (rules : IsProblem P) (same : ProblemsAlike P Q) (group
   own_acts (k ∷ ks) into own = (
     (λ other has alike. (
         let j = map_in (edge_at Q.edges) ks other (in_contains _ other has) in
-        own.0 j.0 j.1 (one_act k j.0 (into k (inl refl)) (into j.0 (inr j.1)) (subst (λ (x : Edge). ActsAlike (act_of Q (edge_at Q.edges k)) (act_of Q x)) (sym j.2) alike)))),
+        own.0 j.0 j.1 (one_act k j.0 (into k (inl refl)) (into j.0 (inr j.1))
+            (subst (λ (x : Edge). ActsAlike (act_of Q (edge_at Q.edges k)) (act_of Q x)) (sym j.2) alike)))),
     own_acts ks (λ j at. into j (inr at)) own.1,
   )
 
-  same_act : (k j : ℕ) (e f : Edge) → slice_get P.edges k ≡ Some e → slice_get P.edges j ≡ Some f → act_at P.edges j ≡ act_at P.edges k → act_of P e ≡ act_of P f
+  same_act : (k j : ℕ) (e f : Edge) → slice_get P.edges k ≡ Some e → slice_get P.edges j ≡ Some f → act_at P.edges j ≡ act_at P.edges k
+      → act_of P e ≡ act_of P f
   same_act k j e f at_k at_j one =
       let of_e = (at_place P.edges groups k e at_k).does in
       let of_f = (at_place P.edges groups j f at_j).does in
       ap (λ (act : ℕ). slice_index_or P.acts act (Cost 0)) (sym of_e ∙ (sym one ∙ of_f))
 
-  some_of_each : (edge : Edge) → IsEdgeInto Q groups g h edge → (j : ℕ) × In (acts_into P.edges groups g h) j × ActsAlike (act_of Q edge) (act_of Q (edge_at Q.edges j))
+  some_of_each : (edge : Edge) → IsEdgeInto Q groups g h edge → (j : ℕ) × In (acts_into P.edges groups g h) j
+      × ActsAlike (act_of Q edge) (act_of Q (edge_at Q.edges j))
   some_of_each edge is =
       let k = in_get Q.edges edge (in_contains Q.edges edge is.has) in
       let back = beside Q P Q.edges P.edges (turned P Q same).edges k.0 edge k.1 in
-      let goes : GoesAt P.edges groups g h k.0 = record { edge = back.other; at = back.at; importer = ap (slice_index groups) (sym back.alike.importer) ∙ is.importer; exporter = ap (slice_index groups) (sym back.alike.exporter) ∙ is.exporter } in
+      let goes : GoesAt P.edges groups g h k.0 = record { edge = back.other; at = back.at; importer = ap (slice_index groups) (sym back.alike.importer)
+          ∙ is.importer; exporter = ap (slice_index groups) (sym back.alike.exporter) ∙ is.exporter } in
       let are = acts_of_edges P.edges groups g h in
       let j = are.all k.0 goes in
       let y = both_at j.0 (are.into j.0 j.1) in
@@ -112,7 +121,8 @@ module _ (P Q : Problem) (rules : IsProblem P) (same : ProblemsAlike P Q) (group
       let ks = acts_into P.edges groups g h in
       let are = acts_of_edges P.edges groups g h in
       record {
-        into = λ edge has. (let k = map_in (edge_at Q.edges) ks edge (in_contains _ edge has) in subst (IsEdgeInto Q groups g h) k.2 (both_at k.0 (are.into k.0 k.1)).into);
+        into = λ edge has. (let k = map_in (edge_at Q.edges) ks edge (in_contains _ edge has) in
+            subst (IsEdgeInto Q groups g h) k.2 (both_at k.0 (are.into k.0 k.1)).into);
         differ = own_acts ks are.into are.own;
         all = λ edge is. (let j = some_of_each edge is in (edge_at Q.edges j.0, contains_in _ _ (in_map (edge_at Q.edges) ks j.0 j.1), j.2));
       }

@@ -46,11 +46,15 @@ pub record Given : Type 0 where
   pub members_back : MembersAreReadBack
   pub accepted : FaultlessIsAccepted
   pub quotient : QuotientIsQuotient
-  pub below : (problem less : Problem) (groups : List ℕ) (labels : List (Option Route)) → IsProblem problem → IsProblem less → IsAdmissible problem groups → IsQuotient problem groups less → IsStable problem labels → Below problem less groups labels
-  pub above : (problem less : Problem) (groups : List ℕ) (lower : List (Option Route)) → IsProblem problem → IsProblem less → IsAdmissible problem groups → IsQuotient problem groups less → IsStable less lower → Above problem less groups lower
-  pub alike : (network : Network) (prefix : Prefix) (first second : Problem) → IsProblemOf network prefix first → IsProblemOf network prefix second → ProblemsAlike first second
+  pub below : (problem less : Problem) (groups : List ℕ) (labels : List (Option Route)) → IsProblem problem → IsProblem less → IsAdmissible problem groups
+      → IsQuotient problem groups less → IsStable problem labels → Below problem less groups labels
+  pub above : (problem less : Problem) (groups : List ℕ) (lower : List (Option Route)) → IsProblem problem → IsProblem less → IsAdmissible problem groups
+      → IsQuotient problem groups less → IsStable less lower → Above problem less groups lower
+  pub alike : (network : Network) (prefix : Prefix) (first second : Problem) → IsProblemOf network prefix first → IsProblemOf network prefix second
+      → ProblemsAlike first second
   pub coarsest : (first second : Problem) (groups : List ℕ) → ProblemsAlike first second → IsCoarsest first groups → IsCoarsest second groups
-  pub quotients : (problem other less lower : Problem) (groups : List ℕ) → ProblemsAlike problem other → ProblemsAlike less lower → IsQuotient problem groups less → IsQuotient other groups lower
+  pub quotients : (problem other less lower : Problem) (groups : List ℕ) → ProblemsAlike problem other → ProblemsAlike less lower
+      → IsQuotient problem groups less → IsQuotient other groups lower
 
 accepted_text : (read : Network) (bytes : List ℕ) → network_of_text bytes ≡ Ok read → judged read ≡ Ok read → reading_of bytes ≡ Ok read
 unfolding reading_of
@@ -64,13 +68,15 @@ module _ (g : Given) (e : Plan) (plan : IsPlan e) (coarse : IsCoarsest e.problem
 
   -- links join two routers of the network read as they join two groups of the plan
   links_for : (read : Network) → bare read ≡ bare (emitted e) → (p : Prefix) → Contains e.class.prefixes p → length read.routers ≡ e.count
-      → (other : Problem) → IsProblemOf e.network p other → (low high : ℕ) → low < high → high < length read.routers → HasLinksForActs other e.groups read low high
+      → (other : Problem) → IsProblemOf e.network p other → (low high : ℕ) → low < high → high < length read.routers
+          → HasLinksForActs other e.groups read low high
   links_for read same p i many other o low high ordered inside =
       let below : high < e.count = subst (λ (n : ℕ). high < n) many inside in
       let first = plan.problem p i in
       let alike = g.alike e.network p e.problem other first o in
       let planned = ap (λ (ls : List Link). length (filter (joins low high) ls)) (g.planned_links e plan read same) ∙ as_many_as_planned e low high 0 e.links in
-      let joined = ap (λ (ls : List QLink). length (filter (joins_groups low high) ls)) plan.links ∙ as_many_as_acts e.problem.edges e.groups e.count low high ordered below in
+      let joined = ap (λ (ls : List QLink). length (filter (joins_groups low high) ls)) plan.links
+          ∙ as_many_as_acts e.problem.edges e.groups e.count low high ordered below in
       let into_low = acts_into e.problem.edges e.groups low high in
       let into_high = acts_into e.problem.edges e.groups high low in
       record {
@@ -81,13 +87,16 @@ module _ (g : Given) (e : Plan) (plan : IsPlan e) (coarse : IsCoarsest e.problem
         links = planned ∙ (joined ∙ sym (λ j. max (as_many_edges other.edges into_low j) (as_many_edges other.edges into_high j)));
       }
 
-  compressed_for : (read : Network) → bare read ≡ bare (emitted e) → length read.routers ≡ e.count → StandsForGroups e read → (p : Prefix) → Contains e.class.prefixes p → IsCompressedFor e.network read e.groups p
+  compressed_for : (read : Network) → bare read ≡ bare (emitted e) → length read.routers ≡ e.count → StandsForGroups e read → (p : Prefix)
+      → Contains e.class.prefixes p → IsCompressedFor e.network read e.groups p
   compressed_for read same many stands p i =
       let of = plan.problem p i in
       let of_read = stands.problem p i in
-      let coarsest : (other : Problem) → IsProblemOf e.network p other → IsCoarsest other e.groups = λ other o. g.coarsest e.problem other e.groups (g.alike e.network p e.problem other of o) coarse in
+      let coarsest : (other : Problem) → IsProblemOf e.network p other → IsCoarsest other e.groups = λ other o.
+          g.coarsest e.problem other e.groups (g.alike e.network p e.problem other of o) coarse in
       let quotient : (other lower : Problem) → IsProblemOf e.network p other → IsProblemOf read p lower → IsQuotient other e.groups lower =
-      λ other lower o l. g.quotients e.problem other (small e) lower e.groups (g.alike e.network p e.problem other of o) (g.alike read p (small e) lower of_read l) (is_small p i) in
+      λ other lower o l. g.quotients e.problem other (small e) lower e.groups (g.alike e.network p e.problem other of o)
+          (g.alike read p (small e) lower of_read l) (is_small p i) in
       record {
         problem = e.problem;
         small = small e;
@@ -104,7 +113,8 @@ module _ (g : Given) (e : Plan) (plan : IsPlan e) (coarse : IsCoarsest e.problem
 
   as_many : (read : Network) → bare read ≡ bare (emitted e) → length read.routers ≡ e.count
   unfolding emitted
-  as_many read same = sym (length-map read.routers bare_router) ∙ ap (λ (n : Network). length n.routers) same ∙ length-map (map (emitted_router e) (range_with_len 0 e.count)) bare_router ∙ length-map-range_with_len (emitted_router e) 0 e.count
+  as_many read same = sym (length-map read.routers bare_router) ∙ ap (λ (n : Network). length n.routers) same
+      ∙ length-map (map (emitted_router e) (range_with_len 0 e.count)) bare_router ∙ length-map-range_with_len (emitted_router e) 0 e.count
 
   pub compresses : HasFewLines (emitted e) (notes_of e) → length (compressed_text e) ≤ 16777216 → Compresses e.network e.class (compressed_text e)
   compresses few short =
@@ -130,9 +140,11 @@ module _ (g : Given) (e : Plan) (plan : IsPlan e) (coarse : IsCoarsest e.problem
       }
 
 -- the text of a plan, whatever admissible groups it has
-pub has_problem : EmittedCanBePrinted → EmittedStandsForGroups → PrintedIsReadBack → FaultlessIsAccepted → (e : Plan) → IsPlan e → HasFewLines (emitted e) (notes_of e) → HasProblemOfGroups e
+pub has_problem : EmittedCanBePrinted → EmittedStandsForGroups → PrintedIsReadBack → FaultlessIsAccepted → (e : Plan) → IsPlan e
+    → HasFewLines (emitted e) (notes_of e) → HasProblemOfGroups e
 has_problem printed stands_for back accepted e plan few =
     let can = printed e plan in
     let again = back (emitted e) (notes_of e) can.well_formed can.notes few can.short in
     let stands = stands_for e plan again.read again.same in
-    record { read = again.read; reads = accepted_text again.read (compressed_text e) again.reads (accepted again.read stands.faultless); problem = stands.problem }
+    record { read = again.read; reads = accepted_text again.read (compressed_text e) again.reads (accepted again.read stands.faultless); problem =
+        stands.problem }

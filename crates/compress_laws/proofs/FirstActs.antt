@@ -56,13 +56,15 @@ module _ (es : List Edge) (seen : List ℕ) (k : ℕ) (ks : List ℕ) where
     ];
   }
 
-  found : (m : ℕ) (firsts : List ℕ) → AreFirst es (act_at es k ∷ seen) ks firsts → In ks m → is_seen es seen m ≡ false → (b : Bool) → nat_eq (act_at es m) (act_at es k) ≡ b → (j : ℕ) × In (k ∷ firsts) j × (act_at es j ≡ act_at es m)
+  found : (m : ℕ) (firsts : List ℕ) → AreFirst es (act_at es k ∷ seen) ks firsts → In ks m → is_seen es seen m ≡ false → (b : Bool)
+      → nat_eq (act_at es m) (act_at es k) ≡ b → (j : ℕ) × In (k ∷ firsts) j × (act_at es j ≡ act_at es m)
   found m firsts are at new true e = (k, inl refl, equal_by (act_at es m) (act_at es k) e)
   found m firsts are at new false e = let r = are.all m at (both_no (nat_eq (act_at es m) (act_at es k)) (is_seen es seen m) e new) in (r.0, inr r.1, r.2)
 
   taken : is_seen es seen k ≡ false → (firsts : List ℕ) → AreFirst es (act_at es k ∷ seen) ks firsts → AreFirst es seen (k ∷ ks) (k ∷ firsts)
   taken fresh firsts are =
-      let parts : (m : ℕ) → In firsts m → (nat_eq (act_at es m) (act_at es k) ≡ false) × (is_seen es seen m ≡ false) = λ m at. neither (nat_eq (act_at es m) (act_at es k)) (is_seen es seen m) (are.new m at) in
+      let parts : (m : ℕ) → In firsts m → (nat_eq (act_at es m) (act_at es k) ≡ false) × (is_seen es seen m ≡ false) = λ m at.
+          neither (nat_eq (act_at es m) (act_at es k)) (is_seen es seen m) (are.new m at) in
       record {
         of = λ m at. elim at [ inl here ↦ inl here | inr there ↦ inr (are.of m there) ];
         new = λ m at. elim at [ inl here ↦ sym (ap (is_seen es seen) here) ∙ fresh | inr there ↦ (parts m there).1 ];
@@ -73,13 +75,15 @@ module _ (es : List Edge) (seen : List ℕ) (k : ℕ) (ks : List ℕ) where
         ];
       }
 
-  either : (b : Bool) → is_seen es seen k ≡ b → (skip take : List ℕ) → AreFirst es seen ks skip → AreFirst es (act_at es k ∷ seen) ks take → AreFirst es seen (k ∷ ks) (cond b skip (k ∷ take))
+  either : (b : Bool) → is_seen es seen k ≡ b → (skip take : List ℕ) → AreFirst es seen ks skip → AreFirst es (act_at es k ∷ seen) ks take
+      → AreFirst es seen (k ∷ ks) (cond b skip (k ∷ take))
   either true met skip take over more = passed_over met skip over
   either false met skip take over more = taken met take more
 
 are_first : (es : List Edge) (seen ks : List ℕ) → AreFirst es seen ks (first_acts es seen ks)
 are_first es seen [] = record { of = λ k at. at; new = λ k at. absurd at; own = tt; all = λ k at new. absurd at }
-are_first es seen (k ∷ ks) = either es seen k ks (is_seen es seen k) refl (first_acts es seen ks) (first_acts es (act_at es k ∷ seen) ks) (are_first es seen ks) (are_first es (act_at es k ∷ seen) ks)
+are_first es seen (k ∷ ks) = either es seen k ks (is_seen es seen k) refl (first_acts es seen ks) (first_acts es (act_at es k ∷ seen) ks) (are_first es seen ks)
+    (are_first es (act_at es k ∷ seen) ks)
 
 -- ---- the edges of two groups
 
@@ -99,7 +103,8 @@ unfolding by_link
 stands es k edge at =
     in_flat_map (on_link es) (range_with_len 0 (link_bound es)) edge.link k
     (from_zero (link_bound es) edge.link (link_below es 0 edge (get_in es k edge at)))
-    (in_filter (λ j. nat_eq (link_at es j) edge.link) (range_with_len 0 (length es)) k (from_zero (length es) k (slice_get_within es k edge at)) (eq-eqb _ _ (at_place es [] k edge at).link))
+    (in_filter (λ j. nat_eq (link_at es j) edge.link) (range_with_len 0 (length es)) k (from_zero (length es) k (slice_get_within es k edge at))
+        (eq-eqb _ _ (at_place es [] k edge at).link))
 
 both_tests : (a b : Bool) → a ≡ true → b ≡ true → (a && b) ≡ true
 both_tests true b e f = f
@@ -135,6 +140,7 @@ acts_of_edges es groups g h =
       own = first.own;
       all = λ k goes_at. (
           let place = at_place es groups k goes_at.edge goes_at.at in
-          let test = both_tests _ _ (eq-eqb (importer_at es groups k) g (place.importer ∙ goes_at.importer)) (eq-eqb (exporter_at es groups k) h (place.exporter ∙ goes_at.exporter)) in
+          let test = both_tests _ _ (eq-eqb (importer_at es groups k) g (place.importer ∙ goes_at.importer))
+              (eq-eqb (exporter_at es groups k) h (place.exporter ∙ goes_at.exporter)) in
           first.all k (in_filter (goes es groups g h) (by_link es) k (stands es k goes_at.edge goes_at.at) test) refl);
     }

@@ -13,9 +13,11 @@ use Rattle.compress_laws.specs.Compressed.{names_of_groups, name_of_router, name
 
 pub names_noted : (e : Plan) (p : Prefix) → IsProblemOf e.network p e.problem → (notes_of e).members ≡ names_of_groups e.network e.groups e.count
 unfolding notes_of
-names_noted e p of = ap (λ (names : List (List ℕ)). map (λ (g : ℕ). map (λ (u : ℕ). slice_index_or names u []) (members_of e.groups g)) (range_with_len 0 e.count)) of.names
+names_noted e p of = ap (λ (names : List (List ℕ)). map (λ (g : ℕ). map (λ (u : ℕ). slice_index_or names u []) (members_of e.groups g))
+    (range_with_len 0 e.count)) of.names
 
-pub names_read : (e : Plan) (p : Prefix) (read : Network) → IsProblemOf e.network p e.problem → IsProblemOf read p (small e) → map name_of_router read.routers ≡ names_of_first_members e.network e.groups e.count
+pub names_read : (e : Plan) (p : Prefix) (read : Network) → IsProblemOf e.network p e.problem → IsProblemOf read p (small e)
+    → map name_of_router read.routers ≡ names_of_first_members e.network e.groups e.count
 unfolding quotient_problem
 names_read e p read of of_read =
     sym of_read.names ∙ ap (λ (names : List (List ℕ)). map (λ (g : ℕ). slice_index_or names (first_member e.groups g) []) (range_with_len 0 e.count)) of.names

@@ -106,7 +106,8 @@ pub record IsNumbered (maps more : List Plain) (m : Plain) (k : ℕ) : Type 0 wh
   pub grown : more ≡ with_map m maps
   pub number : k ≡ place_of_map more m
 
-pub known : (maps : List Plain) (m : Plain) (key : Vec EntryKey) (k : ℕ) → shown key ≡ said_of_map m → place_from (says key) 0 maps ≡ Some k → IsNumbered maps maps m k
+pub known : (maps : List Plain) (m : Plain) (key : Vec EntryKey) (k : ℕ) → shown key ≡ said_of_map m → place_from (says key) 0 maps ≡ Some k
+    → IsNumbered maps maps m k
 known maps m key k is there =
     let at = placed (same_map m) 0 maps k (sym (place_ext (says key) (same_map m) 0 maps (λ n. says_same key m n is)) ∙ there) in
     record {

@@ -14,7 +14,8 @@ use Rattle.cut_certificate.specs.Evenness.{is_matched, is_matched_if_own, is_mir
 use Rattle.cut_certificate.proofs.Seen.{same_test, other_test, test_same, at_place, place_below, distinct_has, or_true}
 use Rattle.cut_certificate.proofs.Reached.{reaches_by, reaches_if, and_first, and_second, both}
 
-matched_by : (edges : List Edge) (numbers : List ℕ) (u v : ℕ) (edge : Edge) → is_matched_if_own edges numbers u v edge ≡ true → edge.importer ≡ u → slice_index numbers edge.exporter ≢ slice_index numbers u → reaches edges numbers (slice_index numbers edge.exporter) edge.act v ≡ true
+matched_by : (edges : List Edge) (numbers : List ℕ) (u v : ℕ) (edge : Edge) → is_matched_if_own edges numbers u v edge ≡ true → edge.importer ≡ u
+    → slice_index numbers edge.exporter ≢ slice_index numbers u → reaches edges numbers (slice_index numbers edge.exporter) edge.act v ≡ true
 matched_by edges numbers u v edge e importer leaves =
     let own : nat_eq edge.importer u ≡ true = same_test _ _ importer in
     let out : nat_eq (slice_index numbers edge.exporter) (slice_index numbers u) ≡ false = other_test _ _ leaves in
@@ -30,22 +31,26 @@ mirrored_by edges numbers u v e k d inside = record {
       (l.place, l.edge, l.inside, l.at, (l.importer, l.acts, l.into));
 }
 
-matched_if : (edges : List Edge) (numbers : List ℕ) (u v : ℕ) (edge : Edge) → HasTwinIfOutgoing edges numbers u v edge → is_matched_if_own edges numbers u v edge ≡ true
+matched_if : (edges : List Edge) (numbers : List ℕ) (u v : ℕ) (edge : Edge) → HasTwinIfOutgoing edges numbers u v edge
+    → is_matched_if_own edges numbers u v edge ≡ true
 matched_if edges numbers u v edge has = elim (cases_eq edge.importer u) [
   | inl importer ↦ elim (cases_eq (slice_index numbers edge.exporter) (slice_index numbers u)) [
-    | inl stays ↦ ap (λ b. not (nat_eq edge.importer u) || (b || reaches edges numbers (slice_index numbers edge.exporter) edge.act v)) (same_test _ _ stays) ∙ or_true (not (nat_eq edge.importer u))
+    | inl stays ↦ ap (λ b. not (nat_eq edge.importer u) || (b || reaches edges numbers (slice_index numbers edge.exporter) edge.act v)) (same_test _ _ stays)
+        ∙ or_true (not (nat_eq edge.importer u))
     | inr leaves ↦
         let (k, twin, inside, at, facts) = has.twin importer leaves in
         let r = reaches_if edges numbers (slice_index numbers edge.exporter) edge.act v (k, twin, inside, at, facts) in
         ap (λ b. not (nat_eq edge.importer u) || (nat_eq (slice_index numbers edge.exporter) (slice_index numbers u) || b)) r
-        ∙ ap (λ b. not (nat_eq edge.importer u) || b) (or_true (nat_eq (slice_index numbers edge.exporter) (slice_index numbers u))) ∙ or_true (not (nat_eq edge.importer u))
+        ∙ ap (λ b. not (nat_eq edge.importer u) || b) (or_true (nat_eq (slice_index numbers edge.exporter) (slice_index numbers u)))
+            ∙ or_true (not (nat_eq edge.importer u))
   ]
   | inr other ↦ ap (λ a. not a || is_matched edges numbers u v edge) (other_test _ _ other)
 ]
 
 pub mirrored_if : (edges : List Edge) (numbers : List ℕ) (u v : ℕ) → IsMirroredAt edges numbers u v → is_mirrored edges numbers u v ≡ true
 unfolding is_mirrored IsMirroredAt
-mirrored_if edges numbers u v mirrored = list_all-from_AllPass (is_matched_if_own edges numbers u v) edges (λ k d inside. matched_if edges numbers u v (slice_index_or edges k d) (mirrored k d inside))
+mirrored_if edges numbers u v mirrored = list_all-from_AllPass (is_matched_if_own edges numbers u v) edges
+    (λ k d inside. matched_if edges numbers u v (slice_index_or edges k d) (mirrored k d inside))
 
 -- ---- lists
 
@@ -71,7 +76,8 @@ range_in a (suc n) u (inl e) = (omega arith, omega arith)
 range_in a (suc n) u (inr h) = let r = range_in (a + 1) n u h in (omega (arith, r.0), omega (arith, r.1))
 
 pub is_member : (numbers : List ℕ) (block u : ℕ) → u < length numbers → slice_index numbers u ≡ block → In (members_of numbers block) u
-is_member numbers block u hu is = in_filter (λ router. nat_eq (slice_index numbers router) block) (range_with_len 0 (length numbers)) u (in_range 0 (length numbers) u (omega arith) (omega arith)) (same_test _ _ is)
+is_member numbers block u hu is = in_filter (λ router. nat_eq (slice_index numbers router) block) (range_with_len 0 (length numbers)) u
+    (in_range 0 (length numbers) u (omega arith) (omega arith)) (same_test _ _ is)
 
 member_is : (numbers : List ℕ) (block u : ℕ) → In (members_of numbers block) u → (u < length numbers) × (slice_index numbers u ≡ block)
 member_is numbers block u h =
@@ -83,8 +89,11 @@ own_group : (numbers : List ℕ) (u : ℕ) → u < length numbers → In (groups
 unfolding groups_of
 own_group numbers u hu =
     let has = distinct_has numbers u hu in
-    in_map (members_of numbers) (distinct numbers) (slice_index numbers u) (in_at (distinct numbers) (slice_index numbers u) (place_among (distinct numbers) (slice_index numbers u)) (place_below (distinct numbers) (slice_index numbers u) has)
-    (any_default (distinct numbers) (place_among (distinct numbers) (slice_index numbers u)) (slice_index numbers u) 0 (place_below (distinct numbers) (slice_index numbers u) has) ∙ at_place (distinct numbers) (slice_index numbers u) has))
+    in_map (members_of numbers) (distinct numbers) (slice_index numbers u)
+        (in_at (distinct numbers) (slice_index numbers u) (place_among (distinct numbers) (slice_index numbers u))
+            (place_below (distinct numbers) (slice_index numbers u) has)
+    (any_default (distinct numbers) (place_among (distinct numbers) (slice_index numbers u)) (slice_index numbers u) 0
+        (place_below (distinct numbers) (slice_index numbers u) has) ∙ at_place (distinct numbers) (slice_index numbers u) has))
   where
     any_default : (xs : List ℕ) (j d e : ℕ) → j < length xs → get_or xs j d ≡ get_or xs j e
     any_default [] j d e lt = absurd (omega arith)
@@ -94,19 +103,23 @@ own_group numbers u hu =
 -- ---- even blocks
 
 -- a member and the first one
-even_with_first : (edges : List Edge) (numbers : List ℕ) (group : List ℕ) → is_even edges numbers group ≡ true → (u : ℕ) → In group u → (first : ℕ) × In group first × IsMirroredAt edges numbers u first × IsMirroredAt edges numbers first u × ((v : ℕ) → In group v → IsMirroredAt edges numbers first v)
+even_with_first : (edges : List Edge) (numbers : List ℕ) (group : List ℕ) → is_even edges numbers group ≡ true → (u : ℕ) → In group u → (first : ℕ)
+    × In group first × IsMirroredAt edges numbers u first × IsMirroredAt edges numbers first u × ((v : ℕ) → In group v → IsMirroredAt edges numbers first v)
 even_with_first edges numbers [] e u h = absurd h
 even_with_first edges numbers (first ∷ members) e u h = (first, inl refl, to u h, from u h, from)
   where
     to : (v : ℕ) → In (first ∷ members) v → IsMirroredAt edges numbers v first
     to v (inl same) = subst (λ w. IsMirroredAt edges numbers w first) same (mirrored_refl edges numbers first)
-    to v (inr h) = mirrored_by edges numbers v first (and_second (is_mirrored edges numbers first v) (is_mirrored edges numbers v first) (all_in (mirror_each_other edges numbers first) members e v h))
+    to v (inr h) = mirrored_by edges numbers v first (and_second (is_mirrored edges numbers first v) (is_mirrored edges numbers v first)
+        (all_in (mirror_each_other edges numbers first) members e v h))
 
     from : (v : ℕ) → In (first ∷ members) v → IsMirroredAt edges numbers first v
     from v (inl same) = subst (IsMirroredAt edges numbers first) same (mirrored_refl edges numbers first)
-    from v (inr h) = mirrored_by edges numbers first v (and_first (is_mirrored edges numbers first v) (is_mirrored edges numbers v first) (all_in (mirror_each_other edges numbers first) members e v h))
+    from v (inr h) = mirrored_by edges numbers first v (and_first (is_mirrored edges numbers first v) (is_mirrored edges numbers v first)
+        (all_in (mirror_each_other edges numbers first) members e v h))
 
-pub even_mirrors : (edges : List Edge) (numbers : List ℕ) → are_even edges numbers ≡ true → (u v : ℕ) → u < length numbers → v < length numbers → slice_index numbers u ≡ slice_index numbers v → IsMirroredAt edges numbers u v
+pub even_mirrors : (edges : List Edge) (numbers : List ℕ) → are_even edges numbers ≡ true → (u v : ℕ) → u < length numbers → v < length numbers
+    → slice_index numbers u ≡ slice_index numbers v → IsMirroredAt edges numbers u v
 unfolding are_even
 even_mirrors edges numbers e u v hu hv same =
     let block = slice_index numbers u in
@@ -116,7 +129,8 @@ even_mirrors edges numbers e u v hu hv same =
     let (first, own, to, from, all) = even_with_first edges numbers group even u member in
     mirrored_trans edges numbers u first v (sym (member_is numbers block first own).1) to (all v (is_member numbers block v hv (sym same)))
 
-pub even_admissible : (graph : ActGraph) (numbers : List ℕ) → length numbers ≡ graph.count → ((u v : ℕ) → u < graph.count → v < graph.count → slice_index numbers u ≡ slice_index numbers v → color graph u ≡ color graph v)
+pub even_admissible : (graph : ActGraph) (numbers : List ℕ) → length numbers ≡ graph.count
+    → ((u v : ℕ) → u < graph.count → v < graph.count → slice_index numbers u ≡ slice_index numbers v → color graph u ≡ color graph v)
     → are_even graph.edges numbers ≡ true → IsAdmissibleOn graph numbers
 even_admissible graph numbers total colors e = record {
   total = total;
@@ -124,9 +138,11 @@ even_admissible graph numbers total colors e = record {
   edges = λ u v hu hv same. even_mirrors graph.edges numbers e u v (omega arith) (omega arith) same;
 }
 
-mirrors_even : (edges : List Edge) (numbers : List ℕ) (group : List ℕ) → ((u v : ℕ) → In group u → In group v → is_mirrored edges numbers u v ≡ true) → is_even edges numbers group ≡ true
+mirrors_even : (edges : List Edge) (numbers : List ℕ) (group : List ℕ) → ((u v : ℕ) → In group u → In group v → is_mirrored edges numbers u v ≡ true)
+    → is_even edges numbers group ≡ true
 mirrors_even edges numbers [] each = refl
-mirrors_even edges numbers (first ∷ members) each = in_all (mirror_each_other edges numbers first) members (λ u h. both _ _ (each first u (inl refl) (inr h)) (each u first (inr h) (inl refl)))
+mirrors_even edges numbers (first ∷ members) each = in_all (mirror_each_other edges numbers first) members
+    (λ u h. both _ _ (each first u (inl refl) (inr h)) (each u first (inr h) (inl refl)))
 
 pub admissible_even : (graph : ActGraph) (numbers : List ℕ) → IsAdmissibleOn graph numbers → are_even graph.edges numbers ≡ true
 unfolding are_even groups_of

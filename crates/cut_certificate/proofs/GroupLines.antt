@@ -9,15 +9,18 @@ use Rattle.cut_certificate.specs.Forms.CertificateLine.{Group}
 use Rattle.cut_certificate.specs.Texts.{Standing, with_saying, with_line}
 
 -- it needs no edges
-no_edges : (edges : List Edge) (routers : List ℕ → Option ℕ) (s : Standing) (words : List (List ℕ)) → with_saying edges routers s (group_form words) ≡ with_saying [] routers s (group_form words)
+no_edges : (edges : List Edge) (routers : List ℕ → Option ℕ) (s : Standing) (words : List (List ℕ))
+    → with_saying edges routers s (group_form words) ≡ with_saying [] routers s (group_form words)
 no_edges edges routers s [] = refl
 no_edges edges routers s (name ∷ names) = by (list_all is_router_name (name ∷ names))
   where
-    by : (b : Bool) → with_saying edges routers s (cond b (Some (Group (name ∷ names))) None) ≡ with_saying [] routers s (cond b (Some (Group (name ∷ names))) None)
+    by : (b : Bool) → with_saying edges routers s (cond b (Some (Group (name ∷ names))) None)
+        ≡ with_saying [] routers s (cond b (Some (Group (name ∷ names))) None)
     by true = refl
     by false = refl
 
-pub group_line : (edges : List Edge) (routers : List ℕ → Option ℕ) (s : Standing) (line : List (List ℕ)) (word : List ℕ) (words : List (List ℕ)) → line ≡ word ∷ words → bytes_eq word (codes "bonsai") ≡ false → bytes_eq word (codes "split") ≡ false → bytes_eq word (codes "group") ≡ true
+pub group_line : (edges : List Edge) (routers : List ℕ → Option ℕ) (s : Standing) (line : List (List ℕ)) (word : List ℕ) (words : List (List ℕ))
+    → line ≡ word ∷ words → bytes_eq word (codes "bonsai") ≡ false → bytes_eq word (codes "split") ≡ false → bytes_eq word (codes "group") ≡ true
     → with_line edges routers s line ≡ with_saying [] routers s (group_form words)
 unfolding certificate_line_of
 group_line edges routers s line word words is head split group = rw (is, head, split, group) (no_edges edges routers s words)

@@ -18,15 +18,18 @@ range_more a zero j e = ap (λ i. i ∷ []) (omega arith)
 range_more a (suc n) j e = ap (λ (xs : List ℕ). a ∷ xs) (range_more (a + 1) n j (omega arith))
 
 -- one more router among the first
-members_next : (numbers : List ℕ) (count block : ℕ) → members_among (count + 1) numbers block ≡ members_among count numbers block ++ cond (nat_eq (slice_index numbers count) block) (count ∷ []) []
+members_next : (numbers : List ℕ) (count block : ℕ) → members_among (count + 1) numbers block ≡ members_among count numbers block
+    ++ cond (nat_eq (slice_index numbers count) block) (count ∷ []) []
 members_next numbers count block =
     let p : ℕ → Bool = λ router. slice_index numbers router == block in
-    ap (λ n. filter p (range_with_len 0 n)) (add-one count) ∙ ap (filter p) (range_more 0 count count (omega arith)) ∙ filter-append p (range_with_len 0 count) (count ∷ [])
+    ap (λ n. filter p (range_with_len 0 n)) (add-one count) ∙ ap (filter p) (range_more 0 count count (omega arith))
+        ∙ filter-append p (range_with_len 0 count) (count ∷ [])
 
 pub members_none : (numbers : List ℕ) (groups : List (List ℕ)) → All (λ l. l ≡ []) groups → AreMembers 0 numbers groups
 members_none numbers groups empty = record { each = λ k d inside. empty k d inside }
 
-pub members_more : (numbers : List ℕ) (groups : List (List ℕ)) (router number : ℕ) (old new : List ℕ) → AreMembers router numbers groups → slice_index numbers router ≡ number → 0 < number → number ≤ length groups
+pub members_more : (numbers : List ℕ) (groups : List (List ℕ)) (router number : ℕ) (old new : List ℕ) → AreMembers router numbers groups
+    → slice_index numbers router ≡ number → 0 < number → number ≤ length groups
     → old ≡ slice_index_or groups (number - 1) old → new ≡ old ++ router ∷ [] → AreMembers (router + 1) numbers (slice_set groups (number - 1) new)
 members_more numbers groups router number old new before is some few read pushed = record {
   each = λ k d within.
@@ -34,15 +37,19 @@ members_more numbers groups router number old new before is some few read pushed
       let within' : k < length groups = omega (arith, length-set groups (number - 1) new) in
       elim (cases_eq k (number - 1)) [
         | inl e ↦
-            let here : slice_index_or (slice_set groups (number - 1) new) k d ≡ new = ap (λ b. slice_index_or (slice_set groups (number - 1) new) b d) e ∙ get_or-set_same groups (number - 1) new d inside in
+            let here : slice_index_or (slice_set groups (number - 1) new) k d ≡ new = ap (λ b. slice_index_or (slice_set groups (number - 1) new) b d) e
+                ∙ get_or-set_same groups (number - 1) new d inside in
             let block : number - 1 + 1 ≡ k + 1 = omega arith in
             let was : old ≡ members_among router numbers (k + 1) = read ∙ before.each (number - 1) old inside ∙ ap (members_among router numbers) block in
             let test : nat_eq (slice_index numbers router) (k + 1) ≡ true = same_test _ _ (is ∙ omega arith) in
-            here ∙ pushed ∙ ap (λ (xs : List ℕ). xs ++ router ∷ []) was ∙ sym (members_next numbers router (k + 1) ∙ ap (λ t. members_among router numbers (k + 1) ++ cond t (router ∷ []) []) test)
+            here ∙ pushed ∙ ap (λ (xs : List ℕ). xs ++ router ∷ []) was
+                ∙ sym (members_next numbers router (k + 1) ∙ ap (λ t. members_among router numbers (k + 1) ++ cond t (router ∷ []) []) test)
         | inr ne ↦
             let there : slice_index_or (slice_set groups (number - 1) new) k d ≡ slice_index_or groups k d = get_or-set_other groups (number - 1) k new d ne in
-            let test : nat_eq (slice_index numbers router) (k + 1) ≡ false = other_test _ _ (λ same. ne (let e : number ≡ k + 1 = sym is ∙ same in omega arith)) in
-            there ∙ before.each k d within' ∙ sym (members_next numbers router (k + 1) ∙ ap (λ t. members_among router numbers (k + 1) ++ cond t (router ∷ []) []) test ∙ append-nil _)
+            let test : nat_eq (slice_index numbers router) (k + 1) ≡ false =
+                other_test _ _ (λ same. ne (let e : number ≡ k + 1 = sym is ∙ same in omega arith)) in
+            there ∙ before.each k d within' ∙ sym (members_next numbers router (k + 1)
+                ∙ ap (λ t. members_among router numbers (k + 1) ++ cond t (router ∷ []) []) test ∙ append-nil _)
       ];
 }
 
@@ -52,9 +59,11 @@ filter_same p q a (suc n) same =
     ap (λ b. cond b (a ∷ filter p (range_with_len (a + 1) n)) (filter p (range_with_len (a + 1) n))) (same a (omega arith) (omega arith))
     ∙ ap (λ (xs : List ℕ). cond (q a) (a ∷ xs) xs) (filter_same p q (a + 1) n (λ u low high. same u (omega arith) (omega arith)))
 
-pub groups_are : (numbers : List ℕ) (groups : List (List ℕ)) → AreMembers (length numbers) (map (number_among numbers) numbers) groups → length groups ≡ length (distinct numbers) → groups ≡ groups_of numbers
+pub groups_are : (numbers : List ℕ) (groups : List (List ℕ)) → AreMembers (length numbers) (map (number_among numbers) numbers) groups
+    → length groups ≡ length (distinct numbers) → groups ≡ groups_of numbers
 unfolding groups_of
-groups_are numbers groups are total = ext_get_or [] groups (map (members_of numbers) (distinct numbers)) (total ∙ sym (map_long (members_of numbers) (distinct numbers)))
+groups_are numbers groups are total = ext_get_or [] groups (map (members_of numbers) (distinct numbers))
+    (total ∙ sym (map_long (members_of numbers) (distinct numbers)))
     (λ k inside.
     let h : k < length (distinct numbers) = omega arith in
     are.each k [] inside ∙ members_same k h ∙ sym (map_to (distinct numbers) k h))
@@ -68,7 +77,8 @@ groups_are numbers groups are total = ext_get_or [] groups (map (members_of numb
     map_to (x ∷ xs) (suc k) lt = map_to xs k (omega arith)
 
     members_same : (k : ℕ) → k < length (distinct numbers) → members_among (length numbers) places (k + 1) ≡ members_of numbers (get_or (distinct numbers) k 0)
-    members_same k h = filter_same (λ u. slice_index places u == k + 1) (λ u. slice_index numbers u == get_or (distinct numbers) k 0) 0 (length numbers) (λ u low high.
+    members_same k h = filter_same (λ u. slice_index places u == k + 1) (λ u. slice_index numbers u == get_or (distinct numbers) k 0) 0 (length numbers)
+        (λ u low high.
         let inside : u < length numbers = omega arith in
         let n = get_or numbers u 0 in
         let at : slice_index places u ≡ place_among (distinct numbers) n + 1 = map_at (number_among numbers) numbers u inside in
@@ -77,7 +87,9 @@ groups_are numbers groups are total = ext_get_or [] groups (map (members_of numb
               let place : place_among (distinct numbers) n ≡ k = ap (place_among (distinct numbers)) e ∙ distinct_own numbers k h in
               same_test _ _ (at ∙ ap (λ p. p + 1) place) ∙ sym (same_test _ _ e)
           | inr ne ↦
-              let apart : slice_index places u ≢ k + 1 = λ e. ne (sym (at_place (distinct numbers) n (distinct_has numbers u inside)) ∙ ap (λ j. get_or (distinct numbers) j 0) (let place : place_among (distinct numbers) n ≡ k = omega arith in place)) in
+              let apart : slice_index places u ≢ k + 1 = λ e.
+                  ne (sym (at_place (distinct numbers) n (distinct_has numbers u inside))
+                      ∙ ap (λ j. get_or (distinct numbers) j 0) (let place : place_among (distinct numbers) n ≡ k = omega arith in place)) in
               other_test _ _ apart ∙ sym (other_test _ _ ne)
         ])
 

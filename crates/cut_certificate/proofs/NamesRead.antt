@@ -15,10 +15,12 @@ behind_first : (first : List ℕ) (u : ℕ) (rest : Option (List ℕ)) → behin
 behind_first first u None = refl
 behind_first first u (Some more) = ap (λ (xs : List ℕ). Some xs) (sym (append_assoc first (u ∷ []) more))
 
-pub one_named : (routers : List ℕ → Option ℕ) (first : List ℕ) (u : ℕ) (name : List ℕ) (words : List (List ℕ)) → routers name ≡ Some u → behind first (routers_named routers (name ∷ words)) ≡ behind (first ++ u ∷ []) (routers_named routers words)
+pub one_named : (routers : List ℕ → Option ℕ) (first : List ℕ) (u : ℕ) (name : List ℕ) (words : List (List ℕ)) → routers name ≡ Some u
+    → behind first (routers_named routers (name ∷ words)) ≡ behind (first ++ u ∷ []) (routers_named routers words)
 one_named routers first u name words is = rw is (behind_first first u (routers_named routers words))
 
-pub none_named : (routers : List ℕ → Option ℕ) (first : List ℕ) (name : List ℕ) (words : List (List ℕ)) → routers name ≡ None → behind first (routers_named routers (name ∷ words)) ≡ None
+pub none_named : (routers : List ℕ → Option ℕ) (first : List ℕ) (name : List ℕ) (words : List (List ℕ)) → routers name ≡ None
+    → behind first (routers_named routers (name ∷ words)) ≡ None
 none_named routers first name words is = rw is refl
 
 pub all_named : (routers : List ℕ → Option ℕ) (first : List ℕ) (words : List (List ℕ)) → words ≡ [] → behind first (routers_named routers words) ≡ Some first

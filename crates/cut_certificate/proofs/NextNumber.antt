@@ -35,10 +35,12 @@ so_far_other : (seen : List ℕ) (key q : ℕ) → q ≢ key → so_far (seen ++
 so_far_other seen key q ne = by (has seen q) refl
   where
     none_more : (seen : List ℕ) → has seen q ≡ false → has (seen ++ key ∷ []) q ≡ false
-    none_more seen e = list_any-append (λ other. nat_eq other q) seen (key ∷ []) ∙ ap (λ b. b || has (key ∷ []) q) e ∙ ap (λ b. b || false) (other_test key q (λ same. ne (sym same)))
+    none_more seen e = list_any-append (λ other. nat_eq other q) seen (key ∷ []) ∙ ap (λ b. b || has (key ∷ []) q) e
+        ∙ ap (λ b. b || false) (other_test key q (λ same. ne (sym same)))
 
     by : (b : Bool) → has seen q ≡ b → so_far (seen ++ key ∷ []) q ≡ so_far seen q
-    by true e = so_far_old (seen ++ key ∷ []) q (has_left seen (key ∷ []) q e) ∙ ap (λ k. Some (k + 1)) (place_left seen (key ∷ []) q e) ∙ sym (so_far_old seen q e)
+    by true e = so_far_old (seen ++ key ∷ []) q (has_left seen (key ∷ []) q e) ∙ ap (λ k. Some (k + 1)) (place_left seen (key ∷ []) q e)
+        ∙ sym (so_far_old seen q e)
     by false e = so_far_new (seen ++ key ∷ []) q (none_more seen e) ∙ sym (so_far_new seen q e)
 
 pub next_numbered : (keys numbers more : List ℕ) (count next i key number : ℕ) (old new : ℕ → Option ℕ)
@@ -75,7 +77,8 @@ next_numbered keys numbers more count next i key number old new are inside is na
 
     number_is : (b : Bool) → has seen key ≡ b → number ≡ place_among further key + 1
     number_is true e = elim was [
-      | inl has' ↦ sym (some_same (place_among seen key + 1) number (sym (so_far_old seen key e) ∙ sym (are.known key) ∙ has')) ∙ ap (λ s. place_among s key + 1) (sym (further_is ∙ with_old seen key e))
+      | inl has' ↦ sym (some_same (place_among seen key + 1) number (sym (so_far_old seen key e) ∙ sym (are.known key) ∙ has'))
+          ∙ ap (λ s. place_among s key + 1) (sym (further_is ∙ with_old seen key e))
       | inr none ↦ absurd (let f : Some (place_among seen key + 1) ≡ None = sym (so_far_old seen key e) ∙ sym (are.known key) ∙ none.0 in cc)
     ]
     number_is false e = elim was [
@@ -99,8 +102,10 @@ next_numbered keys numbers more count next i key number old new are inside is na
         omega (arith, are.few)
 
     small_by : (b : Bool) → has seen key ≡ b → next ≤ i + 1
-    small_by true e = let long : length further ≡ length seen = ap length (further_is ∙ with_old seen key e) in let same = few_by true e in omega (arith, are.few, are.small)
-    small_by false e = let long : length further ≡ length seen + 1 = ap length (further_is ∙ with_next seen key e) ∙ length_push seen key in let same = few_by false e in omega (arith, are.few, are.small)
+    small_by true e = let long : length further ≡ length seen = ap length (further_is ∙ with_old seen key e) in let same = few_by true e in
+        omega (arith, are.few, are.small)
+    small_by false e = let long : length further ≡ length seen + 1 = ap length (further_is ∙ with_next seen key e) ∙ length_push seen key in let same =
+        few_by false e in omega (arith, are.few, are.small)
 
     final : number ≡ number_among keys (get_or keys i 0)
     final = number_is (has seen key) refl ∙ ap (λ k. k + 1) (sym (front_place keys (i + 1) key own)) ∙ ap (number_among keys) is

@@ -31,9 +31,11 @@ record IsUneven (edges : List Edge) (s : Standing) : Type 0 where
 
 split_admits : (edges : List Edge) (blocks : Blocks) (split : Split) → split_by edges blocks split ≡ Err kinds.NotAdmissible → ⊥
 unfolding split_by
-split_admits edges blocks split e = by (is_block blocks split.block && is_block blocks split.by) (nat_eq split.block split.by) (are_parts split.block (blocks_after edges blocks split)) e
+split_admits edges blocks split e = by (is_block blocks split.block && is_block blocks split.by) (nat_eq split.block split.by)
+    (are_parts split.block (blocks_after edges blocks split)) e
   where
-    by : (a b c : Bool) → cond (not a) (Err kinds.NoBlock) (cond b (Err kinds.SameBlock) (cond c (Ok (blocks_after edges blocks split)) (Err kinds.NothingSplit))) ≡ Err kinds.NotAdmissible → ⊥
+    by : (a b c : Bool) → cond (not a) (Err kinds.NoBlock) (cond b (Err kinds.SameBlock)
+        (cond c (Ok (blocks_after edges blocks split)) (Err kinds.NothingSplit))) ≡ Err kinds.NotAdmissible → ⊥
     by false b c e = cc
     by true true c e = cc
     by true false false e = cc
@@ -120,7 +122,8 @@ record StopsUneven (graph : ActGraph) (routers : List ℕ → Option ℕ) (ls : 
   pub uneven : IsUneven graph.edges reading
 
 module _ (graph : ActGraph) (routers : List ℕ → Option ℕ) (end line : ℕ) where
-  later : (l : TextLine) (ls : List TextLine) (s next : Standing) → with_line graph.edges routers s l.words ≡ Ok next → StopsUneven graph routers ls next line → StopsUneven graph routers (l ∷ ls) s line
+  later : (l : TextLine) (ls : List TextLine) (s next : Standing) → with_line graph.edges routers s l.words ≡ Ok next → StopsUneven graph routers ls next line
+      → StopsUneven graph routers (l ∷ ls) s line
   later l ls s next is stop = record {
     before = l ∷ stop.before;
     at = stop.at;
@@ -139,13 +142,17 @@ module _ (graph : ActGraph) (routers : List ℕ → Option ℕ) (end line : ℕ)
   end_admits s Naming e = cc
   end_admits s Closed e = cc
 
-  stops_uneven : (ls : List TextLine) (s : Standing) → IsSound graph s → certificate_from graph.edges routers end ls s ≡ Err (refusal.At line kinds.NotAdmissible) → StopsUneven graph routers ls s line
+  stops_uneven : (ls : List TextLine) (s : Standing) → IsSound graph s
+      → certificate_from graph.edges routers end ls s ≡ Err (refusal.At line kinds.NotAdmissible) → StopsUneven graph routers ls s line
   unfolding certificate_from
   stops_uneven [] s sound e = absurd (end_admits s s.stage e)
   stops_uneven (l ∷ ls) s sound e = by (λ (next : Standing). stops_uneven ls next) (with_line graph.edges routers s l.words) refl e
     where
-      by : ((next : Standing) → IsSound graph next → certificate_from graph.edges routers end ls next ≡ Err (refusal.At line kinds.NotAdmissible) → StopsUneven graph routers ls next line)
-          → (r : Result Standing CutKind) → with_line graph.edges routers s l.words ≡ r → go_on l.number r (certificate_from graph.edges routers end ls) ≡ Err (refusal.At line kinds.NotAdmissible) → StopsUneven graph routers (l ∷ ls) s line
+      by : ((next : Standing) → IsSound graph next → certificate_from graph.edges routers end ls next ≡ Err (refusal.At line kinds.NotAdmissible)
+          → StopsUneven graph routers ls next line)
+          → (r : Result Standing CutKind) → with_line graph.edges routers s l.words ≡ r
+              → go_on l.number r (certificate_from graph.edges routers end ls) ≡ Err (refusal.At line kinds.NotAdmissible)
+                  → StopsUneven graph routers (l ∷ ls) s line
       by rest (Ok next) is e = later l ls s next is (rest next (step_sound graph s next sound (line_step graph.edges routers s next l.words is)) e)
       by rest (Err kind) is e =
           let number : l.number ≡ line = cc in
@@ -184,6 +191,7 @@ not_admissible_is_so graph names bs line e =
         blocks = stop.reading.blocks;
         split = stop.sound.after;
         groups = refl;
-        not = λ admissible. even_and_uneven (are_even graph.edges stop.reading.blocks.numbers) (admissible_even graph stop.reading.blocks.numbers admissible) stop.uneven.uneven;
+        not = λ admissible. even_and_uneven (are_even graph.edges stop.reading.blocks.numbers) (admissible_even graph stop.reading.blocks.numbers admissible)
+            stop.uneven.uneven;
       };
     }

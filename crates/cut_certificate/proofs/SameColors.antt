@@ -29,7 +29,8 @@ abbrev at : List ℕ → ℕ → ℕ
 at cs u = get_or cs u 0
 
 list_of : (cs : List ℕ) → cs ≡ map (at cs) (range_with_len 0 (length cs))
-list_of cs = ext_get_or 0 cs (map (at cs) (range_with_len 0 (length cs))) (sym (map_long (at cs) (range_with_len 0 (length cs)) ∙ length-range_with_len 0 (length cs))) (λ u h. sym (over_range (at cs) (length cs) u h))
+list_of cs = ext_get_or 0 cs (map (at cs) (range_with_len 0 (length cs)))
+    (sym (map_long (at cs) (range_with_len 0 (length cs)) ∙ length-range_with_len 0 (length cs))) (λ u h. sym (over_range (at cs) (length cs) u h))
 
 equal_tests : (a b : Bool) → (a ≡ true → b ≡ true) → (b ≡ true → a ≡ true) → a ≡ b
 equal_tests true b there back = sym (there refl)
@@ -39,9 +40,11 @@ equal_tests false false there back = refl
 module _ (cs ds : List ℕ) (n : ℕ) (tests : (u v : ℕ) → u < n → v < n → nat_eq (at cs u) (at cs v) ≡ nat_eq (at ds u) (at ds v)) where
   has_same : (ks : List ℕ) (u : ℕ) → Below n ks → u < n → has (map (at cs) ks) (at cs u) ≡ has (map (at ds) ks) (at ds u)
   has_same [] u below h = refl
-  has_same (k ∷ ks) u below h = ap (λ b. b || has (map (at cs) ks) (at cs u)) (tests k u below.0 h) ∙ ap (λ b. nat_eq (at ds k) (at ds u) || b) (has_same ks u below.1 h)
+  has_same (k ∷ ks) u below h = ap (λ b. b || has (map (at cs) ks) (at cs u)) (tests k u below.0 h)
+      ∙ ap (λ b. nat_eq (at ds k) (at ds u) || b) (has_same ks u below.1 h)
 
-  place_step : (k u : ℕ) (ks : List ℕ) (b : Bool) → nat_eq (at cs k) (at cs u) ≡ b → nat_eq (at ds k) (at ds u) ≡ b → place_among (map (at cs) ks) (at cs u) ≡ place_among (map (at ds) ks) (at ds u)
+  place_step : (k u : ℕ) (ks : List ℕ) (b : Bool) → nat_eq (at cs k) (at cs u) ≡ b → nat_eq (at ds k) (at ds u) ≡ b
+      → place_among (map (at cs) ks) (at cs u) ≡ place_among (map (at ds) ks) (at ds u)
       → place_among (map (at cs) (k ∷ ks)) (at cs u) ≡ place_among (map (at ds) (k ∷ ks)) (at ds u)
   place_step k u ks true e f rest = rw (e, f) refl
   place_step k u ks false e f rest = rw (e, f) (ap (λ p. 1 + p) rest)
@@ -57,7 +60,8 @@ module _ (cs ds : List ℕ) (n : ℕ) (tests : (u v : ℕ) → u < n → v < n �
     pub first : seen_after (map (at cs) old) (map (at cs) us) ≡ map (at cs) places
     pub second : seen_after (map (at ds) old) (map (at ds) us) ≡ map (at ds) places
 
-  seen_step : (old : List ℕ) (u : ℕ) (us : List ℕ) (b : Bool) → has (map (at cs) old) (at cs u) ≡ b → has (map (at ds) old) (at ds u) ≡ b → SeenAlike (cond b old (old ++ u ∷ [])) us → SeenAlike old (u ∷ us)
+  seen_step : (old : List ℕ) (u : ℕ) (us : List ℕ) (b : Bool) → has (map (at cs) old) (at cs u) ≡ b → has (map (at ds) old) (at ds u) ≡ b
+      → SeenAlike (cond b old (old ++ u ∷ [])) us → SeenAlike old (u ∷ us)
   seen_step old u us true e f rest = record {
     places = rest.places;
     below = rest.below;
@@ -87,11 +91,14 @@ module _ (cs ds : List ℕ) (n : ℕ) (tests : (u v : ℕ) → u < n → v < n �
       let s = seen_same [] (range_with_len 0 n) tt (below_range n 0 n (omega arith)) in
       let first : seen_after [] cs ≡ map (at cs) s.places = ap (seen_after []) (list_of cs ∙ ap (λ m. map (at cs) (range_with_len 0 m)) lc) ∙ s.first in
       let second : seen_after [] ds ≡ map (at ds) s.places = ap (seen_after []) (list_of ds ∙ ap (λ m. map (at ds) (range_with_len 0 m)) ld) ∙ s.second in (
-        ext_get_or 0 (map (number_among cs) cs) (map (number_among ds) ds) (map_long (number_among cs) cs ∙ lc ∙ sym (map_long (number_among ds) ds ∙ ld)) (λ u inside.
+        ext_get_or 0 (map (number_among cs) cs) (map (number_among ds) ds) (map_long (number_among cs) cs ∙ lc ∙ sym (map_long (number_among ds) ds ∙ ld))
+            (λ u inside.
             let hc : u < length cs = omega (arith, map_long (number_among cs) cs) in
             let hn : u < n = omega arith in
             let hd : u < length ds = omega arith in
-            map_at (number_among cs) cs u hc ∙ ap (λ k. k + 1) (ap (λ seen. place_among seen (at cs u)) first ∙ place_same s.places u s.below hn ∙ sym (ap (λ seen. place_among seen (at ds u)) second)) ∙ sym (map_at (number_among ds) ds u hd)),
+            map_at (number_among cs) cs u hc ∙ ap (λ k. k + 1)
+                (ap (λ seen. place_among seen (at cs u)) first ∙ place_same s.places u s.below hn ∙ sym (ap (λ seen. place_among seen (at ds u)) second))
+                    ∙ sym (map_at (number_among ds) ds u hd)),
         ap length first ∙ map_long (at cs) s.places ∙ sym (ap length second ∙ map_long (at ds) s.places),
       )
 
@@ -100,7 +107,8 @@ unfolding first_blocks
 first_same first second same =
     let n = first.count in
     let tests : (u v : ℕ) → u < n → v < n → nat_eq (at first.colors u) (at first.colors v) ≡ nat_eq (at second.colors u) (at second.colors v) = λ u v hu hv.
-    equal_tests (nat_eq (at first.colors u) (at first.colors v)) (nat_eq (at second.colors u) (at second.colors v)) (λ e. same_test _ _ (same.there u v hu hv (test_same _ _ e)))
+    equal_tests (nat_eq (at first.colors u) (at first.colors v)) (nat_eq (at second.colors u) (at second.colors v))
+        (λ e. same_test _ _ (same.there u v hu hv (test_same _ _ e)))
     (λ e. same_test _ _ (same.back u v (omega (arith, same.count)) (omega (arith, same.count)) (test_same _ _ e))) in
     let are = numbers_same first.colors second.colors n tests first.one_color_each (second.one_color_each ∙ sym same.count) in
     cc (are.0, are.1)
@@ -109,4 +117,5 @@ pub colors_are_aside : ColorsAreAside
 unfolding certificate_of_text
 colors_are_aside first second same names bs =
     ap (λ edges. certificate_from edges (router_named names) (length (all_lines_of bs) + 1) (map (text_line bs) (all_lines_of bs)) (opening first)) same.edges
-    ∙ ap (λ (b : Blocks). certificate_from second.edges (router_named names) (length (all_lines_of bs) + 1) (map (text_line bs) (all_lines_of bs)) (record (opening first) { blocks = b })) (first_same first second same)
+    ∙ ap (λ (b : Blocks). certificate_from second.edges (router_named names) (length (all_lines_of bs) + 1) (map (text_line bs) (all_lines_of bs))
+        (record (opening first) { blocks = b })) (first_same first second same)

@@ -7,7 +7,8 @@ pub first_left : {X : Type 0} (xs : List X) (k : ℕ) (d : X) → k < length xs 
 first_left xs k d h = drop-cons xs k d h ∙ ap (λ (j : ℕ). get_or xs k d ∷ drop j xs) (sym (add-one k))
 
 -- the first that is left passes, or fails
-pub all_next : {X : Type 0} (test : X → Bool) (xs : List X) (k : ℕ) (d : X) → k < length xs → test (get_or xs k d) ≡ true → list_all test (drop k xs) ≡ list_all test (drop (k + 1) xs)
+pub all_next : {X : Type 0} (test : X → Bool) (xs : List X) (k : ℕ) (d : X) → k < length xs → test (get_or xs k d) ≡ true
+    → list_all test (drop k xs) ≡ list_all test (drop (k + 1) xs)
 all_next test xs k d h e = ap (list_all test) (first_left xs k d h) ∙ ap (λ b. b && list_all test (drop (k + 1) xs)) e
 
 pub all_fails : {X : Type 0} (test : X → Bool) (xs : List X) (k : ℕ) (d : X) → k < length xs → test (get_or xs k d) ≡ false → list_all test (drop k xs) ≡ false
@@ -16,7 +17,8 @@ all_fails test xs k d h e = ap (list_all test) (first_left xs k d h) ∙ ap (λ 
 pub all_done : {X : Type 0} (test : X → Bool) (xs : List X) (k : ℕ) → length xs ≤ k → list_all test (drop k xs) ≡ true
 all_done test xs k le = ap (list_all test) (drop_all k xs le)
 
-pub any_next : {X : Type 0} (test : X → Bool) (xs : List X) (k : ℕ) (d : X) → k < length xs → test (get_or xs k d) ≡ false → list_any test (drop k xs) ≡ list_any test (drop (k + 1) xs)
+pub any_next : {X : Type 0} (test : X → Bool) (xs : List X) (k : ℕ) (d : X) → k < length xs → test (get_or xs k d) ≡ false
+    → list_any test (drop k xs) ≡ list_any test (drop (k + 1) xs)
 any_next test xs k d h e = ap (list_any test) (first_left xs k d h) ∙ ap (λ b. b || list_any test (drop (k + 1) xs)) e
 
 pub any_passes : {X : Type 0} (test : X → Bool) (xs : List X) (k : ℕ) (d : X) → k < length xs → test (get_or xs k d) ≡ true → list_any test (drop k xs) ≡ true
@@ -25,10 +27,12 @@ any_passes test xs k d h e = ap (list_any test) (first_left xs k d h) ∙ ap (λ
 pub any_done : {X : Type 0} (test : X → Bool) (xs : List X) (k : ℕ) → length xs ≤ k → list_any test (drop k xs) ≡ false
 any_done test xs k le = ap (list_any test) (drop_all k xs le)
 
-pub find_next : {X : Type 0} (test : X → Bool) (xs : List X) (k : ℕ) (d : X) → k < length xs → test (get_or xs k d) ≡ false → find test (drop k xs) ≡ find test (drop (k + 1) xs)
+pub find_next : {X : Type 0} (test : X → Bool) (xs : List X) (k : ℕ) (d : X) → k < length xs → test (get_or xs k d) ≡ false
+    → find test (drop k xs) ≡ find test (drop (k + 1) xs)
 find_next test xs k d h e = ap (find test) (first_left xs k d h) ∙ ap (λ b. cond b (Some (get_or xs k d)) (find test (drop (k + 1) xs))) e
 
-pub find_here : {X : Type 0} (test : X → Bool) (xs : List X) (k : ℕ) (d : X) → k < length xs → test (get_or xs k d) ≡ true → find test (drop k xs) ≡ Some (get_or xs k d)
+pub find_here : {X : Type 0} (test : X → Bool) (xs : List X) (k : ℕ) (d : X) → k < length xs → test (get_or xs k d) ≡ true
+    → find test (drop k xs) ≡ Some (get_or xs k d)
 find_here test xs k d h e = ap (find test) (first_left xs k d h) ∙ ap (λ b. cond b (Some (get_or xs k d)) (find test (drop (k + 1) xs))) e
 
 pub find_none : {X : Type 0} (test : X → Bool) (xs : List X) (k : ℕ) → length xs ≤ k → find test (drop k xs) ≡ None

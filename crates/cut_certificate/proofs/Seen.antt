@@ -69,7 +69,8 @@ at_place (x ∷ xs) n e = by (nat_eq x n) refl (at_place xs n)
   where
     by : (b : Bool) → nat_eq x n ≡ b → (has xs n ≡ true → get_or xs (place_among xs n) 0 ≡ n) → get_or (x ∷ xs) (place_among (x ∷ xs) n) 0 ≡ n
     by true f rest = rw f (test_same x n f)
-    by false f rest = rw f (let one : 1 + place_among xs n ≡ suc (place_among xs n) = omega arith in ap (λ k. get_or (x ∷ xs) k 0) one ∙ rest (sym (rw f refl) ∙ e))
+    by false f rest = rw f (let one : 1 + place_among xs n ≡ suc (place_among xs n) = omega arith in ap (λ k. get_or (x ∷ xs) k 0) one
+        ∙ rest (sym (rw f refl) ∙ e))
 
 -- ---- what has been seen
 
@@ -148,7 +149,8 @@ only_with seen x n e = elim (cases_Bool (has seen x)) [
   | inr new ↦ sym (ap (λ s. has s n) (with_next seen x new)) ∙ e
 ]
 
-has_split : (xs ys : List ℕ) (n : ℕ) (b : Bool) → has xs n ≡ b → has (xs ++ ys) n ≡ true → (zs : List ℕ) → ((m : ℕ) → m ≡ n → has xs m ≡ true → has zs m ≡ true) → ((m : ℕ) → m ≡ n → has ys m ≡ true → has zs m ≡ true) → has zs n ≡ true
+has_split : (xs ys : List ℕ) (n : ℕ) (b : Bool) → has xs n ≡ b → has (xs ++ ys) n ≡ true → (zs : List ℕ) → ((m : ℕ) → m ≡ n → has xs m ≡ true → has zs m ≡ true)
+    → ((m : ℕ) → m ≡ n → has ys m ≡ true → has zs m ≡ true) → has zs n ≡ true
 has_split xs ys n true e both zs left right = left n refl e
 has_split xs ys n false e both zs left right = right n refl (sym (list_any-append (λ other. nat_eq other n) xs ys ∙ ap (λ b. b || has ys n) e) ∙ both)
 
@@ -185,7 +187,8 @@ abbrev pub front : List ℕ → ℕ → List ℕ
 front keys i = seen_after [] (take i keys)
 
 pub front_next : (keys : List ℕ) (i key : ℕ) → i < length keys → key ≡ get_or keys i 0 → front keys (i + 1) ≡ with_new (front keys i) key
-front_next keys i key inside is = ap (seen_after []) (take_more keys i 0 inside) ∙ seen_twice [] (take i keys) (get_or keys i 0 ∷ []) ∙ ap (with_new (front keys i)) (sym is)
+front_next keys i key inside is = ap (seen_after []) (take_more keys i 0 inside) ∙ seen_twice [] (take i keys) (get_or keys i 0 ∷ [])
+    ∙ ap (with_new (front keys i)) (sym is)
 
 pub front_all : (keys : List ℕ) (i : ℕ) → length keys ≤ i → front keys i ≡ distinct keys
 unfolding distinct
@@ -199,7 +202,8 @@ front_all keys i le = ap (seen_after []) (take_whole i keys le)
 
 pub front_place : (keys : List ℕ) (i n : ℕ) → has (front keys i) n ≡ true → place_among (distinct keys) n ≡ place_among (front keys i) n
 unfolding distinct
-front_place keys i n e = ap (λ s. place_among s n) (ap (seen_after []) (sym (cut i keys)) ∙ seen_twice [] (take i keys) (drop i keys)) ∙ place_after (front keys i) (drop i keys) n e
+front_place keys i n e = ap (λ s. place_among s n) (ap (seen_after []) (sym (cut i keys)) ∙ seen_twice [] (take i keys) (drop i keys))
+    ∙ place_after (front keys i) (drop i keys) n e
   where
     cut : (i : ℕ) (xs : List ℕ) → take i xs ++ drop i xs ≡ xs
     cut zero xs = refl

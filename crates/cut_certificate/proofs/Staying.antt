@@ -22,7 +22,8 @@ pub record Looking (edges : List Edge) (numbers old list : List ℕ) (block by a
   pub members : (u : ℕ) → Contains old u → slice_index numbers u ≡ block → Contains list u
   pub looked : (i : ℕ) → i < place → is_mover edges numbers block by act (slice_index list i) ≡ true
 
-pub looking_start : (edges : List Edge) (numbers old : List ℕ) (block by act : ℕ) → All (λ u. u < length numbers) old → Looking edges numbers old old block by act 0
+pub looking_start : (edges : List Edge) (numbers old : List ℕ) (block by act : ℕ) → All (λ u. u < length numbers) old
+    → Looking edges numbers old old block by act 0
 looking_start edges numbers old block by act routers = record {
   within = omega arith;
   routers = routers;
@@ -35,24 +36,31 @@ not_first gone u list ne (zero, inside, at) = absurd (ne at)
 not_first gone u list ne (suc k, inside, at) = (k, omega arith, at)
 
 -- a router that has left the block is dropped
-pub looking_dropped : (edges : List Edge) (numbers old list list' : List ℕ) (block by act place gone : ℕ) → Looking edges numbers old list block by act place → place < length list → gone ≡ slice_index_or list place gone → list' ≡ swap_remove list place gone → slice_index numbers gone ≢ block
+pub looking_dropped : (edges : List Edge) (numbers old list list' : List ℕ) (block by act place gone : ℕ) → Looking edges numbers old list block by act place
+    → place < length list → gone ≡ slice_index_or list place gone → list' ≡ swap_remove list place gone → slice_index numbers gone ≢ block
     → Looking edges numbers old list' block by act place
 looking_dropped edges numbers old list list' block by act place gone looking inside read items left =
     let last : ℕ = slice_index_or list (length list - 1) gone in
-    let size : length list' + 1 ≡ length list = let taken = ap length items ∙ length-take (length list - 1) (slice_set list place last) in let set = length-set list place last in omega arith in
+    let size : length list' + 1 ≡ length list = let taken = ap length items ∙ length-take (length list - 1) (slice_set list place last) in let set =
+        length-set list place last in omega arith in
     let same : (k : ℕ) → k ≢ place → k + 1 < length list → slice_index list' k ≡ slice_index list k = λ k ne less.
-    ap (λ (xs : List ℕ). slice_index xs k) items ∙ get_or-take (length list - 1) (slice_set list place last) k 0 (omega arith) ∙ get_or-set_other list place k last 0 ne in
-    let moved : IsPermutation list (gone ∷ list') = subst (λ (xs : List ℕ). IsPermutation list (gone ∷ xs)) (sym items) (IsPermutation-swap_remove list place gone inside read) in
+    ap (λ (xs : List ℕ). slice_index xs k) items ∙ get_or-take (length list - 1) (slice_set list place last) k 0 (omega arith)
+        ∙ get_or-set_other list place k last 0 ne in
+    let moved : IsPermutation list (gone ∷ list') = subst (λ (xs : List ℕ). IsPermutation list (gone ∷ xs)) (sym items)
+        (IsPermutation-swap_remove list place gone inside read) in
     let all : All (λ u. u < length numbers) (gone ∷ list') = All-permutation (λ u. u < length numbers) list (gone ∷ list') moved looking.routers in
     record {
       within = omega arith;
       routers = λ k d within. all (suc k) d (omega arith);
-      members = λ u found is. not_first gone u list' (λ e. left (ap (slice_index numbers) e ∙ is)) (Contains-permutation list (gone ∷ list') u moved (looking.members u found is));
+      members = λ u found is. not_first gone u list' (λ e. left (ap (slice_index numbers) e ∙ is))
+          (Contains-permutation list (gone ∷ list') u moved (looking.members u found is));
       looked = λ i less. ap (is_mover edges numbers block by act) (same i (λ e. omega arith) (omega arith)) ∙ looking.looked i less;
     }
 
 -- a member that moves stays in the list
-pub looking_more : (edges : List Edge) (numbers old list : List ℕ) (block by act place router : ℕ) → Looking edges numbers old list block by act place → place < length list → slice_index list place ≡ router → is_mover edges numbers block by act router ≡ true → Looking edges numbers old list block by act (place + 1)
+pub looking_more : (edges : List Edge) (numbers old list : List ℕ) (block by act place router : ℕ) → Looking edges numbers old list block by act place
+    → place < length list → slice_index list place ≡ router → is_mover edges numbers block by act router ≡ true
+        → Looking edges numbers old list block by act (place + 1)
 looking_more edges numbers old list block by act place router looking inside at moves = record {
   within = omega arith;
   routers = looking.routers;
@@ -63,10 +71,12 @@ looking_more edges numbers old list block by act place router looking inside at 
   ];
 }
 
-pub still_listed : (edges : List Edge) (numbers old list : List ℕ) (block by act place : ℕ) → Looking edges numbers old list block by act place → AreStillMembersListed numbers block old list
+pub still_listed : (edges : List Edge) (numbers old list : List ℕ) (block by act place : ℕ) → Looking edges numbers old list block by act place
+    → AreStillMembersListed numbers block old list
 still_listed edges numbers old list block by act place looking = record { routers = looking.routers; members = looking.members }
 
-pub looking_end : (edges : List Edge) (numbers old list : List ℕ) (block by act place : ℕ) → Looking edges numbers old list block by act place → length list ≤ place → AllMove edges numbers block by act old
+pub looking_end : (edges : List Edge) (numbers old list : List ℕ) (block by act place : ℕ) → Looking edges numbers old list block by act place
+    → length list ≤ place → AllMove edges numbers block by act old
 looking_end edges numbers old list block by act place looking all = record {
   each = λ u found in_block.
       let (k, inside, at) = looking.members u found in_block in
@@ -85,30 +95,38 @@ listed_none numbers lists empty = record {
   members = λ u d less hu. absurd (omega arith);
 }
 
-pub listed_more : (numbers : List ℕ) (lists : List (Vec ℕ Global)) (router number : ℕ) (old new : Vec ℕ Global) → AreListedSoFar router numbers lists → slice_index numbers router ≡ number → number < length lists → old ≡ slice_index_or lists number old → new.items ≡ old.items ++ router ∷ []
+pub listed_more : (numbers : List ℕ) (lists : List (Vec ℕ Global)) (router number : ℕ) (old new : Vec ℕ Global) → AreListedSoFar router numbers lists
+    → slice_index numbers router ≡ number → number < length lists → old ≡ slice_index_or lists number old → new.items ≡ old.items ++ router ∷ []
     → AreListedSoFar (router + 1) numbers (slice_set lists number new)
 listed_more numbers lists router number old new before is known read pushed =
     let size = length-set lists number new in
-    let here : (b : ℕ) (d : Vec ℕ Global) → b ≡ number → slice_index_or (slice_set lists number new) b d ≡ new = λ b d e. ap (λ i. slice_index_or (slice_set lists number new) i d) e ∙ get_or-set_same lists number new d known in
+    let here : (b : ℕ) (d : Vec ℕ Global) → b ≡ number → slice_index_or (slice_set lists number new) b d ≡ new = λ b d e.
+        ap (λ i. slice_index_or (slice_set lists number new) i d) e ∙ get_or-set_same lists number new d known in
     record {
       routers = λ b d inside. elim (cases_eq b number) [
         | inl e ↦
-            let was : All (λ u. u < router) old.items = subst (λ (v : Vec ℕ Global). All (λ u. u < router) v.items) (sym read) (before.routers number old known) in
-            rw (here b d e, pushed) (All-push (λ u. u < router + 1) old.items router (All-weaker (λ u. u < router) (λ u. u < router + 1) (λ u lt. omega arith) old.items was) (omega arith))
-        | inr ne ↦ rw (get_or-set_other lists number b new d ne) (All-weaker (λ u. u < router) (λ u. u < router + 1) (λ u lt. omega arith) _ (before.routers b d (omega arith)))
+            let was : All (λ u. u < router) old.items = subst (λ (v : Vec ℕ Global). All (λ u. u < router) v.items) (sym read) (before.routers number old known)
+                in
+            rw (here b d e, pushed) (All-push (λ u. u < router + 1) old.items router
+                (All-weaker (λ u. u < router) (λ u. u < router + 1) (λ u lt. omega arith) old.items was) (omega arith))
+        | inr ne ↦ rw (get_or-set_other lists number b new d ne)
+            (All-weaker (λ u. u < router) (λ u. u < router + 1) (λ u lt. omega arith) _ (before.routers b d (omega arith)))
       ];
       members = λ u d less hu. elim (cases_eq u router) [
-        | inl e ↦ rw (here (slice_index numbers u) d (ap (slice_index numbers) e ∙ is), pushed) (subst (Contains (old.items ++ router ∷ [])) (sym e) (Contains-push old.items router))
+        | inl e ↦ rw (here (slice_index numbers u) d (ap (slice_index numbers) e ∙ is), pushed)
+            (subst (Contains (old.items ++ router ∷ [])) (sym e) (Contains-push old.items router))
         | inr other ↦ elim (cases_eq (slice_index numbers u) number) [
           | inl e ↦
-              let was : Contains old.items u = subst (λ (v : Vec ℕ Global). Contains v.items u) (ap (λ i. slice_index_or lists i old) e ∙ sym read) (before.members u old (omega arith) hu) in
+              let was : Contains old.items u = subst (λ (v : Vec ℕ Global). Contains v.items u) (ap (λ i. slice_index_or lists i old) e ∙ sym read)
+                  (before.members u old (omega arith) hu) in
               rw (here (slice_index numbers u) d e, pushed) (Contains-append_left old.items (router ∷ []) u was)
           | inr ne ↦ rw (get_or-set_other lists number (slice_index numbers u) new d ne) (before.members u d (omega arith) hu)
         ]
       ];
     }
 
-pub listed_all : (numbers : List ℕ) (lists : List (Vec ℕ Global)) (count : ℕ) → AreListedSoFar (length numbers) numbers lists → All (λ number. (0 < number) × (number ≤ count)) numbers → length lists ≡ count + 1 → AreMembersListed numbers lists
+pub listed_all : (numbers : List ℕ) (lists : List (Vec ℕ Global)) (count : ℕ) → AreListedSoFar (length numbers) numbers lists
+    → All (λ number. (0 < number) × (number ≤ count)) numbers → length lists ≡ count + 1 → AreMembersListed numbers lists
 listed_all numbers lists count are known size = record {
   below = λ k d inside. (let (some, few) = known k d inside in omega arith);
   routers = are.routers;
@@ -120,20 +138,25 @@ listed_all numbers lists count are known size = record {
 pub incoming_start : (edges : List Edge) (lists : List (Vec Placed Global)) → HasIncoming (take 0 edges) lists
 incoming_start edges lists = record { each = λ e d (k, inside, at) known. absurd (omega arith) }
 
-pub incoming_more : (edges : List Edge) (lists : List (Vec Placed Global)) (k : ℕ) (e d' : Edge) (p : Placed) (old new : Vec Placed Global) → HasIncoming (take k edges) lists → k < length edges → e ≡ get_or edges k d' → e.exporter < length lists
-    → old ≡ slice_index_or lists e.exporter old → p.edge ≡ e → new.items ≡ old.items ++ p ∷ [] → HasIncoming (take (k + 1) edges) (slice_set lists e.exporter new)
+pub incoming_more : (edges : List Edge) (lists : List (Vec Placed Global)) (k : ℕ) (e d' : Edge) (p : Placed) (old new : Vec Placed Global)
+    → HasIncoming (take k edges) lists → k < length edges → e ≡ get_or edges k d' → e.exporter < length lists
+    → old ≡ slice_index_or lists e.exporter old → p.edge ≡ e → new.items ≡ old.items ++ p ∷ []
+        → HasIncoming (take (k + 1) edges) (slice_set lists e.exporter new)
 incoming_more edges lists k e d' p old new before more is inside read own pushed = record {
   each = λ x d found known.
       let size = length-set lists e.exporter new in
       let last = subst (λ (es : List Edge). Contains es x) (take_more edges k d' more) found in
-      let same_list : x.exporter ≡ e.exporter → slice_index_or (slice_set lists e.exporter new) x.exporter d ≡ new = λ same. ap (λ b. slice_index_or (slice_set lists e.exporter new) b d) same ∙ get_or-set_same lists e.exporter new d inside in
-      let in_new : (q : Placed) → slice_index_or (slice_set lists e.exporter new) x.exporter d ≡ new → Contains (old.items ++ p ∷ []) q → Contains (slice_index_or (slice_set lists e.exporter new) x.exporter d).items q = λ q same within.
+      let same_list : x.exporter ≡ e.exporter → slice_index_or (slice_set lists e.exporter new) x.exporter d ≡ new = λ same.
+          ap (λ b. slice_index_or (slice_set lists e.exporter new) b d) same ∙ get_or-set_same lists e.exporter new d inside in
+      let in_new : (q : Placed) → slice_index_or (slice_set lists e.exporter new) x.exporter d ≡ new → Contains (old.items ++ p ∷ []) q
+          → Contains (slice_index_or (slice_set lists e.exporter new) x.exporter d).items q = λ q same within.
       subst (λ (v : Vec Placed Global). Contains v.items q) (sym same) (subst (λ (ps : List Placed). Contains ps q) (sym pushed) within) in
       elim (Contains-push_cases (take k edges) (get_or edges k d') x last) [
         | inl there ↦ elim (cases_eq x.exporter e.exporter) [
           | inl same ↦
               let (q, within, is') = before.each x old there (omega arith) in
-              let was : Contains old.items q = subst (λ (v : Vec Placed Global). Contains v.items q) (ap (λ i. slice_index_or lists i old) same ∙ sym read) within in
+              let was : Contains old.items q = subst (λ (v : Vec Placed Global). Contains v.items q) (ap (λ i. slice_index_or lists i old) same ∙ sym read)
+                  within in
               (q, in_new q (same_list same) (Contains-append_left old.items (p ∷ []) q was), is')
           | inr ne ↦
               let (q, within, is') = before.each x d there (omega arith) in
@@ -150,7 +173,8 @@ incoming_more edges lists k e d' p old new before more is inside read own pushed
 pub added_none : (old : List ℕ) (edges : List Placed) (act : ℕ) → AreAdded old old (take 0 edges) act
 added_none old edges act = record { kept = λ u found. found; added = λ p (k, inside, at) acts. absurd (omega arith) }
 
-pub added_more : (old new new' : List ℕ) (edges : List Placed) (p : Placed) (act : ℕ) → AreAdded old new edges act → new' ≡ new ++ p.edge.importer ∷ [] → AreAdded old new' (edges ++ p ∷ []) act
+pub added_more : (old new new' : List ℕ) (edges : List Placed) (p : Placed) (act : ℕ) → AreAdded old new edges act → new' ≡ new ++ p.edge.importer ∷ []
+    → AreAdded old new' (edges ++ p ∷ []) act
 added_more old new new' edges p act are pushed = record {
   kept = λ u found. rw pushed (Contains-append_left new (p.edge.importer ∷ []) u (are.kept u found));
   added = λ q found acts. elim (Contains-push_cases edges p q found) [
@@ -159,7 +183,8 @@ added_more old new new' edges p act are pushed = record {
   ];
 }
 
-pub added_skip : (old new : List ℕ) (edges : List Placed) (p : Placed) (act : ℕ) → AreAdded old new edges act → p.edge.act ≢ act → AreAdded old new (edges ++ p ∷ []) act
+pub added_skip : (old new : List ℕ) (edges : List Placed) (p : Placed) (act : ℕ) → AreAdded old new edges act → p.edge.act ≢ act
+    → AreAdded old new (edges ++ p ∷ []) act
 added_skip old new edges p act are ne = record {
   kept = are.kept;
   added = λ q found acts. elim (Contains-push_cases edges p q found) [
@@ -171,11 +196,13 @@ added_skip old new edges p act are ne = record {
 pub importers_none : (lists : List (Vec Placed Global)) (list : List ℕ) (act : ℕ) (found : List ℕ) → HasImporters lists (take 0 list) act found
 importers_none lists list act found = record { each = λ x d p (k, inside, at) within acts. absurd (omega arith) }
 
-pub importers_more : (lists : List (Vec Placed Global)) (list : List ℕ) (exporter act : ℕ) (old new : List ℕ) (edges : Vec Placed Global) → HasImporters lists list act old → exporter < length lists → edges ≡ slice_index_or lists exporter edges → AreAdded old new edges.items act
+pub importers_more : (lists : List (Vec Placed Global)) (list : List ℕ) (exporter act : ℕ) (old new : List ℕ) (edges : Vec Placed Global)
+    → HasImporters lists list act old → exporter < length lists → edges ≡ slice_index_or lists exporter edges → AreAdded old new edges.items act
     → HasImporters lists (list ++ exporter ∷ []) act new
 importers_more lists list exporter act old new edges are known read more = record {
   each = λ x d p listed within acts. elim (Contains-push_cases list exporter x listed) [
     | inl there ↦ more.kept p.edge.importer (are.each x d p there within acts)
-    | inr e ↦ more.added p (subst (λ (v : Vec Placed Global). Contains v.items p) (ap (λ i. slice_index_or lists i d) (sym e) ∙ get_or_default lists exporter d edges known ∙ sym read) within) acts
+    | inr e ↦ more.added p (subst (λ (v : Vec Placed Global). Contains v.items p)
+        (ap (λ i. slice_index_or lists i d) (sym e) ∙ get_or_default lists exporter d edges known ∙ sym read) within) acts
   ];
 }

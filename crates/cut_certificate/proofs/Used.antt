@@ -70,24 +70,32 @@ first_used colors = record { known = numbers_known colors; used = used; few = fe
         ∙ has_map (number_among colors) colors (place_among colors c) (place_below colors c given)
 
 -- a member of another block stays
-pub stays_put : (edges : List Edge) (numbers : List ℕ) (block by act next u : ℕ) → get_or numbers u 0 ≢ block → number_after edges numbers block by act next u ≡ get_or numbers u 0
+pub stays_put : (edges : List Edge) (numbers : List ℕ) (block by act next u : ℕ) → get_or numbers u 0 ≢ block
+    → number_after edges numbers block by act next u ≡ get_or numbers u 0
 stays_put edges numbers block by act next u ne = rw (other_test (get_or numbers u 0) block ne) refl
 
-pub after_at : (edges : List Edge) (numbers : List ℕ) (block by act next u : ℕ) → u < length numbers → get_or (numbers_after edges numbers block by act next) u 0 ≡ number_after edges numbers block by act next u
+pub after_at : (edges : List Edge) (numbers : List ℕ) (block by act next u : ℕ) → u < length numbers
+    → get_or (numbers_after edges numbers block by act next) u 0 ≡ number_after edges numbers block by act next u
 unfolding numbers_after
 after_at edges numbers block by act next u h = over_range (number_after edges numbers block by act next) (length numbers) u h
 
 pub after_long : (edges : List Edge) (numbers : List ℕ) (block by act next : ℕ) → length (numbers_after edges numbers block by act next) ≡ length numbers
 unfolding numbers_after
-after_long edges numbers block by act next = map_long (number_after edges numbers block by act next) (range_with_len 0 (length numbers)) ∙ length-range_with_len 0 (length numbers)
+after_long edges numbers block by act next = map_long (number_after edges numbers block by act next) (range_with_len 0 (length numbers))
+    ∙ length-range_with_len 0 (length numbers)
 
-pub split_used : (edges : List Edge) (numbers : List ℕ) (count block by act : ℕ) → AreInUse numbers count → has (numbers_after edges numbers block by act (count + 1)) block ≡ true
-    → has (numbers_after edges numbers block by act (count + 1)) (count + 1) ≡ true → AreInUse (numbers_after edges numbers block by act (count + 1)) (count + 1)
+pub split_used : (edges : List Edge) (numbers : List ℕ) (count block by act : ℕ) → AreInUse numbers count
+    → has (numbers_after edges numbers block by act (count + 1)) block ≡ true
+    → has (numbers_after edges numbers block by act (count + 1)) (count + 1) ≡ true
+        → AreInUse (numbers_after edges numbers block by act (count + 1)) (count + 1)
 split_used edges numbers count block by act are left right = record { known = known; used = used; few = few_blocks after (count + 1) used }
   where
-    either : (u : ℕ) → u < length numbers → (b : Bool) → (nat_eq (get_or numbers u 0) block && reaches edges numbers by act u) ≡ b → (0 < number_after edges numbers block by act (count + 1) u) × (number_after edges numbers block by act (count + 1) u ≤ count + 1)
-    either u h true e = let is : number_after edges numbers block by act (count + 1) u ≡ count + 1 = ap (λ t. cond t (count + 1) (get_or numbers u 0)) e in (omega arith, omega arith)
-    either u h false e = let is : number_after edges numbers block by act (count + 1) u ≡ get_or numbers u 0 = ap (λ t. cond t (count + 1) (get_or numbers u 0)) e in let (some, few) = are.known u 0 h in (omega arith, omega arith)
+    either : (u : ℕ) → u < length numbers → (b : Bool) → (nat_eq (get_or numbers u 0) block && reaches edges numbers by act u) ≡ b
+        → (0 < number_after edges numbers block by act (count + 1) u) × (number_after edges numbers block by act (count + 1) u ≤ count + 1)
+    either u h true e = let is : number_after edges numbers block by act (count + 1) u ≡ count + 1 = ap (λ t. cond t (count + 1) (get_or numbers u 0)) e in
+        (omega arith, omega arith)
+    either u h false e = let is : number_after edges numbers block by act (count + 1) u ≡ get_or numbers u 0 =
+        ap (λ t. cond t (count + 1) (get_or numbers u 0)) e in let (some, few) = are.known u 0 h in (omega arith, omega arith)
 
     known : All (λ number. (0 < number) × (number ≤ count + 1)) (numbers_after edges numbers block by act (count + 1))
     known = All-from_get_or (λ number. (0 < number) × (number ≤ count + 1)) (numbers_after edges numbers block by act (count + 1)) 0 (λ u inside.
@@ -109,20 +117,25 @@ split_used edges numbers count block by act are left right = record { known = kn
             let u = place_among numbers b in
             let h = place_below numbers b was in
             let at = at_place numbers b was in
-            ap (has after) (sym (after_at edges numbers block by act (count + 1) u h ∙ stays_put edges numbers block by act (count + 1) u (λ e. other (sym at ∙ e)) ∙ at))
+            ap (has after) (sym (after_at edges numbers block by act (count + 1) u h
+                ∙ stays_put edges numbers block by act (count + 1) u (λ e. other (sym at ∙ e)) ∙ at))
             ∙ has_at after u (let long = after_long edges numbers block by act (count + 1) in omega arith)
       ]
     ]
 
-pub goes : (edges : List Edge) (numbers : List ℕ) (block by act next u : ℕ) → get_or numbers u 0 ≡ block → reaches edges numbers by act u ≡ true → number_after edges numbers block by act next u ≡ next
+pub goes : (edges : List Edge) (numbers : List ℕ) (block by act next u : ℕ) → get_or numbers u 0 ≡ block → reaches edges numbers by act u ≡ true
+    → number_after edges numbers block by act next u ≡ next
 goes edges numbers block by act next u here reach = rw (same_test (get_or numbers u 0) block here, reach) refl
 
-pub stays_here : (edges : List Edge) (numbers : List ℕ) (block by act next u : ℕ) → reaches edges numbers by act u ≡ false → number_after edges numbers block by act next u ≡ get_or numbers u 0
+pub stays_here : (edges : List Edge) (numbers : List ℕ) (block by act next u : ℕ) → reaches edges numbers by act u ≡ false
+    → number_after edges numbers block by act next u ≡ get_or numbers u 0
 stays_here edges numbers block by act next u reach = elim (cases_eq (get_or numbers u 0) block) [
   | inl here ↦ rw (same_test (get_or numbers u 0) block here, reach) refl
   | inr ne ↦ stays_put edges numbers block by act next u ne
 ]
 
-pub first_is : (graph : ActGraph) (numbers : List ℕ) (count : ℕ) (colors : List ℕ) → colors ≡ graph.colors → numbers ≡ map (number_among colors) colors → count ≡ length (distinct colors) → record { numbers = numbers; count = count } ≡ first_blocks graph
+pub first_is : (graph : ActGraph) (numbers : List ℕ) (count : ℕ) (colors : List ℕ) → colors ≡ graph.colors → numbers ≡ map (number_among colors) colors
+    → count ≡ length (distinct colors) → record { numbers = numbers; count = count } ≡ first_blocks graph
 unfolding first_blocks
-first_is graph numbers count colors same are long = cc (are ∙ ap (λ (cs : List ℕ). map (number_among cs) cs) same, long ∙ ap (λ (cs : List ℕ). length (distinct cs)) same)
+first_is graph numbers count colors same are long = cc (are ∙ ap (λ (cs : List ℕ). map (number_among cs) cs) same, long
+    ∙ ap (λ (cs : List ℕ). length (distinct cs)) same)

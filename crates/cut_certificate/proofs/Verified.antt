@@ -25,20 +25,27 @@ verifies_same (Err refusal.Memory) defined e = tt
 verifies_same (Err (refusal.At line why)) defined e = e
 
 -- the routers of names, found by another look-up
-pub text_by : (graph : ActGraph) (names : List (List ℕ)) (bs : List ℕ) (places : List ℕ → Option ℕ) → ((wanted : List ℕ) → places wanted ≡ position (bytes_eq wanted) names)
-    → certificate_from graph.edges places (length (all_lines_of bs) + 1) (map (text_line bs) (all_lines_of bs)) (opening graph) ≡ certificate_of_text graph names bs
+pub text_by : (graph : ActGraph) (names : List (List ℕ)) (bs : List ℕ) (places : List ℕ → Option ℕ)
+    → ((wanted : List ℕ) → places wanted ≡ position (bytes_eq wanted) names)
+    → certificate_from graph.edges places (length (all_lines_of bs) + 1) (map (text_line bs) (all_lines_of bs)) (opening graph)
+        ≡ certificate_of_text graph names bs
 unfolding certificate_of_text
-text_by graph names bs places same = ap (λ (f : List ℕ → Option ℕ). certificate_from graph.edges f (length (all_lines_of bs) + 1) (map (text_line bs) (all_lines_of bs)) (opening graph)) (fun_ext same)
+text_by graph names bs places same = ap (λ (f : List ℕ → Option ℕ).
+    certificate_from graph.edges f (length (all_lines_of bs) + 1) (map (text_line bs) (all_lines_of bs)) (opening graph)) (fun_ext same)
 
-pub verified_accepted : (graph : ActGraph) (names : List (List ℕ)) (bs : List ℕ) (answer : Result Certificate CutRefusal) → Verifies answer (certificate_of_text graph names bs) → IfOk answer (IsAccepted graph)
+pub verified_accepted : (graph : ActGraph) (names : List (List ℕ)) (bs : List ℕ) (answer : Result Certificate CutRefusal)
+    → Verifies answer (certificate_of_text graph names bs) → IfOk answer (IsAccepted graph)
 verified_accepted graph names bs (Ok c) e = text_is_accepted graph names bs c e
 verified_accepted graph names bs (Err why) e = tt
 
-pub verified_coarsest : (graph : ActGraph) (names : List (List ℕ)) (bs : List ℕ) (answer : Result Certificate CutRefusal) → Verifies answer (certificate_of_text graph names bs) → IfOk answer (λ (c : Certificate). AreCoarsest graph c.groups)
+pub verified_coarsest : (graph : ActGraph) (names : List (List ℕ)) (bs : List ℕ) (answer : Result Certificate CutRefusal)
+    → Verifies answer (certificate_of_text graph names bs) → IfOk answer (λ (c : Certificate). AreCoarsest graph c.groups)
 verified_coarsest graph names bs (Ok c) e = accepted_is_coarsest graph c (text_is_accepted graph names bs c e)
 verified_coarsest graph names bs (Err why) e = tt
 
 -- a stop at a line is the refusal of the text
-pub stopped : (line : ℕ) (why : Stop) (step : Result Standing CutKind) (whole : Result Certificate CutRefusal) → ((kind : CutKind) → step ≡ Err kind → whole ≡ Err (refusal.At line kind)) → Steps {X = Standing} (Err why) step → Verifies {X = Certificate} (Err (refused_at line why)) whole
+pub stopped : (line : ℕ) (why : Stop) (step : Result Standing CutKind) (whole : Result Certificate CutRefusal)
+    → ((kind : CutKind) → step ≡ Err kind → whole ≡ Err (refusal.At line kind)) → Steps {X = Standing} (Err why) step
+        → Verifies {X = Certificate} (Err (refused_at line why)) whole
 stopped line (stop.Fault kind) step whole same e = same kind e
 stopped line stop.Memory step whole same e = tt

@@ -34,7 +34,8 @@ module _ {K V : Type 0} (e : K → K → Bool) (sound : (x y : K) → e x y ≡ 
   interned_at (f ∷ es) = (elim (e key f.0) as
       (λ y. e key f.0 ≡ y → slice_get (keys_of (insert_entry e (f ∷ es) key v)) (position_or_len (e key) (keys_of (f ∷ es))) ≡ Some key) [
         | true ↦ λ t. rw t (ap (λ (x : K). Some x) (sym (sound key f.0 t)))
-        | false ↦ λ t. let up : 1 + position_or_len (e key) (keys_of es) ≡ suc (position_or_len (e key) (keys_of es)) = omega arith in rw (t, up) (interned_at es)
+        | false ↦ λ t. let up : 1 + position_or_len (e key) (keys_of es) ≡ suc (position_or_len (e key) (keys_of es)) = omega arith in
+            rw (t, up) (interned_at es)
       ]) refl
 
   -- and it stands last where it is new

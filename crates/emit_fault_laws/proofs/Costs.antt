@@ -24,7 +24,8 @@ vlan_before : (word : List ℕ) → IsDecimal word → before_first is_digit (co
 vlan_before [] is = absurd (let some = is.some in omega arith)
 vlan_before (b ∷ word) is = step (is_digit b) (let low = is.digits.0.0 in let high = is.digits.0.1 in rw (le-leb 48 b low, le-leb b 57 high) refl)
   where
-    step : (d : Bool) → d ≡ true → take (1 + (1 + (1 + (1 + cond (not d) (1 + prefix_len (λ c. not (is_digit c)) word) 0)))) (codes "Vlan" ++ (b ∷ word)) ≡ codes "Vlan"
+    step : (d : Bool) → d ≡ true → take (1 + (1 + (1 + (1 + cond (not d) (1 + prefix_len (λ c. not (is_digit c)) word) 0)))) (codes "Vlan" ++ (b ∷ word))
+        ≡ codes "Vlan"
     step true e = refl
     step false e = absurd cc
 

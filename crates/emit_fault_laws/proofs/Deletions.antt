@@ -24,7 +24,8 @@ use Rattle.emit_form_laws.proofs.Policies.{map_prints, map_at, entry_prints, mat
 -- ---- a match list deletes nothing
 
 other_name : (k s i j t : ℕ) → k ≤ 2097152 → s ≤ 65535 → i ≤ 32 → j ≤ 2097152 → t ≤ 65535 → bytes_eq (match_name k s i) (deletion_name j t) ≡ false
-other_name k s i j t hk hs hi hj ht = differ (match_name k s i) (deletion_name j t) (λ same. no_letter i (omega arith) (one_list k s j t (decimal i) (codes "D") (omega arith) (omega arith) (omega arith) (omega arith) same).2)
+other_name k s i j t hk hs hi hj ht = differ (match_name k s i) (deletion_name j t)
+    (λ same. no_letter i (omega arith) (one_list k s j t (decimal i) (codes "D") (omega arith) (omega arith) (omega arith) (omega arith) same).2)
 
 not_deleted : (e : Plan) → IsPlan e → length e.links ≤ 1048576 → (g k s i : ℕ) → k ≤ 2097152 → s ≤ 65535 → i ≤ 32 →
     is_deleted (emitted_router e g) (match_name k s i) ≡ false

@@ -104,7 +104,8 @@ names_form k x ls few prints is =
           (pairs_map name_of_list (λ (a b : List ℕ). bytes_eq a b ≡ false) (match_lists k x) (matches_apart k x few prints));
     }
 
-unmarked : (names : List (List ℕ)) → ((name : List ℕ) → In names name → bytes_eq name (codes "exact-match") ≡ false) → has_mark (codes "exact-match") names ≡ false
+unmarked : (names : List (List ℕ)) → ((name : List ℕ) → In names name → bytes_eq name (codes "exact-match") ≡ false)
+    → has_mark (codes "exact-match") names ≡ false
 unmarked [] none = refl
 unmarked (name ∷ []) none = none name (inl refl)
 unmarked (name ∷ next ∷ names) none = unmarked (next ∷ names) (λ other h. none other (inr h))
@@ -112,7 +113,8 @@ unmarked (name ∷ next ∷ names) none = unmarked (next ∷ names) (λ other h.
 match_unmarked : (k : ℕ) (x : PlainEntry) → has_mark (codes "exact-match") (map name_of_list (match_lists k x)) ≡ false
 match_unmarked k x =
     unmarked (map name_of_list (match_lists k x))
-    (λ name h. let m = match_name_of k x name h in ap (λ (n : List ℕ). bytes_eq n (codes "exact-match")) (sym (ap name_of_list m.1.is ∙ m.2)) ∙ no_mark k x.seq (decimal m.1.number))
+    (λ name h. let m = match_name_of k x name h in ap (λ (n : List ℕ). bytes_eq n (codes "exact-match")) (sym (ap name_of_list m.1.is ∙ m.2))
+        ∙ no_mark k x.seq (decimal m.1.number))
 
 mark_form : (k : ℕ) (x : PlainEntry) → IsMarkRight (option_map (λ (ls : List CommunityList). names_line (match_lists k x)) x.lists) (is_some x.lists && x.exact)
 mark_form k x = step x.lists x.exact
@@ -252,7 +254,8 @@ match_short k x ls exact few prints is =
     let marks : List (List ℕ) = cond exact (codes "exact-match" ∷ []) [] in
     let mark = mark_few exact in
     let both = length-append names marks in
-    short_line (codes "match" ∷ codes "community" ∷ names ++ marks) (omega arith) (word_short names marks (λ name h. name_short k x few prints name h) (mark_short exact))
+    short_line (codes "match" ∷ codes "community" ∷ names ++ marks) (omega arith)
+        (word_short names marks (λ name h. name_short k x few prints name h) (mark_short exact))
   where
     mark_few : (b : Bool) → length (cond b (codes "exact-match" ∷ []) []) ≤ 1
     mark_few true = omega arith
@@ -263,7 +266,8 @@ match_short k x ls exact few prints is =
     mark_short true word (inr h) = absurd h
     mark_short false word h = absurd h
 
-    word_short : (names marks : List (List ℕ)) → ((name : List ℕ) → In names name → length name ≤ 27) → ((name : List ℕ) → In marks name → length name ≤ 27) → (word : List ℕ) → In (codes "match" ∷ codes "community" ∷ names ++ marks) word → length word ≤ 27
+    word_short : (names marks : List (List ℕ)) → ((name : List ℕ) → In names name → length name ≤ 27) → ((name : List ℕ) → In marks name → length name ≤ 27)
+        → (word : List ℕ) → In (codes "match" ∷ codes "community" ∷ names ++ marks) word → length word ≤ 27
     word_short names marks short shorts word (inl same) = (let e = ap (λ (w : List ℕ). length w) same in omega arith)
     word_short names marks short shorts word (inr (inl same)) = (let e = ap (λ (w : List ℕ). length w) same in omega arith)
     word_short names marks short shorts word (inr (inr h)) = elim (append_in names marks word h) [ inl a ↦ short word a | inr b ↦ shorts word b ]

@@ -180,7 +180,8 @@ module _ (e : Plan) (over : e.problem.protocol ≡ OverOspf) where
       (process_at g x (in_left (class_interfaces e g) (link_interfaces e g) x at)) at
 
   -- an interface with the address of one of a link, under the name of one
-  named_active : (g k : ℕ) (x y : Interface) (a : Address) → In (link_interfaces e g) y → y.address ≡ Some a → x.name ≡ codes "GigabitEthernet0/" ++ decimal k → x.address ≡ Some a → x.shut ≡ false → is_active_interface (emitted_router e g) x ≡ true
+  named_active : (g k : ℕ) (x y : Interface) (a : Address) → In (link_interfaces e g) y → y.address ≡ Some a → x.name ≡ codes "GigabitEthernet0/" ++ decimal k
+      → x.address ≡ Some a → x.shut ≡ false → is_active_interface (emitted_router e g) x ≡ true
   named_active g k x y a at listed named address up =
       let inside = in_right (class_interfaces e g) (link_interfaces e g) y at in
       let process = process_at g y inside in

@@ -45,7 +45,8 @@ of_matches : (k : ℕ) (x : PlainEntry) (o : Option (List CommunityList)) (c : C
 of_matches k x None c at = absurd at
 of_matches k x (Some lists) c at = let m = map_in (match_list k x.seq) (enumerate_from 1 lists) c at in (lists, refl, m.0.0, m.0.1, m.1, m.2)
 
-of_deletion : (k : ℕ) (x : PlainEntry) (o : Option CommunityList) (c : CommunityList) → In (option_map_or (λ list. written_list (list_name k x.seq (codes "D")) list ∷ []) o []) c
+of_deletion : (k : ℕ) (x : PlainEntry) (o : Option CommunityList) (c : CommunityList)
+    → In (option_map_or (λ list. written_list (list_name k x.seq (codes "D")) list ∷ []) o []) c
     → (l : CommunityList) × (o ≡ Some l) × (written_list (list_name k x.seq (codes "D")) l ≡ c)
 of_deletion k x None c at = absurd at
 of_deletion k x (Some l) c (inl same) = (l, refl, same)
@@ -81,10 +82,12 @@ one_of_entry k x c d small is at at' e = elim (append_in (match_lists k x) (dele
         × (match_list k x.seq (i, l) ≡ c)
         → (l : CommunityList) × (x.delete ≡ Some l) × (written_list (list_name k x.seq (codes "D")) l ≡ d) → c.name ≡ d.name → ⊥
     no_both m w f =
-        let g = one_list k x.seq k x.seq (decimal m.2) (codes "D") small seq small seq (ap (λ (z : CommunityList). z.name) m.5 ∙ f ∙ sym (ap (λ (z : CommunityList). z.name) w.2)) in
+        let g = one_list k x.seq k x.seq (decimal m.2) (codes "D") small seq small seq
+            (ap (λ (z : CommunityList). z.name) m.5 ∙ f ∙ sym (ap (λ (z : CommunityList). z.name) w.2)) in
         no_letter m.2 (number m.0 m.2 m.3 m.1 m.4) g.2
 
-    both_delete : (l : CommunityList) × (x.delete ≡ Some l) × (written_list (list_name k x.seq (codes "D")) l ≡ c) → (l : CommunityList) × (x.delete ≡ Some l) × (written_list (list_name k x.seq (codes "D")) l ≡ d) → c ≡ d
+    both_delete : (l : CommunityList) × (x.delete ≡ Some l) × (written_list (list_name k x.seq (codes "D")) l ≡ c) → (l : CommunityList) × (x.delete ≡ Some l)
+        × (written_list (list_name k x.seq (codes "D")) l ≡ d) → c ≡ d
     both_delete a b = (let same : a.0 ≡ b.0 = (let both = sym a.1 ∙ b.1 in cc) in sym a.2 ∙ ap (written_list (list_name k x.seq (codes "D"))) same ∙ b.2)
 
     both_match : (lists : List CommunityList) × (x.lists ≡ Some lists) × (i : ℕ) × (l : CommunityList) × In (enumerate_from 1 lists) (i, l)

@@ -109,11 +109,13 @@ module _ (r : Router) (maps : List Plain) (number : ℕ) (lists_are : r.communit
         written_same n (l ∷ ls) = both (same_list (written_list (list_name k x.seq (decimal n)) l) l) _ (list_same (list_name k x.seq (decimal n)) l)
             (written_same (n + 1) ls)
 
-    delete_back : (x : PlainEntry) → In m.entries x → (o : Option CommunityList) → x.delete ≡ o → option_eq same_list (deletion_list r (option_map (λ list. record { name = list_name k x.seq (codes "D"); line = 0 }) o)) o ≡ true
+    delete_back : (x : PlainEntry) → In m.entries x → (o : Option CommunityList) → x.delete ≡ o
+        → option_eq same_list (deletion_list r (option_map (λ list. record { name = list_name k x.seq (codes "D"); line = 0 }) o)) o ≡ true
     delete_back x x_in None e = refl
     delete_back x x_in (Some l) e =
         let c : CommunityList = written_list (list_name k x.seq (codes "D")) l in
-        let here : In (deletion_lists k x) c = subst (λ (o : Option CommunityList). In (option_map_or (λ list. written_list (list_name k x.seq (codes "D")) list ∷ []) o []) c) (sym e) (inl refl) in
+        let here : In (deletion_lists k x) c = subst (λ (o : Option CommunityList).
+            In (option_map_or (λ list. written_list (list_name k x.seq (codes "D")) list ∷ []) o []) c) (sym e) (inl refl) in
         let found = named_back c (record { k = k; m = m; at = at; x = x; x_in = x_in; c_in = in_right (match_lists k x) (deletion_lists k x) c here }) in
         ap (λ (o : Option CommunityList). option_eq same_list o (Some l)) found ∙ list_same (list_name k x.seq (codes "D")) l
 

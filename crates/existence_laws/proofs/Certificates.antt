@@ -72,13 +72,16 @@ module _ (graph : ActGraph) (blocks : Blocks) (total : length blocks.numbers ≡
     unreached : reaches edges numbers (slice_index numbers edge.exporter) edge.act stays ≡ false
 
   -- an edge without a twin
-  unmatched : (u v : ℕ) → u < length numbers → v < length numbers → slice_index numbers u ≡ slice_index numbers v → Fails (is_matched_if_own edges numbers u v) edges
+  unmatched : (u v : ℕ) → u < length numbers → v < length numbers → slice_index numbers u ≡ slice_index numbers v
+      → Fails (is_matched_if_own edges numbers u v) edges
       → IsParted
   unmatched u v hu hv same f =
       let inside = within edges f.place f.item f.at in
       let first = neither (not (nat_eq f.item.importer u)) (is_matched edges numbers u v f.item) f.fails in
-      let second = neither (nat_eq (slice_index numbers f.item.exporter) (slice_index numbers u)) (reaches edges numbers (slice_index numbers f.item.exporter) f.item.act v) first.1 in
-      let exporter = subst (λ (e : Edge). e.exporter < graph.count) (read_or edges f.place f.item f.item f.at) (graph.exporters_in_range f.place f.item inside) in record {
+      let second = neither (nat_eq (slice_index numbers f.item.exporter) (slice_index numbers u))
+          (reaches edges numbers (slice_index numbers f.item.exporter) f.item.act v) first.1 in
+      let exporter = subst (λ (e : Edge). e.exporter < graph.count) (read_or edges f.place f.item f.item f.at) (graph.exporters_in_range f.place f.item inside)
+          in record {
         goes = u;
         stays = v;
         place = f.place;
@@ -91,7 +94,8 @@ module _ (graph : ActGraph) (blocks : Blocks) (total : length blocks.numbers ≡
         exporter = subst (λ (n : ℕ). f.item.exporter < n) (sym total) exporter;
         leaves = apart (slice_index numbers f.item.exporter) (slice_index numbers u) second.0;
         reached = reaches_if edges numbers (slice_index numbers f.item.exporter) f.item.act u
-            (f.place, f.item, inside, read_or edges f.place f.item f.item f.at, (test_same f.item.importer u (not_false (nat_eq f.item.importer u) first.0), refl, refl));
+            (f.place, f.item, inside, read_or edges f.place f.item f.item f.at,
+                (test_same f.item.importer u (not_false (nat_eq f.item.importer u) first.0), refl, refl));
         unreached = second.1;
       }
 
@@ -118,7 +122,8 @@ module _ (graph : ActGraph) (blocks : Blocks) (total : length blocks.numbers ≡
   ]
     where
       row : (u : ℕ) → u < length numbers → MirrorsAll u ⊎ IsParted
-      row u hu = elim (below (length numbers) (λ v. slice_index numbers u ≡ slice_index numbers v → IsMirroredAt edges numbers u v) (λ v. IsParted) (λ v hv. pair u v hu hv)) [
+      row u hu = elim (below (length numbers) (λ v. slice_index numbers u ≡ slice_index numbers v → IsMirroredAt edges numbers u v) (λ v. IsParted)
+          (λ v hv. pair u v hu hv)) [
         | inl all ↦ inl all
         | inr some ↦ inr some.2
       ]
@@ -143,7 +148,8 @@ module _ (graph : ActGraph) (blocks : Blocks) (total : length blocks.numbers ≡
   has_value : (xs : List ℕ) (k n : ℕ) → k < length xs → slice_index xs k ≡ n → has xs n ≡ true
   has_value xs k n h is = ap (has xs) (sym is) ∙ has_at xs k h
 
-  made_if : (split : Split) → (is_block blocks split.block && is_block blocks split.by) ≡ true → nat_eq split.block split.by ≡ false → are_parts split.block (blocks_after edges blocks split) ≡ true
+  made_if : (split : Split) → (is_block blocks split.block && is_block blocks split.by) ≡ true → nat_eq split.block split.by ≡ false
+      → are_parts split.block (blocks_after edges blocks split) ≡ true
       → split_by edges blocks split ≡ Ok (blocks_after edges blocks split)
   unfolding split_by
   made_if split known apart parts = rw (known, apart, parts) refl
@@ -184,7 +190,8 @@ record AreRefined (graph : ActGraph) (blocks : Blocks) (fuel : ℕ) : Type 0 whe
   even : AreMirrored graph.edges last.numbers
   few : length splits ≤ fuel
 
-refined : (graph : ActGraph) (fuel : ℕ) (blocks : Blocks) → AreInUse blocks.numbers blocks.count → length blocks.numbers ≡ graph.count → graph.count ≤ blocks.count + fuel → AreRefined graph blocks fuel
+refined : (graph : ActGraph) (fuel : ℕ) (blocks : Blocks) → AreInUse blocks.numbers blocks.count → length blocks.numbers ≡ graph.count
+    → graph.count ≤ blocks.count + fuel → AreRefined graph blocks fuel
 refined graph zero blocks used total enough = elim (even_or_parted graph blocks total) [
   | inl even ↦ record { splits = []; last = blocks; after = refl; even = even; few = omega arith }
   | inr parted ↦ (

@@ -123,14 +123,16 @@ module _ (P : Problem) where
           colors = c.colors ++ found.0 ∷ [];
           total = (let e = pushed_total c.colors found.0 n c.total in omega arith);
           distinct = c.distinct;
-          placed = λ u h. placed_more P c.starts c.starts (start P n) c.colors (c.colors ++ found.0 ∷ []) n found.0 (inl refl) c.total refl found.1 refl c.placed u (omega arith);
+          placed = λ u h. placed_more P c.starts c.starts (start P n) c.colors (c.colors ++ found.0 ∷ []) n found.0 (inl refl) c.total refl found.1 refl
+              c.placed u (omega arith);
         }
         | inr none ↦ record {
           starts = c.starts ++ start P n ∷ [];
           colors = c.colors ++ length c.starts ∷ [];
           total = (let e = pushed_total c.colors (length c.starts) n c.total in omega arith);
           distinct = distinct_more c.starts (start P n) c.distinct none;
-          placed = λ u h. placed_more P c.starts (c.starts ++ start P n ∷ []) (start P n) c.colors (c.colors ++ length c.starts ∷ []) n (length c.starts) (inr refl) c.total refl
+          placed = λ u h. placed_more P c.starts (c.starts ++ start P n ∷ []) (start P n) c.colors (c.colors ++ length c.starts ∷ []) n (length c.starts)
+              (inr refl) c.total refl
               (get_end c.starts (start P n)) refl c.placed u (omega arith);
         }
       ]
@@ -152,7 +154,9 @@ each_problem_has_graph P rules =
       edges = P.edges;
       one_color_each = c.total;
       few_edges = rules.tables.few_edges;
-      importers_in_range = λ k d inside. (rules.edges.inside (slice_index_or P.edges k d) (contains_in P.edges (slice_index_or P.edges k d) (item_in P.edges k d inside))).importer_in;
-      exporters_in_range = λ k d inside. (rules.edges.inside (slice_index_or P.edges k d) (contains_in P.edges (slice_index_or P.edges k d) (item_in P.edges k d inside))).exporter_in;
+      importers_in_range = λ k d inside. (rules.edges.inside (slice_index_or P.edges k d)
+          (contains_in P.edges (slice_index_or P.edges k d) (item_in P.edges k d inside))).importer_in;
+      exporters_in_range = λ k d inside. (rules.edges.inside (slice_index_or P.edges k d)
+          (contains_in P.edges (slice_index_or P.edges k d) (item_in P.edges k d inside))).exporter_in;
     } in
     record { graph = graph; is = graph_of P rules c.colors (colors_are P c) graph refl refl refl }

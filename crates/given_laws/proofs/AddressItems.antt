@@ -74,7 +74,9 @@ unfolding network_form
 network_at line (_ ∷ address ∷ []) = given IsAny (IsAddressAt line) _ _ (anything (address_word address))
     (λ addr any. given IsAny (IsAddressAt line) _ _ (anything (classful_len_of addr)) (λ len any. net_at line addr len))
 network_at line (_ ∷ address ∷ word ∷ mask ∷ []) =
-    fits (IsAddressAt line) (bytes_eq word (codes "mask")) _ (λ e. given IsAny (IsAddressAt line) _ _ (anything (address_word address)) (λ addr any. given IsAny (IsAddressAt line) _ _ (anything (mask_len_of mask)) (λ len any. net_at line addr len)))
+    fits (IsAddressAt line) (bytes_eq word (codes "mask")) _
+        (λ e. given IsAny (IsAddressAt line) _ _ (anything (address_word address))
+            (λ addr any. given IsAny (IsAddressAt line) _ _ (anything (mask_len_of mask)) (λ len any. net_at line addr len)))
 network_at line _ = tt
 
 remote_as_at : (line : ℕ) (words : List (List ℕ)) → IfOk (remote_as_form words) (IsAddressAt line)
@@ -123,7 +125,8 @@ area_at line _ = tt
 
 passive_at : (line : ℕ) (words : List (List ℕ)) → IfOk (passive_form words) (IsAddressAt line)
 unfolding passive_form
-passive_at line (_ ∷ name ∷ []) = either (IsAddressAt line) (bytes_eq name (codes "default")) _ _ (λ e. tt) (λ e. fits (IsAddressAt line) (is_interface_name name) _ (λ is. tt))
+passive_at line (_ ∷ name ∷ []) = either (IsAddressAt line) (bytes_eq name (codes "default")) _ _ (λ e. tt)
+    (λ e. fits (IsAddressAt line) (is_interface_name name) _ (λ is. tt))
 passive_at line _ = tt
 
 not_passive_at : (line : ℕ) (words : List (List ℕ)) → IfOk (not_passive_form words) (IsAddressAt line)

@@ -79,7 +79,8 @@ unfolding community_line_form
 list_line_case line (_ ∷ _ ∷ word ∷ []) are = tt
 list_line_case line (_ ∷ _ ∷ word ∷ next ∷ []) are = tt
 list_line_case line (_ ∷ _ ∷ word ∷ next ∷ third ∷ words) are =
-    either IsPolicyItem (bytes_eq word (codes "standard")) _ _ (λ e. community_line_case line next third words are.1.1.1.0) (λ e. numbered_case line word next (third ∷ words) are.1.1.0)
+    either IsPolicyItem (bytes_eq word (codes "standard")) _ _ (λ e. community_line_case line next third words are.1.1.1.0)
+        (λ e. numbered_case line word next (third ∷ words) are.1.1.0)
 list_line_case line _ are = tt
 
 map_head_case : (line : ℕ) (words : List (List ℕ)) → AreWords words → IfOk (map_head_form line words) IsPolicyItem
@@ -104,14 +105,17 @@ unfolding comms_match
 exact_case line words are = after (AreNames words) IsPolicyItem _ _ (a_name_list words are)
     (λ names is. (record { count = is.0; each = is.1; once = is.2 }, tt))
 
-inexact_case : (line : ℕ) (words : List (List ℕ)) → AreWords words → has_mark (codes "exact-match") words ≡ false → IfOk (comms_match line false words) IsPolicyItem
+inexact_case : (line : ℕ) (words : List (List ℕ)) → AreWords words → has_mark (codes "exact-match") words ≡ false
+    → IfOk (comms_match line false words) IsPolicyItem
 unfolding comms_match
-inexact_case line words are other = after (AreNames words) IsPolicyItem _ _ (a_name_list words are) (λ names is. (record { count = is.0; each = is.1; once = is.2 }, ap (has_mark (codes "exact-match")) is.3 ∙ other))
+inexact_case line words are other = after (AreNames words) IsPolicyItem _ _ (a_name_list words are)
+    (λ names is. (record { count = is.0; each = is.1; once = is.2 }, ap (has_mark (codes "exact-match")) is.3 ∙ other))
 
 marked_case : (line : ℕ) (words : List (List ℕ)) → AreWords words → IfOk (marked_match line words) IsPolicyItem
 unfolding marked_match
 marked_case line words are =
-    either IsPolicyItem (has_mark (codes "exact-match") words) _ _ (λ e. exact_case line (but_last words) (all_take IsWord (length words - 1) words are)) (λ other. inexact_case line words are other)
+    either IsPolicyItem (has_mark (codes "exact-match") words) _ _ (λ e. exact_case line (but_last words) (all_take IsWord (length words - 1) words are))
+        (λ other. inexact_case line words are other)
 
 match_comms_case : (line : ℕ) (words : List (List ℕ)) → AreWords words → IfOk (match_comms_form line words) IsPolicyItem
 unfolding match_comms_form
@@ -138,7 +142,8 @@ set_comms_case _ = tt
 
 delete_case : (line : ℕ) (words : List (List ℕ)) → AreWords words → IfOk (delete_form line words) IsPolicyItem
 unfolding delete_form
-delete_case line (_ ∷ _ ∷ name ∷ word ∷ []) are = fits IsPolicyItem (bytes_eq word (codes "delete")) _ (λ e. after IsWellFormedNamed IsPolicyItem _ _ (a_named line name are.1.1.0) (λ list is. is))
+delete_case line (_ ∷ _ ∷ name ∷ word ∷ []) are = fits IsPolicyItem (bytes_eq word (codes "delete")) _
+    (λ e. after IsWellFormedNamed IsPolicyItem _ _ (a_named line name are.1.1.0) (λ list is. is))
 delete_case line _ are = tt
 
 as_numbers : (words : List (List ℕ)) → AllByRecursion (λ word. IfSome (as_number_word word) (IsBetween 1 4294967295)) words

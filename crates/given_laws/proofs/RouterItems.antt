@@ -166,7 +166,8 @@ area_case line _ = tt
 
 passive_case : (words : List (List ℕ)) → IfOk (passive_form words) IsRouterItem
 unfolding passive_form
-passive_case (_ ∷ name ∷ []) = either IsRouterItem (bytes_eq name (codes "default")) _ _ (λ e. tt) (λ e. fits IsRouterItem (is_interface_name name) _ (λ is. is))
+passive_case (_ ∷ name ∷ []) = either IsRouterItem (bytes_eq name (codes "default")) _ _ (λ e. tt)
+    (λ e. fits IsRouterItem (is_interface_name name) _ (λ is. is))
 passive_case _ = tt
 
 not_passive_case : (words : List (List ℕ)) → IfOk (not_passive_form words) IsRouterItem

@@ -72,17 +72,24 @@ unfolding escape_byte
 unmatched_shape address router = simp append_assoc
 
 report_shape : (class groups links routers unmatched : List ℕ)
-    → object_text ((codes "class", class) ∷ (codes "groups", groups) ∷ (codes "links", links) ∷ (codes "routers", routers) ∷ (codes "unmatched", unmatched) ∷ [])
-    ≡ codes "{\"class\":" ++ class ++ codes ",\"groups\":" ++ groups ++ codes ",\"links\":" ++ links ++ codes ",\"routers\":" ++ routers ++ codes ",\"unmatched\":" ++ unmatched ++ codes "}"
+    → object_text ((codes "class", class) ∷ (codes "groups", groups) ∷ (codes "links", links) ∷ (codes "routers", routers) ∷ (codes "unmatched", unmatched)
+        ∷ [])
+    ≡ codes "{\"class\":" ++ class ++ codes ",\"groups\":" ++ groups ++ codes ",\"links\":" ++ links ++ codes ",\"routers\":" ++ routers
+        ++ codes ",\"unmatched\":" ++ unmatched ++ codes "}"
 unfolding escape_byte
 report_shape class groups links routers unmatched = simp append_assoc
 
 group_text : (problem : Problem) (members : List ℕ) → compact_text (group_data problem members) ≡ group_object problem members
 group_text problem members =
     let first = member_that_names members in
-    let texts : object_text ((codes "lone", compact_text (boolean (is_lone problem first))) ∷ (codes "members", compact_text (list_data (map (name_data problem) members))) ∷ (codes "name", name_string problem first) ∷ (codes "origin", compact_text (boolean (originates problem first))) ∷ [])
-    ≡ object_text ((codes "lone", boolean_text (is_lone problem first)) ∷ (codes "members", json_list (map (name_string problem) members)) ∷ (codes "name", name_string problem first) ∷ (codes "origin", boolean_text (originates problem first)) ∷ []) =
-    λ j. object_text ((codes "lone", boolean_is (is_lone problem first) j) ∷ (codes "members", list_of (name_data problem) (name_string problem) members (λ x. refl) j) ∷ (codes "name", name_string problem first) ∷ (codes "origin", boolean_is (originates problem first) j) ∷ []) in
+    let texts : object_text ((codes "lone", compact_text (boolean (is_lone problem first)))
+        ∷ (codes "members", compact_text (list_data (map (name_data problem) members))) ∷ (codes "name", name_string problem first)
+            ∷ (codes "origin", compact_text (boolean (originates problem first))) ∷ [])
+    ≡ object_text ((codes "lone", boolean_text (is_lone problem first)) ∷ (codes "members", json_list (map (name_string problem) members))
+        ∷ (codes "name", name_string problem first) ∷ (codes "origin", boolean_text (originates problem first)) ∷ []) =
+    λ j. object_text ((codes "lone", boolean_is (is_lone problem first) j)
+        ∷ (codes "members", list_of (name_data problem) (name_string problem) members (λ x. refl) j) ∷ (codes "name", name_string problem first)
+            ∷ (codes "origin", boolean_is (originates problem first) j) ∷ []) in
     texts ∙ group_shape (boolean_text (is_lone problem first)) (json_list (map (name_string problem) members)) (name_string problem first)
     (boolean_text (originates problem first))
 
@@ -98,8 +105,12 @@ groups_text problem groups count = list_of (data_of_group problem groups) (objec
     (λ group. group_text problem (members_of groups group))
 
 module _ (r : Report) where
-  texts : compact_text (report_data r) ≡ object_text ((codes "class", decimal r.class_number) ∷ (codes "groups", group_objects r.problem r.groups r.group_count) ∷ (codes "links", counts_object (length r.links) r.links_before) ∷ (codes "routers", counts_object r.group_count (count r.problem)) ∷ (codes "unmatched", json_list (map (unmatched_object r.problem) r.unmatched)) ∷ [])
-  texts = λ j. object_text ((codes "class", decimal r.class_number) ∷ (codes "groups", groups_text r.problem r.groups r.group_count j) ∷ (codes "links", counts_text (length r.links) r.links_before j) ∷ (codes "routers", counts_text r.group_count (count r.problem) j) ∷ (codes "unmatched", list_of (unmatched_data r.problem) (unmatched_object r.problem) r.unmatched (unmatched_text r.problem) j) ∷ [])
+  texts : compact_text (report_data r) ≡ object_text ((codes "class", decimal r.class_number) ∷ (codes "groups", group_objects r.problem r.groups r.group_count)
+      ∷ (codes "links", counts_object (length r.links) r.links_before) ∷ (codes "routers", counts_object r.group_count (count r.problem))
+          ∷ (codes "unmatched", json_list (map (unmatched_object r.problem) r.unmatched)) ∷ [])
+  texts = λ j. object_text ((codes "class", decimal r.class_number) ∷ (codes "groups", groups_text r.problem r.groups r.group_count j)
+      ∷ (codes "links", counts_text (length r.links) r.links_before j) ∷ (codes "routers", counts_text r.group_count (count r.problem) j)
+          ∷ (codes "unmatched", list_of (unmatched_data r.problem) (unmatched_object r.problem) r.unmatched (unmatched_text r.problem) j) ∷ [])
 
   pub report_object : compact_text (report_data r) ≡ json_object r
   report_object = texts ∙ report_shape (decimal r.class_number) (group_objects r.problem r.groups r.group_count) (counts_object (length r.links) r.links_before)
@@ -119,7 +130,8 @@ has_none r = λ j. no_floats (data_of_group r.problem r.groups) (range_with_len 
     j || (no_floats (unmatched_data r.problem) r.unmatched (λ x. refl) j || false)
 
 -- the line of values that are those of a report
-pub line_of_report : (r : Report) (d : Data) (bytes : List ℕ) → (has_float d ≡ false → bytes ≡ compact_text d ++ codes "\n") → d ≡ report_data r → bytes ≡ json_text r
+pub line_of_report : (r : Report) (d : Data) (bytes : List ℕ) → (has_float d ≡ false → bytes ≡ compact_text d ++ codes "\n") → d ≡ report_data r
+    → bytes ≡ json_text r
 line_of_report r d bytes line same =
     let none : has_float d ≡ false = ap has_float same ∙ has_none r in
     let text : compact_text d ≡ json_object r = ap compact_text same ∙ report_object r in

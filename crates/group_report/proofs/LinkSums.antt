@@ -12,7 +12,8 @@ joined : {X : Type 0} (xs ys : List X) → length (xs ++ ys) ≡ length xs + len
 joined [] ys = omega arith
 joined (x ∷ xs) ys = let a = joined xs ys in omega arith
 
-one_more : {X : Type 0} (f : ℕ → List X) (a n : ℕ) → length (flat_map f (range_with_len a (suc n))) ≡ length (flat_map f (range_with_len a n)) + length (f (a + n))
+one_more : {X : Type 0} (f : ℕ → List X) (a n : ℕ) → length (flat_map f (range_with_len a (suc n)))
+    ≡ length (flat_map f (range_with_len a n)) + length (f (a + n))
 one_more f a zero =
     let here = joined (f a) [] in
     let same = ap (λ (k : ℕ). length (f k)) (let z : a + 0 ≡ a = omega arith in z) in
@@ -34,7 +35,8 @@ module _ (es : List Edge) (groups : List ℕ) (table : List Bool) (is : IsLinkTa
 
   pair : (g h : ℕ) → g < 64 → h < 64 → length (links_of_pair es groups g h) ≡ links_between table g h
   pair g h gs hs =
-      length-map-range_with_len (group_link g h (acts_into es groups g h) (acts_into es groups h g)) 0 (max (length (acts_into es groups g h)) (length (acts_into es groups h g)))
+      length-map-range_with_len (group_link g h (acts_into es groups g h) (acts_into es groups h g)) 0
+          (max (length (acts_into es groups g h)) (length (acts_into es groups h g)))
       ∙ (λ i. max (acts_are g h gs hs i) (acts_are h g hs gs i))
 
   above : (count g : ℕ) → count ≤ 64 → g < count → length (group_links_from es groups count g) ≡ links_above table g (count - (g + 1))
@@ -46,4 +48,5 @@ module _ (es : List Edge) (groups : List ℕ) (table : List Bool) (is : IsLinkTa
   unfolding quotient_links
   counted count few =
       sym (total (group_links_from es groups count) 0 count
-      ∙ sum_same _ _ count (λ g inside. ap (λ (k : ℕ). length (group_links_from es groups count k)) (let z : 0 + g ≡ g = omega arith in z) ∙ above count g few inside))
+      ∙ sum_same _ _ count (λ g inside. ap (λ (k : ℕ). length (group_links_from es groups count k)) (let z : 0 + g ≡ g = omega arith in z)
+          ∙ above count g few inside))

@@ -98,7 +98,8 @@ share_subnet_bare u at_u v at_v =
 up_in_bare : (p : Prefix) (x : Interface) → is_up_in p (bare_interface x) ≡ is_up_in p x
 up_in_bare p x = ap (λ (o : Option Address). option_map_or (same_prefix p) (option_map subnet_of_address o) false) (up_address_bare x)
     ∙ step (up_address x) where
-      step : (o : Option Address) → option_map_or (same_prefix p) (option_map subnet_of_address (option_map bare_address o)) false ≡ option_map_or (same_prefix p)
+      step : (o : Option Address) → option_map_or (same_prefix p) (option_map subnet_of_address (option_map bare_address o)) false
+          ≡ option_map_or (same_prefix p)
           (option_map subnet_of_address o) false
       step None = refl
       step (Some a) = refl

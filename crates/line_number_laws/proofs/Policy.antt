@@ -63,7 +63,8 @@ comms_permitted_bare : (r : Router) (exact : Bool) (comms : List ℕ) (name : Li
     comms_permitted_by (bare_router r) exact comms name ≡ comms_permitted_by r exact comms name
 comms_permitted_bare r exact comms name = ap (λ (o : Option CommunityList). option_map_or (list_answer exact comms) o false) (community_list_bare r name)
     ∙ step (community_list_named r name) where
-      step : (o : Option CommunityList) → option_map_or (list_answer exact comms) (option_map bare_community_list o) false ≡ option_map_or (list_answer exact comms)
+      step : (o : Option CommunityList) → option_map_or (list_answer exact comms) (option_map bare_community_list o) false
+          ≡ option_map_or (list_answer exact comms)
           o false
       step None = refl
       step (Some list) = answer_bare exact comms list

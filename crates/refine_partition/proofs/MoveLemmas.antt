@@ -382,7 +382,8 @@ pub moving_next : (numbers classes touched : List ℕ) (done : List Import) (arr
 moving_next numbers classes touched done arrival before next next' origins origins' names names' lists lists' class number origin so_far size inside class_is
     origin_is piece moved = elim piece [
       | inl (found, same_names, same_lists, same_origins) ↦
-          rw (same_names, same_origins) (moving_known numbers classes touched done arrival before next next' origins (λ c. get nat_eq names c) number so_far inside
+          rw (same_names, same_origins) (moving_known numbers classes touched done arrival before next next' origins (λ c. get nat_eq names c) number so_far
+              inside
           (ap (λ c. get nat_eq names c) class_is ∙ found) moved)
       | inr new ↦
           moving_new numbers classes touched done arrival before next next' origins origins' (λ c. get nat_eq names c) (λ c. get nat_eq names' c) number origin

@@ -17,7 +17,8 @@ named_by names word k false (Some j) is e = let same : j ≡ k = cc in let less 
 
 routers_within : (names : List (List ℕ)) (word : List ℕ) (a : Activation) (u : ℕ) → activation_of names word ≡ Some a → In (routers_of (length names) a) u →
     u < length names
-routers_within names word (One k) u e (inl same) = let less = named_by names word k (bytes_eq word (codes "*")) (position (bytes_eq word) names) refl e in omega arith
+routers_within names word (One k) u e (inl same) = let less = named_by names word k (bytes_eq word (codes "*")) (position (bytes_eq word) names) refl e in
+    omega arith
 routers_within names word (One k) u e (inr lacking) = absurd lacking
 routers_within names word Round u e i = let less = range_in 0 (length names) u i in omega arith
 

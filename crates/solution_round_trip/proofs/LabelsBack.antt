@@ -35,7 +35,8 @@ all_above_none : (comms : List ℕ) → AllByRecursion (IsBetween 1 4294901759) 
 all_above_none [] each = tt
 all_above_none (c ∷ comms) each = (let low = each.0.0 in omega (arith, low), all_above_none comms each.1)
 
-bgp_back : (lp : ℕ) (path comms : List ℕ) → IsBgpInRange lp path comms → bgp_label_form (decimal lp ∷ codes "path" ∷ path_words path ++ (codes "comms" ∷ map community_text comms)) ≡ Some (Bgp lp path comms)
+bgp_back : (lp : ℕ) (path comms : List ℕ) → IsBgpInRange lp path comms
+    → bgp_label_form (decimal lp ∷ codes "path" ∷ path_words path ++ (codes "comms" ∷ map community_text comms)) ≡ Some (Bgp lp path comms)
 unfolding bgp_label_form
 bgp_back lp path comms range =
     rw (

@@ -65,7 +65,8 @@ label_prints protocol (Some (Bgp lp path comms)) range = (
     decimal_prints lp range.1.preference,
     (
       word_as_tested (codes "path") refl,
-      both_print (path_words path) (codes "comms" ∷ map community_text comms) (path_prints path range.1.numbers) (word_as_tested (codes "comms") refl, communities_print comms range.1.communities),
+      both_print (path_words path) (codes "comms" ∷ map community_text comms) (path_prints path range.1.numbers)
+          (word_as_tested (codes "comms") refl, communities_print comms range.1.communities),
     ),
   ),
 )

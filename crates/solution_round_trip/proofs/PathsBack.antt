@@ -201,7 +201,8 @@ runs_back ((n, count) ∷ runs) words are =
     ∙ before_both (replicate count n) (numbers_of runs) (path_of_words words)
 
 -- the words of a path, the word `comms` and more
-pub path_back : (path : List ℕ) (words : List (List ℕ)) → AllByRecursion IsAs path → path_of_words (path_words path ++ (codes "comms" ∷ words)) ≡ Some (path, words)
+pub path_back : (path : List ℕ) (words : List (List ℕ)) → AllByRecursion IsAs path
+    → path_of_words (path_words path ++ (codes "comms" ∷ words)) ≡ Some (path, words)
 unfolding path_words path_of_words
 path_back path words each =
     runs_back (runs_of path) (codes "comms" ∷ words) (runs_are path each)

@@ -201,7 +201,8 @@ module _ (n : Network) (bgp : IsBgp n) (faultless : IsFaultless n) (few : length
       let out_is = out_at_ends n p hop ends in
       let into_is = in_at_ends n p hop ends in
       record {
-        out_is = subst IsPrintable (sym out_is) (printable_plain ends.exporter (name_of ends.exporter_line.map_out) (name_of ends.exporter_line.list_out) p false
+        out_is = subst IsPrintable (sym out_is) (printable_plain ends.exporter (name_of ends.exporter_line.map_out) (name_of ends.exporter_line.list_out) p
+            false
             (printable_maps n ends.exporter bgp.form faultless.undefined_list faultless.delete_list exporter));
         into_is = subst IsPrintable (sym into_is) (printable_plain ends.importer (name_of ends.importer_line.map_in) (name_of ends.importer_line.list_in) p true
             (printable_maps n ends.importer bgp.form faultless.undefined_list faultless.delete_list importer));
@@ -321,7 +322,8 @@ module _ (n : Network) (bgp : IsBgp n) (faultless : IsFaultless n) (few : length
       → In (preferences_over u edge) lp
   over_edge u edge act importer at lp is =
       subst (λ (b : Bool). In (preferences_if b (slice_get acts edge.act)) lp) (sym (same_number edge.importer u importer))
-      (subst (λ (o : Option Hop). In (preferences_at o) lp) (sym at) (prefers (communities_of n) samples (out_at act) (into_at act) (sends_over act) (act_maps edge.act act at) lp is))
+      (subst (λ (o : Option Hop). In (preferences_at o) lp) (sym at)
+          (prefers (communities_of n) samples (out_at act) (into_at act) (sends_over act) (act_maps edge.act act at) lp is))
 
   record Over (u : ℕ) (edge : Edge) (lp : ℕ) : Type 0 where
     importer : edge.importer ≡ u
@@ -329,11 +331,13 @@ module _ (n : Network) (bgp : IsBgp n) (faultless : IsFaultless n) (few : length
     at : slice_get acts edge.act ≡ Some act
     prefers : Prefers (importing act) lp
 
-  over_by : (u : ℕ) (edge : Edge) (lp : ℕ) (b : Bool) → nat_eq edge.importer u ≡ b → (o : Option Hop) → slice_get acts edge.act ≡ o → In (preferences_if b o) lp → Over u edge lp
+  over_by : (u : ℕ) (edge : Edge) (lp : ℕ) (b : Bool) → nat_eq edge.importer u ≡ b → (o : Option Hop) → slice_get acts edge.act ≡ o → In (preferences_if b o) lp
+      → Over u edge lp
   over_by u edge lp false e o is at = absurd at
   over_by u edge lp true e None is at = absurd at
   over_by u edge lp true e (Some act) is at =
-      record { importer = (let same : edge.importer ≡ u = grind (arith, nat_tests) in same); act = act; at = is; prefers = preferred (communities_of n) samples (importing act) lp at }
+      record { importer = (let same : edge.importer ≡ u = grind (arith, nat_tests) in same); act = act; at = is; prefers =
+          preferred (communities_of n) samples (importing act) lp at }
 
   edge_over : (u : ℕ) (edge : Edge) (lp : ℕ) → In (preferences_over u edge) lp → Over u edge lp
   edge_over u edge lp at = over_by u edge lp (nat_eq edge.importer u) refl (slice_get acts edge.act) refl at
@@ -360,12 +364,14 @@ module _ (n : Network) (bgp : IsBgp n) (faultless : IsFaultless n) (few : length
       let act = edge_act a.edge a.edge_in in
       in_flat_map (preferences_over u) edges a.edge lp (in_contains edges a.edge a.edge_in)
       (over_edge u a.edge act.act a.importer act.at lp
-      (record { set = a.comms; ascending = a.is_set; import = a.imported; is = sym (edge_import a.edge act.act act.at a.comms) ∙ a.accepted; preferred = a.preferred }))
+      (record { set = a.comms; ascending = a.is_set; import = a.imported; is = sym (edge_import a.edge act.act act.at a.comms) ∙ a.accepted; preferred =
+          a.preferred }))
 
   lone_is : (u : ℕ) → u < length n.routers → is_lone problem u ≡ differ_in (preferences_of u)
   unfolding lone
   lone_is u inside =
-      read_map (λ v. differ_in (preferences_of v)) (range_with_len 0 (length n.routers)) u u false (range_get 0 (length n.routers) u inside ∙ ap (λ (k : ℕ). Some k) (zero-add u))
+      read_map (λ v. differ_in (preferences_of v)) (range_with_len 0 (length n.routers)) u u false
+          (range_get 0 (length n.routers) u inside ∙ ap (λ (k : ℕ). Some k) (zero-add u))
 
   closed_to : (place : ℕ) → has_initial init place ≡ false → slice_index_or init place None ≡ None
   closed_to place open_to = none_is (slice_index_or init place None) open_to
@@ -386,7 +392,8 @@ module _ (n : Network) (bgp : IsBgp n) (faultless : IsFaultless n) (few : length
   all_lone : (u : ℕ) → u < length n.routers → IsLone problem u → is_lone problem u ≡ true
   all_lone u inside is = elim (bit (differ_in (preferences_of u))) [
     | inl marked ↦ lone_is u inside ∙ marked
-    | inr alone ↦ absurd (is.differ (one_number (preferences_of u) alone is.first is.second (accepted u is.first is.first_accepted) (accepted u is.second is.second_accepted)))
+    | inr alone ↦ absurd (is.differ (one_number (preferences_of u) alone is.first is.second (accepted u is.first is.first_accepted)
+        (accepted u is.second is.second_accepted)))
   ]
 
   -- ---- edges and acts
@@ -412,7 +419,8 @@ module _ (n : Network) (bgp : IsBgp n) (faultless : IsFaultless n) (few : length
       let ends = hop_ends n bgp hop (sorted_hop n hop (numbered.within k hop at)) in
       subst AddsNothing (sym (in_at_ends n p hop ends))
       (in_maps_add_nothing n ends.importer ends.importer_line bgp.nothing_added (router_in hop.importer ends.importer ends.importer_at)
-      (contains_in (neighbors_of ends.importer) ends.importer_line (get_in (neighbors_of ends.importer) hop.importer_item ends.importer_line ends.importer_line_at)) p)
+      (contains_in (neighbors_of ends.importer) ends.importer_line
+          (get_in (neighbors_of ends.importer) hop.importer_item ends.importer_line ends.importer_line_at)) p)
 
   act_fits : (act : Act) → In (map written acts) act → IsActOf OverBgp act
   act_fits act at =
@@ -498,7 +506,8 @@ module _ (n : Network) (bgp : IsBgp n) (faultless : IsFaultless n) (few : length
     at : slice_get routers place ≡ Some router
     is : start_route q router ≡ Some route
 
-  starts_at : (q : Prefix) (routers : List Router) (place : ℕ) (route : Route) → slice_index_or (map (start_route q) routers) place None ≡ Some route → StartsAt q routers place route
+  starts_at : (q : Prefix) (routers : List Router) (place : ℕ) (route : Route) → slice_index_or (map (start_route q) routers) place None ≡ Some route
+      → StartsAt q routers place route
   starts_at q [] place route h = absurd cc
   starts_at q (router ∷ routers) zero route h = record { router = router; at = refl; is = h }
   starts_at q (router ∷ routers) (suc place) route h = let r = starts_at q routers place route h in record { router = r.router; at = r.at; is = r.is }
@@ -589,7 +598,8 @@ module _ (n : Network) (bgp : IsBgp n) (faultless : IsFaultless n) (few : length
         ordered = ordered n HasEdge IsClosed same_ends edges each;
         one_of_link = one_of_link n HasEdge IsClosed same_ends edges each;
       };
-      acts = record { fit = all_from (IsActOf OverBgp) (map written acts) act_fits; keep = all_from KeepsSets (map written acts) act_keeps; differ = acts_differ };
+      acts = record { fit = all_from (IsActOf OverBgp) (map written acts) act_fits; keep = all_from KeepsSets (map written acts) act_keeps; differ =
+          acts_differ };
       starts = record {
         routes = λ u r h. (let s = start_at u r h in let is = (start_is_bgp n bgp s.router (get_in n.routers u s.router s.at) q r s.is).is in
             subst (λ (x : Route). IsRouteOf OverBgp x) (sym is) tt);
@@ -598,7 +608,8 @@ module _ (n : Network) (bgp : IsBgp n) (faultless : IsFaultless n) (few : length
         unoriginated = λ e edge inside. closed_to edge.importer (edge_act edge inside).open_to;
       };
       numbers = λ e. record {
-        originators = λ u r h. (let s = start_at u r h in has_number u s.router s.at (start_is_bgp n bgp s.router (get_in n.routers u s.router s.at) q r s.is).has);
+        originators = λ u r h. (let s = start_at u r h in has_number u s.router s.at
+            (start_is_bgp n bgp s.router (get_in n.routers u s.router s.at) q r s.is).has);
         importers = importer_numbered;
         exporters = exporter_numbered;
         distinct = distinct;
@@ -645,15 +656,18 @@ module _ (n : Network) (bgp : IsBgp n) (faultless : IsFaultless n) (few : length
           });
     }
 
-pub some_problem : (n : Network) → IsBgp n → IsFaultless n → length (directions_of n) < 2 ^ 32 → HasSamples (communities_of n) → (class : DestClass) → Contains (classes_of n) class → (first : Prefix)
+pub some_problem : (n : Network) → IsBgp n → IsFaultless n → length (directions_of n) < 2 ^ 32 → HasSamples (communities_of n) → (class : DestClass)
+    → Contains (classes_of n) class → (first : Prefix)
     → Contains class.prefixes first → HasProblem n class
 some_problem n bgp faultless few samples class has first first_in =
     let init = starts_from 0 class.origins n.routers in
     record {
       problem = problem n bgp faultless few samples first init;
       built = record {
-        of = λ q i. problem_is n bgp faultless few samples first init q (starts_of_class n class q has i) (λ router r name list inbound. maps_of_class n class first q has first_in i router r name list inbound);
+        of = λ q i. problem_is n bgp faultless few samples first init q (starts_of_class n class q has i)
+            (λ router r name list inbound. maps_of_class n class first q has first_in i router r name list inbound);
         order = acts_in_order n bgp faultless few samples first init;
-        acts = λ q i. first_acts n bgp faultless few samples first init q (starts_of_class n class q has i) (λ router r name list inbound. maps_of_class n class first q has first_in i router r name list inbound);
+        acts = λ q i. first_acts n bgp faultless few samples first init q (starts_of_class n class q has i)
+            (λ router r name list inbound. maps_of_class n class first q has first_in i router r name list inbound);
       };
     }

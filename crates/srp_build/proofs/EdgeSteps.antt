@@ -101,7 +101,8 @@ module _ (shown shown' : Shown) (routers : List Router) (init : List (Option Rou
     same = ap (edge_with number) (sym is.first);
   }
 
-  is_kept : (number : ℕ) (import : ImportByMaps) → CameTo before after hop import number → (edge : Edge) → IsFirstWithAct before edge → IsFirstWithAct after edge
+  is_kept : (number : ℕ) (import : ImportByMaps) → CameTo before after hop import number → (edge : Edge) → IsFirstWithAct before edge
+      → IsFirstWithAct after edge
   is_kept number import came edge is = record { act = is.act; at = act_kept before after hop import number came edge.act is.act is.at; same = is.same }
 
   taken : Takes routers init maps old new hop → AreEdgesOfSessions shown' routers init maps (hops ++ hop ∷ []) new

@@ -21,7 +21,8 @@ same_names : (p : Prefix) (router : Router) (inbound : Bool) (other line : Neigh
 same_names p router true other line maps lists = λ j. plain_of router (maps j) (lists j) p true
 same_names p router false other line maps lists = λ j. plain_of router (maps j) (lists j) p false
 
-earlier_policy : (routers : List Router) (router : Router) (inbound : Bool) (policies : List LinePlace) (lines : List Neighbor) (numbers : List ℕ) (line : Neighbor)
+earlier_policy : (routers : List Router) (router : Router) (inbound : Bool) (policies : List LinePlace) (lines : List Neighbor) (numbers : List ℕ)
+    (line : Neighbor)
     (number : ℕ) → ArePoliciesOf routers router inbound policies lines numbers → IsAsEarlier inbound lines numbers line number →
     IsPolicyOf routers policies router inbound line number
 earlier_policy routers router inbound policies lines numbers line number are as_earlier =
@@ -130,7 +131,8 @@ came_fixed old new more first plain place number firsts next policies maps is gr
   fixed = λ routers always are.
       let put = maps ∙ put_last routers are grown in
       record {
-        total = (let a = ap (λ (l : List ℕ). length l) policies in let b = length_last old.policies.items number in let c = ap (λ (l : List Plain). length l) put in
+        total = (let a = ap (λ (l : List ℕ). length l) policies in let b = length_last old.policies.items number in let c =
+            ap (λ (l : List Plain). length l) put in
             let d = length_last old.fixed.maps.items plain in let e = are.total in omega arith);
         each = λ other k m k_at m_at. elim (front_or_last old.policies.items number other k (ap (λ (l : List ℕ). slice_get l other) (sym policies) ∙ k_at)) [
           | inl before ↦ elim (front_or_last old.fixed.maps.items plain other m (ap (λ (l : List Plain). slice_get l other) (sym put) ∙ m_at)) [
@@ -176,12 +178,14 @@ policies_kept routers router inbound old new lines numbers kept are place number
     record { line = there.line; at = there.at; is = policy_kept routers router inbound there.line number old new kept there.is }
 
 -- one more line
-policies_next : (routers : List Router) (router : Router) (inbound : Bool) (policies : List LinePlace) (lines : List Neighbor) (numbers : List ℕ) (line : Neighbor)
+policies_next : (routers : List Router) (router : Router) (inbound : Bool) (policies : List LinePlace) (lines : List Neighbor) (numbers : List ℕ)
+    (line : Neighbor)
     (number : ℕ) → ArePoliciesOf routers router inbound policies lines numbers → slice_get lines (length numbers) ≡ Some line →
     IsPolicyOf routers policies router inbound line number → ArePoliciesOf routers router inbound policies lines (numbers ++ number ∷ [])
 policies_next routers router inbound policies lines numbers line number are there is place other at = elim (front_or_last numbers number place other at) [
   | inl before ↦ are place other before
-  | inr last ↦ record { line = line; at = ap (slice_get lines) last.0 ∙ there; is = subst (λ (k : ℕ). IsPolicyOf routers policies router inbound line k) last.1 is }
+  | inr last ↦ record { line = line; at = ap (slice_get lines) last.0 ∙ there; is =
+      subst (λ (k : ℕ). IsPolicyOf routers policies router inbound line k) last.1 is }
 ]
 
 -- what one more line of a router brings
@@ -205,7 +209,8 @@ line_step routers old new place router numbers line number there at fixed are (i
   kept = came.kept;
   fixed = came.fixed routers there fixed;
   each = policies_next routers router place.inbound new.firsts.items (neighbors_of router) numbers line number
-      (policies_kept routers router place.inbound old.firsts.items new.firsts.items (neighbors_of router) numbers came.kept are) at (came.is routers there fixed);
+      (policies_kept routers router place.inbound old.firsts.items new.firsts.items (neighbors_of router) numbers came.kept are) at
+          (came.is routers there fixed);
 }
 
 -- ---- one more router
@@ -220,13 +225,15 @@ have_kept all inbound old new kept (router ∷ routers) (numbers ∷ table) have
   have_kept all inbound old new kept routers table have.1,
 )
 
-have_last : (all : List Router) (inbound : Bool) (policies : List LinePlace) (router : Router) (numbers : List ℕ) → HasPolicies all router inbound policies numbers →
+have_last : (all : List Router) (inbound : Bool) (policies : List LinePlace) (router : Router) (numbers : List ℕ)
+    → HasPolicies all router inbound policies numbers →
     (routers : List Router) (table : List (List ℕ)) → HavePolicies all inbound policies routers table →
     HavePolicies all inbound policies (routers ++ router ∷ []) (table ++ numbers ∷ [])
 have_last all inbound policies router numbers has [] [] have = (has, tt)
 have_last all inbound policies router numbers has [] (x ∷ table) have = absurd have
 have_last all inbound policies router numbers has (r ∷ routers) [] have = absurd have
-have_last all inbound policies router numbers has (r ∷ routers) (x ∷ table) have = (have.0, have_last all inbound policies router numbers has routers table have.1)
+have_last all inbound policies router numbers has (r ∷ routers) (x ∷ table) have =
+    (have.0, have_last all inbound policies router numbers has routers table have.1)
 
 -- the next router of a list, whose numbers come last
 pub have_next : (all : List Router) (inbound : Bool) (old new : List LinePlace) (routers : List Router) (i : ℕ) (router : Router) (table : List (List ℕ))

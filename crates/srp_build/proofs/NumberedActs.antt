@@ -37,7 +37,8 @@ last_or (z ∷ zs) x (suc k) y at = elim (last_or zs x k y at) [
 
 -- one more edge in front
 shift : (edge : Edge) (edges : List Edge) (place act : ℕ) → HasEarlier edges place act → HasEarlier (edge ∷ edges) (suc place) act
-shift edge edges place act has = record { earlier = suc has.earlier; before = (let b = has.before in omega arith); edge = has.edge; at = has.at; same = has.same }
+shift edge edges place act has = record { earlier = suc has.earlier; before = (let b = has.before in omega arith); edge = has.edge; at = has.at; same =
+    has.same }
 
 in_front : (edge : Edge) (edges : List Edge) (place : ℕ) → HasEarlier (edge ∷ edges) (suc place) edge.act
 in_front edge edges place = record { earlier = zero; before = omega arith; edge = edge; at = refl; same = refl }
@@ -126,7 +127,8 @@ module _ (R : Hop → Hop → Type 0) (own : (h : Hop) → R h h) (turn : (a b :
     pub in_order : (place act : ℕ) (edge : Edge) → slice_get edges place ≡ Some edge → length acts ≤ act → act < edge.act → HasEarlier edges place act
     pub first : (place : ℕ) (edge : Edge) → slice_get edges place ≡ Some edge → length acts ≤ edge.act → IsFirstWith edges place edge.act → IsFirst all edge
 
-  within_more : (hop : Hop) (hops more : List Hop) → ((k : ℕ) (a : Hop) → slice_get more k ≡ Some a → In hops a) → (k : ℕ) (a : Hop) → slice_get (hop ∷ more) k ≡ Some a → In (hop ∷ hops) a
+  within_more : (hop : Hop) (hops more : List Hop) → ((k : ℕ) (a : Hop) → slice_get more k ≡ Some a → In hops a) → (k : ℕ) (a : Hop)
+      → slice_get (hop ∷ more) k ≡ Some a → In (hop ∷ hops) a
   within_more hop hops more all zero a at = inl (one_value hop a at)
   within_more hop hops more all (suc k) a at = inr (all k a at)
 
@@ -168,14 +170,17 @@ module _ (R : Hop → Hop → Type 0) (own : (h : Hop) → R h h) (turn : (a b :
         first = first edge below;
       }
     where
-      in_order : (front : Edge) → front.act < length acts → (place act : ℕ) (edge : Edge) → slice_get (front ∷ f.edges) place ≡ Some edge → length acts ≤ act → act < edge.act
+      in_order : (front : Edge) → front.act < length acts → (place act : ℕ) (edge : Edge) → slice_get (front ∷ f.edges) place ≡ Some edge → length acts ≤ act
+          → act < edge.act
           → HasEarlier (front ∷ f.edges) place act
-      in_order front below zero act edge e low less = (let same : front.act ≡ edge.act = ap (λ (x : Edge). x.act) (let one : front ≡ edge = cc in one) in absurd (omega arith))
+      in_order front below zero act edge e low less = (let same : front.act ≡ edge.act = ap (λ (x : Edge). x.act) (let one : front ≡ edge = cc in one) in
+          absurd (omega arith))
       in_order front below (suc place) act edge e low less = shift front f.edges place act (f.in_order place act edge e low less)
 
       first : (front : Edge) → front.act < length acts → (place : ℕ) (edge : Edge) → slice_get (front ∷ f.edges) place ≡ Some edge → length acts ≤ edge.act
           → IsFirstWith (front ∷ f.edges) place edge.act → IsFirst f.all edge
-      first front below zero edge e low is = (let same : front.act ≡ edge.act = ap (λ (x : Edge). x.act) (let one : front ≡ edge = cc in one) in absurd (omega arith))
+      first front below zero edge e low is = (let same : front.act ≡ edge.act = ap (λ (x : Edge). x.act) (let one : front ≡ edge = cc in one) in
+          absurd (omega arith))
       first front below (suc place) edge e low is = f.first place edge e low (first_behind front f.edges place edge.act is)
 
   -- a direction with an act of its own
@@ -209,14 +214,17 @@ module _ (R : Hop → Hop → Type 0) (own : (h : Hop) → R h h) (turn : (a b :
       seam : slice_get f.all (length acts) ≡ Some hop
       seam = ap (λ (l : List Hop). slice_get l (length acts)) (f.all_is ∙ append_assoc acts (hop ∷ []) f.more) ∙ get_seam acts hop f.more
 
-      in_order : (place act : ℕ) (edge : Edge) → slice_get (front ∷ f.edges) place ≡ Some edge → length acts ≤ act → act < edge.act → HasEarlier (front ∷ f.edges) place act
-      in_order zero act edge e low less = (let same : length acts ≡ edge.act = ap (λ (x : Edge). x.act) (let one : front ≡ edge = cc in one) in absurd (omega arith))
+      in_order : (place act : ℕ) (edge : Edge) → slice_get (front ∷ f.edges) place ≡ Some edge → length acts ≤ act → act < edge.act
+          → HasEarlier (front ∷ f.edges) place act
+      in_order zero act edge e low less = (let same : length acts ≡ edge.act = ap (λ (x : Edge). x.act) (let one : front ≡ edge = cc in one) in
+          absurd (omega arith))
       in_order (suc place) act edge e low less = elim (cases_eq (length acts) act) [
         | inl same ↦ subst (HasEarlier (front ∷ f.edges) (suc place)) same (in_front front f.edges place)
         | inr other ↦ shift front f.edges place act (f.in_order place act edge e (let l = longer in omega arith) less)
       ]
 
-      first : (place : ℕ) (edge : Edge) → slice_get (front ∷ f.edges) place ≡ Some edge → length acts ≤ edge.act → IsFirstWith (front ∷ f.edges) place edge.act → IsFirst f.all edge
+      first : (place : ℕ) (edge : Edge) → slice_get (front ∷ f.edges) place ≡ Some edge → length acts ≤ edge.act → IsFirstWith (front ∷ f.edges) place edge.act
+          → IsFirst f.all edge
       first zero edge e low is =
           let one : front ≡ edge = (let s : Some front ≡ Some edge = e in cc) in
           let same : length acts ≡ edge.act = ap (λ (x : Edge). x.act) one in
@@ -253,7 +261,8 @@ module _ (R : Hop → Hop → Type 0) (own : (h : Hop) → R h h) (turn : (a b :
         | inl carries ↦ elim (find_like hop mine acts all) [
           | inl found ↦ again acts hops hop carries found.0 found.1.0 found.1.1 found.1.2 (numbered hops rest acts all apart carry)
           | inr none ↦ anew acts hops hop carries
-              (numbered hops rest (acts ++ hop ∷ []) (each_more Good hop acts mine all) (apart_more hop acts apart none) (each_more Open hop acts carries carry))
+              (numbered hops rest (acts ++ hop ∷ []) (each_more Good hop acts mine all) (apart_more hop acts apart none)
+                  (each_more Open hop acts carries carry))
         ]
       ]
 

@@ -80,7 +80,8 @@ module _ (n : Network) (ospf : IsOspf n) (few : length (directions_of n) < 2 ^ 3
   numbers : NumbersHops n.routers costs (directions_of n) numbered.edges
   unfolding costs
   numbers = record {
-    each = edges_as (HasAct SameCost own turn Any decide Any never_left choose numbered.acts) (IsEdgeOfHop n.routers costs) never_left has_cost (directions_of n) numbered.edges numbered.each;
+    each = edges_as (HasAct SameCost own turn Any decide Any never_left choose numbered.acts) (IsEdgeOfHop n.routers costs) never_left has_cost
+        (directions_of n) numbered.edges numbered.each;
     few = (let same = longs in let less = numbered.few in omega arith);
     used = λ c inside. (
         let m = map_in cost numbered.acts c (in_contains costs c inside) in
@@ -105,7 +106,8 @@ module _ (n : Network) (ospf : IsOspf n) (few : length (directions_of n) < 2 ^ 3
     pub some_problem : (first : Prefix) → Contains class.prefixes first → HasProblem n class
     some_problem first inside =
         let problem : Problem = made n first (starts_from 0 class.origins n.routers) costs numbered.edges (parts first inside) in
-        let of : (p : Prefix) → Contains class.prefixes p → IsProblemOf n p problem = λ p i. problem_is n p (starts_from 0 class.origins n.routers) costs numbered.edges (parts p i) in
+        let of : (p : Prefix) → Contains class.prefixes p → IsProblemOf n p problem = λ p i.
+            problem_is n p (starts_from 0 class.origins n.routers) costs numbered.edges (parts p i) in
         record {
           problem = problem;
           built = record {

@@ -47,17 +47,20 @@ first_of : (prefixes : List Prefix) → 0 < length prefixes → (p : Prefix) × 
 first_of [] some = absurd (omega arith)
 first_of (p ∷ ps) some = (p, contains_in (p ∷ ps) p (inl refl))
 
-module _ (few_links : FewLinks) (formed : GivenIsWellFormed) (samples : (universe : List ℕ) → HasSamples universe) (n : Network) (given : ∥ IsGiven n ∥₁) (faultless : IsFaultless n) (class : DestClass)
+module _ (few_links : FewLinks) (formed : GivenIsWellFormed) (samples : (universe : List ℕ) → HasSamples universe) (n : Network) (given : ∥ IsGiven n ∥₁)
+    (faultless : IsFaultless n) (class : DestClass)
     (has : Contains (classes_of n) class) where
   by : (o : Option Protocol) → protocol_of n ≡ o → HasProblem n class
   by None is = absurd (no_class n class is has)
   by (Some protocol.Bgp) is =
       let first = first_of class.prefixes (has_prefix n class has) in
       let form = formed n given in
-      bgp.some_problem n (is_bgp n form faultless (few_routers n faultless) is) faultless (few_directions n (few_links n form faultless)) (samples (communities_of n)) class has first.0 first.1
+      bgp.some_problem n (is_bgp n form faultless (few_routers n faultless) is) faultless (few_directions n (few_links n form faultless))
+          (samples (communities_of n)) class has first.0 first.1
   by (Some protocol.Ospf) is =
       let first = first_of class.prefixes (has_prefix n class has) in
-      ospf.some_problem n (is_ospf n given faultless (few_routers n faultless) is) (few_directions n (few_links n (formed n given) faultless)) class has first.0 first.1
+      ospf.some_problem n (is_ospf n given faultless (few_routers n faultless) is) (few_directions n (few_links n (formed n given) faultless)) class has first.0
+          first.1
 
 pub samples_give_problems : FewLinks → GivenIsWellFormed → SamplesGiveProblems
 samples_give_problems few_links formed samples n given faultless class has = by few_links formed samples n given faultless class has (protocol_of n) refl

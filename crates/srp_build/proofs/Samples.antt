@@ -96,7 +96,8 @@ abbrev preference_of : Option Imported → List ℕ
 preference_of None = []
 preference_of (Some i) = i.lp ∷ []
 
-in_like : (a b : Option Imported) (lp : ℕ) → option_map (λ (i : Imported). i.lp) a ≡ option_map (λ (i : Imported). i.lp) b → (i : Imported) → b ≡ Some i → i.lp ≡ lp → In (preference_of a) lp
+in_like : (a b : Option Imported) (lp : ℕ) → option_map (λ (i : Imported). i.lp) a ≡ option_map (λ (i : Imported). i.lp) b → (i : Imported) → b ≡ Some i
+    → i.lp ≡ lp → In (preference_of a) lp
 in_like None None lp e i is same = absurd cc
 in_like None (Some j) lp e i is same = absurd cc
 in_like (Some k) None lp e i is same = absurd cc
@@ -119,7 +120,8 @@ module _ (universe : List ℕ) (has : HasSamples universe) where
   preferences f = flat_map (λ set. preference_of (f set)) has.samples
 
   -- whether two sessions import alike
-  pub dec_one : (out into other_out other_into : Plain) (sends other_sends : Bool) → AreSessionMaps universe out into → AreSessionMaps universe other_out other_into
+  pub dec_one : (out into other_out other_into : Plain) (sends other_sends : Bool) → AreSessionMaps universe out into
+      → AreSessionMaps universe other_out other_into
       → Dec (AreOneImport (import_of out sends into) (import_of other_out other_sends other_into))
   dec_one out into other_out other_into sends other_sends first second =
       elim (all_or (λ set. import_of out sends into set ≡ import_of other_out other_sends other_into set)
@@ -134,7 +136,8 @@ module _ (universe : List ℕ) (has : HasSamples universe) where
     where
       by : (set : List ℕ) → In has.samples set → (o : Option Imported) → f set ≡ o → In (preference_of o) lp → Prefers f lp
       by set inside None e at = absurd at
-      by set inside (Some i) e (inl same) = record { set = set; ascending = has.ascending set (contains_in has.samples set inside); import = i; is = e; preferred = same }
+      by set inside (Some i) e (inl same) = record { set = set; ascending = has.ascending set (contains_in has.samples set inside); import = i; is = e;
+          preferred = same }
       by set inside (Some i) e (inr at) = absurd at
 
   module _ (out into : Plain) (sends : Bool) (maps : AreSessionMaps universe out into) where

@@ -57,7 +57,8 @@ module _ (S : Problem) (good : IsProblem S) (groups : List ℕ) (adm : IsAdmissi
           let b = numbered_member h ih uh nh in
           let na : number S a.router ≡ number Q g = a.numbered ∙ sym (q.numbers g ig ug) in
           let nb : number S b.router ≡ number Q h = b.numbered ∙ sym (q.numbers h ih uh) in
-          let routers : a.router ≡ b.router = (good.numbers (from_bgp p)).distinct a.router b.router a.inside b.inside (na ∙ same ∙ sym nb) (λ z. n (sym na ∙ z))
+          let routers : a.router ≡ b.router = (good.numbers (from_bgp p)).distinct a.router b.router a.inside b.inside (na ∙ same ∙ sym nb)
+              (λ z. n (sym na ∙ z))
           in
           differ (sym a.of_group ∙ ap (group_of groups) routers ∙ b.of_group))))))
     ]
@@ -106,7 +107,8 @@ module _ (S : Problem) (good : IsProblem S) (groups : List ℕ) (adm : IsAdmissi
       acts = record {
         fit = subst (λ (l : List Act). All (IsActOf Q.protocol) l) (sym made.acts) (subst (λ p. All (IsActOf p) S.acts) q.protocol good.acts.fit);
         keep = subst (All KeepsSets) (sym made.acts) good.acts.keep;
-        differ = subst (λ (l : List Act). (i j : ℕ) → i < length l → j < length l → ActsAlike (slice_index_or l i (Cost 0)) (slice_index_or l j (Cost 0)) → i ≡ j)
+        differ = subst (λ (l : List Act). (i j : ℕ) → i < length l → j < length l → ActsAlike (slice_index_or l i (Cost 0)) (slice_index_or l j (Cost 0))
+            → i ≡ j)
             (sym made.acts) good.acts.differ;
       };
       starts = record {

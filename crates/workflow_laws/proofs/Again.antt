@@ -49,7 +49,8 @@ range_below n k d h =
 range_numbered : (n : ℕ) → IsNumbered (range_with_len 0 n) n
 range_numbered n = record {
   below = range_below n;
-  used = λ g h. (let itself : 0 + g ≡ g = omega arith in contains_in (range_with_len 0 n) g (subst (λ (v : ℕ). In (range_with_len 0 n) v) itself (in_range 0 n g h)));
+  used = λ g h. (let itself : 0 + g ≡ g = omega arith in contains_in (range_with_len 0 n) g
+      (subst (λ (v : ℕ). In (range_with_len 0 n) v) itself (in_range 0 n g h)));
   in_order = λ v g h less. (
       let long = length-range_with_len 0 n in
       let inside : v < n = omega (arith, long, h) in
@@ -79,7 +80,8 @@ module _ (n m : ℕ) (hs : List ℕ) (total : length hs ≡ n) (single : IsDiscr
 
 -- ---- the small network
 
-again : QuotientIsQuotient → QuotientIsSmallest → (n m : Network) (class lower : DestClass) (bytes : List ℕ) → Contains (classes_of n) class → IsSmall n class bytes m → ((p : _) → Contains class.prefixes p → Contains lower.prefixes p)
+again : QuotientIsQuotient → QuotientIsSmallest → (n m : Network) (class lower : DestClass) (bytes : List ℕ) → Contains (classes_of n) class
+    → IsSmall n class bytes m → ((p : _) → Contains class.prefixes p → Contains lower.prefixes p)
     → (o : Outcome) → IsGroupsOf m lower o → PutsEachAlone m lower o
 again is_quotient smallest n m class lower bytes has s prefixes o x =
     let p = some_prefix n class has in
@@ -89,7 +91,8 @@ again is_quotient smallest n m class lower bytes has s prefixes o x =
     let a = x.lines in
     let R = a.problem in
     let alike = problems_alike m p.0 R (small e) (a.are.of_class p.0 (prefixes p.0 p.1)) low in
-    let q : IsQuotient e.problem e.groups (small e) = subst (IsQuotient e.problem e.groups) (sym (ap (quotient_problem e.problem e.groups e.count) s.is.links)) (is_quotient e.problem e.groups e.count own.rules s.is.coarsest.admissible s.is.numbered) in
+    let q : IsQuotient e.problem e.groups (small e) = subst (IsQuotient e.problem e.groups) (sym (ap (quotient_problem e.problem e.groups e.count) s.is.links))
+        (is_quotient e.problem e.groups e.count own.rules s.is.coarsest.admissible s.is.numbered) in
     let c = same_coarsest R (small e) alike a.groups a.are.coarsest in
     let single = smallest e.problem (small e) e.groups a.groups own.rules low.rules s.is.coarsest q c.admissible in
     let counts : count (small e) ≡ count R = ap (λ (numbers : List ℕ). length numbers) (sym alike.numbers) in
@@ -104,6 +107,7 @@ compressed_again well built has_problem is_quotient smallest contents F G N K c 
     let n = c.of_large.network in
     let m = c.of_small.network in
     let s = small_network well built has_problem contents F G N K c in
-    let answer = answer_of (groups G K) contents (command.Groups K) refl (names_groups G K (short_small well contents F G N K c)) c.small c.kept o m c.of_small.reads s.short x in
+    let answer = answer_of (groups G K) contents (command.Groups K) refl (names_groups G K (short_small well contents F G N K c)) c.small c.kept o m
+        c.of_small.reads s.short x in
     again is_quotient smallest n m c.of_large.class c.of_small.class c.small (has_class n N c.of_large.class c.of_large.class_is) s c.prefixes o
     (subst (λ (found : Option DestClass). IsOfClass found K (IsGroupsOf m) o) c.of_small.class_is answer)

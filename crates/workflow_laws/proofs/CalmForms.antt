@@ -72,7 +72,8 @@ communities words =
 bounds : (len : ℕ) (words : List (List ℕ)) → Calm (bounds_of len words)
 unfolding bounds_of
 bounds len [] = tt
-bounds len (word ∷ number ∷ []) = given (number_between len 32 number) _ (λ bound. either (bytes_eq word (codes "ge")) _ _ tt (unless (bytes_eq word (codes "le")) _ tt))
+bounds len (word ∷ number ∷ []) = given (number_between len 32 number) _
+    (λ bound. either (bytes_eq word (codes "ge")) _ _ tt (unless (bytes_eq word (codes "le")) _ tt))
 bounds len (word ∷ low ∷ other ∷ high ∷ []) =
     unless (bytes_eq word (codes "ge") && bytes_eq other (codes "le")) _
     (given (number_between len 32 low) _ (λ ge. given (number_between ge 32 high) _ (λ le. tt)))

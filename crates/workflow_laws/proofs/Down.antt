@@ -26,24 +26,29 @@ use Rattle.workflow_laws.proofs.Verdicts.{says_so}
 -- ---- `check` says what `fold` comes to
 
 module _ (n : Network) (number : ℕ) (second : Option (List ℕ)) (told : IsSome second) (folded checked : Outcome) where
-  of_class : (class : DestClass) → Contains (classes_of n) class → IsFoldOf n second class folded → IsCheckOf n second class checked → checked ≡ verdict_told folded
+  of_class : (class : DestClass) → Contains (classes_of n) class → IsFoldOf n second class folded → IsCheckOf n second class checked
+      → checked ≡ verdict_told folded
   of_class class has x y =
       let p = some_prefix n class has in
       let own = x.are.built.of p.0 p.1 in
       let alike = problems_alike n p.0 x.sides.problem y.problem own (y.of_class p.0 p.1) in
-      says_so x.sides.problem (IsFolded x.sides) (λ labels o is. ap (λ (q : Outcome). q.status) is.written) y.problem alike own.rules second told folded checked x.solution y.judgement
+      says_so x.sides.problem (IsFolded x.sides) (λ labels o is. ap (λ (q : Outcome). q.status) is.written) y.problem alike own.rules second told folded checked
+          x.solution y.judgement
 
-  of_number : (found : Option DestClass) → class_at (classes_of n) number ≡ found → IsOfClass found number (IsFoldOf n second) folded → IsOfClass found number (IsCheckOf n second) checked → checked ≡ verdict_told folded
+  of_number : (found : Option DestClass) → class_at (classes_of n) number ≡ found → IsOfClass found number (IsFoldOf n second) folded
+      → IsOfClass found number (IsCheckOf n second) checked → checked ≡ verdict_told folded
   of_number None at x y = y ∙ sym (ap verdict_told x)
   of_number (Some class) at x y = of_class class (has_class n number class at) x y
 
 module _ (number : ℕ) (second : Option (List ℕ)) (told : IsSome second) (folded checked : Outcome) where
-  of_reading : (r : Result Network ReadRefusal) → IsOutcomeOfReading (command.Fold number) second r folded → IsOutcomeOfReading (command.Check number) second r checked → checked ≡ verdict_told folded
+  of_reading : (r : Result Network ReadRefusal) → IsOutcomeOfReading (command.Fold number) second r folded
+      → IsOutcomeOfReading (command.Check number) second r checked → checked ≡ verdict_told folded
   of_reading (Ok n) x y = of_number n number second told folded checked (class_at (classes_of n) number) refl x y
   of_reading (Err (read_refusal.At line kind)) x y = y ∙ sym (ap verdict_told x)
   of_reading (Err read_refusal.Memory) x y = absurd x
 
-  of_texts : (text : List ℕ) → IsOutcomeOfText (command.Fold number) second text folded → IsOutcomeOfText (command.Check number) second text checked → checked ≡ verdict_told folded
+  of_texts : (text : List ℕ) → IsOutcomeOfText (command.Fold number) second text folded → IsOutcomeOfText (command.Check number) second text checked
+      → checked ≡ verdict_told folded
   of_texts text (inl x) (inl y) = y.1 ∙ sym (ap verdict_told x.1)
   of_texts text (inl x) (inr y) = absurd (omega (arith, x.0, y.0))
   of_texts text (inr x) (inl y) = absurd (omega (arith, x.0, y.0))

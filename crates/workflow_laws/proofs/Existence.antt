@@ -147,7 +147,8 @@ outcomes_come_together sound complete has_order rest contents F S text N small h
           (of_texts (command.Report N) command.Classes second second r (λ n is. (done (classes_text n), refl)) text own);
       groups = has_outcome (groups F N) contents (command.Groups N) refl (names_groups F N small) text holds
           (of_texts (command.Report N) (command.Groups N) second second r
-          (λ n is. of_number n N (IsReported report_text n N) (IsGroupsOf n) (λ class has q x. groups_of_plan n N class q x) (class_at (classes_of n) N) refl r is) text own);
+          (λ n is. of_number n N (IsReported report_text n N) (IsGroupsOf n) (λ class has q x. groups_of_plan n N class q x) (class_at (classes_of n) N) refl r
+              is) text own);
       compress = has_outcome (compress F N) contents (command.Compress N) refl (names_compress F N small) text holds
           (of_texts (command.Report N) (command.Compress N) second second r
           (λ n is. of_number n N (IsReported report_text n N) (IsCompressOf n) (λ class has q x. compress_of_plan n N class q x)
@@ -158,7 +159,8 @@ outcomes_come_together sound complete has_order rest contents F S text N small h
           (class_at (classes_of n) N) refl r is) text own);
       check = has_outcome (check F N S) contents (command.Check N) refl (names_check F S N small) text holds
           (of_texts (command.Report N) (command.Check N) second (contents S) r
-          (λ n is. of_number n N (IsReported report_text n N) (IsCheckOf n (contents S)) (λ class has q x. check_of_plan n N class q x has sound complete (contents S) told)
+          (λ n is. of_number n N (IsReported report_text n N) (IsCheckOf n (contents S))
+              (λ class has q x. check_of_plan n N class q x has sound complete (contents S) told)
           (class_at (classes_of n) N) refl r is) text own);
       run = has_outcome (run F N S) contents (command.Run N) refl (names_run F S N small) text holds
           (of_texts (command.Report N) (command.Run N) second (contents S) r
@@ -166,6 +168,7 @@ outcomes_come_together sound complete has_order rest contents F S text N small h
           (class_at (classes_of n) N) refl r is) text own);
       reach = has_outcome (reach F N S) contents (command.Reach N) refl (names_reach F S N small) text holds
           (of_texts (command.Report N) (command.Reach N) second (contents S) r
-          (λ n is. of_number n N (IsReported report_text n N) (IsReachOf n (contents S)) (λ class has q x. reach_of_plan n N class q x has sound complete (contents S) told has_order)
+          (λ n is. of_number n N (IsReported report_text n N) (IsReachOf n (contents S))
+              (λ class has q x. reach_of_plan n N class q x has sound complete (contents S) told has_order)
           (class_at (classes_of n) N) refl r is) text own);
     }

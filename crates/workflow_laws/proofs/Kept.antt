@@ -51,9 +51,11 @@ module _ (well : WhatIsReadIsWell) (contents : Contents) (F G : List ℕ) (N K :
   short_small = short_of_class well c.small K c.of_small
 
   pub done_compress : IsDoneOver (command.Compress N) c.of_large.network c.large (contents []) c.small
-  done_compress = done_over (compress F N) contents (command.Compress N) refl (names_compress F N short_large) c.large c.holds c.small c.of_large.network c.of_large.reads c.wrote
+  done_compress = done_over (compress F N) contents (command.Compress N) refl (names_compress F N short_large) c.large c.holds c.small c.of_large.network
+      c.of_large.reads c.wrote
 
-module _ (well : WhatIsReadIsWell) (built : BuiltProblemIsOne) (has_problem : TextHasProblemOfGroups) (contents : Contents) (F G : List ℕ) (N K : ℕ) (c : IsCompressed contents F N G K) where
+module _ (well : WhatIsReadIsWell) (built : BuiltProblemIsOne) (has_problem : TextHasProblemOfGroups) (contents : Contents) (F G : List ℕ) (N K : ℕ)
+    (c : IsCompressed contents F N G K) where
   pub small_network : IsSmall c.of_large.network c.of_large.class c.small c.of_small.network
   small_network =
       let n = c.of_large.network in
@@ -68,7 +70,9 @@ module _ (well : WhatIsReadIsWell) (built : BuiltProblemIsOne) (has_problem : Te
         short = subst (λ (bs : List ℕ). length bs ≤ text_limit) (sym t.text) (short_text (compressed_text t.plan) t.short);
         plan = t.plan;
         is = t.is;
-        of_plan = λ p i. subst (λ (k : Network). IsProblemOf k p (small t.plan)) same (r.problem p (subst (λ (d : DestClass). Contains d.prefixes p) (sym t.is.class_is) i));
+        of_plan = λ p i. subst (λ (k : Network). IsProblemOf k p (small t.plan)) same
+            (r.problem p (subst (λ (d : DestClass). Contains d.prefixes p) (sym t.is.class_is) i));
         of_groups = λ s are p i. subst (λ (k : Network). IsProblemOf k p s.small) same
-            (subst (IsProblemOf r.read p) (sym (one_small n class has built t.plan t.is s are)) (r.problem p (subst (λ (d : DestClass). Contains d.prefixes p) (sym t.is.class_is) i)));
+            (subst (IsProblemOf r.read p) (sym (one_small n class has built t.plan t.is s are))
+                (r.problem p (subst (λ (d : DestClass). Contains d.prefixes p) (sym t.is.class_is) i)));
       }

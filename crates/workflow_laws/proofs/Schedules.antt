@@ -43,9 +43,11 @@ name_is (name ∷ names) (suc u) all h = name_is names u all.1 (omega arith)
 abbrev AllInside : ℕ → List ℕ → Type 0
 AllInside count run = AllByRecursion (λ u. u < count) run
 
-lines_print : (names : List (List ℕ)) (run : List ℕ) → AllByRecursion IsName names → AllInside (length names) run → AllByRecursion IsPrintedLine (lines_of_run names run)
+lines_print : (names : List (List ℕ)) (run : List ℕ) → AllByRecursion IsName names → AllInside (length names) run
+    → AllByRecursion IsPrintedLine (lines_of_run names run)
 lines_print names [] all inside = tt
-lines_print names (u ∷ run) all inside = (record { some = omega arith; words = (router_name_prints (name_at names u) (name_is names u all inside.0), tt) }, lines_print names run all inside.1)
+lines_print names (u ∷ run) all inside = (record { some = omega arith; words = (router_name_prints (name_at names u) (name_is names u all inside.0), tt) },
+    lines_print names run all inside.1)
 
 abbrev words_of : List TextLine → List (List (List ℕ))
 words_of ls = map (λ (l : TextLine). l.words) ls
@@ -73,7 +75,8 @@ no_star name is = by (bytes_eq name (codes "*")) refl
         absurd (star_is_none star)
     by false e = e
 
-activation_is : (names : List (List ℕ)) (u : ℕ) → AreApart names → AllByRecursion IsName names → u < length names → activation_of names (name_at names u) ≡ Some (One u)
+activation_is : (names : List (List ℕ)) (u : ℕ) → AreApart names → AllByRecursion IsName names → u < length names
+    → activation_of names (name_at names u) ≡ Some (One u)
 activation_is names u apart all h =
     ap (λ b. cond b (Some Round) (option_map One (position (bytes_eq (name_at names u)) names))) (no_star (name_at names u) (name_is names u all h))
     ∙ ap (option_map One) (router_back names u apart h)
@@ -85,20 +88,24 @@ later_words : (w : List (List ℕ)) (l : TextLine) (ls : List TextLine) (ws : Li
 later_words w l ls ws e = cc
 
 module _ (names : List (List ℕ)) (apart : AreApart names) (all : AllByRecursion IsName names) where
-  schedule_is : (run : List ℕ) (ls : List TextLine) → AllInside (length names) run → words_of ls ≡ words_of (lines_of_run names run) → schedule_of_words names (flat_map words_on ls) ≡ Ok (map One run)
+  schedule_is : (run : List ℕ) (ls : List TextLine) → AllInside (length names) run → words_of ls ≡ words_of (lines_of_run names run)
+      → schedule_of_words names (flat_map words_on ls) ≡ Ok (map One run)
   unfolding schedule_of_words
   schedule_is [] [] inside same = refl
   schedule_is [] (l ∷ ls) inside same = cc
   schedule_is (u ∷ run) [] inside same = cc
   schedule_is (u ∷ run) (l ∷ ls) inside same =
       let here : l.words ≡ name_at names u ∷ [] = first_words (name_at names u ∷ []) l ls (words_of (lines_of_run names run)) same in
-      let later : schedule_of_words names (flat_map words_on ls) ≡ Ok (map One run) = schedule_is run ls inside.1 (later_words (name_at names u ∷ []) l ls (words_of (lines_of_run names run)) same) in
+      let later : schedule_of_words names (flat_map words_on ls) ≡ Ok (map One run) =
+          schedule_is run ls inside.1 (later_words (name_at names u ∷ []) l ls (words_of (lines_of_run names run)) same) in
       ap (λ (words : List (List ℕ)). schedule_of_words names (words_at l.number words ++ flat_map words_on ls)) here
-      ∙ ap (λ (found : Option Activation). or_unknown l.number found (schedule_of_words names (flat_map words_on ls))) (activation_is names u apart all inside.0)
+      ∙ ap (λ (found : Option Activation). or_unknown l.number found (schedule_of_words names (flat_map words_on ls)))
+          (activation_is names u apart all inside.0)
       ∙ ap (before (One u)) later
 
 -- the text of a run is read as its activations
-pub names_are_read : (P : Problem) (run : List ℕ) → AreApart P.names → AllByRecursion (λ (name : List ℕ). is_router_name name ≡ true) P.names → AllByRecursion (λ u. u < length P.names) run → schedule_of_text P.names (name_lines P run) ≡ Ok (map One run)
+pub names_are_read : (P : Problem) (run : List ℕ) → AreApart P.names → AllByRecursion (λ (name : List ℕ). is_router_name name ≡ true) P.names
+    → AllByRecursion (λ u. u < length P.names) run → schedule_of_text P.names (name_lines P run) ≡ Ok (map One run)
 names_are_read P run apart all inside =
     let lines = lines_of_run P.names run in
     ap (schedule_of_text P.names) (text_is P run)

@@ -58,7 +58,8 @@ kept_below n (u ∷ us) apart below = by (kept_below n us apart.1 below.1) (nat_
   where
     others : (us : List ℕ) → AreBelow (suc n) us → ((v : ℕ) → In us v → n ≢ v) → AreBelow n us
     others [] below apart = tt
-    others (v ∷ us) below apart = (let other = apart v (inl refl) in let less = below.0 in omega (arith, other, less), others us below.1 (λ w at. apart w (inr at)))
+    others (v ∷ us) below apart = (let other = apart v (inl refl) in let less = below.0 in omega (arith, other, less),
+        others us below.1 (λ w at. apart w (inr at)))
 
     by : AreBelow n (without n us) → (b : Bool) → nat_eq u n ≡ b → AreBelow n (cond b us (u ∷ without n us))
     by kept true e = (let same : u ≡ n = grind arith in others us below.1 (λ v at. subst (λ k. k ≢ v) same (apart.0 v at)))
@@ -71,7 +72,8 @@ few_apart (suc n) us apart below = omega (arith, kept_long n us, few_apart n (wi
 
 sorted_apart : (labels : List (Option Route)) (run : List ℕ) → Sorted labels run → AreApartNumbers run
 sorted_apart labels [] sorted = tt
-sorted_apart labels (u ∷ run) sorted = ((λ v at same. not_first (label labels u) u (subst (λ w. StandsBefore labels u w) (sym same) (sorted.0 v at))), sorted_apart labels run sorted.1)
+sorted_apart labels (u ∷ run) sorted = ((λ v at same. not_first (label labels u) u (subst (λ w. StandsBefore labels u w) (sym same) (sorted.0 v at))),
+    sorted_apart labels run sorted.1)
 
 -- ---- the text
 
@@ -80,7 +82,8 @@ name_short [] u all = omega arith
 name_short (name ∷ names) zero all = router_name_short name all.0
 name_short (name ∷ names) (suc u) all = name_short names u all.1
 
-lines_short : (P : Problem) (run : List ℕ) → AllByRecursion (λ (name : List ℕ). is_router_name name ≡ true) P.names → length (name_lines P run) ≤ 64 * length run
+lines_short : (P : Problem) (run : List ℕ) → AllByRecursion (λ (name : List ℕ). is_router_name name ≡ true) P.names
+    → length (name_lines P run) ≤ 64 * length run
 lines_short P [] all = omega arith
 lines_short P (u ∷ run) all =
     let here = name_short P.names u all in
@@ -88,6 +91,7 @@ lines_short P (u ∷ run) all =
     let both = length-append (slice_index_or P.names u [] ++ codes "\n") (name_lines P run) in
     omega (arith, here, joined, both, lines_short P run all)
 
-pub order_short : (P : Problem) (labels : List (Option Route)) (run : List ℕ) → IsOrderOf P labels run → AllByRecursion (λ u. u < count P) run → count P ≤ 4096 → AllByRecursion (λ (name : List ℕ). is_router_name name ≡ true) P.names → length (name_lines P run) ≤ schedule_limit
+pub order_short : (P : Problem) (labels : List (Option Route)) (run : List ℕ) → IsOrderOf P labels run → AllByRecursion (λ u. u < count P) run → count P ≤ 4096
+    → AllByRecursion (λ (name : List ℕ). is_router_name name ≡ true) P.names → length (name_lines P run) ≤ schedule_limit
 order_short P labels run order inside few all =
     omega (arith, lines_short P run all, few_apart (count P) run (sorted_apart labels run (sorted_pairs labels run order.sorted)) inside, few)

@@ -32,7 +32,8 @@ ended_at line s Splitting e = cc
 ended_at line s Naming e = cc
 ended_at line s Closed e = cc
 
-step_at : (line : ℕ) (r : Result Standing CutKind) (rest : Standing → Result Certificate CutRefusal) → ((next : Standing) → rest next ≡ Err cut_refusal.Memory → ⊥)
+step_at : (line : ℕ) (r : Result Standing CutKind) (rest : Standing → Result Certificate CutRefusal)
+    → ((next : Standing) → rest next ≡ Err cut_refusal.Memory → ⊥)
     → go_on line r rest ≡ Err cut_refusal.Memory → ⊥
 step_at line (Ok next) rest later e = later next e
 step_at line (Err kind) rest later e = cc
@@ -48,7 +49,8 @@ unfolding certificate_of_text
 no_memory graph names text e =
     never_memory graph.edges (router_named names) (length (all_lines_of text) + 1) (map (text_line text) (all_lines_of text)) (opening graph) e
 
-module _ (graphs : EachProblemHasGraph) (certificates : EachGraphHasCertificate) (n : Network) (class : DestClass) (problem : Problem) (built : IsBuiltFor n class problem)
+module _ (graphs : EachProblemHasGraph) (certificates : EachGraphHasCertificate) (n : Network) (class : DestClass) (problem : Problem)
+    (built : IsBuiltFor n class problem)
     (rules : IsProblem problem) where
   graph : ActGraph
   graph = (graphs problem rules).graph

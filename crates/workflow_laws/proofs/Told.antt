@@ -15,7 +15,8 @@ use Rattle.answer_solutions.specs.Carries.{IsIfStable, IsOfStable}
 use Rattle.answer_solutions.specs.Checks.{told_of, IsJudgement}
 
 -- what is allowed of the labels that a short text gives
-pub of_read : (P : Problem) (A : List (Option Route) → Outcome → Type 0) (text : List ℕ) (labels : List (Option Route)) (o : Outcome) → length text ≤ solution_limit → labels_of_text P.protocol P.names text ≡ Ok labels → IsOfSolution P (Some text) A o → A labels o
+pub of_read : (P : Problem) (A : List (Option Route) → Outcome → Type 0) (text : List ℕ) (labels : List (Option Route)) (o : Outcome)
+    → length text ≤ solution_limit → labels_of_text P.protocol P.names text ≡ Ok labels → IsOfSolution P (Some text) A o → A labels o
 of_read P A text labels o short reads (inl long) = absurd (omega (arith, long.0, short))
 of_read P A text labels o short reads (inr is) = subst (λ (r : Result (List (Option Route)) SolRefusal). IsOfLabels A r o) reads is.1
 
@@ -25,10 +26,12 @@ module _ (P Q : Problem) (same : ProblemsAlike P Q) (rules : IsProblem P) (label
 
   -- and work is done on them
   pub work_is_done : (A : Outcome → Type 0) (o : Outcome) → IsOfStable Q labels A o → A o
-  work_is_done A o is = subst (λ (a : Answer). IsIfStable Q A a o) (sym (one_answer P Q labels rules same stable.fitting Stable is.answer stable is.judged)) is.told
+  work_is_done A o is = subst (λ (a : Answer). IsIfStable Q A a o) (sym (one_answer P Q labels rules same stable.fitting Stable is.answer stable is.judged))
+      is.told
 
   pub reads_too : (text : List ℕ) → labels_of_text P.protocol P.names text ≡ Ok labels → labels_of_text Q.protocol Q.names text ≡ Ok labels
   reads_too text reads = (λ j. labels_of_text (sym same.protocol j) (sym same.names j) text) ∙ reads
 
-  pub text_told_stable : (text : List ℕ) (o : Outcome) → length text ≤ solution_limit → labels_of_text P.protocol P.names text ≡ Ok labels → IsOfSolution Q (Some text) (IsJudgement Q) o → o ≡ done (codes "stable\n")
+  pub text_told_stable : (text : List ℕ) (o : Outcome) → length text ≤ solution_limit → labels_of_text P.protocol P.names text ≡ Ok labels
+      → IsOfSolution Q (Some text) (IsJudgement Q) o → o ≡ done (codes "stable\n")
   text_told_stable text o short reads is = told_stable o (of_read Q (IsJudgement Q) text labels o short (reads_too text reads) is)

@@ -34,12 +34,14 @@ module _ (P : Problem) (A : List (Option Route) → Outcome → Type 0) (work : 
   judgement : (labels : List (Option Route)) (o : Outcome) → IsOfStable P labels (A labels) o → IsJudgement P labels (verdict_told o)
   judgement labels o is = record { fitting = is.fitting; answer = is.answer; judged = is.judged; told = told labels o is.answer is.told }
 
-  of_labels : (r : Result (List (Option Route)) SolRefusal) (o : Outcome) → IsOfLabels (λ labels. IsOfStable P labels (A labels)) r o → IsOfLabels (IsJudgement P) r (verdict_told o)
+  of_labels : (r : Result (List (Option Route)) SolRefusal) (o : Outcome) → IsOfLabels (λ labels. IsOfStable P labels (A labels)) r o
+      → IsOfLabels (IsJudgement P) r (verdict_told o)
   of_labels (Ok labels) o is = judgement labels o is
   of_labels (Err (sol_refusal.At line kind)) o is = ap verdict_told is
   of_labels (Err sol_refusal.Memory) o is = absurd is
 
-  of_solution : (second : Option (List ℕ)) (o : Outcome) → IsOfSolution P second (λ labels. IsOfStable P labels (A labels)) o → IsOfSolution P second (IsJudgement P) (verdict_told o)
+  of_solution : (second : Option (List ℕ)) (o : Outcome) → IsOfSolution P second (λ labels. IsOfStable P labels (A labels)) o
+      → IsOfSolution P second (IsJudgement P) (verdict_told o)
   of_solution None o is = tt
   of_solution (Some text) o (inl long) = inl (long.0, ap verdict_told long.1)
   of_solution (Some text) o (inr short) = inr (short.0, of_labels (labels_of_text P.protocol P.names text) o short.1)
@@ -48,4 +50,5 @@ module _ (P : Problem) (A : List (Option Route) → Outcome → Type 0) (work : 
   pub says_so : (Q : Problem) → ProblemsAlike P Q → IsProblem P → (second : Option (List ℕ)) → IsSome second → (o p : Outcome)
       → IsOfSolution P second (λ labels. IsOfStable P labels (A labels)) o → IsOfSolution Q second (IsJudgement Q) p → p ≡ verdict_told o
   says_so Q same rules second is_told o p x y =
-      sym (one_of_solution P Q same.protocol same.names (IsJudgement P) (IsJudgement Q) (one_judgement P Q same rules) second is_told (verdict_told o) p (of_solution second o x) y)
+      sym (one_of_solution P Q same.protocol same.names (IsJudgement P) (IsJudgement Q) (one_judgement P Q same rules) second is_told (verdict_told o) p
+          (of_solution second o x) y)

@@ -6,7 +6,8 @@ loop-start-preserved c =
     let ends = c.run_end-end.ensures in
     record {
       within = ends.within;
-      so_far = one_more c.args.steps.now c.loop-start.start c.run_end-end.result ends.more ends.within ends.same ends.after c.loop-start.links _ _ c.loop-start.invariant.so_far c.in_ok-push_run.ensures;
+      so_far = one_more c.args.steps.now c.loop-start.start c.run_end-end.result ends.more ends.within ends.same ends.after c.loop-start.links _ _
+          c.loop-start.invariant.so_far c.in_ok-push_run.ensures;
     }
 
 pub returns : goal.returns

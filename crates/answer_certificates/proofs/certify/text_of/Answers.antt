@@ -11,5 +11,6 @@ returns c = record {
   certificate = c.in_ok-certificate.certificate;
   accepted = c.in_ok-certificate.ensures.accepted;
   few = c.in_ok-certificate.ensures.few;
-  told = ap done (c.in_ok-text.ensures ∙ ap (λ (names : List (List ℕ)). certificate_text c.in_ok-graph.graph.edges names c.in_ok-certificate.certificate) c.names.ensures);
+  told = ap done (c.in_ok-text.ensures ∙ ap (λ (names : List (List ℕ)). certificate_text c.in_ok-graph.graph.edges names c.in_ok-certificate.certificate)
+      c.names.ensures);
 }

@@ -12,4 +12,5 @@ loop-activation-preserved c =
     let schedule = c.args.schedule.now in
     let i = c.loop-activation.activation-index in
     let a : Activation = get_or schedule i (One 0) in
-    lines_more P (count P) schedule i a (string_bytes c.loop-activation.text) (string_bytes c.put_name.new.text) c.loop-activation-test.true (get_or_default schedule i (One 0) a c.loop-activation-test.true) c.loop-activation.invariant c.in_ok-put_name.ensures
+    lines_more P (count P) schedule i a (string_bytes c.loop-activation.text) (string_bytes c.put_name.new.text) c.loop-activation-test.true
+        (get_or_default schedule i (One 0) a c.loop-activation-test.true) c.loop-activation.invariant c.in_ok-put_name.ensures

@@ -5,18 +5,22 @@ use Rattle.bonsai_top.proofs.tell.tell.Goals as goal
 pub returns-in-Refusal-clause-tells : goal.returns-in-Refusal-clause-tells
 returns-in-Refusal-clause-tells g c =
     let e = c.tell_line.ensures in
-    rw (c.in-Refusal.is, ← c.deref-in-Refusal.ensures.value) (tells_line _ _ (refused c.deref-in-Refusal.result.now).err _ _ _ _ _ _ e.status e.all e.part e.cause)
+    rw (c.in-Refusal.is, ← c.deref-in-Refusal.ensures.value)
+        (tells_line _ _ (refused c.deref-in-Refusal.result.now).err _ _ _ _ _ _ e.status e.all e.part e.cause)
 
 pub returns-in-NotStable-clause-tells : goal.returns-in-NotStable-clause-tells
 returns-in-NotStable-clause-tells g c =
     let e = c.tell_line-in-NotStable.ensures in
-    rw (c.in-NotStable.is, ← c.deref-in-NotStable.ensures.value) (tells_line _ _ (not_stable c.deref-in-NotStable.result.now).err _ _ _ _ _ _ e.status e.all e.part e.cause)
+    rw (c.in-NotStable.is, ← c.deref-in-NotStable.ensures.value)
+        (tells_line _ _ (not_stable c.deref-in-NotStable.result.now).err _ _ _ _ _ _ e.status e.all e.part e.cause)
 
 pub returns-in-Misuse-clause-tells : goal.returns-in-Misuse-clause-tells
-returns-in-Misuse-clause-tells g c = let e = c.tell_line-in-Misuse.ensures in rw c.in-Misuse.is (tells_line _ _ usage.err _ _ _ _ _ _ e.status e.all e.part e.cause)
+returns-in-Misuse-clause-tells g c = let e = c.tell_line-in-Misuse.ensures in
+    rw c.in-Misuse.is (tells_line _ _ usage.err _ _ _ _ _ _ e.status e.all e.part e.cause)
 
 pub returns-in-NoMemory-clause-tells : goal.returns-in-NoMemory-clause-tells
-returns-in-NoMemory-clause-tells g c = let e = c.tell_line-in-NoMemory.ensures in rw c.in-NoMemory.is (tells_line _ _ out_of_memory.err _ _ _ _ _ _ e.status e.all e.part e.cause)
+returns-in-NoMemory-clause-tells g c = let e = c.tell_line-in-NoMemory.ensures in
+    rw c.in-NoMemory.is (tells_line _ _ out_of_memory.err _ _ _ _ _ _ e.status e.all e.part e.cause)
 
 pub returns-in-ReadFailed-clause-tells : goal.returns-in-ReadFailed-clause-tells
 returns-in-ReadFailed-clause-tells g c =
@@ -26,4 +30,5 @@ returns-in-ReadFailed-clause-tells g c =
 pub returns-in-SecondFailed-clause-tells : goal.returns-in-SecondFailed-clause-tells
 returns-in-SecondFailed-clause-tells g c =
     let e = c.tell_line-in-SecondFailed.ensures in
-    rw (c.in-SecondFailed.is, ← c.as_bytes-in-SecondFailed.ensures.value) (tells_line _ _ (read_fault c.as_bytes-in-SecondFailed.result.now).err _ _ _ _ _ _ e.status e.all e.part e.cause)
+    rw (c.in-SecondFailed.is, ← c.as_bytes-in-SecondFailed.ensures.value)
+        (tells_line _ _ (read_fault c.as_bytes-in-SecondFailed.result.now).err _ _ _ _ _ _ e.status e.all e.part e.cause)

@@ -18,7 +18,8 @@ returns-in-Some-clause-meets g c =
     let first = c.file_word-first.result.now in
     let second = c.second_word-second.result.now in
     rw (← c.file_word-first.ensures, ← c.second_word-second.ensures)
-    (run_meets (IsOutcome words contents) first second (FirstRose (command_of words) (old first) (new first)) (SecondRose (command_of words) (old second) (new second)) c.tell-in-Some.result
+    (run_meets (IsOutcome words contents) first second (FirstRose (command_of words) (old first) (new first))
+        (SecondRose (command_of words) (old second) (new second)) c.tell-in-Some.result
     _ _ (g.O.Sink.faults c.args.out.now) (g.O.Sink.faults c.tell-in-Some.new.out) _ _ (g.E.Sink.faults c.args.err.now) (g.E.Sink.faults c.tell-in-Some.new.err)
     c.work-reply.result
     (answers_words c.work-reply.result words contents c.in-Some.command first second (old first) (new first) (old second) (new second)
@@ -27,19 +28,23 @@ returns-in-Some-clause-meets g c =
 
 pub returns-in-Some-clause-headline : goal.returns-in-Some-clause-headline
 returns-in-Some-clause-headline g c = λ is number names text before told taken.
-    headline (bytes_of_words c.args.words.now) (g.S.Source.contents c.args.files.now) _ _ _ _ c.tell-in-Some.result _ _ _ _ _ _ _ _ (returns-in-Some-clause-meets g c) is c.plan_compresses.ensures number names text before told taken
+    headline (bytes_of_words c.args.words.now) (g.S.Source.contents c.args.files.now) _ _ _ _ c.tell-in-Some.result _ _ _ _ _ _ _ _
+        (returns-in-Some-clause-meets g c) is c.plan_compresses.ensures number names text before told taken
 
 pub returns-in-Some-clause-canonical : goal.returns-in-Some-clause-canonical
 returns-in-Some-clause-canonical g c = λ is number names text before told taken.
-    canonical (bytes_of_words c.args.words.now) (g.S.Source.contents c.args.files.now) _ _ _ _ c.tell-in-Some.result _ _ _ _ _ _ _ _ (returns-in-Some-clause-meets g c) is c.fitting_plan_compresses.ensures number names text before told taken
+    canonical (bytes_of_words c.args.words.now) (g.S.Source.contents c.args.files.now) _ _ _ _ c.tell-in-Some.result _ _ _ _ _ _ _ _
+        (returns-in-Some-clause-meets g c) is c.fitting_plan_compresses.ensures number names text before told taken
 
 pub returns-in-Some-clause-folded : goal.returns-in-Some-clause-folded
 returns-in-Some-clause-folded g c = λ is number names text solution before told also taken.
-    folded (bytes_of_words c.args.words.now) (g.S.Source.contents c.args.files.now) _ _ _ _ c.tell-in-Some.result _ _ _ _ _ _ _ _ (returns-in-Some-clause-meets g c) is c.fold_is_read_back.ensures number names text solution before told also taken
+    folded (bytes_of_words c.args.words.now) (g.S.Source.contents c.args.files.now) _ _ _ _ c.tell-in-Some.result _ _ _ _ _ _ _ _
+        (returns-in-Some-clause-meets g c) is c.fold_is_read_back.ensures number names text solution before told also taken
 
 pub returns-in-Some-clause-lifted : goal.returns-in-Some-clause-lifted
 returns-in-Some-clause-lifted g c = λ is number names text solution before told also taken.
-    lifted (bytes_of_words c.args.words.now) (g.S.Source.contents c.args.files.now) _ _ _ _ c.tell-in-Some.result _ _ _ _ _ _ _ _ (returns-in-Some-clause-meets g c) is c.lift_is_read_back.ensures number names text solution before told also taken
+    lifted (bytes_of_words c.args.words.now) (g.S.Source.contents c.args.files.now) _ _ _ _ c.tell-in-Some.result _ _ _ _ _ _ _ _
+        (returns-in-Some-clause-meets g c) is c.lift_is_read_back.ensures number names text solution before told also taken
 
 pub returns-in-None-clause-headline : goal.returns-in-None-clause-headline
 returns-in-None-clause-headline g c = λ is number names text before told taken. absurd (let none = c.in-None.ensures in cc)
@@ -60,9 +65,11 @@ returns-in-None-clause-meets g c =
     let files = g.S.Source.faults c.args.files.now in
     let first = file_of words in
     let second = second_of words in
-    meets (IsOutcome words contents) first second (FirstRose (command_of words) (files first) (files first)) (SecondRose (command_of words) (files second) (files second)) c.tell.result
+    meets (IsOutcome words contents) first second (FirstRose (command_of words) (files first) (files first))
+        (SecondRose (command_of words) (files second) (files second)) c.tell.result
     _ _ (g.O.Sink.faults c.args.out.now) (g.O.Sink.faults c.tell.new.out) _ _ (g.E.Sink.faults c.args.err.now) (g.E.Sink.faults c.tell.new.err)
     usage (inl (outcome_misuse words contents (sym c.in-None.ensures))) c.tell.ensures.tells
 
 pub returns-in-Some-clause-unread : goal.returns-in-Some-clause-unread
-returns-in-Some-clause-unread g c = λ none. c.work-reply.ensures.unread (subst (λ (n : Option Command). is_read reads_first n ≡ false) (sym c.in-Some.ensures) none)
+returns-in-Some-clause-unread g c = λ none. c.work-reply.ensures.unread
+    (subst (λ (n : Option Command). is_read reads_first n ≡ false) (sym c.in-Some.ensures) none)

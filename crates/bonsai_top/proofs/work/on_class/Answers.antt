@@ -11,4 +11,5 @@ pub returns-in-Json : goal.returns-in-Json
 returns-in-Json c = on_class _ _ c.in-Json.is c.answer-in-Json.result c.args.checked.now.network c.args.number c.args.class.now c.answer-in-Json.ensures
 
 pub returns-in-Certify : goal.returns-in-Certify
-returns-in-Certify c = on_class _ _ c.in-Certify.is c.answer-in-Certify.result c.args.checked.now.network c.args.number c.args.class.now c.answer-in-Certify.ensures
+returns-in-Certify c = on_class _ _ c.in-Certify.is c.answer-in-Certify.result c.args.checked.now.network c.args.number c.args.class.now
+    c.answer-in-Certify.ensures

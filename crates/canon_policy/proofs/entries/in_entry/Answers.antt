@@ -8,7 +8,8 @@ use Rattle.canon_policy.proofs.Tables.{nodes_inside}
 use Rattle.canon_policy.proofs.entries.in_entry.Goals as goal
 
 pub returns-then-not-eval : goal.returns-then-not-eval
-returns-then-not-eval c = c.in_ok-entry.ensures ∙ sym (in_denied c.args.store.now c.args.edge.now c.args.seq c.args.fixing.now (sym c.eval.ensures ∙ c.if-not-eval.true))
+returns-then-not-eval c = c.in_ok-entry.ensures ∙ sym (in_denied c.args.store.now c.args.edge.now c.args.seq c.args.fixing.now
+    (sym c.eval.ensures ∙ c.if-not-eval.true))
 
 pub always_carried-requires : goal.always_carried-requires
 always_carried-requires c =

@@ -9,6 +9,8 @@ use Rattle.canon_policy.proofs.parts.first_unsettled.Given as goal
 abbrev pub invariant-loop-part : goal.invariant-loop-part
 invariant-loop-part l = record {
   grows : Grows l.fn.store l.store;
-  settled : (kept : List ℕ → Bool) (fixing : Fixing) (asked : List Part) → TestHangsOn l.fn.store.universe kept → PartsHangOn l.fn.store.universe asked → Means l.fn.store l.rest (λ set. kept (agreeing fixing set)) → ArePartsTold l.fn.store fixing l.parts asked
-      → first_unsettled (unsettled l.fn.store.universe kept fixing) (drop l.part-index asked) ≡ first_unsettled (unsettled l.fn.store.universe kept fixing) asked;
+  settled : (kept : List ℕ → Bool) (fixing : Fixing) (asked : List Part) → TestHangsOn l.fn.store.universe kept → PartsHangOn l.fn.store.universe asked
+      → Means l.fn.store l.rest (λ set. kept (agreeing fixing set)) → ArePartsTold l.fn.store fixing l.parts asked
+      → first_unsettled (unsettled l.fn.store.universe kept fixing) (drop l.part-index asked)
+          ≡ first_unsettled (unsettled l.fn.store.universe kept fixing) asked;
 }

@@ -12,6 +12,8 @@ loop-router-preserved c =
     let here = c.router-item.is in
     let faults = c.in_ok-faults.ensures in
     record {
-      wide = c.lesser_line-wide_loopback.ensures ∙ flat_step address_line (area_addresses_with is_wide_loopback) routers i router c.loop-router.wide_loopback _ below here c.loop-router.invariant.wide faults.wide_loopback;
-      no_cost = c.lesser_line-no_cost.ensures ∙ flat_step address_line (area_addresses_with has_no_cost) routers i router c.loop-router.no_cost _ below here c.loop-router.invariant.no_cost faults.no_cost;
+      wide = c.lesser_line-wide_loopback.ensures ∙ flat_step address_line (area_addresses_with is_wide_loopback) routers i router c.loop-router.wide_loopback _
+          below here c.loop-router.invariant.wide faults.wide_loopback;
+      no_cost = c.lesser_line-no_cost.ensures ∙ flat_step address_line (area_addresses_with has_no_cost) routers i router c.loop-router.no_cost _ below here
+          c.loop-router.invariant.no_cost faults.no_cost;
     }

@@ -14,7 +14,8 @@ least_fault-requires c = c.as_slice-2.ensures.value ∙ c.in_ok-mentions.ensures
 
 pub new-requires-clause-named : goal.new-requires-clause-named
 unfolding communities_of
-new-requires-clause-named c = c.in_ok-communities-in-None.ensures ∙ ap communities_in (c.as_slice-in-None.ensures.value ∙ c.in_ok-mentions.ensures ∙ ap (λ (rs : List Router). flat_map mentions_of rs) c.as_slice.ensures)
+new-requires-clause-named c = c.in_ok-communities-in-None.ensures
+    ∙ ap communities_in (c.as_slice-in-None.ensures.value ∙ c.in_ok-mentions.ensures ∙ ap (λ (rs : List Router). flat_map mentions_of rs) c.as_slice.ensures)
 
 pub returns-in-Some-clause-refused : goal.returns-in-Some-clause-refused
 unfolding judged

@@ -4,4 +4,5 @@ use Rattle.cfg_check.proofs.Turns.{lines_step}
 use Rattle.cfg_check.proofs.prepends.prepend_form.Goals as goal
 
 pub loop-router-preserved : goal.loop-router-preserved
-loop-router-preserved c = c.lesser_line-least.ensures ∙ lines_step foreign_prepends_of c.args.routers.now c.loop-router.router-index c.router-item.result c.loop-router.least _ c.loop-router-test.true c.router-item.is c.loop-router.invariant c.foreign_prepends_of.ensures
+loop-router-preserved c = c.lesser_line-least.ensures ∙ lines_step foreign_prepends_of c.args.routers.now c.loop-router.router-index c.router-item.result
+    c.loop-router.least _ c.loop-router-test.true c.router-item.is c.loop-router.invariant c.foreign_prepends_of.ensures

@@ -43,7 +43,8 @@ loop-from-preserved c =
       few = omega arith;
       inside = omega arith;
       begins = λ h. ap (λ e. begins_line bs (e + 1)) (sym newline) ∙ begins_next bs from c.loop-from-test.true (omega (arith, h, newline));
-      same = sound_next bs n from end upto _ cut (sym (closed_kind bs n from upto end ends closed) ∙ sym c.kind_from.ensures ∙ c.in_default.is) c.loop-from.invariant.same;
+      same = sound_next bs n from end upto _ cut (sym (closed_kind bs n from upto end ends closed) ∙ sym c.kind_from.ensures ∙ c.in_default.is)
+          c.loop-from.invariant.same;
     }
 
 pub returns : goal.returns

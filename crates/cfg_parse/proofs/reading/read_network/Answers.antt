@@ -11,4 +11,5 @@ returns-in_err-routers c =
     rw (p.1, p.2) (text_refuses c.args.bytes.now c.in_err-routers.field-0.0 c.in_err-routers.ensures)
 
 pub returns : goal.returns
-returns c = text_read c.args.bytes.now c.in_ok-routers.field-0 c.in_ok-routers.ensures ∙ ap (λ (s : State). let n : Network = record { routers = s.routers } in Ok n) (sym c.routers.view_is)
+returns c = text_read c.args.bytes.now c.in_ok-routers.field-0 c.in_ok-routers.ensures
+    ∙ ap (λ (s : State). let n : Network = record { routers = s.routers } in Ok n) (sym c.routers.view_is)

@@ -6,4 +6,5 @@ use Rattle.cfg_print.proofs.Joined.{clear_text}
 use Rattle.cfg_print.proofs.route_maps.put_clear.Goals as goal
 
 pub returns : goal.returns
-returns c = written c.put.result (string_bytes c.args.text.now) (codes " set community none\n") (string_bytes c.put.new.text) (line_text (change_line Clear)) c.put.ensures clear_text
+returns c = written c.put.result (string_bytes c.args.text.now) (codes " set community none\n") (string_bytes c.put.new.text) (line_text (change_line Clear))
+    c.put.ensures clear_text

@@ -10,5 +10,6 @@ loop-act-preserved c =
     record {
       known = c.in_ok-act_maps.ensures.known;
       closed = closed_kept c.args.closed old new c.loop-act.invariant.closed grown;
-      acts = known_turn old new c.args.acts.now c.loop-act.numbers.items c.push.new.self.items c.loop-act.act-index c.act-item.result c.in_ok-act_maps.field-0 c.loop-act-test.true c.act-item.is grown c.loop-act.invariant.acts c.in_ok-act_maps.ensures.maps c.in_ok-push.ensures.items;
+      acts = known_turn old new c.args.acts.now c.loop-act.numbers.items c.push.new.self.items c.loop-act.act-index c.act-item.result c.in_ok-act_maps.field-0
+          c.loop-act-test.true c.act-item.is grown c.loop-act.invariant.acts c.in_ok-act_maps.ensures.maps c.in_ok-push.ensures.items;
     }

@@ -9,6 +9,7 @@ pub maps_of_acts-requires-clause-closed : goal.maps_of_acts-requires-clause-clos
 maps_of_acts-requires-clause-closed c =
     let maps = maps_now c.number_map.new.known.maps.items in
     record {
-      any = subst (λ m. list_any (same_map m) maps ≡ true) c.requires (any_with c.args.closed.now (maps_now c.new.result.items) maps c.in_ok-closed_number.ensures.maps);
+      any = subst (λ m. list_any (same_map m) maps ≡ true) c.requires
+          (any_with c.args.closed.now (maps_now c.new.result.items) maps c.in_ok-closed_number.ensures.maps);
       is = c.in_ok-closed_number.ensures.number ∙ ap (place_of_map maps) c.requires;
     }

@@ -6,7 +6,8 @@ use Rattle.config_emit.proofs.Uses.{use_known, use_new, use_added}
 use Rattle.config_emit.proofs.router_maps.put_use.Goals as goal
 
 pub returns-in-Some-clause-uses : goal.returns-in-Some-clause-uses
-returns-in-Some-clause-uses c = use_known (map use_now c.args.found.now.uses.items) c.args.number c.in-Some._place.now c.args.plain.now (sym (c.requires.each c.args.number) ∙ sym c.in-Some.ensures.value)
+returns-in-Some-clause-uses c = use_known (map use_now c.args.found.now.uses.items) c.args.number c.in-Some._place.now c.args.plain.now
+    (sym (c.requires.each c.args.number) ∙ sym c.in-Some.ensures.value)
 
 pub returns-clause-places : goal.returns-clause-places
 returns-clause-places c =

@@ -7,4 +7,5 @@ use Rattle.cut_certificate.proofs.moving.movers.Goals as goal
 pub returns : goal.returns
 returns c =
     rw (dedup_is nat_eq _ _ c.dedup.ensures.filtered)
-    (movers_kept _ _ _ _ _ _ _ _ c.in_ok-movers.ensures (filter_same _ _ _ (λ x b f' k. search rules) _ _ c.retain.ensures.filtered) c.in_ok-sort.ensures.permutation)
+    (movers_kept _ _ _ _ _ _ _ _ c.in_ok-movers.ensures (filter_same _ _ _ (λ x b f' k. search rules) _ _ c.retain.ensures.filtered)
+        c.in_ok-sort.ensures.permutation)

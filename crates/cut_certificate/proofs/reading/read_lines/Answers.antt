@@ -25,7 +25,8 @@ loop-from-init c =
       begins = λ h. refl;
       left = omega (arith, lines_counted bs);
       total = ap (λ (s : Standing). length s.blocks.numbers) nothing ∙ (first_reached c.args.graph.now).total;
-      answer = ap (certificate_from c.args.graph.now.edges (place_in c.args.places.now) (length (all_lines_of bs) + 1) (map (text_line bs) (all_lines_of bs))) nothing;
+      answer = ap (certificate_from c.args.graph.now.edges (place_in c.args.places.now) (length (all_lines_of bs) + 1) (map (text_line bs) (all_lines_of bs)))
+          nothing;
     }
 
 pub loop-from-preserved : goal.loop-from-preserved
@@ -45,10 +46,12 @@ loop-from-preserved c =
     record {
       few = omega arith;
       inside = omega arith;
-      begins = λ h. ap (λ (e : ℕ). begins_line bs (e + 1)) c.newline_from-end.ensures.place ∙ begins_next bs c.loop-from.from c.loop-from-test.true (omega (arith, h, c.newline_from-end.ensures.place));
+      begins = λ h. ap (λ (e : ℕ). begins_line bs (e + 1)) c.newline_from-end.ensures.place
+          ∙ begins_next bs c.loop-from.from c.loop-from-test.true (omega (arith, h, c.newline_from-end.ensures.place));
       left = omega (arith, count_left bs n c.loop-from.from c.newline_from-end.result c.without_return-upto.result cut, c.loop-from.invariant.left);
       total = line_total edges routers c.loop-from.standing c.in-Ok.more _ c.in-Ok.ensures ∙ c.loop-from.invariant.total;
-      answer = sym (left_next edges routers (length (all_lines_of bs) + 1) bs n c.loop-from.from c.newline_from-end.result c.without_return-upto.result cut c.loop-from.standing c.in-Ok.more c.in-Ok.ensures) ∙ c.loop-from.invariant.answer;
+      answer = sym (left_next edges routers (length (all_lines_of bs) + 1) bs n c.loop-from.from c.newline_from-end.result c.without_return-upto.result cut
+          c.loop-from.standing c.in-Ok.more c.in-Ok.ensures) ∙ c.loop-from.invariant.answer;
     }
 
 pub returns-in-Err : goal.returns-in-Err
@@ -65,17 +68,21 @@ returns-in-Err c =
     let n = c.loop-from.line + 1 in
     let edges = c.args.graph.now.edges in
     let routers = place_in c.args.places.now in
-    let P : CutRefusal → Type 0 = λ e. Verifies {X = Certificate} (Err e) (certificate_from edges routers (length (all_lines_of bs) + 1) (map (text_line bs) (all_lines_of bs)) (opening c.args.graph.now)) in
+    let P : CutRefusal → Type 0 = λ e. Verifies {X = Certificate} (Err e)
+        (certificate_from edges routers (length (all_lines_of bs) + 1) (map (text_line bs) (all_lines_of bs)) (opening c.args.graph.now)) in
     subst P (sym c.refused_at.ensures)
     (stopped n c.in-Err.stop _ _
-    (λ kind e. sym c.loop-from.invariant.answer ∙ left_fault edges routers (length (all_lines_of bs) + 1) bs n c.loop-from.from c.newline_from-end.result c.without_return-upto.result cut c.loop-from.standing kind e)
+    (λ kind e. sym c.loop-from.invariant.answer ∙ left_fault edges routers (length (all_lines_of bs) + 1) bs n c.loop-from.from c.newline_from-end.result
+        c.without_return-upto.result cut c.loop-from.standing kind e)
     c.in-Err.ensures)
 
 pub returns : goal.returns
 returns c =
     let bs = c.args.bytes.now in
     let last = length (all_lines_of bs) + 1 in
-    let at : last ≡ c.loop-from.line + 1 = omega (arith, c.loop-from.invariant.left, none_counted bs (c.loop-from.line + 1) c.loop-from.from c.loop-from-test.false) in
+    let at : last ≡ c.loop-from.line + 1 = omega (arith, c.loop-from.invariant.left,
+        none_counted bs (c.loop-from.line + 1) c.loop-from.from c.loop-from-test.false) in
     let s = c.loop-from.standing in
     verifies_same c.ended.result _
-    (sym c.loop-from.invariant.answer ∙ none_left c.args.graph.now.edges (place_in c.args.places.now) last bs (c.loop-from.line + 1) c.loop-from.from s c.loop-from-test.false ∙ ap (λ (n : ℕ). ended n s s.stage) at ∙ sym c.ended.ensures)
+    (sym c.loop-from.invariant.answer ∙ none_left c.args.graph.now.edges (place_in c.args.places.now) last bs (c.loop-from.line + 1) c.loop-from.from s
+        c.loop-from-test.false ∙ ap (λ (n : ℕ). ended n s s.stage) at ∙ sym c.ended.ensures)

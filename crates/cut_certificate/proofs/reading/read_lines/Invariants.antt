@@ -14,8 +14,10 @@ invariant-loop-from l = record {
   begins : l.from < length l.bytes → begins_line l.bytes l.from ≡ true;
   left : l.line + length (pieces_from l.bytes (l.line + 1) l.from) ≡ length (all_lines_of l.bytes);
   total : length l.standing.blocks.numbers ≡ l.graph.count;
-  answer : certificate_from l.graph.edges (place_in l.places) (length (all_lines_of l.bytes) + 1) (map (text_line l.bytes) (map (line_of l.bytes) (pieces_from l.bytes (l.line + 1) l.from))) l.standing
-      ≡ certificate_from l.graph.edges (place_in l.places) (length (all_lines_of l.bytes) + 1) (map (text_line l.bytes) (all_lines_of l.bytes)) (opening l.graph);
+  answer : certificate_from l.graph.edges (place_in l.places) (length (all_lines_of l.bytes) + 1)
+      (map (text_line l.bytes) (map (line_of l.bytes) (pieces_from l.bytes (l.line + 1) l.from))) l.standing
+      ≡ certificate_from l.graph.edges (place_in l.places) (length (all_lines_of l.bytes) + 1) (map (text_line l.bytes) (all_lines_of l.bytes))
+          (opening l.graph);
 }
 
 abbrev pub decreases-loop-from : goal.decreases-loop-from

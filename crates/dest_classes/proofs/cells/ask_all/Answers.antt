@@ -14,5 +14,6 @@ loop-done-preserved c =
     let up : i ≤ j = omega arith in
     record {
       within = within;
-      are = one_turn at_now lists (slice_range lists i j) i j (entries_of c.args.members.items) c.loop-done.members.items c.in_ok-members.members.items up refl c.in_ok-members.ensures c.loop-done.invariant.are;
+      are = one_turn at_now lists (slice_range lists i j) i j (entries_of c.args.members.items) c.loop-done.members.items c.in_ok-members.members.items up refl
+          c.in_ok-members.ensures c.loop-done.invariant.are;
     }

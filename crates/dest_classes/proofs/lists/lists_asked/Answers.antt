@@ -5,4 +5,5 @@ use Rattle.dest_classes.proofs.lists.lists_asked.Goals as goal
 
 pub returns : goal.returns
 unfolding lists_asked
-returns c = c.in_ok-asked.ensures ∙ ap (λ (ls : List (Bor PrefixList)). different (map (λ (list : Bor PrefixList). list.now) ls)) c.as_slice.ensures.value ∙ ap different c.in_ok-lists.ensures
+returns c = c.in_ok-asked.ensures ∙ ap (λ (ls : List (Bor PrefixList)). different (map (λ (list : Bor PrefixList). list.now) ls)) c.as_slice.ensures.value
+    ∙ ap different c.in_ok-lists.ensures

@@ -6,7 +6,8 @@ use Rattle.dest_classes.specs.Routes.{prefix_cmp, route_at, all_noted, AreNamed}
 use Rattle.dest_classes.proofs.routes.note_router.Goals as goal
 
 pub note_interfaces-requires : goal.note_interfaces-requires
-note_interfaces-requires c = rw c.as_ref.ensures.value (subst (λ (router : Router). AreNamed router.bgp c.in_ok-named.named) (sym c.in_ok-index.ensures) c.in_ok-named.ensures)
+note_interfaces-requires c = rw c.as_ref.ensures.value (subst (λ (router : Router). AreNamed router.bgp c.in_ok-named.named) (sym c.in_ok-index.ensures)
+    c.in_ok-named.ensures)
 
 pub returns : goal.returns
 returns c = λ p.

@@ -6,4 +6,6 @@ use Rattle.fat_gen.proofs.cables.push_pod_cables.Goals as goal
 pub loop-number-preserved : goal.loop-number-preserved
 loop-number-preserved c =
     let half = c.args.half in
-    one_less (switch_cables half c.args.pod) c.loop-number.cables.items c.push_switch_cables.new.cables.items (c.args.cables.now.items ++ pod_cables half c.args.pod) c.loop-number.number half c.loop-number-test.true c.in_ok-push_switch_cables.ensures c.loop-number.invariant
+    one_less (switch_cables half c.args.pod) c.loop-number.cables.items c.push_switch_cables.new.cables.items
+        (c.args.cables.now.items ++ pod_cables half c.args.pod) c.loop-number.number half c.loop-number-test.true c.in_ok-push_switch_cables.ensures
+            c.loop-number.invariant

@@ -19,6 +19,9 @@ returns g c =
           (IsNonDecreasingBy-from_sort_by_key g.E.Numbered.number _ w.in_ok-sort_by_key.ensures.sorted (λ a r q k. search rules))
           (w.in_ok-sort_by_key.ensures.stable g.E.Numbered.number (answers_always _ _ _ (λ f a r q k. search rules))))
       | else-not-is_sorted_by_key w ↦
-          let pairs = rw c.deref.ensures.value at w.if-not-is_sorted_by_key.ensures.cases g.E.Numbered.number (answers_always _ _ _ (λ f a r q k. search rules)) in
-          rw w.entries-is (sorted_by_number g.E.Numbered.number xs xs (IsNonDecreasingBy-from_all_adjacent g.E.Numbered.number xs (λ k d lt. le_of (g.E.Numbered.number (get_or xs k d)) (g.E.Numbered.number (get_or xs (k + 1) d)) (pairs k d lt))) (λ x. refl))
+          let pairs = rw c.deref.ensures.value at w.if-not-is_sorted_by_key.ensures.cases g.E.Numbered.number (answers_always _ _ _ (λ f a r q k. search rules))
+              in
+          rw w.entries-is (sorted_by_number g.E.Numbered.number xs xs
+              (IsNonDecreasingBy-from_all_adjacent g.E.Numbered.number xs
+                  (λ k d lt. le_of (g.E.Numbered.number (get_or xs k d)) (g.E.Numbered.number (get_or xs (k + 1) d)) (pairs k d lt))) (λ x. refl))
     ] ∙ ap (by_number g.E.Numbered.number) c.into_vec-entries.ensures

@@ -6,7 +6,8 @@ use Rattle.policy_dd.proofs.AfterLemmas.{touched_within, after_is}
 use Rattle.policy_dd.proofs.after.after.Goals as goal
 
 pub carried_outs-requires-clause-known : goal.carried_outs-requires-clause-known
-carried_outs-requires-clause-known c = rw c.as_slice.ensures.all (touched_within c.args.store.now c.args.carried.now c.args.m.now c.in_ok-keys.keys c.requires.inside c.requires.map_inside c.in_ok-keys.ensures)
+carried_outs-requires-clause-known c = rw c.as_slice.ensures.all
+    (touched_within c.args.store.now c.args.carried.now c.args.m.now c.in_ok-keys.keys c.requires.inside c.requires.map_inside c.in_ok-keys.ensures)
 
 pub and-requires-clause-a_inside : goal.and-requires-clause-a_inside
 and-requires-clause-a_inside c = grows_inside _ _ _ c.in_ok-outs.ensures.grows c.requires.inside.rest
@@ -22,6 +23,10 @@ and-requires-2-clause-b_inside c = grows_inside _ _ _ (grows_trans _ _ _ c.in_ok
 
 pub returns-clause-after : goal.returns-clause-after
 returns-clause-after c =
-    let tabled : IsTabled c.carried_outs.new.store (λ k set. carries_on c.args.store.now c.args.carried.now c.args.m.now set k) c.in_ok-keys.keys c.in_ok-outs.outs =
-    subst (λ (l : List ℕ). IsTabled c.carried_outs.new.store (λ k set. carries_on c.args.store.now c.args.carried.now c.args.m.now set k) l c.in_ok-outs.outs) c.as_slice.ensures.all c.in_ok-outs.ensures.outs in
-    after_is c.args.store.now c.carried_outs.new.store c.and.new.self c.and-2.new.self c.args.carried.now c.args.m.now c.in_ok-keys.keys c.in_ok-outs.outs c.in_ok-rest.rest c.in_ok-others.others c.in_ok-outs.ensures.grows c.in_ok-rest.ensures.grows c.in_ok-others.ensures.grows c.requires.inside c.requires.map_inside c.in_ok-keys.ensures tabled c.in_ok-rest.ensures.and c.in_ok-others.ensures.and
+    let tabled : IsTabled c.carried_outs.new.store (λ k set. carries_on c.args.store.now c.args.carried.now c.args.m.now set k) c.in_ok-keys.keys
+        c.in_ok-outs.outs =
+    subst (λ (l : List ℕ). IsTabled c.carried_outs.new.store (λ k set. carries_on c.args.store.now c.args.carried.now c.args.m.now set k) l c.in_ok-outs.outs)
+        c.as_slice.ensures.all c.in_ok-outs.ensures.outs in
+    after_is c.args.store.now c.carried_outs.new.store c.and.new.self c.and-2.new.self c.args.carried.now c.args.m.now c.in_ok-keys.keys c.in_ok-outs.outs
+        c.in_ok-rest.rest c.in_ok-others.others c.in_ok-outs.ensures.grows c.in_ok-rest.ensures.grows c.in_ok-others.ensures.grows c.requires.inside
+            c.requires.map_inside c.in_ok-keys.ensures tabled c.in_ok-rest.ensures.and c.in_ok-others.ensures.and

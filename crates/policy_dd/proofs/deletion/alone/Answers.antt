@@ -15,7 +15,8 @@ loop-place-preserved c =
     let below = c.loop-place.invariant.below in
     record {
       below = omega arith;
-      alone = rw (drop_item c.args.lines.now c.loop-place.place c.index-lines-place.result some below c.index-lines-place.is) (one_line_more _ _ _ _ c.loop-place.invariant.alone c.in_ok-answers.ensures);
+      alone = rw (drop_item c.args.lines.now c.loop-place.place c.index-lines-place.result some below c.index-lines-place.is)
+          (one_line_more _ _ _ _ c.loop-place.invariant.alone c.in_ok-answers.ensures);
     }
 
 pub returns : goal.returns

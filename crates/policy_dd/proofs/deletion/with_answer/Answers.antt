@@ -13,7 +13,9 @@ if_false : (a r b : Bool) → b ≡ false → (if a then false else r) ≡ (if a
 if_false a r b e = rw e refl
 
 pub returns-then-is_odd : goal.returns-then-is_odd
-returns-then-is_odd c = λ k. rw c.in_ok-add.ensures.ok (has-with_number c.args.community c.args.odd k ∙ or_if (nat_eq c.args.community k) (has c.args.odd k) c.args.is_odd c.if-is_odd.true)
+returns-then-is_odd c = λ k. rw c.in_ok-add.ensures.ok (has-with_number c.args.community c.args.odd k
+    ∙ or_if (nat_eq c.args.community k) (has c.args.odd k) c.args.is_odd c.if-is_odd.true)
 
 pub returns : goal.returns
-returns c = λ k. rw c.in_ok-left.ensures (has-without_number c.args.community c.args.odd k ∙ if_false (nat_eq c.args.community k) (has c.args.odd k) c.args.is_odd c.if-is_odd.false)
+returns c = λ k. rw c.in_ok-left.ensures (has-without_number c.args.community c.args.odd k
+    ∙ if_false (nat_eq c.args.community k) (has c.args.odd k) c.args.is_odd c.if-is_odd.false)

@@ -13,7 +13,8 @@ both false b e = absurd cc
 case_decides : (x y : Community × ℕ) → Decides (nat_eq x.0.0 y.0.0 && nat_eq x.1 y.1) (x ≡ y)
 case_decides x y = (
   λ is. let e = both (nat_eq x.0.0 y.0.0) (nat_eq x.1 y.1) is in outs_case_is x y ((Decides-eqb x.0.0 y.0.0).0 e.0) ((Decides-eqb x.1 y.1).0 e.1),
-  λ is. let e1 : x.0.0 ≡ y.0.0 = ap (λ (p : Community × ℕ). p.0.0) is in let e2 : x.1 ≡ y.1 = ap (λ (p : Community × ℕ). p.1) is in rw ((Decides-eqb x.0.0 y.0.0).1 e1, (Decides-eqb x.1 y.1).1 e2) refl,
+  λ is. let e1 : x.0.0 ≡ y.0.0 = ap (λ (p : Community × ℕ). p.0.0) is in let e2 : x.1 ≡ y.1 = ap (λ (p : Community × ℕ). p.1) is in
+      rw ((Decides-eqb x.0.0 y.0.0).1 e1, (Decides-eqb x.1 y.1).1 e2) refl,
 )
 
 pub returns-clause-same : goal.returns-clause-same

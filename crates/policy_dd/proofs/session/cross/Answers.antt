@@ -8,7 +8,8 @@ pub run_map-requires-clause-inside : goal.run_map-requires-clause-inside
 run_map-requires-clause-inside c = rw c.new.ensures (start_inside _ _ _ c.requires.others c.constant-always.ensures.constant)
 
 pub sent-requires-clause-inside : goal.sent-requires-clause-inside
-sent-requires-clause-inside c = inside_kept _ _ _ c.in_ok-first.ensures.grows (rw c.new.ensures (start_inside _ _ _ c.requires.others c.constant-always.ensures.constant))
+sent-requires-clause-inside c = inside_kept _ _ _ c.in_ok-first.ensures.grows
+    (rw c.new.ensures (start_inside _ _ _ c.requires.others c.constant-always.ensures.constant))
 
 pub sent-requires-clause-map_inside : goal.sent-requires-clause-map_inside
 sent-requires-clause-map_inside c = c.in_ok-first.ensures.run.inside
@@ -27,4 +28,8 @@ after-requires-clause-map_inside c = c.in_ok-second.ensures.run.inside
 
 pub returns-clause-crossed : goal.returns-clause-crossed
 returns-clause-crossed c =
-    crossed_is c.args.store.now c.run_map.new.store c.sent.new.store c.run_map-2.new.store c.after.new.store c.constant-always.result c.args.others c.args.out.now c.args.sends c.args.into.now c.in_ok-first.first c.in_ok-second.second c.in_ok-arrived.arrived c.in_ok-end.end c.in_ok-first.ensures.grows c.in_ok-arrived.ensures.grows c.in_ok-second.ensures.grows c.in_ok-end.ensures.grows _ (rw c.new.ensures refl) (rw c.new.ensures (start_inside _ _ _ c.requires.others c.constant-always.ensures.constant)) c.constant-always.ensures.constant c.in_ok-first.ensures.run c.in_ok-arrived.ensures.sent c.in_ok-second.ensures.run c.in_ok-end.ensures.after
+    crossed_is c.args.store.now c.run_map.new.store c.sent.new.store c.run_map-2.new.store c.after.new.store c.constant-always.result c.args.others
+        c.args.out.now c.args.sends c.args.into.now c.in_ok-first.first c.in_ok-second.second c.in_ok-arrived.arrived c.in_ok-end.end
+            c.in_ok-first.ensures.grows c.in_ok-arrived.ensures.grows c.in_ok-second.ensures.grows c.in_ok-end.ensures.grows _ (rw c.new.ensures refl)
+                (rw c.new.ensures (start_inside _ _ _ c.requires.others c.constant-always.ensures.constant)) c.constant-always.ensures.constant
+                    c.in_ok-first.ensures.run c.in_ok-arrived.ensures.sent c.in_ok-second.ensures.run c.in_ok-end.ensures.after

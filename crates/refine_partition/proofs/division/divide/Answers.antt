@@ -24,7 +24,8 @@ returns c =
     let size : length c.keep_members.new.blocks.items ≡ length c.args.blocks.now.items + length c.in_ok-plan.plan.renumbering.origins.items =
     kept.total ∙ ap length c.in_ok-append.ensures.items ∙ length-append _ _ ∙ ap (λ n. length c.args.blocks.now.items + n) total in
     record {
-      numbered = divided_blocks c.args.graph.now _ _ _ _ _ _ _ _ _ c.requires.one_number_each c.requires.numbered planned total further c.in_ok-append.ensures.items kept;
+      numbered = divided_blocks c.args.graph.now _ _ _ _ _ _ _ _ _ c.requires.one_number_each c.requires.numbered planned total further
+          c.in_ok-append.ensures.items kept;
       few = omega arith;
       ok = rw size planned.split;
       numbers_err = tt;

@@ -17,7 +17,8 @@ loop-arrival-init c =
     record {
       total = omega arith;
       listed = rw c.deref.ensures.value at kept.listed;
-      moving = rw c.new-origins.ensures.items (moving_none _ _ _ c.args.arrivals.now _ _ (rw c.deref.ensures.value at kept.staying) (rw total c.requires.listed.below));
+      moving = rw c.new-origins.ensures.items (moving_none _ _ _ c.args.arrivals.now _ _ (rw c.deref.ensures.value at kept.staying)
+          (rw total c.requires.listed.below));
     }
 
 pub piece_of-requires : goal.piece_of-requires
@@ -25,7 +26,8 @@ piece_of-requires c =
     let before = c.loop-arrival.invariant in
     let kept = c.in_ok-names.ensures.total in
     let fits = c.requires.fits in
-    let used = moving_used _ _ _ _ _ _ _ _ before.moving (rw kept c.requires.used) (All-take (λ a. Contains c.args.touched.now (slice_index c.args.numbers.now.items a.importer)) c.loop-arrival.arrival-index _ c.requires.touched.all) in
+    let used = moving_used _ _ _ _ _ _ _ _ before.moving (rw kept c.requires.used)
+        (All-take (λ a. Contains c.args.touched.now (slice_index c.args.numbers.now.items a.importer)) c.loop-arrival.arrival-index _ c.requires.touched.all) in
     let few = used_few _ _ used in
     let total = before.total in
     let size = before.moving.total in
@@ -35,7 +37,8 @@ pub move_router-requires-clause-listed : goal.move_router-requires-clause-listed
 move_router-requires-clause-listed c = piece_listed _ _ _ _ _ _ _ _ _ _ c.loop-arrival.invariant.listed c.in_ok-number.ensures
 
 pub move_router-requires-clause-number : goal.move_router-requires-clause-number
-move_router-requires-clause-number c = piece_known _ _ _ _ _ _ _ _ _ _ _ _ _ _ _ c.loop-arrival.invariant.moving c.loop-arrival.invariant.total c.in_ok-number.ensures
+move_router-requires-clause-number c = piece_known _ _ _ _ _ _ _ _ _ _ _ _ _ _ _ c.loop-arrival.invariant.moving c.loop-arrival.invariant.total
+    c.in_ok-number.ensures
 
 pub loop-arrival-preserved : goal.loop-arrival-preserved
 loop-arrival-preserved c =
@@ -49,11 +52,13 @@ loop-arrival-preserved c =
     let inside : arrival.importer < length c.args.numbers.now.items = c.requires.in_range k none here in
     let size = before.moving.total in
     let inside' : arrival.importer < length c.loop-arrival.numbers.items = omega arith in
-    let origin : slice_index c.loop-arrival.numbers.items arrival.importer ≡ c.index-origin.result.now = sym (c.index-origin.ensures ∙ get_or_default c.loop-arrival.numbers.items arrival.importer _ 0 inside') in
+    let origin : slice_index c.loop-arrival.numbers.items arrival.importer ≡ c.index-origin.result.now =
+        sym (c.index-origin.ensures ∙ get_or_default c.loop-arrival.numbers.items arrival.importer _ 0 inside') in
     record {
       total = moved.total ∙ piece_size _ _ _ _ _ _ _ _ _ _ before.total piece;
       listed = moved.listed;
-      moving = rw (take_more c.args.arrivals.now k none here) (moving_next _ _ _ _ arrival _ _ _ _ _ _ _ _ _ _ _ _ before.moving before.total inside refl origin piece moved.moved);
+      moving = rw (take_more c.args.arrivals.now k none here)
+          (moving_next _ _ _ _ arrival _ _ _ _ _ _ _ _ _ _ _ _ before.moving before.total inside refl origin piece moved.moved);
     }
 
 pub returns-clause-listed : goal.returns-clause-listed

@@ -24,5 +24,6 @@ loop-origin-preserved c =
     record {
       size = second_size ∙ first_size ∙ pushed ∙ omega arith;
       marked = second.marked;
-      waiting = rw (take_more c.args.origins.now c.loop-origin.origin-index 0 here) (pieces_more _ _ _ _ _ _ _ _ c.loop-origin.invariant.waiting first.waiting second.waiting (omega arith));
+      waiting = rw (take_more c.args.origins.now c.loop-origin.origin-index 0 here)
+          (pieces_more _ _ _ _ _ _ _ _ c.loop-origin.invariant.waiting first.waiting second.waiting (omega arith));
     }

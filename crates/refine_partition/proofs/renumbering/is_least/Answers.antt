@@ -8,7 +8,8 @@ use Rattle.refine_partition.proofs.MemberLemmas.{member, test_same, same_test}
 use Rattle.refine_partition.proofs.RenumberLemmas.{first_least, first_member}
 use Rattle.refine_partition.proofs.renumbering.is_least.Goals as goal
 
-block_is : (numbers : List ℕ) (blocks : List (Vec ℕ Global)) (number : ℕ) (block : Vec ℕ Global) → AreBlocks numbers blocks → number < length blocks → block ≡ get_or blocks number block → block.items ≡ members_of numbers number
+block_is : (numbers : List ℕ) (blocks : List (Vec ℕ Global)) (number : ℕ) (block : Vec ℕ Global) → AreBlocks numbers blocks → number < length blocks
+    → block ≡ get_or blocks number block → block.items ≡ members_of numbers number
 block_is numbers blocks number block are inside read = ap (λ (v : Vec ℕ Global). v.items) read ∙ are.each number block inside
 
 not_empty : (numbers : List ℕ) (router : ℕ) → router < length numbers → 0 < length (members_of numbers (slice_index numbers router))

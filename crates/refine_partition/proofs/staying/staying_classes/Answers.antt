@@ -31,5 +31,6 @@ loop-block-preserved c =
     record {
       total = length-set _ _ _ ∙ total;
       listed = listed_set _ _ _ _ _ before.listed inside c.index_mut.ensures.value looked.listed;
-      staying = rw (take_more c.args.blocks.now k 0 here) (staying_more _ _ _ _ _ _ _ _ _ before.staying c.requires.finer (not_earlier _ k c.requires.in_order here) before.listed inside c.index_mut.ensures.value looked.staying c.in_ok-name_class.ensures);
+      staying = rw (take_more c.args.blocks.now k 0 here) (staying_more _ _ _ _ _ _ _ _ _ before.staying c.requires.finer
+          (not_earlier _ k c.requires.in_order here) before.listed inside c.index_mut.ensures.value looked.staying c.in_ok-name_class.ensures);
     }

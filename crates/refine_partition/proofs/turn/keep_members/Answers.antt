@@ -10,6 +10,7 @@ returns c =
     let read = c.index_mut.ensures.value in
     record {
       total = length-set _ _ _;
-      listed = listed_set _ _ _ _ _ c.requires.listed c.requires.known read (members_kept _ _ _ _ (routers_of _ _ _ _ c.requires.listed c.requires.known read) filtered).0;
+      listed = listed_set _ _ _ _ _ c.requires.listed c.requires.known read
+          (members_kept _ _ _ _ (routers_of _ _ _ _ c.requires.listed c.requires.known read) filtered).0;
       members = members_in _ _ _ _ _ c.requires.listed c.requires.known read filtered;
     }

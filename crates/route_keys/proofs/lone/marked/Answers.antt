@@ -8,7 +8,8 @@ use Rattle.route_keys.proofs.lone.marked.Goals as goal
 pub loop-place-init : goal.loop-place-init
 loop-place-init c = record {
   inside = omega arith;
-  members = λ n. (let none : contains nat_eq c.new-set.result n ≡ false = search rules in none ∙ sym (marked_none n c.args.marks.now c.args.numbers.now (length c.args.marks.now) (omega arith)));
+  members = λ n. (let none : contains nat_eq c.new-set.result n ≡ false = search rules in none
+      ∙ sym (marked_none n c.args.marks.now c.args.numbers.now (length c.args.marks.now) (omega arith)));
 }
 
 pub loop-place-preserved : goal.loop-place-preserved
@@ -26,5 +27,6 @@ loop-place-preserved c =
       members = λ n.
           c.in_ok-set.ensures n ∙ ap (λ (b : Bool). (mark && nat_eq number n) || b) (c.loop-place.invariant.members n)
           ∙ ap (λ (k : ℕ). (mark && nat_eq number n) || has_marked_number (drop k marks) (drop k numbers) n) (sym next)
-          ∙ sym (marked_first n marks numbers place number mark here c.requires (get_or_default marks place false mark here) (get_or_default numbers place 0 number there));
+          ∙ sym (marked_first n marks numbers place number mark here c.requires (get_or_default marks place false mark here)
+              (get_or_default numbers place 0 number there));
     }

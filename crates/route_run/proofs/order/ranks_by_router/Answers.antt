@@ -7,6 +7,7 @@ loop-router-preserved c =
     let router = c.loop-router.router in
     let label = c.index-labels-router.result in
     record {
-      ranks = ranks_more labels router c.loop-router.ranks.items c.push.new.self.items label c.size_or_last.result c.loop-router-test.true c.index-labels-router.is c.size_or_last.ensures.value c.loop-router.invariant.ranks c.in_ok-push.ensures.items;
+      ranks = ranks_more labels router c.loop-router.ranks.items c.push.new.self.items label c.size_or_last.result c.loop-router-test.true
+          c.index-labels-router.is c.size_or_last.ensures.value c.loop-router.invariant.ranks c.in_ok-push.ensures.items;
       short = short_more labels router label c.loop-router-test.true c.index-labels-router.is c.size_or_last.ensures.short c.loop-router.invariant.short;
     }

@@ -35,7 +35,9 @@ loop-router-preserved c =
       own = c.end_of-end.ensures.own;
       other = c.end_of-end.ensures.other;
     } in
-    let here : HoldsBest P c.args.labels.now c.loop-router.router = subst (λ (why : Option ℕ). MatchOption why (HoldsBest P c.args.labels.now c.loop-router.router) (BreaksBy P c.args.labels.now c.loop-router.router)) c.in-None.is c.in_ok-why.ensures in
+    let here : HoldsBest P c.args.labels.now c.loop-router.router =
+        subst (λ (why : Option ℕ). MatchOption why (HoldsBest P c.args.labels.now c.loop-router.router) (BreaksBy P c.args.labels.now c.loop-router.router))
+            c.in-None.is c.in_ok-why.ensures in
     record {
       inside = c.end_of-end.ensures.bounds.1;
       passed = passed_more edges c.loop-router.router c.loop-router.first c.end_of-end.result stand;
@@ -47,4 +49,5 @@ loop-router-preserved c =
     }
 
 pub returns : goal.returns
-returns c = all_hold c.args.srp.now c.args.labels.now c.requires (λ v lt. c.loop-router.invariant.before v (omega (arith, lt, c.loop-router-test.false, c.count-router-end.ensures.count)))
+returns c = all_hold c.args.srp.now c.args.labels.now c.requires
+    (λ v lt. c.loop-router.invariant.before v (omega (arith, lt, c.loop-router-test.false, c.count-router-end.ensures.count)))

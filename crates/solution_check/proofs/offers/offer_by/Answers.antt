@@ -12,28 +12,34 @@ pub returns-then-loops-clause-exact : goal.returns-then-loops-clause-exact
 unfolding step_by import_by
 returns-then-loops-clause-exact c =
     let a = c.in-Import-Bgp in
-    let looped : (nat_eq c.args.exporter c.args.own || is_on c.args.own a.path) ≡ true = ap (λ (path : List ℕ). nat_eq c.args.exporter c.args.own || is_on c.args.own path) (sym c.as_slice.ensures) ∙ sym c.loops.ensures ∙ c.if-loops.true in
+    let looped : (nat_eq c.args.exporter c.args.own || is_on c.args.own a.path) ≡ true =
+        ap (λ (path : List ℕ). nat_eq c.args.exporter c.args.own || is_on c.args.own path) (sym c.as_slice.ensures) ∙ sym c.loops.ensures ∙ c.if-loops.true in
     rw (a.is-0, a.is-1) (sym (dropped c.args.exporter c.args.own a.path (import_of a.out a.sends a.into a.comms) looped))
 
 pub returns-in-Some-clause-exact : goal.returns-in-Some-clause-exact
 unfolding step_by import_by
 returns-in-Some-clause-exact c =
     let a = c.in-Import-Bgp in
-    let apart : (nat_eq c.args.exporter c.args.own || is_on c.args.own a.path) ≡ false = ap (λ (path : List ℕ). nat_eq c.args.exporter c.args.own || is_on c.args.own path) (sym c.as_slice.ensures) ∙ sym c.loops.ensures ∙ c.if-loops.false in
+    let apart : (nat_eq c.args.exporter c.args.own || is_on c.args.own a.path) ≡ false =
+        ap (λ (path : List ℕ). nat_eq c.args.exporter c.args.own || is_on c.args.own path) (sym c.as_slice.ensures) ∙ sym c.loops.ensures ∙ c.if-loops.false in
     let imports : import_of a.out a.sends a.into a.comms ≡ Some c.in-Some.imported = sym c.in_ok-imported-in-Import-Bgp.ensures ∙ c.in-Some.is in
-    rw (a.is-0, a.is-1) (sym (ap (λ (i : Option Imported). option_and_then (passed c.args.own) (option_map (arrived c.args.exporter a.path) i)) imports ∙ kept c.args.exporter c.args.own a.path c.in-Some.imported apart))
+    rw (a.is-0, a.is-1) (sym (ap (λ (i : Option Imported). option_and_then (passed c.args.own) (option_map (arrived c.args.exporter a.path) i)) imports
+        ∙ kept c.args.exporter c.args.own a.path c.in-Some.imported apart))
 
 pub returns-then-loops-clause-gives : goal.returns-then-loops-clause-gives
 unfolding step_by import_by
 returns-then-loops-clause-gives c =
     let a = c.in-Import-Bgp in
-    let looped : (nat_eq c.args.exporter c.args.own || is_on c.args.own a.path) ≡ true = ap (λ (path : List ℕ). nat_eq c.args.exporter c.args.own || is_on c.args.own path) (sym c.as_slice.ensures) ∙ sym c.loops.ensures ∙ c.if-loops.true in
+    let looped : (nat_eq c.args.exporter c.args.own || is_on c.args.own a.path) ≡ true =
+        ap (λ (path : List ℕ). nat_eq c.args.exporter c.args.own || is_on c.args.own path) (sym c.as_slice.ensures) ∙ sym c.loops.ensures ∙ c.if-loops.true in
     rw (a.is-0, a.is-1) (sym (ap is_some (dropped c.args.exporter c.args.own a.path (import_of a.out a.sends a.into a.comms) looped)))
 
 pub returns-in-Some-clause-gives : goal.returns-in-Some-clause-gives
 unfolding step_by import_by
 returns-in-Some-clause-gives c =
     let a = c.in-Import-Bgp in
-    let apart : (nat_eq c.args.exporter c.args.own || is_on c.args.own a.path) ≡ false = ap (λ (path : List ℕ). nat_eq c.args.exporter c.args.own || is_on c.args.own path) (sym c.as_slice.ensures) ∙ sym c.loops.ensures ∙ c.if-loops.false in
+    let apart : (nat_eq c.args.exporter c.args.own || is_on c.args.own a.path) ≡ false =
+        ap (λ (path : List ℕ). nat_eq c.args.exporter c.args.own || is_on c.args.own path) (sym c.as_slice.ensures) ∙ sym c.loops.ensures ∙ c.if-loops.false in
     let imports : import_of a.out a.sends a.into a.comms ≡ Some c.in-Some.imported = sym c.in_ok-imported-in-Import-Bgp.ensures ∙ c.in-Some.is in
-    rw (a.is-0, a.is-1) (sym (ap is_some (ap (λ (i : Option Imported). option_and_then (passed c.args.own) (option_map (arrived c.args.exporter a.path) i)) imports ∙ kept c.args.exporter c.args.own a.path c.in-Some.imported apart)))
+    rw (a.is-0, a.is-1) (sym (ap is_some (ap (λ (i : Option Imported). option_and_then (passed c.args.own) (option_map (arrived c.args.exporter a.path) i))
+        imports ∙ kept c.args.exporter c.args.own a.path c.in-Some.imported apart)))

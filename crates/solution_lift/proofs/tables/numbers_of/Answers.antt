@@ -8,8 +8,10 @@ use Rattle.srp_quotient.specs.Groups.{first_member, touches, number_of_group}
 use Rattle.solution_lift.proofs.Ranges.{one_more}
 use Rattle.solution_lift.proofs.tables.numbers_of.Goals as goal
 
-flag_is : (f : ℕ → Bool) (flags : List Bool) (count k : ℕ) (flag : Bool) → flags ≡ map f (range_with_len 0 count) → k < count → flag ≡ get_or flags k flag → flag ≡ f k
-flag_is f flags count k flag is inside at = at ∙ ap (λ (bs : List Bool). get_or bs k flag) is ∙ get_or-map-range_with_len f 0 count k k flag inside (omega arith)
+flag_is : (f : ℕ → Bool) (flags : List Bool) (count k : ℕ) (flag : Bool) → flags ≡ map f (range_with_len 0 count) → k < count → flag ≡ get_or flags k flag
+    → flag ≡ f k
+flag_is f flags count k flag is inside at = at ∙ ap (λ (bs : List Bool). get_or bs k flag) is
+    ∙ get_or-map-range_with_len f 0 count k k flag inside (omega arith)
 
 pub index-is_linked-requires : goal.index-is_linked-requires
 index-is_linked-requires c =
@@ -18,9 +20,11 @@ index-is_linked-requires c =
 
 pub loop-group-preserved : goal.loop-group-preserved
 loop-group-preserved c =
-    let flag = flag_is (λ group. list_any (touches group) c.args.links.now) c.in_ok-linked.linked.items c.args.count c.loop-group.group c.index-is_linked.result.now c.in_ok-linked.ensures c.loop-group-test.true c.index-is_linked.ensures in
+    let flag = flag_is (λ group. list_any (touches group) c.args.links.now) c.in_ok-linked.linked.items c.args.count c.loop-group.group
+        c.index-is_linked.result.now c.in_ok-linked.ensures c.loop-group-test.true c.index-is_linked.ensures in
     one_more (number_of_group c.args.srp.now c.args.p.now c.args.links.now) _ _ c.loop-group.group _ c.loop-group.invariant c.in_ok-push.ensures.ok
-    (c.number_of_group.ensures ∙ ap (λ (b : Bool). if is_some (initial c.args.srp.now (first_member c.args.p.now c.loop-group.group)) || b then first_number c.args.srp.now.numbers c.args.p.now c.loop-group.group else 0) flag)
+    (c.number_of_group.ensures ∙ ap (λ (b : Bool). if is_some (initial c.args.srp.now (first_member c.args.p.now c.loop-group.group)) || b then first_number
+        c.args.srp.now.numbers c.args.p.now c.loop-group.group else 0) flag)
 
 pub returns : goal.returns
 returns c =

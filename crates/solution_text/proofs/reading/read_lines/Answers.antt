@@ -43,10 +43,13 @@ loop-from-preserved c =
     record {
       few = omega arith;
       inside = omega arith;
-      begins = λ h. ap (λ (e : ℕ). begins_line bs (e + 1)) c.newline_from-end.ensures.place ∙ begins_next bs c.loop-from.from c.loop-from-test.true (omega (arith, h, c.newline_from-end.ensures.place));
+      begins = λ h. ap (λ (e : ℕ). begins_line bs (e + 1)) c.newline_from-end.ensures.place
+          ∙ begins_next bs c.loop-from.from c.loop-from-test.true (omega (arith, h, c.newline_from-end.ensures.place));
       left = omega (arith, count_left bs n c.loop-from.from c.newline_from-end.result c.without_return-upto.result cut, c.loop-from.invariant.left);
-      within = λ wanted place at. (let lt = c.loop-from.invariant.within wanted place at in let same = words_count c.args.protocol place_of n c.loop-from.said _ c.in-Ok.more c.in-Ok.ensures in omega (arith, lt, same));
-      answer = sym (left_next c.args.protocol place_of (length (all_lines_of bs) + 1) bs n c.loop-from.from c.newline_from-end.result c.without_return-upto.result cut c.loop-from.said c.in-Ok.more c.in-Ok.ensures) ∙ c.loop-from.invariant.answer;
+      within = λ wanted place at. (let lt = c.loop-from.invariant.within wanted place at in let same =
+          words_count c.args.protocol place_of n c.loop-from.said _ c.in-Ok.more c.in-Ok.ensures in omega (arith, lt, same));
+      answer = sym (left_next c.args.protocol place_of (length (all_lines_of bs) + 1) bs n c.loop-from.from c.newline_from-end.result
+          c.without_return-upto.result cut c.loop-from.said c.in-Ok.more c.in-Ok.ensures) ∙ c.loop-from.invariant.answer;
     }
 
 pub returns-in-Err : goal.returns-in-Err
@@ -62,19 +65,24 @@ returns-in-Err c =
     } in
     let place_of = place_in c.args.places.now in
     let last = length (all_lines_of bs) + 1 in
-    refused_too c.in-Err.refusal _ _ (λ fault e. sym c.loop-from.invariant.answer ∙ left_fault c.args.protocol place_of last bs (c.loop-from.line + 1) c.loop-from.from c.newline_from-end.result c.without_return-upto.result cut c.loop-from.said fault e) c.in-Err.ensures
+    refused_too c.in-Err.refusal _ _ (λ fault e. sym c.loop-from.invariant.answer
+        ∙ left_fault c.args.protocol place_of last bs (c.loop-from.line + 1) c.loop-from.from c.newline_from-end.result c.without_return-upto.result cut
+            c.loop-from.said fault e) c.in-Err.ensures
 
 pub returns-in-Some : goal.returns-in-Some
 returns-in-Some c =
     let bs = c.args.bytes.now in
     let place_of = place_in c.args.places.now in
     let last = length (all_lines_of bs) + 1 in
-    sym c.loop-from.invariant.answer ∙ none_left c.args.protocol place_of last bs (c.loop-from.line + 1) c.loop-from.from c.loop-from.said c.loop-from-test.false ∙ ap (labels_unless None last) (sym c.in-Some.ensures)
+    sym c.loop-from.invariant.answer ∙ none_left c.args.protocol place_of last bs (c.loop-from.line + 1) c.loop-from.from c.loop-from.said
+        c.loop-from-test.false ∙ ap (labels_unless None last) (sym c.in-Some.ensures)
 
 pub returns-in-None : goal.returns-in-None
 returns-in-None c =
     let bs = c.args.bytes.now in
     let place_of = place_in c.args.places.now in
     let last = length (all_lines_of bs) + 1 in
-    let at : last ≡ c.loop-from.line + 1 = omega (arith, c.loop-from.invariant.left, none_counted bs (c.loop-from.line + 1) c.loop-from.from c.loop-from-test.false) in
-    sym c.loop-from.invariant.answer ∙ none_left c.args.protocol place_of last bs (c.loop-from.line + 1) c.loop-from.from c.loop-from.said c.loop-from-test.false ∙ ap (labels_unless None last) (sym c.in-None.ensures) ∙ ap (λ (n : ℕ). Err (At n Missing)) at
+    let at : last ≡ c.loop-from.line + 1 = omega (arith, c.loop-from.invariant.left,
+        none_counted bs (c.loop-from.line + 1) c.loop-from.from c.loop-from-test.false) in
+    sym c.loop-from.invariant.answer ∙ none_left c.args.protocol place_of last bs (c.loop-from.line + 1) c.loop-from.from c.loop-from.said
+        c.loop-from-test.false ∙ ap (labels_unless None last) (sym c.in-None.ensures) ∙ ap (λ (n : ℕ). Err (At n Missing)) at

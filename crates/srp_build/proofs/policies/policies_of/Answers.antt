@@ -13,6 +13,7 @@ pub returns : goal.returns
 returns c =
     let routers = c.args.routers.now in
     record {
-      outs = have_kept routers false c.policies_by_router.new.table.firsts.items c.policies_by_router-2.new.table.firsts.items c.in_ok-ins.ensures.kept routers c.in_ok-outs.outs c.in_ok-outs.ensures.policies;
+      outs = have_kept routers false c.policies_by_router.new.table.firsts.items c.policies_by_router-2.new.table.firsts.items c.in_ok-ins.ensures.kept routers
+          c.in_ok-outs.outs c.in_ok-outs.ensures.policies;
       ins = c.in_ok-ins.ensures.policies;
     }

@@ -8,4 +8,6 @@ pub returns-then-numbers-i : goal.returns-then-numbers-i
 returns-then-numbers-i c = sym (marked_from c.args.marks.now c.args.numbers.now c.loop-i.i c.args.wanted (omega arith) (search rules) (search rules))
 
 pub returns : goal.returns
-returns c = sym (false_from_ne_true (has_marked_number c.args.marks.now c.args.numbers.now c.args.wanted) (λ t. let m = marked_at c.args.marks.now c.args.numbers.now c.args.wanted t in let i = m.inside in c.loop-i.invariant m.router (omega arith) m.mark m.number))
+returns c = sym (false_from_ne_true (has_marked_number c.args.marks.now c.args.numbers.now c.args.wanted)
+    (λ t. let m = marked_at c.args.marks.now c.args.numbers.now c.args.wanted t in let i = m.inside in
+        c.loop-i.invariant m.router (omega arith) m.mark m.number))

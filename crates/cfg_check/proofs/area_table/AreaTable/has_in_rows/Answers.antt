@@ -7,7 +7,8 @@ use Rattle.cfg_check.proofs.BlockLemmas.{any_same}
 use Rattle.cfg_check.proofs.area_table.AreaTable.has_in_rows.Goals as goal
 
 pub loop-chunk-preserved : goal.loop-chunk-preserved
-loop-chunk-preserved c = none_in_chunk (agrees_below 8 c.args.addr) c.args.self.now.lines.now c.loop-chunk.chunk c.bits_having.result c.bits_having.ensures c.if-bits_having-ne0.false c.loop-chunk.invariant
+loop-chunk-preserved c = none_in_chunk (agrees_below 8 c.args.addr) c.args.self.now.lines.now c.loop-chunk.chunk c.bits_having.result c.bits_having.ensures
+    c.if-bits_having-ne0.false c.loop-chunk.invariant
 
 pub returns-then-bits_having-ne0 : goal.returns-then-bits_having-ne0
 returns-then-bits_having-ne0 c =

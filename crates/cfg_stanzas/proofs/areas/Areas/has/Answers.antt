@@ -7,4 +7,5 @@ use Rattle.cfg_stanzas.proofs.Indexed.{has_area}
 use Rattle.cfg_stanzas.proofs.areas.Areas.has.Goals as goal
 
 pub returns : goal.returns
-returns c = c.contains.ensures ∙ ap (sorted.contains area_order c.self.inside.said) c.key_of.ensures ∙ has_area c.self.inside.said c.self.inside.items c.args.area.now c.self.invariant ∙ ap (list_any (same_area_line c.args.area.now)) c.self.view_is
+returns c = c.contains.ensures ∙ ap (sorted.contains area_order c.self.inside.said) c.key_of.ensures
+    ∙ has_area c.self.inside.said c.self.inside.items c.args.area.now c.self.invariant ∙ ap (list_any (same_area_line c.args.area.now)) c.self.view_is

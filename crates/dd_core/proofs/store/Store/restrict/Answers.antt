@@ -28,5 +28,7 @@ returns-clause-restrict c =
     let count : length c.self.inside.table ≡ length c.args.self.now.nodes = ap (λ (s : Shown). length s.nodes) c.self.view_is in
     let number = c.place.ensures in
     let below = c.requires.inside in
-    rw (c.new.ensures, ← c.self.view_is, ← c.place.ensures) (restricted_means old new c.args.present.now c.args.absent.now c.place.result c.in_ok-place.place c.self.invariant (invariant_of-self-2 c) refl c.in_ok-place.ensures.extends
-    (omega arith) (λ d there. ap (λ (s : Shown). has s.universe d) c.self.view_is ∙ c.requires.present d there) (λ d there. ap (λ (s : Shown). has s.universe d) c.self.view_is ∙ c.requires.absent d there) c.in_ok-place.ensures.restricted)
+    rw (c.new.ensures, ← c.self.view_is, ← c.place.ensures) (restricted_means old new c.args.present.now c.args.absent.now c.place.result c.in_ok-place.place
+        c.self.invariant (invariant_of-self-2 c) refl c.in_ok-place.ensures.extends
+    (omega arith) (λ d there. ap (λ (s : Shown). has s.universe d) c.self.view_is ∙ c.requires.present d there)
+        (λ d there. ap (λ (s : Shown). has s.universe d) c.self.view_is ∙ c.requires.absent d there) c.in_ok-place.ensures.restricted)

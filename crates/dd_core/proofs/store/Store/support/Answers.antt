@@ -8,4 +8,5 @@ returns c =
     let count : length c.self.inside.table ≡ length c.args.self.now.nodes = ap (λ (s : Shown). length s.nodes) c.self.view_is in
     let number = c.place.ensures in
     let below = c.requires in
-    rw (← c.self.view_is, ← c.place.ensures, c.in_ok-support.ensures, c.deref.ensures.value) (support_is _ c.self.invariant c.place.result c.in_ok-used.used.items (omega arith) c.in_ok-used.ensures)
+    rw (← c.self.view_is, ← c.place.ensures, c.in_ok-support.ensures, c.deref.ensures.value)
+        (support_is _ c.self.invariant c.place.result c.in_ok-used.used.items (omega arith) c.in_ok-used.ensures)

@@ -22,7 +22,8 @@ pub returns-clause-distinct : goal.returns-clause-distinct
 returns-clause-distinct c = distinct_places _ same_node _ c.in_ok-place.ensures.unique
 
 pub returns-clause-found : goal.returns-clause-found
-returns-clause-found c = rw (c.in_ok-place.ensures.entries, c.in_ok-place.ensures.index) (interned_at eq-value.it one_node c.args.node tt c.self.inside.nodes.entries)
+returns-clause-found c = rw (c.in_ok-place.ensures.entries, c.in_ok-place.ensures.index)
+    (interned_at eq-value.it one_node c.args.node tt c.self.inside.nodes.entries)
 
 pub returns-clause-grown : goal.returns-clause-grown
 returns-clause-grown c = rw (c.in_ok-place.ensures.entries, ← c.self.view_is) (interned_last eq-value.it one_node c.args.node tt c.self.inside.nodes.entries)

@@ -6,7 +6,8 @@ use Rattle.refine_partition.proofs.splitting.Splitting.split_by.Given.{Over}
 use Rattle.refine_partition.proofs.splitting.Splitting.split_by.Goals as goal
 
 pub divide-requires-clause-one_number_each : goal.divide-requires-clause-one_number_each
-divide-requires-clause-one_number_each g c = rw c.of-graph.ensures (all_routers c.args.graph.now _ _ _ c.self.invariant.numbered c.self.view_is c.requires.of_graph)
+divide-requires-clause-one_number_each g c = rw c.of-graph.ensures
+    (all_routers c.args.graph.now _ _ _ c.self.invariant.numbered c.self.view_is c.requires.of_graph)
 
 split_is : (g : Over) (c : goal.After-drop-imports-2 g) → IsSplitOf c.args.graph.now c.args.block c.args.self.now (lists_of c.divide.new.blocks.items)
 split_is g c =

@@ -6,7 +6,8 @@ use Rattle.refine_partition.proofs.splitting.Splitting.start.Goals as goal
 
 pub invariant_of-result : goal.invariant_of-result
 invariant_of-result c = record {
-  numbered = numbered_blocks _ _ _ c.in_ok-numbers.ensures.numbering.numbered c.in_ok-blocks.ensures.total (rw c.deref.ensures.value at c.in_ok-blocks.ensures.blocks);
+  numbered = numbered_blocks _ _ _ c.in_ok-numbers.ensures.numbering.numbered c.in_ok-blocks.ensures.total
+      (rw c.deref.ensures.value at c.in_ok-blocks.ensures.blocks);
   few = let total = c.in_ok-blocks.ensures.total in omega arith;
 }
 
@@ -14,7 +15,8 @@ start_of : (c : goal.In_ok-blocks) → IsStartOf c.args.graph.now (lists_of c.in
 start_of c =
     let total = rw c.as_slice.ensures at c.in_ok-numbers.ensures.total in
     let numbering = rw c.as_slice.ensures at c.in_ok-numbers.ensures.numbering in
-    started c.args.graph.now _ _ _ (total ∙ c.args.graph.now.one_color_each) numbering c.in_ok-blocks.ensures.total (rw c.deref.ensures.value at c.in_ok-blocks.ensures.blocks)
+    started c.args.graph.now _ _ _ (total ∙ c.args.graph.now.one_color_each) numbering c.in_ok-blocks.ensures.total
+        (rw c.deref.ensures.value at c.in_ok-blocks.ensures.blocks)
 
 pub returns-clause-of_graph : goal.returns-clause-of_graph
 returns-clause-of_graph c = let start = start_of c in record { numbers = start.numbers; are = start.are }

@@ -20,12 +20,15 @@ returns-clause-number c =
     let act : BgpAct = record { first = c.args.hop.now; import = c.args.import.now; function = c.args.function } in
     let nodes = c.nodes_of-nodes.ensures in
     let found = c.like_among.ensures.none c.in_default.is in
-    let among = subst (λ (ns : List ℕ). AreUnlike c.args.store.now c.deref.result.now ns c.args.function) (c.items_at-numbers.ensures ∙ ap (bucket c.args.self.now.by_nodes) nodes) found in
-    let unlike = subst (λ (l : List BgpAct). AreUnlike c.args.store.now l (bucket c.args.self.now.by_nodes (nodes_of c.args.function)) c.args.function) c.deref.ensures.value among in
+    let among = subst (λ (ns : List ℕ). AreUnlike c.args.store.now c.deref.result.now ns c.args.function)
+        (c.items_at-numbers.ensures ∙ ap (bucket c.args.self.now.by_nodes) nodes) found in
+    let unlike = subst (λ (l : List BgpAct). AreUnlike c.args.store.now l (bucket c.args.self.now.by_nodes (nodes_of c.args.function)) c.args.function)
+        c.deref.ensures.value among in
     let ok = c.args.self.now.acts.ok in
     let next : c.number_of-number.result ≡ length c.args.self.now.acts.items = omega (arith, c.number_of-number.ensures ∙ c.len.ensures) in
     inr (record {
       is = record { act = act; last = c.in_ok-push.ensures.items; first = refl; over = refl; next = next };
       function_is = refl;
-      apart = unlike_all c.one_form.ensures c.args.store.now c.len-known.ensures.shown c.args.self.now.by_nodes c.args.self.now.acts.items c.args.function c.requires.listed unlike;
+      apart = unlike_all c.one_form.ensures c.args.store.now c.len-known.ensures.shown c.args.self.now.by_nodes c.args.self.now.acts.items c.args.function
+          c.requires.listed unlike;
     })

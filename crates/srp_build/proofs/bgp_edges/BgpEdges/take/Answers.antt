@@ -10,13 +10,16 @@ use Rattle.srp_build.proofs.ImportSteps.{one_more}
 use Rattle.srp_build.proofs.bgp_edges.BgpEdges.take.Goals as goal
 
 pub returns-then-originates-clause-takes : goal.returns-then-originates-clause-takes
-returns-then-originates-clause-takes c = λ routers lines is. inl (record { left = started (sym c.originates.ensures ∙ c.if-originates.true); acts = refl; edges = refl })
+returns-then-originates-clause-takes c = λ routers lines is.
+    inl (record { left = started (sym c.originates.ensures ∙ c.if-originates.true); acts = refl; edges = refl })
 
 pub returns-in_default-clause-grown : goal.returns-in_default-clause-grown
-returns-in_default-clause-grown c = one_more c.args.self.now.acts.acts.items c.act_of_import.new.acts.acts.items c.args.hop.now c.with_maps-import.result c.in_ok-act.act c.in_ok-act.ensures.came
+returns-in_default-clause-grown c = one_more c.args.self.now.acts.acts.items c.act_of_import.new.acts.acts.items c.args.hop.now c.with_maps-import.result
+    c.in_ok-act.act c.in_ok-act.ensures.came
 
 pub returns-clause-grown : goal.returns-clause-grown
-returns-clause-grown c = one_more c.args.self.now.acts.acts.items c.act_of_import.new.acts.acts.items c.args.hop.now c.with_maps-import.result c.in_ok-act.act c.in_ok-act.ensures.came
+returns-clause-grown c = one_more c.args.self.now.acts.acts.items c.act_of_import.new.acts.acts.items c.args.hop.now c.with_maps-import.result c.in_ok-act.act
+    c.in_ok-act.ensures.came
 
 -- nothing is accepted
 pub returns-in_default-clause-takes : goal.returns-in_default-clause-takes
@@ -24,18 +27,21 @@ returns-in_default-clause-takes c = λ routers lines is.
     let hop = c.args.hop.now in
     let import = c.with_maps-import.result in
     let acts = c.act_of_import.new.acts.acts.items in
-    let same : import ≡ with_maps c.args.maps.now.numbers.items c.args.import.now = c.with_maps-import.ensures ∙ ap (λ (l : List ℕ). with_maps l c.args.import.now) c.deref.ensures.value in
+    let same : import ≡ with_maps c.args.maps.now.numbers.items c.args.import.now = c.with_maps-import.ensures
+        ∙ ap (λ (l : List ℕ). with_maps l c.args.import.now) c.deref.ensures.value in
     let import_is : import_at routers lines hop ≡ Some import = is.is ∙ ap (λ (s : ImportByMaps). Some s) (sym same) in
     let none = subst (λ (o : Option ℕ). IsActFor c.deref-2.result.now acts import o) c.in_default.is c.in_ok-act.ensures.act in
     let came = subst (λ (o : Option ℕ). IsMaybeNew c.args.self.now.acts.acts.items acts hop import o) c.in_default.is c.in_ok-act.ensures.came in
-    inl (record { left = denied import import_is (subst (λ (m : List Plain). AcceptsNone (import_over m import)) (c.deref-2.ensures.value ∙ is.maps_are) none); acts = came; edges = refl })
+    inl (record { left = denied import import_is (subst (λ (m : List Plain). AcceptsNone (import_over m import)) (c.deref-2.ensures.value ∙ is.maps_are) none);
+        acts = came; edges = refl })
 
 pub returns-clause-takes : goal.returns-clause-takes
 returns-clause-takes c = λ routers lines is.
     let hop = c.args.hop.now in
     let import = c.with_maps-import.result in
     let acts = c.act_of_import.new.acts.acts.items in
-    let same : import ≡ with_maps c.args.maps.now.numbers.items c.args.import.now = c.with_maps-import.ensures ∙ ap (λ (l : List ℕ). with_maps l c.args.import.now) c.deref.ensures.value in
+    let same : import ≡ with_maps c.args.maps.now.numbers.items c.args.import.now = c.with_maps-import.ensures
+        ∙ ap (λ (l : List ℕ). with_maps l c.args.import.now) c.deref.ensures.value in
     let import_is : import_at routers lines hop ≡ Some import = is.is ∙ ap (λ (s : ImportByMaps). Some s) (sym same) in
     let act = subst (λ (o : Option ℕ). IsActFor c.deref-2.result.now acts import o) c.in-Some.is c.in_ok-act.ensures.act in
     let came = subst (λ (o : Option ℕ). IsMaybeNew c.args.self.now.acts.acts.items acts hop import o) c.in-Some.is c.in_ok-act.ensures.came in

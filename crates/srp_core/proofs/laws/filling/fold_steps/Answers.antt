@@ -11,10 +11,12 @@ pub returns-clause-source : goal.returns-clause-source
 returns-clause-source c = λ problem small groups labels can u r inside asked none. steps.some_source problem small groups labels can u r inside asked none
 
 pub returns-clause-found : goal.returns-clause-found
-returns-clause-found c = λ problem small groups labels lower can u source r next none on. steps.fold_found problem small groups labels can lower u r next source none on
+returns-clause-found c = λ problem small groups labels lower can u source r next none on.
+    steps.fold_found problem small groups labels can lower u r next source none on
 
 pub returns-clause-taken : goal.returns-clause-taken
-returns-clause-taken c = λ problem small groups labels lower can u source r route next none on takes. steps.fold_taken problem small groups labels can lower u r next source route none on takes
+returns-clause-taken c = λ problem small groups labels lower can u source r route next none on takes.
+    steps.fold_taken problem small groups labels can lower u r next source route none on takes
 
 pub returns-clause-whole : goal.returns-clause-whole
 returns-clause-whole c = λ problem small groups labels lower can part full. steps.fold_whole problem small groups labels can lower part full

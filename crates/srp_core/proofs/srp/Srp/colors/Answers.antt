@@ -6,4 +6,5 @@ pub returns-clause-graph : goal.returns-clause-graph
 returns-clause-graph c = λ graph. graph_of c.args.self.now c.count-known.ensures.rules c.in_ok-colors.colors.items c.in_ok-colors.ensures graph
 
 pub returns-clause-coarsest : goal.returns-clause-coarsest
-returns-clause-coarsest c = λ graph routers are edges. coarsest_both c.args.self.now c.count-known.ensures.rules graph (graph_of c.args.self.now c.count-known.ensures.rules c.in_ok-colors.colors.items c.in_ok-colors.ensures graph routers are edges)
+returns-clause-coarsest c = λ graph routers are edges. coarsest_both c.args.self.now c.count-known.ensures.rules graph
+    (graph_of c.args.self.now c.count-known.ensures.rules c.in_ok-colors.colors.items c.in_ok-colors.ensures graph routers are edges)

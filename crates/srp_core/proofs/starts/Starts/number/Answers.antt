@@ -36,7 +36,8 @@ pub returns-clause-distinct : goal.returns-clause-distinct
 returns-clause-distinct c = distinct_places _ same_start _ c.in_ok-place.ensures.unique
 
 pub returns-clause-found : goal.returns-clause-found
-returns-clause-found c = rw (c.in_ok-place.ensures.entries, c.in_ok-place.ensures.index) (interned_at eq-value.it one_start c.args.start tt c.self.inside.items.entries)
+returns-clause-found c = rw (c.in_ok-place.ensures.entries, c.in_ok-place.ensures.index)
+    (interned_at eq-value.it one_start c.args.start tt c.self.inside.items.entries)
 
 pub returns-clause-grown : goal.returns-clause-grown
 returns-clause-grown c = rw (c.in_ok-place.ensures.entries, ← c.self.view_is) (interned_last eq-value.it one_start c.args.start tt c.self.inside.items.entries)
