@@ -10,7 +10,7 @@ use Rattle.srp_core.specs.Problem.{Problem, IsProblem}
 use Rattle.canon_policy.specs.CanonicalProblem.{canonical_act}
 use Rattle.canon_policy.specs.declared.lists.CanonRefusal.{CanonRefusal}
 use Rattle.canon_policy.specs.declared.lists.CanonRefusal.TheVariants.{NoCanon, Memory}
-use Rattle.canon_policy.specs.MadeActs.{at_place, act_at, IsActFor, IsCanonicalActOr, AreActsSoFar, IsRefusedAtFirst}
+use Rattle.canon_policy.specs.MadeActs.{at_place, act_at_place, IsActFor, IsCanonicalActOr, AreActsSoFar, IsRefusedAtFirst}
 use Rattle.canon_policy.proofs.ActsSoFar.{at_index, seen_again, seen_first, first_without}
 
 abbrev pub edge_at : List Edge → ℕ → Edge
@@ -38,7 +38,7 @@ module _ (problem : Problem) (rules : IsProblem problem) where
 
     -- the act as read
     module _ (acts : List Act) (acts_are : acts ≡ problem.acts) (act : Act) (is : act ≡ get_or acts (edge_at edges place).act act) where
-      act_is : act ≡ act_at problem.acts (edge_at edges place).act
+      act_is : act ≡ act_at_place problem.acts (edge_at edges place).act
       act_is =
           is ∙ ap (λ (l : List Act). get_or l (edge_at edges place).act act) acts_are
           ∙ get_or_default problem.acts (edge_at edges place).act _ _ act_inside

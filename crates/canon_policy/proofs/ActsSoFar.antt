@@ -14,7 +14,7 @@ use Rattle.canon_policy.specs.CanonicalProblem.{canonical_act, has_canonical, Is
 use Rattle.srp_core.specs.ActMaps.{IsPrintableAct, IsActWithin}
 use Rattle.canon_policy.specs.declared.problem.CanonSrpRefusal.{CanonSrpRefusal}
 use Rattle.canon_policy.specs.declared.problem.CanonSrpRefusal.TheVariants.{NoCanon, Memory}
-use Rattle.canon_policy.specs.MadeActs.{act_at, is_marked, IsActFor, AreCanonicalActs, AreCanonicalActsOr, IsActSoFar, AreActsSoFar, IsRefusedAtFirst}
+use Rattle.canon_policy.specs.MadeActs.{act_at_place, is_marked, IsActFor, AreCanonicalActs, AreCanonicalActsOr, IsActSoFar, AreActsSoFar, IsRefusedAtFirst}
 use Rattle.canon_policy.specs.MadeActs.IsActSoFar.{is_done, not_done}
 use Rattle.canon_policy.proofs.ActsMade.{same_act}
 use Rattle.canon_policy.proofs.Printed.{pick, all_from}
@@ -50,7 +50,7 @@ module _ (universe : List ℕ) (problem : Problem) where
   nothing_seen printable within = record {
     count = refl;
     done_count = length-replicate (length problem.acts) false;
-    each = λ place lt. same_act universe (act_at problem.acts place) (at_index IsPrintableAct problem.acts place (Cost 0) lt printable)
+    each = λ place lt. same_act universe (act_at_place problem.acts place) (at_index IsPrintableAct problem.acts place (Cost 0) lt printable)
         (at_index (IsActWithin universe) problem.acts place (Cost 0) lt within);
     so_far = λ place lt. not_done (get_or-replicate (length problem.acts) place false false lt) refl;
     seen = tt;
@@ -90,13 +90,13 @@ module _ (universe : List ℕ) (problem : Problem) where
         | inr other ↦ get_or-set_other done edge.act place true false other ∙ e
       ]
 
-      put : (place : ℕ) → canonical_act universe (act_at problem.acts edge.act) ≡ Some new → (place ≡ edge.act) ⊎ (place ≢ edge.act)
+      put : (place : ℕ) → canonical_act universe (act_at_place problem.acts edge.act) ≡ Some new → (place ≡ edge.act) ⊎ (place ≢ edge.act)
           → IsActSoFar universe problem edges acts done place
           → IsActSoFar universe problem (edges ++ edge ∷ []) (set acts edge.act new) (set done edge.act true) place
       put place canonical (inl same) so_far =
           is_done (still place same) edge last_in (sym same)
-          (ap (λ p. canonical_act universe (act_at problem.acts p)) same ∙ canonical
-          ∙ ap Some (sym (ap (act_at (set acts edge.act new)) same ∙ get_or-set_same acts edge.act new (Cost 0) act_in)))
+          (ap (λ p. canonical_act universe (act_at_place problem.acts p)) same ∙ canonical
+          ∙ ap Some (sym (ap (act_at_place (set acts edge.act new)) same ∙ get_or-set_same acts edge.act new (Cost 0) act_in)))
         where
           still : (place : ℕ) → place ≡ edge.act → is_marked (set done edge.act true) place ≡ true
           still place same = ap (is_marked (set done edge.act true)) same ∙ get_or-set_same done edge.act true false marked_in
@@ -107,16 +107,16 @@ module _ (universe : List ℕ) (problem : Problem) where
           not_done (get_or-set_other done edge.act place true false other ∙ marked)
           (get_or-set_other acts edge.act place new (Cost 0) other ∙ same)
 
-      each_put : IsActFor universe (act_at problem.acts edge.act) new → (place : ℕ) → place < length problem.acts → (place ≡ edge.act) ⊎ (place ≢ edge.act)
-          → IsActFor universe (act_at problem.acts place) (act_at (set acts edge.act new) place)
+      each_put : IsActFor universe (act_at_place problem.acts edge.act) new → (place : ℕ) → place < length problem.acts → (place ≡ edge.act) ⊎ (place ≢ edge.act)
+          → IsActFor universe (act_at_place problem.acts place) (act_at_place (set acts edge.act new) place)
       each_put instead place lt (inl same) =
-          subst (λ p. IsActFor universe (act_at problem.acts p) (act_at (set acts edge.act new) p)) (sym same)
-          (subst (IsActFor universe (act_at problem.acts edge.act)) (sym (get_or-set_same acts edge.act new (Cost 0) act_in)) instead)
+          subst (λ p. IsActFor universe (act_at_place problem.acts p) (act_at_place (set acts edge.act new) p)) (sym same)
+          (subst (IsActFor universe (act_at_place problem.acts edge.act)) (sym (get_or-set_same acts edge.act new (Cost 0) act_in)) instead)
       each_put instead place lt (inr other) =
-          subst (IsActFor universe (act_at problem.acts place)) (sym (get_or-set_other acts edge.act place new (Cost 0) other)) (so.each place lt)
+          subst (IsActFor universe (act_at_place problem.acts place)) (sym (get_or-set_other acts edge.act place new (Cost 0) other)) (so.each place lt)
 
       -- an edge whose act becomes canonical
-      pub seen_first : canonical_act universe (act_at problem.acts edge.act) ≡ Some new → IsActFor universe (act_at problem.acts edge.act) new
+      pub seen_first : canonical_act universe (act_at_place problem.acts edge.act) ≡ Some new → IsActFor universe (act_at_place problem.acts edge.act) new
           → AreActsSoFar universe problem (edges ++ edge ∷ []) (set acts edge.act new) (set done edge.act true)
       seen_first canonical instead = record {
         count = length-set acts edge.act new ∙ so.count;
@@ -131,10 +131,10 @@ module _ (universe : List ℕ) (problem : Problem) where
 
   module _ (acts : List Act) (done : List Bool) (each_inside : (edge : Edge) → In problem.edges edge → edge.act < length problem.acts) where
     canonical_seen : (edges : List Edge) → AreActsSoFar universe problem edges acts done → (edge : Edge) → In edges edge → In problem.edges edge
-        → canonical_act universe (act_of problem edge) ≡ Some (act_at acts edge.act)
+        → canonical_act universe (act_of problem edge) ≡ Some (act_at_place acts edge.act)
     canonical_seen edges so edge h there = by (so.so_far edge.act (each_inside edge there))
       where
-        by : IsActSoFar universe problem edges acts done edge.act → canonical_act universe (act_of problem edge) ≡ Some (act_at acts edge.act)
+        by : IsActSoFar universe problem edges acts done edge.act → canonical_act universe (act_of problem edge) ≡ Some (act_at_place acts edge.act)
         by (is_done marked other i same canonical) = canonical
         by (not_done marked same) = let yes = pick (λ e. is_marked done e.act ≡ true) edges edge so.seen h in
             absurd (let wrong : true ≡ false = sym yes ∙ marked in cc)
@@ -152,12 +152,12 @@ module _ (universe : List ℕ) (problem : Problem) where
         contains_to edge h = in_contains problem.edges edge h
 
         by_done : (place : ℕ) → ((edge : Edge) → Contains problem.edges edge → edge.act ≢ place) → IsActSoFar universe problem problem.edges acts done place
-            → act_at acts place ≡ act_at problem.acts place
+            → act_at_place acts place ≡ act_at_place problem.acts place
         by_done place none (is_done marked edge h same canonical) = absurd (none edge h same)
         by_done place none (not_done marked same) = same
 
         by : (place : ℕ) → ((edge : Edge) → Contains problem.edges edge → edge.act ≢ place) → (place < length problem.acts) ⊎ (length problem.acts ≤ place)
-            → act_at acts place ≡ act_at problem.acts place
+            → act_at_place acts place ≡ act_at_place problem.acts place
         by place none (inl lt) = by_done place none (so.so_far place lt)
         by place none (inr le) =
             get_or_past acts place (Cost 0) (let n = so.count in omega arith) ∙ sym (get_or_past problem.acts place (Cost 0) le)

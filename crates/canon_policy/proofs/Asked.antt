@@ -21,7 +21,7 @@ use Rattle.canon_policy.specs.Fixings.Part.{community}
 use Rattle.canon_policy.specs.Canonical.{in_parts, in_asked, out_asked}
 use Rattle.canon_policy.specs.Hanging.{TestHangsOn, AskedHangsOn}
 use Rattle.canon_policy.specs.Made.{nodes_of, asked_of, carried_nodes, in_nodes, out_nodes}
-use Rattle.canon_policy.specs.Nodes.{AreInside, IsPartInside, AreNodesInside, AgreeAt, Tells, ArePartsTold, AreNodesOf}
+use Rattle.canon_policy.specs.Nodes.{AreInside, IsPartInside, AreNodesInside, AgreeAt, NodesTellPart, ArePartsTold, AreNodesOf}
 use Rattle.canon_policy.specs.Plain.{IsPlain}
 use Rattle.canon_policy.proofs.SameSets.{all_are, has-agreeing}
 use Rattle.canon_policy.proofs.Least.{in_has, least_none, least_some, under_hangs}
@@ -146,8 +146,8 @@ module _ (shown : Shown) (is : IsShown shown) where
   agree_bare [] a b all agree = tt
   agree_bare (n ∷ ns) a b all agree = (sym (free_value n all.0 a) ∙ agree.0 ∙ free_value n all.0 b, agree_bare ns a b all.1 agree.1)
 
-  free_tells : (nodes : List ℕ) (part : List ℕ → ℕ) → AreInside shown nodes → Tells shown nodes part
-      → Tells shown nodes (λ set. part (agreeing nothing_fixed set))
+  free_tells : (nodes : List ℕ) (part : List ℕ → ℕ) → AreInside shown nodes → NodesTellPart shown nodes part
+      → NodesTellPart shown nodes (λ set. part (agreeing nothing_fixed set))
   free_tells nodes part all tells = record {
     same = λ a b agree. tells.same (agreeing nothing_fixed a) (agreeing nothing_fixed b) (agree_free nodes a b all agree);
     apart = λ a b e. agree_bare nodes a b all (tells.apart (agreeing nothing_fixed a) (agreeing nothing_fixed b) e);
@@ -205,7 +205,7 @@ module _ (shown : Shown) (is : IsShown shown) where
         → Means shown node (λ set. test (agreeing nothing_fixed set))
     means_free node test inside says = record { inside = inside; value = λ set. sym (free_value node inside set) ∙ sym (says (agreeing nothing_fixed set)) }
 
-    rest_tells : Tells shown (edge.rest ∷ []) (λ set. yes (keeps (on_sets f) shown.universe set))
+    rest_tells : NodesTellPart shown (edge.rest ∷ []) (λ set. yes (keeps (on_sets f) shown.universe set))
     rest_tells = record {
       same = λ a b agree. ap yes (kept_is a ∙ agree.0 ∙ sym (kept_is b));
       apart = λ a b e. (sym (kept_is a) ∙ yes_one (keeps (on_sets f) shown.universe a) (keeps (on_sets f) shown.universe b) e ∙ kept_is b, tt);

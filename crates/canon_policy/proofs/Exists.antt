@@ -28,7 +28,7 @@ use Rattle.canon_policy.specs.declared.lists.CanonEdge.{CanonEdge}
 use Rattle.canon_policy.specs.Canonical.{canonical_lists_of, canonical_of, depends_on_others, in_list, lists_of, out_list}
 use Rattle.canon_policy.specs.CanonicalProblem.{canonical_act, has_canonical, session_with, AreCommunities, IsFirstWithout}
 use Rattle.canon_policy.specs.Functions.{on_sets}
-use Rattle.canon_policy.specs.MadeActs.{act_at, AreCanonicalActs, IsActFor}
+use Rattle.canon_policy.specs.MadeActs.{act_at_place, AreCanonicalActs, IsActFor}
 use Rattle.canon_policy.proofs.ActsMade.{cost_for, same_act, session_for}
 use Rattle.canon_policy.proofs.ListLaws.{import_alike}
 use Rattle.canon_policy.proofs.MapsUniform.{import_uniform}
@@ -194,7 +194,7 @@ module _ (universe : List ℕ) (up : IsAscending universe) (communities : AreCom
       pick false new old = old
 
       new_at : ℕ → Act
-      new_at place = pick (is_used problem.edges place) (canonical_act universe (act_at problem.acts place)) (act_at problem.acts place)
+      new_at place = pick (is_used problem.edges place) (canonical_act universe (act_at_place problem.acts place)) (act_at_place problem.acts place)
 
       acts : List Act
       acts = map new_at (range_with_len 0 (length problem.acts))
@@ -203,7 +203,7 @@ module _ (universe : List ℕ) (up : IsAscending universe) (communities : AreCom
       unfolding acts
       acts_count = length-map (range_with_len 0 (length problem.acts)) new_at ∙ length-range_with_len 0 (length problem.acts)
 
-      at_acts : (place : ℕ) → place < length problem.acts → act_at acts place ≡ new_at place
+      at_acts : (place : ℕ) → place < length problem.acts → act_at_place acts place ≡ new_at place
       unfolding acts
       at_acts place inside =
           read_map new_at (range_with_len 0 (length problem.acts)) place place (Cost 0)
@@ -220,17 +220,17 @@ module _ (universe : List ℕ) (up : IsAscending universe) (communities : AreCom
       chosen true None old new e is = absurd cc
       chosen false o old new e is = absurd cc
 
-      used_at : (edge : Edge) → In problem.edges edge → canonical_act universe (act_of problem edge) ≡ Some (act_at acts edge.act)
+      used_at : (edge : Edge) → In problem.edges edge → canonical_act universe (act_of problem edge) ≡ Some (act_at_place acts edge.act)
       unfolding new_at
       used_at edge at =
           let one = in_all HasOne problem.edges edge all at in
           let inside = (rules.edges.inside edge (contains_in problem.edges edge at)).act_in in
-          let new : act_at acts edge.act ≡ one.0 = at_acts edge.act inside
-          ∙ chosen (is_used problem.edges edge.act) (canonical_act universe (act_at problem.acts edge.act)) (act_at problem.acts edge.act) one.0
+          let new : act_at_place acts edge.act ≡ one.0 = at_acts edge.act inside
+          ∙ chosen (is_used problem.edges edge.act) (canonical_act universe (act_at_place problem.acts edge.act)) (act_at_place problem.acts edge.act) one.0
           (by_used problem.edges edge edge.act at refl) one.1 in
           one.1 ∙ ap (λ (a : Act). Some a) (sym new)
 
-      each_act : (place : ℕ) → place < length problem.acts → IsActFor universe (act_at problem.acts place) (act_at acts place)
+      each_act : (place : ℕ) → place < length problem.acts → IsActFor universe (act_at_place problem.acts place) (act_at_place acts place)
       unfolding new_at
       each_act place inside =
           let old_printable = all_at IsPrintableAct problem.acts place (Cost 0) inside printable in
@@ -238,22 +238,22 @@ module _ (universe : List ℕ) (up : IsAscending universe) (communities : AreCom
           elim (bit (is_used problem.edges place)) [
             | inl used ↦ (
                 let u = used_by problem.edges place used in
-                let e : canonical_act universe (act_at problem.acts place) ≡ Some (act_at acts place) =
-                subst (λ (k : ℕ). canonical_act universe (act_at problem.acts k) ≡ Some (act_at acts k)) u.same (used_at u.edge u.edge_in) in
-                act_for (act_at problem.acts place) (act_at acts place) old_printable old_within e)
-            | inr unused ↦ subst (IsActFor universe (act_at problem.acts place))
-                (sym (at_acts place inside ∙ picked (is_used problem.edges place) (canonical_act universe (act_at problem.acts place))
-                    (act_at problem.acts place) unused))
-                (same_act universe (act_at problem.acts place) old_printable old_within)
+                let e : canonical_act universe (act_at_place problem.acts place) ≡ Some (act_at_place acts place) =
+                subst (λ (k : ℕ). canonical_act universe (act_at_place problem.acts k) ≡ Some (act_at_place acts k)) u.same (used_at u.edge u.edge_in) in
+                act_for (act_at_place problem.acts place) (act_at_place acts place) old_printable old_within e)
+            | inr unused ↦ subst (IsActFor universe (act_at_place problem.acts place))
+                (sym (at_acts place inside ∙ picked (is_used problem.edges place) (canonical_act universe (act_at_place problem.acts place))
+                    (act_at_place problem.acts place) unused))
+                (same_act universe (act_at_place problem.acts place) old_printable old_within)
           ]
 
-      unused_at : (place : ℕ) → ((edge : Edge) → Contains problem.edges edge → edge.act ≢ place) → act_at acts place ≡ act_at problem.acts place
+      unused_at : (place : ℕ) → ((edge : Edge) → Contains problem.edges edge → edge.act ≢ place) → act_at_place acts place ≡ act_at_place problem.acts place
       unfolding new_at
       unused_at place none = elim (cases_lt place (length problem.acts)) [
         | inl inside ↦ elim (bit (is_used problem.edges place)) [
           | inl used ↦ (let u = used_by problem.edges place used in absurd (none u.edge (contains_in problem.edges u.edge u.edge_in) u.same))
-          | inr unused ↦ at_acts place inside ∙ picked (is_used problem.edges place) (canonical_act universe (act_at problem.acts place))
-              (act_at problem.acts place) unused
+          | inr unused ↦ at_acts place inside ∙ picked (is_used problem.edges place) (canonical_act universe (act_at_place problem.acts place))
+              (act_at_place problem.acts place) unused
         ]
         | inr past ↦ beyond acts place (Cost 0) (let n = acts_count in omega arith) ∙ sym (beyond problem.acts place (Cost 0) past)
       ]

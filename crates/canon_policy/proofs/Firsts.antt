@@ -15,7 +15,7 @@ use Rattle.dd_core.specs.Reach.{DependsOn, IsFirstOf, DependsOnNone}
 use Rattle.canon_policy.specs.Functions.{as_set}
 use Rattle.canon_policy.specs.Fixings.{depends, least, yes}
 use Rattle.canon_policy.specs.Hanging.{SameOn, TestHangsOn, NumberHangsOn}
-use Rattle.canon_policy.specs.Nodes.{AgreeAt, Tells, community_number, lesser}
+use Rattle.canon_policy.specs.Nodes.{AgreeAt, NodesTellPart, community_number, lesser}
 use Rattle.canon_policy.proofs.SameSets.{in_any, any_in, same_sets, has-as_set, ascending-as_set, with_there, without_absent, has-without_number}
 use Rattle.canon_policy.proofs.Least.{in_has, has_in, Differing, depends_differ, differ_depends, is_found}
 use Rattle.canon_policy.proofs.Splits.{yes_hangs}
@@ -181,7 +181,7 @@ agree_at shown [] a b node all h = absurd h
 agree_at shown (n ∷ ns) a b node all (inl same) = ap (value_of shown a) (sym same) ∙ all.0 ∙ ap (value_of shown b) same
 agree_at shown (n ∷ ns) a b node all (inr h) = agree_at shown ns a b node all.1 h
 
-pub told_hang : (shown : Shown) (nodes : List ℕ) (part : List ℕ → ℕ) → NumberHangsOn shown.universe part → Tells shown nodes part → NodesHang shown nodes
+pub told_hang : (shown : Shown) (nodes : List ℕ) (part : List ℕ → ℕ) → NumberHangsOn shown.universe part → NodesTellPart shown nodes part → NodesHang shown nodes
 told_hang shown nodes part hangs tells = record {
   each = λ node h. record { same = λ a b same. agree_at shown nodes a b node (tells.apart a b (hangs.same a b same)) h };
 }
@@ -213,7 +213,7 @@ none_differ shown (n ∷ ns) x set hang none = (
     later true b e = refl
     later false b e = e
 
-pub told_depends : (shown : Shown) (nodes : List ℕ) (part : List ℕ → ℕ) → NumberHangsOn shown.universe part → Tells shown nodes part → (x : ℕ)
+pub told_depends : (shown : Shown) (nodes : List ℕ) (part : List ℕ → ℕ) → NumberHangsOn shown.universe part → NodesTellPart shown nodes part → (x : ℕ)
     → depends shown.universe part x ≡ list_any (node_depends shown x) nodes
 told_depends shown nodes part hangs tells x =
     let hang = told_hang shown nodes part hangs tells in
@@ -233,7 +233,7 @@ told_depends shown nodes part hangs tells x =
     by true f = refl
     by false f = absurd (f (λ e. cc))
 
-pub told_least : (shown : Shown) (nodes : List ℕ) (part : List ℕ → ℕ) → NumberHangsOn shown.universe part → Tells shown nodes part
+pub told_least : (shown : Shown) (nodes : List ℕ) (part : List ℕ → ℕ) → NumberHangsOn shown.universe part → NodesTellPart shown nodes part
     → least_among shown nodes ≡ least shown.universe part
 unfolding least_among least
 told_least shown nodes part hangs tells = find_same (λ x. list_any (node_depends shown x) nodes) (depends shown.universe part) shown.universe

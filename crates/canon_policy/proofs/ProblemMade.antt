@@ -14,7 +14,7 @@ use Rattle.srp_core.proofs.Alike.{imports_alike}
 use Rattle.srp_core.proofs.GroupMatching.{alike_sym, alike_trans}
 use Rattle.canon_policy.specs.CanonicalProblem.{IsCanonicalProblem}
 use Rattle.srp_core.specs.ActMaps.{IsPrintableAct, IsActWithin}
-use Rattle.canon_policy.specs.MadeActs.{act_at, AreCanonicalActs}
+use Rattle.canon_policy.specs.MadeActs.{act_at_place, AreCanonicalActs}
 use Rattle.canon_policy.proofs.ActsSoFar.{at_index}
 
 -- what holds at each place holds of all
@@ -26,7 +26,7 @@ module _ (universe : List ℕ) (old : Problem) (acts : List Act) (made : AreCano
   abbrev pub new : Problem
   new = record old { acts = acts }
 
-  each_alike : (i : ℕ) → i < length old.acts → ActsAlike (act_at old.acts i) (act_at acts i)
+  each_alike : (i : ℕ) → i < length old.acts → ActsAlike (act_at_place old.acts i) (act_at_place acts i)
   each_alike i lt = (made.each i lt).alike
 
   pub all_printable : AllByRecursion IsPrintableAct acts
@@ -116,11 +116,11 @@ module _ (universe : List ℕ) (old : Problem) (acts : List Act) (made : AreCano
     in_old : (i : ℕ) → i < length acts → i < length old.acts
     in_old i lt = let n = made.count in omega arith
 
-    acts_differ : (i j : ℕ) → i < length acts → j < length acts → ActsAlike (act_at acts i) (act_at acts j) → i ≡ j
+    acts_differ : (i j : ℕ) → i < length acts → j < length acts → ActsAlike (act_at_place acts i) (act_at_place acts j) → i ≡ j
     acts_differ i j lt lt' same =
         rules.acts.differ i j (in_old i lt) (in_old j lt')
-        (alike_trans (act_at old.acts i) (act_at acts i) (act_at old.acts j) (each_alike i (in_old i lt))
-        (alike_trans (act_at acts i) (act_at acts j) (act_at old.acts j) same (alike_sym (act_at old.acts j) (act_at acts j) (each_alike j (in_old j lt')))))
+        (alike_trans (act_at_place old.acts i) (act_at_place acts i) (act_at_place old.acts j) (each_alike i (in_old i lt))
+        (alike_trans (act_at_place acts i) (act_at_place acts j) (act_at_place old.acts j) same (alike_sym (act_at_place old.acts j) (act_at_place acts j) (each_alike j (in_old j lt')))))
 
     acts_fit : All (IsActOf old.protocol) acts
     acts_fit =

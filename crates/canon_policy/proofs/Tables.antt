@@ -9,7 +9,7 @@ use Rattle.dd_core.specs.Sets.{Shown, IsShown, value_of}
 use Rattle.policy_dd.specs.Edge.{case_or, keys_of, AllCases, AreCases, IsOneOf, never}
 use Rattle.policy_dd.proofs.CaseLemmas.{case_here, case_later}
 use Rattle.canon_policy.specs.Hanging.{SameOn, TestHangsOn, NumberHangsOn}
-use Rattle.canon_policy.specs.Nodes.{AreInside, AgreeAt, Tells}
+use Rattle.canon_policy.specs.Nodes.{AreInside, AgreeAt, NodesTellPart}
 use Rattle.canon_policy.specs.Made.{nodes_of}
 use Rattle.canon_policy.proofs.SameSets.{has-as_set}
 use Rattle.canon_policy.proofs.Values.{value_same, same_truth}
@@ -120,7 +120,7 @@ module _ (shown : Shown) (permit : ℕ) (cases : List (ℕ × ℕ)) (part : List
       rw (← equal) t''
 
 module _ (shown : Shown) (permit : ℕ) (cases : List (ℕ × ℕ)) (part : List ℕ → ℕ) (table : IsTableOf shown permit cases part) where
-  pub table_tells : Tells shown (nodes_of cases) part
+  pub table_tells : NodesTellPart shown (nodes_of cases) part
   table_tells = record {
     same = λ a b agree. told_by shown permit cases part table a b (part a) (part b) agree (table.number a) (table.number b);
     apart = λ a b e. agree_each shown cases a b (λ case h.

@@ -14,7 +14,7 @@ use Rattle.canon_policy.specs.declared.parts.Nodes.{Nodes}
 use Rattle.canon_policy.specs.Fixings.{Part, Asked, agreeing, least, yes, unsettled, first_unsettled, split}
 use Rattle.canon_policy.specs.Fixings.Part.{number, community}
 use Rattle.canon_policy.specs.Hanging.{TestHangsOn, NumberHangsOn, PartHangsOn, PartsHangOn}
-use Rattle.canon_policy.specs.Nodes.{AreInside, IsPartInside, AreNodesInside, AgreeAt, Tells, IsTold, ArePartsTold, AreNodesOf, community_number}
+use Rattle.canon_policy.specs.Nodes.{AreInside, IsPartInside, AreNodesInside, AgreeAt, NodesTellPart, IsTold, ArePartsTold, AreNodesOf, community_number}
 use Rattle.canon_policy.proofs.Least.{under_hangs}
 
 -- growth
@@ -48,7 +48,7 @@ agree_before old new grows [] a b all agree = tt
 agree_before old new grows (n ∷ ns) a b all agree = (sym (value_of_kept old new a n grows all.0) ∙ agree.0 ∙ value_of_kept old new b n grows all.0,
     agree_before old new grows ns a b all.1 agree.1)
 
-pub tells_kept : (old new : Shown) → Grows old new → (nodes : List ℕ) (part : List ℕ → ℕ) → AreInside old nodes → Tells old nodes part → Tells new nodes part
+pub tells_kept : (old new : Shown) → Grows old new → (nodes : List ℕ) (part : List ℕ → ℕ) → AreInside old nodes → NodesTellPart old nodes part → NodesTellPart new nodes part
 tells_kept old new grows nodes part all tells = record {
   same = λ a b agree. tells.same a b (agree_before old new grows nodes a b all agree);
   apart = λ a b e. agree_kept old new grows nodes a b all (tells.apart a b e);
@@ -124,7 +124,7 @@ none_left shown fixing (n ∷ ns) (p ∷ ps) (suc k) e told = none_left shown fi
 -- one part
 pub told_number : (shown : Shown) (fixing : Fixing) (universe : List ℕ) (nodes : List ℕ) (kept : List ℕ → Bool) (r : Option ℕ) (asked : Part)
     → shown.universe ≡ universe → PartHangsOn universe asked → IsTold shown fixing (Told nodes) asked
-    → ((part : List ℕ → ℕ) → NumberHangsOn shown.universe part → Tells shown nodes part → r ≡ least shown.universe part)
+    → ((part : List ℕ → ℕ) → NumberHangsOn shown.universe part → NodesTellPart shown nodes part → r ≡ least shown.universe part)
         → r ≡ unsettled universe kept fixing asked
 told_number shown fixing universe nodes kept r (number part) e hangs told found =
     found (λ set. part (agreeing fixing set)) (rw e (under_hangs universe part fixing hangs)) told

@@ -21,7 +21,7 @@ use Rattle.canon_policy.specs.declared.parts.Nodes.{Nodes}
 use Rattle.canon_policy.specs.Fixings.{Part, Asked, nothing_fixed, with_present, with_absent, agreeing, split, settled}
 use Rattle.canon_policy.specs.Fixings.Part.{number, community}
 use Rattle.canon_policy.specs.Hanging.{SameOn, TestHangsOn, NumberHangsOn, PartHangsOn, PartsHangOn, AskedHangsOn}
-use Rattle.canon_policy.specs.Nodes.{AreInside, IsPartInside, AreNodesInside, AgreeAt, Tells, IsTold, ArePartsTold, AreNodesOf, IsFixed, AreFixed, IsPartFixed, ArePartsFixed, AreNodesFixed, is_broad, are_over, IsWalked, community_number}
+use Rattle.canon_policy.specs.Nodes.{AreInside, IsPartInside, AreNodesInside, AgreeAt, NodesTellPart, IsTold, ArePartsTold, AreNodesOf, IsFixed, AreFixed, IsPartFixed, ArePartsFixed, AreNodesFixed, is_broad, are_over, IsWalked, community_number}
 use Rattle.canon_policy.proofs.Told.{nodes_kept}
 use Rattle.canon_policy.proofs.SameSets.{same_sets, has-agreeing, present_first, absent_first, or_none}
 
@@ -71,8 +71,8 @@ module _ (old new : Shown) (universe : List ℕ) (fixing alone both : Fixing) (j
   agree_on (n ∷ ns) [] a b are agree = absurd are
   agree_on (n ∷ ns) (m ∷ ms) a b are agree = (are.0.value a ∙ agree.0 ∙ sym (are.0.value b), agree_on ns ms a b are.1 agree.1)
 
-  tells_fixed : (ns ms : List ℕ) (part : List ℕ → ℕ) → NumberHangsOn universe part → Tells old ns (λ set. part (agreeing fixing set))
-      → AreFixed old new alone ns ms → Tells new ms (λ set. part (agreeing both set))
+  tells_fixed : (ns ms : List ℕ) (part : List ℕ → ℕ) → NumberHangsOn universe part → NodesTellPart old ns (λ set. part (agreeing fixing set))
+      → AreFixed old new alone ns ms → NodesTellPart new ms (λ set. part (agreeing both set))
   tells_fixed ns ms part hangs tells are = record {
     same = λ a b agree.
         sym (hangs.same (agreeing fixing (agreeing alone a)) (agreeing both a) (joined a))

@@ -24,8 +24,8 @@ abbrev pub at_place : CanonRefusal → ℕ → CanonSrpRefusal
 at_place canon_refusal.NoCanon place = canon_srp_refusal.NoCanon place
 at_place canon_refusal.Memory place = canon_srp_refusal.Memory
 
-abbrev pub act_at : List Act → ℕ → Act
-act_at acts place = slice_index_or acts place (Cost 0)
+abbrev pub act_at_place : List Act → ℕ → Act
+act_at_place acts place = slice_index_or acts place (Cost 0)
 
 -- an act instead of another: it acts alike in the same protocol, can be printed, and names only communities of the universe
 pub record IsActFor (universe : List ℕ) (old new : Act) : Type 0 where
@@ -37,9 +37,9 @@ pub record IsActFor (universe : List ℕ) (old new : Act) : Type 0 where
 -- the acts of the canonical problem
 pub record AreCanonicalActs (universe : List ℕ) (problem : Problem) (acts : List Act) : Type 0 where
   pub count : length acts ≡ length problem.acts
-  pub each : (place : ℕ) → place < length problem.acts → IsActFor universe (act_at problem.acts place) (act_at acts place)
-  pub used : (edge : Edge) → Contains problem.edges edge → canonical_act universe (act_of problem edge) ≡ Some (act_at acts edge.act)
-  pub unused : (place : ℕ) → ((edge : Edge) → Contains problem.edges edge → edge.act ≢ place) → act_at acts place ≡ act_at problem.acts place
+  pub each : (place : ℕ) → place < length problem.acts → IsActFor universe (act_at_place problem.acts place) (act_at_place acts place)
+  pub used : (edge : Edge) → Contains problem.edges edge → canonical_act universe (act_of problem edge) ≡ Some (act_at_place acts edge.act)
+  pub unused : (place : ℕ) → ((edge : Edge) → Contains problem.edges edge → edge.act ≢ place) → act_at_place acts place ≡ act_at_place problem.acts place
 
 abbrev pub AreCanonicalActsOr : List ℕ → Problem → Result (List Act) CanonSrpRefusal → Type 0
 AreCanonicalActsOr universe problem (Ok acts) = AreCanonicalActs universe problem acts
@@ -59,13 +59,13 @@ is_marked done place = slice_index_or done place false
 -- the act at a place: the canonical one, where one of the edges has it, and else the old one
 pub data IsActSoFar (universe : List ℕ) (problem : Problem) (edges : List Edge) (acts : List Act) (done : List Bool) (place : ℕ) : Type 0 where
   is_done : is_marked done place ≡ true → (edge : Edge) → Contains edges edge → edge.act ≡ place
-      → canonical_act universe (act_at problem.acts place) ≡ Some (act_at acts place) → IsActSoFar universe problem edges acts done place
-  not_done : is_marked done place ≡ false → act_at acts place ≡ act_at problem.acts place → IsActSoFar universe problem edges acts done place
+      → canonical_act universe (act_at_place problem.acts place) ≡ Some (act_at_place acts place) → IsActSoFar universe problem edges acts done place
+  not_done : is_marked done place ≡ false → act_at_place acts place ≡ act_at_place problem.acts place → IsActSoFar universe problem edges acts done place
 
 -- the acts behind the first of the edges, each of which has a canonical one
 pub record AreActsSoFar (universe : List ℕ) (problem : Problem) (edges : List Edge) (acts : List Act) (done : List Bool) : Type 0 where
   pub count : length acts ≡ length problem.acts
   pub done_count : length done ≡ length problem.acts
-  pub each : (place : ℕ) → place < length problem.acts → IsActFor universe (act_at problem.acts place) (act_at acts place)
+  pub each : (place : ℕ) → place < length problem.acts → IsActFor universe (act_at_place problem.acts place) (act_at_place acts place)
   pub so_far : (place : ℕ) → place < length problem.acts → IsActSoFar universe problem edges acts done place
   pub seen : AllByRecursion (λ edge. is_marked done edge.act ≡ true) edges

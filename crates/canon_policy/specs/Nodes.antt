@@ -32,13 +32,13 @@ abbrev pub AgreeAt : Shown → List ℕ → List ℕ → List ℕ → Type 0
 AgreeAt shown nodes a b = AllByRecursion (λ node. value_of shown a node ≡ value_of shown b node) nodes
 
 -- the part has one number on two sets exactly where all nodes have one value on both
-pub record Tells (shown : Shown) (nodes : List ℕ) (part : List ℕ → ℕ) : Type 0 where
+pub record NodesTellPart (shown : Shown) (nodes : List ℕ) (part : List ℕ → ℕ) : Type 0 where
   pub same : (a b : List ℕ) → AgreeAt shown nodes a b → part a ≡ part b
   pub apart : (a b : List ℕ) → part a ≡ part b → AgreeAt shown nodes a b
 
 -- on the sets that agree with a fixing
 abbrev pub IsTold : Shown → Fixing → PartNodes → Part → Type 0
-IsTold shown fixing (Told nodes) (number part) = Tells shown nodes (λ set. part (agreeing fixing set))
+IsTold shown fixing (Told nodes) (number part) = NodesTellPart shown nodes (λ set. part (agreeing fixing set))
 IsTold shown fixing (Carried c node) (community d test) = (c.0 ≡ d) × Means shown node (λ set. test (agreeing fixing set))
 IsTold shown fixing _ _ = ⊥
 

@@ -9,7 +9,7 @@ ghost use Rattle.canon_policy.specs.declared.fixing.Fixing.{Fixing};
 ghost use Rattle.canon_policy.specs.Fixings.{Part, Asked, agreeing, least, unsettled, first_unsettled, split};
 ghost use Rattle.canon_policy.specs.Fixings.Part.{community as of_community};
 ghost use Rattle.canon_policy.specs.Hanging.{TestHangsOn, NumberHangsOn, PartHangsOn, PartsHangOn, AskedHangsOn};
-ghost use Rattle.canon_policy.specs.Nodes.{AreInside, IsPartInside, AreNodesInside, Tells, AreNodesOf, IsTold, ArePartsTold, community_number, lesser};
+ghost use Rattle.canon_policy.specs.Nodes.{AreInside, IsPartInside, AreNodesInside, NodesTellPart, AreNodesOf, IsTold, ArePartsTold, community_number, lesser};
 
 use base_kit::{Community, List, NoMemory, NumSet};
 use dd_core::{NodeId, Store, is_same};
@@ -47,7 +47,7 @@ fn lesser(a: Option<Community>, b: Option<Community>) -> Option<Community>
 fn least_of(store: &Store, nodes: &[NodeId]) -> Option<Community>
     requires { AreInside store.now nodes.now }
     ensures known { IfSome result (λ c. has store.now.universe c.0 ≡ true) }
-    ensures least { (part : Items ℕ → ℕ) → NumberHangsOn store.now.universe part → Tells store.now nodes.now part → option_map community_number result ≡ least store.now.universe part }
+    ensures least { (part : Items ℕ → ℕ) → NumberHangsOn store.now.universe part → NodesTellPart store.now nodes.now part → option_map community_number result ≡ least store.now.universe part }
 {
     let _known = store.len();
     let mut least = None;

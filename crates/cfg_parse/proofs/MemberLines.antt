@@ -12,7 +12,7 @@ use Rattle.cfg_ast.specs.text.TextLines.{TextLine, text_line}
 use Rattle.cfg_ast.specs.text.Words.{is_router_name, is_router_byte, is_name_long, begins_with, is_letter_or_digit}
 use Rattle.cfg_ast.specs.text.Members.{is_end_line, member_on, members_on, members_in, before_last}
 use Rattle.cfg_parse.specs.declared.members.Found.{Found}
-use Rattle.cfg_parse.specs.MemberSteps.{with_member, with_line}
+use Rattle.cfg_parse.specs.MemberSteps.{with_member, with_member_line}
 
 -- ---- names
 
@@ -61,7 +61,7 @@ part_grows names l (p ∷ q ∷ ps) n e = ap (λ (x : List (List ℕ)). x ∷ ma
 abbrev pub all_found : Found → List TextLine → List (List (List ℕ))
 all_found f ls = f.ended ++ onto_ended f.names (members_in ls)
 
-line_case : (f : Found) (l : TextLine) (ls : List TextLine) (b : Bool) → is_end_line l ≡ b → all_found (with_line f l) ls ≡ all_found f (l ∷ ls)
+line_case : (f : Found) (l : TextLine) (ls : List TextLine) (b : Bool) → is_end_line l ≡ b → all_found (with_member_line f l) ls ≡ all_found f (l ∷ ls)
 line_case f l ls true e =
     let parts = slice_split is_end_line ls in
     rw e (append_assoc f.ended (f.names ∷ []) (onto_ended [] (members_in ls))
@@ -70,14 +70,14 @@ line_case f l ls true e =
 line_case f l ls false e = rw e (ap (λ (xs : List (List (List ℕ))). f.ended ++ xs)
     (sym (part_grows f.names l (slice_split is_end_line ls) (count_by is_end_line ls) (length-slice_split is_end_line ls))))
 
-pub found_step : (f : Found) (l : TextLine) (ls : List TextLine) → all_found (with_line f l) ls ≡ all_found f (l ∷ ls)
+pub found_step : (f : Found) (l : TextLine) (ls : List TextLine) → all_found (with_member_line f l) ls ≡ all_found f (l ∷ ls)
 found_step f l ls = line_case f l ls (is_end_line l) refl
 
 abbrev pub texts_from : List ℕ → ℕ → List Line → List TextLine
 texts_from bs i ls = map (text_line bs) (drop i ls)
 
 pub members_step : (bs : List ℕ) (f : Found) (ls : List Line) (i : ℕ) (x : Line) → i < length ls → x ≡ get_or ls i x →
-    all_found (with_line f (text_line bs x)) (texts_from bs (i + 1) ls) ≡ all_found f (texts_from bs i ls)
+    all_found (with_member_line f (text_line bs x)) (texts_from bs (i + 1) ls) ≡ all_found f (texts_from bs i ls)
 members_step bs f ls i x lt e = found_step f (text_line bs x) (texts_from bs (i + 1) ls)
     ∙ ap (λ (rest : List Line). all_found f (map (text_line bs) rest)) (sym (drop_more ls i x lt ∙ ap (λ (y : Line). y ∷ drop (i + 1) ls) (sym e)))
 

@@ -10,7 +10,7 @@ abbrev pub with_member : List (List ℕ) → TextLine → List (List ℕ)
 with_member names l = names ++ cons_option (member_on l.words) []
 
 -- what stands after one more line
-abbrev pub with_line : Found → TextLine → Found
-with_line found l =
+abbrev pub with_member_line : Found → TextLine → Found
+with_member_line found l =
     if is_end_line l then record { ended = found.ended ++ found.names ∷ []; names = [] }
     else record { ended = found.ended; names = with_member found.names l }

@@ -5,7 +5,7 @@ ghost use Rattle.cfg_ast.specs.text.Lines.{text_of, texts};
 ghost use Rattle.cfg_ast.specs.text.TextLines.{text_line};
 ghost use Rattle.cfg_ast.specs.text.Members.{IsSpanIn, AreSpansIn, member_on, members_in, members_of_text};
 ghost use Rattle.std.specs.List.{AllByRecursion};
-ghost use Rattle.cfg_parse.specs.MemberSteps.{with_member, with_line};
+ghost use Rattle.cfg_parse.specs.MemberSteps.{with_member, with_member_line};
 
 use crate::end_line::is_end_line;
 use base_kit::{List, NoMemory, Text};
@@ -67,7 +67,7 @@ fn with_member(
 
 fn with_line(alloc: Global, found: Found, bytes: &[u8], line: &Line) -> Result<Found, NoMemory>
     requires { AreSpansIn bytes.now line.now }
-    ensures { IfOk result (λ more. more ≡ with_line found (text_line bytes.now line.now)) }
+    ensures { IfOk result (λ more. more ≡ with_member_line found (text_line bytes.now line.now)) }
 {
     let Found { mut ended, names } = found;
     if is_end_line(bytes, line) {

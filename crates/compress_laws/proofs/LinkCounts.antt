@@ -10,7 +10,7 @@ use Rattle.base_kit.specs.declared.act_graph.Edge.{Edge}
 use Rattle.abstract_net.specs.declared.qlink.QLink.{QLink}
 use Rattle.abstract_net.specs.Links.{acts_into, group_link, links_of_pair, group_links_from, quotient_links}
 use Rattle.config_emit.specs.Plan.{Plan}
-use Rattle.emit_link_laws.specs.Laws.{link_at}
+use Rattle.emit_link_laws.specs.Laws.{emitted_link}
 use Rattle.compress_laws.specs.GroupLinks.{joins}
 
 -- ---- what a filter keeps
@@ -102,7 +102,7 @@ one_more false x y xs ys e = e
 
 -- as many join two routers as there are links of the plan between the groups
 pub as_many_as_planned : (e : Plan) (g h n : ℕ) (links : List QLink)
-    → length (filter (joins g h) (map (link_at e) (enumerate_from n links))) ≡ length (filter (joins_groups g h) links)
+    → length (filter (joins g h) (map (emitted_link e) (enumerate_from n links))) ≡ length (filter (joins_groups g h) links)
 as_many_as_planned e g h n [] = refl
-as_many_as_planned e g h n (l ∷ links) = one_more (joins_groups g h l) (link_at e (n, l)) l
-    (filter (joins g h) (map (link_at e) (enumerate_from (n + 1) links))) (filter (joins_groups g h) links) (as_many_as_planned e g h (n + 1) links)
+as_many_as_planned e g h n (l ∷ links) = one_more (joins_groups g h l) (emitted_link e (n, l)) l
+    (filter (joins g h) (map (emitted_link e) (enumerate_from (n + 1) links))) (filter (joins_groups g h) links) (as_many_as_planned e g h (n + 1) links)

@@ -11,7 +11,7 @@ use Rattle.config_emit.specs.Laws.{EmittedIsNoLarger}
 use Rattle.config_emit.specs.Plan.{Plan}
 use Rattle.emit_form_laws.specs.Laws.{GroupsAreNoMore, GroupsHaveNoMoreLinks}
 use Rattle.compress_laws.specs.EmittedLinks.{EmittedHasPlannedLinks}
-use Rattle.emit_link_laws.specs.Laws.{link_at}
+use Rattle.emit_link_laws.specs.Laws.{emitted_link}
 
 router_count : (e : Plan) → length (emitted e).routers ≡ e.count
 unfolding emitted
@@ -28,6 +28,6 @@ pub no_larger : GroupsAreNoMore → GroupsHaveNoMoreLinks → EmittedHasPlannedL
 no_larger groups few links e plan n same =
     let many = same_count n (emitted e) same ∙ router_count e in
     let most = groups e plan in
-    let same_links = ap (λ (ls : List Link). length ls) (links e plan n same) ∙ length-map (enumerate_from 0 e.links) (link_at e) ∙ numbered_length 0 e.links in
+    let same_links = ap (λ (ls : List Link). length ls) (links e plan n same) ∙ length-map (enumerate_from 0 e.links) (emitted_link e) ∙ numbered_length 0 e.links in
     let less = few e plan in
     record { routers = omega arith; links = omega arith }

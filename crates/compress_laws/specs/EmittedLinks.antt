@@ -7,8 +7,8 @@ use Rattle.cfg_ast.specs.printing.Bare.{bare}
 use Rattle.config_emit.specs.Emitted.{emitted}
 use Rattle.config_emit.specs.Laws.{IsPlan}
 use Rattle.config_emit.specs.Plan.{Plan}
-use Rattle.emit_link_laws.specs.Laws.{link_at}
+use Rattle.emit_link_laws.specs.Laws.{emitted_link}
 
 -- They are those of the plan, in order.
 abbrev pub EmittedHasPlannedLinks : Type 0
-EmittedHasPlannedLinks = (e : Plan) → IsPlan e → (n : Network) → bare n ≡ bare (emitted e) → links_of n ≡ map (link_at e) (enumerate_from 0 e.links)
+EmittedHasPlannedLinks = (e : Plan) → IsPlan e → (n : Network) → bare n ≡ bare (emitted e) → links_of n ≡ map (emitted_link e) (enumerate_from 0 e.links)

@@ -20,7 +20,7 @@ use Rattle.config_emit.specs.LinkSteps.{act_by}
 use Rattle.config_emit.specs.MapNumbers.{place_from, place_of_map, map_number, IsKnown, KnowsClosed, AreKnown}
 use Rattle.config_emit.specs.Maps.{other_end, closed_map, act_in_map, act_out_map, is_whole, if_written, maps_at, firsts, map_name, named, number_of_map, name_of_map}
 use Rattle.config_emit.specs.Plan.{Plan, act_into}
-use Rattle.config_emit.specs.RouterMaps.{use_of, has_number, with_uses, listed_use, act_into_end, uses_on, use_name}
+use Rattle.config_emit.specs.RouterMaps.{use_of, is_use_of, with_uses, listed_use, act_into_end, uses_on, use_name}
 use Rattle.config_emit.specs.declared.act_links.ActLink.{ActLink}
 use Rattle.config_emit.specs.declared.act_maps.ActMaps.{ActMaps}
 use Rattle.config_emit.proofs.ListSteps.{no_more, same_numbers}
@@ -81,10 +81,10 @@ AllKnown : List Plain → List Plain → Type 0
 AllKnown known ms = (m : Plain) → In ms m → list_any (same_map m) known ≡ true
 
 any_uses : (known us : List Plain) (m : Plain) → list_any (same_map m) known ≡ true → ((u : Plain) → In us u → list_any (same_map u) known ≡ true)
-    → list_any (has_number (place_of_map known m)) (map (use_of known) us) ≡ list_any (same_map m) us
+    → list_any (is_use_of (place_of_map known m)) (map (use_of known) us) ≡ list_any (same_map m) us
 any_uses known [] m has all = refl
 any_uses known (u ∷ us) m has all =
-    ap (λ b. b || list_any (has_number (place_of_map known m)) (map (use_of known) us)) (numbers_tell known u m (all u (inl refl)) has ∙ same_turned u m)
+    ap (λ b. b || list_any (is_use_of (place_of_map known m)) (map (use_of known) us)) (numbers_tell known u m (all u (inl refl)) has ∙ same_turned u m)
     ∙ ap (λ b. same_map m u || b) (any_uses known us m has (λ v at. all v (inr at)))
 
 or_turned : (a b : Bool) → (a || b) ≡ (b || a)
@@ -141,10 +141,10 @@ firsts_in seen (x ∷ ms) m at = step (firsts_in seen ms m) (firsts_in (x ∷ se
 -- ---- names
 
 place_used : (known us : List Plain) (m : Plain) (n : ℕ) → list_any (same_map m) known ≡ true → ((u : Plain) → In us u → list_any (same_map u) known ≡ true)
-    → place_from (has_number (place_of_map known m)) n (map (use_of known) us) ≡ place_from (same_map m) n us
+    → place_from (is_use_of (place_of_map known m)) n (map (use_of known) us) ≡ place_from (same_map m) n us
 place_used known [] m n has all = refl
 place_used known (u ∷ us) m n has all =
-    ap (λ b. cond b (Some n) (place_from (has_number (place_of_map known m)) (n + 1) (map (use_of known) us)))
+    ap (λ b. cond b (Some n) (place_from (is_use_of (place_of_map known m)) (n + 1) (map (use_of known) us)))
     (numbers_tell known u m (all u (inl refl)) has ∙ same_turned u m)
     ∙ ap (cond (same_map m u) (Some n)) (place_used known us m (n + 1) has (λ v at. all v (inr at)))
 

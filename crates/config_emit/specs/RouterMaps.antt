@@ -18,12 +18,12 @@ use Rattle.config_emit.specs.declared.router_maps.MapUse.{MapUse}
 abbrev pub use_now : MapUse → ℕ × Plain
 use_now u = (u.number, u.plain.now)
 
-abbrev pub has_number : ℕ → ℕ × Plain → Bool
-has_number n u = nat_eq u.0 n
+abbrev pub is_use_of : ℕ → ℕ × Plain → Bool
+is_use_of n u = nat_eq u.0 n
 
 -- a use put last, unless its number was used
 abbrev pub with_use : ℕ × Plain → List (ℕ × Plain) → List (ℕ × Plain)
-with_use u uses = if list_any (has_number u.0) uses then uses else uses ++ u ∷ []
+with_use u uses = if list_any (is_use_of u.0) uses then uses else uses ++ u ∷ []
 
 abbrev pub with_uses : List (ℕ × Plain) → List (ℕ × Plain) → List (ℕ × Plain)
 with_uses [] uses = uses
@@ -53,11 +53,11 @@ PlacesByNumber = HashMap ℕ ℕ (BuildHasherDefault FoldHasher)
 
 -- each number has the place of its use, from 1
 pub record AreUses (places : PlacesByNumber) (uses : List (ℕ × Plain)) : Type 0 where
-  pub each : (n : ℕ) → get nat_eq places n ≡ place_from (has_number n) 1 uses
+  pub each : (n : ℕ) → get nat_eq places n ≡ place_from (is_use_of n) 1 uses
 
 -- the place at which a number is used, from 1
 abbrev pub use_place : List (ℕ × Plain) → ℕ → ℕ
-use_place uses n = unwrap_or (place_from (has_number n) 1 uses) (length uses + 1)
+use_place uses n = unwrap_or (place_from (is_use_of n) 1 uses) (length uses + 1)
 
 abbrev pub use_name : List (ℕ × Plain) → ℕ → Named
 use_name uses n = named (map_name (use_place uses n))

@@ -4,7 +4,7 @@ use Rattle.std.specs.Prelude.{if◌then◌else◌, ◌⊎◌}
 use Rattle.dd_core.specs.declared.table.Node.{Node}
 use Rattle.dd_core.specs.declared.table.Node.TheVariants.{Constant, Choice}
 use Rattle.dd_core.specs.Value.{value}
-use Rattle.dd_core.specs.Store.{IsStore, IsAbove, Extends, IsChoiceBetween, IsFirst, AreSons, IsIte, IsWithin}
+use Rattle.dd_core.specs.Store.{IsStore, IsAbove, Extends, IsChoiceBetween, IsEarlierVariable, AreSons, IsIte, IsWithin}
 use Rattle.dd_core.proofs.ValueLemmas.{value-Constant, value-Choice, value_kept}
 use Rattle.dd_core.proofs.StoreLemmas.{above_kept}
 
@@ -52,7 +52,7 @@ first_within nodes a b c first bound three within = elim three.found [
 ]
 
 pub first_of_three : (nodes : List Node) (a b c variable first first' h l : ℕ) → slice_get nodes a ≡ Some (Choice variable h l) →
-    IsFirst nodes variable b first → IsFirst nodes first c first' → IsFirstOfThree nodes a b c first'
+    IsEarlierVariable nodes variable b first → IsEarlierVariable nodes first c first' → IsFirstOfThree nodes a b c first'
 first_of_three nodes a b c variable first first' h l at one two = record {
   found = elim two.found [
     | inl e ↦ elim one.found [

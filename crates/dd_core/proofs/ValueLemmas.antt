@@ -6,15 +6,15 @@ use Rattle.std.proofs.Common.{take, drop, suc}
 use Rattle.std.proofs.lemmas.List.{length-take-le, length_push, get_or_append_left, get_or_push}
 use Rattle.dd_core.specs.declared.table.Node.{Node}
 use Rattle.dd_core.specs.declared.table.Node.TheVariants.{Constant, Choice}
-use Rattle.dd_core.specs.Value.{value_from, values_after, value}
+use Rattle.dd_core.specs.Value.{node_value, values_after, value}
 use Rattle.dd_core.specs.Store.{Extends}
 use Rattle.distinct_values.proofs.Interned.{read_get}
 
 pub length-values_after : (has : ℕ → Bool) (values : List Bool) (nodes : List Node) → length (values_after has values nodes) ≡ length values + length nodes
 length-values_after has values [] = omega arith
 length-values_after has values (node ∷ nodes) =
-    let rest = length-values_after has (values ++ value_from has values node ∷ []) nodes in
-    let more = length_push values (value_from has values node) in
+    let rest = length-values_after has (values ++ node_value has values node ∷ []) nodes in
+    let more = length_push values (node_value has values node) in
     omega arith
 
 -- the values of earlier nodes stay
@@ -22,14 +22,14 @@ pub get_or-values_after : (has : ℕ → Bool) (values : List Bool) (nodes : Lis
     get_or (values_after has values nodes) i false ≡ get_or values i false
 get_or-values_after has values [] i inside = refl
 get_or-values_after has values (node ∷ nodes) i inside =
-    let more = length_push values (value_from has values node) in
-    get_or-values_after has (values ++ value_from has values node ∷ []) nodes i (omega arith)
-    ∙ get_or_append_left values (value_from has values node ∷ []) false i inside
+    let more = length_push values (node_value has values node) in
+    get_or-values_after has (values ++ node_value has values node ∷ []) nodes i (omega arith)
+    ∙ get_or_append_left values (node_value has values node ∷ []) false i inside
 
 pub values_after-append : (has : ℕ → Bool) (values : List Bool) (nodes added : List Node) →
     values_after has values (nodes ++ added) ≡ values_after has (values_after has values nodes) added
 values_after-append has values [] added = refl
-values_after-append has values (node ∷ nodes) added = values_after-append has (values ++ value_from has values node ∷ []) nodes added
+values_after-append has values (node ∷ nodes) added = values_after-append has (values ++ node_value has values node ∷ []) nodes added
 
 -- an old node keeps its value
 pub value_kept : (old new : List Node) (has : ℕ → Bool) (i : ℕ) → Extends old new → i < length old → value new has i ≡ value old has i
@@ -39,10 +39,10 @@ value_kept old new has i extends inside =
 
 -- a node's value follows from those of the nodes before it
 value_between : (before after : List Node) (node : Node) (has : ℕ → Bool) →
-    value (before ++ node ∷ after) has (length before) ≡ value_from has (values_after has [] before) node
+    value (before ++ node ∷ after) has (length before) ≡ node_value has (values_after has [] before) node
 value_between before after node has =
     let values : List Bool = values_after has [] before in
-    let x : Bool = value_from has values node in
+    let x : Bool = node_value has values node in
     let size : length values ≡ length before = length-values_after has [] before ∙ omega arith in
     let more = length_push values x in
     rw (values_after-append has [] before (node ∷ after)) (get_or-values_after has (values ++ x ∷ []) after (length before) (omega arith)
@@ -66,7 +66,7 @@ cut_at nodes i node at =
     }
 
 value_at : (nodes : List Node) (has : ℕ → Bool) (i : ℕ) (node : Node) (cut : IsCutAt nodes i node) →
-    value nodes has i ≡ value_from has (values_after has [] cut.before) node
+    value nodes has i ≡ node_value has (values_after has [] cut.before) node
 value_at nodes has i node cut = ap (λ n. value nodes has n) (sym cut.size) ∙ ap (λ ns. value ns has (length cut.before)) cut.cut
     ∙ value_between cut.before cut.after node has
 

@@ -39,7 +39,7 @@ pub record IsChoiceBetween (old new : List Node) (variable high low place : ℕ)
   pub above : (c : ℕ) → c < variable → IsAbove new c place
 
 -- the earlier of this variable and that of the node at the place, if it has one
-pub record IsFirst (nodes : List Node) (variable place first : ℕ) : Type 0 where
+pub record IsEarlierVariable (nodes : List Node) (variable place first : ℕ) : Type 0 where
   pub not_later : first ≤ variable
   pub not_later_there : IsNotBefore nodes first place
   pub found : (first ≡ variable) ⊎ ((high : ℕ) × (low : ℕ) × (slice_get nodes place ≡ Some (Choice first high low)))

@@ -5,15 +5,15 @@ use Rattle.dd_core.specs.declared.table.Node.{Node}
 use Rattle.dd_core.specs.declared.table.Node.TheVariants.{Constant, Choice}
 
 -- the value of a node, given the values of the nodes before it and which variables the set has
-abbrev pub value_from : (ℕ → Bool) → List Bool → Node → Bool
-value_from has values (Constant b) = b
-value_from has values (Choice variable high low) =
+abbrev pub node_value : (ℕ → Bool) → List Bool → Node → Bool
+node_value has values (Constant b) = b
+node_value has values (Choice variable high low) =
     if has variable then slice_index_or values high false else slice_index_or values low false
 
 -- the values of more nodes, after those of the nodes before them
 abbrev pub values_after : (ℕ → Bool) → List Bool → List Node → List Bool
 values_after has values [] = values
-values_after has values (node ∷ nodes) = values_after has (values ++ value_from has values node ∷ []) nodes
+values_after has values (node ∷ nodes) = values_after has (values ++ node_value has values node ∷ []) nodes
 
 -- the value of the node at a place
 abbrev pub value : List Node → (ℕ → Bool) → ℕ → Bool

@@ -1,7 +1,7 @@
 //! A node from a variable and two sons.
 
 ghost use Rattle.std.specs.Prelude.{◌≡◌, ◌<◌, ◌≤◌, length, IfOk, ℕ};
-ghost use Rattle.dd_core.specs.Store.{IsStore, IsAbove, Extends, IsChoiceBetween, IsNotBefore, IsFirst, AreSons, IsWithin};
+ghost use Rattle.dd_core.specs.Store.{IsStore, IsAbove, Extends, IsChoiceBetween, IsNotBefore, IsEarlierVariable, AreSons, IsWithin};
 
 use crate::table::{Node, Table};
 use base_kit::NoMemory;
@@ -37,7 +37,7 @@ pub fn choice(
 /// The earlier of this variable and that of the node.
 pub fn first_variable(table: &Table, variable: usize, place: usize) -> usize
     requires inside { place < length table.now }
-    ensures { IsFirst table.now variable place result }
+    ensures { IsEarlierVariable table.now variable place result }
 {
     match table.node(place) {
         Node::Choice {

@@ -15,7 +15,7 @@ use Rattle.config_emit.specs.Emitted.{ospf_of, emitted}
 use Rattle.config_emit.specs.Laws.{IsPlan}
 use Rattle.config_emit.specs.Plan.{Plan}
 use Rattle.emit_fault_laws.proofs.Routers.{of_routers}
-use Rattle.emit_link_laws.specs.Laws.{link_at}
+use Rattle.emit_link_laws.specs.Laws.{emitted_link}
 use Rattle.emit_link_laws.proofs.Links.{ospf_links}
 use Rattle.emit_form_laws.specs.Laws.{GroupsHaveNoMoreLinks, GroupsHaveFewLinks}
 use Rattle.emit_form_laws.proofs.Groups.{problem_of}
@@ -43,7 +43,7 @@ numbered_length n (x ∷ xs) = ap (λ k. suc k) (numbered_length (n + 1) xs)
 
 -- in OSPF the network has as many links as the plan
 ospf_links_many : (e : Plan) → IsPlan e → e.problem.protocol ≡ OverOspf → length (links_of (emitted e)) ≡ length e.links
-ospf_links_many e plan ospf = ap (λ (ls : List Link). length ls) (ospf_links e plan ospf) ∙ length-map (enumerate_from 0 e.links) (link_at e)
+ospf_links_many e plan ospf = ap (λ (ls : List Link). length ls) (ospf_links e plan ospf) ∙ length-map (enumerate_from 0 e.links) (emitted_link e)
     ∙ numbered_length 0 e.links
 
 few_adjacencies : GroupsHaveFewLinks → (e : Plan) → IsPlan e → length (adjacencies_of (emitted e)) ≤ 1048576

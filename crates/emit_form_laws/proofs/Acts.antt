@@ -19,7 +19,7 @@ use Rattle.srp_core.specs.declared.route.Act.{Act}
 use Rattle.srp_core.specs.declared.route.Act.TheVariants.{Import, Cost}
 use Rattle.srp_core.specs.Problem.{act_of}
 use Rattle.srp_core.specs.ProblemOf.{Direction, MeansCost, MeansLink}
-use Rattle.srp_quotient.specs.Groups.{same_pair, or_else, last_of, last_into, edge_into}
+use Rattle.srp_quotient.specs.Groups.{same_group_pair, or_else, last_of, last_into, edge_into}
 use Rattle.srp_core.specs.ActMaps.{IsPrintableAct}
 use Rattle.config_emit.specs.Laws.{IsPlan}
 use Rattle.config_emit.specs.Interfaces.{cost_by}
@@ -60,8 +60,8 @@ carried_by OverOspf links g l k at e = step (side_of g l) refl e
     step : (o : Option ℕ) → side_of g l ≡ o → or_else o (last_into links g l) ≡ Some k → IsCarriedBy links g l k
     step (Some j) is e = record { link = l; link_in = at; low = refl; high = refl; side = is ∙ e }
     step None is e =
-        let m = filter_map_in (side_of g) (filter (same_pair l) links) k (last_in (filter_map (side_of g) (filter (same_pair l) links)) k e) in
-        let f = filter_in (same_pair l) links m.0 m.1 in
+        let m = filter_map_in (side_of g) (filter (same_group_pair l) links) k (last_in (filter_map (side_of g) (filter (same_group_pair l) links)) k e) in
+        let f = filter_in (same_group_pair l) links m.0 m.1 in
         let same = and_parts (nat_eq l.low m.0.low) (nat_eq l.high m.0.high) f.1 in
         record { link = m.0; link_in = f.0; low = sym (one_number l.low m.0.low same.0); high = sym (one_number l.high m.0.high same.1); side = m.2 }
 

@@ -24,7 +24,7 @@ use Rattle.config_emit.specs.Plan.{Plan, small}
 use Rattle.config_emit.specs.Maps.{other_end}
 use Rattle.config_emit.specs.Interfaces.{class_interfaces, is_at, links_at, side_number, link_address, link_interface, link_interfaces}
 use Rattle.config_emit.specs.Emitted.{neighbor_at, process_of, written_bgp, emitted_router, emitted}
-use Rattle.emit_link_laws.specs.Laws.{first_item, links_before, link_at}
+use Rattle.emit_link_laws.specs.Laws.{first_item, links_before, emitted_link}
 use Rattle.emit_link_laws.proofs.EmittedPlaces.{router_at, group_places, in_numbered, link_in, inside_count}
 use Rattle.emit_link_laws.proofs.OspfSpots.{even_address, side_small}
 use Rattle.emit_link_laws.proofs.PairedLinks.{ArePaired, AreBetween, flat_map_same, links_by_spots}
@@ -280,7 +280,7 @@ module _ (e : Plan) (over : e.problem.protocol ≡ OverBgp) (numbers : HasNumber
         (met g h t u l m faultless at_l at_m touch_g touch_h) (facing_at g h t u l m at_l at_m touch_g touch_h);
   }
 
-  pub bgp_sessions : IsFaultless (emitted e) → sessions_of (emitted e) ≡ map (link_at e) (enumerate_from 0 e.links)
+  pub bgp_sessions : IsFaultless (emitted e) → sessions_of (emitted e) ≡ map (emitted_link e) (enumerate_from 0 e.links)
   unfolding sessions_of
   bgp_sessions faultless =
       ap (links_joining is_session) places_emitted

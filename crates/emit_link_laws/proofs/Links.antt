@@ -16,7 +16,7 @@ use Rattle.config_emit.specs.Plan.{Plan}
 use Rattle.config_emit.specs.Emitted.{written_bgp, ospf_of, emitted_router, emitted}
 use Rattle.config_emit.specs.Laws.{IsPlan}
 use Rattle.emit_form_laws.proofs.Groups.{linked}
-use Rattle.emit_link_laws.specs.Laws.{link_at, EmittedLinks}
+use Rattle.emit_link_laws.specs.Laws.{emitted_link, EmittedLinks}
 use Rattle.emit_link_laws.proofs.BgpPeers.{bgp_sessions}
 use Rattle.emit_link_laws.proofs.OspfSpots.{ospf_adjacencies}
 use Rattle.emit_link_laws.proofs.PairedLinks.{AreBetween}
@@ -36,13 +36,13 @@ pub plan_between : (e : Plan) → IsPlan e → AreBetween e.links e.count
 plan_between e plan = subst (λ (ls : List QLink). AreBetween ls e.count) (sym plan.links) (quotient_between e.problem.edges e.groups e.count)
 
 -- in OSPF no more is needed of the network of the groups
-pub ospf_links : (e : Plan) → IsPlan e → e.problem.protocol ≡ OverOspf → links_of (emitted e) ≡ map (link_at e) (enumerate_from 0 e.links)
+pub ospf_links : (e : Plan) → IsPlan e → e.problem.protocol ≡ OverOspf → links_of (emitted e) ≡ map (emitted_link e) (enumerate_from 0 e.links)
 unfolding links_of
 ospf_links e plan over = ap (λ (ls : List Link). ls ++ adjacencies_of (emitted e)) (no_sessions (emitted e) (without_bgp e over))
     ∙ ospf_adjacencies e over (plan_between e plan)
 
 pub bgp_links : QuotientCarries → (e : Plan) → IsPlan e → e.problem.protocol ≡ OverBgp → IsFaultless (emitted e) →
-    links_of (emitted e) ≡ map (link_at e) (enumerate_from 0 e.links)
+    links_of (emitted e) ≡ map (emitted_link e) (enumerate_from 0 e.links)
 unfolding links_of
 bgp_links carries e plan over faultless =
     ap (λ (ls : List Link). sessions_of (emitted e) ++ ls) (no_adjacencies (emitted e) (without_ospf e over))
@@ -50,7 +50,7 @@ bgp_links carries e plan over faultless =
     ∙ bgp_sessions e over (linked e plan carries over) (plan_between e plan) faultless
 
 by_protocol : QuotientCarries → (e : Plan) → IsPlan e → (q : Protocol) → e.problem.protocol ≡ q → IsFaultless (emitted e) →
-    links_of (emitted e) ≡ map (link_at e) (enumerate_from 0 e.links)
+    links_of (emitted e) ≡ map (emitted_link e) (enumerate_from 0 e.links)
 by_protocol carries e plan OverOspf over faultless = ospf_links e plan over
 by_protocol carries e plan OverBgp over faultless = bgp_links carries e plan over faultless
 

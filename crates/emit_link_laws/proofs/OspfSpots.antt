@@ -25,7 +25,7 @@ use Rattle.config_emit.specs.Plan.{Plan, first_router_of}
 use Rattle.config_emit.specs.Interfaces.{interface_in, class_interface, class_interface_in, class_interfaces_on, class_interfaces, is_at, links_at, side_number, link_address, link_interface, link_interfaces}
 use Rattle.config_emit.specs.Emitted.{host_area_line, area_number, interface_name, ospf_on, ospf_of, emitted_router, emitted}
 use Rattle.emit_form_laws.proofs.Groups.{any_in}
-use Rattle.emit_link_laws.specs.Laws.{first_item, links_before, link_at}
+use Rattle.emit_link_laws.specs.Laws.{first_item, links_before, emitted_link}
 use Rattle.emit_link_laws.proofs.EmittedPlaces.{enumerate_append, none_of, group_places, in_numbered, link_in, links_of_some}
 use Rattle.emit_link_laws.proofs.PairedLinks.{ArePaired, AreBetween, filter_flat, flat_map_same, links_by_spots}
 
@@ -256,7 +256,7 @@ module _ (e : Plan) (over : e.problem.protocol ≡ OverOspf) where
   paired : ArePaired e.links (ospf_place e class_count) are_adjacent
   paired = record { same = pair }
 
-  pub ospf_adjacencies : AreBetween e.links e.count → adjacencies_of (emitted e) ≡ map (link_at e) (enumerate_from 0 e.links)
+  pub ospf_adjacencies : AreBetween e.links e.count → adjacencies_of (emitted e) ≡ map (emitted_link e) (enumerate_from 0 e.links)
   unfolding adjacencies_of
   ospf_adjacencies between =
       links_of_some are_adjacent is_active_place (places interfaces_of (emitted e)) only_active

@@ -27,9 +27,9 @@ abbrev pub item_at : Plan → ℕ → ℕ → ℕ
 item_at e g t = first_item e.problem.protocol e g + links_before e.links g t
 
 -- link t of the network
-abbrev pub link_at : Plan → ℕ × QLink → Link
-link_at e (t, l) = record { low = l.low; high = l.high; low_item = item_at e l.low t; high_item = item_at e l.high t }
+abbrev pub emitted_link : Plan → ℕ × QLink → Link
+emitted_link e (t, l) = record { low = l.low; high = l.high; low_item = item_at e l.low t; high_item = item_at e l.high t }
 
 -- The links of the network of the groups are those of the plan, in order.
 abbrev pub EmittedLinks : Type 0
-EmittedLinks = (e : Plan) → IsPlan e → IsFaultless (emitted e) → links_of (emitted e) ≡ map (link_at e) (enumerate_from 0 e.links)
+EmittedLinks = (e : Plan) → IsPlan e → IsFaultless (emitted e) → links_of (emitted e) ≡ map (emitted_link e) (enumerate_from 0 e.links)

@@ -13,23 +13,23 @@ use Rattle.srp_core.specs.ProblemOf.{Direction, low_imports, high_imports, IsDir
 use Rattle.srp_quotient.specs.Groups.{touches}
 use Rattle.config_emit.specs.Plan.{Plan}
 use Rattle.config_emit.specs.Emitted.{emitted}
-use Rattle.emit_link_laws.specs.Laws.{item_at, link_at}
+use Rattle.emit_link_laws.specs.Laws.{item_at, emitted_link}
 use Rattle.emit_problem_laws.proofs.LinkItems.{numbered_at}
 
 -- the links of the network are those of the plan
 abbrev pub HasLinks : Plan → Type 0
-HasLinks e = links_of (emitted e) ≡ map (link_at e) (enumerate_from 0 e.links)
+HasLinks e = links_of (emitted e) ≡ map (emitted_link e) (enumerate_from 0 e.links)
 
-pub link_t : (e : Plan) → HasLinks e → (t : ℕ) → slice_get (links_of (emitted e)) t ≡ option_map (λ (l : QLink). link_at e (t, l)) (slice_get e.links t)
+pub link_t : (e : Plan) → HasLinks e → (t : ℕ) → slice_get (links_of (emitted e)) t ≡ option_map (λ (l : QLink). emitted_link e (t, l)) (slice_get e.links t)
 link_t e links t =
     ap (λ (ls : List Link). slice_get ls t) links
-    ∙ slice_get-map (link_at e) (enumerate_from 0 e.links) t
-    ∙ ap (option_map (link_at e)) (numbered_at 0 e.links t)
+    ∙ slice_get-map (emitted_link e) (enumerate_from 0 e.links) t
+    ∙ ap (option_map (emitted_link e)) (numbered_at 0 e.links t)
     ∙ mapped (slice_get e.links t)
   where
-    mapped : (o : Option QLink) → option_map (link_at e) (option_map (λ (x : QLink). (0 + t, x)) o) ≡ option_map (λ (l : QLink). link_at e (t, l)) o
+    mapped : (o : Option QLink) → option_map (emitted_link e) (option_map (λ (x : QLink). (0 + t, x)) o) ≡ option_map (λ (l : QLink). emitted_link e (t, l)) o
     mapped None = refl
-    mapped (Some l) = ap (λ (m : ℕ). Some (link_at e (m, l))) (let s : 0 + t ≡ t = omega arith in s)
+    mapped (Some l) = ap (λ (m : ℕ). Some (emitted_link e (m, l))) (let s : 0 + t ≡ t = omega arith in s)
 
 -- the direction of link t into g from h
 abbrev pub direction : Plan → ℕ → ℕ → ℕ → Direction
@@ -38,11 +38,11 @@ direction e t g h = record { link = t; importer = g; exporter = h; importer_item
 pub is_direction : (e : Plan) → HasLinks e → (t : ℕ) (l : QLink) (g h : ℕ) → slice_get e.links t ≡ Some l → IsJoined l g h →
     IsDirection (emitted e) (direction e t g h)
 is_direction e links t l g h at (inl j) =
-    inl (link_t e links t ∙ ap (option_map (λ (m : QLink). link_at e (t, m))) at
+    inl (link_t e links t ∙ ap (option_map (λ (m : QLink). emitted_link e (t, m))) at
     ∙ ap (λ (x : ℕ). Some (record { low = x; high = l.high; low_item = item_at e x t; high_item = item_at e l.high t })) j.0
     ∙ ap (λ (y : ℕ). Some (record { low = g; high = y; low_item = item_at e g t; high_item = item_at e y t })) j.1)
 is_direction e links t l g h at (inr j) =
-    inr (link_t e links t ∙ ap (option_map (λ (m : QLink). link_at e (t, m))) at
+    inr (link_t e links t ∙ ap (option_map (λ (m : QLink). emitted_link e (t, m))) at
     ∙ ap (λ (x : ℕ). Some (record { low = l.low; high = x; low_item = item_at e l.low t; high_item = item_at e x t })) j.0
     ∙ ap (λ (y : ℕ). Some (record { low = y; high = g; low_item = item_at e y t; high_item = item_at e g t })) j.1)
 
@@ -55,10 +55,10 @@ pub record IsOfLink (e : Plan) (d : Direction) : Type 0 where
   pub exporter_item : d.exporter_item ≡ item_at e d.exporter d.link
 
 from_low : (e : Plan) (d : Direction) (o : Option QLink) → slice_get e.links d.link ≡ o →
-    option_map (λ (l : QLink). link_at e (d.link, l)) o ≡ Some (low_imports d) → IsOfLink e d
+    option_map (λ (l : QLink). emitted_link e (d.link, l)) o ≡ Some (low_imports d) → IsOfLink e d
 from_low e d None at is = absurd cc
 from_low e d (Some l) at is =
-    let same : link_at e (d.link, l) ≡ low_imports d = cc in
+    let same : emitted_link e (d.link, l) ≡ low_imports d = cc in
     let low : l.low ≡ d.importer = ap (λ (x : Link). x.low) same in
     let high : l.high ≡ d.exporter = ap (λ (x : Link). x.high) same in
     record {
@@ -70,10 +70,10 @@ from_low e d (Some l) at is =
     }
 
 from_high : (e : Plan) (d : Direction) (o : Option QLink) → slice_get e.links d.link ≡ o →
-    option_map (λ (l : QLink). link_at e (d.link, l)) o ≡ Some (high_imports d) → IsOfLink e d
+    option_map (λ (l : QLink). emitted_link e (d.link, l)) o ≡ Some (high_imports d) → IsOfLink e d
 from_high e d None at is = absurd cc
 from_high e d (Some l) at is =
-    let same : link_at e (d.link, l) ≡ high_imports d = cc in
+    let same : emitted_link e (d.link, l) ≡ high_imports d = cc in
     let low : l.low ≡ d.exporter = ap (λ (x : Link). x.low) same in
     let high : l.high ≡ d.importer = ap (λ (x : Link). x.high) same in
     record {

@@ -19,7 +19,7 @@ use Rattle.srp_core.specs.declared.route.Act.{Act}
 use Rattle.srp_core.specs.declared.route.Act.TheVariants.{Import, Cost}
 use Rattle.srp_core.specs.Acts.{IsActOf}
 use Rattle.srp_core.specs.ProblemOf.{Direction, IsDirection, IsEdgeDirection, MeansLink, StandsFor}
-use Rattle.srp_quotient.specs.Groups.{same_pair, or_else, last_of, last_into, edge_into, lower_edge, quotient_problem}
+use Rattle.srp_quotient.specs.Groups.{same_group_pair, or_else, last_of, last_into, edge_into, lower_edge, quotient_problem}
 use Rattle.srp_quotient.proofs.Quotient.{into_real}
 use Rattle.config_emit.specs.Plan.{Plan, small, act_of_place}
 use Rattle.config_emit.specs.Interfaces.{cost_by, link_interface}
@@ -43,7 +43,7 @@ last_some (x ∷ xs) k at = by (last_of xs)
     by None = (x, refl)
     by (Some j) = (j, refl)
 
-same_ends : (l m : QLink) (g h : ℕ) → l.low < l.high → m.low < m.high → IsJoined l g h → IsJoined m g h → same_pair l m ≡ true
+same_ends : (l m : QLink) (g h : ℕ) → l.low < l.high → m.low < m.high → IsJoined l g h → IsJoined m g h → same_group_pair l m ≡ true
 same_ends l m g h less low (inl a) (inl b) = rw (same_number l.low m.low (a.0 ∙ sym b.0), same_number l.high m.high (a.1 ∙ sym b.1)) refl
 same_ends l m g h less low (inr a) (inr b) = rw (same_number l.low m.low (a.1 ∙ sym b.1), same_number l.high m.high (a.0 ∙ sym b.0)) refl
 same_ends l m g h less low (inl a) (inr b) = let w = a.0 in let x = a.1 in let y = b.0 in let z = b.1 in absurd (omega arith)
@@ -101,9 +101,9 @@ module _ (e : Plan) (plan : IsPlan e) (law : QuotientCarries) (over : e.problem.
       let kept = carry.kept g h back.0.act (apart l g h below.ordered joined)
       (record { edge = back.0; has = back.1; importer = importer; exporter = exporter; does = refl }) in
       let same = same_ends l kept.link g h below.ordered (carry.below kept.link kept.has).ordered joined kept.joined in
-      last_some (filter_map (side_of g) (filter (same_pair l) e.links)) kept.edge
-      (in_filter_map (side_of g) (filter (same_pair l) e.links) kept.link kept.edge
-      (in_filter (same_pair l) e.links kept.link (in_contains e.links kept.link kept.has) same) kept.side)
+      last_some (filter_map (side_of g) (filter (same_group_pair l) e.links)) kept.edge
+      (in_filter_map (side_of g) (filter (same_group_pair l) e.links) kept.link kept.edge
+      (in_filter (same_group_pair l) e.links kept.link (in_contains e.links kept.link kept.has) same) kept.side)
     where
       apart : (l : QLink) (g h : ℕ) → l.low < l.high → IsJoined l g h → g ≢ h
       apart l g h less (inl j) same = let x = j.0 in let y = j.1 in absurd (omega arith)

@@ -14,7 +14,7 @@ use Rattle.cfg_ast.specs.declared.network.Router.{Router}
 use Rattle.cfg_ast.specs.declared.topology.Link.{Link}
 use Rattle.cfg_ast.specs.meaning.Addresses.{Address}
 use Rattle.cfg_ast.specs.meaning.Topology.{Place, place_on, places, places_on, interfaces_of, neighbors_of, links_from, link_between, is_session, are_adjacent, share_area_subnet, both_in_one_subnet, active_address, is_active_interface, are_peers, unmatched_at, unmatched_of}
-use Rattle.given_laws.specs.Laws.{neighbor_line, given_address_line, address_line, Ends, ends_from, link_of_ends, IsPairBefore, ArePairsAscending, AreByLines, IsLesserFirst, unmatched_places, PlacesAreInOrder, LinksAreInOrder, GivenLinksAreInOrder}
+use Rattle.given_laws.specs.Laws.{neighbor_line_at, given_address_line, address_line_at, Ends, ends_from, link_of_ends, IsPairBefore, ArePairsAscending, AreByLines, IsLesserFirst, unmatched_places, PlacesAreInOrder, LinksAreInOrder, GivenLinksAreInOrder}
 use Rattle.given_laws.proofs.PlaceOrder.{given_places_are_in_order}
 
 -- ---- the ends of links
@@ -229,15 +229,15 @@ has_line : (b : Bool) (o : Option Address) (a : Address) → cond b o None ≡ S
 has_line true o a e = e
 has_line false o a e = absurd cc
 
-address_has_line : (p : Place Interface) (a : Address) → active_address p ≡ Some a → given_address_line p ≡ Some (address_line p)
+address_has_line : (p : Place Interface) (a : Address) → active_address p ≡ Some a → given_address_line p ≡ Some (address_line_at p)
 address_has_line p a active = line_of p.value.address (has_line (is_active_interface p.owner p.value) p.value.address a active)
   where
     line_of : (o : Option Address) → o ≡ Some a → option_map (λ (b : Address). b.line) o ≡ Some (option_map_or (λ (b : Address). b.line) o 0)
     line_of (Some b) e = refl
     line_of None e = absurd cc
 
-adjacent_lines : (p q : Place Interface) → are_adjacent p q ≡ true → (given_address_line p ≡ Some (address_line p))
-    × (given_address_line q ≡ Some (address_line q))
+adjacent_lines : (p q : Place Interface) → are_adjacent p q ≡ true → (given_address_line p ≡ Some (address_line_at p))
+    × (given_address_line q ≡ Some (address_line_at q))
 adjacent_lines p q joined =
     let both = both_some (active_address p) (active_address q) (and_second (nat_lt p.router q.router) (share_area_subnet p q) joined) in
     (address_has_line p both.0.0 both.0.1, address_has_line q both.1.0 both.1.1)
@@ -277,13 +277,13 @@ unmatched_listed network = refl
 
 in_order : (network : Network) → PlacesAreInOrder network → LinksAreInOrder network
 in_order network is = record {
-  sessions = by_lines is_session (λ p. Some (neighbor_line p)) neighbor_line (λ p q joined. (refl, refl))
+  sessions = by_lines is_session (λ p. Some (neighbor_line_at p)) neighbor_line_at (λ p q joined. (refl, refl))
       (λ p q joined. first_earlier p q (are_peers p q) joined)
-      (places neighbors_of network) (rises_all neighbor_line (places neighbors_of network) is.neighbors) (follows_routers neighbors_of network);
-  adjacencies = by_lines are_adjacent given_address_line address_line adjacent_lines (λ p q joined. first_earlier p q (share_area_subnet p q) joined)
+      (places neighbors_of network) (rises_all neighbor_line_at (places neighbors_of network) is.neighbors) (follows_routers neighbors_of network);
+  adjacencies = by_lines are_adjacent given_address_line address_line_at adjacent_lines (λ p q joined. first_earlier p q (share_area_subnet p q) joined)
       (places interfaces_of network) (rises_some given_address_line (places interfaces_of network) is.addresses) (follows_routers interfaces_of network);
   unmatched = unmatched_listed network;
-  unmatched_ascending = ascending_kept neighbor_line (λ p. not (list_any (are_peers p) (places neighbors_of network))) (places neighbors_of network)
+  unmatched_ascending = ascending_kept neighbor_line_at (λ p. not (list_any (are_peers p) (places neighbors_of network))) (places neighbors_of network)
       is.neighbors;
 }
 

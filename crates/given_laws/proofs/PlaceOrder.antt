@@ -22,7 +22,7 @@ use Rattle.cfg_ast.specs.text.Steps.{◌>>=◌}
 use Rattle.cfg_ast.specs.text.Reading.{at_start, steps, ending, network_of_lines, texts_of, network_of_text, IsGiven}
 use Rattle.cfg_ast.specs.meaning.Topology.{Place, place_on, places_on, places, interfaces_of, neighbors_of}
 use Rattle.cfg_ast.proofs.Within.{few, lines_faultless}
-use Rattle.given_laws.specs.Laws.{interface_line, neighbor_line, address_line_of, PlacesAreInOrder, GivenPlacesAreInOrder}
+use Rattle.given_laws.specs.Laws.{interface_line, neighbor_line_at, address_line_of, PlacesAreInOrder, GivenPlacesAreInOrder}
 use Rattle.given_laws.proofs.AddressOrder.{routers_addresses, HasAddressesInOrder, address_steps, start_addresses, addresses_lines}
 use Rattle.given_laws.proofs.Propositions.{ascending_prop}
 use Rattle.given_laws.proofs.Given.{IsAny, any_result, then_step}
@@ -134,7 +134,7 @@ in_order network has given =
       neighbors = rw neighbors has.1.ascending;
       few_interfaces = (let count = length-map (places interfaces_of network) interface_line in let few = has.0.few in
           omega (arith, sym count, ap (λ (ks : List ℕ). length ks) interfaces));
-      few_neighbors = (let count = length-map (places neighbors_of network) neighbor_line in let few = has.1.few in
+      few_neighbors = (let count = length-map (places neighbors_of network) neighbor_line_at in let few = has.1.few in
           omega (arith, sym count, ap (λ (ks : List ℕ). length ks) neighbors));
     }
 

@@ -33,8 +33,8 @@ GivenCostsArePositive =
 abbrev pub interface_line : Place Interface → ℕ
 interface_line p = p.value.line
 
-abbrev pub neighbor_line : Place Neighbor → ℕ
-neighbor_line p = p.value.line
+abbrev pub neighbor_line_at : Place Neighbor → ℕ
+neighbor_line_at p = p.value.line
 
 abbrev pub address_line_of : Interface → Option ℕ
 address_line_of i = option_map (λ (a : Address). a.line) i.address
@@ -46,7 +46,7 @@ given_address_line p = address_line_of p.value
 pub record PlacesAreInOrder (network : Network) : Type 0 where
   pub interfaces : IsAscending (map interface_line (places interfaces_of network))
   pub addresses : IsAscending (filter_map given_address_line (places interfaces_of network))
-  pub neighbors : IsAscending (map neighbor_line (places neighbors_of network))
+  pub neighbors : IsAscending (map neighbor_line_at (places neighbors_of network))
   pub few_interfaces : length (places interfaces_of network) ≤ 1000000
   pub few_neighbors : length (places neighbors_of network) ≤ 1000000
 
@@ -88,8 +88,8 @@ pub record AreByLines {X : Type 0} (joins : Place X → Place X → Bool) (line 
   pub lesser_first : AllByRecursion (IsLesserFirst line) (ends_joining joins ps)
 
 -- the line of the address, 0 without one
-abbrev pub address_line : Place Interface → ℕ
-address_line p = option_map_or (λ (a : Address). a.line) p.value.address 0
+abbrev pub address_line_at : Place Interface → ℕ
+address_line_at p = option_map_or (λ (a : Address). a.line) p.value.address 0
 
 -- the places of the neighbours that are part of no session
 abbrev pub unmatched_places : Network → List (Place Neighbor)
@@ -98,10 +98,10 @@ unmatched_places n = filter (λ p. not (list_any (are_peers p) (places neighbors
 -- Sessions ascend by the pairs of their `remote-as` lines, and adjacencies by those of their `ip address` lines, the lesser line
 -- of each pair first. Unmatched neighbours ascend by their `remote-as` lines.
 pub record LinksAreInOrder (network : Network) : Type 0 where
-  pub sessions : AreByLines is_session neighbor_line (places neighbors_of network)
-  pub adjacencies : AreByLines are_adjacent address_line (places interfaces_of network)
+  pub sessions : AreByLines is_session neighbor_line_at (places neighbors_of network)
+  pub adjacencies : AreByLines are_adjacent address_line_at (places interfaces_of network)
   pub unmatched : unmatched_of network ≡ map unmatched_at (unmatched_places network)
-  pub unmatched_ascending : IsAscending (map neighbor_line (unmatched_places network))
+  pub unmatched_ascending : IsAscending (map neighbor_line_at (unmatched_places network))
 
 abbrev pub GivenLinksAreInOrder : Type 0
 GivenLinksAreInOrder = (network : Network) → ∥ IsGiven network ∥₁ → LinksAreInOrder network

@@ -4,7 +4,7 @@ use Rattle.std.specs.Prelude.{nat_eq, nat_lt}
 use Rattle.std.specs.List.{list_all}
 use Rattle.std.proofs.lemmas.Bool.Decides.{nat_tests}
 use Rattle.std.proofs.lemmas.List.Folds.{list_any-append}
-use Rattle.named_lists.specs.NumberedLists.{are_below, ascends, has_number}
+use Rattle.named_lists.specs.NumberedLists.{are_below, ascends, has_entry_numbered}
 
 pub both : (b c : Bool) → (b && c) ≡ true → (b ≡ true) × (c ≡ true)
 both true c e = (refl, e)
@@ -66,15 +66,15 @@ module _ {E : Type 0} (number : E → ℕ) where
   other : (a b : ℕ) → nat_lt a b ≡ true → nat_eq a b ≡ false
   other a b lt = grind (arith, nat_tests)
 
-  pub none_if_below : (xs : List E) (wanted : ℕ) → are_below number xs wanted ≡ true → has_number number xs wanted ≡ false
+  pub none_if_below : (xs : List E) (wanted : ℕ) → are_below number xs wanted ≡ true → has_entry_numbered number xs wanted ≡ false
   none_if_below [] wanted below = refl
   none_if_below (x ∷ xs) wanted below =
       let parts = both (nat_lt (number x) wanted) (are_below number xs wanted) below in
       rw (other (number x) wanted parts.0, none_if_below xs wanted parts.1) refl
 
-  pub has_last : (xs : List E) (e : E) (wanted : ℕ) → has_number number (xs ++ e ∷ []) wanted ≡ (has_number number xs wanted || nat_eq (number e) wanted)
+  pub has_last : (xs : List E) (e : E) (wanted : ℕ) → has_entry_numbered number (xs ++ e ∷ []) wanted ≡ (has_entry_numbered number xs wanted || nat_eq (number e) wanted)
   has_last xs e wanted = list_any-append (λ x. nat_eq (number x) wanted) xs (e ∷ [])
-      ∙ ap (λ b. has_number number xs wanted || b) (or_none (nat_eq (number e) wanted))
+      ∙ ap (λ b. has_entry_numbered number xs wanted || b) (or_none (nat_eq (number e) wanted))
     where
       or_none : (b : Bool) → (b || false) ≡ b
       or_none true = refl
@@ -83,6 +83,6 @@ module _ {E : Type 0} (number : E → ℕ) where
   number_self : (n : ℕ) → nat_eq n n ≡ true
   number_self n = grind (arith, nat_tests)
 
-  pub has_first : (xs : List E) (d : E) → 0 < length xs → has_number number xs (number (get_or xs 0 d)) ≡ true
+  pub has_first : (xs : List E) (d : E) → 0 < length xs → has_entry_numbered number xs (number (get_or xs 0 d)) ≡ true
   has_first [] d some = absurd (omega arith)
   has_first (x ∷ xs) d some = rw (number_self (number x)) refl

@@ -10,7 +10,7 @@ use Rattle.by_key.specs.ByKey.{with_key, by_key}
 use Rattle.by_key.proofs.SortedByKey.{Rises, grouped, sorted_is}
 use Rattle.named_lists.specs.declared.named.NamedList.{NamedList}
 use Rattle.named_lists.specs.NamedLists.{in_named}
-use Rattle.named_lists.specs.NumberedLists.{put, put_all, by_number, in_order, has_number}
+use Rattle.named_lists.specs.NumberedLists.{put, put_all, in_number_order, in_order, has_entry_numbered}
 use Rattle.numbered_names.proofs.Firsts.{number_is}
 
 module _ {E : Type 0} (number : E → ℕ) where
@@ -21,10 +21,10 @@ module _ {E : Type 0} (number : E → ℕ) where
   put_all_last done [] e = refl
   put_all_last done (x ∷ xs) e = put_all_last (put number x done) xs e
 
-  pub by_number_last : (xs : List E) (e : E) → by_number number (xs ++ e ∷ []) ≡ put number e (by_number number xs)
+  pub by_number_last : (xs : List E) (e : E) → in_number_order number (xs ++ e ∷ []) ≡ put number e (in_number_order number xs)
   by_number_last xs e = put_all_last [] xs e
 
-  pub by_number_none : by_number number [] ≡ []
+  pub by_number_none : in_number_order number [] ≡ []
   unfolding put_all
   by_number_none = refl
 
@@ -77,8 +77,8 @@ module _ {E : Type 0} (number : E → ℕ) where
   any_put_all test done (x ∷ xs) = any_put_all test (put number x done) xs ∙ ap (λ b. list_any test xs || b) (any_put test x done)
       ∙ turn (test x) (list_any test xs) (list_any test done)
 
-  pub has_by_number : (xs : List E) (wanted : ℕ) → has_number number (by_number number xs) wanted ≡ has_number number xs wanted
-  has_by_number xs wanted = any_put_all (λ x. nat_eq (number x) wanted) [] xs ∙ or_none (has_number number xs wanted)
+  pub has_by_number : (xs : List E) (wanted : ℕ) → has_entry_numbered number (in_number_order number xs) wanted ≡ has_entry_numbered number xs wanted
+  has_by_number xs wanted = any_put_all (λ x. nat_eq (number x) wanted) [] xs ∙ or_none (has_entry_numbered number xs wanted)
 
   -- ---- a stable sort
 
@@ -208,14 +208,14 @@ module _ {E : Type 0} (number : E → ℕ) where
   below_total (x ∷ xs) z (inl e) = let same = ap number e in omega (arith, some_total xs, same)
   below_total (x ∷ xs) z (inr at) = omega (arith, below_total xs z at)
 
-  by_keys : (xs : List E) (n : ℕ) → ((z : E) → In (by_number number xs) z → number z < n) → by_number number xs ≡ by_key number n xs
+  by_keys : (xs : List E) (n : ℕ) → ((z : E) → In (in_number_order number xs) z → number z < n) → in_number_order number xs ≡ by_key number n xs
   by_keys xs n below =
-      sym (grouped number (by_number number xs) n (rises (by_number number xs) (up_put_all [] xs tt)) below)
+      sym (grouped number (in_number_order number xs) n (rises (in_number_order number xs) (up_put_all [] xs tt)) below)
       ∙ (λ i. flat_map (λ v. with_put_all v [] xs tt i) (range_with_len 0 n))
 
   -- a stable sort is the list by numbers
-  pub sorted_by_number : (xs ys : List E) → IsNonDecreasingBy number ys → IsStableByKey number nat_cmp xs ys → ys ≡ by_number number xs
+  pub sorted_by_number : (xs ys : List E) → IsNonDecreasingBy number ys → IsStableByKey number nat_cmp xs ys → ys ≡ in_number_order number xs
   sorted_by_number xs ys up stable =
-      let n = total xs + total (by_number number xs) in
+      let n = total xs + total (in_number_order number xs) in
       sorted_is number xs ys n up stable (λ x at. omega (arith, below_total xs x at))
-      ∙ sym (by_keys xs n (λ z at. omega (arith, below_total (by_number number xs) z at)))
+      ∙ sym (by_keys xs n (λ z at. omega (arith, below_total (in_number_order number xs) z at)))

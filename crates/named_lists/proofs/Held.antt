@@ -10,8 +10,8 @@ use Rattle.std.proofs.lemmas.Bool.{cases_eq, cases_lt}
 use Rattle.std.proofs.lemmas.Grind.{common_steps}
 use Rattle.std.proofs.lemmas.List.{map_push, length_push, get_or-set_same, get_or-set_other, get_or_push, get_or_past, get_or_append_left}
 use Rattle.named_lists.specs.declared.named.NamedList.{NamedList}
-use Rattle.named_lists.specs.NamedLists.{name_of, list_at, entries_at, with_last}
-use Rattle.named_lists.specs.NumberedLists.{Adds, HoldsAt, IsHeld, added, are_below, ascends, by_number, has_entry, has_number, in_order, pair_order}
+use Rattle.named_lists.specs.NamedLists.{named_list_name, list_at, entries_at, with_last}
+use Rattle.named_lists.specs.NumberedLists.{Adds, HoldsAt, IsHeld, added, are_below, ascends, in_number_order, has_entry, has_entry_numbered, in_order, pair_order}
 use Rattle.named_lists.proofs.Apart.{apart_last, has_with, has_without, none_named}
 use Rattle.named_lists.proofs.Ascending.{ascends_last, has_last}
 use Rattle.named_lists.proofs.ByNumber.{has_by_number}
@@ -63,7 +63,7 @@ module _ {E : Type 0} (number : E → ℕ) where
   adds_past set place xs last up below = adds_none set place (added number xs last) (λ wanted. rw (up, below) refl)
 
   pub adds_fallen : (old new : sorted.BTreeSet (ℕ × ℕ)) (place : ℕ) (xs : List E) (last : ℕ) → ascends number xs ≡ true → are_below number xs last ≡ false →
-      Adds old new place (λ wanted. has_number number xs wanted || nat_eq last wanted) → Adds old new place (added number xs last)
+      Adds old new place (λ wanted. has_entry_numbered number xs wanted || nat_eq last wanted) → Adds old new place (added number xs last)
   adds_fallen old new place xs last up below adds = λ p wanted. adds p wanted ∙ rw (up, below) refl
 
   again : (b h k c : Bool) (e : b ≡ true → c ≡ h) → ((b && k) || c) ≡ ((b && (h || k)) || c)
@@ -79,25 +79,25 @@ module _ {E : Type 0} (number : E → ℕ) where
   pub adds_known : (old new : sorted.BTreeSet (ℕ × ℕ)) (place : ℕ) (xs : List E) (last : ℕ) → HoldsAt number old place xs → ascends number xs ≡ false →
       Adds old new place (nat_eq last) → Adds old new place (added number xs last)
   adds_known old new place xs last holds down adds = λ p wanted.
-      adds p wanted ∙ again (nat_eq place p) (has_number number xs wanted) (nat_eq last wanted) (sorted.contains pair_order old (p, wanted))
+      adds p wanted ∙ again (nat_eq place p) (has_entry_numbered number xs wanted) (nat_eq last wanted) (sorted.contains pair_order old (p, wanted))
       (λ e. ap (λ (q : ℕ). sorted.contains pair_order old (q, wanted)) (sym (same_place place p e)) ∙ holds wanted
-      ∙ ap (λ b. not b && has_number number xs wanted) down) ∙ rw down refl
+      ∙ ap (λ b. not b && has_entry_numbered number xs wanted) down) ∙ rw down refl
 
   -- ---- the numbers of entries, one by one
 
   -- those of the rest would bring in all of them
   abbrev pub AddsRest : sorted.BTreeSet (ℕ × ℕ) → sorted.BTreeSet (ℕ × ℕ) → ℕ → List E → List E → Type 0
   AddsRest old now place xs rest = (p wanted : ℕ) →
-      ((nat_eq place p && has_number number rest wanted) || sorted.contains pair_order now (p, wanted)) ≡ ((nat_eq place p && has_number number xs wanted)
+      ((nat_eq place p && has_entry_numbered number rest wanted) || sorted.contains pair_order now (p, wanted)) ≡ ((nat_eq place p && has_entry_numbered number xs wanted)
       || sorted.contains pair_order old (p, wanted))
 
   pub next_added : (old now new : sorted.BTreeSet (ℕ × ℕ)) (place : ℕ) (xs : List E) (i : ℕ) (x : E) → i < length xs → x ≡ get_or xs i x →
       sorted.Updates pair_order now new (place, number x) true → AddsRest old now place xs (drop i xs) → AddsRest old new place xs (drop (i + 1) xs)
   next_added old now new place xs i x lt is updates so_far = λ p wanted.
       let rest = drop (i + 1) xs in
-      ap (λ b. (nat_eq place p && has_number number rest wanted) || b) (adds_one now new place (number x) updates p wanted)
-      ∙ turned (nat_eq place p) (nat_eq (number x) wanted) (has_number number rest wanted) (sorted.contains pair_order now (p, wanted))
-      ∙ sym (ap (λ ys. (nat_eq place p && has_number number ys wanted) || sorted.contains pair_order now (p, wanted)) (from_here xs i x lt is))
+      ap (λ b. (nat_eq place p && has_entry_numbered number rest wanted) || b) (adds_one now new place (number x) updates p wanted)
+      ∙ turned (nat_eq place p) (nat_eq (number x) wanted) (has_entry_numbered number rest wanted) (sorted.contains pair_order now (p, wanted))
+      ∙ sym (ap (λ ys. (nat_eq place p && has_entry_numbered number ys wanted) || sorted.contains pair_order now (p, wanted)) (from_here xs i x lt is))
       ∙ so_far p wanted
     where
       turned : (b k h c : Bool) → ((b && h) || ((b && k) || c)) ≡ ((b && (k || h)) || c)
@@ -110,9 +110,9 @@ module _ {E : Type 0} (number : E → ℕ) where
       from_here ys j y inside same = rw (add-one, drop-cons ys j y inside) (ap (λ z. z ∷ drop (suc j) ys) (sym same))
 
   pub all_added : (old now : sorted.BTreeSet (ℕ × ℕ)) (place : ℕ) (xs : List E) (i : ℕ) → length xs ≤ i → AddsRest old now place xs (drop i xs) →
-      Adds old now place (has_number number xs)
+      Adds old now place (has_entry_numbered number xs)
   all_added old now place xs i past all = λ p wanted.
-      sym (ap (λ ys. (nat_eq place p && has_number number ys wanted) || sorted.contains pair_order now (p, wanted)) (drop-past xs i past)
+      sym (ap (λ ys. (nat_eq place p && has_entry_numbered number ys wanted) || sorted.contains pair_order now (p, wanted)) (drop-past xs i past)
       ∙ nothing (nat_eq place p) (sorted.contains pair_order now (p, wanted))) ∙ all p wanted
     where
       nothing : (b c : Bool) → ((b && false) || c) ≡ c
@@ -144,8 +144,8 @@ module _ {E : Type 0} (number : E → ℕ) where
   holds_grown old new place xs e holds adds = λ wanted.
       adds place wanted ∙ ap (λ b. (b && added number xs (number e) wanted) || sorted.contains pair_order old (place, wanted)) (nat_eq_same place place refl)
       ∙ ap (λ b. added number xs (number e) wanted || b) (holds wanted)
-      ∙ grown (ascends number xs) (are_below number xs (number e)) (has_number number xs wanted) (nat_eq (number e) wanted)
-      ∙ sym (ap (λ b. not b && has_number number (xs ++ e ∷ []) wanted) (ascends_last number xs e)
+      ∙ grown (ascends number xs) (are_below number xs (number e)) (has_entry_numbered number xs wanted) (nat_eq (number e) wanted)
+      ∙ sym (ap (λ b. not b && has_entry_numbered number (xs ++ e ∷ []) wanted) (ascends_last number xs e)
       ∙ ap (λ b. falls xs (number e) && b) (has_last number xs e wanted))
 
   holds_other : (old new : sorted.BTreeSet (ℕ × ℕ)) (place p : ℕ) (xs : List E) (passes : ℕ → Bool) → (p ≡ place → ⊥) → HoldsAt number old p xs →
@@ -163,7 +163,7 @@ module _ {E : Type 0} (number : E → ℕ) where
       let l : NamedList E = with_last e (list_at ls place) in
       let none : NamedList E = record { name = []; entries = [] } in
       record {
-        apart = rw (parts_kept name_of ls place l none lt refl) is.apart;
+        apart = rw (parts_kept named_list_name ls place l none lt refl) is.apart;
         held = λ p. elim (cases_eq p place) [
           | inl same ↦ subst (λ q. HoldsAt number new q (entries_at (set ls place l) q)) (sym same)
               (subst (HoldsAt number new place) (sym (ap (λ (m : NamedList E). m.entries) (get_or-set_same ls place l none lt)))
@@ -182,11 +182,11 @@ module _ {E : Type 0} (number : E → ℕ) where
       holds
   new_at ls l p (inr past) up held holds = λ wanted.
       let none : NamedList E = record { name = []; entries = [] } in
-      holds wanted ∙ ap (λ (m : NamedList E). not (ascends number m.entries) && has_number number m.entries wanted) (get_or_past ls p none past)
+      holds wanted ∙ ap (λ (m : NamedList E). not (ascends number m.entries) && has_entry_numbered number m.entries wanted) (get_or_past ls p none past)
       ∙ sym (elim (cases_eq p (length ls)) [
-        | inl same ↦ ap (λ (m : NamedList E). not (ascends number m.entries) && has_number number m.entries wanted) (get_or_push ls l none p (sym same))
-            ∙ ap (λ b. not b && has_number number l.entries wanted) up
-        | inr other ↦ ap (λ (m : NamedList E). not (ascends number m.entries) && has_number number m.entries wanted)
+        | inl same ↦ ap (λ (m : NamedList E). not (ascends number m.entries) && has_entry_numbered number m.entries wanted) (get_or_push ls l none p (sym same))
+            ∙ ap (λ b. not b && has_entry_numbered number l.entries wanted) up
+        | inr other ↦ ap (λ (m : NamedList E). not (ascends number m.entries) && has_entry_numbered number m.entries wanted)
             (get_or_past (ls ++ l ∷ []) p none (omega (arith, length_push ls l, differs p (length ls) other past)))
       ])
     where
@@ -198,7 +198,7 @@ module _ {E : Type 0} (number : E → ℕ) where
   held_begun held ls name e absent is =
       let l : NamedList E = record { name = name; entries = e ∷ [] } in
       record {
-        apart = rw (map_push name_of ls l) (apart_last (map name_of ls) name (none_named name_of ls name absent) is.apart);
+        apart = rw (map_push named_list_name ls l) (apart_last (map named_list_name ls) name (none_named named_list_name ls name absent) is.apart);
         held = λ p. new_at ls l p (cases_lt p (length ls)) refl held (is.held p);
       }
 
@@ -210,16 +210,16 @@ module _ {E : Type 0} (number : E → ℕ) where
 
   pub has_at : (held : sorted.BTreeSet (ℕ × ℕ)) (ls : List (NamedList E)) (name : List ℕ) (wanted place : ℕ) → IsHeld number held ls →
       position (λ l. bytes_eq l.name name) ls ≡ Some place
-      → has_number number (entries_at ls place) wanted ≡ has_entry number (map (in_order number) ls) name wanted
+      → has_entry_numbered number (entries_at ls place) wanted ≡ has_entry number (map (in_order number) ls) name wanted
   unfolding has_entry
   has_at held ls name wanted place is found =
-      let here : NamedList E → Bool = λ l. has_number number (by_number number l.entries) wanted in
-      sym (has_by_number number (entries_at ls place) wanted) ∙ sym (has_with name_of name here ls place (record { name = []; entries = [] }) is.apart found)
-      ∙ sym (any_map (λ (l : NamedList E). bytes_eq l.name name && has_number number l.entries wanted) (in_order number) ls)
+      let here : NamedList E → Bool = λ l. has_entry_numbered number (in_number_order number l.entries) wanted in
+      sym (has_by_number number (entries_at ls place) wanted) ∙ sym (has_with named_list_name name here ls place (record { name = []; entries = [] }) is.apart found)
+      ∙ sym (any_map (λ (l : NamedList E). bytes_eq l.name name && has_entry_numbered number l.entries wanted) (in_order number) ls)
 
   pub has_nowhere : (ls : List (NamedList E)) (name : List ℕ) (wanted : ℕ) → position (λ l. bytes_eq l.name name) ls ≡ None →
       false ≡ has_entry number (map (in_order number) ls) name wanted
   unfolding has_entry
   has_nowhere ls name wanted none =
-      sym (any_map (λ (l : NamedList E). bytes_eq l.name name && has_number number l.entries wanted) (in_order number) ls
-      ∙ has_without name_of name (λ (l : NamedList E). has_number number (by_number number l.entries) wanted) ls none)
+      sym (any_map (λ (l : NamedList E). bytes_eq l.name name && has_entry_numbered number l.entries wanted) (in_order number) ls
+      ∙ has_without named_list_name name (λ (l : NamedList E). has_entry_numbered number (in_number_order number l.entries) wanted) ls none)

@@ -2,8 +2,8 @@
 use Rattle.std.specs.Prelude.{ℕ, List, [], ◌∷◌, ◌++◌, bytes_eq, slice_index_or, if◌then◌else◌}
 use Rattle.named_lists.specs.declared.named.NamedList.{NamedList}
 
-abbrev pub name_of : {E : Type 0} → NamedList E → List ℕ
-name_of l = l.name
+abbrev pub named_list_name : {E : Type 0} → NamedList E → List ℕ
+named_list_name l = l.name
 
 -- the list at a place
 abbrev pub list_at : {E : Type 0} → List (NamedList E) → ℕ → NamedList E

@@ -36,13 +36,13 @@ impl<E: Drop> Model for NamedLists<E> {
     ghost use Rattle.std.specs.Prelude.{List};
     ghost use Rattle.named_lists.specs.declared.named.NamedList.{NamedList};
     ghost use Rattle.numbered_names.specs.NamePlaces.{ArePlacesOf};
-    ghost use Rattle.named_lists.specs.NamedLists.{name_of};
+    ghost use Rattle.named_lists.specs.NamedLists.{named_list_name};
 
     ghost Value = { List (NamedList E) };
 
     ghost view = { λ a. a.lists.items };
 
-    ghost invariant = { λ a. ArePlacesOf name_of a.places a.lists.items };
+    ghost invariant = { λ a. ArePlacesOf named_list_name a.places a.lists.items };
 }
 
 impl<E: Drop> NamedLists<E> {

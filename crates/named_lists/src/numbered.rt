@@ -2,7 +2,7 @@
 
 ghost use Rattle.std.specs.Prelude.{◌≡◌, ◌++◌, ◌∷◌, [], ℕ, IfOk, OnOk, OnErr, map};
 ghost use Rattle.named_lists.specs.NamedLists.{in_named};
-ghost use Rattle.named_lists.specs.NumberedLists.{IsHeld, by_number, in_order, put, has_entry};
+ghost use Rattle.named_lists.specs.NumberedLists.{IsHeld, in_number_order, in_order, put, has_entry};
 
 use crate::named::{NamedList, NamedLists};
 use crate::numbers::{has_number, hold};
@@ -83,7 +83,7 @@ fn put_last<E: Numbered>(
 
 // The entries by number, those of one number as they stand.
 fn by_number<E: Numbered>(entries: List<E>) -> Result<List<E>, NoMemory>
-    ensures { IfOk result (λ all. all ≡ by_number E.number entries) }
+    ensures { IfOk result (λ all. all ≡ in_number_order E.number entries) }
 {
     let mut entries = entries.into_vec();
     if !entries.is_sorted_by_key(|entry| entry.number()) {

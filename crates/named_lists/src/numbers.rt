@@ -1,7 +1,7 @@
 //! The numbers of entries that do not ascend.
 
 ghost use Rattle.std.specs.Prelude.{◌≡◌, true, not, OnOk};
-ghost use Rattle.named_lists.specs.NumberedLists.{ascends, are_below, has_number, HoldsAt, Adds, added};
+ghost use Rattle.named_lists.specs.NumberedLists.{ascends, are_below, has_entry_numbered, HoldsAt, Adds, added};
 
 use crate::numbered::Numbered;
 use base_kit::NoMemory;
@@ -42,7 +42,7 @@ pub(crate) fn has_number<E: Numbered>(
     number: u32,
 ) -> bool
     requires { HoldsAt E.number numbers.now place entries.now }
-    ensures { result ≡ has_number E.number entries.now number }
+    ensures { result ≡ has_entry_numbered E.number entries.now number }
 {
     if is_held(numbers, place, entries) {
         return numbers.contains(&(place, number));
@@ -59,7 +59,7 @@ fn hold_all<E: Numbered>(
     place: usize,
     entries: &[E],
 ) -> Result<(), NoMemory>
-    ensures { OnOk result (Adds numbers.old numbers.new place (has_number E.number entries.now)) }
+    ensures { OnOk result (Adds numbers.old numbers.new place (has_entry_numbered E.number entries.now)) }
 {
     for entry in entries {
         numbers.insert((place, entry.number()))?;

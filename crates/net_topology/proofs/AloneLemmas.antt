@@ -10,7 +10,7 @@ use Rattle.cfg_ast.specs.declared.topology.Unmatched.{Unmatched}
 use Rattle.cfg_ast.specs.meaning.Topology.{Place, places, places_on, neighbors_of, has_number, share_subnet, are_peers, unmatched_at, unmatched_of}
 use Rattle.cfg_check.specs.Faultless.{IsFaultless}
 use Rattle.net_topology.specs.declared.peers.Peer.{Peer}
-use Rattle.net_topology.specs.Peers.{peer_of, peers}
+use Rattle.net_topology.specs.Peers.{peer_at_place, peers}
 use Rattle.net_topology.specs.Ups.{ups_of}
 use Rattle.net_topology.specs.Alone.{faces, has_session, unmatched_if, unmatched_spot}
 use Rattle.net_topology.proofs.Apart.{AreApart, ups_apart}
@@ -50,15 +50,15 @@ shut_right u v false true c d share e = and_false (not (nat_eq u v))
 shut_right u v false false false d share e = and_false (not (nat_eq u v))
 shut_right u v false false true d share e = cc
 
-no_left : (p q : Place Neighbor) → peer_of p ≡ None → are_peers p q ≡ false
+no_left : (p q : Place Neighbor) → peer_at_place p ≡ None → are_peers p q ≡ false
 no_left p q e = shut_left p.router q.router p.value.shut q.value.shut (has_number q.owner p.value.remote) (has_number p.owner q.value.remote)
     (share_subnet p.owner q.value.addr q.owner p.value.addr) (no_peer_in p p.owner.bgp q.value.remote e)
 
-no_right : (p q : Place Neighbor) → peer_of q ≡ None → are_peers p q ≡ false
+no_right : (p q : Place Neighbor) → peer_at_place q ≡ None → are_peers p q ≡ false
 no_right p q e = shut_right p.router q.router p.value.shut q.value.shut (has_number q.owner p.value.remote) (has_number p.owner q.value.remote)
     (share_subnet p.owner q.value.addr q.owner p.value.addr) (no_peer_in q q.owner.bgp p.value.remote e)
 
-none_peers : (p : Place Neighbor) (qs : List (Place Neighbor)) → peer_of p ≡ None → list_any (are_peers p) qs ≡ false
+none_peers : (p : Place Neighbor) (qs : List (Place Neighbor)) → peer_at_place p ≡ None → list_any (are_peers p) qs ≡ false
 none_peers p [] e = refl
 none_peers p (q ∷ qs) e = ap (λ (b : Bool). b || list_any (are_peers p) qs) (no_left p q e) ∙ none_peers p qs e
 
@@ -68,7 +68,7 @@ kept f t a true rest all e g = ap (λ (x : Bool). x || all) e ∙ ap (λ (x : Bo
 kept f t a false rest all e g = ap (λ (x : Bool). x || all) e ∙ g
 
 one_more : (routers : List Router) (p q : Place Neighbor) (s : Peer) (o : Option Peer) (qs : List (Place Neighbor)) (ss : List Peer) →
-    AreApart (ups_of routers) → IsPlace routers p → IsPlace routers q → peer_of p ≡ Some s → peer_of q ≡ o
+    AreApart (ups_of routers) → IsPlace routers p → IsPlace routers q → peer_at_place p ≡ Some s → peer_at_place q ≡ o
     → list_any (are_peers p) qs ≡ list_any (faces s) (filter (is_reached routers s) ss) →
     list_any (are_peers p) (q ∷ qs) ≡ list_any (faces s) (filter (is_reached routers s) (cons_option o ss))
 one_more routers p q s None qs ss apart g h e f ih = ap (λ (b : Bool). b || list_any (are_peers p) qs) (no_right p q f) ∙ ih
@@ -77,13 +77,13 @@ one_more routers p q s (Some t) qs ss apart g h e f ih =
     (both routers p q s t apart g h (is_peer p s e) (is_peer q t f)) ih
 
 any_peer : (routers : List Router) (p : Place Neighbor) (s : Peer) (qs : List (Place Neighbor)) → AreApart (ups_of routers) → IsPlace routers p →
-    AreGood (IsPlace routers) qs → peer_of p ≡ Some s → list_any (are_peers p) qs ≡ list_any (faces s) (filter (is_reached routers s) (filter_map peer_of qs))
+    AreGood (IsPlace routers) qs → peer_at_place p ≡ Some s → list_any (are_peers p) qs ≡ list_any (faces s) (filter (is_reached routers s) (filter_map peer_at_place qs))
 any_peer routers p s [] apart g all e = refl
 any_peer routers p s (q ∷ qs) apart g all e =
-    one_more routers p q s (peer_of q) qs (filter_map peer_of qs) apart g all.0 e refl (any_peer routers p s qs apart g all.1 e)
+    one_more routers p q s (peer_at_place q) qs (filter_map peer_at_place qs) apart g all.0 e refl (any_peer routers p s qs apart g all.1 e)
 
 by_peer : (routers : List Router) (p : Place Neighbor) (o : Option Peer) (qs : List (Place Neighbor)) → AreApart (ups_of routers) → IsPlace routers p →
-    AreGood (IsPlace routers) qs → peer_of p ≡ o → list_any (are_peers p) qs ≡ has_session (ups_of routers) (filter_map peer_of qs) o
+    AreGood (IsPlace routers) qs → peer_at_place p ≡ o → list_any (are_peers p) qs ≡ has_session (ups_of routers) (filter_map peer_at_place qs) o
 by_peer routers p None qs apart g all e = none_peers p qs e
 by_peer routers p (Some s) qs apart g all e = any_peer routers p s qs apart g all e
 
@@ -93,13 +93,13 @@ listed true p rest more e = e
 listed false p rest more e = ap (λ (l : List Unmatched). unmatched_at p ∷ l) e
 
 all_listed : (routers : List Router) (qs ps : List (Place Neighbor)) → AreApart (ups_of routers) → AreGood (IsPlace routers) qs → AreGood (IsPlace routers) ps
-    → map unmatched_at (filter (λ p. not (list_any (are_peers p) qs)) ps) ≡ filter_map (unmatched_spot (ups_of routers) (filter_map peer_of qs)) ps
+    → map unmatched_at (filter (λ p. not (list_any (are_peers p) qs)) ps) ≡ filter_map (unmatched_spot (ups_of routers) (filter_map peer_at_place qs)) ps
 all_listed routers qs [] apart all these = refl
 all_listed routers qs (p ∷ ps) apart all these =
     listed (list_any (are_peers p) qs) p (filter (λ p. not (list_any (are_peers p) qs)) ps)
-    (filter_map (unmatched_spot (ups_of routers) (filter_map peer_of qs)) ps) (all_listed routers qs ps apart all these.1)
-    ∙ ap (λ (b : Bool). cons_option (unmatched_if b (unmatched_at p)) (filter_map (unmatched_spot (ups_of routers) (filter_map peer_of qs)) ps))
-    (by_peer routers p (peer_of p) qs apart these.0 all refl)
+    (filter_map (unmatched_spot (ups_of routers) (filter_map peer_at_place qs)) ps) (all_listed routers qs ps apart all these.1)
+    ∙ ap (λ (b : Bool). cons_option (unmatched_if b (unmatched_at p)) (filter_map (unmatched_spot (ups_of routers) (filter_map peer_at_place qs)) ps))
+    (by_peer routers p (peer_at_place p) qs apart these.0 all refl)
 
 pub unmatched_by_index : (n : Network) → IsFaultless n →
     unmatched_of n ≡ filter_map (unmatched_spot (ups_of n.routers) (peers n)) (flat_map (places_on neighbors_of) (enumerate_from 0 n.routers))

@@ -13,7 +13,7 @@ use Rattle.cfg_ast.specs.meaning.RouterFaults.{up_addresses_of}
 use Rattle.cfg_ast.specs.meaning.Topology.{same_subnet, up_addresses_at, share_subnet}
 use Rattle.net_topology.proofs.Apart.{AreApart}
 use Rattle.net_topology.proofs.UpFacts.{IsUpOf, up_in, in_ups}
-use Rattle.net_topology.specs.Peers.{beside, end_from, other_end, reaches}
+use Rattle.net_topology.specs.Peers.{beside, end_from, named_end, reaches}
 use Rattle.net_topology.specs.Ups.{up_at, ups_of, addr_of, attachment_of, same_attachment, last_where, last_with}
 use Rattle.net_topology.specs.declared.peers.Peer.{Peer}
 use Rattle.net_topology.specs.declared.ups.Attachment.{Attachment}
@@ -146,7 +146,7 @@ found_near ups near at apart h e = last_is (λ (x : Up). same_attachment at x.at
     (λ z k f. apart.attachments z near k h (sym (one_attachment at z.at f) ∙ sym e))
 
 end_at : (ups : List Up) (s : Peer) (near far : Up) → AreApart ups → In ups near → In ups far → far.addr ≡ s.addr → near.at ≡ beside s.router far →
-    other_end ups s ≡ Some (far.at.router, near.addr)
+    named_end ups s ≡ Some (far.at.router, near.addr)
 end_at ups s near far apart near_in far_in e f =
     ap (option_and_then (end_from ups s.router)) (found_far ups far s.addr apart far_in e)
     ∙ ap (option_map (λ (x : Up). (far.at.router, x.addr))) (found_near ups near (beside s.router far) apart near_in f)
@@ -155,7 +155,7 @@ pub in_subnet : (r : ℕ) (a b : Address) → same_subnet a b ≡ true → (up_a
 in_subnet r a b e = one_attachment (up_at r a).at (beside r (up_at r b)) (both_true (nat_eq r r) (same_subnet a b) (same_number r r refl) e)
 
 reached : (routers : List Router) (s t : Peer) (u v : Router) → AreApart (ups_of routers) → slice_get routers s.router ≡ Some u →
-    slice_get routers t.router ≡ Some v → AreJoined u v t.addr s.addr → reaches (other_end (ups_of routers) s) t ≡ true
+    slice_get routers t.router ≡ Some v → AreJoined u v t.addr s.addr → reaches (named_end (ups_of routers) s) t ≡ true
 reached routers s t u v apart at_s at_t joined =
     let near = up_at s.router joined.near in
     let far = up_at t.router joined.far in
@@ -233,9 +233,9 @@ joined_by routers s t u v at_s at_t end =
 
 -- two peers have addresses of each other's routers in one subnet if each stands at the other's end
 pub share_is : (routers : List Router) (s t : Peer) (u v : Router) → AreApart (ups_of routers) → slice_get routers s.router ≡ Some u →
-    slice_get routers t.router ≡ Some v → share_subnet u t.addr v s.addr ≡ reaches (other_end (ups_of routers) s) t
+    slice_get routers t.router ≡ Some v → share_subnet u t.addr v s.addr ≡ reaches (named_end (ups_of routers) s) t
 share_is routers s t u v apart at_s at_t =
-    same_truth (share_subnet u t.addr v s.addr) (reaches (other_end (ups_of routers) s) t)
+    same_truth (share_subnet u t.addr v s.addr) (reaches (named_end (ups_of routers) s) t)
     (λ e. reached routers s t u v apart at_s at_t (joined_if u v t.addr s.addr e))
     (λ e. share_if u v t.addr s.addr (joined_by routers s t u v at_s at_t
     (end_of (ups_of routers) s t (last_with nat_eq addr_of (ups_of routers) s.addr) refl e)))

@@ -7,7 +7,7 @@ use Rattle.cfg_ast.specs.declared.network.Network.{Network}
 use Rattle.cfg_ast.specs.declared.network.Router.{Router}
 use Rattle.cfg_ast.specs.meaning.Topology.{Place, places, places_on, place_on, interfaces_of, neighbors_of}
 use Rattle.net_topology.specs.Spots.{spot_of, spots}
-use Rattle.net_topology.specs.Peers.{peer_of, peers}
+use Rattle.net_topology.specs.Peers.{peer_at_place, peers}
 
 -- one router more
 pub router_turn : {X S : Type 0} (items : Router → List X) (spot : Place X → Option S) (found more all : List S) (rs : List Router) (r : ℕ) (x : Router) →
@@ -29,6 +29,6 @@ pub spots_first : (n : Network) → filter_map spot_of (flat_map (places_on inte
 unfolding spots places
 spots_first n = refl
 
-pub peers_first : (n : Network) → filter_map peer_of (flat_map (places_on neighbors_of) (enumerate_from 0 n.routers)) ≡ peers n
+pub peers_first : (n : Network) → filter_map peer_at_place (flat_map (places_on neighbors_of) (enumerate_from 0 n.routers)) ≡ peers n
 unfolding peers places
 peers_first n = refl

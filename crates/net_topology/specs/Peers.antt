@@ -20,11 +20,11 @@ abbrev pub peer_on : ℕ → ℕ → Router → Neighbor → Option Peer
 peer_on r i owner x = option_and_then (peer_of_process r i x) owner.bgp
 
 -- the peer at a place, if its neighbour is not shut down
-abbrev pub peer_of : Place Neighbor → Option Peer
-peer_of p = peer_on p.router p.item p.owner p.value
+abbrev pub peer_at_place : Place Neighbor → Option Peer
+peer_at_place p = peer_on p.router p.item p.owner p.value
 
 unfoldable pub peers : Network → List Peer
-peers n = filter_map peer_of (places neighbors_of n)
+peers n = filter_map peer_at_place (places neighbors_of n)
 
 -- the router of a peer, and the address that it names
 abbrev pub own_end : Peer → ℕ × ℕ
@@ -39,8 +39,8 @@ end_from ups router far = option_map (λ (near : Up). (far.at.router, near.addr)
 
 -- the router that has the address that a peer names, and the address of the peer's own router in the
 -- same subnet, which the other end of a session must name
-abbrev pub other_end : List Up → Peer → Option (ℕ × ℕ)
-other_end ups s = option_and_then (end_from ups s.router) (last_with nat_eq addr_of ups s.addr)
+abbrev pub named_end : List Up → Peer → Option (ℕ × ℕ)
+named_end ups s = option_and_then (end_from ups s.router) (last_with nat_eq addr_of ups s.addr)
 
 abbrev pub reaches : Option (ℕ × ℕ) → Peer → Bool
 reaches None t = false
@@ -58,4 +58,4 @@ peer_link s t = record { low = s.router; high = t.router; low_item = s.item; hig
 
 -- the sessions of a peer with those of later routers
 abbrev pub sessions_in : List Up → List Peer → Peer → List Link
-sessions_in ups all s = map (peer_link s) (filter (is_later s) (filter (reaches (other_end ups s)) all))
+sessions_in ups all s = map (peer_link s) (filter (is_later s) (filter (reaches (named_end ups s)) all))

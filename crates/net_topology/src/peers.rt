@@ -5,7 +5,7 @@ ghost use Rattle.std.specs.List.{enumerate_from};
 ghost use Rattle.cfg_ast.specs.meaning.Topology.{place_on, neighbors_of};
 ghost use Rattle.buckets.specs.Buckets.{IsIndex};
 ghost use Rattle.net_topology.specs.FewPlaces.{HasFewItems, HasFewPlaces};
-ghost use Rattle.net_topology.specs.Peers.{peer_on, peer_of, peers, own_end, name_each_other, reaches};
+ghost use Rattle.net_topology.specs.Peers.{peer_on, peer_at_place, peers, own_end, name_each_other, reaches};
 
 use crate::places::place;
 use base_kit::NoMemory;
@@ -67,7 +67,7 @@ pub(crate) fn neighbors(owner: &Router) -> &[Neighbor]
 
 fn push_peers(found: &mut Vec<Peer>, router: u32, owner: &Router) -> Result<(), NoMemory>
     requires { HasFewItems owner.now }
-    ensures { OnOk result (found.new.items ≡ found.old.items ++ filter_map peer_of (map (place_on router owner.now) (enumerate_from 0 (neighbors_of owner.now)))) }
+    ensures { OnOk result (found.new.items ≡ found.old.items ++ filter_map peer_at_place (map (place_on router owner.now) (enumerate_from 0 (neighbors_of owner.now)))) }
 {
     let neighbors = neighbors(owner);
     for i in 0..neighbors.len() {

@@ -2,7 +2,7 @@
 
 ghost use Rattle.std.specs.Prelude.{◌≡◌, ◌<◌, ◌^◌, ◌++◌, length, IfOk, OnOk, nat_eq};
 ghost use Rattle.net_topology.specs.Ups.{up_at, up_on, ups_on, ups_of, addr_of, attachment_of, same_attachment, IsLookup};
-ghost use Rattle.net_topology.specs.Peers.{other_end};
+ghost use Rattle.net_topology.specs.Peers.{named_end};
 
 use crate::peers::Peer;
 use crate::places::place;
@@ -120,7 +120,7 @@ impl Ups {
     /// The router and the address of the neighbour line at which a session of the peer ends: that router
     /// has the address that the peer names, and the peer's own router has this one in the same subnet.
     pub(crate) fn other_end(&self, p: &Peer) -> Option<(u32, u32)>
-        ensures { result ≡ other_end self.now.all.items p.now }
+        ensures { result ≡ named_end self.now.all.items p.now }
     {
         let far = self.by_addr.get(&p.addr).copied()?;
         let near = self.by_attachment.get(&Attachment {

@@ -21,7 +21,7 @@ use Rattle.policy_dd.specs.Edge.{keys_of, by_number, carried_by_rest, is_carried
 use Rattle.policy_dd.specs.Deletion.{put_by_change, leaves_unnamed}
 use Rattle.policy_dd.specs.Matches.{line_by, list_by, lists_by, entry_by, first_of, decided}
 use Rattle.policy_dd.specs.MapRun.{permits_it, puts, leaves_it, leaves_rest}
-use Rattle.policy_dd.specs.Import.{others_after, there_sent, others_sent, second_deciding, accepts, others_kept, carries, GivenBy, IsEntryFit, AreFit}
+use Rattle.policy_dd.specs.Import.{others_after, there_sent, others_sent, second_deciding, both_permit, others_kept, there_after_both, GivenBy, IsEntryFit, AreFit}
 use Rattle.policy_dd.specs.Built.{IsBuilt}
 use Rattle.policy_dd.proofs.CaseLemmas.{case_absent}
 use Rattle.policy_dd.proofs.BridgeLemmas.{all_agree}
@@ -87,7 +87,7 @@ all_three true false c e = absurd cc
 all_three false b c e = absurd cc
 
 kept_accepts : (universe : List ℕ) (out : List PlainEntry) (sends : Bool) (into : List PlainEntry) (there : ℕ → Bool) →
-    others_kept universe out sends into there true ≡ true → accepts universe out sends into there true ≡ true
+    others_kept universe out sends into there true ≡ true → both_permit universe out sends into there true ≡ true
 kept_accepts universe out sends into there e =
     let both = all_three sends (decided leaves_rest (first_of universe out there true))
     (decided leaves_rest (second_deciding universe out sends into there true)) e in
@@ -178,7 +178,7 @@ module _ (shown : Shown) (edge : EdgeFn) (out : Plain) (sends : Bool) (into : Pl
 
   -- communities outside the universe
   carried_outside : (set : List ℕ) (c : ℕ) → has shown.universe c ≡ false → is_carried shown edge set c ≡ has set c
-      && (accepts shown.universe out.entries sends into.entries (has set) (has_others shown.universe set)
+      && (both_permit shown.universe out.entries sends into.entries (has set) (has_others shown.universe set)
       && others_kept shown.universe out.entries sends into.entries (has set) true)
   carried_outside set c none = case_absent shown set (by_number edge.outs) c (carried_by_rest shown edge.rest c set) (outside_key c none)
       ∙ ap (λ b. has set c && b) (built.rest set)
@@ -202,8 +202,8 @@ module _ (shown : Shown) (edge : EdgeFn) (out : Plain) (sends : Bool) (into : Pl
 
   -- an outside community of an accepted import
   outside_given : (set : List ℕ) (c : ℕ) → has shown.universe c ≡ false →
-      accepts shown.universe out.entries sends into.entries (has set) (has_others shown.universe set) ≡ true →
-      carries shown.universe out.entries sends into.entries (has set) (has_others shown.universe set) c ≡ is_carried shown edge set c
+      both_permit shown.universe out.entries sends into.entries (has set) (has_others shown.universe set) ≡ true →
+      there_after_both shown.universe out.entries sends into.entries (has set) (has_others shown.universe set) c ≡ is_carried shown edge set c
   outside_given set c none ok =
       let one : Option PlainEntry = first_of shown.universe out.entries (has set) (has_others shown.universe set) in
       let two : Option PlainEntry = second_deciding shown.universe out.entries sends into.entries (has set) (has_others shown.universe set) in
@@ -220,8 +220,8 @@ module _ (shown : Shown) (edge : EdgeFn) (out : Plain) (sends : Bool) (into : Pl
           (first_of shown.universe out.entries (has set) (has_others shown.universe set)) →
           decided (leaves_it c) (second_deciding shown.universe out.entries sends into.entries (has set) (has_others shown.universe set)) ≡ decided leaves_rest
           (second_deciding shown.universe out.entries sends into.entries (has set) (has_others shown.universe set)) →
-          carries shown.universe out.entries sends into.entries (has set) (has_others shown.universe set) c ≡ has set c
-          && (accepts shown.universe out.entries sends into.entries (has set) (has_others shown.universe set)
+          there_after_both shown.universe out.entries sends into.entries (has set) (has_others shown.universe set) c ≡ has set c
+          && (both_permit shown.universe out.entries sends into.entries (has set) (has_others shown.universe set)
           && others_kept shown.universe out.entries sends into.entries (has set) true)
       by true e p1 p2 l1 l2 =
           let o = others_of shown.universe set c e none in
@@ -229,19 +229,19 @@ module _ (shown : Shown) (edge : EdgeFn) (out : Plain) (sends : Bool) (into : Pl
           outside_there sends (has set c) (has_others shown.universe set)
           (decided leaves_rest (first_of shown.universe out.entries (has set) (has_others shown.universe set)))
           (decided leaves_rest (second_deciding shown.universe out.entries sends into.entries (has set) (has_others shown.universe set)))
-          (accepts shown.universe out.entries sends into.entries (has set) (has_others shown.universe set))
+          (both_permit shown.universe out.entries sends into.entries (has set) (has_others shown.universe set))
           (decided (puts c) (first_of shown.universe out.entries (has set) (has_others shown.universe set)))
           (decided (puts c) (second_deciding shown.universe out.entries sends into.entries (has set) (has_others shown.universe set)))
           (decided (leaves_it c) (first_of shown.universe out.entries (has set) (has_others shown.universe set)))
           (decided (leaves_it c) (second_deciding shown.universe out.entries sends into.entries (has set) (has_others shown.universe set))) p1 p2 l1 l2 e o
           ok
-          ∙ ap (λ b. has set c && (accepts shown.universe out.entries sends into.entries (has set) (has_others shown.universe set) && b)) (sym k)
+          ∙ ap (λ b. has set c && (both_permit shown.universe out.entries sends into.entries (has set) (has_others shown.universe set) && b)) (sym k)
       by false e p1 p2 l1 l2 =
           outside_missing sends (has set c) (decided (leaves_it c) (first_of shown.universe out.entries (has set) (has_others shown.universe set)))
           (decided (leaves_it c) (second_deciding shown.universe out.entries sends into.entries (has set) (has_others shown.universe set)))
           (decided (puts c) (first_of shown.universe out.entries (has set) (has_others shown.universe set)))
           (decided (puts c) (second_deciding shown.universe out.entries sends into.entries (has set) (has_others shown.universe set)))
-          (accepts shown.universe out.entries sends into.entries (has set) (has_others shown.universe set)
+          (both_permit shown.universe out.entries sends into.entries (has set) (has_others shown.universe set)
           && others_kept shown.universe out.entries sends into.entries (has set) true) p1 p2 e
 
   to_import : (set : List ℕ) (r : Option Imported) →
@@ -249,7 +249,7 @@ module _ (shown : Shown) (edge : EdgeFn) (out : Plain) (sends : Bool) (into : Pl
       (second_deciding shown.universe out.entries sends into.entries (has set) (has_others shown.universe set)) (has set) r → ImportIs shown edge set r
   to_import set None given = built.permit set ∙ given
   to_import set (Some i) given =
-      let ok : accepts shown.universe out.entries sends into.entries (has set) (has_others shown.universe set) ≡ true = rw (given.first, given.second) refl in
+      let ok : both_permit shown.universe out.entries sends into.entries (has set) (has_others shown.universe set) ≡ true = rw (given.first, given.second) refl in
       record {
         permit = built.permit set ∙ ok;
         lp = built.lps set i.lp ∙ rw (given.first, given.lp) refl;
@@ -259,10 +259,10 @@ module _ (shown : Shown) (edge : EdgeFn) (out : Plain) (sends : Bool) (into : Pl
       }
     where
       by : (b : Bool) (c : ℕ) → has shown.universe c ≡ b →
-          accepts shown.universe out.entries sends into.entries (has set) (has_others shown.universe set) ≡ true →
-          carries shown.universe out.entries sends into.entries (has set) (has_others shown.universe set) c ≡ is_carried shown edge set c
+          both_permit shown.universe out.entries sends into.entries (has set) (has_others shown.universe set) ≡ true →
+          there_after_both shown.universe out.entries sends into.entries (has set) (has_others shown.universe set) c ≡ is_carried shown edge set c
       by true c u ok = sym (built.outs set c u
-          ∙ ap (λ b. b && carries shown.universe out.entries sends into.entries (has set) (has_others shown.universe set) c) ok)
+          ∙ ap (λ b. b && there_after_both shown.universe out.entries sends into.entries (has set) (has_others shown.universe set) c) ok)
       by false c u ok = outside_given set c u ok
 
   rest_form : (set : List ℕ) (outside : ℕ) → has shown.universe outside ≡ false → value_of shown set edge.rest ≡ value_of shown set edge.permit
@@ -272,9 +272,9 @@ module _ (shown : Shown) (edge : EdgeFn) (out : Plain) (sends : Bool) (into : Pl
       let o : has_others shown.universe more ≡ true = others_of shown.universe more outside (with_outside_has set outside) none in
       let k = kept_agree shown.universe (has more) (has set) true out.entries sends into.entries (with_outside_same shown.universe set outside none) fit fit' in
       let r : value_of shown more edge.rest ≡ others_kept shown.universe out.entries sends into.entries (has more) true =
-      built.rest more ∙ ap (λ b. accepts shown.universe out.entries sends into.entries (has more) b
+      built.rest more ∙ ap (λ b. both_permit shown.universe out.entries sends into.entries (has more) b
       && others_kept shown.universe out.entries sends into.entries (has more) true) o
-      ∙ implied_and (accepts shown.universe out.entries sends into.entries (has more) true)
+      ∙ implied_and (both_permit shown.universe out.entries sends into.entries (has more) true)
       (others_kept shown.universe out.entries sends into.entries (has more) true) (kept_accepts shown.universe out.entries sends into.entries (has more)) in
       built.rest set ∙ ap (λ b. b && others_kept shown.universe out.entries sends into.entries (has set) true) (sym (built.permit set))
       ∙ ap (λ b. value_of shown set edge.permit && b) (sym (r ∙ k))
@@ -283,7 +283,7 @@ module _ (shown : Shown) (edge : EdgeFn) (out : Plain) (sends : Bool) (into : Pl
   carried_denied set c denied = by (has shown.universe c) refl
     where
       by : (b : Bool) → has shown.universe c ≡ b → is_carried shown edge set c ≡ false
-      by true u = built.outs set c u ∙ ap (λ b. b && carries shown.universe out.entries sends into.entries (has set) (has_others shown.universe set) c)
+      by true u = built.outs set c u ∙ ap (λ b. b && there_after_both shown.universe out.entries sends into.entries (has set) (has_others shown.universe set) c)
           (sym (built.permit set) ∙ denied)
       by false u = carried_outside set c u ∙ ap (λ b. has set c && (b && others_kept shown.universe out.entries sends into.entries (has set) true))
           (sym (built.permit set) ∙ denied) ∙ and_no (has set c)

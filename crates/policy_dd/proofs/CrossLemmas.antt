@@ -15,7 +15,7 @@ use Rattle.policy_dd.specs.Deletion.{leaves, leaves_unnamed}
 use Rattle.policy_dd.specs.Matches.{AreNodesInside, has_in, first_of, decided}
 use Rattle.policy_dd.specs.MapRun.{permits_it, puts, leaves_it, leaves_rest, is_odd, prefers, adds_it, deciding, IsMapFn}
 use Rattle.policy_dd.specs.After.{stays_in, carries_on, IsAfter, IsSent}
-use Rattle.policy_dd.specs.Import.{there_after, there_sent, others_sent, second_deciding, accepts, others_kept}
+use Rattle.policy_dd.specs.Import.{there_after, there_sent, others_sent, second_deciding, both_permit, others_kept}
 use Rattle.policy_dd.specs.Built.{IsCrossed, IsPutTogether, IsBuilt}
 use Rattle.policy_dd.proofs.MatchLemmas.{has_in_kept, inside_kept}
 use Rattle.policy_dd.proofs.RunLemmas.{map_inside_kept}
@@ -160,7 +160,7 @@ pub built_from : (mid new : Shown) (out : List PlainEntry) (sends : Bool) (into 
     IsBuilt new edge out sends into
 built_from mid new out sends into seen beyond edge is beyond_is joined =
     let both : (set : List ℕ) → value_of mid set seen.first.permit
-    && value_of mid set seen.second.permit ≡ accepts new.universe out sends into (has set) (has_others new.universe set) = λ set.
+    && value_of mid set seen.second.permit ≡ both_permit new.universe out sends into (has set) (has_others new.universe set) = λ set.
     ap (λ b. b && value_of mid set seen.second.permit) (is.first_permit set)
     ∙ ap (λ b. decided permits_it (first_of new.universe out (has set) (has_others new.universe set)) && b) (is.second_permit set) in
     record {
@@ -178,10 +178,10 @@ built_from mid new out sends into seen beyond edge is beyond_is joined =
           ∙ ap (λ b. b && value_of mid set seen.second.permit) (is.first_adds.value set k)
           ∙ ap (λ b. decided (adds_it k) (first_of new.universe out (has set) (has_others new.universe set)) && b) (is.second_permit set);
       rest = λ set. joined.rest set ∙ ap (λ b. b && value_of mid set beyond) (both set)
-          ∙ ap (λ b. accepts new.universe out sends into (has set) (has_others new.universe set) && b) (beyond_is set);
+          ∙ ap (λ b. both_permit new.universe out sends into (has set) (has_others new.universe set) && b) (beyond_is set);
       outs = λ set c known.
           joined.outs set c known ∙ ap (λ b. b && has_in mid seen.end set c) (both set)
-          ∙ ap (λ b. accepts new.universe out sends into (has set) (has_others new.universe set) && b) (is.there_is set c);
+          ∙ ap (λ b. both_permit new.universe out sends into (has set) (has_others new.universe set) && b) (is.there_is set c);
       lps_cases = joined.lps_cases;
       adds_cases = joined.adds_cases;
       outs_cases = joined.outs_cases;

@@ -10,7 +10,7 @@ use Rattle.dd_core.specs.Sets.{Shown, value_of, Grows, Means, IsIteOfSets}
 use Rattle.dd_core.proofs.ShownLemmas.{value_of_kept, grows_inside, means_kept}
 use Rattle.policy_dd.specs.declared.matches.Carried.{Carried}
 use Rattle.policy_dd.specs.declared.matches.Decision.{Decision}
-use Rattle.policy_dd.specs.Matches.{has_in, AreNodesInside, plain_by, IsDecision, IsInside, IsFirstDecision}
+use Rattle.policy_dd.specs.Matches.{has_in, AreNodesInside, plain_by, IsDecision, IsDecisionInside, IsFirstDecision}
 use Rattle.policy_dd.proofs.MatchLemmas.{there_kept}
 
 pub first_line_same : (h h' : CommunityLine → Bool) (lines : List CommunityLine) → ((line : CommunityLine) → h line ≡ h' line) →
@@ -50,15 +50,15 @@ decides_append h [] ys = refl
 decides_append h (x ∷ xs) ys = decide_cases (h x) (list_any h xs) x.permit (first_line_decides h (xs ++ ys)) (first_line_decides h xs) (first_line_decides h ys)
     (decides_append h xs ys)
 
-pub decision_inside : (old new : Shown) (carried : Carried) (lines : List CommunityLine) (d : Decision) → IsDecision old new carried lines d → IsInside new d
+pub decision_inside : (old new : Shown) (carried : Carried) (lines : List CommunityLine) (d : Decision) → IsDecision old new carried lines d → IsDecisionInside new d
 decision_inside old new carried lines d is = record { holds = is.holds.inside; permits = is.permits.inside }
 
-pub inside_later : (old new : Shown) (d : Decision) → Grows old new → IsInside old d → IsInside new d
+pub inside_later : (old new : Shown) (d : Decision) → Grows old new → IsDecisionInside old d → IsDecisionInside new d
 inside_later old new d g i = record { holds = grows_inside old new d.holds g i.holds; permits = grows_inside old new d.permits g i.permits }
 
 -- the first decides where it holds
-pub first_decision : (old mid new : Shown) (first last : Decision) (holds permits : ℕ) → Grows old mid → Grows mid new → IsInside old first →
-    IsInside old last → Means mid holds (λ set. value_of old set first.holds || value_of old set last.holds) →
+pub first_decision : (old mid new : Shown) (first last : Decision) (holds permits : ℕ) → Grows old mid → Grows mid new → IsDecisionInside old first →
+    IsDecisionInside old last → Means mid holds (λ set. value_of old set first.holds || value_of old set last.holds) →
     IsIteOfSets mid new first.holds first.permits last.permits permits → IsFirstDecision old new first last (record { holds = holds; permits = permits })
 first_decision old mid new first last holds permits g g' fi li of_holds of_permits = record {
   holds = means_kept mid new holds (λ set. value_of old set first.holds || value_of old set last.holds) g' of_holds;

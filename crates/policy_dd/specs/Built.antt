@@ -10,7 +10,7 @@ use Rattle.policy_dd.specs.Edge.{case_or, AreCases, keys_of, never, by_number, c
 use Rattle.policy_dd.specs.Tables.{IsTable, IsPushedUnlessPlain}
 use Rattle.policy_dd.specs.Matches.{AreNodesInside, has_in, first_of, decided}
 use Rattle.policy_dd.specs.MapRun.{AreMapInside, permits_it, prefers, adds_it}
-use Rattle.policy_dd.specs.Import.{second_deciding, accepts, others_kept, carries}
+use Rattle.policy_dd.specs.Import.{second_deciding, both_permit, others_kept, there_after_both}
 
 -- the two maps on what is known of each set: the set's communities, and a test that tells whether there
 -- are others
@@ -23,7 +23,7 @@ pub record IsCrossed (shown : Shown) (universe : List ℕ) (others : List ℕ �
   pub first_adds : IsTable shown r.first.adds (λ k set. decided (adds_it k) (first_of universe out (has set) (others set)))
   pub second_permit : (set : List ℕ) → value_of shown set r.second.permit ≡ decided permits_it (second_deciding universe out sends into (has set) (others set))
   pub second_lps : IsTable shown r.second.lps (λ k set. decided (prefers k) (second_deciding universe out sends into (has set) (others set)))
-  pub there_is : (set : List ℕ) (c : ℕ) → has_in shown r.end set c ≡ carries universe out sends into (has set) (others set) c
+  pub there_is : (set : List ℕ) (c : ℕ) → has_in shown r.end set c ≡ there_after_both universe out sends into (has set) (others set) c
   pub others_is : (set : List ℕ) → value_of shown set r.end.others ≡ others_kept universe out sends into (has set) (others set)
 
 -- the keys under which a community can be carried otherwise than the rest
@@ -65,7 +65,7 @@ pub record IsPutTogether (old new : Shown) (seen : Crossing) (beyond : ℕ) (edg
 pub record IsBuilt (shown : Shown) (edge : EdgeFn) (out : List PlainEntry) (sends : Bool) (into : List PlainEntry) : Type 0 where
   pub permit_inside : edge.permit < length shown.nodes
   pub rest_inside : edge.rest < length shown.nodes
-  pub permit : (set : List ℕ) → value_of shown set edge.permit ≡ accepts shown.universe out sends into (has set) (has_others shown.universe set)
+  pub permit : (set : List ℕ) → value_of shown set edge.permit ≡ both_permit shown.universe out sends into (has set) (has_others shown.universe set)
   pub lps : (set : List ℕ) (k : ℕ) → case_or shown set edge.lps k false ≡ decided permits_it
       (first_of shown.universe out (has set) (has_others shown.universe set))
       && decided (prefers k) (second_deciding shown.universe out sends into (has set) (has_others shown.universe set))
@@ -73,11 +73,11 @@ pub record IsBuilt (shown : Shown) (edge : EdgeFn) (out : List PlainEntry) (send
       (first_of shown.universe out (has set) (has_others shown.universe set))
       && decided permits_it (second_deciding shown.universe out sends into (has set) (has_others shown.universe set))
   -- the run that makes `rest` has `true` in the place of `others`
-  pub rest : (set : List ℕ) → value_of shown set edge.rest ≡ accepts shown.universe out sends into (has set) (has_others shown.universe set)
+  pub rest : (set : List ℕ) → value_of shown set edge.rest ≡ both_permit shown.universe out sends into (has set) (has_others shown.universe set)
       && others_kept shown.universe out sends into (has set) true
   pub outs : (set : List ℕ) (c : ℕ) → has shown.universe c ≡ true →
-      is_carried shown edge set c ≡ accepts shown.universe out sends into (has set) (has_others shown.universe set)
-      && carries shown.universe out sends into (has set) (has_others shown.universe set) c
+      is_carried shown edge set c ≡ both_permit shown.universe out sends into (has set) (has_others shown.universe set)
+      && there_after_both shown.universe out sends into (has set) (has_others shown.universe set) c
   pub lps_cases : AreCases shown never edge.lps
   pub adds_cases : AreCases shown never edge.adds
   pub outs_cases : AreCases shown (carried_by_rest shown edge.rest) (by_number edge.outs)

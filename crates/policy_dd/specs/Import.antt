@@ -30,8 +30,8 @@ second_deciding universe out sends into there others =
     first_of universe into (there_sent sends (first_of universe out there others) there) (others_sent sends (first_of universe out there others) others)
 
 -- both entries permit
-abbrev pub accepts : List ℕ → List PlainEntry → Bool → List PlainEntry → (ℕ → Bool) → Bool → Bool
-accepts universe out sends into there others =
+abbrev pub both_permit : List ℕ → List PlainEntry → Bool → List PlainEntry → (ℕ → Bool) → Bool → Bool
+both_permit universe out sends into there others =
     decided permits_it (first_of universe out there others) && decided permits_it (second_deciding universe out sends into there others)
 
 -- whether communities that no line names are there after both
@@ -40,8 +40,8 @@ others_kept universe out sends into there others =
     others_after (second_deciding universe out sends into there others) (others_sent sends (first_of universe out there others) others)
 
 -- whether a community is there after both
-abbrev pub carries : List ℕ → List PlainEntry → Bool → List PlainEntry → (ℕ → Bool) → Bool → ℕ → Bool
-carries universe out sends into there others c =
+abbrev pub there_after_both : List ℕ → List PlainEntry → Bool → List PlainEntry → (ℕ → Bool) → Bool → ℕ → Bool
+there_after_both universe out sends into there others c =
     there_after (second_deciding universe out sends into there others) (there_sent sends (first_of universe out there others) there) c
 
 -- the import is what the two entries give

@@ -63,7 +63,7 @@ pub record IsSeenAs (universe set : List ℕ) (there : ℕ → Bool) (others : B
   pub there_is : (c : ℕ) → has universe c ≡ true → there c ≡ has set c
   pub others_is : others ≡ has_others universe set
 
-pub record IsInside (shown : Shown) (d : Decision) : Type 0 where
+pub record IsDecisionInside (shown : Shown) (d : Decision) : Type 0 where
   pub holds : d.holds < length shown.nodes
   pub permits : d.permits < length shown.nodes
 

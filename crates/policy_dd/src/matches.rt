@@ -6,7 +6,7 @@ ghost use Rattle.base_kit.specs.Sets.{has};
 ghost use Rattle.cfg_ast.specs.meaning.Lists.{first_line_decides};
 ghost use Rattle.route_maps.specs.Within.{AreWithin, IsLineWithin, AreListsWithin};
 ghost use Rattle.dd_core.specs.Sets.{value_of, Grows, Means};
-ghost use Rattle.policy_dd.specs.Matches.{has_in, AreNodesInside, IsDecision, IsInside, IsFirstDecision, line_by, list_by, entry_by};
+ghost use Rattle.policy_dd.specs.Matches.{has_in, AreNodesInside, IsDecision, IsDecisionInside, IsFirstDecision, line_by, list_by, entry_by};
 
 use crate::exact::exact_answer;
 use crate::tables::node_of;
@@ -103,8 +103,8 @@ fn decision_of_line(
 
 /// What lines say of which `first` tells those in front, and `last` the others.
 fn first_decides(store: &mut Store, first: &Decision, last: &Decision) -> Result<Decision, NoMemory>
-    requires first_inside { IsInside store.old first.now }
-    requires last_inside { IsInside store.old last.now }
+    requires first_inside { IsDecisionInside store.old first.now }
+    requires last_inside { IsDecisionInside store.old last.now }
     ensures grows { Grows store.old store.new }
     ensures joined { IfOk result (IsFirstDecision store.old store.new first.now last.now) }
 {

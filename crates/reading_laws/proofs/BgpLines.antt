@@ -18,7 +18,7 @@ use Rattle.cfg_ast.specs.text.Stanzas.{once, said_at, set_bgp, set_process, set_
 use Rattle.cfg_ast.specs.text.Steps.{◌>>=◌}
 use Rattle.base_kit.specs.Prefixes.{same_prefix}
 use Rattle.cfg_ast.specs.text.Reading.{Stanza, in_bgp, State, with_closed, take_inner}
-use Rattle.reading_laws.specs.FormFaults.{Thing, host_name, bgp, Part, network, preference, remote_as, list_in, list_out, map_in, map_out, part, same_part, within, Saying, adding, bgp_saying, means, inner_says, is_given, when, repeated}
+use Rattle.reading_laws.specs.FormFaults.{Thing, host_name, bgp, StanzaPart, network, preference, remote_as, list_in, list_out, map_in, map_out, part, same_part, within, Saying, adding, bgp_saying, means, inner_says, is_given, when, repeated}
 use Rattle.reading_laws.proofs.Given.{has_thing, bgp_has, peer_has, has_list_in, has_list_out, has_map_in, has_map_out, Outcome, fault_within}
 use Rattle.reading_laws.proofs.AddedItems.{any_push}
 use Rattle.reading_laws.proofs.Peers.{put_at, at_stranger, at_known, Puts, of_peer, put_parts, push_test}
@@ -42,16 +42,16 @@ bgp_says l r read = rw read refl
 
 -- ---- the process itself
 
-has_base : (b : BgpProcess) (x : Base) (p : Part) → bgp_has (record b { base = Some x }) p ≡ (same_part preference p || bgp_has b p)
+has_base : (b : BgpProcess) (x : Base) (p : StanzaPart) → bgp_has (record b { base = Some x }) p ≡ (same_part preference p || bgp_has b p)
 has_base b x preference = refl
 has_base b x _ = refl
 
-has_net : (b : BgpProcess) (x : NetLine) (p : Part) → bgp_has (record b { networks = b.networks ++ x ∷ [] }) p ≡ (same_part (network x.prefix) p || bgp_has b p)
+has_net : (b : BgpProcess) (x : NetLine) (p : StanzaPart) → bgp_has (record b { networks = b.networks ++ x ∷ [] }) p ≡ (same_part (network x.prefix) p || bgp_has b p)
 unfolding has_network
 has_net b x (network q) = any_push (λ (net : NetLine). same_prefix net.prefix q) b.networks x
 has_net b x _ = refl
 
-has_peer : (b : BgpProcess) (n addr remote : ℕ) (p : Part) →
+has_peer : (b : BgpProcess) (n addr remote : ℕ) (p : StanzaPart) →
     bgp_has (record b { neighbors = b.neighbors ++ new_neighbor n addr remote ∷ [] }) p ≡ (same_part (remote_as addr) p || bgp_has b p)
 unfolding has_neighbor
 has_peer b n addr remote (remote_as a) = any_push (λ (p : Neighbor). p.addr == a) b.neighbors (new_neighbor n addr remote)
@@ -64,16 +64,16 @@ has_peer b n addr remote _ = refl
 -- ---- a neighbour
 
 -- a line that adds this to the neighbour of this address
-abbrev peer_line : ℕ → Option Part → Saying
+abbrev peer_line : ℕ → Option StanzaPart → Saying
 peer_line addr o = adding addr (of bgp o)
 
 abbrev peers_in : BgpProcess → List Neighbor → Stanza
 peers_in b peers = in_bgp (record b { neighbors = peers })
 
 -- the neighbour stands: the line is its first of this kind, or is repeated
-known_case : (past : List TextLine) (l : TextLine) (s : State) (b : BgpProcess) (addr : ℕ) (o : Option Part) (peers : List Neighbor) →
+known_case : (past : List TextLine) (l : TextLine) (s : State) (b : BgpProcess) (addr : ℕ) (o : Option StanzaPart) (peers : List Neighbor) →
     Within past l s bgp (in_bgp b) → inner_says l (within bgp) ≡ Ok (peer_line addr o) → is_given past (part bgp (remote_as addr)) ≡ true
-    → ((p : Part) → bgp_has (record b { neighbors = peers }) p ≡ (adds_part o p || bgp_has b p))
+    → ((p : StanzaPart) → bgp_has (record b { neighbors = peers }) p ≡ (adds_part o p || bgp_has b p))
     → (c : Bool) → take_inner l (in_bgp b) ≡ (once l.number c peers >>= (λ (ps : List Neighbor). Ok (peers_in b ps))) →
     repeated past l.number (of bgp o) ≡ when c (refusal.At l.number kind.Repeated) → Outcome past l s
 known_case past l s b addr o peers w told stands adds true takes again =
@@ -98,12 +98,12 @@ regroup : (n : ℕ) (c : Bool) (b : BgpProcess) (peers : List Neighbor)
 regroup n true b peers = refl
 regroup n false b peers = refl
 
-peer_case : (past : List TextLine) (l : TextLine) (s : State) (b : BgpProcess) (addr : ℕ) (o : Option Part) (said : RouterItem) (test : Neighbor → Bool)
+peer_case : (past : List TextLine) (l : TextLine) (s : State) (b : BgpProcess) (addr : ℕ) (o : Option StanzaPart) (said : RouterItem) (test : Neighbor → Bool)
     (put : Neighbor → Neighbor) → Within past l s bgp (in_bgp b) → inner_says l (within bgp) ≡ Ok (peer_line addr o)
     → take_inner l (in_bgp b) ≡ ((at_neighbor l.number addr (set_neighbor l.number said) b.neighbors >>=
     (λ (ps : List Neighbor). Ok (record b { neighbors = ps }))) >>= (λ (d : BgpProcess). Ok (in_bgp d)))
     → Changes l.number (set_neighbor l.number said) test put
-    → (has_neighbor b.neighbors addr ≡ true → (p : Part) → bgp_has (record b { neighbors = put_at addr put b.neighbors }) p ≡ (adds_part o p || bgp_has b p))
+    → (has_neighbor b.neighbors addr ≡ true → (p : StanzaPart) → bgp_has (record b { neighbors = put_at addr put b.neighbors }) p ≡ (adds_part o p || bgp_has b p))
     → repeated past l.number (of bgp o) ≡ when (peer_has test b.neighbors addr) (refusal.At l.number kind.Repeated)
     → (c : Bool) → has_neighbor b.neighbors addr ≡ c → Outcome past l s
 peer_case past l s b addr o said test put w told takes changes adds again false has =
@@ -120,7 +120,7 @@ peer_case past l s b addr o said test put w told takes changes adds again true h
     (regroup l.number (peer_has test b.neighbors addr) b (put_at addr put b.neighbors))) again
 
 -- what is given a neighbour is repeated
-again_part : (past : List TextLine) (l : TextLine) (s : State) (b : BgpProcess) (q : Part) → Within past l s bgp (in_bgp b) →
+again_part : (past : List TextLine) (l : TextLine) (s : State) (b : BgpProcess) (q : StanzaPart) → Within past l s bgp (in_bgp b) →
     repeated past l.number (Some (part bgp q)) ≡ when (bgp_has b q) (refusal.At l.number kind.Repeated)
 again_part past l s b q w = rw (w.parts q) refl
 
@@ -140,23 +140,23 @@ again_none : (past : List TextLine) (l : TextLine) (b : BgpProcess) (addr : ℕ)
 again_none past l b addr = rw (never l.number addr b.neighbors) refl
 
 -- the five kinds of lines of a neighbour, by the parts that they give
-of_none : (addr : ℕ) (p : Part) → of_peer addr false false false false p ≡ false
+of_none : (addr : ℕ) (p : StanzaPart) → of_peer addr false false false false p ≡ false
 of_none addr (list_in a) = refl
 of_none addr _ = refl
 
-of_list_in : (addr : ℕ) (p : Part) → of_peer addr true false false false p ≡ same_part (list_in addr) p
+of_list_in : (addr : ℕ) (p : StanzaPart) → of_peer addr true false false false p ≡ same_part (list_in addr) p
 of_list_in addr (list_in a) = refl
 of_list_in addr _ = refl
 
-of_list_out : (addr : ℕ) (p : Part) → of_peer addr false true false false p ≡ same_part (list_out addr) p
+of_list_out : (addr : ℕ) (p : StanzaPart) → of_peer addr false true false false p ≡ same_part (list_out addr) p
 of_list_out addr (list_out a) = refl
 of_list_out addr _ = refl
 
-of_map_in : (addr : ℕ) (p : Part) → of_peer addr false false true false p ≡ same_part (map_in addr) p
+of_map_in : (addr : ℕ) (p : StanzaPart) → of_peer addr false false true false p ≡ same_part (map_in addr) p
 of_map_in addr (map_in a) = refl
 of_map_in addr _ = refl
 
-of_map_out : (addr : ℕ) (p : Part) → of_peer addr false false false true p ≡ same_part (map_out addr) p
+of_map_out : (addr : ℕ) (p : StanzaPart) → of_peer addr false false false true p ≡ same_part (map_out addr) p
 of_map_out addr (map_out a) = refl
 of_map_out addr _ = refl
 

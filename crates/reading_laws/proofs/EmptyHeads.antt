@@ -13,12 +13,12 @@ use Rattle.cfg_ast.specs.text.FormSteps.{bad_unless}
 use Rattle.cfg_ast.specs.text.Steps.{◌>>=◌}
 use Rattle.cfg_ast.specs.text.Heads.{class_in, policy_heads_of}
 use Rattle.cfg_ast.specs.text.PolicyForms.{empty_entry, prefix_entry_form, community_line, numbered_line, community_line_form, map_head_form, match_prefixes_form, comms_match, marked_match, match_comms_form, lp_form, set_comms_form, delete_form, prepend_form, policy_form, policy_item_by, policy_item_of}
-use Rattle.reading_laws.specs.FormFaults.{Part, match_prefixes}
+use Rattle.reading_laws.specs.FormFaults.{StanzaPart, match_prefixes}
 use Rattle.reading_laws.proofs.Given.{entry_has}
 
 -- a head that is read opens an empty entry
 abbrev OpensEmpty : Result PolicyItem FormFault → Type 0
-OpensEmpty (Ok (item.MapHead name e)) = (p : Part) → entry_has e p ≡ false
+OpensEmpty (Ok (item.MapHead name e)) = (p : StanzaPart) → entry_has e p ≡ false
 OpensEmpty (Ok _) = Unit {0}
 OpensEmpty (Err fault) = Unit {0}
 
@@ -55,7 +55,7 @@ communities n (_ ∷ _ ∷ word ∷ next ∷ []) = tt
 communities n (_ ∷ _ ∷ word ∷ next ∷ third ∷ words) = search (choice, community, numbered)
 communities n _ = tt
 
-empty_has : (seq n : ℕ) (permit : Bool) (p : Part) → entry_has (empty_entry seq permit n) p ≡ false
+empty_has : (seq n : ℕ) (permit : Bool) (p : StanzaPart) → entry_has (empty_entry seq permit n) p ≡ false
 empty_has seq n permit match_prefixes = refl
 empty_has seq n permit _ = refl
 
@@ -123,5 +123,5 @@ by_class (Some (class.Router f)) n words = tt
 by_class (Some (class.Policy f)) n words = by_form f n words
 
 pub head_is_empty : (scope : PolicyScope) (n : ℕ) (words : List (List ℕ)) (name : List ℕ) (e : MapEntry) →
-    policy_item_of scope n words ≡ Ok (item.MapHead name e) → (p : Part) → entry_has e p ≡ false
+    policy_item_of scope n words ≡ Ok (item.MapHead name e) → (p : StanzaPart) → entry_has e p ≡ false
 head_is_empty scope n words name e read = subst OpensEmpty read (by_class (class_in (policy_heads_of scope) words) n words)

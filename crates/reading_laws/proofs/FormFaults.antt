@@ -14,7 +14,7 @@ use Rattle.cfg_ast.specs.text.PolicyForms.{policy_item_of}
 use Rattle.cfg_ast.specs.text.PolicyLines.{is_policy_line, has_prefix_entry, has_map_entry}
 use Rattle.cfg_ast.specs.text.Steps.{◌>>=◌}
 use Rattle.cfg_ast.specs.text.Reading.{Stanza, closed, ignored, in_interface, in_bgp, in_ospf, in_entry, State, at_start, has_interface, with_closed, take_inner, steps, ending, network_of_lines, texts_of, network_of_text}
-use Rattle.reading_laws.specs.FormFaults.{Thing, host_name, interface, bgp, ospf, prefix_entry, map_entry, whole, Open, nothing, unread, within, silent, is_top, open_of, is_given, fault_of, or_else, first_form_fault, fault_in, FirstFaultDecides, text_fault, TextFaultDecides}
+use Rattle.reading_laws.specs.FormFaults.{Thing, host_name, interface, bgp, ospf, prefix_entry, map_entry, whole, Open, nothing, unread, within, silent, is_top, open_of, is_given, fault_of, fault_or_else, first_form_fault, fault_in, FirstFaultDecides, text_fault, TextFaultDecides}
 use Rattle.reading_laws.proofs.Given.{has_thing, IsOf, SameOpen, Agrees, Outcome, agrees_next, says_within, open_inner}
 use Rattle.reading_laws.proofs.TopLines.{top_case}
 use Rattle.reading_laws.proofs.StanzaLines.{Within, with_stanza, inner_step, interface_case, ospf_case, entry_case}
@@ -95,14 +95,14 @@ first_fault_decides ls = all_lines ls [] at_start start_agrees
 -- ---- a text
 
 either : (r : Result State ReadRefusal) (end : Result (Unit {0}) ReadRefusal) →
-    fault_in {X = Network} (r >>= (λ (s : State). end >>= (λ _. Ok (record { routers = s.routers })))) ≡ or_else (fault_in r) (fault_in end)
+    fault_in {X = Network} (r >>= (λ (s : State). end >>= (λ _. Ok (record { routers = s.routers })))) ≡ fault_or_else (fault_in r) (fault_in end)
 either (Err fault) end = refl
 either (Ok s) (Err fault) = refl
 either (Ok s) (Ok _) = refl
 
-lines_case : (ls : List TextLine) → fault_in (network_of_lines ls) ≡ or_else (first_form_fault [] ls) (fault_in (ending ls))
+lines_case : (ls : List TextLine) → fault_in (network_of_lines ls) ≡ fault_or_else (first_form_fault [] ls) (fault_in (ending ls))
 unfolding network_of_lines
-lines_case ls = either (steps at_start ls) (ending ls) ∙ ap (λ (o : Option ReadRefusal). or_else o (fault_in (ending ls))) (first_fault_decides ls)
+lines_case ls = either (steps at_start ls) (ending ls) ∙ ap (λ (o : Option ReadRefusal). fault_or_else o (fault_in (ending ls))) (first_fault_decides ls)
 
 text_case : (bs : List ℕ) (r : Result (List Line) ReadRefusal) → fault_in (r >>= (λ (ls : List Line). network_of_lines (texts_of bs ls))) ≡ text_fault bs r
 text_case bs (Err fault) = refl

@@ -13,7 +13,7 @@ use Rattle.cfg_ast.specs.text.TextLines.{TextLine}
 use Rattle.cfg_ast.specs.text.PolicyLines.{has_prefix_entry, has_map_entry}
 use Rattle.cfg_ast.specs.text.Stanzas.{has_network, has_neighbor}
 use Rattle.cfg_ast.specs.text.Reading.{Stanza, closed, ignored, in_interface, in_bgp, in_ospf, in_entry, Draft, State, has_interface, with_closed, step}
-use Rattle.reading_laws.specs.FormFaults.{Thing, host_name, interface, bgp, ospf, prefix_entry, map_entry, Part, address, cost, network, preference, remote_as, list_in, list_out, map_in, map_out, match_prefixes, match_communities, set_preference, set_communities, set_comm_list, set_prepend, What, whole, part, same_thing, same_what, Open, nothing, unread, within, Saying, top_says, inner_says, is_top, opens_of, open_of, says, is_given, saying_fault, fault_of}
+use Rattle.reading_laws.specs.FormFaults.{Thing, host_name, interface, bgp, ospf, prefix_entry, map_entry, StanzaPart, address, cost, network, preference, remote_as, list_in, list_out, map_in, map_out, match_prefixes, match_communities, set_preference, set_communities, set_comm_list, set_prepend, What, whole, part, same_thing, same_what, Open, nothing, unread, within, Saying, top_says, inner_says, is_top, opens_of, open_of, says, is_given, saying_fault, fault_of}
 
 -- ---- things that are the same
 
@@ -73,7 +73,7 @@ has_thing d ospf = is_some d.ospf
 has_thing d (prefix_entry name seq) = has_prefix_entry d.prefix_lists name seq
 has_thing d (map_entry name seq) = has_map_entry d.route_maps name seq
 
-abbrev pub interface_has : Interface → Part → Bool
+abbrev pub interface_has : Interface → StanzaPart → Bool
 interface_has i address = is_some i.address
 interface_has i cost = is_some i.cost
 interface_has i _ = false
@@ -95,7 +95,7 @@ has_map_in p = is_some p.map_in
 abbrev pub has_map_out : Neighbor → Bool
 has_map_out p = is_some p.map_out
 
-abbrev pub bgp_has : BgpProcess → Part → Bool
+abbrev pub bgp_has : BgpProcess → StanzaPart → Bool
 bgp_has b (network prefix) = has_network b.networks prefix
 bgp_has b preference = is_some b.base
 bgp_has b (remote_as addr) = has_neighbor b.neighbors addr
@@ -105,7 +105,7 @@ bgp_has b (map_in addr) = peer_has has_map_in b.neighbors addr
 bgp_has b (map_out addr) = peer_has has_map_out b.neighbors addr
 bgp_has b _ = false
 
-abbrev pub entry_has : MapEntry → Part → Bool
+abbrev pub entry_has : MapEntry → StanzaPart → Bool
 entry_has e match_prefixes = is_some e.prefixes
 entry_has e match_communities = is_some e.comms
 entry_has e set_preference = is_some e.lp
@@ -114,7 +114,7 @@ entry_has e set_comm_list = is_some e.delete
 entry_has e set_prepend = is_some e.prepend
 entry_has e _ = false
 
-abbrev pub has_part : Stanza → Part → Bool
+abbrev pub has_part : Stanza → StanzaPart → Bool
 has_part closed p = false
 has_part ignored p = false
 has_part (in_interface i) p = interface_has i p
@@ -135,12 +135,12 @@ IsOf _ _ = ⊥
 abbrev pub SameOpen : List TextLine → Stanza → Open → Type 0
 SameOpen past st nothing = st ≡ closed
 SameOpen past st unread = st ≡ ignored
-SameOpen past st (within t) = IsOf st t × (is_given past (whole t) ≡ true) × ((p : Part) → has_part st p ≡ is_given past (part t p))
+SameOpen past st (within t) = IsOf st t × (is_given past (whole t) ≡ true) × ((p : StanzaPart) → has_part st p ≡ is_given past (part t p))
 
 pub record Agrees (past : List TextLine) (s : State) : Type 0 where
   pub things : (t : Thing) → has_thing (with_closed s.draft) t ≡ is_given past (whole t)
   pub open_is : SameOpen past s.draft.stanza (open_of past)
-  pub fresh : (t : Thing) (p : Part) → is_given past (whole t) ≡ false → is_given past (part t p) ≡ false
+  pub fresh : (t : Thing) (p : StanzaPart) → is_given past (whole t) ≡ false → is_given past (part t p) ≡ false
 
 abbrev pub Stops : List TextLine → TextLine → State → Type 0
 Stops past l s = (e : ReadRefusal) × (step s l ≡ Err e) × (fault_of past l ≡ Some e)
@@ -167,8 +167,8 @@ other_part past t u false is not same = refl
 other_part past t u true is not same = let f : true ≡ false = sym is ∙ ap (λ (v : Thing). is_given past (whole v)) (same_is t u same) ∙ not in absurd cc
 
 fresh_next : (past : List TextLine) (o : Option What) → Owned past o →
-    ((t : Thing) (p : Part) → is_given past (whole t) ≡ false → is_given past (part t p) ≡ false)
-    → (t : Thing) (p : Part) → (hits o (whole t) || is_given past (whole t)) ≡ false → (hits o (part t p) || is_given past (part t p)) ≡ false
+    ((t : Thing) (p : StanzaPart) → is_given past (whole t) ≡ false → is_given past (part t p) ≡ false)
+    → (t : Thing) (p : StanzaPart) → (hits o (whole t) || is_given past (whole t)) ≡ false → (hits o (part t p) || is_given past (part t p)) ≡ false
 fresh_next past None owned fresh t p not = fresh t p not
 fresh_next past (Some (whole v)) owned fresh t p not = fresh t p (or_false (same_thing v t) (is_given past (whole t)) not).1
 fresh_next past (Some (part v q)) owned fresh t p not = rw (other_part past v t (same_thing v t) owned not refl, fresh t p not) refl

@@ -8,7 +8,7 @@ use Rattle.cfg_ast.specs.declared.refusal.ReadRefusal.{ReadRefusal}
 use Rattle.cfg_ast.specs.declared.refusal.ReadRefusal.TheVariants as refusal
 use Rattle.cfg_ast.specs.text.Stanzas.{once, at_neighbor, has_neighbor}
 use Rattle.cfg_ast.specs.text.Steps.{◌>>=◌}
-use Rattle.reading_laws.specs.FormFaults.{Part, remote_as, list_in, list_out, map_in, map_out}
+use Rattle.reading_laws.specs.FormFaults.{StanzaPart, remote_as, list_in, list_out, map_in, map_out}
 use Rattle.reading_laws.proofs.Given.{peer_has, has_list_in, has_list_out, has_map_in, has_map_out, bgp_has}
 
 -- the neighbours, with the first one of this address changed
@@ -143,7 +143,7 @@ push_test test new none (p ∷ peers) a = ap (λ (b : Bool). if p.addr == a then
 -- ---- what a BGP process has then
 
 -- a list or map of the neighbour of this address, of those that the line gives
-abbrev pub of_peer : ℕ → Bool → Bool → Bool → Bool → Part → Bool
+abbrev pub of_peer : ℕ → Bool → Bool → Bool → Bool → StanzaPart → Bool
 of_peer addr li lo mi mo (list_in a) = li && (addr == a)
 of_peer addr li lo mi mo (list_out a) = lo && (addr == a)
 of_peer addr li lo mi mo (map_in a) = mi && (addr == a)
@@ -159,7 +159,7 @@ pub record Puts (addr : ℕ) (put : Neighbor → Neighbor) (li lo mi mo : Bool) 
   pub maps_out : (p : Neighbor) → has_map_out (put p) ≡ (mo || has_map_out p)
 
 pub put_parts : (b : BgpProcess) (addr : ℕ) (put : Neighbor → Neighbor) (li lo mi mo : Bool) → Puts addr put li lo mi mo → has_neighbor b.neighbors addr ≡ true
-    → (p : Part) → bgp_has (record b { neighbors = put_at addr put b.neighbors }) p ≡ (of_peer addr li lo mi mo p || bgp_has b p)
+    → (p : StanzaPart) → bgp_has (record b { neighbors = put_at addr put b.neighbors }) p ≡ (of_peer addr li lo mi mo p || bgp_has b p)
 put_parts b addr put li lo mi mo puts stands (remote_as a) = put_names addr put puts.same_addr b.neighbors a
 put_parts b addr put li lo mi mo puts stands (list_in a) = put_test addr put has_list_in li puts.same_addr puts.lists_in b.neighbors stands a
 put_parts b addr put li lo mi mo puts stands (list_out a) = put_test addr put has_list_out lo puts.same_addr puts.lists_out b.neighbors stands a

@@ -25,7 +25,7 @@ use Rattle.cfg_ast.specs.text.PolicyLines.{set_entry, has_map_entry}
 use Rattle.cfg_ast.specs.text.Stanzas.{once, said_at, refusal_of, set_interface, set_ospf}
 use Rattle.cfg_ast.specs.text.Steps.{◌>>=◌}
 use Rattle.cfg_ast.specs.text.Reading.{Stanza, in_interface, in_ospf, in_entry, State, has_interface, with_closed, take_inner, step}
-use Rattle.reading_laws.specs.FormFaults.{Thing, host_name, interface, ospf, map_entry, Part, address, cost, match_prefixes, match_communities, set_preference, set_communities, set_comm_list, set_prepend, What, whole, part, same_part, within, Saying, silent, giving, interface_saying, ospf_saying, entry_saying, means, inner_says, is_top, open_of, says, is_given, fault_of}
+use Rattle.reading_laws.specs.FormFaults.{Thing, host_name, interface, ospf, map_entry, StanzaPart, address, cost, match_prefixes, match_communities, set_preference, set_communities, set_comm_list, set_prepend, What, whole, part, same_part, within, Saying, silent, giving, interface_saying, ospf_saying, entry_saying, means, inner_says, is_top, open_of, says, is_given, fault_of}
 use Rattle.reading_laws.proofs.Given.{same_self, hits, given_next, has_thing, has_part, interface_has, entry_has, IsOf, Agrees, Outcome, Owned, agrees_next, says_within, open_inner, fault_within}
 use Rattle.reading_laws.proofs.AddedItems.{has_push, map_put}
 
@@ -46,36 +46,36 @@ pub record Within (past : List TextLine) (l : TextLine) (s : State) (t : Thing) 
   pub opened : open_of past ≡ within t
   pub stands : s.draft.stanza ≡ st
   pub stood : is_given past (whole t) ≡ true
-  pub parts : (p : Part) → has_part st p ≡ is_given past (part t p)
+  pub parts : (p : StanzaPart) → has_part st p ≡ is_given past (part t p)
 
 -- the stanza goes on as another one of the same thing
 abbrev pub SameThing : State → Thing → Stanza → Type 0
 SameThing s t st = IsOf st t × ((u : Thing) → has_thing (with_closed (record s.draft { stanza = st })) u ≡ has_thing (with_closed s.draft) u)
 
 -- what a line of the stanza of this thing gives
-abbrev pub of : Thing → Option Part → Option What
+abbrev pub of : Thing → Option StanzaPart → Option What
 of t None = None
 of t (Some p) = Some (part t p)
 
-abbrev pub adds_part : Option Part → Part → Bool
+abbrev pub adds_part : Option StanzaPart → StanzaPart → Bool
 adds_part None p = false
 adds_part (Some q) p = same_part q p
 
-no_thing : (t u : Thing) (o : Option Part) → hits (of t o) (whole u) ≡ false
+no_thing : (t u : Thing) (o : Option StanzaPart) → hits (of t o) (whole u) ≡ false
 no_thing t u None = refl
 no_thing t u (Some p) = refl
 
-its_part : (t : Thing) (o : Option Part) (p : Part) → hits (of t o) (part t p) ≡ adds_part o p
+its_part : (t : Thing) (o : Option StanzaPart) (p : StanzaPart) → hits (of t o) (part t p) ≡ adds_part o p
 its_part t None p = refl
 its_part t (Some q) p = rw (same_self t) refl
 
-owned : (past : List TextLine) (t : Thing) (o : Option Part) → is_given past (whole t) ≡ true → Owned past (of t o)
+owned : (past : List TextLine) (t : Thing) (o : Option StanzaPart) → is_given past (whole t) ≡ true → Owned past (of t o)
 owned past t None stood = tt
 owned past t (Some p) stood = stood
 
-pub goes_on : (past : List TextLine) (l : TextLine) (s : State) (t : Thing) (st next : Stanza) (o : Option Part) (sy : Saying) → Within past l s t st →
+pub goes_on : (past : List TextLine) (l : TextLine) (s : State) (t : Thing) (st next : Stanza) (o : Option StanzaPart) (sy : Saying) → Within past l s t st →
     inner_says l (within t) ≡ Ok sy → sy.gives ≡ of t o → sy.ends ≡ false → fault_of past l ≡ None
-    → take_inner l st ≡ Ok next → SameThing s t next → ((p : Part) → has_part next p ≡ (adds_part o p || has_part st p)) → Outcome past l s
+    → take_inner l st ≡ Ok next → SameThing s t next → ((p : StanzaPart) → has_part next p ≡ (adds_part o p || has_part st p)) → Outcome past l s
 goes_on past l s t st next o sy w told gives on fault takes same adds =
     let said : says past l ≡ Ok sy = says_within past l (within t) (Ok sy) w.inner w.opened told in
     let more : (v : What) → is_given (l ∷ past) v ≡ (hits (of t o) v || is_given past v) = λ v. given_next past l sy (of t o) v said gives on in
@@ -89,10 +89,10 @@ goes_on past l s t st next o sy w told gives on fault takes same adds =
     )
 
 -- a line that may stand once
-pub gives_part : {X : Type 0} (past : List TextLine) (l : TextLine) (s : State) (t : Thing) (st : Stanza) (q : Part) (make : X → Stanza) (x : X) →
+pub gives_part : {X : Type 0} (past : List TextLine) (l : TextLine) (s : State) (t : Thing) (st : Stanza) (q : StanzaPart) (make : X → Stanza) (x : X) →
     Within past l s t st → inner_says l (within t) ≡ Ok (giving (part t q))
     → take_inner l st ≡ (once l.number (has_part st q) x >>= (λ (y : X). Ok (make y))) → SameThing s t (make x) →
-    ((p : Part) → has_part (make x) p ≡ (same_part q p || has_part st p))
+    ((p : StanzaPart) → has_part (make x) p ≡ (same_part q p || has_part st p))
     → (b : Bool) → has_part st q ≡ b → Outcome past l s
 gives_part past l s t st q make x w told takes same adds true has =
     let was : is_given past (part t q) ≡ true = sym (w.parts q) ∙ has in
@@ -110,7 +110,7 @@ gives_part past l s t st q make x w told takes same adds false has =
 -- a line that may stand again
 pub gives_none : (past : List TextLine) (l : TextLine) (s : State) (t : Thing) (st next : Stanza) → Within past l s t st → inner_says l (within t) ≡ Ok silent →
     take_inner l st ≡ Ok next → SameThing s t next
-    → ((p : Part) → has_part next p ≡ has_part st p) → Outcome past l s
+    → ((p : StanzaPart) → has_part next p ≡ has_part st p) → Outcome past l s
 gives_none past l s t st next w told takes same adds =
     goes_on past l s t st next None silent w told refl refl (fault_within past l t (Ok silent) w.inner w.opened told) takes same adds
 
@@ -140,15 +140,15 @@ interface_says : (l : TextLine) (name : List ℕ) (r : Result RouterItem FormFau
     inner_says l (within (interface name)) ≡ means (interface_saying (interface name)) r
 interface_says l name r read = rw read refl
 
-has_address : (i : Interface) (a : Address) (p : Part) → interface_has (record i { address = Some a }) p ≡ (same_part address p || interface_has i p)
+has_address : (i : Interface) (a : Address) (p : StanzaPart) → interface_has (record i { address = Some a }) p ≡ (same_part address p || interface_has i p)
 has_address i a address = refl
 has_address i a _ = refl
 
-has_cost : (i : Interface) (c : ℕ) (p : Part) → interface_has (record i { cost = Some c }) p ≡ (same_part cost p || interface_has i p)
+has_cost : (i : Interface) (c : ℕ) (p : StanzaPart) → interface_has (record i { cost = Some c }) p ≡ (same_part cost p || interface_has i p)
 has_cost i c cost = refl
 has_cost i c _ = refl
 
-has_shut : (i : Interface) (p : Part) → interface_has (record i { shut = true }) p ≡ interface_has i p
+has_shut : (i : Interface) (p : StanzaPart) → interface_has (record i { shut = true }) p ≡ interface_has i p
 has_shut i address = refl
 has_shut i _ = refl
 
@@ -215,38 +215,38 @@ entry_says : (l : TextLine) (name : List ℕ) (seq : ℕ) (r : Result PolicyItem
     inner_says l (within (map_entry name seq)) ≡ means (entry_saying (map_entry name seq)) r
 entry_says l name seq r read = rw read refl
 
-has_prefixes : (e : MapEntry) (x : NameLine) (p : Part) → entry_has (record e { prefixes = Some x }) p ≡ (same_part match_prefixes p || entry_has e p)
+has_prefixes : (e : MapEntry) (x : NameLine) (p : StanzaPart) → entry_has (record e { prefixes = Some x }) p ≡ (same_part match_prefixes p || entry_has e p)
 has_prefixes e x match_prefixes = refl
 has_prefixes e x _ = refl
 
-has_comms : (e : MapEntry) (x : NameLine) (b : Bool) (p : Part) →
+has_comms : (e : MapEntry) (x : NameLine) (b : Bool) (p : StanzaPart) →
     entry_has (record e { comms = Some x; exact = b }) p ≡ (same_part match_communities p || entry_has e p)
 has_comms e x b match_communities = refl
 has_comms e x b _ = refl
 
-has_lp : (e : MapEntry) (x : ℕ) (p : Part) → entry_has (record e { lp = Some x }) p ≡ (same_part set_preference p || entry_has e p)
+has_lp : (e : MapEntry) (x : ℕ) (p : StanzaPart) → entry_has (record e { lp = Some x }) p ≡ (same_part set_preference p || entry_has e p)
 has_lp e x set_preference = refl
 has_lp e x _ = refl
 
-has_change : (e : MapEntry) (x : Change) (n : ℕ) (p : Part) →
+has_change : (e : MapEntry) (x : Change) (n : ℕ) (p : StanzaPart) →
     entry_has (record e { change = Some x; change_line = n }) p ≡ (same_part set_communities p || entry_has e p)
 has_change e x n set_communities = refl
 has_change e x n _ = refl
 
-has_delete : (e : MapEntry) (x : Named) (p : Part) → entry_has (record e { delete = Some x }) p ≡ (same_part set_comm_list p || entry_has e p)
+has_delete : (e : MapEntry) (x : Named) (p : StanzaPart) → entry_has (record e { delete = Some x }) p ≡ (same_part set_comm_list p || entry_has e p)
 has_delete e x set_comm_list = refl
 has_delete e x _ = refl
 
-has_prepend : (e : MapEntry) (x : Prepend) (p : Part) → entry_has (record e { prepend = Some x }) p ≡ (same_part set_prepend p || entry_has e p)
+has_prepend : (e : MapEntry) (x : Prepend) (p : StanzaPart) → entry_has (record e { prepend = Some x }) p ≡ (same_part set_prepend p || entry_has e p)
 has_prepend e x set_prepend = refl
 has_prepend e x _ = refl
 
 -- an entry with the line's part
-entry_part : (past : List TextLine) (l : TextLine) (s : State) (map : List ℕ) (e f : MapEntry) (name : List ℕ) (seq : ℕ) (q : Part) →
+entry_part : (past : List TextLine) (l : TextLine) (s : State) (map : List ℕ) (e f : MapEntry) (name : List ℕ) (seq : ℕ) (q : StanzaPart) →
     Within past l s (map_entry name seq) (in_entry map e) → map ≡ name → e.seq ≡ seq →
     inner_says l (within (map_entry name seq)) ≡ Ok (giving (part (map_entry name seq) q))
     → take_inner l (in_entry map e) ≡ (once l.number (entry_has e q) f >>= (λ (g : MapEntry). Ok (in_entry map g))) → f.seq ≡ e.seq →
-    ((p : Part) → entry_has f p ≡ (same_part q p || entry_has e p)) → Outcome past l s
+    ((p : StanzaPart) → entry_has f p ≡ (same_part q p || entry_has e p)) → Outcome past l s
 entry_part past l s map e f name seq q w named numbered told takes same adds =
     gives_part past l s (map_entry name seq) (in_entry map e) q (in_entry map) f w told takes (same_entry s map e f name seq w.stands named numbered same) adds
     (entry_has e q) refl

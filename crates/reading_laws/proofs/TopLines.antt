@@ -24,7 +24,7 @@ use Rattle.cfg_ast.specs.text.PolicyLines.{is_policy_line, has_prefix_entry, wit
 use Rattle.cfg_ast.specs.text.Stanzas.{has_network, has_neighbor, once, said_at, refusal_of}
 use Rattle.cfg_ast.specs.text.Steps.{◌>>=◌}
 use Rattle.cfg_ast.specs.text.Reading.{Stanza, closed, ignored, in_interface, in_bgp, in_ospf, in_entry, Draft, State, no_draft, has_interface, with_closed, closing_stanza, new_interface, new_bgp, new_ospf, take_line, take_top, take_policy, step_policy, step_router, end_router, step}
-use Rattle.reading_laws.specs.FormFaults.{Thing, host_name, interface, bgp, ospf, prefix_entry, map_entry, Part, address, cost, What, whole, part, same_what, Open, nothing, unread, within, Saying, silent, end_of_router, top_saying, list_saying, means, top_says, is_top, says, is_given}
+use Rattle.reading_laws.specs.FormFaults.{Thing, host_name, interface, bgp, ospf, prefix_entry, map_entry, StanzaPart, address, cost, What, whole, part, same_what, Open, nothing, unread, within, Saying, silent, end_of_router, top_saying, list_saying, means, top_says, is_top, says, is_given}
 use Rattle.reading_laws.proofs.EmptyHeads.{head_is_empty}
 use Rattle.reading_laws.proofs.AddedItems.{has_push, prefix_put, map_put}
 use Rattle.reading_laws.proofs.Given.{same_self, hits, given_next, given_none, has_thing, has_part, IsOf, SameOpen, Agrees, Outcome, agrees_next, says_top, open_top, fault_top}
@@ -99,14 +99,14 @@ adds_entry c name e _ = refl
 abbrev Opens : Thing → Stanza → Open → Type 0
 Opens t st nothing = st ≡ closed
 Opens t st unread = ⊥
-Opens t st (within u) = (u ≡ t) × IsOf st t × ((p : Part) → has_part st p ≡ false)
+Opens t st (within u) = (u ≡ t) × IsOf st t × ((p : StanzaPart) → has_part st p ≡ false)
 
 -- a line that gives a thing
 abbrev thing_line : Thing → Open → Saying
 thing_line t o = record { gives = Some (whole t); peer = None; opens = o; ends = false }
 
 opened_new : (past : List TextLine) (l : TextLine) (t : Thing) (st : Stanza) (o : Open) → says past l ≡ Ok (thing_line t o) →
-    ((p : Part) → is_given past (part t p) ≡ false) → Opens t st o → SameOpen (l ∷ past) st o
+    ((p : StanzaPart) → is_given past (part t p) ≡ false) → Opens t st o → SameOpen (l ∷ past) st o
 opened_new past l t st nothing said none opens = opens
 opened_new past l t st unread said none opens = absurd opens
 opened_new past l t st (within u) said none opens =
@@ -210,12 +210,12 @@ other_item : (past : List TextLine) (l : TextLine) (s : State) → Agrees past s
 other_item past l s ag top told stepped =
     gives_nothing past l s nothing (with_closed s.draft) ag top told stepped (stays (with_closed s.draft) (closed_now s.draft)) (closed_now s.draft)
 
-new_interface_has : (n : ℕ) (name : List ℕ) (p : Part) → has_part (in_interface (new_interface n name)) p ≡ false
+new_interface_has : (n : ℕ) (name : List ℕ) (p : StanzaPart) → has_part (in_interface (new_interface n name)) p ≡ false
 new_interface_has n name address = refl
 new_interface_has n name cost = refl
 new_interface_has n name _ = refl
 
-new_bgp_has : (n number : ℕ) (p : Part) → has_part (in_bgp (new_bgp n number)) p ≡ false
+new_bgp_has : (n number : ℕ) (p : StanzaPart) → has_part (in_bgp (new_bgp n number)) p ≡ false
 unfolding has_network has_neighbor
 new_bgp_has n number address = refl
 new_bgp_has n number _ = refl

@@ -36,27 +36,27 @@ pub data Thing : Type 0 where
 
 -- what a line of a stanza gives: an interface, a BGP process, its neighbour of an address, or an entry of
 -- a route map
-pub data Part : Type 0 where
-  address : Part
-  cost : Part
-  network : Prefix → Part
-  preference : Part
-  remote_as : ℕ → Part
-  list_in : ℕ → Part
-  list_out : ℕ → Part
-  map_in : ℕ → Part
-  map_out : ℕ → Part
-  match_prefixes : Part
-  match_communities : Part
-  set_preference : Part
-  set_communities : Part
-  set_comm_list : Part
-  set_prepend : Part
+pub data StanzaPart : Type 0 where
+  address : StanzaPart
+  cost : StanzaPart
+  network : Prefix → StanzaPart
+  preference : StanzaPart
+  remote_as : ℕ → StanzaPart
+  list_in : ℕ → StanzaPart
+  list_out : ℕ → StanzaPart
+  map_in : ℕ → StanzaPart
+  map_out : ℕ → StanzaPart
+  match_prefixes : StanzaPart
+  match_communities : StanzaPart
+  set_preference : StanzaPart
+  set_communities : StanzaPart
+  set_comm_list : StanzaPart
+  set_prepend : StanzaPart
 
 -- what may stand once: a thing, or a part of the thing whose stanza it stands in
 pub data What : Type 0 where
   whole : Thing → What
-  part : Thing → Part → What
+  part : Thing → StanzaPart → What
 
 -- whether two are the same
 abbrev pub same_thing : Thing → Thing → Bool
@@ -68,7 +68,7 @@ same_thing (prefix_entry m j) (prefix_entry n k) = bytes_eq m n && (j == k)
 same_thing (map_entry m j) (map_entry n k) = bytes_eq m n && (j == k)
 same_thing _ _ = false
 
-abbrev pub same_part : Part → Part → Bool
+abbrev pub same_part : StanzaPart → StanzaPart → Bool
 same_part address address = true
 same_part cost cost = true
 same_part (network p) (network q) = same_prefix p q
@@ -116,8 +116,8 @@ abbrev pub giving : What → Saying
 giving w = record { gives = Some w; peer = None; opens = nothing; ends = false }
 
 -- a line that gives a thing and opens its stanza
-abbrev pub opening : Thing → Saying
-opening t = record { gives = Some (whole t); peer = None; opens = within t; ends = false }
+abbrev pub opening_stanza : Thing → Saying
+opening_stanza t = record { gives = Some (whole t); peer = None; opens = within t; ends = false }
 
 -- a line that adds to a neighbour
 abbrev pub adding : ℕ → Option What → Saying
@@ -134,9 +134,9 @@ end_of_router = record { gives = None; peer = None; opens = nothing; ends = true
 -- a top line
 abbrev pub top_saying : RouterItem → Saying
 top_saying (item.Hostname _) = giving (whole host_name)
-top_saying (item.Interface name) = opening (interface name)
-top_saying (item.Bgp _) = opening bgp
-top_saying (item.Ospf _) = opening ospf
+top_saying (item.Interface name) = opening_stanza (interface name)
+top_saying (item.Bgp _) = opening_stanza bgp
+top_saying (item.Ospf _) = opening_stanza ospf
 top_saying item.End = end_of_router
 top_saying item.Ignored = ignoring
 top_saying _ = silent
@@ -144,7 +144,7 @@ top_saying _ = silent
 -- a top line of a list or a route map
 abbrev pub list_saying : PolicyItem → Saying
 list_saying (policy.PrefixEntry name e) = giving (whole (prefix_entry name e.seq))
-list_saying (policy.MapHead name e) = opening (map_entry name e.seq)
+list_saying (policy.MapHead name e) = opening_stanza (map_entry name e.seq)
 list_saying policy.Ignored = ignoring
 list_saying _ = silent
 
@@ -228,14 +228,14 @@ unfoldable pub says : List TextLine → TextLine → Result Saying FormFault
 says past l = if is_top l then top_says l else inner_says l (open_of past)
 
 -- with what one more line gives: after the end of a router nothing is given to the next
-abbrev pub with_saying : Result Saying FormFault → List What → List What
-with_saying (Ok s) ws = if s.ends then [] else cons_option s.gives ws
-with_saying (Err fault) ws = ws
+abbrev pub given_with_line : Result Saying FormFault → List What → List What
+given_with_line (Ok s) ws = if s.ends then [] else cons_option s.gives ws
+given_with_line (Err fault) ws = ws
 
 -- what the lines of this router give that may stand once
 abbrev pub given : List TextLine → List What
 given [] = []
-given (l ∷ past) = with_saying (says past l) (given past)
+given (l ∷ past) = given_with_line (says past l) (given past)
 
 -- one of them is this
 unfoldable pub is_given : List TextLine → What → Bool
@@ -244,9 +244,9 @@ is_given past w = list_any (λ (v : What). same_what v w) (given past)
 -- ---- the fault of a line
 
 -- the first fault, or else the second
-abbrev pub or_else : Option ReadRefusal → Option ReadRefusal → Option ReadRefusal
-or_else None b = b
-or_else (Some a) b = Some a
+abbrev pub fault_or_else : Option ReadRefusal → Option ReadRefusal → Option ReadRefusal
+fault_or_else None b = b
+fault_or_else (Some a) b = Some a
 
 -- the fault, where the condition holds
 abbrev pub when : Bool → ReadRefusal → Option ReadRefusal
@@ -277,16 +277,16 @@ nameless past n true = if is_given past (whole host_name) then None else Some (r
 -- the faults of a line in their order: its head and form, its place, what it repeats, the want of a host name
 abbrev pub saying_fault : List TextLine → ℕ → Result Saying FormFault → Option ReadRefusal
 saying_fault past n (Err fault) = Some (refusal_of n fault)
-saying_fault past n (Ok s) = or_else (stranger past n s.peer) (or_else (repeated past n s.gives) (nameless past n s.ends))
+saying_fault past n (Ok s) = fault_or_else (stranger past n s.peer) (fault_or_else (repeated past n s.gives) (nameless past n s.ends))
 
 -- the fault of a line after the lines before it
 unfoldable pub fault_of : List TextLine → TextLine → Option ReadRefusal
-fault_of past l = or_else (if is_top l then None else homeless l.number (open_of past)) (saying_fault past l.number (says past l))
+fault_of past l = fault_or_else (if is_top l then None else homeless l.number (open_of past)) (saying_fault past l.number (says past l))
 
 -- the fault of the first line that has one, the lines before the nearest first
 abbrev pub first_form_fault : List TextLine → List TextLine → Option ReadRefusal
 first_form_fault past [] = None
-first_form_fault past (l ∷ ls) = or_else (fault_of past l) (first_form_fault (l ∷ past) ls)
+first_form_fault past (l ∷ ls) = fault_or_else (fault_of past l) (first_form_fault (l ∷ past) ls)
 
 -- the fault, where there is one
 abbrev pub fault_in : {X : Type 0} → Result X ReadRefusal → Option ReadRefusal
@@ -300,7 +300,7 @@ FirstFaultDecides = (ls : List TextLine) → fault_in (steps at_start ls) ≡ fi
 -- the fault of a text: of its lines as such, or else the first fault of form, or else want of an end
 abbrev pub text_fault : List ℕ → Result (List Line) ReadRefusal → Option ReadRefusal
 text_fault bs (Err fault) = Some fault
-text_fault bs (Ok ls) = or_else (first_form_fault [] (texts_of bs ls)) (fault_in (ending (texts_of bs ls)))
+text_fault bs (Ok ls) = fault_or_else (first_form_fault [] (texts_of bs ls)) (fault_in (ending (texts_of bs ls)))
 
 -- A text is refused with this fault, and with no other.
 abbrev pub TextFaultDecides : Type 0

@@ -8,7 +8,7 @@ use Rattle.std.proofs.lemmas.List.Elements.{All-contains, All-weaker}
 use Rattle.base_kit.specs.declared.act_graph.Edge.{Edge}
 use Rattle.base_kit.specs.declared.act_graph.ActGraph.{ActGraph}
 use Rattle.refine_partition.specs.declared.imports.Import.{Import}
-use Rattle.refine_partition.specs.Splits.{HasAct, StandsBefore}
+use Rattle.refine_partition.specs.Splits.{HasAct, StandsBeforeByBlock}
 use Rattle.refine_partition.specs.Arrivals.{IsArrival, AreArrivals}
 use Rattle.refine_partition.specs.Classes.{SameArrivals, AreClasses}
 use Rattle.refine_partition.specs.Touched.{IsTouched, AreTouched, IsInBlocks, IsQueue}
@@ -138,7 +138,7 @@ planned graph taken numbers blocks arrivals classes touched queue next origins c
               let (j, earlier, is) = renumbered.in_order i number inside le (subst (λ w. number < slice_index next w) (sym at) less) in
               let within = queued.only j 0 (omega arith) in
               let hj = within.below in
-              (slice_index queue j, omega arith, subst (λ w. StandsBefore numbers (slice_index queue j) w) at (queued.in_order j i earlier inside), is)
+              (slice_index queue j, omega arith, subst (λ w. StandsBeforeByBlock numbers (slice_index queue j) w) at (queued.in_order j i earlier inside), is)
           | inr none ↦ let e = rest v hv none in let lt = low v hv in absurd (omega arith)
         ];
       };

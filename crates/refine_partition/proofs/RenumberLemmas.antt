@@ -9,7 +9,7 @@ use Rattle.std.proofs.lemmas.List.Elements.{Contains-append_left, Contains-push,
 use Rattle.std.proofs.lemmas.Map.Steps.{le-length_from_below}
 use Rattle.std.proofs.Math.ListN.{length-set}
 use Rattle.base_kit.specs.Partition.{members_of}
-use Rattle.refine_partition.specs.Splits.{StandsBefore}
+use Rattle.refine_partition.specs.Splits.{StandsBeforeByBlock}
 use Rattle.refine_partition.specs.Renumbering.{IsNextNumber, IsRefined, IsQueueOf, IsRenumbered}
 use Rattle.refine_partition.proofs.MemberLemmas.{same_test, members_all, member, IsMember}
 use Rattle.refine_partition.proofs.QueueLemmas.{rising, members_rise}
@@ -111,7 +111,7 @@ few_numbers numbers classes done blocks class_count next origins names given bel
 
 -- one more router takes this number
 pub renumbered_more : (numbers classes done : List ℕ) (before : ℕ) (next origins origins' : List ℕ) (names names' : ℕ → Option ℕ) (router class number : ℕ) →
-    Renumbering numbers classes done before next origins names → router < length numbers → ((w : ℕ) → Contains done w → StandsBefore numbers w router) →
+    Renumbering numbers classes done before next origins names → router < length numbers → ((w : ℕ) → Contains done w → StandsBeforeByBlock numbers w router) →
     slice_index classes router ≡ class → names' class ≡ Some number → ((other : ℕ) → other ≢ class → names' other ≡ names other) →
     ((names class ≡ Some number) ⊎ ((names class ≡ None) × ((w : ℕ) → Contains done w → slice_index next w ≢ number))) →
     (number < before → number ≡ slice_index numbers router) → number < before + length origins' →
@@ -223,12 +223,12 @@ renumbered_more numbers classes done before next origins origins' names names' r
 
 -- the first routers of a queue stand before the next one
 stands_before : (numbers queue : List ℕ) (k w : ℕ) → IsQueueOf numbers queue → k < length queue → Contains (take k queue) w →
-    StandsBefore numbers w (slice_index queue k)
+    StandsBeforeByBlock numbers w (slice_index queue k)
 stands_before numbers queue k w queued here (i, inside, at) =
     let size = length-take k queue in
     let less : i < k = omega arith in
     let at' : slice_index queue i ≡ w = sym (get_or-take k queue i 0 less) ∙ get_or_default (take k queue) i 0 w inside ∙ at in
-    subst (λ u. StandsBefore numbers u (slice_index queue k)) at' (queued.in_order i k less here)
+    subst (λ u. StandsBeforeByBlock numbers u (slice_index queue k)) at' (queued.in_order i k less here)
 
 pub place_of : (done : List ℕ) (w : ℕ) → Contains done w → (j : ℕ) × (j < length done) × (slice_index done j ≡ w)
 place_of done w (j, inside, at) = (j, inside, get_or_default done j 0 w inside ∙ at)
@@ -246,7 +246,7 @@ renumbered_next numbers classes queue before k next origins origins' names names
     let class : ℕ = slice_index classes router in
     let done : List ℕ = take k queue in
     let inside : router < length numbers = queued.below k 0 here in
-    let stands : (w : ℕ) → Contains done w → StandsBefore numbers w router = λ w found. stands_before numbers queue k w queued here found in
+    let stands : (w : ℕ) → Contains done w → StandsBeforeByBlock numbers w router = λ w found. stands_before numbers queue k w queued here found in
     let in_range : (w : ℕ) → Contains done w → w < length numbers =
     λ w found. All-contains (λ u. u < length numbers) done w (All-take (λ u. u < length numbers) k queue queued.below) found in
     let not_first : (w : ℕ) → Contains done w → slice_index numbers w ≡ slice_index numbers router → w < router = λ w found same. elim (stands w found) [

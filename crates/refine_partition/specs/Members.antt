@@ -23,5 +23,5 @@ pub record AreMembers (numbers : List ℕ) (block : ℕ) (routers : List ℕ) : 
   pub all : (u : ℕ) → u < length numbers → slice_index numbers u ≡ block → Contains routers u
 
 -- the lists of blocks
-abbrev pub lists_of : List (Vec ℕ Global) → List (List ℕ)
-lists_of blocks = map (λ (block : Vec ℕ Global). block.items) blocks
+abbrev pub block_lists : List (Vec ℕ Global) → List (List ℕ)
+block_lists blocks = map (λ (block : Vec ℕ Global). block.items) blocks

@@ -2,7 +2,7 @@
 use Rattle.std.specs.Prelude.{◌≡◌, ◌≢◌, ℕ, ◌+◌, ◌<◌, ◌≤◌, List, [], ◌∷◌, ◌++◌, length, slice_index, slice_index_or, Option, Some, None, Contains, All, Vec, ◌⊎◌}
 use Rattle.std.specs.declared.alloc.Global.{Global}
 use Rattle.refine_partition.specs.Members.{AreBlocks}
-use Rattle.refine_partition.specs.Splits.{StandsBefore}
+use Rattle.refine_partition.specs.Splits.{StandsBeforeByBlock}
 
 -- no router before this one is in its block
 abbrev pub IsFirstOfBlock : List ℕ → ℕ → Type 0
@@ -60,4 +60,4 @@ pub record IsRefined (numbers : List ℕ) (blocks : List (Vec ℕ Global)) (clas
 -- routers in the order of their blocks, each once
 pub record IsQueueOf (numbers queue : List ℕ) : Type 0 where
   pub below : All (λ u. u < length numbers) queue
-  pub in_order : (i j : ℕ) → i < j → j < length queue → StandsBefore numbers (slice_index queue i) (slice_index queue j)
+  pub in_order : (i j : ℕ) → i < j → j < length queue → StandsBeforeByBlock numbers (slice_index queue i) (slice_index queue j)

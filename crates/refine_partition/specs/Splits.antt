@@ -22,8 +22,8 @@ pub record StayTogether (edges : List Edge) (numbers : List ℕ) (taken u v : �
   pub alike : slice_index numbers u ≢ taken → ActAlike edges numbers taken u v
 
 -- the one router stands before the other: by the numbers of their blocks, and within one block as routers
-abbrev pub StandsBefore : List ℕ → ℕ → ℕ → Type 0
-StandsBefore numbers u v = (slice_index numbers u < slice_index numbers v) ⊎ ((slice_index numbers u ≡ slice_index numbers v) × (u < v))
+abbrev pub StandsBeforeByBlock : List ℕ → ℕ → ℕ → Type 0
+StandsBeforeByBlock numbers u v = (slice_index numbers u < slice_index numbers v) ⊎ ((slice_index numbers u ≡ slice_index numbers v) × (u < v))
 
 -- The numbers of the blocks after a split by the block `taken`. The piece of the least member keeps the
 -- number. The further pieces have the next numbers, in the order of the numbers of the divided blocks
@@ -37,7 +37,7 @@ pub record IsSplit (graph : ActGraph) (taken : ℕ) (old new : List ℕ) (before
   pub more : before ≤ after
   pub below : (v : ℕ) → v < graph.count → slice_index new v < after
   pub used : (number : ℕ) → before ≤ number → number < after → (u : ℕ) × (u < graph.count) × (slice_index new u ≡ number)
-  pub in_order : (v number : ℕ) → v < graph.count → before ≤ number → number < slice_index new v → (u : ℕ) × (u < graph.count) × StandsBefore old u v
+  pub in_order : (v number : ℕ) → v < graph.count → before ≤ number → number < slice_index new v → (u : ℕ) × (u < graph.count) × StandsBeforeByBlock old u v
       × (slice_index new u ≡ number)
 
 -- The blocks before the first split: one per color, numbered from 0 by their least members.

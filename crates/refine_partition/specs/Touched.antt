@@ -1,7 +1,7 @@
 -- The blocks that edges reach, and their members.
 use Rattle.std.specs.Prelude.{◌≡◌, ℕ, ◌<◌, List, length, slice_index, All, Contains}
 use Rattle.refine_partition.specs.declared.imports.Import.{Import}
-use Rattle.refine_partition.specs.Splits.{StandsBefore}
+use Rattle.refine_partition.specs.Splits.{StandsBeforeByBlock}
 
 -- the block of an importer
 pub record IsTouched (numbers : List ℕ) (arrivals : List Import) (block : ℕ) : Type 0 where
@@ -23,4 +23,4 @@ pub record IsInBlocks (numbers blocks : List ℕ) (router : ℕ) : Type 0 where
 pub record IsQueue (numbers blocks routers : List ℕ) : Type 0 where
   pub only : All (IsInBlocks numbers blocks) routers
   pub all : (router : ℕ) → IsInBlocks numbers blocks router → Contains routers router
-  pub in_order : (i j : ℕ) → i < j → j < length routers → StandsBefore numbers (slice_index routers i) (slice_index routers j)
+  pub in_order : (i j : ℕ) → i < j → j < length routers → StandsBeforeByBlock numbers (slice_index routers i) (slice_index routers j)

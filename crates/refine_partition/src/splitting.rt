@@ -23,12 +23,12 @@ pub struct Splitting {
 
 impl Model for Splitting {
     ghost use Rattle.std.specs.Prelude.{ℕ, List};
-    ghost use Rattle.refine_partition.specs.Members.{lists_of};
+    ghost use Rattle.refine_partition.specs.Members.{block_lists};
     ghost use Rattle.refine_partition.specs.SplittingInside.{IsSplitting};
 
     ghost Value = { List (List ℕ) };
 
-    ghost view = { λ s. lists_of s.blocks.items };
+    ghost view = { λ s. block_lists s.blocks.items };
 
     ghost invariant = { IsSplitting };
 }

@@ -8,12 +8,12 @@ use Rattle.route_keys.specs.Lone.{HasLoneNumbers}
 use Rattle.solution_check.specs.declared.lone.Lone.{Lone}
 
 -- the numbers on the path of a label that pass the test, ascending
-abbrev pub chosen_of : (ℕ → Bool) → Option Route → List ℕ
-chosen_of test label = option_map_or (λ (r : Route). chosen test (path_of r)) label []
+abbrev pub chosen_on_path : (ℕ → Bool) → Option Route → List ℕ
+chosen_on_path test label = option_map_or (λ (r : Route). chosen test (path_of r)) label []
 
 -- the numbers of lone routers on it
 abbrev pub lone_of : Problem → Option Route → List ℕ
-lone_of problem label = chosen_of (is_lone_number problem) label
+lone_of problem label = chosen_on_path (is_lone_number problem) label
 
 pub record IsLoneOf (problem : Problem) (labels : List (Option Route)) (lone : Lone) : Type 0 where
   pub numbers : HasLoneNumbers problem lone.numbers

@@ -2,7 +2,7 @@
 
 ghost use Rattle.std.specs.Prelude.{◌≡◌, IfOk, map, nat_eq};
 ghost use Rattle.std.specs.HashSet.{contains};
-ghost use Rattle.solution_check.specs.Lone.{chosen_of, IsLoneOf};
+ghost use Rattle.solution_check.specs.Lone.{chosen_on_path, IsLoneOf};
 
 use base_kit::{List, NoMemory, NumSet};
 use route_keys::{lone_numbers, lone_on};
@@ -18,7 +18,7 @@ pub(crate) struct Lone {
 }
 
 fn lone_of(alloc: Global, numbers: &HashSet<u32>, label: &Option<Route>) -> Result<NumSet, NoMemory>
-    ensures { IfOk result (λ set. set ≡ chosen_of (contains nat_eq numbers.now) label.now) }
+    ensures { IfOk result (λ set. set ≡ chosen_on_path (contains nat_eq numbers.now) label.now) }
 {
     match label {
         Some(route) => lone_on(alloc, numbers, route),
@@ -31,7 +31,7 @@ fn lone_paths(
     numbers: &HashSet<u32>,
     labels: &[Option<Route>],
 ) -> Result<List<NumSet>, NoMemory>
-    ensures { IfOk result (λ paths. paths ≡ map (chosen_of (contains nat_eq numbers.now)) labels.now) }
+    ensures { IfOk result (λ paths. paths ≡ map (chosen_on_path (contains nat_eq numbers.now)) labels.now) }
 {
     let mut paths = List::new(alloc);
     for label in labels {

@@ -9,7 +9,7 @@ use Rattle.base_kit.specs.declared.protocol.Protocol.{Protocol}
 use Rattle.base_kit.specs.declared.protocol.Protocol.TheVariants.{Bgp as OverBgp, Ospf as OverOspf}
 use Rattle.abstract_net.specs.declared.qlink.QLink.{QLink}
 use Rattle.abstract_net.specs.Carried.{side_of}
-use Rattle.srp_quotient.specs.Groups.{same_pair, or_else, last_of, last_into, edge_into}
+use Rattle.srp_quotient.specs.Groups.{same_group_pair, or_else, last_of, last_into, edge_into}
 use Rattle.solution_lift.specs.Lasts.{carried, last_between, standing}
 
 abbrev pub AreApart : List QLink → Type 0
@@ -48,15 +48,15 @@ last_more links i l g h old middle new inside at less before first second =
 -- ---- the last edge of a pair
 
 pairs : (links : List QLink) (l : QLink) (g h : ℕ) → AreApart links →
-    ((m : QLink) → m.low < m.high → (if same_pair l m then side_of g m else None) ≡ carried g h m) →
-    filter_map (side_of g) (filter (same_pair l) links) ≡ filter_map (carried g h) links
+    ((m : QLink) → m.low < m.high → (if same_group_pair l m then side_of g m else None) ≡ carried g h m) →
+    filter_map (side_of g) (filter (same_group_pair l) links) ≡ filter_map (carried g h) links
 pairs [] l g h all each = refl
 pairs (m ∷ links) l g h all each =
-    kept (same_pair l m) ∙ (λ i. cons_option (each m (All-head (λ (k : QLink). k.low < k.high) m links all) i)
+    kept (same_group_pair l m) ∙ (λ i. cons_option (each m (All-head (λ (k : QLink). k.low < k.high) m links all) i)
     (pairs links l g h (All-tail (λ (k : QLink). k.low < k.high) m links all) each i))
   where
-    kept : (b : Bool) → filter_map (side_of g) (cond b (m ∷ filter (same_pair l) links) (filter (same_pair l) links)) ≡ cons_option (cond b (side_of g m) None)
-        (filter_map (side_of g) (filter (same_pair l) links))
+    kept : (b : Bool) → filter_map (side_of g) (cond b (m ∷ filter (same_group_pair l) links) (filter (same_group_pair l) links)) ≡ cons_option (cond b (side_of g m) None)
+        (filter_map (side_of g) (filter (same_group_pair l) links))
     kept true = refl
     kept false = refl
 

@@ -9,7 +9,7 @@ use Rattle.base_kit.specs.Partition.{IsNumbered, members_of}
 use Rattle.base_kit.proofs.Elements.{In, in_contains}
 use Rattle.srp_core.specs.Quotient.{first_number}
 use Rattle.srp_quotient.specs.Groups.{first_member}
-use Rattle.solution_lift.specs.Members.{number_among}
+use Rattle.solution_lift.specs.Members.{first_nonzero_number}
 
 shifted : (p : ℕ → Bool) (a b n : ℕ) → b ≡ suc a → filter p (range_with_len b n) ≡ map suc (filter (λ r. p (suc r)) (range_with_len a n))
 shifted p a b zero e = refl
@@ -26,25 +26,25 @@ one_more b ms = cond b (0 ∷ map suc ms) (map suc ms)
 members_cons : (x : ℕ) (xs : List ℕ) (g : ℕ) → members_of (x ∷ xs) g ≡ one_more (x == g) (members_of xs g)
 members_cons x xs g = ap (λ (ms : List ℕ). cond (x == g) (0 ∷ ms) ms) (shifted (λ r. slice_index (x ∷ xs) r == g) 0 1 (length xs) refl)
 
-among_later : (n : ℕ) (ns ms : List ℕ) → number_among (n ∷ ns) (map suc ms) ≡ number_among ns ms
+among_later : (n : ℕ) (ns ms : List ℕ) → first_nonzero_number (n ∷ ns) (map suc ms) ≡ first_nonzero_number ns ms
 among_later n ns [] = refl
 among_later n ns (m ∷ ms) = ap (λ (k : ℕ). if nat_eq (slice_index ns m) 0 then k else slice_index ns m) (among_later n ns ms)
 
-none_among : (ms : List ℕ) → number_among [] ms ≡ 0
+none_among : (ms : List ℕ) → first_nonzero_number [] ms ≡ 0
 none_among [] = refl
 none_among (m ∷ ms) = none_among ms
 
-first_step : (n : ℕ) (ns ms : List ℕ) (b c : Bool) (rest : ℕ) → nat_eq n 0 ≡ c → number_among ns ms ≡ rest →
-    number_among (n ∷ ns) (one_more b ms) ≡ (if b && not c then n else rest)
-first_step n ns ms true true rest e h = ap (λ (d : Bool). if d then number_among (n ∷ ns) (map suc ms) else n) e ∙ among_later n ns ms ∙ h
-first_step n ns ms true false rest e h = ap (λ (d : Bool). if d then number_among (n ∷ ns) (map suc ms) else n) e
+first_step : (n : ℕ) (ns ms : List ℕ) (b c : Bool) (rest : ℕ) → nat_eq n 0 ≡ c → first_nonzero_number ns ms ≡ rest →
+    first_nonzero_number (n ∷ ns) (one_more b ms) ≡ (if b && not c then n else rest)
+first_step n ns ms true true rest e h = ap (λ (d : Bool). if d then first_nonzero_number (n ∷ ns) (map suc ms) else n) e ∙ among_later n ns ms ∙ h
+first_step n ns ms true false rest e h = ap (λ (d : Bool). if d then first_nonzero_number (n ∷ ns) (map suc ms) else n) e
 first_step n ns ms false c rest e h = among_later n ns ms ∙ h
 
-pub among_members : (numbers groups : List ℕ) (g : ℕ) → number_among numbers (members_of groups g) ≡ first_number numbers groups g
+pub among_members : (numbers groups : List ℕ) (g : ℕ) → first_nonzero_number numbers (members_of groups g) ≡ first_number numbers groups g
 unfolding first_number
 among_members [] groups g = none_among (members_of groups g)
 among_members (n ∷ ns) [] g = refl
-among_members (n ∷ ns) (x ∷ xs) g = ap (number_among (n ∷ ns)) (members_cons x xs g)
+among_members (n ∷ ns) (x ∷ xs) g = ap (first_nonzero_number (n ∷ ns)) (members_cons x xs g)
     ∙ first_step n ns (members_of xs g) (x == g) (nat_eq n 0) (first_number ns xs g) refl (among_members ns xs g)
 
 head_step : (b : Bool) (ms : List ℕ) (k : ℕ) → (b ≡ false → slice_get ms 0 ≡ Some k) → slice_get (one_more b ms) 0 ≡ Some (if b then 0 else suc k)

@@ -6,7 +6,7 @@ ghost use Rattle.base_kit.specs.Partition.{IsNumbered, members_of};
 ghost use Rattle.srp_core.specs.Problem.{initial, is_lone};
 ghost use Rattle.srp_core.specs.Quotient.{first_number};
 ghost use Rattle.srp_quotient.specs.Groups.{first_member, touches, number_of_group};
-ghost use Rattle.solution_lift.specs.Members.{number_among};
+ghost use Rattle.solution_lift.specs.Members.{first_nonzero_number};
 ghost use Rattle.abstract_net.specs.Carried.{IsBelow};
 
 use abstract_net::QLink;
@@ -95,7 +95,7 @@ pub fn marks_of(alloc: Global, srp: &Srp, routers: &[u32]) -> Result<List<bool>,
 
 // The first number of these routers that is not 0, or 0.
 fn number_among(numbers: &[u32], routers: &[u32]) -> u32
-    ensures { result ≡ number_among numbers.now routers.now }
+    ensures { result ≡ first_nonzero_number numbers.now routers.now }
 {
     for router in routers {
         let number = numbers.get(*router as usize).copied().unwrap_or(0);

@@ -16,23 +16,23 @@ use Rattle.solution_text.specs.Forms.{NamedLabel, named_label_of}
 use Rattle.solution_text.specs.Solutions.{has_words, are_some, named_labels, is_foreign, kind_of, named_too, first_at_line, first_fault, said_of, labels_by, labels_unless, solution_lines, labels_of_text}
 use Rattle.base_kit.specs.Names.{AreApart}
 use Rattle.base_kit.specs.Options.{all_given}
-use Rattle.solution_text.specs.Steps.{Standing, nothing_said, has_line, said_at, itself, all_labels, with_label, with_place, with_saying, with_words, go_on, ended, answer_from}
+use Rattle.solution_text.specs.Steps.{LabelsSoFar, nothing_said, has_line, with_label_at, is_said, all_labels, with_label, with_place, with_named_label, with_words, continue_with, labels_at_end, answer_from}
 use Rattle.numbered_names.proofs.Positions.{bytes_eq-sym, moved, position_first}
 
 abbrev Labels : Type 0
 Labels = Result (List (Option Route)) SolRefusal
 
-pub answer_next : (protocol : Protocol) (place_of : List ℕ → Option ℕ) (end : ℕ) (l : TextLine) (ls : List TextLine) (s next : Standing) →
+pub answer_next : (protocol : Protocol) (place_of : List ℕ → Option ℕ) (end : ℕ) (l : TextLine) (ls : List TextLine) (s next : LabelsSoFar) →
     with_words protocol place_of l.number s l.words ≡ Ok next → answer_from protocol place_of end (l ∷ ls) s ≡ answer_from protocol place_of end ls next
 unfolding answer_from
-answer_next protocol place_of end l ls s next e = ap (λ (r : Result Standing SolRefusal). go_on r (answer_from protocol place_of end ls)) e
+answer_next protocol place_of end l ls s next e = ap (λ (r : Result LabelsSoFar SolRefusal). continue_with r (answer_from protocol place_of end ls)) e
 
-pub answer_fault : (protocol : Protocol) (place_of : List ℕ → Option ℕ) (end : ℕ) (l : TextLine) (ls : List TextLine) (s : Standing) (e : SolRefusal) →
+pub answer_fault : (protocol : Protocol) (place_of : List ℕ → Option ℕ) (end : ℕ) (l : TextLine) (ls : List TextLine) (s : LabelsSoFar) (e : SolRefusal) →
     with_words protocol place_of l.number s l.words ≡ Err e → answer_from protocol place_of end (l ∷ ls) s ≡ Err e
 unfolding answer_from
-answer_fault protocol place_of end l ls s e is = ap (λ (r : Result Standing SolRefusal). go_on r (answer_from protocol place_of end ls)) is
+answer_fault protocol place_of end l ls s e is = ap (λ (r : Result LabelsSoFar SolRefusal). continue_with r (answer_from protocol place_of end ls)) is
 
-pub answer_done : (protocol : Protocol) (place_of : List ℕ → Option ℕ) (end : ℕ) (s : Standing) → answer_from protocol place_of end [] s ≡ ended end s
+pub answer_done : (protocol : Protocol) (place_of : List ℕ → Option ℕ) (end : ℕ) (s : LabelsSoFar) → answer_from protocol place_of end [] s ≡ labels_at_end end s
 unfolding answer_from
 answer_done protocol place_of end s = refl
 
@@ -48,7 +48,7 @@ given (b ∷ seen) [] = []
 given (b ∷ seen) (label ∷ labels) = given_at b label ∷ given seen labels
 
 -- the standing is what the named_labels say of the names
-record IsOf (says : List NamedLabel) (names : List (List ℕ)) (s : Standing) : Type 0 where
+record IsOf (says : List NamedLabel) (names : List (List ℕ)) (s : LabelsSoFar) : Type 0 where
   total : length s.seen ≡ length names
   labels_total : length s.labels ≡ length names
   said : given s.seen s.labels ≡ map (said_of says) names
@@ -81,15 +81,15 @@ all_cons label labels true = refl
 all_cons label labels false = refl
 
 all_of_given : (seen : List Bool) (labels : List (Option Route)) → length seen ≡ length labels →
-    all_given (given seen labels) ≡ cond (list_all itself seen) (Some labels) None
+    all_given (given seen labels) ≡ cond (list_all is_said seen) (Some labels) None
 all_of_given [] [] e = refl
 all_of_given [] (label ∷ labels) e = absurd (omega arith)
 all_of_given (b ∷ seen) [] e = absurd (omega arith)
 all_of_given (true ∷ seen) (label ∷ labels) e = ap (option_map (λ rest. label ∷ rest)) (all_of_given seen labels (omega arith))
-    ∙ all_cons label labels (list_all itself seen)
+    ∙ all_cons label labels (list_all is_said seen)
 all_of_given (false ∷ seen) (label ∷ labels) e = refl
 
-labels_of : (says : List NamedLabel) (names : List (List ℕ)) (s : Standing) → IsOf says names s → all_labels s ≡ labels_by says names
+labels_of : (says : List NamedLabel) (names : List (List ℕ)) (s : LabelsSoFar) → IsOf says names s → all_labels s ≡ labels_by says names
 unfolding labels_by
 labels_of says names s is = sym (all_of_given s.seen s.labels (omega (arith, is.total, is.labels_total))) ∙ ap all_given is.said
 
@@ -232,14 +232,14 @@ given_set (b ∷ seen) (l ∷ labels) zero label e = refl
 given_set (b ∷ seen) (l ∷ labels) (suc k) label e = ap (λ (xs : List (Option (Option Route))). given_at b l ∷ xs) (given_set seen labels k label (omega arith))
 
 -- what the standing says of a name
-line_of_name : (says : List NamedLabel) (names : List (List ℕ)) (s : Standing) (wanted : List ℕ) (k : ℕ) → IsOf says names s →
+line_of_name : (says : List NamedLabel) (names : List (List ℕ)) (s : LabelsSoFar) (wanted : List ℕ) (k : ℕ) → IsOf says names s →
     position (bytes_eq wanted) names ≡ Some k → has_line s k ≡ is_some (said_of says wanted)
 line_of_name says names s wanted k is found =
     sym (seen_at s.seen s.labels k (omega (arith, is.total, is.labels_total)))
     ∙ ap (λ (xs : List (Option (Option Route))). is_some (slice_index_or xs k None)) is.said ∙ ap is_some (named_at says wanted names k found).1
 
-is_of_more : (says : List NamedLabel) (names : List (List ℕ)) (st : Standing) (s : NamedLabel) (k : ℕ) → AreApart names → IsOf says names st →
-    position (bytes_eq s.name) names ≡ Some k → said_of says s.name ≡ None → IsOf (says ++ s ∷ []) names (said_at st k s.label)
+is_of_more : (says : List NamedLabel) (names : List (List ℕ)) (st : LabelsSoFar) (s : NamedLabel) (k : ℕ) → AreApart names → IsOf says names st →
+    position (bytes_eq s.name) names ≡ Some k → said_of says s.name ≡ None → IsOf (says ++ s ∷ []) names (with_label_at st k s.label)
 is_of_more says names st s k apart is found new = record {
   total = length-set st.seen k true ∙ is.total;
   labels_total = length-set st.labels k s.label ∙ is.labels_total;
@@ -289,7 +289,7 @@ module _ (protocol : Protocol) (names : List (List ℕ)) (apart : AreApart names
   judged_from says earlier lines = labels_unless (first_fault protocol names earlier lines) end (labels_by (says ++ named_labels lines) names)
 
   abbrev Agrees : List TextLine → Type 0
-  Agrees ls = (says : List NamedLabel) (earlier : List (List ℕ)) (st : Standing) → IsOf says names st → AreEarlier says earlier →
+  Agrees ls = (says : List NamedLabel) (earlier : List (List ℕ)) (st : LabelsSoFar) → IsOf says names st → AreEarlier says earlier →
       answer_from protocol place_of end ls st ≡ judged_from says earlier (filter has_words ls)
 
   -- where the line is at fault, so is the text
@@ -327,17 +327,17 @@ module _ (protocol : Protocol) (names : List (List ℕ)) (apart : AreApart names
   known_kind earlier s k is = rw is.known refl
 
   -- a line that names a router
-  agrees_named : (l : TextLine) (ls : List TextLine) → Agrees ls → (says : List NamedLabel) (earlier : List (List ℕ)) (st : Standing) → IsOf says names st →
+  agrees_named : (l : TextLine) (ls : List TextLine) → Agrees ls → (says : List NamedLabel) (earlier : List (List ℕ)) (st : LabelsSoFar) → IsOf says names st →
       AreEarlier says earlier → (s : NamedLabel) → named_label_of l.words ≡ Some s → (k : ℕ) → Names s k
       → (said : Option (Option Route)) → said_of says s.name ≡ said → (foreign : Bool) → is_foreign protocol s.label ≡ foreign →
-      go_on (with_label protocol l.number st k s.label) (answer_from protocol place_of end ls) ≡ judged_from says earlier (l ∷ filter has_words ls)
+      continue_with (with_label protocol l.number st k s.label) (answer_from protocol place_of end ls) ≡ judged_from says earlier (l ∷ filter has_words ls)
   agrees_named l ls rest says earlier st is are s e k named (Some label) said foreign f =
       let there : has_line st k ≡ true = line_of_name says names st s.name k is named.found ∙ ap is_some said in
       let before : list_any (bytes_eq s.name) earlier ≡ true = are s.name ∙ ap is_some said in
       let kind : kind_of protocol names earlier (named_label_of l.words) ≡ Some Repeated = ap (kind_of protocol names earlier) e ∙ known_kind earlier s k named
       ∙ ap (λ (b : Bool). cond b (Some Repeated) (cond (is_foreign protocol s.label) (Some WrongProtocol) None)) before in
-      ap (λ (b : Bool). go_on (cond b (Err (At l.number Repeated))
-      (cond (is_foreign protocol s.label) (Err (At l.number WrongProtocol)) (Ok (said_at st k s.label)))) (answer_from protocol place_of end ls)) there
+      ap (λ (b : Bool). continue_with (cond b (Err (At l.number Repeated))
+      (cond (is_foreign protocol s.label) (Err (At l.number WrongProtocol)) (Ok (with_label_at st k s.label)))) (answer_from protocol place_of end ls)) there
       ∙ sym (fault_first says earlier l (filter has_words ls) Repeated kind)
   agrees_named l ls rest says earlier st is are s e k named None said true f =
       let there : has_line st k ≡ false = line_of_name says names st s.name k is named.found ∙ ap is_some said in
@@ -345,9 +345,9 @@ module _ (protocol : Protocol) (names : List (List ℕ)) (apart : AreApart names
       let kind : kind_of protocol names earlier (named_label_of l.words) ≡ Some WrongProtocol = ap (kind_of protocol names earlier) e
       ∙ known_kind earlier s k named ∙ ap (λ (b : Bool). cond b (Some Repeated) (cond (is_foreign protocol s.label) (Some WrongProtocol) None)) before
       ∙ ap (λ (b : Bool). cond b (Some WrongProtocol) None) f in
-      ap (λ (b : Bool). go_on (cond b (Err (At l.number Repeated))
-      (cond (is_foreign protocol s.label) (Err (At l.number WrongProtocol)) (Ok (said_at st k s.label)))) (answer_from protocol place_of end ls)) there
-      ∙ ap (λ (b : Bool). go_on (cond b (Err (At l.number WrongProtocol)) (Ok (said_at st k s.label))) (answer_from protocol place_of end ls)) f
+      ap (λ (b : Bool). continue_with (cond b (Err (At l.number Repeated))
+      (cond (is_foreign protocol s.label) (Err (At l.number WrongProtocol)) (Ok (with_label_at st k s.label)))) (answer_from protocol place_of end ls)) there
+      ∙ ap (λ (b : Bool). continue_with (cond b (Err (At l.number WrongProtocol)) (Ok (with_label_at st k s.label))) (answer_from protocol place_of end ls)) f
       ∙ sym (fault_first says earlier l (filter has_words ls) WrongProtocol kind)
   agrees_named l ls rest says earlier st is are s e k named None said false f =
       let there : has_line st k ≡ false = line_of_name says names st s.name k is named.found ∙ ap is_some said in
@@ -355,16 +355,16 @@ module _ (protocol : Protocol) (names : List (List ℕ)) (apart : AreApart names
       let kind : kind_of protocol names earlier (Some s) ≡ None = known_kind earlier s k named
       ∙ ap (λ (b : Bool). cond b (Some Repeated) (cond (is_foreign protocol s.label) (Some WrongProtocol) None)) before
       ∙ ap (λ (b : Bool). cond b (Some WrongProtocol) None) f in
-      ap (λ (b : Bool). go_on (cond b (Err (At l.number Repeated))
-      (cond (is_foreign protocol s.label) (Err (At l.number WrongProtocol)) (Ok (said_at st k s.label)))) (answer_from protocol place_of end ls)) there
-      ∙ ap (λ (b : Bool). go_on (cond b (Err (At l.number WrongProtocol)) (Ok (said_at st k s.label))) (answer_from protocol place_of end ls)) f
-      ∙ rest (says ++ s ∷ []) (s.name ∷ earlier) (said_at st k s.label) (is_of_more says names st s k apart is named.found said)
+      ap (λ (b : Bool). continue_with (cond b (Err (At l.number Repeated))
+      (cond (is_foreign protocol s.label) (Err (At l.number WrongProtocol)) (Ok (with_label_at st k s.label)))) (answer_from protocol place_of end ls)) there
+      ∙ ap (λ (b : Bool). continue_with (cond b (Err (At l.number WrongProtocol)) (Ok (with_label_at st k s.label))) (answer_from protocol place_of end ls)) f
+      ∙ rest (says ++ s ∷ []) (s.name ∷ earlier) (with_label_at st k s.label) (is_of_more says names st s k apart is named.found said)
       (earlier_more says earlier s are)
       ∙ sym (no_fault says earlier l (filter has_words ls) s e kind)
 
-  agrees_placed : (l : TextLine) (ls : List TextLine) → Agrees ls → (says : List NamedLabel) (earlier : List (List ℕ)) (st : Standing) → IsOf says names st →
+  agrees_placed : (l : TextLine) (ls : List TextLine) → Agrees ls → (says : List NamedLabel) (earlier : List (List ℕ)) (st : LabelsSoFar) → IsOf says names st →
       AreEarlier says earlier → (s : NamedLabel) → named_label_of l.words ≡ Some s → (p : Option ℕ) → position (bytes_eq s.name) names ≡ p
-      → go_on (with_place protocol l.number st s.label p) (answer_from protocol place_of end ls) ≡ judged_from says earlier (l ∷ filter has_words ls)
+      → continue_with (with_place protocol l.number st s.label p) (answer_from protocol place_of end ls) ≡ judged_from says earlier (l ∷ filter has_words ls)
   agrees_placed l ls rest says earlier st is are s e None found =
       let unknown : list_any (bytes_eq s.name) names ≡ false = any_place (bytes_eq s.name) names ∙ ap is_some found in
       let kind : kind_of protocol names earlier (named_label_of l.words) ≡ Some UnknownRouter = ap (kind_of protocol names earlier) e
@@ -374,17 +374,17 @@ module _ (protocol : Protocol) (names : List (List ℕ)) (apart : AreApart names
   agrees_placed l ls rest says earlier st is are s e (Some k) found =
       agrees_named l ls rest says earlier st is are s e k (names_place s k found) (said_of says s.name) refl (is_foreign protocol s.label) refl
 
-  agrees_said : (l : TextLine) (ls : List TextLine) → Agrees ls → (says : List NamedLabel) (earlier : List (List ℕ)) (st : Standing) → IsOf says names st →
+  agrees_said : (l : TextLine) (ls : List TextLine) → Agrees ls → (says : List NamedLabel) (earlier : List (List ℕ)) (st : LabelsSoFar) → IsOf says names st →
       AreEarlier says earlier → (o : Option NamedLabel) → named_label_of l.words ≡ o
-      → go_on (with_saying protocol place_of l.number st o) (answer_from protocol place_of end ls) ≡ judged_from says earlier (l ∷ filter has_words ls)
+      → continue_with (with_named_label protocol place_of l.number st o) (answer_from protocol place_of end ls) ≡ judged_from says earlier (l ∷ filter has_words ls)
   agrees_said l ls rest says earlier st is are None e = sym (fault_first says earlier l (filter has_words ls) BadForm (ap (kind_of protocol names earlier) e))
   agrees_said l ls rest says earlier st is are (Some s) e =
-      ap (λ (p : Option ℕ). go_on (with_place protocol l.number st s.label p) (answer_from protocol place_of end ls)) (is_place s.name)
+      ap (λ (p : Option ℕ). continue_with (with_place protocol l.number st s.label p) (answer_from protocol place_of end ls)) (is_place s.name)
       ∙ agrees_placed l ls rest says earlier st is are s e (position (bytes_eq s.name) names) refl
 
-  agrees_words : (l : TextLine) (ls : List TextLine) → Agrees ls → (says : List NamedLabel) (earlier : List (List ℕ)) (st : Standing) → IsOf says names st →
+  agrees_words : (l : TextLine) (ls : List TextLine) → Agrees ls → (says : List NamedLabel) (earlier : List (List ℕ)) (st : LabelsSoFar) → IsOf says names st →
       AreEarlier says earlier → (ws : List (List ℕ)) → l.words ≡ ws
-      → go_on (with_words protocol place_of l.number st ws) (answer_from protocol place_of end ls) ≡ judged_from says earlier
+      → continue_with (with_words protocol place_of l.number st ws) (answer_from protocol place_of end ls) ≡ judged_from says earlier
       (cond (are_some ws) (l ∷ filter has_words ls) (filter has_words ls))
   agrees_words l ls rest says earlier st is are [] e = rest says earlier st is are
   agrees_words l ls rest says earlier st is are (w ∷ ws) e = agrees_said l ls rest says earlier st is are (named_label_of (w ∷ ws)) (ap named_label_of e)

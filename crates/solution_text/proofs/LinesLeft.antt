@@ -15,15 +15,15 @@ use Rattle.solution_text.specs.declared.refusal.SolRefusal.TheVariants as sol_re
 use Rattle.solution_text.specs.Answers.{ReadsSolution}
 use Rattle.solution_text.specs.Forms.{NamedLabel, named_label_of}
 use Rattle.solution_text.specs.Solutions.{is_foreign}
-use Rattle.solution_text.specs.Steps.{Standing, has_line, said_at, with_label, with_place, with_saying, with_words, ended, answer_from}
+use Rattle.solution_text.specs.Steps.{LabelsSoFar, has_line, with_label_at, with_label, with_place, with_named_label, with_words, labels_at_end, answer_from}
 use Rattle.solution_text.proofs.Judging.{answer_next, answer_fault, answer_done, named_at}
 
-module _ (protocol : Protocol) (place_of : List ℕ → Option ℕ) (last : ℕ) (bs : List ℕ) (n from end upto : ℕ) (cut : Cut bs from end upto) (s : Standing) where
-  said_words : (r : Result Standing SolRefusal) → with_words protocol place_of n s (words_of (slice_range bs from upto)) ≡ r →
+module _ (protocol : Protocol) (place_of : List ℕ → Option ℕ) (last : ℕ) (bs : List ℕ) (n from end upto : ℕ) (cut : Cut bs from end upto) (s : LabelsSoFar) where
+  said_words : (r : Result LabelsSoFar SolRefusal) → with_words protocol place_of n s (words_of (slice_range bs from upto)) ≡ r →
       with_words protocol place_of n s (texts bs (words_between bs from upto)) ≡ r
   said_words r e = ap (with_words protocol place_of n s) (same_words bs from upto cut.front cut.short) ∙ e
 
-  pub left_next : (next : Standing) → with_words protocol place_of n s (words_of (slice_range bs from upto)) ≡ Ok next →
+  pub left_next : (next : LabelsSoFar) → with_words protocol place_of n s (words_of (slice_range bs from upto)) ≡ Ok next →
       answer_from protocol place_of last (left_from bs n from) s ≡ answer_from protocol place_of last (left_from bs (n + 1) (end + 1)) next
   left_next next e =
       ap (λ (ls : List TextLine). answer_from protocol place_of last ls s) (left_is bs n from end upto cut)
@@ -36,34 +36,34 @@ module _ (protocol : Protocol) (place_of : List ℕ → Option ℕ) (last : ℕ)
       ∙ answer_fault protocol place_of last (text_line bs (line_of bs (cut_piece n from upto))) (left_from bs (n + 1) (end + 1)) s fault
       (said_words (Err fault) e)
 
-pub none_left : (protocol : Protocol) (place_of : List ℕ → Option ℕ) (last : ℕ) (bs : List ℕ) (n from : ℕ) (s : Standing) → length bs ≤ from →
-    answer_from protocol place_of last (left_from bs n from) s ≡ ended last s
+pub none_left : (protocol : Protocol) (place_of : List ℕ → Option ℕ) (last : ℕ) (bs : List ℕ) (n from : ℕ) (s : LabelsSoFar) → length bs ≤ from →
+    answer_from protocol place_of last (left_from bs n from) s ≡ labels_at_end last s
 none_left protocol place_of last bs n from s le =
     ap (λ (ps : List Piece). answer_from protocol place_of last (map (text_line bs) (map (line_of bs) ps)) s) (pieces_end bs n from le)
     ∙ answer_done protocol place_of last s
 
 -- ---- a line keeps how many routers there are
 
-label_count : (protocol : Protocol) (n : ℕ) (s : Standing) (k : ℕ) (l : Option Route) (b c : Bool) (next : Standing) → has_line s k ≡ b →
+label_count : (protocol : Protocol) (n : ℕ) (s : LabelsSoFar) (k : ℕ) (l : Option Route) (b c : Bool) (next : LabelsSoFar) → has_line s k ≡ b →
     is_foreign protocol l ≡ c → with_label protocol n s k l ≡ Ok next → length next.seen ≡ length s.seen
 label_count protocol n s k l true c next t f e = absurd (let w = rw t at e in cc)
 label_count protocol n s k l false true next t f e = absurd (let w = rw (t, f) at e in cc)
-label_count protocol n s k l false false next t f e = let w : said_at s k l ≡ next = (let v = rw (t, f) at e in cc) in
-    ap (λ (x : Standing). length x.seen) (sym w) ∙ length-set s.seen k true
+label_count protocol n s k l false false next t f e = let w : with_label_at s k l ≡ next = (let v = rw (t, f) at e in cc) in
+    ap (λ (x : LabelsSoFar). length x.seen) (sym w) ∙ length-set s.seen k true
 
-place_count : (protocol : Protocol) (n : ℕ) (s : Standing) (l : Option Route) (p : Option ℕ) (next : Standing) → with_place protocol n s l p ≡ Ok next →
+place_count : (protocol : Protocol) (n : ℕ) (s : LabelsSoFar) (l : Option Route) (p : Option ℕ) (next : LabelsSoFar) → with_place protocol n s l p ≡ Ok next →
     length next.seen ≡ length s.seen
 place_count protocol n s l None next e = absurd cc
 place_count protocol n s l (Some k) next e = label_count protocol n s k l (has_line s k) (is_foreign protocol l) next refl refl e
 
-saying_count : (protocol : Protocol) (place_of : List ℕ → Option ℕ) (n : ℕ) (s : Standing) (o : Option NamedLabel) (next : Standing) →
-    with_saying protocol place_of n s o ≡ Ok next → length next.seen ≡ length s.seen
+saying_count : (protocol : Protocol) (place_of : List ℕ → Option ℕ) (n : ℕ) (s : LabelsSoFar) (o : Option NamedLabel) (next : LabelsSoFar) →
+    with_named_label protocol place_of n s o ≡ Ok next → length next.seen ≡ length s.seen
 saying_count protocol place_of n s None next e = absurd cc
 saying_count protocol place_of n s (Some says) next e = place_count protocol n s says.label (place_of says.name) next e
 
-pub words_count : (protocol : Protocol) (place_of : List ℕ → Option ℕ) (n : ℕ) (s : Standing) (ws : List (List ℕ)) (next : Standing) →
+pub words_count : (protocol : Protocol) (place_of : List ℕ → Option ℕ) (n : ℕ) (s : LabelsSoFar) (ws : List (List ℕ)) (next : LabelsSoFar) →
     with_words protocol place_of n s ws ≡ Ok next → length next.seen ≡ length s.seen
-words_count protocol place_of n s [] next e = let same : s ≡ next = cc in ap (λ (x : Standing). length x.seen) (sym same)
+words_count protocol place_of n s [] next e = let same : s ≡ next = cc in ap (λ (x : LabelsSoFar). length x.seen) (sym same)
 words_count protocol place_of n s (w ∷ ws) next e = saying_count protocol place_of n s (named_label_of (w ∷ ws)) next e
 
 -- ---- answers

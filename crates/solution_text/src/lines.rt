@@ -6,7 +6,7 @@ ghost use Rattle.numbered_names.specs.NamePlaces.{AreBelow, place_in};
 ghost use Rattle.solution_text.specs.Answers.{ReadsSolution};
 ghost use Rattle.solution_text.specs.Forms.{named_label_of};
 ghost use Rattle.solution_text.specs.Solutions.{is_foreign};
-ghost use Rattle.solution_text.specs.Steps.{with_label, with_saying, with_words};
+ghost use Rattle.solution_text.specs.Steps.{with_label, with_named_label, with_words};
 
 use crate::forms::label_form;
 use crate::refusal::{SolKind, SolRefusal};
@@ -70,7 +70,7 @@ fn with_saying(
 ) -> Result<Said, SolRefusal>
     requires within { AreBelow places.now (length said.seen) }
     requires few { AreBelow places.now (2 ^ 32) }
-    ensures { ReadsSolution result (with_saying protocol (place_in places.now) line said (named_label_of (name.now ∷ words_of text.now))) }
+    ensures { ReadsSolution result (with_named_label protocol (place_in places.now) line said (named_label_of (name.now ∷ words_of text.now))) }
 {
     let bad_form = SolRefusal::At {
         line,

@@ -2,7 +2,7 @@
 
 ghost use Rattle.std.specs.Prelude.{◌≡◌, ◌<◌, ◌≤◌, ◌^◌, IfOk, length, replicate, Some, None, false, if◌then◌else◌, slice_index_or};
 ghost use Rattle.std.specs.List.{list_all};
-ghost use Rattle.solution_text.specs.Steps.{nothing_said, has_line, said_at, all_labels, itself};
+ghost use Rattle.solution_text.specs.Steps.{nothing_said, has_line, with_label_at, all_labels, is_said};
 
 use base_kit::NoMemory;
 use srp_core::{Labels, Route};
@@ -18,9 +18,9 @@ pub(crate) struct Said {
 
 impl Model for Said {
     ghost use Rattle.std.specs.Prelude.{◌≡◌, length};
-    ghost use Rattle.solution_text.specs.Steps.{Standing};
+    ghost use Rattle.solution_text.specs.Steps.{LabelsSoFar};
 
-    ghost Value = { Standing };
+    ghost Value = { LabelsSoFar };
 
     ghost view = { λ s. record { seen = s.seen.items; labels = s.labels } };
 
@@ -48,7 +48,7 @@ fn none_seen(alloc: Global, count: usize) -> Result<Vec<bool>, NoMemory>
 }
 
 fn are_all_seen(seen: &[bool]) -> bool
-    ensures { result ≡ list_all itself seen.now }
+    ensures { result ≡ list_all is_said seen.now }
 {
     seen.iter().all(|b| *b)
 }
@@ -74,7 +74,7 @@ impl Said {
     /// The router has that label.
     pub(crate) fn with(self, router: u32, label: Option<Route>) -> Said
         requires { router < length self.seen }
-        ensures { result ≡ said_at self router label }
+        ensures { result ≡ with_label_at self router label }
     {
         let Said {
             mut seen,

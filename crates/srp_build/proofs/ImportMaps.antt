@@ -17,7 +17,7 @@ use Rattle.srp_build.specs.declared.hops.Hop.{Hop}
 use Rattle.srp_build.specs.declared.imports.ImportByMaps.{ImportByMaps}
 use Rattle.srp_build.specs.BgpEdges.{import_at}
 use Rattle.srp_build.specs.LineMaps.{LineMaps, AreLineMaps}
-use Rattle.srp_build.specs.Lines.{map_of_line, closed, map_at, sends_at}
+use Rattle.srp_build.specs.Lines.{map_of_line, deny_all, map_at, sends_at}
 use Rattle.srp_build.specs.Plains.{SayTheSame, IsNumberOf, HasNumbers, HaveNumbers, number_at, map_numbered, import_over}
 use Rattle.srp_build.proofs.FirstUse.{within_get}
 use Rattle.srp_build.proofs.LinkPlaces.{direction_of}
@@ -94,8 +94,8 @@ pub map_at_line : (p : Prefix) (routers : List Router) (inbound : Bool) (place i
     slice_get routers place ≡ Some router → slice_get (neighbors_of router) item ≡ Some line →
     map_at p routers inbound place item ≡ map_of_line p router inbound line
 map_at_line p routers inbound place item router line at line_at =
-    ap (λ (o : Option Router). option_map_or (λ (r : Router). option_map_or (map_of_line p r inbound) (slice_get (neighbors_of r) item) closed) o closed) at
-    ∙ ap (λ (o : Option Neighbor). option_map_or (map_of_line p router inbound) o closed) line_at
+    ap (λ (o : Option Router). option_map_or (λ (r : Router). option_map_or (map_of_line p r inbound) (slice_get (neighbors_of r) item) deny_all) o deny_all) at
+    ∙ ap (λ (o : Option Neighbor). option_map_or (map_of_line p router inbound) o deny_all) line_at
 
 pub sends_at_line : (routers : List Router) (place item : ℕ) (router : Router) (line : Neighbor) → slice_get routers place ≡ Some router →
     slice_get (neighbors_of router) item ≡ Some line → sends_at routers place item ≡ line.sends

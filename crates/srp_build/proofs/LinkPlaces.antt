@@ -12,7 +12,7 @@ use Rattle.cfg_ast.specs.meaning.Topology.{Place, place_on, places_on, places, i
 use Rattle.srp_core.specs.ProblemOf.{Direction, low_imports, high_imports, IsDirection}
 use Rattle.srp_build.specs.declared.hops.Hop.{Hop}
 use Rattle.srp_build.specs.Directions.{directions_of}
-use Rattle.srp_build.specs.Hops.{into_low, into_high, hops_of, AreInside}
+use Rattle.srp_build.specs.Hops.{into_low, into_high, hops_of, AreHopsInside}
 use Rattle.srp_build.proofs.FirstUse.{within_get}
 use Rattle.srp_build.proofs.SortedHops.{IsHopOf, hop_of, low_hop, high_hop, sorted_in, in_sorted}
 
@@ -132,7 +132,7 @@ pub direction_hop : (n : Network) (d : Direction) → IsDirection n d → In (ho
 direction_hop n d (inl low) = low_hop (links_of n) d.link (low_imports d) low
 direction_hop n d (inr high) = high_hop (links_of n) d.link (high_imports d) high
 
-pub all_inside : (n : Network) → AreInside (length n.routers) (hops_of (links_of n))
+pub all_inside : (n : Network) → AreHopsInside (length n.routers) (hops_of (links_of n))
 all_inside n = record {
   importers = all_from (λ (hop : Hop). hop.importer < length n.routers) (hops_of (links_of n))
       (λ hop at. (is_between n hop (hop_of (links_of n) hop at)).importer_in);

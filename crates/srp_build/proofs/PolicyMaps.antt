@@ -14,11 +14,11 @@ use Rattle.srp_build.specs.declared.policies.LinePolicies.{LinePolicies}
 use Rattle.srp_build.specs.declared.lines.LinePlace.{LinePlace}
 use Rattle.srp_build.specs.declared.imports.ImportByPolicies.{ImportByPolicies}
 use Rattle.srp_build.specs.declared.imports.ImportByMaps.{ImportByMaps}
-use Rattle.srp_build.specs.BgpEdges.{import_at, AreInside}
+use Rattle.srp_build.specs.BgpEdges.{import_at, AreImportsInside}
 use Rattle.srp_build.specs.LinePolicies.{map_of_place, IsPolicyOf, ArePoliciesOf, HavePolicies, AreLinePolicies, AreImportsOf}
 use Rattle.srp_build.specs.LineMaps.{AreLineMaps, AreMapsOfPolicies, map_number_at, with_maps, line_maps}
 use Rattle.srp_build.specs.Lines.{map_of_line, sends_at}
-use Rattle.srp_build.specs.Plains.{IsNumberOf, IsGrownBy, IsMapOfPlace, IsNumberOfLine, AreNumbersOf, HaveNumbers, number_at, import_by_policies}
+use Rattle.srp_build.specs.Plains.{IsNumberOf, IsGrownBy, IsMapOfPlace, IsNumberOfLine, AreNumbersOfLines, HaveNumbers, number_at, import_by_policies}
 use Rattle.srp_build.proofs.FirstUse.{get_front, front_or_last, take_more, length_last, within_get}
 use Rattle.srp_build.proofs.LinePolicyLemmas.{says_too}
 use Rattle.srp_build.proofs.ImportMaps.{IsImportAt, import_is_at, line_numbered}
@@ -152,7 +152,7 @@ module _ (p : Prefix) (all : List Router) (policies : List LinePlace) (maps : Li
       }
 
   router_numbers : (router : Router) (of : List ℕ) → ArePoliciesOf all router inbound policies (neighbors_of router) of →
-      AreNumbersOf p router inbound maps (neighbors_of router) (map (map_number_at numbers) of)
+      AreNumbersOfLines p router inbound maps (neighbors_of router) (map (map_number_at numbers) of)
   router_numbers router of are place number at = by_policy (slice_get of place) refl (sym (get_map (map_number_at numbers) of place) ∙ at)
     where
       by_policy : (o : Option ℕ) → slice_get of place ≡ o → option_map (map_number_at numbers) o ≡ Some number →
@@ -194,7 +194,7 @@ below p inbound maps routers table have router item number at = let line = line_
     within_get maps number line.is.other line.is.at
 
 pub inside_are : (p : Prefix) (routers : List Router) (policies : LinePolicies) (maps : PolicyMaps) (hops : List Hop) (imports : List ImportByPolicies) →
-    AreLineMaps p routers (line_maps policies maps) → AreImportsOf routers policies hops imports → AreInside maps imports
+    AreLineMaps p routers (line_maps policies maps) → AreImportsOf routers policies hops imports → AreImportsInside maps imports
 inside_are p routers policies maps hops imports lines are place import at =
     let inside = within_get imports place import at in
     let total = are.total in

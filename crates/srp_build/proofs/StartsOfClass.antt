@@ -14,7 +14,7 @@ use Rattle.cfg_ast.specs.meaning.Classes.{initial_route, origin_at, origins_of, 
 use Rattle.cfg_ast.proofs.ClassFacts.{one_class}
 use Rattle.srp_core.specs.declared.route.Route.{Route}
 use Rattle.srp_core.specs.ProblemOf.{route_from, start_route}
-use Rattle.srp_build.specs.Starts.{first_at, behind, starts_from}
+use Rattle.srp_build.specs.Starts.{first_cost_at, origins_behind, starts_from}
 
 -- the origins are at that place or later ones
 abbrev AllFrom : ℕ → List Origin → Type 0
@@ -34,12 +34,12 @@ later : (p : Prefix) (n : ℕ) (routers : List Router) → AllFrom n (filter_map
 later p n [] = tt
 later p n (router ∷ routers) = from_option n (initial_route router p) (filter_map (origin_at p) (enumerate_from (n + 1) routers)) (later p (n + 1) routers)
 
-first_later : (place : ℕ) (more : List Origin) → AllFrom (place + 1) more → first_at place more ≡ None
+first_later : (place : ℕ) (more : List Origin) → AllFrom (place + 1) more → first_cost_at place more ≡ None
 first_later place [] all = refl
 first_later place (origin ∷ origins) all =
     ap (λ (b : Bool). cond b (Some origin.cost) None) (other_number origin.router place (λ e. let first = all.0 in absurd (omega arith)))
 
-behind_later : (place : ℕ) (more : List Origin) → AllFrom (place + 1) more → behind place more ≡ more
+behind_later : (place : ℕ) (more : List Origin) → AllFrom (place + 1) more → origins_behind place more ≡ more
 behind_later place [] all = refl
 behind_later place (origin ∷ origins) all =
     ap (λ (b : Bool). cond b origins (origin ∷ origins)) (other_number origin.router place (λ e. let first = all.0 in absurd (omega arith)))
@@ -48,7 +48,7 @@ start_step : (place : ℕ) (router : Router) (routers : List Router) (o : Option
     → starts_from place (cons_option (option_map (λ (cost : Option ℕ). let origin : Origin = record { router = place; cost = cost } in origin) o) more)
     (router ∷ routers) ≡ option_map (route_from router) o ∷ starts_from (place + 1) more routers
 start_step place router routers None more all =
-    ap (λ (o : Option (Option ℕ)). option_map (route_from router) o ∷ starts_from (place + 1) (behind place more) routers) (first_later place more all)
+    ap (λ (o : Option (Option ℕ)). option_map (route_from router) o ∷ starts_from (place + 1) (origins_behind place more) routers) (first_later place more all)
     ∙ ap (λ (l : List Origin). None ∷ starts_from (place + 1) l routers) (behind_later place more all)
 start_step place router routers (Some cost) more all =
     ap (λ (b : Bool). option_map (route_from router) (cond b (Some cost) None) ∷ starts_from (place + 1)

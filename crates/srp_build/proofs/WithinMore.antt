@@ -20,7 +20,7 @@ use Rattle.route_maps.specs.declared.plain.PlainEntry.{PlainEntry}
 use Rattle.route_maps.specs.Within.{AreWithin, IsLineWithin, IsListWithin, AreListsWithin, IsChangeWithin, IsEntryWithin, IsMapWithin}
 use Rattle.specialize.specs.OnePrefix.{plain_of}
 use Rattle.srp_build.specs.LineMaps.{LineMaps, AreLineMaps}
-use Rattle.srp_build.specs.Lines.{map_of_line, closed, map_at}
+use Rattle.srp_build.specs.Lines.{map_of_line, deny_all, map_at}
 use Rattle.srp_build.specs.MetImports.{AreMapsWithin}
 
 each_as : {X : Type 0} (P Q : X → Type 0) → ((x : X) → P x → Q x) → (xs : List X) → AllByRecursion P xs → AllByRecursion Q xs
@@ -75,20 +75,20 @@ line_within : MapsStayWithin → (n : Network) (p : Prefix) (router : Router) �
 line_within stay n p router has true line = stay n router has _ _ p true
 line_within stay n p router has false line = stay n router has _ _ p false
 
-closed_within : (set : List ℕ) → IsMapWithin set closed
+closed_within : (set : List ℕ) → IsMapWithin set deny_all
 closed_within set = tt
 
 place_within : MapsStayWithin → (n : Network) (p : Prefix) (inbound : Bool) (router item : ℕ) →
     IsMapWithin (communities_of n) (map_at p n.routers inbound router item)
 place_within stay n p inbound router item = by_router (slice_get n.routers router) refl
   where
-    by_line : (r : Router) → Contains n.routers r → (o : Option Neighbor) → IsMapWithin (communities_of n) (option_map_or (map_of_line p r inbound) o closed)
+    by_line : (r : Router) → Contains n.routers r → (o : Option Neighbor) → IsMapWithin (communities_of n) (option_map_or (map_of_line p r inbound) o deny_all)
     by_line r has None = closed_within (communities_of n)
     by_line r has (Some line) = line_within stay n p r has inbound line
 
     by_router : (o : Option Router) → slice_get n.routers router ≡ o →
-        IsMapWithin (communities_of n) (option_map_or (λ (r : Router). option_map_or (map_of_line p r inbound) (slice_get (neighbors_of r) item) closed) o
-        closed)
+        IsMapWithin (communities_of n) (option_map_or (λ (r : Router). option_map_or (map_of_line p r inbound) (slice_get (neighbors_of r) item) deny_all) o
+        deny_all)
     by_router None none = closed_within (communities_of n)
     by_router (Some r) some = by_line r (contains_in n.routers r (get_in n.routers router r some)) (slice_get (neighbors_of r) item)
 

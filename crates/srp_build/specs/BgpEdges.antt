@@ -27,12 +27,12 @@ abbrev pub has_initial : List (Option Route) → ℕ → Bool
 has_initial init router = is_some (slice_index_or init router None)
 
 -- the numbers of both maps of an import are places of maps
-pub record IsInside (maps : PolicyMaps) (import : ImportByPolicies) : Type 0 where
+pub record IsImportInside (maps : PolicyMaps) (import : ImportByPolicies) : Type 0 where
   pub out : map_number_at maps.numbers.items import.out < length maps.maps.items
   pub into : map_number_at maps.numbers.items import.into < length maps.maps.items
 
-abbrev pub AreInside : PolicyMaps → List ImportByPolicies → Type 0
-AreInside maps imports = (place : ℕ) (import : ImportByPolicies) → slice_get imports place ≡ Some import → IsInside maps import
+abbrev pub AreImportsInside : PolicyMaps → List ImportByPolicies → Type 0
+AreImportsInside maps imports = (place : ℕ) (import : ImportByPolicies) → slice_get imports place ≡ Some import → IsImportInside maps import
 
 -- the import of a direction, by the numbers of the maps of the lines at both ends
 abbrev pub import_at : List Router → LineMaps → Hop → Option ImportByMaps

@@ -27,13 +27,13 @@ map_of_line p router true line = in_map p router line
 map_of_line p router false line = out_map p router line
 
 -- the map without entries, which denies all
-abbrev pub closed : Plain
-closed = record { entries = [] }
+abbrev pub deny_all : Plain
+deny_all = record { entries = [] }
 
 -- the plain map of the line at a place of a router; the closed one where there is no line
 abbrev pub map_at : Prefix → List Router → Bool → ℕ → ℕ → Plain
-map_at p routers inbound router item = option_map_or (λ (r : Router). option_map_or (map_of_line p r inbound) (slice_get (neighbors_of r) item) closed)
-    (slice_get routers router) closed
+map_at p routers inbound router item = option_map_or (λ (r : Router). option_map_or (map_of_line p r inbound) (slice_get (neighbors_of r) item) deny_all)
+    (slice_get routers router) deny_all
 
 -- whether the line at a place of a router sends communities
 abbrev pub sends_at : List Router → ℕ → ℕ → Bool

@@ -12,7 +12,7 @@ use Rattle.route_maps.specs.Maps.{verdict, import_of}
 use Rattle.srp_build.specs.declared.hops.Hop.{Hop}
 use Rattle.srp_build.specs.declared.imports.ImportByPolicies.{ImportByPolicies}
 use Rattle.srp_build.specs.declared.imports.ImportByMaps.{ImportByMaps}
-use Rattle.srp_build.specs.Lines.{map_named, list_named, map_of_line, closed, map_at, sends_at}
+use Rattle.srp_build.specs.Lines.{map_named, list_named, map_of_line, deny_all, map_at, sends_at}
 
 -- the maps have one verdict on every set of communities
 pub record SayTheSame (a b : Plain) : Type 0 where
@@ -50,14 +50,14 @@ pub record IsNumberOfLine (p : Prefix) (router : Router) (inbound : Bool) (maps 
   pub at : slice_get lines place ≡ Some line
   pub is : IsNumberOf maps number (map_of_line p router inbound line)
 
-abbrev pub AreNumbersOf : Prefix → Router → Bool → List Plain → List Neighbor → List ℕ → Type 0
-AreNumbersOf p router inbound maps lines numbers = (place number : ℕ) → slice_get numbers place ≡ Some number →
+abbrev pub AreNumbersOfLines : Prefix → Router → Bool → List Plain → List Neighbor → List ℕ → Type 0
+AreNumbersOfLines p router inbound maps lines numbers = (place number : ℕ) → slice_get numbers place ≡ Some number →
     IsNumberOfLine p router inbound maps lines place number
 
 -- the numbers of the maps of all lines of a router
 pub record HasNumbers (p : Prefix) (router : Router) (inbound : Bool) (maps : List Plain) (numbers : List ℕ) : Type 0 where
   pub total : length numbers ≡ length (neighbors_of router)
-  pub each : AreNumbersOf p router inbound maps (neighbors_of router) numbers
+  pub each : AreNumbersOfLines p router inbound maps (neighbors_of router) numbers
 
 -- the routers of a table have their numbers, router by router
 abbrev pub HaveNumbers : Prefix → Bool → List Plain → List Router → List (List ℕ) → Type 0
@@ -78,7 +78,7 @@ import_by_policies routers outs ins hop = option_and_then (λ (out : ℕ).
 
 -- the map with a number
 abbrev pub map_numbered : List Plain → ℕ → Plain
-map_numbered maps number = slice_index_or maps number closed
+map_numbered maps number = slice_index_or maps number deny_all
 
 -- what is imported over numbered maps
 abbrev pub import_over : List Plain → ImportByMaps → List ℕ → Option Imported

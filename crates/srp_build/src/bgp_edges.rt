@@ -3,7 +3,7 @@
 ghost use Rattle.std.specs.Prelude.{◌≡◌, ◌+◌, ◌<◌, ◌≤◌, ◌^◌, [], IfOk, OnOk, List, length, map};
 ghost use Rattle.cfg_ast.specs.declared.network.Router.{Router};
 ghost use Rattle.dd_core.specs.Sets.{Grows};
-ghost use Rattle.srp_build.specs.BgpEdges.{has_initial, IsInside, AreInside, IsImportOf, TakesHop, AreEdgesOfSessions};
+ghost use Rattle.srp_build.specs.BgpEdges.{has_initial, IsImportInside, AreImportsInside, IsImportOf, TakesHop, AreEdgesOfSessions};
 ghost use Rattle.srp_build.specs.LinePolicies.{AreImportsOf};
 ghost use Rattle.srp_build.specs.LineMaps.{LineMaps, line_maps};
 ghost use Rattle.srp_build.specs.Lines.{act_of_hop};
@@ -65,7 +65,7 @@ impl BgpEdges {
         hop: &Hop,
         import: &ImportByPolicies,
     ) -> Result<(), NoMemory>
-        requires inside { IsInside maps.now import.now }
+        requires inside { IsImportInside maps.now import.now }
         requires within { AreMapsWithin store.old.universe maps.now.maps.items }
         requires right { AreRight store.old maps.now.maps.items self.old.acts self.old.imports }
         requires few { length self.old.acts.acts.items < 2 ^ 32 }
@@ -110,7 +110,7 @@ pub fn bgp_edges(
     maps: &PolicyMaps,
 ) -> Result<BgpEdges, NoMemory>
     requires total { length directions.now.imports.items ≡ length directions.now.hops.items }
-    requires inside { AreInside maps.now directions.now.imports.items }
+    requires inside { AreImportsInside maps.now directions.now.imports.items }
     requires within { AreMapsWithin store.old.universe maps.now.maps.items }
     requires few { length directions.now.hops.items < 2 ^ 32 }
     ensures grows { Grows store.old store.new }

@@ -3,7 +3,7 @@
 ghost use Rattle.std.specs.Prelude.{◌≡◌, ◌<◌, ◌^◌, ℕ, All, IfOk, length};
 ghost use Rattle.srp_build.specs.Hops.{into_low, into_high, hops_of};
 ghost use Rattle.by_key.specs.ByKey.{by_key};
-ghost use Rattle.srp_build.specs.Hops.{AreInside, sorted_by_ends};
+ghost use Rattle.srp_build.specs.Hops.{AreHopsInside, sorted_by_ends};
 
 use base_kit::NoMemory;
 use cfg_ast::Link;
@@ -82,7 +82,7 @@ fn sort_by_importer(hops: &mut Vec<Hop>) -> Result<(), NoMemory>
 #[tactic(auto, unfolding(crate::specs::Hops::sorted_by_ends), using(crate::proofs::SortedHops::inside_sorted))]
 pub fn sorted_hops(alloc: Global, count: usize, links: &[Link]) -> Result<Vec<Hop>, NoMemory>
     requires few { length links.now < 2 ^ 32 }
-    requires inside { AreInside count (hops_of links.now) }
+    requires inside { AreHopsInside count (hops_of links.now) }
     ensures sorted { IfOk result (λ hops. hops.items ≡ sorted_by_ends count (hops_of links.now)) }
     ensures len { IfOk result (λ hops. length hops.items ≡ length (hops_of links.now)) }
 {

@@ -4,7 +4,7 @@ ghost use Rattle.std.specs.Prelude.{◌≡◌, IfOk, option_copied};
 ghost use Rattle.cfg_ast.specs.meaning.Policy.{name_of};
 ghost use Rattle.cfg_ast.specs.meaning.Topology.{neighbors_of};
 ghost use Rattle.specialize.specs.Places.{ArePlacesOfRouter};
-ghost use Rattle.srp_build.specs.Lines.{map_named, list_named, map_of_line, closed, map_at, sends_at, act_of_hop};
+ghost use Rattle.srp_build.specs.Lines.{map_named, list_named, map_of_line, deny_all, map_at, sends_at, act_of_hop};
 ghost use Rattle.srp_build.specs.ListPlaces.{HavePlaces};
 
 use crate::hops::Hop;
@@ -80,7 +80,7 @@ pub fn map_of_line(
 }
 
 fn closed(alloc: Global) -> Plain
-    ensures { result ≡ closed }
+    ensures { result ≡ deny_all }
 {
     Plain {
         entries: List::new(alloc),

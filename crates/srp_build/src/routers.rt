@@ -4,7 +4,7 @@ ghost use Rattle.std.specs.Prelude.{◌≡◌, ◌<◌, ◌^◌, IfOk, length, m
 ghost use Rattle.std.specs.Option.{option_map};
 ghost use Rattle.cfg_ast.specs.declared.network.Router.{Router};
 ghost use Rattle.srp_core.specs.ProblemOf.{as_number_of, route_from};
-ghost use Rattle.srp_build.specs.Starts.{first_at, behind, starts_from, none_lone};
+ghost use Rattle.srp_build.specs.Starts.{first_cost_at, origins_behind, starts_from, none_lone};
 
 use base_kit::{List, NoMemory, NumSet, Text};
 use cfg_ast::{Origin, Router};
@@ -78,7 +78,7 @@ fn start_from(alloc: Global, router: &Router, cost: Option<Option<u16>>) -> Opti
 }
 
 fn first_at(place: u32, origins: &[Origin]) -> Option<Option<u16>>
-    ensures { result ≡ first_at place origins.now }
+    ensures { result ≡ first_cost_at place origins.now }
 {
     match origins {
         [] => None,
@@ -93,7 +93,7 @@ fn first_at(place: u32, origins: &[Origin]) -> Option<Option<u16>>
 }
 
 fn behind(place: u32, origins: &[Origin]) -> &[Origin]
-    ensures { result.now ≡ behind place origins.now }
+    ensures { result.now ≡ origins_behind place origins.now }
 {
     match origins {
         [] => origins,

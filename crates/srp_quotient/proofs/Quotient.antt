@@ -25,7 +25,7 @@ use Rattle.srp_core.specs.Problem.{Problem, count as count_of, initial, is_lone,
 use Rattle.srp_core.specs.Quotient.{group_of, IsFirstMember, IsAdmissible, IsUsed, originates, imports, exports, Lies, IsQuotient, first_number}
 use Rattle.by_key.specs.ByKey.{by_key}
 use Rattle.by_key.proofs.KeyedItems.{by_key_in, in_by_key}
-use Rattle.srp_quotient.specs.Groups.{first_member, touches, same_pair, or_else, last_of, last_into, edge_into, lower_edge, listed, edges_of_link, importer_of, exporter_of, quotient_edges, is_used, number_of_group, quotient_problem, small_of}
+use Rattle.srp_quotient.specs.Groups.{first_member, touches, same_group_pair, or_else, last_of, last_into, edge_into, lower_edge, listed, edges_of_link, importer_of, exporter_of, quotient_edges, is_used, number_of_group, quotient_problem, small_of}
 use Rattle.srp_quotient.specs.Laws.{QuotientIsQuotient}
 
 -- ---- the first member
@@ -122,7 +122,7 @@ and_true : (a b : Bool) → (a && b) ≡ true → (a ≡ true) × (b ≡ true)
 and_true true b e = (refl, e)
 and_true false b e = absurd cc
 
-same_ends : (l m : QLink) (g h : ℕ) → same_pair l m ≡ true → IsJoined l g h → IsJoined m g h
+same_ends : (l m : QLink) (g h : ℕ) → same_group_pair l m ≡ true → IsJoined l g h → IsJoined m g h
 same_ends l m g h e (inl j) = let p = and_true (nat_eq l.low m.low) (nat_eq l.high m.high) e in
     inl (sym (one_number l.low m.low p.0) ∙ j.0, sym (one_number l.high m.high p.1) ∙ j.1)
 same_ends l m g h e (inr j) = let p = and_true (nat_eq l.low m.low) (nat_eq l.high m.high) e in
@@ -134,7 +134,7 @@ unfolding edge_into
 into_real OverBgp es groups count links carries l g h k has joined e = carries.real l g h k has joined e
 into_real OverOspf es groups count links carries l g h k has joined e = elim (or_else_is (side_of g l) (last_into links g l) k e) [
   | inl a ↦ carries.real l g h k has joined a
-  | inr b ↦ (let m = filter_map_in (side_of g) (filter (same_pair l) links) k (last_in _ k b) in let at = filter_in (same_pair l) links m.0 m.1 in
+  | inr b ↦ (let m = filter_map_in (side_of g) (filter (same_group_pair l) links) k (last_in _ k b) in let at = filter_in (same_group_pair l) links m.0 m.1 in
       carries.real m.0 g h k (contains_in links m.0 at.0) (same_ends l m.0 g h at.1 joined) m.2)
 ]
 

@@ -21,8 +21,8 @@ first_member (x ∷ xs) g = if nat_eq x g then 0 else suc (first_member xs g)
 abbrev pub touches : ℕ → QLink → Bool
 touches g l = nat_eq l.low g || nat_eq l.high g
 
-abbrev pub same_pair : QLink → QLink → Bool
-same_pair l m = nat_eq l.low m.low && nat_eq l.high m.high
+abbrev pub same_group_pair : QLink → QLink → Bool
+same_group_pair l m = nat_eq l.low m.low && nat_eq l.high m.high
 
 abbrev pub or_else : Option ℕ → Option ℕ → Option ℕ
 or_else None other = other
@@ -35,7 +35,7 @@ last_of (k ∷ ks) = or_else (last_of ks) (Some k)
 
 -- the last edge that the links of this pair carry into g
 abbrev pub last_into : List QLink → ℕ → QLink → Option ℕ
-last_into links g l = last_of (filter_map (side_of g) (filter (same_pair l) links))
+last_into links g l = last_of (filter_map (side_of g) (filter (same_group_pair l) links))
 
 -- The edge that stands at a link for the direction into g: that of the link, and in OSPF, where a link
 -- has a cost at both ends, else the last one of the pair.

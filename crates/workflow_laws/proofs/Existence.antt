@@ -140,34 +140,34 @@ module _ (words : List (List ℕ)) (contents : Contents) (named : Command) (read
 pub outcomes_come_together : IsSound → IsComplete → HasOrder → RestIsStable → OutcomesComeTogether
 outcomes_come_together sound complete has_order rest contents F S text N small holds told h =
     let r = h.outcome in
-    let own = of_text (report F N) contents (command.Report N) refl (names_report F N small) text holds r h.allowed in
+    let own = of_text (report F N) contents (command.ReportOn N) refl (names_report F N small) text holds r h.allowed in
     let second = contents [] in
     record {
       classes = has_outcome (classes F) contents command.Classes refl (names_classes F) text holds
-          (of_texts (command.Report N) command.Classes second second r (λ n is. (done (classes_text n), refl)) text own);
+          (of_texts (command.ReportOn N) command.Classes second second r (λ n is. (done (classes_text n), refl)) text own);
       groups = has_outcome (groups F N) contents (command.Groups N) refl (names_groups F N small) text holds
-          (of_texts (command.Report N) (command.Groups N) second second r
+          (of_texts (command.ReportOn N) (command.Groups N) second second r
           (λ n is. of_number n N (IsReported report_text n N) (IsGroupsOf n) (λ class has q x. groups_of_plan n N class q x) (class_at (classes_of n) N) refl r
               is) text own);
       compress = has_outcome (compress F N) contents (command.Compress N) refl (names_compress F N small) text holds
-          (of_texts (command.Report N) (command.Compress N) second second r
+          (of_texts (command.ReportOn N) (command.Compress N) second second r
           (λ n is. of_number n N (IsReported report_text n N) (IsCompressOf n) (λ class has q x. compress_of_plan n N class q x)
           (class_at (classes_of n) N) refl r is) text own);
       json = has_outcome (json F N) contents (command.Json N) refl (names_json F N small) text holds
-          (of_texts (command.Report N) (command.Json N) second second r
+          (of_texts (command.ReportOn N) (command.Json N) second second r
           (λ n is. of_number n N (IsReported report_text n N) (IsReported json_text n N) (λ class has q x. json_of_plan n N class q x)
           (class_at (classes_of n) N) refl r is) text own);
       check = has_outcome (check F N S) contents (command.Check N) refl (names_check F S N small) text holds
-          (of_texts (command.Report N) (command.Check N) second (contents S) r
+          (of_texts (command.ReportOn N) (command.Check N) second (contents S) r
           (λ n is. of_number n N (IsReported report_text n N) (IsCheckOf n (contents S))
               (λ class has q x. check_of_plan n N class q x has sound complete (contents S) told)
           (class_at (classes_of n) N) refl r is) text own);
       run = has_outcome (run F N S) contents (command.Run N) refl (names_run F S N small) text holds
-          (of_texts (command.Report N) (command.Run N) second (contents S) r
+          (of_texts (command.ReportOn N) (command.Run N) second (contents S) r
           (λ n is. of_number n N (IsReported report_text n N) (IsRunOf n (contents S)) (λ class has q x. run_of_plan n N class q x has rest (contents S) told)
           (class_at (classes_of n) N) refl r is) text own);
       reach = has_outcome (reach F N S) contents (command.Reach N) refl (names_reach F S N small) text holds
-          (of_texts (command.Report N) (command.Reach N) second (contents S) r
+          (of_texts (command.ReportOn N) (command.Reach N) second (contents S) r
           (λ n is. of_number n N (IsReported report_text n N) (IsReachOf n (contents S))
               (λ class has q x. reach_of_plan n N class q x has sound complete (contents S) told has_order)
           (class_at (classes_of n) N) refl r is) text own);

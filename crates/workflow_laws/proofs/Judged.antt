@@ -24,7 +24,7 @@ use Rattle.cfg_ast.specs.text.Stanzas.{refusal_of}
 use Rattle.cfg_ast.specs.text.Steps.{◌>>=◌}
 use Rattle.cfg_ast.specs.text.TextLines.{TextLine}
 use Rattle.reading_laws.specs.FormFaults.{bgp_saying, entry_saying, fault_in, fault_of, first_form_fault, homeless, inner_says, interface_saying, is_given, is_top}
-use Rattle.reading_laws.specs.FormFaults.{list_saying, means, nameless, open_of, or_else, ospf_saying, repeated, saying_fault, says, stanza_says, stranger}
+use Rattle.reading_laws.specs.FormFaults.{list_saying, means, nameless, open_of, fault_or_else, ospf_saying, repeated, saying_fault, says, stanza_says, stranger}
 use Rattle.reading_laws.specs.FormFaults.{text_fault, top_saying, top_says, when, Open, Saying, TextFaultDecides, Thing, What}
 use Rattle.reading_laws.specs.FormFaults as form
 use Rattle.workflow_laws.specs.Existence.{EachTextIsJudged}
@@ -35,7 +35,7 @@ abbrev IsAt : ReadRefusal → Type 0
 IsAt (At line kind) = Unit {0}
 IsAt Memory = ⊥
 
-or_at : (a b : Option ReadRefusal) → IfSome a IsAt → IfSome b IsAt → IfSome (or_else a b) IsAt
+or_at : (a b : Option ReadRefusal) → IfSome a IsAt → IfSome b IsAt → IfSome (fault_or_else a b) IsAt
 or_at None b first second = second
 or_at (Some r) b first second = first
 

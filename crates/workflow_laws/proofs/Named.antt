@@ -50,7 +50,7 @@ module _ (F : List ℕ) (N : ℕ) (small : IsShort N) where
   pub names_compress : command_of (compress F N) ≡ Some (command.Compress N)
   names_compress = of_class (codes "compress") F N small on_class.Compress refl
 
-  pub names_report : command_of (report F N) ≡ Some (command.Report N)
+  pub names_report : command_of (report F N) ≡ Some (command.ReportOn N)
   names_report = of_class (codes "report") F N small on_class.Report refl
 
   pub names_json : command_of (json F N) ≡ Some (command.Json N)

@@ -15,8 +15,8 @@ Groups = OnClass on_class.Groups
 abbrev pub Compress : ℕ → Command
 Compress = OnClass on_class.Compress
 
-abbrev pub Report : ℕ → Command
-Report = OnClass on_class.Report
+abbrev pub ReportOn : ℕ → Command
+ReportOn = OnClass on_class.Report
 
 abbrev pub Json : ℕ → Command
 Json = OnClass on_class.Json

@@ -1,7 +1,7 @@
 use Rattle.std.proofs.Common.{◌≡◌, ◌+◌, ◌<◌, ◌≤◌, map, length, get_or, sym, ap, ◌∙◌, arith}
 use Rattle.std.proofs.Math.ListN.{set}
 use Rattle.named_lists.specs.declared.named.NamedList.{NamedList}
-use Rattle.named_lists.specs.NumberedLists.{by_number, in_order}
+use Rattle.named_lists.specs.NumberedLists.{in_number_order, in_order}
 use Rattle.named_lists.proofs.InPlace.{changed_from, none_changed, one_changed, all_changed, written_whole}
 use Rattle.named_lists.proofs.numbered.all_in_order.Goals as goal
 
@@ -16,8 +16,8 @@ loop-list-preserved g c =
     let item = c.list-item.result in
     let there = get_or xs i item in
     let inside : i < length xs = omega (arith, c.loop-list.auto.list-items, c.loop-list-test.true) in
-    let sorted : c.in_ok-list.field-0 ≡ by_number g.E.Numbered.number there.entries = c.in_ok-list.ensures
-        ∙ ap (by_number g.E.Numbered.number) c.replace-entries.ensures.value in
+    let sorted : c.in_ok-list.field-0 ≡ in_number_order g.E.Numbered.number there.entries = c.in_ok-list.ensures
+        ∙ ap (in_number_order g.E.Numbered.number) c.replace-entries.ensures.value in
     ap (λ es. changed_from (in_order g.E.Numbered.number) (i + 1)
         (set xs i (let changed : NamedList g.row.E.Denot = record { name = there.name; entries = es } in changed))) sorted
             ∙ one_changed (in_order g.E.Numbered.number) xs i item inside ∙ c.loop-list.invariant

@@ -2,7 +2,7 @@ use Rattle.std.proofs.Common.{rules, ◌≡◌, ℕ, ◌≤◌, ◌+◌, get_or,
 use Rattle.std.specs.Ordering.{nat_cmp, is_le}
 use Rattle.std.proofs.lemmas.Bool.Decides.{nat_tests}
 use Rattle.std.proofs.lemmas.List.Sorted.{IsNonDecreasingBy-from_sort_by_key, IsNonDecreasingBy-from_all_adjacent, answers_always}
-use Rattle.named_lists.specs.NumberedLists.{by_number}
+use Rattle.named_lists.specs.NumberedLists.{in_number_order}
 use Rattle.named_lists.proofs.ByNumber.{sorted_by_number}
 use Rattle.named_lists.proofs.numbered.by_number.Goals as goal
 use Rattle.named_lists.proofs.numbered.by_number.Goals.{then-not-is_sorted_by_key+in_ok-sort_by_key, else-not-is_sorted_by_key}
@@ -24,4 +24,4 @@ returns g c =
           rw w.entries-is (sorted_by_number g.E.Numbered.number xs xs
               (IsNonDecreasingBy-from_all_adjacent g.E.Numbered.number xs
                   (λ k d lt. le_of (g.E.Numbered.number (get_or xs k d)) (g.E.Numbered.number (get_or xs (k + 1) d)) (pairs k d lt))) (λ x. refl))
-    ] ∙ ap (by_number g.E.Numbered.number) c.into_vec-entries.ensures
+    ] ∙ ap (in_number_order g.E.Numbered.number) c.into_vec-entries.ensures

@@ -2,20 +2,20 @@ use Rattle.std.proofs.Common.{ap, ◌∙◌, List, ◌++◌, filter_map, flat_ma
 use Rattle.std.specs.List.{enumerate_from}
 use Rattle.cfg_ast.specs.declared.network.Router.{Router}
 use Rattle.cfg_ast.specs.meaning.Topology.{places_on, place_on, neighbors_of}
-use Rattle.net_topology.specs.Peers.{peer_of}
+use Rattle.net_topology.specs.Peers.{peer_at_place}
 use Rattle.net_topology.proofs.PlaceSteps.{router_turn, peers_first}
 use Rattle.net_topology.proofs.peers.all_peers.Goals as goal
 
 pub loop-r-init : goal.loop-r-init
 loop-r-init c =
-    ap (λ xs. xs ++ filter_map peer_of (flat_map (places_on neighbors_of) (enumerate_from 0 c.as_slice-routers.result.now))) c.new-found.ensures.items
-    ∙ ap (λ (rs : List Router). filter_map peer_of (flat_map (places_on neighbors_of) (enumerate_from 0 rs))) c.as_slice-routers.ensures
+    ap (λ xs. xs ++ filter_map peer_at_place (flat_map (places_on neighbors_of) (enumerate_from 0 c.as_slice-routers.result.now))) c.new-found.ensures.items
+    ∙ ap (λ (rs : List Router). filter_map peer_at_place (flat_map (places_on neighbors_of) (enumerate_from 0 rs))) c.as_slice-routers.ensures
     ∙ peers_first c.args.network.now
 
 pub loop-r-preserved : goal.loop-r-preserved
 loop-r-preserved c =
     let x = c.index-routers-r.result in
-    let pushed = c.in_ok-push_peers.ensures ∙ ap (λ r. c.loop-r.found.items ++ filter_map peer_of (map (place_on r x) (enumerate_from 0 (neighbors_of x))))
+    let pushed = c.in_ok-push_peers.ensures ∙ ap (λ r. c.loop-r.found.items ++ filter_map peer_at_place (map (place_on r x) (enumerate_from 0 (neighbors_of x))))
         c.place-router.ensures in
-    router_turn neighbors_of peer_of c.loop-r.found.items c.push_peers.new.found.items _ c.as_slice-routers.result.now c.loop-r.r x c.loop-r-test.true
+    router_turn neighbors_of peer_at_place c.loop-r.found.items c.push_peers.new.found.items _ c.as_slice-routers.result.now c.loop-r.r x c.loop-r-test.true
         c.index-routers-r.is pushed c.loop-r.invariant

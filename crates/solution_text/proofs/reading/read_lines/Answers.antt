@@ -8,7 +8,7 @@ use Rattle.solution_text.specs.declared.refusal.SolKind.TheVariants.{Missing}
 use Rattle.solution_text.specs.declared.refusal.SolRefusal.TheVariants.{At}
 use Rattle.solution_text.specs.Solutions.{labels_unless}
 use Rattle.numbered_names.specs.NamePlaces.{place_in}
-use Rattle.solution_text.specs.Steps.{Standing, answer_from}
+use Rattle.solution_text.specs.Steps.{LabelsSoFar, answer_from}
 use Rattle.cfg_lex.proofs.LinesLeft.{Cut, count_left, none_counted, lines_counted}
 use Rattle.solution_text.proofs.LinesLeft.{left_next, left_fault, none_left, words_count, refused_too}
 use Rattle.solution_text.proofs.reading.read_lines.Goals as goal
@@ -17,7 +17,7 @@ pub loop-from-init : goal.loop-from-init
 loop-from-init c =
     let bs = c.args.bytes.now in
     let nothing = c.in_ok-said.ensures in
-    let count : length c.in_ok-said.said.seen ≡ c.args.count = ap (λ (s : Standing). length s.seen) nothing ∙ length-replicate {A = Bool} c.args.count false in
+    let count : length c.in_ok-said.said.seen ≡ c.args.count = ap (λ (s : LabelsSoFar). length s.seen) nothing ∙ length-replicate {A = Bool} c.args.count false in
     record {
       few = omega arith;
       inside = omega arith;

@@ -8,7 +8,7 @@ use Rattle.cfg_ast.specs.meaning.RouterFaults.{protocol_of}
 use Rattle.srp_build.specs.declared.hops.Hop.{Hop}
 use Rattle.srp_build.specs.Costs.{NumbersHops}
 use Rattle.srp_build.specs.Directions.{AreSessionHops, directions_of}
-use Rattle.srp_build.specs.Hops.{hops_of, AreInside}
+use Rattle.srp_build.specs.Hops.{hops_of, AreHopsInside}
 use Rattle.srp_build.specs.HopNumbers.{hop_at}
 use Rattle.srp_build.specs.LinePolicies.{JoinsLines}
 use Rattle.srp_build.specs.Problem.{is_bgp as is_over_bgp}
@@ -23,8 +23,8 @@ pub sorted_hops-requires-clause-inside : goal.sorted_hops-requires-clause-inside
 sorted_hops-requires-clause-inside c =
     let n = c.args.net.now.network in
     let routers_are = c.as_slice-routers.ensures ∙ ap (λ (m : Network). m.routers) c.network.ensures.same in
-    subst (λ (r : List Router). AreInside (length r) (hops_of c.as_slice-links.result.now)) (sym routers_are)
-    (subst (λ (l : List Link). AreInside (length n.routers) (hops_of l)) (sym (c.as_slice-links.ensures ∙ c.requires)) (all_inside n))
+    subst (λ (r : List Router). AreHopsInside (length r) (hops_of c.as_slice-links.result.now)) (sym routers_are)
+    (subst (λ (l : List Link). AreHopsInside (length n.routers) (hops_of l)) (sym (c.as_slice-links.ensures ∙ c.requires)) (all_inside n))
 
 pub session_hops-requires : goal.session_hops-requires
 session_hops-requires c =
@@ -64,8 +64,8 @@ pub sorted_numbers-requires-clause-inside : goal.sorted_numbers-requires-clause-
 sorted_numbers-requires-clause-inside c =
     let n = c.args.net.now.network in
     let routers_are = c.as_slice-routers.ensures ∙ ap (λ (m : Network). m.routers) c.network.ensures.same in
-    subst (λ (r : List Router). AreInside (length r) (hops_of c.as_slice-links.result.now)) (sym routers_are)
-    (subst (λ (l : List Link). AreInside (length n.routers) (hops_of l)) (sym (c.as_slice-links.ensures ∙ c.requires)) (all_inside n))
+    subst (λ (r : List Router). AreHopsInside (length r) (hops_of c.as_slice-links.result.now)) (sym routers_are)
+    (subst (λ (l : List Link). AreHopsInside (length n.routers) (hops_of l)) (sym (c.as_slice-links.ensures ∙ c.requires)) (all_inside n))
 
 pub number_hops-requires : goal.number_hops-requires
 number_hops-requires c =

@@ -4,7 +4,7 @@ use Rattle.std.proofs.lemmas.Option.{slice_get_read}
 use Rattle.cfg_ast.specs.declared.bgp.Neighbor.{Neighbor}
 use Rattle.cfg_ast.specs.declared.network.Router.{Router}
 use Rattle.cfg_ast.specs.meaning.Topology.{neighbors_of}
-use Rattle.srp_build.specs.Lines.{map_of_line, closed}
+use Rattle.srp_build.specs.Lines.{map_of_line, deny_all}
 use Rattle.srp_build.proofs.lines.map_at.Goals as goal
 
 pub map_of_line-requires : goal.map_of_line-requires
@@ -34,5 +34,5 @@ returns c =
         ∙ slice_get_read lines (length lines) item named refl (let a = line.0 in omega arith) line.1 in
     let map_in = map_of_line c.args.p router c.args.line.inbound in
     subst (λ (o : Option Router). IfOk c.map_of_line.result (λ plain. plain ≡ option_map_or (λ (r : Router).
-    option_map_or (map_of_line c.args.p r c.args.line.inbound) (slice_get (neighbors_of r) item) closed) o closed)) (sym there)
-    (subst (λ (o : Option Neighbor). IfOk c.map_of_line.result (λ plain. plain ≡ option_map_or map_in o closed)) (sym stands) c.map_of_line.ensures)
+    option_map_or (map_of_line c.args.p r c.args.line.inbound) (slice_get (neighbors_of r) item) deny_all) o deny_all)) (sym there)
+    (subst (λ (o : Option Neighbor). IfOk c.map_of_line.result (λ plain. plain ≡ option_map_or map_in o deny_all)) (sym stands) c.map_of_line.ensures)

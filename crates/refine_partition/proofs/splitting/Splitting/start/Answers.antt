@@ -1,7 +1,7 @@
 use Rattle.std.proofs.Common.{◌∙◌, arith}
 use Rattle.refine_partition.proofs.SplittingLemmas.{numbered_blocks, started}
 use Rattle.refine_partition.specs.Splitting.{IsStartOf}
-use Rattle.refine_partition.specs.Members.{lists_of}
+use Rattle.refine_partition.specs.Members.{block_lists}
 use Rattle.refine_partition.proofs.splitting.Splitting.start.Goals as goal
 
 pub invariant_of-result : goal.invariant_of-result
@@ -11,7 +11,7 @@ invariant_of-result c = record {
   few = let total = c.in_ok-blocks.ensures.total in omega arith;
 }
 
-start_of : (c : goal.In_ok-blocks) → IsStartOf c.args.graph.now (lists_of c.in_ok-blocks.blocks.items)
+start_of : (c : goal.In_ok-blocks) → IsStartOf c.args.graph.now (block_lists c.in_ok-blocks.blocks.items)
 start_of c =
     let total = rw c.as_slice.ensures at c.in_ok-numbers.ensures.total in
     let numbering = rw c.as_slice.ensures at c.in_ok-numbers.ensures.numbering in
