@@ -6,7 +6,7 @@ use Rattle.std.specs.declared.alloc.Global.{Global}
 use Rattle.std.proofs.lemmas.Bool.Decides.{nat_tests}
 use Rattle.std.proofs.lemmas.List.{take_more}
 use Rattle.std.proofs.lemmas.List.Elements.{filter-append}
-use Rattle.buckets.specs.Buckets.{same_pair, is_at, Index, bucket, PushesAt, IsIndex}
+use Rattle.buckets.specs.Buckets.{same_pair, is_at_pair, Index, bucket, PushesAt, IsIndex}
 
 items_of : {T : Type 0} → Option (Vec T Global) → List T
 items_of {T} o = option_map_or (λ (v : Vec T Global). v.items) o []
@@ -64,11 +64,11 @@ cond_last false l x = sym (no_more l)
 
 -- what stands at a pair, after an item was put in
 at_pair : {T : Type 0} (pair_of : T → ℕ × ℕ) (old new : Index T) (x : T) (q : ℕ × ℕ) → PushesAt old new (pair_of x) x → bucket new q ≡ bucket old q
-    ++ filter (is_at pair_of q) (x ∷ [])
+    ++ filter (is_at_pair pair_of q) (x ∷ [])
 at_pair pair_of old new x q adds =
     adds.each q
     ∙ ap (λ b. cond b (bucket old q ++ x ∷ []) (bucket old q)) (same_turned (pair_of x) q)
-    ∙ cond_last (is_at pair_of q x) (bucket old q) x
+    ∙ cond_last (is_at_pair pair_of q x) (bucket old q) x
 
 one_more : {T : Type 0} (test : T → Bool) (xs : List T) (i : ℕ) (x : T) → i < length xs → x ≡ get_or xs i x → filter test (take i xs)
     ++ filter test (x ∷ []) ≡ filter test (take (i + 1) xs)
@@ -80,16 +80,16 @@ pub index_turn : {T : Type 0} (pair_of : T → ℕ × ℕ) (old new : Index T) (
     PushesAt old new (pair_of x) x → IsIndex pair_of old (take i xs) → IsIndex pair_of new (take (i + 1) xs)
 index_turn {T} pair_of old new xs i x below here adds so_far = record {
   each = λ q.
-      let test = is_at pair_of q in
+      let test = is_at_pair pair_of q in
       at_pair pair_of old new x q adds ∙ ap (λ (l : List T). l ++ filter test (x ∷ [])) (so_far.each q) ∙ one_more test xs i x below here;
 }
 
 -- the same of one pair, behind what stood there before
 pub bucket_turn : {T : Type 0} (pair_of : T → ℕ × ℕ) (first old new : Index T) (xs : List T) (i : ℕ) (x : T) (q : ℕ × ℕ) → i < length xs → x ≡ get_or xs i x →
     PushesAt old new (pair_of x) x
-    → bucket old q ≡ bucket first q ++ filter (is_at pair_of q) (take i xs) → bucket new q ≡ bucket first q ++ filter (is_at pair_of q) (take (i + 1) xs)
+    → bucket old q ≡ bucket first q ++ filter (is_at_pair pair_of q) (take i xs) → bucket new q ≡ bucket first q ++ filter (is_at_pair pair_of q) (take (i + 1) xs)
 bucket_turn {T} pair_of first old new xs i x q below here adds so_far =
-    let test = is_at pair_of q in
+    let test = is_at_pair pair_of q in
     at_pair pair_of old new x q adds
     ∙ ap (λ (l : List T). l ++ filter test (x ∷ [])) so_far
     ∙ append_assoc (bucket first q) (filter test (take i xs)) (filter test (x ∷ []))

@@ -21,9 +21,9 @@ pub record PushesAt {T : Type 0} (old new : Index T) (pair : ℕ × ℕ) (item :
   pub each : (q : ℕ × ℕ) → bucket new q ≡ (if same_pair pair q then bucket old q ++ item ∷ [] else bucket old q)
 
 -- the item stands at that pair
-abbrev pub is_at : {T : Type 0} → (T → ℕ × ℕ) → ℕ × ℕ → T → Bool
-is_at pair_of pair x = same_pair pair (pair_of x)
+abbrev pub is_at_pair : {T : Type 0} → (T → ℕ × ℕ) → ℕ × ℕ → T → Bool
+is_at_pair pair_of pair x = same_pair pair (pair_of x)
 
 -- the index has the items of each pair, in order
 pub record IsIndex {T : Type 0} (pair_of : T → ℕ × ℕ) (index : Index T) (items : List T) : Type 0 where
-  pub each : (q : ℕ × ℕ) → bucket index q ≡ filter (is_at pair_of q) items
+  pub each : (q : ℕ × ℕ) → bucket index q ≡ filter (is_at_pair pair_of q) items

@@ -21,7 +21,7 @@ use Rattle.canon_policy.specs.Fixings.Part.{community}
 use Rattle.canon_policy.specs.Canonical.{in_parts, in_asked, out_asked}
 use Rattle.canon_policy.specs.Hanging.{TestHangsOn, AskedHangsOn}
 use Rattle.canon_policy.specs.Made.{nodes_of, asked_of, carried_nodes, in_nodes, out_nodes}
-use Rattle.canon_policy.specs.Nodes.{AreInside, IsPartInside, AreNodesInside, AgreeAt, NodesTellPart, ArePartsTold, AreNodesOf}
+use Rattle.canon_policy.specs.Nodes.{AreInside, IsPartInside, AreFunctionNodesInside, AgreeAt, NodesTellPart, ArePartsTold, AreNodesOf}
 use Rattle.canon_policy.specs.Plain.{IsPlain}
 use Rattle.canon_policy.proofs.SameSets.{all_are, has-agreeing}
 use Rattle.canon_policy.proofs.Least.{in_has, least_none, least_some, under_hangs}
@@ -180,14 +180,14 @@ module _ (shown : Shown) (is : IsShown shown) where
     adds_inside : AreInside shown (nodes_of edge.adds)
     adds_inside = nodes_inside shown never edge.adds of.adds.each
 
-    pub in_inside : AreNodesInside shown (in_nodes edge)
+    pub in_inside : AreFunctionNodesInside shown (in_nodes edge)
     in_inside = record {
       permit = of.permit_inside;
       rest = of.rest_inside;
       parts = ((of.rest_inside, tt), (lps_inside, outs_inside edge.outs out_cases_inside of.outs_known));
     }
 
-    pub out_inside : AreNodesInside shown (out_nodes edge)
+    pub out_inside : AreFunctionNodesInside shown (out_nodes edge)
     out_inside = record { permit = of.permit_inside; rest = of.rest_inside; parts = (adds_inside, tt) }
 
   module _ (edge : EdgeFn) (f : List ℕ → Option Imported) (of : IsEdgeFn shown edge f) (plain : IsPlain shown.universe (on_sets f)) where

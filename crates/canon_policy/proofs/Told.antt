@@ -14,7 +14,7 @@ use Rattle.canon_policy.specs.declared.parts.Nodes.{Nodes}
 use Rattle.canon_policy.specs.Fixings.{Part, Asked, agreeing, least, yes, unsettled, first_unsettled, split}
 use Rattle.canon_policy.specs.Fixings.Part.{number, community}
 use Rattle.canon_policy.specs.Hanging.{TestHangsOn, NumberHangsOn, PartHangsOn, PartsHangOn}
-use Rattle.canon_policy.specs.Nodes.{AreInside, IsPartInside, AreNodesInside, AgreeAt, NodesTellPart, IsTold, ArePartsTold, AreNodesOf, community_number}
+use Rattle.canon_policy.specs.Nodes.{AreInside, IsPartInside, AreFunctionNodesInside, AgreeAt, NodesTellPart, IsTold, ArePartsTold, AreNodesOf, community_number}
 use Rattle.canon_policy.proofs.Least.{under_hangs}
 
 -- growth
@@ -31,7 +31,7 @@ pub parts_inside_kept : (old new : Shown) → Grows old new → (parts : List Pa
 parts_inside_kept old new grows [] all = tt
 parts_inside_kept old new grows (p ∷ ps) all = (part_inside_kept old new grows p all.0, parts_inside_kept old new grows ps all.1)
 
-pub nodes_inside_kept : (old new : Shown) → Grows old new → (nodes : Nodes) → AreNodesInside old nodes → AreNodesInside new nodes
+pub nodes_inside_kept : (old new : Shown) → Grows old new → (nodes : Nodes) → AreFunctionNodesInside old nodes → AreFunctionNodesInside new nodes
 nodes_inside_kept old new grows nodes all = record {
   permit = grows_inside old new nodes.permit grows all.permit;
   rest = grows_inside old new nodes.rest grows all.rest;
@@ -69,7 +69,7 @@ all_told_kept old new grows fixing (n ∷ ns) [] all told = absurd told
 all_told_kept old new grows fixing (n ∷ ns) (p ∷ ps) all told =
     (told_kept old new grows fixing n p all.0 told.0, all_told_kept old new grows fixing ns ps all.1 told.1)
 
-pub nodes_kept : (old new : Shown) → Grows old new → (fixing : Fixing) (nodes : Nodes) (asked : Asked) → AreNodesInside old nodes
+pub nodes_kept : (old new : Shown) → Grows old new → (fixing : Fixing) (nodes : Nodes) (asked : Asked) → AreFunctionNodesInside old nodes
     → AreNodesOf old fixing nodes asked → AreNodesOf new fixing nodes asked
 nodes_kept old new grows fixing nodes asked all of = record {
   permit = means_kept old new nodes.permit (λ set. asked.accepted (agreeing fixing set)) grows of.permit;

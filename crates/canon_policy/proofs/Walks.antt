@@ -21,7 +21,7 @@ use Rattle.canon_policy.specs.declared.parts.Nodes.{Nodes}
 use Rattle.canon_policy.specs.Fixings.{Part, Asked, nothing_fixed, with_present, with_absent, agreeing, split, settled}
 use Rattle.canon_policy.specs.Fixings.Part.{number, community}
 use Rattle.canon_policy.specs.Hanging.{SameOn, TestHangsOn, NumberHangsOn, PartHangsOn, PartsHangOn, AskedHangsOn}
-use Rattle.canon_policy.specs.Nodes.{AreInside, IsPartInside, AreNodesInside, AgreeAt, NodesTellPart, IsTold, ArePartsTold, AreNodesOf, IsFixed, AreFixed, IsPartFixed, ArePartsFixed, AreNodesFixed, is_broad, are_over, IsWalked, community_number}
+use Rattle.canon_policy.specs.Nodes.{AreInside, IsPartInside, AreFunctionNodesInside, AgreeAt, NodesTellPart, IsTold, ArePartsTold, AreNodesOf, IsFixed, AreFixed, IsPartFixed, ArePartsFixed, AreNodesFixed, is_broad, are_over, IsWalked, community_number}
 use Rattle.canon_policy.proofs.Told.{nodes_kept}
 use Rattle.canon_policy.proofs.SameSets.{same_sets, has-agreeing, present_first, absent_first, or_none}
 
@@ -130,8 +130,8 @@ parts_inside old new grows alone (n ∷ ns) [] inside are = absurd are
 parts_inside old new grows alone (n ∷ ns) (m ∷ ms) inside are =
     (part_inside old new grows alone n m inside.0 are.0, parts_inside old new grows alone ns ms inside.1 are.1)
 
-pub fixed_inside : (old new : Shown) → Grows old new → (alone : Fixing) (nodes made : Nodes) → AreNodesInside old nodes → AreNodesFixed old new alone nodes made
-    → AreNodesInside new made
+pub fixed_inside : (old new : Shown) → Grows old new → (alone : Fixing) (nodes made : Nodes) → AreFunctionNodesInside old nodes → AreNodesFixed old new alone nodes made
+    → AreFunctionNodesInside new made
 fixed_inside old new grows alone nodes made inside are = record {
   permit = are.permit.inside;
   rest = are.rest.inside;
@@ -264,7 +264,7 @@ first_over old xs ys e = rw (← append_assoc old xs ys) (over_more (old ++ xs) 
 
 -- a branch
 pub branch_walked : (old mid new : Shown) → Grows old mid → Grows mid new → (nodes made : Nodes) (fixing alone alone' both both' : Fixing) → alone ≡ alone'
-    → both ≡ both' → Join fixing alone' both' → (asked : Asked) → AskedHangsOn old.universe asked → AreNodesInside old nodes → AreNodesOf old fixing nodes asked
+    → both ≡ both' → Join fixing alone' both' → (asked : Asked) → AskedHangsOn old.universe asked → AreFunctionNodesInside old nodes → AreNodesOf old fixing nodes asked
         → AreNodesFixed mid new alone nodes made
     → (less : ℕ) (found more : List Fixing) (r : Result (Unit {0}) CanonRefusal)
         → ((a : Asked) → AskedHangsOn new.universe a → AreNodesOf new both made a → IsWalked found more r (settled less (split new.universe a) both))

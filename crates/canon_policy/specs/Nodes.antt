@@ -22,7 +22,7 @@ abbrev pub IsPartInside : Shown → PartNodes → Type 0
 IsPartInside shown (Told nodes) = AreInside shown nodes
 IsPartInside shown (Carried c node) = (has shown.universe c.0 ≡ true) × (node < length shown.nodes)
 
-pub record AreNodesInside (shown : Shown) (nodes : Nodes) : Type 0 where
+pub record AreFunctionNodesInside (shown : Shown) (nodes : Nodes) : Type 0 where
   pub permit : nodes.permit < length shown.nodes
   pub rest : nodes.rest < length shown.nodes
   pub parts : AllByRecursion (IsPartInside shown) nodes.parts

@@ -3,7 +3,7 @@
 ghost use Rattle.std.specs.Prelude.{◌≡◌, ◌<◌, IfOk, length};
 ghost use Rattle.std.specs.List.{AllByRecursion};
 ghost use Rattle.dd_core.specs.Sets.{Grows};
-ghost use Rattle.canon_policy.specs.Nodes.{AreInside, IsPartInside, AreNodesInside, IsFixed, AreFixed, IsPartFixed, ArePartsFixed, AreNodesFixed, IsFixingWithin};
+ghost use Rattle.canon_policy.specs.Nodes.{AreInside, IsPartInside, AreFunctionNodesInside, IsFixed, AreFixed, IsPartFixed, ArePartsFixed, AreNodesFixed, IsFixingWithin};
 
 use crate::fixing::Fixing;
 use crate::parts::{Nodes, PartNodes};
@@ -89,7 +89,7 @@ pub fn fixed(
     nodes: &Nodes,
     alone: &Fixing,
 ) -> Result<Nodes, NoMemory>
-    requires nodes { AreNodesInside store.old nodes.now }
+    requires nodes { AreFunctionNodesInside store.old nodes.now }
     requires alone { IsFixingWithin store.old.universe alone.now }
     ensures grows { Grows store.old store.new }
     ensures fixed { IfOk result (λ made. AreNodesFixed store.old store.new alone.now nodes.now made) }

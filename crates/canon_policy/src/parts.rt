@@ -9,7 +9,7 @@ ghost use Rattle.canon_policy.specs.declared.fixing.Fixing.{Fixing};
 ghost use Rattle.canon_policy.specs.Fixings.{Part, Asked, agreeing, least, unsettled, first_unsettled, split};
 ghost use Rattle.canon_policy.specs.Fixings.Part.{community as of_community};
 ghost use Rattle.canon_policy.specs.Hanging.{TestHangsOn, NumberHangsOn, PartHangsOn, PartsHangOn, AskedHangsOn};
-ghost use Rattle.canon_policy.specs.Nodes.{AreInside, IsPartInside, AreNodesInside, NodesTellPart, AreNodesOf, IsTold, ArePartsTold, community_number, lesser};
+ghost use Rattle.canon_policy.specs.Nodes.{AreInside, IsPartInside, AreFunctionNodesInside, NodesTellPart, AreNodesOf, IsTold, ArePartsTold, community_number, lesser};
 
 use base_kit::{Community, List, NoMemory, NumSet};
 use dd_core::{NodeId, Store, is_same};
@@ -136,7 +136,7 @@ pub fn split_by(
     store: &mut Store,
     nodes: &Nodes,
 ) -> Result<Option<Community>, NoMemory>
-    requires { AreNodesInside store.old nodes.now }
+    requires { AreFunctionNodesInside store.old nodes.now }
     ensures grows { Grows store.old store.new }
     ensures known { IfOk result (λ r. IfSome r (λ c. has store.old.universe c.0 ≡ true)) }
     ensures split { (asked : Asked) (fixing : Fixing) → AskedHangsOn store.old.universe asked → AreNodesOf store.old fixing nodes.now asked

@@ -4,7 +4,7 @@ ghost use Rattle.std.specs.Prelude.{◌≡◌, ◌≤◌, ◌++◌, ◌∷◌, [
 ghost use Rattle.dd_core.specs.Sets.{Grows};
 ghost use Rattle.canon_policy.specs.Fixings.{Asked, nothing_fixed, split, settled};
 ghost use Rattle.canon_policy.specs.Hanging.{AskedHangsOn};
-ghost use Rattle.canon_policy.specs.Nodes.{AreNodesInside, AreNodesOf, IsWalked, IsWalkedFromNothing};
+ghost use Rattle.canon_policy.specs.Nodes.{AreFunctionNodesInside, AreNodesOf, IsWalked, IsWalkedFromNothing};
 
 use crate::fixed::fixed;
 use crate::fixing::Fixing;
@@ -40,7 +40,7 @@ fn walk(
     fixing: Fixing,
     found: &mut List<Fixing>,
 ) -> Result<(), CanonRefusal>
-    requires inside { AreNodesInside store.old nodes.now }
+    requires inside { AreFunctionNodesInside store.old nodes.now }
     requires narrow { length fixing.present ≤ 32 }
     ensures grows { Grows store.old store.new }
     ensures walked { (asked : Asked) → AskedHangsOn store.old.universe asked → AreNodesOf store.old fixing nodes.now asked → IsWalked found.old found.new result (settled depth (split store.old.universe asked) fixing) }
@@ -75,7 +75,7 @@ pub fn settled_fixings(
     store: &mut Store,
     nodes: &Nodes,
 ) -> Result<List<Fixing>, CanonRefusal>
-    requires { AreNodesInside store.old nodes.now }
+    requires { AreFunctionNodesInside store.old nodes.now }
     ensures grows { Grows store.old store.new }
     ensures walked { (asked : Asked) → AskedHangsOn store.old.universe asked → AreNodesOf store.old nothing_fixed nodes.now asked → IsWalkedFromNothing result (settled (length store.old.universe) (split store.old.universe asked) nothing_fixed) }
 {

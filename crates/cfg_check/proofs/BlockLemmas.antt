@@ -11,7 +11,7 @@ use Rattle.cfg_ast.specs.meaning.Addresses.{Address}
 use Rattle.cfg_ast.specs.meaning.RouterFaults.{overlap}
 use Rattle.cfg_check.specs.declared.overlaps.Blocks.{Blocks}
 use Rattle.buckets.specs.Buckets.{same_pair}
-use Rattle.cfg_check.specs.Blocks.{block_of, is_block, is_around, is_under, is_kept_at, Pairs, meets, HasLens, AddsBlock, AddsAround, AddsSubnet, IsKept}
+use Rattle.cfg_check.specs.Blocks.{block_of, subnet_is_block, is_around, is_under, is_kept_at, Pairs, meets, HasLens, AddsBlock, AddsAround, AddsSubnet, IsKept}
 use Rattle.cfg_check.proofs.Seen.{any_more, same_either_way}
 
 cond_or : (a b : Bool) → cond a true b ≡ (a || b)
@@ -154,14 +154,14 @@ shared_out true p q = refl
 shared_out false p q = refl
 
 under_each : (a : Address) (lens : List ℕ) (past : List Address) → ((len : ℕ) → list_any (λ (b : Address). nat_eq b.len len) past ≡ true → has lens len ≡ true)
-    → list_any (λ k. nat_le k a.len && list_any (is_block k (block_of k a)) past) lens ≡ list_any (is_under a) past
+    → list_any (λ k. nat_le k a.len && list_any (subnet_is_block k (block_of k a)) past) lens ≡ list_any (is_under a) past
 under_each a lens [] all = none (λ k. nat_le k a.len) lens
 under_each a lens (b ∷ past) all =
-    let is_one : ℕ → Bool = λ k. nat_le k a.len && is_block k (block_of k a) b in
-    let is_other : ℕ → Bool = λ k. nat_le k a.len && list_any (is_block k (block_of k a)) past in
+    let is_one : ℕ → Bool = λ k. nat_le k a.len && subnet_is_block k (block_of k a) b in
+    let is_other : ℕ → Bool = λ k. nat_le k a.len && list_any (subnet_is_block k (block_of k a)) past in
     let own : has lens b.len ≡ true = all b.len (ap (λ (t : Bool). t || list_any (λ (c : Address). nat_eq c.len b.len) past) (same_number b.len b.len refl)) in
-    any_same (λ k. nat_le k a.len && (is_block k (block_of k a) b || list_any (is_block k (block_of k a)) past)) (λ k. is_one k || is_other k)
-    (λ k. shared_out (nat_le k a.len) (is_block k (block_of k a) b) (list_any (is_block k (block_of k a)) past)) lens
+    any_same (λ k. nat_le k a.len && (subnet_is_block k (block_of k a) b || list_any (subnet_is_block k (block_of k a)) past)) (λ k. is_one k || is_other k)
+    (λ k. shared_out (nat_le k a.len) (subnet_is_block k (block_of k a) b) (list_any (subnet_is_block k (block_of k a)) past)) lens
     ∙ any_or is_one is_other lens
     ∙ ap (λ (t : Bool). t || list_any is_other lens) (at_one (λ k. nat_eq (block_of k a) (block_of b.len b)) a.len b.len lens
     ∙ ap (λ (t : Bool). t && is_under a b) own)
@@ -198,7 +198,7 @@ meets_past blocks lens past a kept own all =
     let around : contains same_pair blocks.around (a.len, block_of a.len a) ≡ list_any (is_around a.len (block_of a.len a)) past =
     kept.around a.len (block_of a.len a) ∙ and_true (list_any (is_around a.len (block_of a.len a)) past) (has lens a.len) own in
     ap (λ (t : Bool). t || contains same_pair blocks.around (a.len, block_of a.len a))
-    (any_same (is_kept_at blocks.subnets a) (λ k. nat_le k a.len && list_any (is_block k (block_of k a)) past)
+    (any_same (is_kept_at blocks.subnets a) (λ k. nat_le k a.len && list_any (subnet_is_block k (block_of k a)) past)
     (λ k. ap (λ (t : Bool). nat_le k a.len && t) (kept.subnets k (block_of k a))) lens ∙ under_each a lens past all)
     ∙ ap (λ (t : Bool). list_any (is_under a) past || t) around
     ∙ sym (any_or (is_under a) (is_around a.len (block_of a.len a)) past)
@@ -216,8 +216,8 @@ pub kept_turn : (blocks : Blocks) (subnets around : Pairs) (lens : List ℕ) (xs
     IsKept blocks lens (take i xs) → AddsSubnet blocks.subnets subnets x → AddsAround blocks.around around lens x →
     IsKept (record { subnets = subnets; around = around }) lens (take (i + 1) xs)
 kept_turn blocks subnets around lens xs i x below here kept adds_subnet adds_around = record {
-  subnets = λ len number. adds_subnet.each len number ∙ ap (λ (t : Bool). is_block len number x || t) (kept.subnets len number)
-      ∙ sym (cond_or (is_block len number x) (list_any (is_block len number) (take i xs))) ∙ any_more (is_block len number) xs i x below here;
+  subnets = λ len number. adds_subnet.each len number ∙ ap (λ (t : Bool). subnet_is_block len number x || t) (kept.subnets len number)
+      ∙ sym (cond_or (subnet_is_block len number x) (list_any (subnet_is_block len number) (take i xs))) ∙ any_more (subnet_is_block len number) xs i x below here;
   around = λ len number.
       adds_around.each len number
       ∙ ap (λ (t : Bool). (has lens len && is_around len number x) || t) (kept.around len number)

@@ -4,7 +4,7 @@ use Rattle.std.specs.Option.{option_map}
 use Rattle.std.specs.List.{list_any, cons_option}
 use Rattle.std.proofs.lemmas.List.{take_more, map-append}
 use Rattle.cfg_ast.specs.meaning.RouterFaults.{repeats, repeats_after}
-use Rattle.cfg_check.specs.LeastLine.{lesser_line, least_line, line_if}
+use Rattle.cfg_check.specs.LeastLine.{lesser_line, least_line, fault_line_if}
 use Rattle.cfg_check.proofs.LeastOfList.{least_line-append}
 
 item_if : {X : Type 0} → Bool → X → List X
@@ -42,12 +42,12 @@ pub repeats-push : {X : Type 0} (alike : X → X → Bool) (xs : List X) (x : X)
 unfolding item_if
 repeats-push alike xs x = repeats_push_after alike [] xs x ∙ ap (λ b. repeats alike xs ++ item_if b x) (or_false (list_any (alike x) xs))
 
-least_if : {X : Type 0} (line : X → ℕ) (b : Bool) (x : X) → least_line (map line (cond b (x ∷ []) [])) ≡ line_if b (line x)
+least_if : {X : Type 0} (line : X → ℕ) (b : Bool) (x : X) → least_line (map line (cond b (x ∷ []) [])) ≡ fault_line_if b (line x)
 least_if line true x = refl
 least_if line false x = refl
 
 pub least_repeat-push : {X : Type 0} (alike : X → X → Bool) (line : X → ℕ) (xs : List X) (x : X) →
-    least_line (map line (repeats alike (xs ++ x ∷ []))) ≡ lesser_line (least_line (map line (repeats alike xs))) (line_if (list_any (alike x) xs) (line x))
+    least_line (map line (repeats alike (xs ++ x ∷ []))) ≡ lesser_line (least_line (map line (repeats alike xs))) (fault_line_if (list_any (alike x) xs) (line x))
 least_repeat-push alike line xs x =
     let last = cond (list_any (alike x) xs) (x ∷ []) [] in
     ap (λ l. least_line (map line l)) (repeats-push alike xs x)
@@ -59,10 +59,10 @@ least_repeat-push alike line xs x =
 pub least_repeat_turn : {X : Type 0} (alike : X → X → Bool) (line : X → ℕ) (xs : List X) (i : ℕ) (x : X) (least : Option ℕ) (again : Bool) → i < length xs →
     x ≡ get_or xs i x
     → least ≡ least_line (map line (repeats alike (take i xs))) → again ≡ list_any (alike x) (take i xs)
-    → lesser_line least (line_if again (line x)) ≡ least_line (map line (repeats alike (take (i + 1) xs)))
+    → lesser_line least (fault_line_if again (line x)) ≡ least_line (map line (repeats alike (take (i + 1) xs)))
 least_repeat_turn {X} alike line xs i x least again below here so_far is =
-    ap (λ o. lesser_line o (line_if again (line x))) so_far
-    ∙ ap (λ b. lesser_line (least_line (map line (repeats alike (take i xs)))) (line_if b (line x))) is
+    ap (λ o. lesser_line o (fault_line_if again (line x))) so_far
+    ∙ ap (λ b. lesser_line (least_line (map line (repeats alike (take i xs)))) (fault_line_if b (line x))) is
     ∙ sym (least_repeat-push alike line (take i xs) x)
     ∙ ap (λ (l : List X). least_line (map line (repeats alike l))) (sym (take_more xs i x below ∙ ap (λ (y : X). take i xs ++ y ∷ []) (sym here)))
 

@@ -3,7 +3,7 @@ use Rattle.std.proofs.Common.{◌≡◌, ◌<◌, ℕ, ◌+◌, Bool, true, fals
 use Rattle.std.proofs.lemmas.List.{take_more, drop_more}
 use Rattle.std.proofs.lemmas.List.Elements.{filter-append}
 use Rattle.std.proofs.lemmas.Grind.{flat_map-append}
-use Rattle.buckets.specs.Buckets.{Index, is_at, IsIndex}
+use Rattle.buckets.specs.Buckets.{Index, is_at_pair, IsIndex}
 use Rattle.cfg_ast.specs.meaning.Addresses.{Address}
 use Rattle.cfg_ast.specs.declared.network.Router.{Router}
 use Rattle.cfg_ast.specs.meaning.RouterFaults.{Added, active_addresses_of, added_by, added_after, exceeding}
@@ -38,8 +38,8 @@ all_counted seen earlier is (a ∷ addresses) =
 pub counted_more : (old new : Index Address) (earlier addresses : List Address) → IsIndex subnet_pair old earlier → AddsAll old new addresses →
     IsIndex subnet_pair new (earlier ++ addresses)
 counted_more old new earlier addresses is adds = record {
-  each = λ pair. adds.each pair ∙ ap (λ (l : List Address). l ++ filter (is_at subnet_pair pair) addresses) (is.each pair)
-      ∙ sym (filter-append (is_at subnet_pair pair) earlier addresses);
+  each = λ pair. adds.each pair ∙ ap (λ (l : List Address). l ++ filter (is_at_pair subnet_pair pair) addresses) (is.each pair)
+      ∙ sym (filter-append (is_at_pair subnet_pair pair) earlier addresses);
 }
 
 no_more : {X : Type 0} (xs : List X) → xs ++ [] ≡ xs

@@ -5,13 +5,13 @@ use Rattle.std.specs.List.{cons_option}
 use Rattle.std.proofs.lemmas.List.{take_more, map-append}
 use Rattle.std.proofs.lemmas.List.Elements.{filter-append, filter_map-append}
 use Rattle.std.proofs.lemmas.Grind.{flat_map-append}
-use Rattle.cfg_check.specs.LeastLine.{lesser_line, least_line, line_if}
+use Rattle.cfg_check.specs.LeastLine.{lesser_line, least_line, fault_line_if}
 use Rattle.cfg_check.proofs.LeastOfList.{least_line-append}
 
 taken : {X : Type 0} (xs : List X) (i : ℕ) (x : X) → i < length xs → x ≡ get_or xs i x → take (i + 1) xs ≡ take i xs ++ x ∷ []
 taken {X} xs i x below here = take_more xs i x below ∙ ap (λ (y : X). take i xs ++ y ∷ []) (sym here)
 
-if_last : {X : Type 0} (line : X → ℕ) (p : X → Bool) (x : X) (b : Bool) → p x ≡ b → least_line (map line (filter p (x ∷ []))) ≡ line_if b (line x)
+if_last : {X : Type 0} (line : X → ℕ) (p : X → Bool) (x : X) (b : Bool) → p x ≡ b → least_line (map line (filter p (x ∷ []))) ≡ fault_line_if b (line x)
 if_last line p x true e = rw e refl
 if_last line p x false e = rw e refl
 
@@ -20,7 +20,7 @@ parts line xs ys = ap least_line (map-append line xs ys) ∙ least_line-append (
 
 -- the least line of the items that pass a test
 least_filter_turn : {X : Type 0} (line : X → ℕ) (p : X → Bool) (xs : List X) (i : ℕ) (x : X) (b : Bool) → i < length xs → x ≡ get_or xs i x → p x ≡ b
-    → least_line (map line (filter p (take (i + 1) xs))) ≡ lesser_line (least_line (map line (filter p (take i xs)))) (line_if b (line x))
+    → least_line (map line (filter p (take (i + 1) xs))) ≡ lesser_line (least_line (map line (filter p (take i xs)))) (fault_line_if b (line x))
 least_filter_turn {X} line p xs i x b below here is =
     ap (λ (l : List X). least_line (map line (filter p l))) (taken xs i x below here)
     ∙ ap (λ (l : List X). least_line (map line l)) (filter-append p (take i xs) (x ∷ []))
@@ -69,8 +69,8 @@ least_picked_turn {X} {Y} line g xs i x below here =
 
 pub filter_step : {X : Type 0} (line : X → ℕ) (p : X → Bool) (xs : List X) (i : ℕ) (x : X) (least : Option ℕ) (b : Bool) → i < length xs → x ≡ get_or xs i x
     → least ≡ least_line (map line (filter p (take i xs))) → p x ≡ b →
-    lesser_line least (line_if b (line x)) ≡ least_line (map line (filter p (take (i + 1) xs)))
-filter_step line p xs i x least b below here so_far is = ap (λ o. lesser_line o (line_if b (line x))) so_far
+    lesser_line least (fault_line_if b (line x)) ≡ least_line (map line (filter p (take (i + 1) xs)))
+filter_step line p xs i x least b below here so_far is = ap (λ o. lesser_line o (fault_line_if b (line x))) so_far
     ∙ sym (least_filter_turn line p xs i x b below here is)
 
 pub flat_step : {X Y : Type 0} (line : Y → ℕ) (f : X → List Y) (xs : List X) (i : ℕ) (x : X) (least fault : Option ℕ) → i < length xs → x ≡ get_or xs i x
@@ -135,7 +135,7 @@ lines_step {X} f xs i x least fault below here so_far is =
     ∙ ap least_line (flat_map-append f (take i xs) (x ∷ []) ∙ ap (λ (l : List ℕ). flat_map f (take i xs) ++ l) (no_more (f x)))
     ∙ least_line-append (flat_map f (take i xs)) (f x))
 
-pub line_if_least : (b : Bool) (line : ℕ) → line_if b line ≡ least_line (if b then line ∷ [] else [])
+pub line_if_least : (b : Bool) (line : ℕ) → fault_line_if b line ≡ least_line (if b then line ∷ [] else [])
 line_if_least true line = refl
 line_if_least false line = refl
 

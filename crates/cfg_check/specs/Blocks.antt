@@ -14,8 +14,8 @@ abbrev pub block_of : ℕ → Address → ℕ
 block_of len a = a.addr / 2 ^ (32 - len)
 
 -- the subnet is that block
-abbrev pub is_block : ℕ → ℕ → Address → Bool
-is_block len number a = nat_eq len a.len && nat_eq number (block_of a.len a)
+abbrev pub subnet_is_block : ℕ → ℕ → Address → Bool
+subnet_is_block len number a = nat_eq len a.len && nat_eq number (block_of a.len a)
 
 -- the subnet lies in that block
 abbrev pub is_around : ℕ → ℕ → Address → Bool
@@ -54,9 +54,9 @@ pub record AddsAround (old new : Pairs) (lens : List ℕ) (a : Address) : Type 0
 
 -- the subnet was put in
 pub record AddsSubnet (old new : Pairs) (a : Address) : Type 0 where
-  pub each : (len number : ℕ) → contains same_pair new (len, number) ≡ (is_block len number a || contains same_pair old (len, number))
+  pub each : (len number : ℕ) → contains same_pair new (len, number) ≡ (subnet_is_block len number a || contains same_pair old (len, number))
 
 -- the blocks are those of these subnets, all around them of these lengths
 pub record IsKept (blocks : Blocks) (lens : List ℕ) (past : List Address) : Type 0 where
-  pub subnets : (len number : ℕ) → contains same_pair blocks.subnets (len, number) ≡ list_any (is_block len number) past
+  pub subnets : (len number : ℕ) → contains same_pair blocks.subnets (len, number) ≡ list_any (subnet_is_block len number) past
   pub around : (len number : ℕ) → contains same_pair blocks.around (len, number) ≡ (list_any (is_around len number) past && has lens len)

@@ -15,9 +15,9 @@ least_line [] = None
 least_line (x ∷ xs) = lesser_line (Some x) (least_line xs)
 
 -- a line that counts where there is a fault
-abbrev pub line_if : Bool → ℕ → Option ℕ
-line_if true line = Some line
-line_if false line = None
+abbrev pub fault_line_if : Bool → ℕ → Option ℕ
+fault_line_if true line = Some line
+fault_line_if false line = None
 
 -- the fault of a kind at a line
 abbrev pub fault_at : Kind → Option ℕ → Option Fault

@@ -1,6 +1,6 @@
 -- Active addresses by their subnets, and sums of pairs.
 use Rattle.std.specs.Prelude.{◌≡◌, ℕ, ◌+◌, List, [], ◌∷◌, ◌++◌, Result, Ok, Err, filter, length, nat_lt, if◌then◌else◌}
-use Rattle.buckets.specs.Buckets.{Index, bucket, is_at}
+use Rattle.buckets.specs.Buckets.{Index, bucket, is_at_pair}
 use Rattle.cfg_ast.specs.meaning.Addresses.{Address}
 use Rattle.cfg_ast.specs.meaning.Topology.{first_address}
 use Rattle.cfg_ast.specs.meaning.RouterFaults.{Added}
@@ -11,7 +11,7 @@ subnet_pair a = (a.len, first_address a)
 
 -- the addresses were put in
 pub record AddsAll (old new : Index Address) (addresses : List Address) : Type 0 where
-  pub each : (pair : ℕ × ℕ) → bucket new pair ≡ bucket old pair ++ filter (is_at subnet_pair pair) addresses
+  pub each : (pair : ℕ × ℕ) → bucket new pair ≡ bucket old pair ++ filter (is_at_pair subnet_pair pair) addresses
 
 -- the line of an address, and how many of its subnet were seen
 abbrev pub counted : Index Address → Address → Added

@@ -2,7 +2,7 @@
 
 ghost use Rattle.std.specs.Prelude.{◌≡◌, None, Some, if◌then◌else◌};
 ghost use Rattle.cfg_ast.specs.meaning.Meaning.{lesser_fault};
-ghost use Rattle.cfg_check.specs.LeastLine.{lesser_line, line_if, fault_at};
+ghost use Rattle.cfg_check.specs.LeastLine.{lesser_line, fault_line_if, fault_at};
 
 use cfg_ast::{Fault, Kind};
 
@@ -19,7 +19,7 @@ pub(crate) fn lesser_line(least: Option<u32>, line: Option<u32>) -> Option<u32>
 
 /// The lesser of a line and another one that counts only where there is a fault.
 pub(crate) fn with_line_if(least: Option<u32>, at_fault: bool, line: u32) -> Option<u32>
-    ensures { result ≡ lesser_line least (line_if at_fault line) }
+    ensures { result ≡ lesser_line least (fault_line_if at_fault line) }
 {
     if at_fault {
         lesser_line(least, Some(line))

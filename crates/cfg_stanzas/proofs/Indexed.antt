@@ -14,7 +14,7 @@ use Rattle.cfg_ast.specs.declared.bgp.Neighbor.{Neighbor}
 use Rattle.cfg_ast.specs.declared.ospf.AreaLine.{AreaLine}
 use Rattle.cfg_ast.specs.text.Stanzas.{same_area_line, has_network, has_neighbor}
 use Rattle.numbered_names.proofs.Firsts.{any_last, any_same, any_some, none_by, number_is, parts_kept, place_by, position_by}
-use Rattle.cfg_stanzas.specs.Indexes.{HasKeys, HasAddresses, prefix_order, area_order, area_key, prefix_of}
+use Rattle.cfg_stanzas.specs.Indexes.{HasKeys, HasAddresses, prefix_order, area_order, area_key, net_prefix}
 
 -- ---- sets
 
@@ -31,12 +31,12 @@ has_area s areas area has = has (area_key area) ∙ any_same (λ x. is_eq (area_
     same : (x : AreaLine) → is_eq (area_order (area_key x) (area_key area)) ≡ same_area_line area x
     same x = grind (arith, nat_tests)
 
-pub has_prefix : (s : sorted.BTreeSet Prefix) (nets : List NetLine) (prefix : Prefix) → HasKeys prefix_order prefix_of s nets →
+pub has_prefix : (s : sorted.BTreeSet Prefix) (nets : List NetLine) (prefix : Prefix) → HasKeys prefix_order net_prefix s nets →
     sorted.contains prefix_order s prefix ≡ has_network nets prefix
 unfolding has_network
-has_prefix s nets prefix has = has prefix ∙ any_same (λ x. is_eq (prefix_order (prefix_of x) prefix)) (λ net. same_prefix net.prefix prefix) (λ x. same x) nets
+has_prefix s nets prefix has = has prefix ∙ any_same (λ x. is_eq (prefix_order (net_prefix x) prefix)) (λ net. same_prefix net.prefix prefix) (λ x. same x) nets
   where
-    same : (x : NetLine) → is_eq (prefix_order (prefix_of x) prefix) ≡ same_prefix x.prefix prefix
+    same : (x : NetLine) → is_eq (prefix_order (net_prefix x) prefix) ≡ same_prefix x.prefix prefix
     same x = grind (arith, nat_tests)
 
 -- ---- neighbours

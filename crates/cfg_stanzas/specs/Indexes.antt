@@ -13,8 +13,8 @@ use Rattle.cfg_ast.specs.declared.ospf.AreaLine.{AreaLine}
 
 -- ---- the keys of the items
 
-abbrev pub prefix_of : NetLine → Prefix
-prefix_of net = net.prefix
+abbrev pub net_prefix : NetLine → Prefix
+net_prefix net = net.prefix
 
 abbrev pub area_key : AreaLine → ℕ × ℕ × ℕ
 area_key area = (area.addr, area.wild, area.area)

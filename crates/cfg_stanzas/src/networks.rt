@@ -19,13 +19,13 @@ pub(crate) struct Networks {
 impl Model for Networks {
     ghost use Rattle.std.specs.Prelude.{List};
     ghost use Rattle.cfg_ast.specs.declared.bgp.NetLine.{NetLine};
-    ghost use Rattle.cfg_stanzas.specs.Indexes.{HasKeys, prefix_order, prefix_of};
+    ghost use Rattle.cfg_stanzas.specs.Indexes.{HasKeys, prefix_order, net_prefix};
 
     ghost Value = { List NetLine };
 
     ghost view = { λ a. a.items };
 
-    ghost invariant = { λ a. HasKeys prefix_order prefix_of a.prefixes a.items };
+    ghost invariant = { λ a. HasKeys prefix_order net_prefix a.prefixes a.items };
 }
 
 impl Networks {

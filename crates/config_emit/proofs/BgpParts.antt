@@ -34,7 +34,7 @@ use Rattle.config_emit.specs.MapNumbers.{map_number, KnowsClosed, AreKnown}
 use Rattle.config_emit.specs.Maps.{other_end, act_in_map, act_out_map, sends_by, maps_at, maps_over, maps_of, name_of_map, lists_of_map, written_map}
 use Rattle.config_emit.specs.Plan.{Plan, small, act_into}
 use Rattle.config_emit.specs.RouterMaps.{use_now, use_of, with_uses, act_into_end, uses_on, use_name}
-use Rattle.config_emit.specs.Sources.{IsSound, HasNumbers}
+use Rattle.config_emit.specs.Sources.{IsSound, HasGroupNumbers}
 use Rattle.config_emit.specs.declared.act_maps.ActMaps.{ActMaps}
 use Rattle.config_emit.specs.declared.router_maps.MapUse.{MapUse}
 use Rattle.config_emit.proofs.FirstUses.{uses_by_first, firsts_in, name_is_used, out_name_is_used, other_touches, end_is, all_uses, knows_into, knows_out, uses_known}
@@ -110,7 +110,7 @@ plains_are uses known ms are = plains uses ∙ ap (map second) are ∙ seconds k
 
 -- ---- numbers
 
-pub numbers_are : (e : Plan) (numbers : List ℕ) → HasNumbers e numbers → numbers ≡ (small e).numbers
+pub numbers_are : (e : Plan) (numbers : List ℕ) → HasGroupNumbers e numbers → numbers ≡ (small e).numbers
 unfolding quotient_problem
 numbers_are e numbers has = has.are
 

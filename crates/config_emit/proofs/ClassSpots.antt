@@ -16,7 +16,7 @@ use Rattle.cfg_ast.specs.printing.Bare.{bare_address}
 use Rattle.cfg_ast.specs.declared.interface.Interface.{Interface}
 use Rattle.cfg_ast.specs.declared.network.Router.{Router}
 use Rattle.config_emit.specs.Interfaces.{interface_in, cost_over, class_interface, class_interface_in, class_interfaces_on}
-use Rattle.config_emit.specs.Spots.{SpotsBySubnet, spot_with, spot_of, counts, serves, AreSpots, PutsSpot, interface_at, served_at, OriginatesEach}
+use Rattle.config_emit.specs.Spots.{SpotsBySubnet, spot_with, spot_of_interface, counts, serves, AreSpots, PutsSpot, interface_at, served_at, OriginatesEach}
 use Rattle.config_emit.specs.declared.class_interfaces.Spot.{Spot}
 use Rattle.config_emit.proofs.ListSteps.{both, found_passes}
 
@@ -45,10 +45,10 @@ spots_turn q r old new xs i x below here puts so_far = record {
   each = λ p.
       let test : Interface → Bool = serves q r p in
       puts.each p
-      ∙ ap (λ o. option_or o (cond (test x) (spot_of q x) None)) (so_far.each p)
-      ∙ kept (spot_of q) (find test (take i xs)) (test x) x (λ y found. let a = serving_has q r p y (found_passes test (take i xs) y found) in
+      ∙ ap (λ o. option_or o (cond (test x) (spot_of_interface q x) None)) (so_far.each p)
+      ∙ kept (spot_of_interface q) (find test (take i xs)) (test x) x (λ y found. let a = serving_has q r p y (found_passes test (take i xs) y found) in
       (spot_with (cost_over q y) a.0, ap (option_map (spot_with (cost_over q y))) a.1))
-      ∙ ap (option_and_then (spot_of q)) (sym (find-append test (take i xs) (x ∷ []))
+      ∙ ap (option_and_then (spot_of_interface q)) (sym (find-append test (take i xs) (x ∷ []))
       ∙ ap (find test) (sym (take_more xs i x below ∙ ap (λ y. take i xs ++ y ∷ []) (sym here))));
 }
 
@@ -62,7 +62,7 @@ class_with : Protocol → ℕ → Interface → Option Address → Interface
 class_with q j x address = record { name = codes "Vlan" ++ decimal j; line = 0; address = option_map bare_address address; cost = cost_over q x; shut = false }
 
 written : (q : Protocol) (r : Router) (j : ℕ) (p : ℕ × ℕ) (o : Option Interface) → ((x : Interface) → o ≡ Some x → serves q r p x ≡ true) →
-    option_map (interface_at j) (option_and_then (spot_of q) o) ≡ option_map (class_interface q j) o
+    option_map (interface_at j) (option_and_then (spot_of_interface q) o) ≡ option_map (class_interface q j) o
 unfolding class_with
 written q r j p None serve = refl
 written q r j p (Some x) serve = step x.address refl where

@@ -8,7 +8,7 @@ use Rattle.cfg_ast.proofs.ClassFacts.{Tells}
 use Rattle.route_maps.specs.Same.{same_map}
 use Rattle.route_maps.specs.declared.plain.Plain.{Plain}
 use Rattle.config_emit.specs.MapKeys.{shown, said_of_map, is_map, same_keys}
-use Rattle.config_emit.specs.MapNumbers.{NumbersByKey, place_from, says, AreNumbers, with_map, place_of_map}
+use Rattle.config_emit.specs.MapNumbers.{NumbersByKey, place_from, says_key, AreNumbers, with_map, place_of_map}
 use Rattle.config_emit.specs.declared.map_keys.EntryKey.{EntryKey}
 use Rattle.config_emit.proofs.KeyEq.{keys_same, said_maps, maps_tell}
 
@@ -97,7 +97,7 @@ same_turned m n = said_maps m n ∙ tells_turned is_map maps_tell (said_of_map m
 pub same_as : (m n k : Plain) → same_map m n ≡ true → same_map m k ≡ same_map n k
 same_as m n k e = said_maps m k ∙ ap (λ s. is_map s (said_of_map k)) (one_said m n e) ∙ sym (said_maps n k)
 
-says_same : (key : Vec EntryKey) (m n : Plain) → shown key ≡ said_of_map m → says key n ≡ same_map m n
+says_same : (key : Vec EntryKey) (m n : Plain) → shown key ≡ said_of_map m → says_key key n ≡ same_map m n
 says_same key m n is = ap (λ s. is_map s (said_of_map n)) is ∙ sym (said_maps m n)
 
 -- ---- one map more
@@ -106,26 +106,26 @@ pub record IsNumbered (maps more : List Plain) (m : Plain) (k : ℕ) : Type 0 wh
   pub grown : more ≡ with_map m maps
   pub number : k ≡ place_of_map more m
 
-pub known : (maps : List Plain) (m : Plain) (key : Vec EntryKey) (k : ℕ) → shown key ≡ said_of_map m → place_from (says key) 0 maps ≡ Some k
+pub known : (maps : List Plain) (m : Plain) (key : Vec EntryKey) (k : ℕ) → shown key ≡ said_of_map m → place_from (says_key key) 0 maps ≡ Some k
     → IsNumbered maps maps m k
 known maps m key k is there =
-    let at = placed (same_map m) 0 maps k (sym (place_ext (says key) (same_map m) 0 maps (λ n. says_same key m n is)) ∙ there) in
+    let at = placed (same_map m) 0 maps k (sym (place_ext (says_key key) (same_map m) 0 maps (λ n. says_same key m n is)) ∙ there) in
     record {
       grown = sym (ap (λ b. cond b maps (maps ++ m ∷ [])) at.any);
       number = (let place = at.at in omega (arith, place));
     }
 
-pub unknown : (maps : List Plain) (m : Plain) (key : Vec EntryKey) → shown key ≡ said_of_map m → place_from (says key) 0 maps ≡ None →
+pub unknown : (maps : List Plain) (m : Plain) (key : Vec EntryKey) → shown key ≡ said_of_map m → place_from (says_key key) 0 maps ≡ None →
     IsNumbered maps (maps ++ m ∷ []) m (length maps)
 unknown maps m key is there =
-    let none = absent (same_map m) 0 maps (sym (place_ext (says key) (same_map m) 0 maps (λ n. says_same key m n is)) ∙ there) in
+    let none = absent (same_map m) 0 maps (sym (place_ext (says_key key) (same_map m) 0 maps (λ n. says_same key m n is)) ∙ there) in
     record {
       grown = sym (ap (λ b. cond b maps (maps ++ m ∷ [])) none);
       number = sym (position_last (same_map m) maps m none (same_self m));
     }
 
 pub added : (old new : NumbersByKey) (maps : List Plain) (m : Plain) (key : Vec EntryKey) (k : ℕ) → shown key ≡ said_of_map m → k ≡ length maps →
-    place_from (says key) 0 maps ≡ None
+    place_from (says_key key) 0 maps ≡ None
     → ((q : Vec EntryKey) → get same_keys new q ≡ cond (same_keys key q) (Some k) (get same_keys old q)) → AreNumbers old maps → AreNumbers new (maps ++ m ∷ [])
 added old new maps m key k is at none put are = record {
   each = λ q.
@@ -133,18 +133,18 @@ added old new maps m key k is at none put are = record {
       ∙ ap (λ b. cond b (Some k) (get same_keys old q)) (keys_same key q)
       ∙ ap (cond (is_map (shown key) (shown q)) (Some k)) (are.each q)
       ∙ step q (is_map (shown key) (shown q)) refl
-      ∙ ap (λ b. option_or (place_from (says q) 0 maps) (cond b (Some (0 + length maps)) None))
+      ∙ ap (λ b. option_or (place_from (says_key q) 0 maps) (cond b (Some (0 + length maps)) None))
       (tells_turned is_map maps_tell (shown key) (shown q) ∙ ap (is_map (shown q)) is)
-      ∙ sym (place_append (says q) 0 maps m);
+      ∙ sym (place_append (says_key q) 0 maps m);
 } where
   no_more : (o : Option ℕ) → o ≡ option_or o None
   no_more None = refl
   no_more (Some n) = refl
 
   step : (q : Vec EntryKey) (b : Bool) → is_map (shown key) (shown q) ≡ b →
-      cond b (Some k) (place_from (says q) 0 maps) ≡ option_or (place_from (says q) 0 maps) (cond b (Some (0 + length maps)) None)
+      cond b (Some k) (place_from (says_key q) 0 maps) ≡ option_or (place_from (says_key q) 0 maps) (cond b (Some (0 + length maps)) None)
   step q true e =
       ap (λ n. Some n) (let here : k ≡ 0 + length maps = omega (arith, at) in here)
       ∙ ap (λ o. option_or o (Some (0 + length maps)))
-      (sym (place_ext (says q) (says key) 0 maps (λ n. ap (λ s. is_map s (said_of_map n)) (sym (maps_tell.one (shown key) (shown q) e))) ∙ none))
-  step q false e = no_more (place_from (says q) 0 maps)
+      (sym (place_ext (says_key q) (says_key key) 0 maps (λ n. ap (λ s. is_map s (said_of_map n)) (sym (maps_tell.one (shown key) (shown q) e))) ∙ none))
+  step q false e = no_more (place_from (says_key q) 0 maps)

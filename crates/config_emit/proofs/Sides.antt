@@ -12,34 +12,34 @@ use Rattle.base_kit.specs.declared.protocol.Protocol.TheVariants.{Bgp as OverBgp
 use Rattle.abstract_net.specs.declared.qlink.QLink.{QLink}
 use Rattle.abstract_net.specs.Carried.{side_of}
 use Rattle.srp_quotient.specs.Groups.{or_else, last_of, edge_into}
-use Rattle.config_emit.specs.ActLinks.{pair_of, same_pair, is_of, own_sides, sides_or, last_sides, SidesByPair, no_sides, sides_at, AreLastSides, NotesSides, filling, FillsSides, drawn, act_link_by, full_sides, act_link, act_links}
+use Rattle.config_emit.specs.ActLinks.{group_pair, same_two_groups, joins_pair, own_sides, sides_or, last_sides, SidesByPair, no_sides, sides_at, AreLastSides, NotesSides, filling, FillsSides, drawn, act_link_by, full_sides, act_link, act_links}
 use Rattle.config_emit.specs.declared.act_links.Sides.{Sides}
 use Rattle.config_emit.proofs.ListSteps.{map_ext, same_numbers, same_either_way, both}
 
-same_pairs : (p q : ℕ × ℕ) → same_pair p q ≡ true → p ≡ q
+same_pairs : (p q : ℕ × ℕ) → same_two_groups p q ≡ true → p ≡ q
 same_pairs p q e =
     let parts = both (nat_eq p.0 q.0) (nat_eq p.1 q.1) e in
     let first : p.0 ≡ q.0 = same_numbers p.0 q.0 parts.0 in
     let second : p.1 ≡ q.1 = same_numbers p.1 q.1 parts.1 in
     ap (λ m. (m, p.1)) first ∙ ap (λ n. (q.0, n)) second
 
-same_turned : (p q : ℕ × ℕ) → same_pair p q ≡ same_pair q p
+same_turned : (p q : ℕ × ℕ) → same_two_groups p q ≡ same_two_groups q p
 same_turned p q = ap (λ b. b && nat_eq p.1 q.1) (same_either_way p.0 q.0) ∙ ap (λ b. nat_eq q.0 p.0 && b) (same_either_way p.1 q.1)
 
 -- ---- one link noted
 
-noted_step : (link : QLink) (s : Sides) (old : SidesByPair) (q : ℕ × ℕ) (b : Bool) → s ≡ sides_or (own_sides link) (sides_at old (pair_of link)) →
-    (b ≡ true → pair_of link ≡ q)
-    → unwrap_or (cond b (Some s) (get same_pair old q)) no_sides ≡ cond b (sides_or (own_sides link) (sides_at old q)) (sides_at old q)
+noted_step : (link : QLink) (s : Sides) (old : SidesByPair) (q : ℕ × ℕ) (b : Bool) → s ≡ sides_or (own_sides link) (sides_at old (group_pair link)) →
+    (b ≡ true → group_pair link ≡ q)
+    → unwrap_or (cond b (Some s) (get same_two_groups old q)) no_sides ≡ cond b (sides_or (own_sides link) (sides_at old q)) (sides_at old q)
 noted_step link s old q true is same = is ∙ ap (λ p. sides_or (own_sides link) (sides_at old p)) (same refl)
 noted_step link s old q false is same = refl
 
 pub noted : (old new : SidesByPair) (link : QLink) (s : Sides) →
-    ((q : ℕ × ℕ) → get same_pair new q ≡ cond (same_pair (pair_of link) q) (Some s) (get same_pair old q))
-    → s ≡ sides_or (own_sides link) (sides_at old (pair_of link)) → NotesSides old new link
+    ((q : ℕ × ℕ) → get same_two_groups new q ≡ cond (same_two_groups (group_pair link) q) (Some s) (get same_two_groups old q))
+    → s ≡ sides_or (own_sides link) (sides_at old (group_pair link)) → NotesSides old new link
 noted old new link s put is = record {
   each = λ q. ap (λ o. unwrap_or o no_sides) (put q)
-      ∙ noted_step link s old q (same_pair (pair_of link) q) is (same_pairs (pair_of link) q);
+      ∙ noted_step link s old q (same_two_groups (group_pair link) q) is (same_pairs (group_pair link) q);
 }
 
 -- ---- the last sides of one link more
@@ -76,7 +76,7 @@ last_more g p links x =
 made : Option ℕ → Option ℕ → Sides
 made a b = record { to_low = a; to_high = b }
 
-grown_step : (x : QLink) (q : ℕ × ℕ) (low high : Option ℕ) (b : Bool) → (b ≡ true → q ≡ pair_of x)
+grown_step : (x : QLink) (q : ℕ × ℕ) (low high : Option ℕ) (b : Bool) → (b ≡ true → q ≡ group_pair x)
     → made (cond b (or_else (side_of q.0 x) low) low) (cond b (or_else (side_of q.1 x) high) high) ≡ cond b (sides_or (own_sides x) (made low high))
     (made low high)
 unfolding made
@@ -84,22 +84,22 @@ grown_step x q low high true same = ap (λ (p : ℕ × ℕ). made (or_else (side
 grown_step x q low high false same = refl
 
 sides_more : (links : List QLink) (x : QLink) (q : ℕ × ℕ) →
-    last_sides (links ++ x ∷ []) q ≡ cond (is_of q x) (sides_or (own_sides x) (last_sides links q)) (last_sides links q)
+    last_sides (links ++ x ∷ []) q ≡ cond (joins_pair q x) (sides_or (own_sides x) (last_sides links q)) (last_sides links q)
 unfolding made
 sides_more links x q =
-    let low = last_of (filter_map (side_of q.0) (filter (is_of q) links)) in
-    let high = last_of (filter_map (side_of q.1) (filter (is_of q) links)) in
-    ap (λ o. made o (last_of (filter_map (side_of q.1) (filter (is_of q) (links ++ x ∷ []))))) (last_more q.0 (is_of q) links x)
-    ∙ ap (λ o. made (cond (is_of q x) (or_else (side_of q.0 x) low) low) o) (last_more q.1 (is_of q) links x)
-    ∙ grown_step x q low high (is_of q x) (same_pairs q (pair_of x))
+    let low = last_of (filter_map (side_of q.0) (filter (joins_pair q) links)) in
+    let high = last_of (filter_map (side_of q.1) (filter (joins_pair q) links)) in
+    ap (λ o. made o (last_of (filter_map (side_of q.1) (filter (joins_pair q) (links ++ x ∷ []))))) (last_more q.0 (joins_pair q) links x)
+    ∙ ap (λ o. made (cond (joins_pair q x) (or_else (side_of q.0 x) low) low) o) (last_more q.1 (joins_pair q) links x)
+    ∙ grown_step x q low high (joins_pair q x) (same_pairs q (group_pair x))
 
 pub last_turn : (old new : SidesByPair) (links : List QLink) (i : ℕ) (x : QLink) → i < length links → x ≡ get_or links i x → NotesSides old new x →
     AreLastSides old (take i links) → AreLastSides new (take (i + 1) links)
 last_turn old new links i x below here notes so_far = record {
   each = λ q.
       notes.each q
-      ∙ ap (λ b. cond b (sides_or (own_sides x) (sides_at old q)) (sides_at old q)) (same_turned (pair_of x) q)
-      ∙ ap (λ s. cond (is_of q x) (sides_or (own_sides x) s) s) (so_far.each q)
+      ∙ ap (λ b. cond b (sides_or (own_sides x) (sides_at old q)) (sides_at old q)) (same_turned (group_pair x) q)
+      ∙ ap (λ s. cond (joins_pair q x) (sides_or (own_sides x) s) s) (so_far.each q)
       ∙ sym (sides_more (take i links) x q)
       ∙ sym (ap (λ ls. last_sides ls q) (take_more links i x below ∙ ap (λ y. take i links ++ y ∷ []) (sym here)));
 }
@@ -110,7 +110,7 @@ or_no_sides : (s : Sides) → sides_or s no_sides ≡ s
 unfolding made
 or_no_sides s = ap (λ o. made o (or_else s.to_high None)) (or_none s.to_low) ∙ ap (λ o. made s.to_low o) (or_none s.to_high)
 
-full : (protocol : Protocol) (links : List QLink) (l : QLink) → sides_or (own_sides l) (filling protocol links (pair_of l)) ≡ full_sides protocol links l
+full : (protocol : Protocol) (links : List QLink) (l : QLink) → sides_or (own_sides l) (filling protocol links (group_pair l)) ≡ full_sides protocol links l
 unfolding edge_into
 full OverBgp links l = or_no_sides (own_sides l)
 full OverOspf links l = refl
@@ -120,4 +120,4 @@ pub act_links_are : (protocol : Protocol) (es : List Edge) (links : List QLink) 
 unfolding act_links
 act_links_are protocol es links fill fills = map_ext (act_link_by fill es) (act_link protocol es links) (enumerate_from 0 links) each where
   each : (x : ℕ × QLink) → act_link_by fill es x ≡ act_link protocol es links x
-  each (t, l) = ap (λ s. drawn es t l (sides_or (own_sides l) s)) (fills.each (pair_of l)) ∙ ap (drawn es t l) (full protocol links l)
+  each (t, l) = ap (λ s. drawn es t l (sides_or (own_sides l) s)) (fills.each (group_pair l)) ∙ ap (drawn es t l) (full protocol links l)

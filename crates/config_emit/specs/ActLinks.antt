@@ -17,14 +17,14 @@ use Rattle.config_emit.specs.declared.act_links.Sides.{Sides}
 
 -- ---- the edges of both ends of a link
 
-abbrev pub pair_of : QLink → ℕ × ℕ
-pair_of l = (l.low, l.high)
+abbrev pub group_pair : QLink → ℕ × ℕ
+group_pair l = (l.low, l.high)
 
-abbrev pub same_pair : ℕ × ℕ → ℕ × ℕ → Bool
-same_pair p q = nat_eq p.0 q.0 && nat_eq p.1 q.1
+abbrev pub same_two_groups : ℕ × ℕ → ℕ × ℕ → Bool
+same_two_groups p q = nat_eq p.0 q.0 && nat_eq p.1 q.1
 
-abbrev pub is_of : ℕ × ℕ → QLink → Bool
-is_of q l = same_pair q (pair_of l)
+abbrev pub joins_pair : ℕ × ℕ → QLink → Bool
+joins_pair q l = same_two_groups q (group_pair l)
 
 abbrev pub own_sides : QLink → Sides
 own_sides l = record { to_low = side_of l.low l; to_high = side_of l.high l }
@@ -36,9 +36,9 @@ sides_or sides others = record { to_low = or_else sides.to_low others.to_low; to
 -- the last edges that links of a pair carry into its groups
 abbrev pub last_sides : List QLink → ℕ × ℕ → Sides
 last_sides links q = record {
-  to_low = last_of (filter_map (side_of q.0) (filter (is_of q) links));
+  to_low = last_of (filter_map (side_of q.0) (filter (joins_pair q) links));
   to_high =
-      last_of (filter_map (side_of q.1) (filter (is_of q) links));
+      last_of (filter_map (side_of q.1) (filter (joins_pair q) links));
 }
 
 abbrev pub SidesByPair : Type 0
@@ -48,14 +48,14 @@ abbrev pub no_sides : Sides
 no_sides = record { to_low = None; to_high = None }
 
 abbrev pub sides_at : SidesByPair → ℕ × ℕ → Sides
-sides_at last q = unwrap_or (get same_pair last q) no_sides
+sides_at last q = unwrap_or (get same_two_groups last q) no_sides
 
 pub record AreLastSides (last : SidesByPair) (links : List QLink) : Type 0 where
   pub each : (q : ℕ × ℕ) → sides_at last q ≡ last_sides links q
 
 -- the sides of a link were put before those of its pair
 pub record NotesSides (old new : SidesByPair) (link : QLink) : Type 0 where
-  pub each : (q : ℕ × ℕ) → sides_at new q ≡ (if same_pair (pair_of link) q then sides_or (own_sides link) (sides_at old q) else sides_at old q)
+  pub each : (q : ℕ × ℕ) → sides_at new q ≡ (if same_two_groups (group_pair link) q then sides_or (own_sides link) (sides_at old q) else sides_at old q)
 
 -- the edges that fill the sides of links: in OSPF the last of the pair, in BGP none
 abbrev pub filling : Protocol → List QLink → ℕ × ℕ → Sides
@@ -78,7 +78,7 @@ drawn es t l sides = record {
 }
 
 abbrev pub act_link_by : SidesByPair → List Edge → ℕ × QLink → ActLink
-act_link_by fill es (t, l) = drawn es t l (sides_or (own_sides l) (sides_at fill (pair_of l)))
+act_link_by fill es (t, l) = drawn es t l (sides_or (own_sides l) (sides_at fill (group_pair l)))
 
 -- the edges that stand at a link for both directions
 abbrev pub full_sides : Protocol → List QLink → QLink → Sides

@@ -25,12 +25,12 @@ place_from test n [] = None
 place_from test n (x ∷ xs) = if test x then Some n else place_from test (n + 1) xs
 
 -- the map says what the key shows
-abbrev pub says : Vec EntryKey → Plain → Bool
-says key m = is_map (shown key) (said_of_map m)
+abbrev pub says_key : Vec EntryKey → Plain → Bool
+says_key key m = is_map (shown key) (said_of_map m)
 
 -- each key has the place of the first map that says what it shows
 pub record AreNumbers (numbers : NumbersByKey) (maps : List Plain) : Type 0 where
-  pub each : (key : Vec EntryKey) → get same_keys numbers key ≡ place_from (says key) 0 maps
+  pub each : (key : Vec EntryKey) → get same_keys numbers key ≡ place_from (says_key key) 0 maps
 
 -- the maps with one more, unless one of them is the same
 abbrev pub with_map : Plain → List Plain → List Plain

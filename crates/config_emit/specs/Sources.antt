@@ -28,7 +28,7 @@ pub record HasLinks (e : Plan) (index : LinksByGroup) : Type 0 where
   pub links : AreByGroup index (act_links e.problem.protocol e.problem.edges e.links)
 
 -- the AS numbers of the groups
-pub record HasNumbers (e : Plan) (numbers : List ℕ) : Type 0 where
+pub record HasGroupNumbers (e : Plan) (numbers : List ℕ) : Type 0 where
   pub are : numbers ≡ map (number_of_group e.problem e.groups e.links) (range_with_len 0 e.count)
 
 -- the links that end at a group, with their acts

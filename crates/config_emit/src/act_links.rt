@@ -5,7 +5,7 @@ ghost use Rattle.std.specs.List.{enumerate_from};
 ghost use Rattle.std.specs.Option.{option_map};
 ghost use Rattle.abstract_net.specs.Carried.{act_at, side_of};
 ghost use Rattle.srp_quotient.specs.Groups.{or_else};
-ghost use Rattle.config_emit.specs.ActLinks.{pair_of, own_sides, sides_or, sides_at, NotesSides, AreLastSides, FillsSides, drawn, act_link_by, act_links};
+ghost use Rattle.config_emit.specs.ActLinks.{group_pair, own_sides, sides_or, sides_at, NotesSides, AreLastSides, FillsSides, drawn, act_link_by, act_links};
 
 use abstract_net::{QLink, act_at};
 use base_kit::{Edge, NoMemory, Protocol};
@@ -98,7 +98,7 @@ pub(crate) fn sides_at(last: &HashMap<(u32, u32), Sides>, pair: (u32, u32)) -> S
 
 // The edges that stand at a link.
 fn filled_sides(fill: &HashMap<(u32, u32), Sides>, link: &QLink) -> Sides
-    ensures { result ≡ sides_or (own_sides link.now) (sides_at fill.now (pair_of link.now)) }
+    ensures { result ≡ sides_or (own_sides link.now) (sides_at fill.now (group_pair link.now)) }
 {
     sides_or(own_sides(link), sides_at(fill, (link.low, link.high)))
 }

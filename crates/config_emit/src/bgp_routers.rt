@@ -9,7 +9,7 @@ ghost use Rattle.config_emit.specs.Emitted.{net_lines, written_base, written_bgp
 ghost use Rattle.config_emit.specs.GroupMaps.{ArePlanned, AreGroupMaps, plains_now};
 ghost use Rattle.config_emit.specs.Interfaces.{links_at};
 ghost use Rattle.config_emit.specs.Maps.{lists_of_map, written_map};
-ghost use Rattle.config_emit.specs.Sources.{plan_of, IsSource, HasLinks, HasNumbers, AreLinksOf};
+ghost use Rattle.config_emit.specs.Sources.{plan_of, IsSource, HasLinks, HasGroupNumbers, AreLinksOf};
 
 use crate::act_links::ActLink;
 use crate::act_maps::Policies;
@@ -70,7 +70,7 @@ fn process(
     requires bgp { source.now.srp.now.protocol ≡ over.Bgp }
     requires policies { ArePlanned (plan_of source.now) policies.now }
     requires maps { AreGroupMaps (plan_of source.now) group policies.now maps.now }
-    requires numbers { HasNumbers (plan_of source.now) numbers.now }
+    requires numbers { HasGroupNumbers (plan_of source.now) numbers.now }
     requires links { AreLinksOf (plan_of source.now) group links.now }
     requires inside { group < source.now.count }
     ensures { IfOk result (λ process. process ≡ written_bgp over.Bgp (plan_of source.now) group) }
@@ -141,7 +141,7 @@ fn bgp_router(
     requires bgp { source.now.srp.now.protocol ≡ over.Bgp }
     requires links { HasLinks (plan_of source.now) index.now }
     requires policies { ArePlanned (plan_of source.now) policies.now }
-    requires numbers { HasNumbers (plan_of source.now) numbers.now }
+    requires numbers { HasGroupNumbers (plan_of source.now) numbers.now }
     requires inside { group < source.now.count }
     ensures { IfOk result (λ router. router ≡ emitted_router (plan_of source.now) group) }
 {
@@ -177,7 +177,7 @@ pub(crate) fn bgp_routers(
     requires bgp { source.now.srp.now.protocol ≡ over.Bgp }
     requires links { HasLinks (plan_of source.now) index.now }
     requires policies { ArePlanned (plan_of source.now) policies.now }
-    requires numbers { HasNumbers (plan_of source.now) numbers.now }
+    requires numbers { HasGroupNumbers (plan_of source.now) numbers.now }
     ensures { IfOk result (λ routers. routers ≡ map (emitted_router (plan_of source.now)) (range_with_len 0 source.now.count)) }
 {
     let mut routers = List::new(alloc);

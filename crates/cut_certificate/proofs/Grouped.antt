@@ -9,7 +9,7 @@ use Rattle.std.proofs.lemmas.List.Elements.{filter-append, All-filter, All-cons,
 use Rattle.std.proofs.Math.ListN.{length-set}
 use Rattle.base_kit.specs.Partition.{members_of}
 use Rattle.cut_certificate.specs.Blocks.{distinct, place_among, number_among, groups_of}
-use Rattle.cut_certificate.specs.Members.{members_among, AreMembers}
+use Rattle.cut_certificate.specs.Members.{members_among, AreGroupsAmong}
 use Rattle.cut_certificate.proofs.Seen.{same_test, other_test, at_place, distinct_has, distinct_own}
 use Rattle.cut_certificate.proofs.Used.{map_at, map_long}
 
@@ -25,12 +25,12 @@ members_next numbers count block =
     ap (λ n. filter p (range_with_len 0 n)) (add-one count) ∙ ap (filter p) (range_more 0 count count (omega arith))
         ∙ filter-append p (range_with_len 0 count) (count ∷ [])
 
-pub members_none : (numbers : List ℕ) (groups : List (List ℕ)) → All (λ l. l ≡ []) groups → AreMembers 0 numbers groups
+pub members_none : (numbers : List ℕ) (groups : List (List ℕ)) → All (λ l. l ≡ []) groups → AreGroupsAmong 0 numbers groups
 members_none numbers groups empty = record { each = λ k d inside. empty k d inside }
 
-pub members_more : (numbers : List ℕ) (groups : List (List ℕ)) (router number : ℕ) (old new : List ℕ) → AreMembers router numbers groups
+pub members_more : (numbers : List ℕ) (groups : List (List ℕ)) (router number : ℕ) (old new : List ℕ) → AreGroupsAmong router numbers groups
     → slice_index numbers router ≡ number → 0 < number → number ≤ length groups
-    → old ≡ slice_index_or groups (number - 1) old → new ≡ old ++ router ∷ [] → AreMembers (router + 1) numbers (slice_set groups (number - 1) new)
+    → old ≡ slice_index_or groups (number - 1) old → new ≡ old ++ router ∷ [] → AreGroupsAmong (router + 1) numbers (slice_set groups (number - 1) new)
 members_more numbers groups router number old new before is some few read pushed = record {
   each = λ k d within.
       let inside : number - 1 < length groups = omega arith in
@@ -59,7 +59,7 @@ filter_same p q a (suc n) same =
     ap (λ b. cond b (a ∷ filter p (range_with_len (a + 1) n)) (filter p (range_with_len (a + 1) n))) (same a (omega arith) (omega arith))
     ∙ ap (λ (xs : List ℕ). cond (q a) (a ∷ xs) xs) (filter_same p q (a + 1) n (λ u low high. same u (omega arith) (omega arith)))
 
-pub groups_are : (numbers : List ℕ) (groups : List (List ℕ)) → AreMembers (length numbers) (map (number_among numbers) numbers) groups
+pub groups_are : (numbers : List ℕ) (groups : List (List ℕ)) → AreGroupsAmong (length numbers) (map (number_among numbers) numbers) groups
     → length groups ≡ length (distinct numbers) → groups ≡ groups_of numbers
 unfolding groups_of
 groups_are numbers groups are total = ext_get_or [] groups (map (members_of numbers) (distinct numbers))

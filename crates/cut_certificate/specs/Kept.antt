@@ -5,7 +5,7 @@ use Rattle.cut_certificate.specs.declared.standing.Stage.TheVariants.{Naming, Cl
 use Rattle.cut_certificate.specs.Blocks.{groups_of}
 
 -- from the first group on, the groups of the blocks
-abbrev pub AreKept : List ℕ → List (List ℕ) → Stage → Type 0
-AreKept numbers groups Naming = groups ≡ groups_of numbers
-AreKept numbers groups Closed = groups ≡ groups_of numbers
-AreKept numbers groups stage = Unit {0}
+abbrev pub AreGroupsKept : List ℕ → List (List ℕ) → Stage → Type 0
+AreGroupsKept numbers groups Naming = groups ≡ groups_of numbers
+AreGroupsKept numbers groups Closed = groups ≡ groups_of numbers
+AreGroupsKept numbers groups stage = Unit {0}

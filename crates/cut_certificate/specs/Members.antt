@@ -7,5 +7,5 @@ abbrev pub members_among : ℕ → List ℕ → ℕ → List ℕ
 members_among count numbers block = filter (λ router. slice_index numbers router == block) (range_with_len 0 count)
 
 -- each block, numbered from 1, has its members among the first routers
-pub record AreMembers (count : ℕ) (numbers : List ℕ) (groups : List (List ℕ)) : Type 0 where
+pub record AreGroupsAmong (count : ℕ) (numbers : List ℕ) (groups : List (List ℕ)) : Type 0 where
   pub each : (k : ℕ) (d : List ℕ) → k < length groups → slice_index_or groups k d ≡ members_among count numbers (k + 1)

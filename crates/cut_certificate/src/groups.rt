@@ -2,7 +2,7 @@
 
 ghost use Rattle.std.specs.Prelude.{◌≡◌, ◌<◌, ◌≤◌, ◌^◌, [], All, IfOk, length};
 ghost use Rattle.cut_certificate.specs.Blocks.{groups_of};
-ghost use Rattle.cut_certificate.specs.Members.{AreMembers};
+ghost use Rattle.cut_certificate.specs.Members.{AreGroupsAmong};
 
 use crate::numbering::numbers_of;
 use base_kit::{List, NoMemory};
@@ -24,7 +24,7 @@ fn members(alloc: Global, numbers: &[usize], count: usize) -> Result<Vec<List<u3
     requires fits { length numbers.now < 2 ^ 32 }
     requires known { All (λ number. (0 < number) × (number ≤ count)) numbers.now }
     ensures total { IfOk result (λ v. length v.items ≡ count) }
-    ensures members { IfOk result (λ v. AreMembers (length numbers.now) numbers.now v.items) }
+    ensures members { IfOk result (λ v. AreGroupsAmong (length numbers.now) numbers.now v.items) }
 {
     let mut groups = empty_groups(alloc, count)?;
     for router in 0..numbers.len() {

@@ -3,7 +3,7 @@
 ghost use Rattle.std.specs.Prelude.{◌≡◌, ◌<◌, ◌^◌, IfOk, Some, length, slice_get};
 ghost use Rattle.cut_certificate.specs.Answers.{Steps};
 ghost use Rattle.cut_certificate.specs.Blocks.{edge_act, groups_of, split_by};
-ghost use Rattle.cut_certificate.specs.Kept.{AreKept};
+ghost use Rattle.cut_certificate.specs.Kept.{AreGroupsKept};
 ghost use Rattle.cut_certificate.specs.Moves.{AreIncoming};
 ghost use Rattle.cut_certificate.specs.Outgoing.{AreIndexed};
 ghost use Rattle.cut_certificate.specs.Texts.{with_all_groups, ended, is_next_group, opening, with_blocks, with_head, with_members};
@@ -41,13 +41,13 @@ pub(crate) struct Standing {
 
 impl Model for Standing {
     ghost use Rattle.cut_certificate.specs.Texts.{Standing};
-    ghost use Rattle.cut_certificate.specs.Kept.{AreKept};
+    ghost use Rattle.cut_certificate.specs.Kept.{AreGroupsKept};
 
     ghost Value = { Standing };
 
     ghost view = { λ s. record { stage = s.stage; splits = s.splits; blocks = s.blocks; named = s.named } };
 
-    ghost invariant = { λ s. AreKept s.blocks.numbers s.groups s.stage };
+    ghost invariant = { λ s. AreGroupsKept s.blocks.numbers s.groups s.stage };
 }
 
 // The groups of the blocks, which are kept from the first group on.
@@ -58,7 +58,7 @@ fn groups_at(
     groups: List<List<u32>>,
 ) -> Result<List<List<u32>>, NoMemory>
     requires few { length blocks.now.numbers < 2 ^ 32 }
-    requires kept { AreKept blocks.now.numbers groups stage }
+    requires kept { AreGroupsKept blocks.now.numbers groups stage }
     ensures { IfOk result (λ g. g ≡ groups_of blocks.now.numbers) }
 {
     match stage {

@@ -14,7 +14,7 @@ use Rattle.dd_core.specs.declared.table.Node.{Node}
 use Rattle.dd_core.specs.declared.table.Node.TheVariants.{Constant, Choice}
 use Rattle.dd_core.specs.Reach.{IsReached, IsChoiceReached, IsSize}
 use Rattle.dd_core.specs.Reach.IsReached.{itself, by_high, by_low}
-use Rattle.dd_core.specs.Marks.{is_marked, AreMarks, IsMarking, MarksSons, is_choice, is_marked_choice, choices_before, AreUsed, AreUsedBefore, MarksVariable}
+use Rattle.dd_core.specs.Marks.{is_marked, AreMarks, IsMarking, MarksSons, is_choice, is_marked_choice, choices_before, AreUsedVariables, AreUsedBefore, MarksVariable}
 
 marked_inside : (marks : List Bool) (i : ℕ) → is_marked marks i ≡ true → i < length marks
 marked_inside marks i marked = elim (cases_lt i (length marks)) [
@@ -262,7 +262,7 @@ module _ (nodes : List Node) (from bound : ℕ) (marks used : List Bool) (place 
     ];
   }
 
-  pub used_done : AreMarks nodes from marks → place ≡ length marks → AreUsed nodes from bound used
+  pub used_done : AreMarks nodes from marks → place ≡ length marks → AreUsedVariables nodes from bound used
   used_done are e = record {
     total = before.total;
     reached = before.reached;

@@ -12,7 +12,7 @@ use Rattle.base_kit.proofs.SetFacts.{has-with_number, same_number, other_number}
 use Rattle.dd_core.specs.declared.table.Node.{Node}
 use Rattle.dd_core.specs.Sets.{Shown, IsShown, value_of, test_of}
 use Rattle.dd_core.specs.Reach.{DependsOn, IsSupport, DependsOnOthers}
-use Rattle.dd_core.specs.Marks.{IsVariableReached, AreUsed, is_marked, picked}
+use Rattle.dd_core.specs.Marks.{IsVariableReached, AreUsedVariables, is_marked, picked}
 use Rattle.dd_core.proofs.NodeLemmas.{updated, updated_same}
 use Rattle.dd_core.proofs.SetLemmas.{value_agrees, set_of, test-set_of, ascending-set_of, above_index, all_below_outside, outside_of, has_outside}
 use Rattle.dd_core.proofs.DependLemmas.{DependsOnVariable, reached_depends, unused_same, updated_apart}
@@ -219,13 +219,13 @@ picked_has marks place (c ∷ cs) (suc i) inside marked =
     by true rest = rw rest (or_true (nat_eq c (get_or cs i 0)))
     by false rest = rest
 
-not_reached : (nodes : List Node) (from bound v : ℕ) (used : List Bool) → AreUsed nodes from bound used → is_marked used v ≡ false →
+not_reached : (nodes : List Node) (from bound v : ℕ) (used : List Bool) → AreUsedVariables nodes from bound used → is_marked used v ≡ false →
     ¬ IsVariableReached nodes from v
 not_reached nodes from bound v used are none = λ there. let marked = are.all v there in absurd cc
 
 -- what is picked are the communities on which the value depends
 module _ (shown : Shown) (is : IsShown shown) (from : ℕ) (used : List Bool) (inside : from < length shown.nodes)
-    (are : AreUsed shown.nodes from (length shown.universe) used) where
+    (are : AreUsedVariables shown.nodes from (length shown.universe) used) where
   picked_all : (c : ℕ) → StandsAt shown.universe c → DependsOn shown from c → has (picked used 0 shown.universe) c ≡ true
   picked_all c at d = by (is_marked used at.place) refl
     where

@@ -55,7 +55,7 @@ pub record IsVariableReached (nodes : List Node) (from variable : ℕ) : Type 0 
   pub node : slice_get nodes place ≡ Some (Choice variable high low)
 
 -- the marked variables are those of the nodes reached
-pub record AreUsed (nodes : List Node) (from bound : ℕ) (used : List Bool) : Type 0 where
+pub record AreUsedVariables (nodes : List Node) (from bound : ℕ) (used : List Bool) : Type 0 where
   pub total : length used ≡ bound + 1
   pub reached : (variable : ℕ) → is_marked used variable ≡ true → IsVariableReached nodes from variable
   pub all : (variable : ℕ) → IsVariableReached nodes from variable → is_marked used variable ≡ true

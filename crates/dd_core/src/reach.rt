@@ -4,7 +4,7 @@ ghost use Rattle.std.specs.Prelude.{◌≡◌, ◌<◌, ◌≤◌, Bool, false, 
 ghost use Rattle.std.specs.List.{slice_index_or};
 ghost use Rattle.dd_core.specs.declared.table.Node.TheVariants.{Constant, Choice};
 ghost use Rattle.dd_core.specs.Store.{IsStore, IsWithin};
-ghost use Rattle.dd_core.specs.Marks.{AreMarks, MarksSons, is_marked_choice, choices_before, AreUsed, MarksVariable, picked};
+ghost use Rattle.dd_core.specs.Marks.{AreMarks, MarksSons, is_marked_choice, choices_before, AreUsedVariables, MarksVariable, picked};
 
 use crate::table::{Node, Table};
 use base_kit::{NoMemory, NumSet};
@@ -90,7 +90,7 @@ pub fn used_variables(
     requires store { IsStore table.now }
     requires inside { from < length table.now }
     requires within { IsWithin table.now (length universe.now) }
-    ensures { IfOk result (λ used. AreUsed table.now from (length universe.now) used.items) }
+    ensures { IfOk result (λ used. AreUsedVariables table.now from (length universe.now) used.items) }
 {
     let marks = reached(alloc, table, from)?;
     let mut used = vec![in alloc; false; universe.as_slice().len() + 1]?;

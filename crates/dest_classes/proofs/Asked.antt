@@ -6,7 +6,7 @@ use Rattle.base_kit.specs.Prefixes.{Prefix}
 use Rattle.cfg_ast.specs.declared.classes.Origin.{Origin}
 use Rattle.cfg_ast.specs.declared.policy.PrefixList.{PrefixList}
 use Rattle.dest_classes.specs.declared.cells.Member.{Member}
-use Rattle.dest_classes.specs.Cells.{word_of, cell_key, asked, started, entry_of, entries_of, alike_to, IsTold, AreAllTold, AreMembers}
+use Rattle.dest_classes.specs.Cells.{word_of, cell_key, asked, started, entry_of, entries_of, alike_to, IsCellTold, AreAllTold, AreMembers}
 use Rattle.dest_classes.proofs.Same.{alike-append}
 use Rattle.dest_classes.proofs.Places.{Key, place, is_known, with_key, known_here, place_here, known_then, place_then, one_place}
 use Rattle.dest_classes.proofs.Words.{one_word}
@@ -52,15 +52,15 @@ module _ (lists : List PrefixList) where
   )
 
   module _ (done : List PrefixList) (keys : List Key) where
-    told_placed : (m n : Member) → IsKnown keys m → IsKnown keys n → IsTold done m n → IsTold (done ++ lists) (placed keys m) (placed keys n)
+    told_placed : (m n : Member) → IsKnown keys m → IsKnown keys n → IsCellTold done m n → IsCellTold (done ++ lists) (placed keys m) (placed keys n)
     told_placed m n known later told = record {
       alike =
           one_place keys (cell_key lists n) (cell_key lists m) later known ∙ ap (λ b. b && nat_eq (word_of lists n.prefix) (word_of lists m.prefix)) told.alike
           ∙ ap (λ b. alike_to done n.prefix m.prefix && b) (one_word lists n.prefix m.prefix) ∙ sym (alike-append n.prefix m.prefix done lists);
     }
 
-    later_placed : (m : Member) (ns : List Member) → IsKnown keys m → AllByRecursion (IsKnown keys) ns → AllByRecursion (IsTold done m) ns →
-        AllByRecursion (IsTold (done ++ lists) (placed keys m)) (map (placed keys) ns)
+    later_placed : (m : Member) (ns : List Member) → IsKnown keys m → AllByRecursion (IsKnown keys) ns → AllByRecursion (IsCellTold done m) ns →
+        AllByRecursion (IsCellTold (done ++ lists) (placed keys m)) (map (placed keys) ns)
     later_placed m [] known all told = tt
     later_placed m (n ∷ ns) known all told = (told_placed m n known all.0 told.0, later_placed m ns known all.1 told.1)
 
@@ -94,7 +94,7 @@ asked_told done lists entries ms are = record {
 }
 
 -- before any list is asked all are of one cell
-later_started : (p : Prefix) (origins : List Origin) (es : List (Prefix × List Origin)) → AllByRecursion (IsTold [] (started (p, origins))) (map started es)
+later_started : (p : Prefix) (origins : List Origin) (es : List (Prefix × List Origin)) → AllByRecursion (IsCellTold [] (started (p, origins))) (map started es)
 later_started p origins [] = tt
 later_started p origins (e ∷ es) = (record { alike = refl }, later_started p origins es)
 

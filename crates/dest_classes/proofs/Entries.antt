@@ -6,7 +6,7 @@ use Rattle.indexmap.specs.IndexMap.{insert_entry}
 use Rattle.base_kit.specs.Prefixes.{Prefix}
 use Rattle.dest_classes.specs.declared.groups.Signature.{Signature}
 use Rattle.dest_classes.specs.declared.cells.Member.{Member}
-use Rattle.dest_classes.specs.Groups.{same_signature, shown_group, grouped_with, with_members}
+use Rattle.dest_classes.specs.Groups.{same_signature, shown_group, grouped_with, grouped_with_all}
 
 -- the member that a signature and a prefix make
 abbrev member_of : Signature → Prefix → Member
@@ -31,11 +31,11 @@ shown_added k p ((s, ps) ∷ es) = shown_step (same_signature k s) k s ps es p (
 pub members_step : (m : Member) (left rest : List Member) (old new : List (Signature × List Prefix)) (signature : Signature) → left ≡ m ∷ rest
     → new ≡ insert_entry same_signature old signature (unwrap_or (lookup (same_signature signature) old) [] ++ m.prefix ∷ []) →
     signature.origins.items ≡ m.origins → signature.cell ≡ m.cell
-    → with_members rest (map shown_group new) ≡ with_members left (map shown_group old)
+    → grouped_with_all rest (map shown_group new) ≡ grouped_with_all left (map shown_group old)
 members_step m left rest old new signature next added same cell =
     let shown : map shown_group new ≡ grouped_with (member_of signature m.prefix) (map shown_group old) = ap (map shown_group) added
     ∙ shown_added signature m.prefix old in
     let is : member_of signature m.prefix ≡ m =
     ap (λ os. let n : Member = record { prefix = m.prefix; origins = os; cell = signature.cell } in n) same
     ∙ ap (λ k. let n : Member = record { prefix = m.prefix; origins = m.origins; cell = k } in n) cell in
-    ap (with_members rest) (shown ∙ ap (λ n. grouped_with n (map shown_group old)) is) ∙ sym (ap (λ ms. with_members ms (map shown_group old)) next)
+    ap (grouped_with_all rest) (shown ∙ ap (λ n. grouped_with n (map shown_group old)) is) ∙ sym (ap (λ ms. grouped_with_all ms (map shown_group old)) next)

@@ -10,8 +10,8 @@ use Rattle.cfg_ast.specs.declared.policy.PrefixList.{PrefixList}
 use Rattle.cfg_ast.specs.meaning.Classes.{same_items, same_origin}
 use Rattle.dest_classes.specs.declared.cells.Member.{Member}
 use Rattle.dest_classes.specs.Lists.{answers_to}
-use Rattle.dest_classes.specs.Cells.{entries_of, IsTold, AreAllTold, AreMembers}
-use Rattle.dest_classes.specs.Groups.{Group, belongs, grouped_with, with_members, class_from}
+use Rattle.dest_classes.specs.Cells.{entries_of, IsCellTold, AreAllTold, AreMembers}
+use Rattle.dest_classes.specs.Groups.{Group, belongs, grouped_with, grouped_with_all, class_from}
 use Rattle.dest_classes.proofs.Traits.{Traits, same_traits, Likes, with_like, with_likes, class_of_likes}
 
 module _ (lists : List PrefixList) where
@@ -34,7 +34,7 @@ module _ (lists : List PrefixList) where
   AreOne left (group ∷ groups) [] = ⊥
   AreOne left (group ∷ groups) (like ∷ likes) = IsOne left group like × AreOne left groups likes
 
-  new_later : (m : Member) (left : List Member) (prefixes : List Prefix) → AllByRecursion (IsTold lists m) left
+  new_later : (m : Member) (left : List Member) (prefixes : List Prefix) → AllByRecursion (IsCellTold lists m) left
       → AllByRecursion (IsAlike (record { origins = m.origins; cell = m.cell; prefixes = prefixes }) (record { traits = traits_at m; prefixes = prefixes }))
       left
   new_later m [] prefixes told = tt
@@ -57,7 +57,7 @@ module _ (lists : List PrefixList) where
   fewer m left (group ∷ groups) (like ∷ likes) are =
       (record { origins = are.0.origins; prefixes = are.0.prefixes; later = are.0.later.1 }, fewer m left groups likes are.1)
 
-  one_more : (m : Member) (left : List Member) (groups : List Group) (likes : List Likes) → AllByRecursion (IsTold lists m) left →
+  one_more : (m : Member) (left : List Member) (groups : List Group) (likes : List Likes) → AllByRecursion (IsCellTold lists m) left →
       AreOne (m ∷ left) groups likes → AreOne left (grouped_with m groups) (with_like (traits_at m) m.prefix likes)
   one_more m left [] [] told are = (record { origins = refl; prefixes = refl; later = new_later m left (m.prefix ∷ []) told }, tt)
   one_more m left [] (like ∷ likes) told are = absurd are
@@ -81,7 +81,7 @@ module _ (lists : List PrefixList) where
         step false false same rest = (record { origins = are.0.origins; prefixes = are.0.prefixes; later = are.0.later.1 }, rest)
 
   all_one : (ms : List Member) (groups : List Group) (likes : List Likes) → AreAllTold lists ms → AreOne ms groups likes →
-      AreOne [] (with_members ms groups) (with_likes lists (entries_of ms) likes)
+      AreOne [] (grouped_with_all ms groups) (with_likes lists (entries_of ms) likes)
   all_one [] groups likes told are = are
   all_one (m ∷ ms) groups likes told are =
       all_one ms (grouped_with m groups) (with_like (traits_at m) m.prefix likes) told.1 (one_more m ms groups likes told.0 are)
@@ -97,6 +97,6 @@ module _ (lists : List PrefixList) where
 
 -- the classes from groups by cells are those from groups by answers
 pub cells_do : (lists : List PrefixList) (entries : List (Prefix × List Origin)) (ms : List Member) → AreMembers entries lists ms →
-    map class_from (with_members ms []) ≡ map class_of_likes (with_likes lists entries [])
-cells_do lists entries ms are = classes_one lists (with_members ms []) (with_likes lists (entries_of ms) []) (all_one lists ms [] [] are.told tt)
+    map class_from (grouped_with_all ms []) ≡ map class_of_likes (with_likes lists entries [])
+cells_do lists entries ms are = classes_one lists (grouped_with_all ms []) (with_likes lists (entries_of ms) []) (all_one lists ms [] [] are.told tt)
     ∙ ap (λ es. map class_of_likes (with_likes lists es [])) are.entries_are

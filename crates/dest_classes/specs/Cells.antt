@@ -48,12 +48,12 @@ abbrev pub alike_to : List PrefixList → Prefix → Prefix → Bool
 alike_to lists p q = same_items beq (answers_to lists p) (answers_to lists q)
 
 -- a later member is of the cell of this one exactly where the lists answer both alike
-pub record IsTold (lists : List PrefixList) (member later : Member) : Type 0 where
+pub record IsCellTold (lists : List PrefixList) (member later : Member) : Type 0 where
   pub alike : nat_eq later.cell member.cell ≡ alike_to lists later.prefix member.prefix
 
 abbrev pub AreAllTold : List PrefixList → List Member → Type 0
 AreAllTold lists [] = Unit {0}
-AreAllTold lists (member ∷ members) = AllByRecursion (IsTold lists member) members × AreAllTold lists members
+AreAllTold lists (member ∷ members) = AllByRecursion (IsCellTold lists member) members × AreAllTold lists members
 
 -- the entries of a map from prefixes to originators, each with its cell by these lists
 pub record AreMembers (entries : List (Prefix × List Origin)) (lists : List PrefixList) (members : List Member) : Type 0 where

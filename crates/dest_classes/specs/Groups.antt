@@ -30,9 +30,9 @@ grouped_with member [] = record { origins = member.origins; cell = member.cell; 
 grouped_with member (group ∷ groups) = if belongs member group then record group { prefixes = group.prefixes ++ member.prefix ∷ [] } ∷ groups else group
     ∷ grouped_with member groups
 
-abbrev pub with_members : List Member → List Group → List Group
-with_members [] groups = groups
-with_members (member ∷ members) groups = with_members members (grouped_with member groups)
+abbrev pub grouped_with_all : List Member → List Group → List Group
+grouped_with_all [] groups = groups
+grouped_with_all (member ∷ members) groups = grouped_with_all members (grouped_with member groups)
 
 abbrev pub class_from : Group → DestClass
 class_from group = record { prefixes = group.prefixes; origins = group.origins }

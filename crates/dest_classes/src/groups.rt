@@ -2,7 +2,7 @@
 
 ghost use Rattle.std.specs.Prelude.{◌≡◌, [], ◌∷◌, ◌++◌, IfOk, OnOk, map, unwrap_or};
 ghost use Rattle.indexmap.specs.IndexMap.{insert_entry, get};
-ghost use Rattle.dest_classes.specs.Groups.{same_signature, shown_group, with_members, class_from};
+ghost use Rattle.dest_classes.specs.Groups.{same_signature, shown_group, grouped_with_all, class_from};
 
 use crate::cells::Member;
 use base_kit::{List, NoMemory, Prefix};
@@ -38,7 +38,7 @@ fn add(
 
 /// The members, in their order, in their groups.
 pub fn groups_of(alloc: Global, members: Vec<Member>) -> Result<Groups, NoMemory>
-    ensures { IfOk result (λ groups. map shown_group groups.entries ≡ with_members members.items []) }
+    ensures { IfOk result (λ groups. map shown_group groups.entries ≡ grouped_with_all members.items []) }
 {
     let mut groups = IndexMap::new(alloc);
     for member in members {

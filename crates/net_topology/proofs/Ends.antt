@@ -13,7 +13,7 @@ use Rattle.cfg_ast.specs.meaning.RouterFaults.{up_addresses_of}
 use Rattle.cfg_ast.specs.meaning.Topology.{same_subnet, up_addresses_at, share_subnet}
 use Rattle.net_topology.proofs.Apart.{AreApart}
 use Rattle.net_topology.proofs.UpFacts.{IsUpOf, up_in, in_ups}
-use Rattle.net_topology.specs.Peers.{beside, end_from, named_end, reaches}
+use Rattle.net_topology.specs.Peers.{beside, end_from, named_end, is_end_of}
 use Rattle.net_topology.specs.Ups.{up_at, ups_of, addr_of, attachment_of, same_attachment, last_where, last_with}
 use Rattle.net_topology.specs.declared.peers.Peer.{Peer}
 use Rattle.net_topology.specs.declared.ups.Attachment.{Attachment}
@@ -155,11 +155,11 @@ pub in_subnet : (r : ℕ) (a b : Address) → same_subnet a b ≡ true → (up_a
 in_subnet r a b e = one_attachment (up_at r a).at (beside r (up_at r b)) (both_true (nat_eq r r) (same_subnet a b) (same_number r r refl) e)
 
 reached : (routers : List Router) (s t : Peer) (u v : Router) → AreApart (ups_of routers) → slice_get routers s.router ≡ Some u →
-    slice_get routers t.router ≡ Some v → AreJoined u v t.addr s.addr → reaches (named_end (ups_of routers) s) t ≡ true
+    slice_get routers t.router ≡ Some v → AreJoined u v t.addr s.addr → is_end_of (named_end (ups_of routers) s) t ≡ true
 reached routers s t u v apart at_s at_t joined =
     let near = up_at s.router joined.near in
     let far = up_at t.router joined.far in
-    ap (λ (o : Option (ℕ × ℕ)). reaches o t)
+    ap (λ (o : Option (ℕ × ℕ)). is_end_of o t)
     (end_at (ups_of routers) s near far apart (in_ups routers s.router u joined.near at_s joined.near_in)
     (in_ups routers t.router v joined.far at_t joined.far_in) joined.far_addr (in_subnet s.router joined.near joined.far joined.joined))
     ∙ both_true (nat_eq t.router t.router) (nat_eq joined.near.addr t.addr) (same_number t.router t.router refl)
@@ -178,7 +178,7 @@ record IsEnd (ups : List Up) (s t : Peer) : Type 0 where
   beside_far : near.at ≡ beside s.router far
 
 end_with : (ups : List Up) (s t : Peer) (far : Up) (o : Option Up) → In ups far → far.addr ≡ s.addr →
-    last_with same_attachment attachment_of ups (beside s.router far) ≡ o → reaches (option_map (λ (near : Up). (far.at.router, near.addr)) o) t ≡ true →
+    last_with same_attachment attachment_of ups (beside s.router far) ≡ o → is_end_of (option_map (λ (near : Up). (far.at.router, near.addr)) o) t ≡ true →
     IsEnd ups s t
 end_with ups s t far None h e f g = cc
 end_with ups s t far (Some near) h e f g =
@@ -196,7 +196,7 @@ end_with ups s t far (Some near) h e f g =
       beside_far = sym (one_attachment (beside s.router far) near.at found.1);
     }
 
-end_of : (ups : List Up) (s t : Peer) (o : Option Up) → last_with nat_eq addr_of ups s.addr ≡ o → reaches (option_and_then (end_from ups s.router) o) t ≡ true →
+end_of : (ups : List Up) (s t : Peer) (o : Option Up) → last_with nat_eq addr_of ups s.addr ≡ o → is_end_of (option_and_then (end_from ups s.router) o) t ≡ true →
     IsEnd ups s t
 end_of ups s t None e g = cc
 end_of ups s t (Some far) e g =
@@ -233,9 +233,9 @@ joined_by routers s t u v at_s at_t end =
 
 -- two peers have addresses of each other's routers in one subnet if each stands at the other's end
 pub share_is : (routers : List Router) (s t : Peer) (u v : Router) → AreApart (ups_of routers) → slice_get routers s.router ≡ Some u →
-    slice_get routers t.router ≡ Some v → share_subnet u t.addr v s.addr ≡ reaches (named_end (ups_of routers) s) t
+    slice_get routers t.router ≡ Some v → share_subnet u t.addr v s.addr ≡ is_end_of (named_end (ups_of routers) s) t
 share_is routers s t u v apart at_s at_t =
-    same_truth (share_subnet u t.addr v s.addr) (reaches (named_end (ups_of routers) s) t)
+    same_truth (share_subnet u t.addr v s.addr) (is_end_of (named_end (ups_of routers) s) t)
     (λ e. reached routers s t u v apart at_s at_t (joined_if u v t.addr s.addr e))
     (λ e. share_if u v t.addr s.addr (joined_by routers s t u v at_s at_t
     (end_of (ups_of routers) s t (last_with nat_eq addr_of (ups_of routers) s.addr) refl e)))

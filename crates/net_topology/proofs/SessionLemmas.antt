@@ -11,7 +11,7 @@ use Rattle.cfg_ast.specs.declared.network.Router.{Router}
 use Rattle.cfg_ast.specs.meaning.Topology.{Place, places, places_on, place_on, neighbors_of, has_number, share_subnet, is_session, sessions_of}
 use Rattle.cfg_check.specs.Faultless.{IsFaultless}
 use Rattle.net_topology.specs.declared.peers.Peer.{Peer}
-use Rattle.net_topology.specs.Peers.{peer_of_process, peer_at_place, peers, named_end, reaches, is_later, peer_link, sessions_in}
+use Rattle.net_topology.specs.Peers.{peer_of_process, peer_at_place, peers, named_end, is_end_of, is_later_peer, peer_link, sessions_in}
 use Rattle.net_topology.specs.Ups.{ups_of}
 use Rattle.net_topology.proofs.Apart.{AreApart, ups_apart}
 use Rattle.net_topology.proofs.Ends.{share_is}
@@ -79,22 +79,22 @@ made p process = record { router = p.router; item = p.item; number = process.num
 
 -- the peer at the end of another, by the index
 abbrev pub is_reached : List Router → Peer → Peer → Bool
-is_reached routers s t = reaches (named_end (ups_of routers) s) t
+is_reached routers s t = is_end_of (named_end (ups_of routers) s) t
 
 both_made : (routers : List Router) (p q : Place Neighbor) (x y : BgpProcess) → AreApart (ups_of routers) → IsPlace routers p → IsPlace routers q →
     p.owner.bgp ≡ Some x → q.owner.bgp ≡ Some y → p.value.shut ≡ false → q.value.shut ≡ false
-    → is_session p q ≡ (is_reached routers (made p x) (made q y) && is_later (made p x) (made q y))
+    → is_session p q ≡ (is_reached routers (made p x) (made q y) && is_later_peer (made p x) (made q y))
 both_made routers p q x y apart at_p at_q e f g h =
     sessions_same p.router q.router x.number p.value.remote y.number q.value.remote p.value.shut q.value.shut (has_number q.owner p.value.remote)
     (has_number p.owner q.value.remote) (share_subnet p.owner q.value.addr q.owner p.value.addr) (is_reached routers (made p x) (made q y))
     g h (number_at q.owner y p.value.remote f) (number_at p.owner x q.value.remote e) (share_is routers (made p x) (made q y) p.owner q.owner apart at_p at_q)
 
 both : (routers : List Router) (p q : Place Neighbor) (s t : Peer) → AreApart (ups_of routers) → IsPlace routers p → IsPlace routers q → IsPeer p s →
-    IsPeer q t → is_session p q ≡ (is_reached routers s t && is_later s t)
+    IsPeer q t → is_session p q ≡ (is_reached routers s t && is_later_peer s t)
 both routers p q s t apart at_p at_q a b =
     both_made routers p q a.process b.process apart at_p at_q a.bgp b.bgp a.open_ b.open_
-    ∙ ap (λ (z : Peer). is_reached routers z (made q b.process) && is_later z (made q b.process)) a.peer
-    ∙ ap (λ (z : Peer). is_reached routers s z && is_later s z) b.peer
+    ∙ ap (λ (z : Peer). is_reached routers z (made q b.process) && is_later_peer z (made q b.process)) a.peer
+    ∙ ap (λ (z : Peer). is_reached routers s z && is_later_peer s z) b.peer
 
 pub and_false : (b : Bool) → (b && false) ≡ false
 and_false true = refl
@@ -122,7 +122,7 @@ pub no_peer_in : (p : Place Neighbor) (o : Option BgpProcess) (number : ℕ) →
 no_peer_in p None number e = and_false (not p.value.shut)
 no_peer_in p (Some process) number e = closed p.value.shut process number (made p process) e
 
-peers_indexed : (routers : List Router) → AreApart (ups_of routers) → IsIndexed (IsPlace routers) peer_at_place is_session (is_reached routers) is_later peer_link
+peers_indexed : (routers : List Router) → AreApart (ups_of routers) → IsIndexed (IsPlace routers) peer_at_place is_session (is_reached routers) is_later_peer peer_link
 peers_indexed routers apart = record {
   left = λ p q e. shut_left p.router q.router p.value.shut q.value.shut (has_number q.owner p.value.remote) (has_number p.owner q.value.remote)
       (share_subnet p.owner q.value.addr q.owner p.value.addr) (no_peer_in p p.owner.bgp q.value.remote e);
@@ -135,5 +135,5 @@ peers_indexed routers apart = record {
 
 pub sessions_by_index : (n : Network) → IsFaultless n → sessions_of n ≡ flat_map (sessions_in (ups_of n.routers) (peers n)) (peers n)
 unfolding sessions_of peers
-sessions_by_index n faultless = joined_by_index (IsPlace n.routers) peer_at_place is_session (is_reached n.routers) is_later peer_link
+sessions_by_index n faultless = joined_by_index (IsPlace n.routers) peer_at_place is_session (is_reached n.routers) is_later_peer peer_link
     (peers_indexed n.routers (ups_apart n faultless)) (places neighbors_of n) (all_places n)

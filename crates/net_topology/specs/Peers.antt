@@ -42,20 +42,20 @@ end_from ups router far = option_map (λ (near : Up). (far.at.router, near.addr)
 abbrev pub named_end : List Up → Peer → Option (ℕ × ℕ)
 named_end ups s = option_and_then (end_from ups s.router) (last_with nat_eq addr_of ups s.addr)
 
-abbrev pub reaches : Option (ℕ × ℕ) → Peer → Bool
-reaches None t = false
-reaches (Some end) t = same_pair end (own_end t)
+abbrev pub is_end_of : Option (ℕ × ℕ) → Peer → Bool
+is_end_of None t = false
+is_end_of (Some end) t = same_pair end (own_end t)
 
 -- each of two peers names the AS number of the other's router
 abbrev pub name_each_other : Peer → Peer → Bool
 name_each_other s t = nat_eq s.remote t.number && nat_eq s.number t.remote
 
-abbrev pub is_later : Peer → Peer → Bool
-is_later s t = nat_lt s.router t.router && name_each_other s t
+abbrev pub is_later_peer : Peer → Peer → Bool
+is_later_peer s t = nat_lt s.router t.router && name_each_other s t
 
 abbrev pub peer_link : Peer → Peer → Link
 peer_link s t = record { low = s.router; high = t.router; low_item = s.item; high_item = t.item }
 
 -- the sessions of a peer with those of later routers
 abbrev pub sessions_in : List Up → List Peer → Peer → List Link
-sessions_in ups all s = map (peer_link s) (filter (is_later s) (filter (reaches (named_end ups s)) all))
+sessions_in ups all s = map (peer_link s) (filter (is_later_peer s) (filter (is_end_of (named_end ups s)) all))

@@ -8,7 +8,7 @@ use Rattle.cfg_ast.specs.declared.network.Router.{Router}
 use Rattle.cfg_ast.specs.declared.topology.Link.{Link}
 use Rattle.cfg_ast.specs.meaning.Topology.{Place, places, interfaces_of, first_address}
 use Rattle.cfg_ast.specs.meaning.RouterFaults.{active_address_on}
-use Rattle.buckets.specs.Buckets.{is_at}
+use Rattle.buckets.specs.Buckets.{is_at_pair}
 use Rattle.net_topology.specs.declared.adjacencies.Spot.{Spot}
 
 abbrev pub spot_at : ℕ → ℕ → Address → Spot
@@ -35,4 +35,4 @@ spot_link s t = record { low = s.router; high = t.router; low_item = s.item; hig
 
 -- the links of a spot with the later ones of its subnet
 abbrev pub links_in : List Spot → Spot → List Link
-links_in ss s = map (spot_link s) (filter (is_later s) (filter (is_at pair_of (pair_of s)) ss))
+links_in ss s = map (spot_link s) (filter (is_later s) (filter (is_at_pair pair_of (pair_of s)) ss))

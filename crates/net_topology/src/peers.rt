@@ -5,7 +5,7 @@ ghost use Rattle.std.specs.List.{enumerate_from};
 ghost use Rattle.cfg_ast.specs.meaning.Topology.{place_on, neighbors_of};
 ghost use Rattle.buckets.specs.Buckets.{IsIndex};
 ghost use Rattle.net_topology.specs.FewPlaces.{HasFewItems, HasFewPlaces};
-ghost use Rattle.net_topology.specs.Peers.{peer_on, peer_at_place, peers, own_end, name_each_other, reaches};
+ghost use Rattle.net_topology.specs.Peers.{peer_on, peer_at_place, peers, own_end, name_each_other, is_end_of};
 
 use crate::places::place;
 use base_kit::NoMemory;
@@ -115,7 +115,7 @@ impl Peers {
 
     /// The peers of a router that name an address, in order.
     pub(crate) fn at(&self, end: Option<(u32, u32)>) -> &[Peer]
-        ensures { result.now ≡ filter (reaches end) self.now.all.items }
+        ensures { result.now ≡ filter (is_end_of end) self.now.all.items }
     {
         match end {
             Some(end) => items_at(&self.by_end, end),

@@ -4,7 +4,7 @@ ghost use Rattle.std.specs.Prelude.{◌≡◌, ◌++◌, map, filter, flat_map, 
 ghost use Rattle.cfg_ast.specs.meaning.Topology.{sessions_of};
 ghost use Rattle.cfg_check.specs.Faultless.{IsFaultless};
 ghost use Rattle.net_topology.specs.FewPlaces.{HasFewPlaces};
-ghost use Rattle.net_topology.specs.Peers.{is_later, peer_link, sessions_in};
+ghost use Rattle.net_topology.specs.Peers.{is_later_peer, peer_link, sessions_in};
 
 use crate::peers::{Peer, Peers, name_each_other};
 use crate::ups::Ups;
@@ -13,7 +13,7 @@ use cfg_ast::{Link, Network};
 use std::alloc::Global;
 
 fn push_sessions(found: &mut List<Link>, p: &Peer, others: &[Peer]) -> Result<(), NoMemory>
-    ensures { OnOk result (found.new ≡ found.old ++ map (peer_link p.now) (filter (is_later p.now) others.now)) }
+    ensures { OnOk result (found.new ≡ found.old ++ map (peer_link p.now) (filter (is_later_peer p.now) others.now)) }
 {
     for q in others {
         if p.router < q.router && name_each_other(p, q) {

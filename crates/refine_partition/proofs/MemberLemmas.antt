@@ -11,7 +11,7 @@ use Rattle.std.proofs.lemmas.List.Elements.{filter-append, filter_passes, All-fi
 use Rattle.std.proofs.Math.ListN.{length-set}
 use Rattle.base_kit.specs.Partition.{members_of}
 use Rattle.base_kit.specs.declared.act_graph.Edge.{Edge}
-use Rattle.refine_partition.specs.Members.{members_among, AreBlocksAmong, AreBlocks, AreMembers}
+use Rattle.refine_partition.specs.Members.{members_among, AreBlocksAmong, AreBlocks, AreBlockMembers}
 use Rattle.refine_partition.specs.Index.{import_from, IsImportIndex}
 use Rattle.refine_partition.specs.declared.imports.Import.{Import}
 
@@ -152,7 +152,7 @@ member numbers block router below is =
     let at : get_or (range_with_len 0 (length numbers)) router router ≡ router = get_or-range_with_len 0 (length numbers) router router below ∙ omega arith in
     filter_contains p (range_with_len 0 (length numbers)) router (same_test _ _ is) (router, omega arith, at)
 
-pub members_are : (numbers : List ℕ) (block : ℕ) → AreMembers numbers block (members_of numbers block)
+pub members_are : (numbers : List ℕ) (block : ℕ) → AreBlockMembers numbers block (members_of numbers block)
 members_are numbers block =
     let all = members_all numbers block in
     record {

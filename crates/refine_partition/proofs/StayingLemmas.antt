@@ -11,7 +11,7 @@ use Rattle.std.proofs.lemmas.List.Elements.{All-contains, All-filter, All-push, 
 use Rattle.std.proofs.lemmas.List.Sorted.{IsPermutation-swap_remove, IsPermutation-sym, All-permutation, Contains-permutation}
 use Rattle.std.proofs.Math.ListN.{length-set}
 use Rattle.refine_partition.specs.Kept.{is_numbered}
-use Rattle.refine_partition.specs.Members.{AreBlocks, AreMembers}
+use Rattle.refine_partition.specs.Members.{AreBlocks, AreBlockMembers}
 use Rattle.refine_partition.specs.Classes.{ClassNames}
 use Rattle.refine_partition.specs.Loose.{AreListed, AreUsed, AreFiner, HasMember, IsStillListed, IsStayingClass, IsStaying, IsNamedAs, AreStaying}
 use Rattle.refine_partition.proofs.QueueLemmas.{rising}
@@ -233,7 +233,7 @@ members_kept numbers list list' block routers is =
 
 pub members_in : (numbers : List ℕ) (lists : List (Vec ℕ Global)) (block : ℕ) (list list' : Vec ℕ Global) → AreListed numbers lists → block < length lists →
     list ≡ slice_index_or lists block list → list'.items ≡ filter (is_numbered numbers block) list.items → (d : Vec ℕ Global) →
-    AreMembers numbers block (slice_index_or (slice_set lists block list') block d).items
+    AreBlockMembers numbers block (slice_index_or (slice_set lists block list') block d).items
 members_in numbers lists block list list' listed known read is d =
     let kept = members_kept numbers list.items list'.items block (routers_of numbers lists block list listed known read) is in
     rw (get_or-set_same lists block list' d known) (record {

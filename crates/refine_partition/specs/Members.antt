@@ -17,7 +17,7 @@ pub record AreBlocks (numbers : List ℕ) (blocks : List (Vec ℕ Global)) : Typ
   pub each : (block : ℕ) (d : Vec ℕ Global) → block < length blocks → (slice_index_or blocks block d).items ≡ members_of numbers block
 
 -- all members of a block, in any order, and only them
-pub record AreMembers (numbers : List ℕ) (block : ℕ) (routers : List ℕ) : Type 0 where
+pub record AreBlockMembers (numbers : List ℕ) (block : ℕ) (routers : List ℕ) : Type 0 where
   pub below : All (λ u. u < length numbers) routers
   pub only : All (λ u. slice_index numbers u ≡ block) routers
   pub all : (u : ℕ) → u < length numbers → slice_index numbers u ≡ block → Contains routers u

@@ -4,7 +4,7 @@ ghost use Rattle.std.specs.Prelude.{◌≡◌, ℕ, ◌<◌, ◌+◌, ◌≤◌,
 ghost use Rattle.std.specs.declared.alloc.Global.{Global as TheGlobal};
 ghost use Rattle.refine_partition.specs.Index.{IsImportIndex};
 ghost use Rattle.refine_partition.specs.Loose.{AreListed, AreParted, AreSettled, IsDividedAsSplit};
-ghost use Rattle.refine_partition.specs.Members.{AreMembers};
+ghost use Rattle.refine_partition.specs.Members.{AreBlockMembers};
 ghost use Rattle.refine_partition.specs.Splits.{IsStart};
 
 use crate::arrivals::arrivals_at;
@@ -51,7 +51,7 @@ fn keep_members(lists: &mut Vec<Vec<u32>>, numbers: &[u32], block: u32)
     requires known { block < length lists.old.items }
     ensures total { length lists.new.items ≡ length lists.old.items }
     ensures listed { AreListed numbers.now lists.new.items }
-    ensures members { (d : Vec ℕ TheGlobal) → AreMembers numbers.now block (slice_index_or lists.new.items block d).items }
+    ensures members { (d : Vec ℕ TheGlobal) → AreBlockMembers numbers.now block (slice_index_or lists.new.items block d).items }
 {
     lists[block as usize].retain(|router| has_number(numbers, *router, block));
 }

@@ -17,7 +17,7 @@ use Rattle.srp_core.specs.Candidates.{passed, over}
 use Rattle.route_keys.specs.Same.{same_route}
 use Rattle.route_keys.proofs.Same.{same_true, same_self}
 use Rattle.solution_check.specs.Breaks.{HasWrongOrigin, HasNoCandidate, HasBetterCandidate, LacksLabel, HoldsBest}
-use Rattle.solution_check.specs.Offers.{AreOwn, routes_of, is_label, beats, always, is_wrong_origin}
+use Rattle.solution_check.specs.Offers.{AreOwn, routes_of, is_label, beats_label, always, is_wrong_origin}
 
 pub is_less : (o : Ordering) → is_lt o ≡ true → o ≡ Less
 is_less Less e = refl
@@ -113,13 +113,13 @@ module _ (P : Problem) (L : List (Option Route)) (u : ℕ) (own : List Edge) (ar
       let f = any_in (is_label r) (routes_of P L u own) some in
       subst (IsCandidate P L u) (same_true f.0 r f.2) (candidate_of f.0 f.1)
 
-  pub beaten : (r : Route) → label L u ≡ Some r → list_any (beats P r) (routes_of P L u own) ≡ true → HasBetterCandidate P L u
+  pub beaten : (r : Route) → label L u ≡ Some r → list_any (beats_label P r) (routes_of P L u own) ≡ true → HasBetterCandidate P L u
   beaten r e some =
-      let f = any_in (beats P r) (routes_of P L u own) some in
+      let f = any_in (beats_label P r) (routes_of P L u own) some in
       record { route = r; labelled = e; candidate = f.0; is_candidate = candidate_of f.0 f.1; beats = is_less (compare_keys (key_of P f.0) (key_of P r)) f.2 }
 
-  pub not_beaten : (r c : Route) → list_any (beats P r) (routes_of P L u own) ≡ false → IsCandidate P L u c → compare_keys (key_of P c) (key_of P r) ≢ Less
-  not_beaten r c none is less = true≢false (sym (ap is_lt less) ∙ none_in (beats P r) (routes_of P L u own) c none (listed c is))
+  pub not_beaten : (r c : Route) → list_any (beats_label P r) (routes_of P L u own) ≡ false → IsCandidate P L u c → compare_keys (key_of P c) (key_of P r) ≢ Less
+  not_beaten r c none is less = true≢false (sym (ap is_lt less) ∙ none_in (beats_label P r) (routes_of P L u own) c none (listed c is))
 
   pub has_one : label L u ≡ None → list_any always (routes_of P L u own) ≡ true → LacksLabel P L u
   has_one e some = let f = any_in always (routes_of P L u own) some in record { none = e; candidate = f.0; is_candidate = candidate_of f.0 f.1 }
@@ -137,7 +137,7 @@ module _ (P : Problem) (L : List (Option Route)) (u : ℕ) (own : List Edge) (ar
   one_label : (r s : Route) → label L u ≡ Some r → label L u ≡ Some s → r ≡ s
   one_label r s e e' = cc
 
-  pub fine_with : (r : Route) → label L u ≡ Some r → list_any (is_label r) (routes_of P L u own) ≡ true → list_any (beats P r) (routes_of P L u own) ≡ false →
+  pub fine_with : (r : Route) → label L u ≡ Some r → list_any (is_label r) (routes_of P L u own) ≡ true → list_any (beats_label P r) (routes_of P L u own) ≡ false →
       HoldsBest P L u
   fine_with r e some none = record {
     none = λ c e'. absurd (let x : Some r ≡ None = sym e ∙ e' in cc);

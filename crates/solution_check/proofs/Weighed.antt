@@ -16,7 +16,7 @@ use Rattle.srp_core.specs.Stability.{label}
 use Rattle.route_keys.specs.Keys.{key, key_with}
 use Rattle.solution_check.specs.Lone.{lone_of}
 use Rattle.solution_check.specs.declared.weights.Weight.{Weight}
-use Rattle.solution_check.specs.Offers.{is_label, beats, with_lone, one, WeighsAs}
+use Rattle.solution_check.specs.Offers.{is_label, beats_label, with_lone, one, WeighsAs}
 use Rattle.route_keys.proofs.LonePaths.{chosen_ascends}
 
 pub if_ok : {X E : Type 0} {P Q : X → Type 0} (r : Result X E) → ((x : X) → P x → Q x) → IfOk r P → IfOk r Q
@@ -28,10 +28,10 @@ or_none true = refl
 or_none false = refl
 
 weighs_one : (P : Problem) (route candidate : Route) (found : Option Route) (w : Weight) → found ≡ Some candidate → w.held ≡ is_label route candidate →
-    w.beaten ≡ beats P route candidate → WeighsAs P route (one found) w
+    w.beaten ≡ beats_label P route candidate → WeighsAs P route (one found) w
 weighs_one P route candidate found w is held beaten = record {
   held = held ∙ sym (or_none (is_label route candidate)) ∙ sym (ap (λ (o : Option Route). list_any (is_label route) (one o)) is);
-  beaten = beaten ∙ sym (or_none (beats P route candidate)) ∙ sym (ap (λ (o : Option Route). list_any (beats P route) (one o)) is);
+  beaten = beaten ∙ sym (or_none (beats_label P route candidate)) ∙ sym (ap (λ (o : Option Route). list_any (beats_label P route) (one o)) is);
 }
 
 none_chosen : (test : ℕ → Bool) → chosen test [] ≡ []
@@ -56,7 +56,7 @@ pub nothing_weighs : (P : Problem) (route : Route) (found : Option Route) (w : W
     WeighsAs P route (one found) w
 nothing_weighs P route found w is held beaten = record {
   held = held ∙ sym (ap (λ (o : Option Route). list_any (is_label route) (one o)) is);
-  beaten = beaten ∙ sym (ap (λ (o : Option Route). list_any (beats P route) (one o)) is);
+  beaten = beaten ∙ sym (ap (λ (o : Option Route). list_any (beats_label P route) (one o)) is);
 }
 
 -- ---- an import

@@ -38,8 +38,8 @@ offered (Import imported) (Some (Bgp lp path comms)) number = Some (arrived numb
 abbrev pub is_label : Route → Route → Bool
 is_label route candidate = same_route candidate route
 
-abbrev pub beats : Problem → Route → Route → Bool
-beats problem route candidate = is_lt (compare_keys (key_of problem candidate) (key_of problem route))
+abbrev pub beats_label : Problem → Route → Route → Bool
+beats_label problem route candidate = is_lt (compare_keys (key_of problem candidate) (key_of problem route))
 
 -- whether an offer gives a route
 abbrev pub gives : Offer → Bool
@@ -58,7 +58,7 @@ with_lone is_lone number rest = if is_lone then with_number number rest else res
 -- they have the label among them, and one that beats it
 pub record WeighsAs (problem : Problem) (route : Route) (routes : List Route) (weight : Weight) : Type 0 where
   pub held : weight.held ≡ list_any (is_label route) routes
-  pub beaten : weight.beaten ≡ list_any (beats problem route) routes
+  pub beaten : weight.beaten ≡ list_any (beats_label problem route) routes
 
 abbrev pub one : Option Route → List Route
 one found = cons_option found []

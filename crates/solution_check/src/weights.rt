@@ -14,7 +14,7 @@ ghost use Rattle.srp_core.specs.Candidates.{over};
 ghost use Rattle.route_keys.specs.Keys.{key, key_with};
 ghost use Rattle.solution_check.specs.declared.offers.Offer.TheVariants.{Import};
 ghost use Rattle.solution_check.specs.Lone.{IsLoneOf};
-ghost use Rattle.solution_check.specs.Offers.{AreOwn, routes_of, offered, is_label, beats, with_lone, one, WeighsAs, both_weighed, always};
+ghost use Rattle.solution_check.specs.Offers.{AreOwn, routes_of, offered, is_label, beats_label, with_lone, one, WeighsAs, both_weighed, always};
 
 use crate::lone::Lone;
 use crate::offers::{Offer, is_lengthened, offer_over};
@@ -271,7 +271,7 @@ fn weigh_edges(
     requires lone { IsLoneOf srp.now labels.now lone.now }
     requires other { other.now ≡ chosen (is_lone_number srp.now) (path_of route.now) }
     ensures { IfOk result (λ weight. (weight.held ≡ before.held || list_any (is_label route.now) (filter_map (over srp.now labels.now) edges.now))
-        × (weight.beaten ≡ before.beaten || list_any (beats srp.now route.now) (filter_map (over srp.now labels.now) edges.now))) }
+        × (weight.beaten ≡ before.beaten || list_any (beats_label srp.now route.now) (filter_map (over srp.now labels.now) edges.now))) }
 {
     let mut weight = before;
     for edge in edges {

@@ -5,8 +5,8 @@ use Rattle.base_kit.specs.declared.protocol.Protocol.TheVariants.{Bgp as OverBgp
 use Rattle.abstract_net.specs.declared.qlink.QLink.{QLink}
 use Rattle.srp_quotient.specs.Groups.{last_of, or_else}
 
-abbrev pub same_key : ℕ × ℕ → ℕ × ℕ → Bool
-same_key a b = nat_eq a.0 b.0 && nat_eq a.1 b.1
+abbrev pub same_direction : ℕ × ℕ → ℕ × ℕ → Bool
+same_direction a b = nat_eq a.0 b.0 && nat_eq a.1 b.1
 
 -- the edge that the link carries into g from h
 abbrev pub carried : ℕ → ℕ → QLink → Option ℕ

@@ -8,10 +8,10 @@ use Rattle.dd_core.specs.Sets.{Shown, IsShown}
 use Rattle.policy_dd.specs.declared.edge.EdgeFn.{EdgeFn}
 use Rattle.policy_dd.specs.Compare.{OneForm}
 use Rattle.srp_build.specs.declared.acts.BgpAct.{BgpAct}
-use Rattle.srp_build.specs.BgpActs.{low_half, nodes_of, AreTwoImports, AreUnlike, AreListed}
+use Rattle.srp_build.specs.BgpActs.{low_half, function_key, AreTwoImports, AreUnlike, AreFoundByNodes}
 use Rattle.srp_build.proofs.FirstUse.{front_or_last}
 
-pub none_listed : (index : Index ℕ) → AreListed index []
+pub none_listed : (index : Index ℕ) → AreFoundByNodes index []
 none_listed index = record { each = λ number act at. absurd cc }
 
 same_pair_is : (p : ℕ × ℕ) → same_pair p p ≡ true
@@ -26,31 +26,31 @@ put_by true old x e = in_right old (x ∷ []) x (inl refl)
 put_by false old x e = absurd cc
 
 -- one more act, which is put at its nodes
-pub listed_next : (old new : Index ℕ) (acts : List BgpAct) (act : BgpAct) (number : ℕ) → AreListed old acts → number ≡ length acts →
-    PushesAt old new (nodes_of act.function) number → AreListed new (acts ++ act ∷ [])
+pub listed_next : (old new : Index ℕ) (acts : List BgpAct) (act : BgpAct) (number : ℕ) → AreFoundByNodes old acts → number ≡ length acts →
+    PushesAt old new (function_key act.function) number → AreFoundByNodes new (acts ++ act ∷ [])
 listed_next old new acts act number listed next pushes = record {
   each = λ place other at. elim (front_or_last acts act place other at) [
     | inl before ↦ (
-        let q = nodes_of other.function in
+        let q = function_key other.function in
         contains_in (bucket new q) place (subst (λ (l : List ℕ). In l place) (sym (pushes.each q))
-        (kept_by (same_pair (nodes_of act.function) q) (bucket old q) number place (in_contains (bucket old q) place (listed.each place other before)))))
+        (kept_by (same_pair (function_key act.function) q) (bucket old q) number place (in_contains (bucket old q) place (listed.each place other before)))))
     | inr last ↦ (
-        let q = nodes_of act.function in
+        let q = function_key act.function in
         let here : In (bucket new q) number = subst (λ (l : List ℕ). In l number) (sym (pushes.each q))
         (put_by (same_pair q q) (bucket old q) number (same_pair_is q)) in
         let there : In (bucket new q) place = subst (λ (k : ℕ). In (bucket new q) k) (next ∙ sym last.0) here in
-        subst (λ (a : BgpAct). Contains (bucket new (nodes_of a.function)) place) last.1 (contains_in (bucket new q) place there))
+        subst (λ (a : BgpAct). Contains (bucket new (function_key a.function)) place) last.1 (contains_in (bucket new q) place there))
   ];
 }
 
 -- a function unlike those that are found by its nodes is unlike all
-pub unlike_all : OneForm → (shown : Shown) → IsShown shown → (index : Index ℕ) (acts : List BgpAct) (function : EdgeFn) → AreListed index acts →
-    AreUnlike shown acts (bucket index (nodes_of function)) function → (other : ℕ) (act : BgpAct) → slice_get acts other ≡ Some act →
+pub unlike_all : OneForm → (shown : Shown) → IsShown shown → (index : Index ℕ) (acts : List BgpAct) (function : EdgeFn) → AreFoundByNodes index acts →
+    AreUnlike shown acts (bucket index (function_key function)) function → (other : ℕ) (act : BgpAct) → slice_get acts other ≡ Some act →
     AreTwoImports shown function act.function
 unlike_all one_form shown is index acts function listed unlike other act at = record {
   differ = λ F G of_function of_act one.
       let parts = one_form shown function act.function F G is of_function of_act one in
-      let nodes : nodes_of act.function ≡ nodes_of function = (λ j. (low_half (sym parts.permit j), low_half (sym parts.rest j))) in
+      let nodes : function_key act.function ≡ function_key function = (λ j. (low_half (sym parts.permit j), low_half (sym parts.rest j))) in
       (unlike other act (subst (λ (q : ℕ × ℕ). Contains (bucket index q) other) nodes (listed.each other act at)) at).differ F G of_function of_act one;
 }
 

@@ -14,7 +14,7 @@ use Rattle.srp_build.specs.LineMaps.{LineMaps}
 use Rattle.srp_build.specs.declared.imports.ImportByMaps.{ImportByMaps}
 use Rattle.srp_build.specs.ActOrder.{AreByFirstUse}
 use Rattle.srp_build.specs.BgpActs.{IsNewAct}
-use Rattle.srp_build.specs.BgpEdges.{import_at, IsLeftOut, IsEdgeOfSession, Skips, Takes, TakesHop, IsFirstWithAct, AreEdgesOfSessions}
+use Rattle.srp_build.specs.BgpEdges.{import_at, IsLeftOut, IsEdgeOfSession, Skips, TakesDirection, TakesHop, IsFirstWithAct, AreEdgesOfSessions}
 use Rattle.srp_build.specs.FirstActs.{IsFirstWith}
 use Rattle.srp_build.specs.HopEdges.{edge_with, AreEdgesOf}
 use Rattle.srp_build.specs.MetImports.{IsActOver, AreRight}
@@ -105,7 +105,7 @@ module _ (shown shown' : Shown) (routers : List Router) (init : List (Option Rou
       → IsFirstWithAct after edge
   is_kept number import came edge is = record { act = is.act; at = act_kept before after hop import number came edge.act is.act is.at; same = is.same }
 
-  taken : Takes routers init maps old new hop → AreEdgesOfSessions shown' routers init maps (hops ++ hop ∷ []) new
+  taken : TakesDirection routers init maps old new hop → AreEdgesOfSessions shown' routers init maps (hops ++ hop ∷ []) new
   taken takes =
       let last : Edge = edge_with takes.number hop in
       let has : IsEdgeOfSession routers init maps after hop last =

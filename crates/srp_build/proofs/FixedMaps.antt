@@ -14,7 +14,7 @@ use Rattle.cfg_ast.specs.meaning.Policy.{name_of, prefixes_match, route_map_name
 use Rattle.route_maps.specs.declared.plain.Plain.{Plain}
 use Rattle.route_maps.specs.declared.plain.PlainEntry.{PlainEntry}
 use Rattle.specialize.specs.OnePrefix.{own_preference, plain_entry, plain_of}
-use Rattle.srp_build.specs.LinePolicies.{IsFixed, names_no_list}
+use Rattle.srp_build.specs.LinePolicies.{IsSameForEachPrefix, names_no_list}
 use Rattle.srp_build.specs.Lines.{map_named, list_named}
 
 abbrev lists_none : MapEntry → Bool
@@ -57,6 +57,6 @@ module _ (router : Router) where
   free_plain p q inbound named (Some listed) free free_map_named = absurd cc
 
   pub is_fixed : (inbound : Bool) (line : Neighbor) → is_none (list_named inbound line) ≡ true →
-      option_map_or (λ (n : Named). names_no_list router n.name) (map_named inbound line) true ≡ true → IsFixed router inbound line
+      option_map_or (λ (n : Named). names_no_list router n.name) (map_named inbound line) true ≡ true → IsSameForEachPrefix router inbound line
   is_fixed true line listed free p q = free_plain p q true line.map_in line.list_in listed free
   is_fixed false line listed free p q = free_plain p q false line.map_out line.list_out listed free

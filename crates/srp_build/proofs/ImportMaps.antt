@@ -18,7 +18,7 @@ use Rattle.srp_build.specs.declared.imports.ImportByMaps.{ImportByMaps}
 use Rattle.srp_build.specs.BgpEdges.{import_at}
 use Rattle.srp_build.specs.LineMaps.{LineMaps, AreLineMaps}
 use Rattle.srp_build.specs.Lines.{map_of_line, deny_all, map_at, sends_at}
-use Rattle.srp_build.specs.Plains.{SayTheSame, IsNumberOf, HasNumbers, HaveNumbers, number_at, map_numbered, import_over}
+use Rattle.srp_build.specs.Plains.{SayTheSame, IsNumberOf, HasMapNumbers, HaveNumbers, number_at, map_numbered, import_over}
 use Rattle.srp_build.proofs.FirstUse.{within_get}
 use Rattle.srp_build.proofs.LinkPlaces.{direction_of}
 
@@ -33,7 +33,7 @@ pub record HasNumberAt (p : Prefix) (inbound : Bool) (maps : List Plain) (router
   pub is : IsNumberOf maps number (map_of_line p router inbound line)
 
 line_of : (p : Prefix) (inbound : Bool) (maps : List Plain) (router : Router) (routers : List Router) (numbers : List ℕ) →
-    HasNumbers p router inbound maps numbers → (item number : ℕ) → slice_get numbers item ≡ Some number →
+    HasMapNumbers p router inbound maps numbers → (item number : ℕ) → slice_get numbers item ≡ Some number →
     HasNumberAt p inbound maps (router ∷ routers) zero item number
 line_of p inbound maps router routers numbers has item number at = let line = has.each item number at in
     record { router = router; at = refl; line = line.line; line_at = line.at; is = line.is }

@@ -14,9 +14,9 @@ use Rattle.srp_build.specs.declared.hops.Hop.{Hop}
 use Rattle.srp_build.specs.declared.imports.ImportByMaps.{ImportByMaps}
 use Rattle.srp_build.specs.declared.met_imports.Met.{Met}
 use Rattle.srp_build.specs.declared.met_imports.MetImports.{MetImports}
-use Rattle.srp_build.specs.BgpActs.{AreListed, IsLike, IsNewLike, AcceptsAny, DeniesAll, IsActOfFunction}
+use Rattle.srp_build.specs.BgpActs.{AreFoundByNodes, IsLike, IsNewLike, AcceptsAny, DeniesAll, IsActOfFunction}
 use Rattle.srp_build.specs.Plains.{import_over}
-use Rattle.srp_build.specs.MetImports.{AreActs, IsActFor, AreMet, AreRight, IsMaybeNew}
+use Rattle.srp_build.specs.MetImports.{AreActs, IsActOfImport, AreMet, AreRight, IsMaybeNew}
 use Rattle.srp_build.proofs.ActTables.{none_listed}
 use Rattle.srp_build.proofs.FirstUse.{get_front, get_last, front_or_last, length_last}
 
@@ -37,7 +37,7 @@ right_kept kept old new maps table imports grows right =
     record { acts = acts_kept kept old new maps table.acts.items grows right.acts; listed = right.listed; met = right.met }
 
 for_kept : (maps : List Plain) (old new : List BgpAct) (import : ImportByMaps) (act : Option ℕ) →
-    ((k : ℕ) (a : BgpAct) → slice_get old k ≡ Some a → slice_get new k ≡ Some a) → IsActFor maps old import act → IsActFor maps new import act
+    ((k : ℕ) (a : BgpAct) → slice_get old k ≡ Some a → slice_get new k ≡ Some a) → IsActOfImport maps old import act → IsActOfImport maps new import act
 for_kept maps old new import None kept is = is
 for_kept maps old new import (Some number) kept is = record { act = is.act; at = kept number is.act is.at; one = is.one }
 
@@ -49,7 +49,7 @@ module _ (shown : Shown) (maps : List Plain) (old : List BgpAct) (are : AreActs 
   -- what one more act brings
   pub record Steps (new : List BgpAct) (act : Option ℕ) : Type 0 where
     pub acts : AreActs shown maps new
-    pub is : IsActFor maps new import act
+    pub is : IsActOfImport maps new import act
     pub came : IsMaybeNew old new hop import act
     pub kept : (k : ℕ) (a : BgpAct) → slice_get old k ≡ Some a → slice_get new k ≡ Some a
 
@@ -132,23 +132,23 @@ module _ (shown : Shown) (maps : List Plain) (old : List BgpAct) (are : AreActs 
 
 -- one more import that was met
 pub right_next : (shown : Shown) (maps : List Plain) (old new : Acts) (imports more : MetImports) (met : Met) → AreRight shown maps old imports →
-    AreListed new.by_nodes new.acts.items → AreActs shown maps new.acts.items
-    → ((k : ℕ) (a : BgpAct) → slice_get old.acts.items k ≡ Some a → slice_get new.acts.items k ≡ Some a) → IsActFor maps new.acts.items met.import met.act →
+    AreFoundByNodes new.by_nodes new.acts.items → AreActs shown maps new.acts.items
+    → ((k : ℕ) (a : BgpAct) → slice_get old.acts.items k ≡ Some a → slice_get new.acts.items k ≡ Some a) → IsActOfImport maps new.acts.items met.import met.act →
     more.met.items ≡ imports.met.items ++ met ∷ [] → AreRight shown maps new more
 right_next shown maps old new imports more met right listed acts kept is last = record {
   acts = acts;
   listed = listed;
   met = λ place m at. elim (front_or_last imports.met.items met place m (ap (λ (l : List Met). slice_get l place) (sym last) ∙ at)) [
     | inl before ↦ for_kept maps old.acts.items new.acts.items m.import m.act kept (right.met place m before)
-    | inr is_last ↦ subst (λ (x : Met). IsActFor maps new.acts.items x.import x.act) is_last.1 is
+    | inr is_last ↦ subst (λ (x : Met). IsActOfImport maps new.acts.items x.import x.act) is_last.1 is
   ];
 }
 
 -- an import that was met
 pub met_before : (maps : List Plain) (acts : List BgpAct) (met : List Met) (m : Met) (import : ImportByMaps) → AreMet maps acts met → Contains met m →
-    m.import ≡ import → IsActFor maps acts import m.act
+    m.import ≡ import → IsActOfImport maps acts import m.act
 met_before maps acts met m import are has same =
-    subst (λ (s : ImportByMaps). IsActFor maps acts s m.act) same (are has.0 m (slice_get_read met (length met) has.0 m refl has.1 (sym has.2)))
+    subst (λ (s : ImportByMaps). IsActOfImport maps acts s m.act) same (are has.0 m (slice_get_read met (length met) has.0 m refl has.1 (sym has.2)))
 
 -- at most one act came
 pub one_more : (old new : List BgpAct) (hop : Hop) (import : ImportByMaps) (act : Option ℕ) → IsMaybeNew old new hop import act →
@@ -171,7 +171,7 @@ right_at_first shown maps table imports no_acts no_imports = record {
     accept = λ number act at. nothing number act at;
     differ = λ i j a b at at'. nothing i a at;
   };
-  listed = subst (AreListed table.by_nodes) (sym no_acts) (none_listed table.by_nodes);
+  listed = subst (AreFoundByNodes table.by_nodes) (sym no_acts) (none_listed table.by_nodes);
   met = λ place m at. (let none = ap (λ (l : List Met). slice_get l place) no_imports in cc);
 }
   where

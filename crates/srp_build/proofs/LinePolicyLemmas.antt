@@ -9,7 +9,7 @@ use Rattle.route_maps.specs.declared.plain.Plain.{Plain}
 use Rattle.specialize.specs.OnePrefix.{plain_of}
 use Rattle.srp_build.specs.declared.policies.PolicyTable.{PolicyTable}
 use Rattle.srp_build.specs.declared.lines.LinePlace.{LinePlace}
-use Rattle.srp_build.specs.LinePolicies.{IsFixed, map_of_place, IsPolicyOf, ArePoliciesOf, HasPolicies, HavePolicies, IsAlwaysAt, IsAlwaysOf, AreFixed, IsLineAt, PoliciesKept, IsNewPolicy, IsFixedPolicy, IsPolicyNumber, IsSeenOrNumbered}
+use Rattle.srp_build.specs.LinePolicies.{IsSameForEachPrefix, map_of_place, IsPolicyOf, ArePoliciesOf, HasPolicies, HavePolicies, IsAlwaysAt, IsAlwaysOf, AreFixedPolicies, IsLineAt, PoliciesKept, IsNewPolicy, IsFixedPolicy, IsPolicyNumber, IsSeenOrNumbered}
 use Rattle.srp_build.specs.Lines.{map_named, list_named, map_of_line}
 use Rattle.srp_build.specs.Plains.{SayTheSame, IsNumberOf, IsGrownBy, IsAsEarlier}
 use Rattle.srp_build.proofs.FirstUse.{get_front, get_last, front_or_last, length_last, take_more, within_get}
@@ -78,7 +78,7 @@ new_policy old new first router line number of =
 
 -- a policy that has the line's map for every prefix
 pub fixed_number : (old new : PolicyTable) (first : LinePlace) (router : Router) (line : Neighbor) (any : Prefix) (plain : Plain) (number : ℕ) →
-    IsFixed router first.inbound line → plain ≡ map_of_line any router first.inbound line → IsFixedPolicy old new first plain number →
+    IsSameForEachPrefix router first.inbound line → plain ≡ map_of_line any router first.inbound line → IsFixedPolicy old new first plain number →
     IsPolicyNumber old new first router line number
 fixed_number old new first router line any plain number is_fixed plain_is of = record {
   kept = of.kept;
@@ -116,7 +116,7 @@ found_fixed old new first plain place number firsts policies is grown at = recor
       };
 }
   where
-    unchanged : (routers : List Router) → AreFixed routers old → IsGrownBy old.fixed.maps.items new.fixed.maps.items plain place →
+    unchanged : (routers : List Router) → AreFixedPolicies routers old → IsGrownBy old.fixed.maps.items new.fixed.maps.items plain place →
         new.fixed.maps.items ≡ old.fixed.maps.items
     unchanged routers are (inl same) = same
     unchanged routers are (inr last) = absurd (let a = within_get old.policies.items place number at in let b = are.total in let c = last.1 in omega arith)
@@ -160,7 +160,7 @@ came_fixed old new more first plain place number firsts next policies maps is gr
           λ p. same_says (map_of_place p routers first) plain (always p);
     }
 
-    put_last : (routers : List Router) → AreFixed routers old → IsGrownBy old.fixed.maps.items more plain place → more ≡ old.fixed.maps.items ++ plain ∷ []
+    put_last : (routers : List Router) → AreFixedPolicies routers old → IsGrownBy old.fixed.maps.items more plain place → more ≡ old.fixed.maps.items ++ plain ∷ []
     put_last routers are (inl same) = absurd
         (some_within old.policies.items place (let a = within_get more place is.other is.at in let b = ap (λ (l : List Plain). length l) same in let c =
         are.total in omega arith) missing)
@@ -191,11 +191,11 @@ policies_next routers router inbound policies lines numbers line number are ther
 -- what one more line of a router brings
 pub record LineSteps (routers : List Router) (old new : PolicyTable) (router : Router) (inbound : Bool) (numbers : List ℕ) (number : ℕ) : Type 0 where
   pub kept : PoliciesKept old.firsts.items new.firsts.items
-  pub fixed : AreFixed routers new
+  pub fixed : AreFixedPolicies routers new
   pub each : ArePoliciesOf routers router inbound new.firsts.items (neighbors_of router) (numbers ++ number ∷ [])
 
 pub line_step : (routers : List Router) (old new : PolicyTable) (place : LinePlace) (router : Router) (numbers : List ℕ) (line : Neighbor) (number : ℕ) →
-    IsLineAt routers place router line → slice_get (neighbors_of router) (length numbers) ≡ Some line → AreFixed routers old →
+    IsLineAt routers place router line → slice_get (neighbors_of router) (length numbers) ≡ Some line → AreFixedPolicies routers old →
     ArePoliciesOf routers router place.inbound old.firsts.items (neighbors_of router) numbers
     → IsSeenOrNumbered old new place router numbers line number → LineSteps routers old new router place.inbound numbers number
 line_step routers old new place router numbers line number there at fixed are (inl (same, as_earlier)) =

@@ -11,7 +11,7 @@ use Rattle.base_kit.proofs.Elements.{In, contains_in, in_contains, in_left, in_r
 use Rattle.dd_core.specs.Sets.{Shown}
 use Rattle.srp_build.specs.declared.acts.BgpAct.{BgpAct}
 use Rattle.srp_build.specs.declared.lone.Mark.{Mark}
-use Rattle.srp_build.specs.Lone.{Agree, TellsApart, IsNextMark, begins, stays, goes_on, HasEdgeWith, HasTwo, IsMark, AreMarks}
+use Rattle.srp_build.specs.Lone.{Agree, TellsApart, IsNextMark, begins, stays, goes_on, HasEdgeWith, HasTwo, IsMark, AreLoneMarks}
 use Rattle.srp_build.proofs.FirstUse.{take_more}
 
 -- ---- lists with one item written
@@ -31,7 +31,7 @@ written_or_kept {X} xs i k v x inside at =
 -- ---- marks
 
 pub no_marks : (shown : Shown) (acts : List BgpAct) (count : ℕ) (none : Mark) → none.first ≡ None → none.lone ≡ false → (edges : List Edge) → edges ≡ [] →
-    AreMarks shown acts count edges (replicate count none)
+    AreLoneMarks shown acts count edges (replicate count none)
 no_marks shown acts count none first lone edges empty = record {
   total = length-replicate count none;
   each = λ router mark at. (
@@ -143,9 +143,9 @@ module _ (shown : Shown) (acts : List BgpAct) (edges : List Edge) (edge : Edge) 
       subst (IsMark shown acts (edges ++ edge ∷ []) edge.importer) (sym same) (mark_stays mark first is some_first lone)
   mark_next mark next is (goes_on first some_first alone tells) = mark_goes_on mark next first is some_first alone tells
 
-  marks_last : (count : ℕ) (marks : List Mark) (mark next : Mark) → edge.importer < length marks → AreMarks shown acts count edges marks →
+  marks_last : (count : ℕ) (marks : List Mark) (mark next : Mark) → edge.importer < length marks → AreLoneMarks shown acts count edges marks →
       slice_get marks edge.importer ≡ Some mark → IsNextMark shown acts mark edge.act next →
-      AreMarks shown acts count (edges ++ edge ∷ []) (set marks edge.importer next)
+      AreLoneMarks shown acts count (edges ++ edge ∷ []) (set marks edge.importer next)
   marks_last count marks mark next inside are at is_next = record {
     total = length-set marks edge.importer next ∙ are.total;
     each = λ router m here. elim (written_or_kept marks edge.importer router next m inside here) [
@@ -158,10 +158,10 @@ module _ (shown : Shown) (acts : List BgpAct) (edges : List Edge) (edge : Edge) 
 -- one more edge of a list
 pub marks_next : (shown : Shown) (acts : List BgpAct) (count : ℕ) (edges : List Edge) (i : ℕ) (edge d : Edge) (marks : List Mark) (mark next : Mark) →
     i < length edges → get_or edges i d ≡ edge → edge.importer < length marks
-    → AreMarks shown acts count (take i edges) marks → slice_get marks edge.importer ≡ Some mark → IsNextMark shown acts mark edge.act next →
-    AreMarks shown acts count (take (i + 1) edges) (set marks edge.importer next)
+    → AreLoneMarks shown acts count (take i edges) marks → slice_get marks edge.importer ≡ Some mark → IsNextMark shown acts mark edge.act next →
+    AreLoneMarks shown acts count (take (i + 1) edges) (set marks edge.importer next)
 marks_next shown acts count edges i edge d marks mark next inside at importer are mark_at is_next =
-    subst (λ (l : List Edge). AreMarks shown acts count l (set marks edge.importer next)) (sym (take_more edges i edge d inside at))
+    subst (λ (l : List Edge). AreLoneMarks shown acts count l (set marks edge.importer next)) (sym (take_more edges i edge d inside at))
     (marks_last shown acts (take i edges) edge count marks mark next importer are mark_at is_next)
 
 -- ---- the edge at a place of a list
@@ -183,7 +183,7 @@ mark_there marks count k d mark total inside is = slice_get-get_or marks k d (om
 -- the first act of a mark is an act
 pub first_at : (shown : Shown) (acts : List BgpAct) (count : ℕ) (edges : List Edge) (i : ℕ) (d : Edge) (marks : List Mark) (m mark : Mark) → i < length edges →
     All (λ (e : Edge). e.importer < count) edges → All (λ (e : Edge). e.act < length acts) edges
-    → AreMarks shown acts count (take i edges) marks → mark ≡ get_or marks (get_or edges i d).importer m → IfSome mark.first (λ k. k < length acts)
+    → AreLoneMarks shown acts count (take i edges) marks → mark ≡ get_or marks (get_or edges i d).importer m → IfSome mark.first (λ k. k < length acts)
 first_at shown acts count edges i d marks m mark inside importers inside_acts are is =
     let there = mark_there marks count (get_or edges i d).importer m mark are.total (importers i d inside) is in
     some_inside mark.first (length acts) (λ k first.
@@ -194,8 +194,8 @@ first_at shown acts count edges i d marks m mark inside importers inside_acts ar
 
 pub marks_at : (shown : Shown) (acts : List BgpAct) (count : ℕ) (edges : List Edge) (i : ℕ) (d : Edge) (marks : List Mark) (m mark next : Mark) →
     i < length edges → All (λ (e : Edge). e.importer < count) edges
-    → AreMarks shown acts count (take i edges) marks → mark ≡ get_or marks (get_or edges i d).importer m →
-    IsNextMark shown acts mark (get_or edges i d).act next → AreMarks shown acts count (take (i + 1) edges) (set marks (get_or edges i d).importer next)
+    → AreLoneMarks shown acts count (take i edges) marks → mark ≡ get_or marks (get_or edges i d).importer m →
+    IsNextMark shown acts mark (get_or edges i d).act next → AreLoneMarks shown acts count (take (i + 1) edges) (set marks (get_or edges i d).importer next)
 marks_at shown acts count edges i d marks m mark next inside importers are is is_next =
     let total = are.total in
     let importer = importers i d inside in

@@ -15,8 +15,8 @@ abbrev pub low_half : ℕ → ℕ
 low_half number = number % 4294967296
 
 -- what functions are found by: the last bits of the places of both nodes
-abbrev pub nodes_of : EdgeFn → ℕ × ℕ
-nodes_of function = (low_half function.permit, low_half function.rest)
+abbrev pub function_key : EdgeFn → ℕ × ℕ
+function_key function = (low_half function.permit, low_half function.rest)
 
 -- the functions import alike
 pub record AreAlike (shown : Shown) (f g : EdgeFn) : Type 0 where
@@ -38,8 +38,8 @@ AreUnlike shown acts numbers function = (number : ℕ) (act : BgpAct) → Contai
     AreTwoImports shown function act.function
 
 -- each act is found by its nodes
-pub record AreListed (index : Index ℕ) (acts : List BgpAct) : Type 0 where
-  pub each : (number : ℕ) (act : BgpAct) → slice_get acts number ≡ Some act → Contains (bucket index (nodes_of act.function)) number
+pub record AreFoundByNodes (index : Index ℕ) (acts : List BgpAct) : Type 0 where
+  pub each : (number : ℕ) (act : BgpAct) → slice_get acts number ≡ Some act → Contains (bucket index (function_key act.function)) number
 
 -- an act came last, that of this import, which is first in this direction
 pub record IsNewAct (old new : List BgpAct) (hop : Hop) (import : ImportByMaps) (number : ℕ) : Type 0 where

@@ -66,7 +66,7 @@ pub record Skips (routers : List Router) (init : List (Option Route)) (maps : Li
   pub edges : new.edges ≡ old.edges
 
 -- the direction got an edge, and its act came unless it was there
-pub record Takes (routers : List Router) (init : List (Option Route)) (maps : LineMaps) (old new : BgpEdges) (hop : Hop) : Type 0 where
+pub record TakesDirection (routers : List Router) (init : List (Option Route)) (maps : LineMaps) (old new : BgpEdges) (hop : Hop) : Type 0 where
   pub number : ℕ
   pub open_to : has_initial init hop.importer ≡ false
   pub import : ImportByMaps
@@ -76,7 +76,7 @@ pub record Takes (routers : List Router) (init : List (Option Route)) (maps : Li
   pub edges : new.edges ≡ old.edges ++ edge_with number hop ∷ []
 
 abbrev pub TakesHop : List Router → List (Option Route) → LineMaps → BgpEdges → BgpEdges → Hop → Type 0
-TakesHop routers init maps old new hop = Skips routers init maps old new hop ⊎ Takes routers init maps old new hop
+TakesHop routers init maps old new hop = Skips routers init maps old new hop ⊎ TakesDirection routers init maps old new hop
 
 -- the act of the edge is first in the direction of the edge
 pub record IsFirstWithAct (acts : List BgpAct) (edge : Edge) : Type 0 where

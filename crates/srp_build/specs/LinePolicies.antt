@@ -24,8 +24,8 @@ names_no_list router name = option_map_or (λ (map : RouteMap). list_all (λ (en
     (route_map_named router name) true
 
 -- the map of the line is the same for every prefix
-abbrev pub IsFixed : Router → Bool → Neighbor → Type 0
-IsFixed router inbound line = (p q : Prefix) → map_of_line p router inbound line ≡ map_of_line q router inbound line
+abbrev pub IsSameForEachPrefix : Router → Bool → Neighbor → Type 0
+IsSameForEachPrefix router inbound line = (p q : Prefix) → map_of_line p router inbound line ≡ map_of_line q router inbound line
 
 -- the map of the line at a place, or the closed one where no line stands there
 abbrev pub map_of_place : Prefix → List Router → LinePlace → Plain
@@ -97,7 +97,7 @@ pub record IsAlwaysOf (routers : List Router) (firsts : List LinePlace) (number 
   pub same : (p : Prefix) → SayTheSame (map_of_place p routers first) plain
 
 -- each map stands beside its policy, which has it for every prefix
-pub record AreFixed (routers : List Router) (table : PolicyTable) : Type 0 where
+pub record AreFixedPolicies (routers : List Router) (table : PolicyTable) : Type 0 where
   pub total : length table.policies.items ≡ length table.fixed.maps.items
   pub each : (place number : ℕ) (plain : Plain) → slice_get table.policies.items place ≡ Some number → slice_get table.fixed.maps.items place ≡ Some plain →
       IsAlwaysOf routers table.firsts.items number plain
@@ -122,15 +122,15 @@ pub record IsNewPolicy (old new : PolicyTable) (first : LinePlace) (number : ℕ
 -- is that of a policy that has it
 pub record IsFixedPolicy (old new : PolicyTable) (first : LinePlace) (plain : Plain) (number : ℕ) : Type 0 where
   pub kept : PoliciesKept old.firsts.items new.firsts.items
-  pub fixed : (routers : List Router) → IsAlwaysAt routers first plain → AreFixed routers old → AreFixed routers new
-  pub is : (routers : List Router) → IsAlwaysAt routers first plain → AreFixed routers old → IsAlwaysOf routers new.firsts.items number plain
+  pub fixed : (routers : List Router) → IsAlwaysAt routers first plain → AreFixedPolicies routers old → AreFixedPolicies routers new
+  pub is : (routers : List Router) → IsAlwaysAt routers first plain → AreFixedPolicies routers old → IsAlwaysOf routers new.firsts.items number plain
 
 -- policies stay; if the line stands at the place, the table stays right, and the number is that of a policy of
 -- the line
 pub record IsPolicyNumber (old new : PolicyTable) (place : LinePlace) (router : Router) (line : Neighbor) (number : ℕ) : Type 0 where
   pub kept : PoliciesKept old.firsts.items new.firsts.items
-  pub fixed : (routers : List Router) → IsLineAt routers place router line → AreFixed routers old → AreFixed routers new
-  pub is : (routers : List Router) → IsLineAt routers place router line → AreFixed routers old →
+  pub fixed : (routers : List Router) → IsLineAt routers place router line → AreFixedPolicies routers old → AreFixedPolicies routers new
+  pub is : (routers : List Router) → IsLineAt routers place router line → AreFixedPolicies routers old →
       IsPolicyOf routers new.firsts.items router place.inbound line number
 
 -- an earlier line has the number and names the same map and list, or the line was numbered

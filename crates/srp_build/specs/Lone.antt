@@ -52,12 +52,12 @@ pub record IsMark (shown : Shown) (acts : List BgpAct) (edges : List Edge) (rout
   pub lone : mark.lone ≡ true → HasTwo shown acts edges router
   pub alone : mark.lone ≡ false → (first act : ℕ) → mark.first ≡ Some first → HasEdgeWith edges router act → Agree shown acts first act
 
-pub record AreMarks (shown : Shown) (acts : List BgpAct) (count : ℕ) (edges : List Edge) (marks : List Mark) : Type 0 where
+pub record AreLoneMarks (shown : Shown) (acts : List BgpAct) (count : ℕ) (edges : List Edge) (marks : List Mark) : Type 0 where
   pub total : length marks ≡ count
   pub each : (router : ℕ) (mark : Mark) → slice_get marks router ≡ Some mark → IsMark shown acts edges router mark
 
 -- the routers whose marks say so
 pub record AreLone (shown : Shown) (acts : List BgpAct) (count : ℕ) (edges : List Edge) (lone : List Bool) : Type 0 where
   pub marks : List Mark
-  pub are : AreMarks shown acts count edges marks
+  pub are : AreLoneMarks shown acts count edges marks
   pub read : lone ≡ map (λ (mark : Mark). mark.lone) marks

@@ -11,7 +11,7 @@ use Rattle.srp_build.specs.declared.hops.Hop.{Hop}
 use Rattle.srp_build.specs.declared.imports.ImportByMaps.{ImportByMaps}
 use Rattle.srp_build.specs.declared.met_imports.Met.{Met}
 use Rattle.srp_build.specs.declared.met_imports.MetImports.{MetImports}
-use Rattle.srp_build.specs.BgpActs.{AreListed, IsNewAct}
+use Rattle.srp_build.specs.BgpActs.{AreFoundByNodes, IsNewAct}
 use Rattle.srp_build.specs.Plains.{import_over}
 
 -- acts have the functions of their imports, each accepts something, and no two import alike
@@ -28,17 +28,17 @@ pub record IsActOver (maps : List Plain) (acts : List BgpAct) (import : ImportBy
   pub one : AreOneImport (import_over maps import) (import_over maps act.import)
 
 -- the act of an import, none where it accepts nothing
-abbrev pub IsActFor : List Plain → List BgpAct → ImportByMaps → Option ℕ → Type 0
-IsActFor maps acts import None = AcceptsNone (import_over maps import)
-IsActFor maps acts import (Some number) = IsActOver maps acts import number
+abbrev pub IsActOfImport : List Plain → List BgpAct → ImportByMaps → Option ℕ → Type 0
+IsActOfImport maps acts import None = AcceptsNone (import_over maps import)
+IsActOfImport maps acts import (Some number) = IsActOver maps acts import number
 
 abbrev pub AreMet : List Plain → List BgpAct → List Met → Type 0
-AreMet maps acts met = (place : ℕ) (m : Met) → slice_get met place ≡ Some m → IsActFor maps acts m.import m.act
+AreMet maps acts met = (place : ℕ) (m : Met) → slice_get met place ≡ Some m → IsActOfImport maps acts m.import m.act
 
 -- what the acts of sessions keep
 pub record AreRight (shown : Shown) (maps : List Plain) (table : Acts) (imports : MetImports) : Type 0 where
   pub acts : AreActs shown maps table.acts.items
-  pub listed : AreListed table.by_nodes table.acts.items
+  pub listed : AreFoundByNodes table.by_nodes table.acts.items
   pub met : AreMet maps table.acts.items imports.met.items
 
 -- no act came, or that with the number

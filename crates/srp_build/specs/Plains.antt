@@ -55,7 +55,7 @@ AreNumbersOfLines p router inbound maps lines numbers = (place number : ℕ) →
     IsNumberOfLine p router inbound maps lines place number
 
 -- the numbers of the maps of all lines of a router
-pub record HasNumbers (p : Prefix) (router : Router) (inbound : Bool) (maps : List Plain) (numbers : List ℕ) : Type 0 where
+pub record HasMapNumbers (p : Prefix) (router : Router) (inbound : Bool) (maps : List Plain) (numbers : List ℕ) : Type 0 where
   pub total : length numbers ≡ length (neighbors_of router)
   pub each : AreNumbersOfLines p router inbound maps (neighbors_of router) numbers
 
@@ -64,7 +64,7 @@ abbrev pub HaveNumbers : Prefix → Bool → List Plain → List Router → List
 HaveNumbers p inbound maps [] [] = Unit {0}
 HaveNumbers p inbound maps [] (numbers ∷ table) = ⊥
 HaveNumbers p inbound maps (router ∷ routers) [] = ⊥
-HaveNumbers p inbound maps (router ∷ routers) (numbers ∷ table) = HasNumbers p router inbound maps numbers × HaveNumbers p inbound maps routers table
+HaveNumbers p inbound maps (router ∷ routers) (numbers ∷ table) = HasMapNumbers p router inbound maps numbers × HaveNumbers p inbound maps routers table
 
 -- the number at a place of a router
 abbrev pub number_at : List (List ℕ) → ℕ → ℕ → Option ℕ

@@ -1,7 +1,7 @@
 //! Acts of sessions, found by what they import.
 
 ghost use Rattle.std.specs.Prelude.{◌≡◌, ◌<◌, ◌^◌, [], ◌∷◌, ◌++◌, true, false, None, Some, IfOk, OnOk, IfSome, Contains, length, slice_get};
-ghost use Rattle.srp_build.specs.BgpActs.{nodes_of, AreTwoImports, IsLike, AreUnlike, AreListed, IsActOfFunction, IsNumberFor};
+ghost use Rattle.srp_build.specs.BgpActs.{function_key, AreTwoImports, IsLike, AreUnlike, AreFoundByNodes, IsActOfFunction, IsNumberFor};
 
 use crate::hops::Hop;
 use crate::imports::ImportByMaps;
@@ -56,7 +56,7 @@ fn like_among(store: &Store, acts: &[BgpAct], numbers: &[u32], function: &EdgeFn
 }
 
 fn nodes_of(function: &EdgeFn) -> (u32, u32)
-    ensures { result ≡ nodes_of function.now }
+    ensures { result ≡ function_key function.now }
 {
     let permit = low_half(function.permit.place());
     let rest = low_half(function.rest.place());
@@ -90,9 +90,9 @@ impl Acts {
         import: &ImportByMaps,
         function: EdgeFn,
     ) -> Result<u32, NoMemory>
-        requires listed { AreListed self.old.by_nodes self.old.acts.items }
+        requires listed { AreFoundByNodes self.old.by_nodes self.old.acts.items }
         requires few { length self.old.acts.items < 2 ^ 32 }
-        ensures listed { OnOk result (AreListed self.new.by_nodes self.new.acts.items) }
+        ensures listed { OnOk result (AreFoundByNodes self.new.by_nodes self.new.acts.items) }
         ensures number { IfOk result (IsNumberFor store.now self.old.acts.items self.new.acts.items hop.now import.now function) }
     {
         one_form();
@@ -122,9 +122,9 @@ impl Acts {
         import: &ImportByMaps,
         function: EdgeFn,
     ) -> Result<Option<u32>, NoMemory>
-        requires listed { AreListed self.old.by_nodes self.old.acts.items }
+        requires listed { AreFoundByNodes self.old.by_nodes self.old.acts.items }
         requires few { length self.old.acts.items < 2 ^ 32 }
-        ensures listed { OnOk result (AreListed self.new.by_nodes self.new.acts.items) }
+        ensures listed { OnOk result (AreFoundByNodes self.new.by_nodes self.new.acts.items) }
         ensures act { IfOk result (IsActOfFunction store.now self.old.acts.items self.new.acts.items hop.now import.now function) }
     {
         if !accepts_some(store, &function) {

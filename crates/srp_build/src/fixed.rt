@@ -4,7 +4,7 @@ ghost use Rattle.std.specs.Prelude.{◌≡◌, true, is_none};
 ghost use Rattle.std.specs.List.{list_all};
 ghost use Rattle.cfg_ast.specs.declared.policy.MapEntry.{MapEntry};
 ghost use Rattle.specialize.specs.Places.{ArePlacesOfRouter};
-ghost use Rattle.srp_build.specs.LinePolicies.{IsFixed, names_no_list};
+ghost use Rattle.srp_build.specs.LinePolicies.{IsSameForEachPrefix, names_no_list};
 
 use crate::lines::{list_named, map_named};
 use base_kit::Text;
@@ -31,7 +31,7 @@ fn names_no_list(router: &Router, places: &Places, name: &Text) -> bool
 /// names a prefix list.
 pub fn is_fixed(router: &Router, places: &Places, inbound: bool, line: &Neighbor) -> bool
     requires { ArePlacesOfRouter router.now places.now }
-    ensures { result ≡ true → IsFixed router.now inbound line.now }
+    ensures { result ≡ true → IsSameForEachPrefix router.now inbound line.now }
 {
     if list_named(inbound, line).is_some() {
         return false;

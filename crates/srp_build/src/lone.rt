@@ -2,7 +2,7 @@
 
 ghost use Rattle.std.specs.Prelude.{◌≡◌, ◌<◌, true, false, All, IfOk, IfSome, length, map};
 ghost use Rattle.base_kit.specs.declared.act_graph.Edge.{Edge as AnEdge};
-ghost use Rattle.srp_build.specs.Lone.{Differ, Agree, IsNextMark, AreMarks, AreLone};
+ghost use Rattle.srp_build.specs.Lone.{Differ, Agree, IsNextMark, AreLoneMarks, AreLone};
 
 use crate::acts::BgpAct;
 use base_kit::{Edge, List, NoMemory};
@@ -63,7 +63,7 @@ fn marks_of(
 ) -> Result<Vec<Mark>, NoMemory>
     requires importers { All (λ (edge : AnEdge). edge.importer < count) edges.now }
     requires acts { All (λ (edge : AnEdge). edge.act < length acts.now) edges.now }
-    ensures { IfOk result (λ marks. AreMarks store.now acts.now count edges.now marks.items) }
+    ensures { IfOk result (λ marks. AreLoneMarks store.now acts.now count edges.now marks.items) }
 {
     let none = Mark {
         first: None,

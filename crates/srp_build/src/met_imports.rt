@@ -2,7 +2,7 @@
 
 ghost use Rattle.std.specs.Prelude.{◌≡◌, ◌<◌, ◌^◌, [], ◌∷◌, ◌++◌, true, IfOk, OnOk, IfSome, Contains, length};
 ghost use Rattle.dd_core.specs.Sets.{Grows};
-ghost use Rattle.srp_build.specs.MetImports.{AreRight, IsActFor, IsMaybeNew, AreMapsWithin};
+ghost use Rattle.srp_build.specs.MetImports.{AreRight, IsActOfImport, IsMaybeNew, AreMapsWithin};
 
 use crate::acts::Acts;
 use crate::hops::Hop;
@@ -124,7 +124,7 @@ pub fn act_of_import(
     requires few { length acts.old.acts.items < 2 ^ 32 }
     ensures grows { Grows store.old store.new }
     ensures right { OnOk result (AreRight store.new maps.now acts.new imports.new) }
-    ensures act { IfOk result (IsActFor maps.now acts.new.acts.items import.now) }
+    ensures act { IfOk result (IsActOfImport maps.now acts.new.acts.items import.now) }
     ensures came { IfOk result (IsMaybeNew acts.old.acts.items acts.new.acts.items hop.now import.now) }
 {
     edge_kept();

@@ -3,7 +3,7 @@
 ghost use Rattle.std.specs.Prelude.{◌≡◌, ◌<◌, [], Some, IfOk, OnOk, length, slice_get};
 ghost use Rattle.cfg_ast.specs.declared.network.Router.{Router};
 ghost use Rattle.specialize.specs.Places.{ArePlacesOfRouter};
-ghost use Rattle.srp_build.specs.LinePolicies.{AreFixed, AreLinePolicies, HasPolicies, HavePolicies, IsFixedPolicy, IsPolicyNumber, IsNewPolicy, IsSeenOrNumbered, PoliciesKept};
+ghost use Rattle.srp_build.specs.LinePolicies.{AreFixedPolicies, AreLinePolicies, HasPolicies, HavePolicies, IsFixedPolicy, IsPolicyNumber, IsNewPolicy, IsSeenOrNumbered, PoliciesKept};
 ghost use Rattle.srp_build.specs.ListPlaces.{HavePlaces};
 
 use crate::fixed::is_fixed;
@@ -145,8 +145,8 @@ fn policies_of_router(
 ) -> Result<List<usize>, NoMemory>
     requires places { HavePlaces routers.now places.now }
     requires inside { at < length routers.now }
-    requires fixed { AreFixed routers.now table.old }
-    ensures fixed { OnOk result (AreFixed routers.now table.new) }
+    requires fixed { AreFixedPolicies routers.now table.old }
+    ensures fixed { OnOk result (AreFixedPolicies routers.now table.new) }
     ensures kept { OnOk result (PoliciesKept table.old.firsts.items table.new.firsts.items) }
     ensures policies { IfOk result (λ numbers. (router : Router) → slice_get routers.now at ≡ Some router → HasPolicies routers.now router inbound table.new.firsts.items numbers) }
 {
@@ -182,8 +182,8 @@ fn policies_by_router(
     inbound: bool,
 ) -> Result<List<List<usize>>, NoMemory>
     requires places { HavePlaces routers.now places.now }
-    requires fixed { AreFixed routers.now table.old }
-    ensures fixed { OnOk result (AreFixed routers.now table.new) }
+    requires fixed { AreFixedPolicies routers.now table.old }
+    ensures fixed { OnOk result (AreFixedPolicies routers.now table.new) }
     ensures kept { OnOk result (PoliciesKept table.old.firsts.items table.new.firsts.items) }
     ensures policies { IfOk result (HavePolicies routers.now inbound table.new.firsts.items routers.now) }
 {

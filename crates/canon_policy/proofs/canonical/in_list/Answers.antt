@@ -4,7 +4,7 @@ use Rattle.canon_policy.specs.declared.parts.Nodes.{Nodes}
 use Rattle.canon_policy.specs.Fixings.{nothing_fixed}
 use Rattle.canon_policy.specs.Functions.{on_sets}
 use Rattle.canon_policy.specs.Made.{asked_of}
-use Rattle.canon_policy.specs.Nodes.{AreNodesInside, AreNodesOf}
+use Rattle.canon_policy.specs.Nodes.{AreFunctionNodesInside, AreNodesOf}
 use Rattle.canon_policy.proofs.Asked.{in_inside, in_told, asked_hangs, other_carried}
 use Rattle.canon_policy.proofs.CanonLists.{refused, form_kept, in_back}
 use Rattle.canon_policy.proofs.Limits.{in_over}
@@ -12,7 +12,7 @@ use Rattle.canon_policy.proofs.canonical.in_list.Goals as goal
 
 pub settled_fixings-requires : goal.settled_fixings-requires
 settled_fixings-requires c =
-    subst (λ (n : Nodes). AreNodesInside c.args.store.now n) (sym c.in_ok-nodes.ensures)
+    subst (λ (n : Nodes). AreFunctionNodesInside c.args.store.now n) (sym c.in_ok-nodes.ensures)
     (in_inside c.args.store.now c.len-known.ensures.shown c.args.edge.now c.requires.import c.requires.means)
 
 pub in_list_of-requires : goal.in_list_of-requires

@@ -5,7 +5,7 @@ use Rattle.canon_policy.specs.Canonical.{out_asked}
 use Rattle.canon_policy.specs.Fixings.{nothing_fixed}
 use Rattle.canon_policy.specs.Functions.{on_sets}
 use Rattle.canon_policy.specs.Made.{has_no_count}
-use Rattle.canon_policy.specs.Nodes.{AreNodesInside, AreNodesOf}
+use Rattle.canon_policy.specs.Nodes.{AreFunctionNodesInside, AreNodesOf}
 use Rattle.canon_policy.proofs.Asked.{out_inside, out_told}
 use Rattle.canon_policy.proofs.CanonLists.{refused, form_kept, out_back}
 use Rattle.canon_policy.proofs.Limits.{out_over, out_passing}
@@ -14,7 +14,7 @@ use Rattle.canon_policy.proofs.canonical.out_list.Goals as goal
 
 pub settled_fixings-requires : goal.settled_fixings-requires
 settled_fixings-requires c =
-    subst (λ (n : Nodes). AreNodesInside c.args.store.now n) (sym c.in_ok-nodes.ensures)
+    subst (λ (n : Nodes). AreFunctionNodesInside c.args.store.now n) (sym c.in_ok-nodes.ensures)
     (out_inside c.args.store.now c.len-known.ensures.shown c.args.edge.now c.requires.import c.requires.means)
 
 pub out_list_of-requires : goal.out_list_of-requires

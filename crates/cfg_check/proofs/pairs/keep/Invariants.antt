@@ -1,8 +1,8 @@
 use Rattle.std.proofs.Common.{◌≡◌, ◌++◌, take, filter, ℕ}
-use Rattle.buckets.specs.Buckets.{bucket, is_at}
+use Rattle.buckets.specs.Buckets.{bucket, is_at_pair}
 use Rattle.cfg_check.specs.Pairs.{subnet_pair}
 use Rattle.cfg_check.proofs.pairs.keep.Given as goal
 
 abbrev pub invariant-loop-address : goal.invariant-loop-address
 invariant-loop-address l = (pair : ℕ × ℕ) → bucket l.seen pair ≡ bucket l.initial.seen pair
-    ++ filter (is_at subnet_pair pair) (take l.address-index l.addresses)
+    ++ filter (is_at_pair subnet_pair pair) (take l.address-index l.addresses)

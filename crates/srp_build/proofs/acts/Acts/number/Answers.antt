@@ -1,7 +1,7 @@
 use Rattle.std.proofs.Common.{◌≡◌, ℕ, List, length, inr, refl, sym, ◌∙◌, ap, subst, arith}
 use Rattle.buckets.specs.Buckets.{bucket, PushesAt}
 use Rattle.srp_build.specs.declared.acts.BgpAct.{BgpAct}
-use Rattle.srp_build.specs.BgpActs.{nodes_of, AreUnlike, AreListed}
+use Rattle.srp_build.specs.BgpActs.{function_key, AreUnlike, AreFoundByNodes}
 use Rattle.srp_build.proofs.ActTables.{listed_next, unlike_all}
 use Rattle.srp_build.proofs.acts.Acts.number.Goals as goal
 
@@ -12,7 +12,7 @@ returns-clause-listed c =
     let pushes = subst (λ (q : ℕ × ℕ). PushesAt c.args.self.now.by_nodes c.push_at.new.index q c.number_of-number.result) nodes c.in_ok-push_at.ensures in
     let ok = c.args.self.now.acts.ok in
     let next : c.number_of-number.result ≡ length c.args.self.now.acts.items = omega (arith, c.number_of-number.ensures ∙ c.len.ensures) in
-    subst (λ (l : List BgpAct). AreListed c.push_at.new.index l) (sym c.in_ok-push.ensures.items)
+    subst (λ (l : List BgpAct). AreFoundByNodes c.push_at.new.index l) (sym c.in_ok-push.ensures.items)
     (listed_next c.args.self.now.by_nodes c.push_at.new.index c.args.self.now.acts.items act c.number_of-number.result c.requires.listed next pushes)
 
 pub returns-clause-number : goal.returns-clause-number
@@ -22,7 +22,7 @@ returns-clause-number c =
     let found = c.like_among.ensures.none c.in_default.is in
     let among = subst (λ (ns : List ℕ). AreUnlike c.args.store.now c.deref.result.now ns c.args.function)
         (c.items_at-numbers.ensures ∙ ap (bucket c.args.self.now.by_nodes) nodes) found in
-    let unlike = subst (λ (l : List BgpAct). AreUnlike c.args.store.now l (bucket c.args.self.now.by_nodes (nodes_of c.args.function)) c.args.function)
+    let unlike = subst (λ (l : List BgpAct). AreUnlike c.args.store.now l (bucket c.args.self.now.by_nodes (function_key c.args.function)) c.args.function)
         c.deref.ensures.value among in
     let ok = c.args.self.now.acts.ok in
     let next : c.number_of-number.result ≡ length c.args.self.now.acts.items = omega (arith, c.number_of-number.ensures ∙ c.len.ensures) in

@@ -5,7 +5,7 @@ use Rattle.srp_build.specs.declared.imports.ImportByMaps.{ImportByMaps}
 use Rattle.srp_build.specs.BgpEdges.{import_at, started, denied}
 use Rattle.srp_build.specs.LineMaps.{with_maps}
 use Rattle.srp_build.specs.Plains.{import_over}
-use Rattle.srp_build.specs.MetImports.{IsActFor, IsActOver, IsMaybeNew}
+use Rattle.srp_build.specs.MetImports.{IsActOfImport, IsActOver, IsMaybeNew}
 use Rattle.srp_build.proofs.ImportSteps.{one_more}
 use Rattle.srp_build.proofs.bgp_edges.BgpEdges.take.Goals as goal
 
@@ -30,7 +30,7 @@ returns-in_default-clause-takes c = λ routers lines is.
     let same : import ≡ with_maps c.args.maps.now.numbers.items c.args.import.now = c.with_maps-import.ensures
         ∙ ap (λ (l : List ℕ). with_maps l c.args.import.now) c.deref.ensures.value in
     let import_is : import_at routers lines hop ≡ Some import = is.is ∙ ap (λ (s : ImportByMaps). Some s) (sym same) in
-    let none = subst (λ (o : Option ℕ). IsActFor c.deref-2.result.now acts import o) c.in_default.is c.in_ok-act.ensures.act in
+    let none = subst (λ (o : Option ℕ). IsActOfImport c.deref-2.result.now acts import o) c.in_default.is c.in_ok-act.ensures.act in
     let came = subst (λ (o : Option ℕ). IsMaybeNew c.args.self.now.acts.acts.items acts hop import o) c.in_default.is c.in_ok-act.ensures.came in
     inl (record { left = denied import import_is (subst (λ (m : List Plain). AcceptsNone (import_over m import)) (c.deref-2.ensures.value ∙ is.maps_are) none);
         acts = came; edges = refl })
@@ -43,7 +43,7 @@ returns-clause-takes c = λ routers lines is.
     let same : import ≡ with_maps c.args.maps.now.numbers.items c.args.import.now = c.with_maps-import.ensures
         ∙ ap (λ (l : List ℕ). with_maps l c.args.import.now) c.deref.ensures.value in
     let import_is : import_at routers lines hop ≡ Some import = is.is ∙ ap (λ (s : ImportByMaps). Some s) (sym same) in
-    let act = subst (λ (o : Option ℕ). IsActFor c.deref-2.result.now acts import o) c.in-Some.is c.in_ok-act.ensures.act in
+    let act = subst (λ (o : Option ℕ). IsActOfImport c.deref-2.result.now acts import o) c.in-Some.is c.in_ok-act.ensures.act in
     let came = subst (λ (o : Option ℕ). IsMaybeNew c.args.self.now.acts.acts.items acts hop import o) c.in-Some.is c.in_ok-act.ensures.came in
     inr (record {
       number = c.in-Some.act;
