@@ -7,6 +7,7 @@ use Rattle.std.proofs.lemmas.Bool.{cases_eq, cases_lt}
 use Rattle.std.proofs.lemmas.List.{length-set, get_or-set_same, get_or-set_other, get_or-replicate, get_or_past, length-replicate}
 use Rattle.base_kit.specs.declared.act_graph.Edge.{Edge}
 use Rattle.base_kit.proofs.Elements.{In, contains_in, in_contains, in_left, in_right}
+use Rattle.dd_core.specs.Marks.{is_marked}
 use Rattle.srp_core.specs.declared.route.Act.{Act}
 use Rattle.srp_core.specs.declared.route.Act.TheVariants.{Cost}
 use Rattle.srp_core.specs.Problem.{Problem, act_of}
@@ -14,7 +15,7 @@ use Rattle.canon_policy.specs.CanonicalProblem.{canonical_act, has_canonical, Is
 use Rattle.srp_core.specs.ActMaps.{IsPrintableAct, IsActWithin}
 use Rattle.canon_policy.specs.declared.problem.CanonSrpRefusal.{CanonSrpRefusal}
 use Rattle.canon_policy.specs.declared.problem.CanonSrpRefusal.TheVariants.{NoCanon, Memory}
-use Rattle.canon_policy.specs.MadeActs.{act_at_place, is_marked, IsActFor, AreCanonicalActs, AreCanonicalActsOr, IsActSoFar, AreActsSoFar, IsRefusedAtFirst}
+use Rattle.canon_policy.specs.MadeActs.{act_at_place, IsActFor, AreCanonicalActs, AreCanonicalActsOr, IsActSoFar, AreActsSoFar, IsRefusedAtFirst}
 use Rattle.canon_policy.specs.MadeActs.IsActSoFar.{is_done, not_done}
 use Rattle.canon_policy.proofs.ActsMade.{same_act}
 use Rattle.canon_policy.proofs.Printed.{pick, all_from}
@@ -107,7 +108,8 @@ module _ (universe : List ℕ) (problem : Problem) where
           not_done (get_or-set_other done edge.act place true false other ∙ marked)
           (get_or-set_other acts edge.act place new (Cost 0) other ∙ same)
 
-      each_put : IsActFor universe (act_at_place problem.acts edge.act) new → (place : ℕ) → place < length problem.acts → (place ≡ edge.act) ⊎ (place ≢ edge.act)
+      each_put : IsActFor universe (act_at_place problem.acts edge.act) new → (place : ℕ) → place < length problem.acts → (place ≡ edge.act)
+          ⊎ (place ≢ edge.act)
           → IsActFor universe (act_at_place problem.acts place) (act_at_place (set acts edge.act new) place)
       each_put instead place lt (inl same) =
           subst (λ p. IsActFor universe (act_at_place problem.acts p) (act_at_place (set acts edge.act new) p)) (sym same)

@@ -181,7 +181,8 @@ agree_at shown [] a b node all h = absurd h
 agree_at shown (n ∷ ns) a b node all (inl same) = ap (value_of shown a) (sym same) ∙ all.0 ∙ ap (value_of shown b) same
 agree_at shown (n ∷ ns) a b node all (inr h) = agree_at shown ns a b node all.1 h
 
-pub told_hang : (shown : Shown) (nodes : List ℕ) (part : List ℕ → ℕ) → NumberHangsOn shown.universe part → NodesTellPart shown nodes part → NodesHang shown nodes
+pub told_hang : (shown : Shown) (nodes : List ℕ) (part : List ℕ → ℕ) → NumberHangsOn shown.universe part → NodesTellPart shown nodes part
+    → NodesHang shown nodes
 told_hang shown nodes part hangs tells = record {
   each = λ node h. record { same = λ a b same. agree_at shown nodes a b node (tells.apart a b (hangs.same a b same)) h };
 }

@@ -48,7 +48,8 @@ agree_before old new grows [] a b all agree = tt
 agree_before old new grows (n ∷ ns) a b all agree = (sym (value_of_kept old new a n grows all.0) ∙ agree.0 ∙ value_of_kept old new b n grows all.0,
     agree_before old new grows ns a b all.1 agree.1)
 
-pub tells_kept : (old new : Shown) → Grows old new → (nodes : List ℕ) (part : List ℕ → ℕ) → AreInside old nodes → NodesTellPart old nodes part → NodesTellPart new nodes part
+pub tells_kept : (old new : Shown) → Grows old new → (nodes : List ℕ) (part : List ℕ → ℕ) → AreInside old nodes → NodesTellPart old nodes part
+    → NodesTellPart new nodes part
 tells_kept old new grows nodes part all tells = record {
   same = λ a b agree. tells.same a b (agree_before old new grows nodes a b all agree);
   apart = λ a b e. agree_kept old new grows nodes a b all (tells.apart a b e);

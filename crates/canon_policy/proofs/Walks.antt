@@ -130,7 +130,8 @@ parts_inside old new grows alone (n ∷ ns) [] inside are = absurd are
 parts_inside old new grows alone (n ∷ ns) (m ∷ ms) inside are =
     (part_inside old new grows alone n m inside.0 are.0, parts_inside old new grows alone ns ms inside.1 are.1)
 
-pub fixed_inside : (old new : Shown) → Grows old new → (alone : Fixing) (nodes made : Nodes) → AreFunctionNodesInside old nodes → AreNodesFixed old new alone nodes made
+pub fixed_inside : (old new : Shown) → Grows old new → (alone : Fixing) (nodes made : Nodes) → AreFunctionNodesInside old nodes
+    → AreNodesFixed old new alone nodes made
     → AreFunctionNodesInside new made
 fixed_inside old new grows alone nodes made inside are = record {
   permit = are.permit.inside;
@@ -264,7 +265,8 @@ first_over old xs ys e = rw (← append_assoc old xs ys) (over_more (old ++ xs) 
 
 -- a branch
 pub branch_walked : (old mid new : Shown) → Grows old mid → Grows mid new → (nodes made : Nodes) (fixing alone alone' both both' : Fixing) → alone ≡ alone'
-    → both ≡ both' → Join fixing alone' both' → (asked : Asked) → AskedHangsOn old.universe asked → AreFunctionNodesInside old nodes → AreNodesOf old fixing nodes asked
+    → both ≡ both' → Join fixing alone' both' → (asked : Asked) → AskedHangsOn old.universe asked → AreFunctionNodesInside old nodes
+        → AreNodesOf old fixing nodes asked
         → AreNodesFixed mid new alone nodes made
     → (less : ℕ) (found more : List Fixing) (r : Result (Unit {0}) CanonRefusal)
         → ((a : Asked) → AskedHangsOn new.universe a → AreNodesOf new both made a → IsWalked found more r (settled less (split new.universe a) both))

@@ -5,6 +5,7 @@ use Rattle.base_kit.specs.declared.act_graph.Edge.{Edge}
 use Rattle.base_kit.specs.declared.protocol.Protocol.{Protocol}
 use Rattle.srp_core.specs.declared.route.Act.{Act}
 use Rattle.srp_core.specs.declared.route.Act.TheVariants.{Cost}
+use Rattle.dd_core.specs.Marks.{is_marked}
 use Rattle.srp_core.specs.Acts.{ActsAlike, IsActOf}
 use Rattle.canon_policy.specs.declared.lists.CanonRefusal.{CanonRefusal}
 use Rattle.canon_policy.specs.declared.lists.CanonRefusal.TheVariants as canon_refusal
@@ -51,10 +52,6 @@ abbrev pub IsRefusedAtFirst : List ℕ → Problem → Result (Unit {0}) CanonSr
 IsRefusedAtFirst universe problem (Ok done) = Unit {0}
 IsRefusedAtFirst universe problem (Err (canon_srp_refusal.NoCanon place)) = IsFirstWithout universe problem place
 IsRefusedAtFirst universe problem (Err canon_srp_refusal.Memory) = Unit {0}
-
--- whether a place is marked as done
-abbrev pub is_marked : List Bool → ℕ → Bool
-is_marked done place = slice_index_or done place false
 
 -- the act at a place: the canonical one, where one of the edges has it, and else the old one
 pub data IsActSoFar (universe : List ℕ) (problem : Problem) (edges : List Edge) (acts : List Act) (done : List Bool) (place : ℕ) : Type 0 where

@@ -72,7 +72,8 @@ module _ {E : Type 0} (number : E → ℕ) where
       let parts = both (nat_lt (number x) wanted) (are_below number xs wanted) below in
       rw (other (number x) wanted parts.0, none_if_below xs wanted parts.1) refl
 
-  pub has_last : (xs : List E) (e : E) (wanted : ℕ) → has_entry_numbered number (xs ++ e ∷ []) wanted ≡ (has_entry_numbered number xs wanted || nat_eq (number e) wanted)
+  pub has_last : (xs : List E) (e : E) (wanted : ℕ) → has_entry_numbered number (xs ++ e ∷ []) wanted
+      ≡ (has_entry_numbered number xs wanted || nat_eq (number e) wanted)
   has_last xs e wanted = list_any-append (λ x. nat_eq (number x) wanted) xs (e ∷ [])
       ∙ ap (λ b. has_entry_numbered number xs wanted || b) (or_none (nat_eq (number e) wanted))
     where

@@ -196,7 +196,8 @@ end_with ups s t far (Some near) h e f g =
       beside_far = sym (one_attachment (beside s.router far) near.at found.1);
     }
 
-end_of : (ups : List Up) (s t : Peer) (o : Option Up) → last_with nat_eq addr_of ups s.addr ≡ o → is_end_of (option_and_then (end_from ups s.router) o) t ≡ true →
+end_of : (ups : List Up) (s t : Peer) (o : Option Up) → last_with nat_eq addr_of ups s.addr ≡ o
+    → is_end_of (option_and_then (end_from ups s.router) o) t ≡ true →
     IsEnd ups s t
 end_of ups s t None e g = cc
 end_of ups s t (Some far) e g =

@@ -122,7 +122,8 @@ pub no_peer_in : (p : Place Neighbor) (o : Option BgpProcess) (number : ℕ) →
 no_peer_in p None number e = and_false (not p.value.shut)
 no_peer_in p (Some process) number e = closed p.value.shut process number (made p process) e
 
-peers_indexed : (routers : List Router) → AreApart (ups_of routers) → IsIndexed (IsPlace routers) peer_at_place is_session (is_reached routers) is_later_peer peer_link
+peers_indexed : (routers : List Router) → AreApart (ups_of routers)
+    → IsIndexed (IsPlace routers) peer_at_place is_session (is_reached routers) is_later_peer peer_link
 peers_indexed routers apart = record {
   left = λ p q e. shut_left p.router q.router p.value.shut q.value.shut (has_number q.owner p.value.remote) (has_number p.owner q.value.remote)
       (share_subnet p.owner q.value.addr q.owner p.value.addr) (no_peer_in p p.owner.bgp q.value.remote e);

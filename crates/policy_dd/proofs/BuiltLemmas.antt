@@ -249,7 +249,8 @@ module _ (shown : Shown) (edge : EdgeFn) (out : Plain) (sends : Bool) (into : Pl
       (second_deciding shown.universe out.entries sends into.entries (has set) (has_others shown.universe set)) (has set) r → ImportIs shown edge set r
   to_import set None given = built.permit set ∙ given
   to_import set (Some i) given =
-      let ok : both_permit shown.universe out.entries sends into.entries (has set) (has_others shown.universe set) ≡ true = rw (given.first, given.second) refl in
+      let ok : both_permit shown.universe out.entries sends into.entries (has set) (has_others shown.universe set) ≡ true =
+          rw (given.first, given.second) refl in
       record {
         permit = built.permit set ∙ ok;
         lp = built.lps set i.lp ∙ rw (given.first, given.lp) refl;

@@ -50,7 +50,8 @@ decides_append h [] ys = refl
 decides_append h (x ∷ xs) ys = decide_cases (h x) (list_any h xs) x.permit (first_line_decides h (xs ++ ys)) (first_line_decides h xs) (first_line_decides h ys)
     (decides_append h xs ys)
 
-pub decision_inside : (old new : Shown) (carried : Carried) (lines : List CommunityLine) (d : Decision) → IsDecision old new carried lines d → IsDecisionInside new d
+pub decision_inside : (old new : Shown) (carried : Carried) (lines : List CommunityLine) (d : Decision) → IsDecision old new carried lines d
+    → IsDecisionInside new d
 decision_inside old new carried lines d is = record { holds = is.holds.inside; permits = is.permits.inside }
 
 pub inside_later : (old new : Shown) (d : Decision) → Grows old new → IsDecisionInside old d → IsDecisionInside new d

@@ -46,7 +46,8 @@ has_base : (b : BgpProcess) (x : Base) (p : StanzaPart) → bgp_has (record b { 
 has_base b x preference = refl
 has_base b x _ = refl
 
-has_net : (b : BgpProcess) (x : NetLine) (p : StanzaPart) → bgp_has (record b { networks = b.networks ++ x ∷ [] }) p ≡ (same_part (network x.prefix) p || bgp_has b p)
+has_net : (b : BgpProcess) (x : NetLine) (p : StanzaPart) → bgp_has (record b { networks = b.networks ++ x ∷ [] }) p
+    ≡ (same_part (network x.prefix) p || bgp_has b p)
 unfolding has_network
 has_net b x (network q) = any_push (λ (net : NetLine). same_prefix net.prefix q) b.networks x
 has_net b x _ = refl
@@ -103,7 +104,8 @@ peer_case : (past : List TextLine) (l : TextLine) (s : State) (b : BgpProcess) (
     → take_inner l (in_bgp b) ≡ ((at_neighbor l.number addr (set_neighbor l.number said) b.neighbors >>=
     (λ (ps : List Neighbor). Ok (record b { neighbors = ps }))) >>= (λ (d : BgpProcess). Ok (in_bgp d)))
     → Changes l.number (set_neighbor l.number said) test put
-    → (has_neighbor b.neighbors addr ≡ true → (p : StanzaPart) → bgp_has (record b { neighbors = put_at addr put b.neighbors }) p ≡ (adds_part o p || bgp_has b p))
+    → (has_neighbor b.neighbors addr ≡ true → (p : StanzaPart)
+        → bgp_has (record b { neighbors = put_at addr put b.neighbors }) p ≡ (adds_part o p || bgp_has b p))
     → repeated past l.number (of bgp o) ≡ when (peer_has test b.neighbors addr) (refusal.At l.number kind.Repeated)
     → (c : Bool) → has_neighbor b.neighbors addr ≡ c → Outcome past l s
 peer_case past l s b addr o said test put w told takes changes adds again false has =

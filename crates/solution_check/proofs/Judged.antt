@@ -118,7 +118,8 @@ module _ (P : Problem) (L : List (Option Route)) (u : ℕ) (own : List Edge) (ar
       let f = any_in (beats_label P r) (routes_of P L u own) some in
       record { route = r; labelled = e; candidate = f.0; is_candidate = candidate_of f.0 f.1; beats = is_less (compare_keys (key_of P f.0) (key_of P r)) f.2 }
 
-  pub not_beaten : (r c : Route) → list_any (beats_label P r) (routes_of P L u own) ≡ false → IsCandidate P L u c → compare_keys (key_of P c) (key_of P r) ≢ Less
+  pub not_beaten : (r c : Route) → list_any (beats_label P r) (routes_of P L u own) ≡ false → IsCandidate P L u c
+      → compare_keys (key_of P c) (key_of P r) ≢ Less
   not_beaten r c none is less = true≢false (sym (ap is_lt less) ∙ none_in (beats_label P r) (routes_of P L u own) c none (listed c is))
 
   pub has_one : label L u ≡ None → list_any always (routes_of P L u own) ≡ true → LacksLabel P L u
@@ -137,7 +138,8 @@ module _ (P : Problem) (L : List (Option Route)) (u : ℕ) (own : List Edge) (ar
   one_label : (r s : Route) → label L u ≡ Some r → label L u ≡ Some s → r ≡ s
   one_label r s e e' = cc
 
-  pub fine_with : (r : Route) → label L u ≡ Some r → list_any (is_label r) (routes_of P L u own) ≡ true → list_any (beats_label P r) (routes_of P L u own) ≡ false →
+  pub fine_with : (r : Route) → label L u ≡ Some r → list_any (is_label r) (routes_of P L u own) ≡ true
+      → list_any (beats_label P r) (routes_of P L u own) ≡ false →
       HoldsBest P L u
   fine_with r e some none = record {
     none = λ c e'. absurd (let x : Some r ≡ None = sym e ∙ e' in cc);

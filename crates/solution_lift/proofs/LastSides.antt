@@ -55,7 +55,8 @@ pairs (m ∷ links) l g h all each =
     kept (same_group_pair l m) ∙ (λ i. cons_option (each m (All-head (λ (k : QLink). k.low < k.high) m links all) i)
     (pairs links l g h (All-tail (λ (k : QLink). k.low < k.high) m links all) each i))
   where
-    kept : (b : Bool) → filter_map (side_of g) (cond b (m ∷ filter (same_group_pair l) links) (filter (same_group_pair l) links)) ≡ cons_option (cond b (side_of g m) None)
+    kept : (b : Bool) → filter_map (side_of g) (cond b (m ∷ filter (same_group_pair l) links) (filter (same_group_pair l) links))
+        ≡ cons_option (cond b (side_of g m) None)
         (filter_map (side_of g) (filter (same_group_pair l) links))
     kept true = refl
     kept false = refl

@@ -32,7 +32,8 @@ pub answer_fault : (protocol : Protocol) (place_of : List ℕ → Option ℕ) (e
 unfolding answer_from
 answer_fault protocol place_of end l ls s e is = ap (λ (r : Result LabelsSoFar SolRefusal). continue_with r (answer_from protocol place_of end ls)) is
 
-pub answer_done : (protocol : Protocol) (place_of : List ℕ → Option ℕ) (end : ℕ) (s : LabelsSoFar) → answer_from protocol place_of end [] s ≡ labels_at_end end s
+pub answer_done : (protocol : Protocol) (place_of : List ℕ → Option ℕ) (end : ℕ) (s : LabelsSoFar)
+    → answer_from protocol place_of end [] s ≡ labels_at_end end s
 unfolding answer_from
 answer_done protocol place_of end s = refl
 
@@ -376,7 +377,8 @@ module _ (protocol : Protocol) (names : List (List ℕ)) (apart : AreApart names
 
   agrees_said : (l : TextLine) (ls : List TextLine) → Agrees ls → (says : List NamedLabel) (earlier : List (List ℕ)) (st : LabelsSoFar) → IsOf says names st →
       AreEarlier says earlier → (o : Option NamedLabel) → named_label_of l.words ≡ o
-      → continue_with (with_named_label protocol place_of l.number st o) (answer_from protocol place_of end ls) ≡ judged_from says earlier (l ∷ filter has_words ls)
+      → continue_with (with_named_label protocol place_of l.number st o) (answer_from protocol place_of end ls)
+          ≡ judged_from says earlier (l ∷ filter has_words ls)
   agrees_said l ls rest says earlier st is are None e = sym (fault_first says earlier l (filter has_words ls) BadForm (ap (kind_of protocol names earlier) e))
   agrees_said l ls rest says earlier st is are (Some s) e =
       ap (λ (p : Option ℕ). continue_with (with_place protocol l.number st s.label p) (answer_from protocol place_of end ls)) (is_place s.name)

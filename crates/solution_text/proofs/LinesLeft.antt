@@ -18,7 +18,8 @@ use Rattle.solution_text.specs.Solutions.{is_foreign}
 use Rattle.solution_text.specs.Steps.{LabelsSoFar, has_line, with_label_at, with_label, with_place, with_named_label, with_words, labels_at_end, answer_from}
 use Rattle.solution_text.proofs.Judging.{answer_next, answer_fault, answer_done, named_at}
 
-module _ (protocol : Protocol) (place_of : List ℕ → Option ℕ) (last : ℕ) (bs : List ℕ) (n from end upto : ℕ) (cut : Cut bs from end upto) (s : LabelsSoFar) where
+module _ (protocol : Protocol) (place_of : List ℕ → Option ℕ) (last : ℕ) (bs : List ℕ) (n from end upto : ℕ)
+    (cut : Cut bs from end upto) (s : LabelsSoFar) where
   said_words : (r : Result LabelsSoFar SolRefusal) → with_words protocol place_of n s (words_of (slice_range bs from upto)) ≡ r →
       with_words protocol place_of n s (texts bs (words_between bs from upto)) ≡ r
   said_words r e = ap (with_words protocol place_of n s) (same_words bs from upto cut.front cut.short) ∙ e

@@ -160,7 +160,8 @@ came_fixed old new more first plain place number firsts next policies maps is gr
           λ p. same_says (map_of_place p routers first) plain (always p);
     }
 
-    put_last : (routers : List Router) → AreFixedPolicies routers old → IsGrownBy old.fixed.maps.items more plain place → more ≡ old.fixed.maps.items ++ plain ∷ []
+    put_last : (routers : List Router) → AreFixedPolicies routers old → IsGrownBy old.fixed.maps.items more plain place
+        → more ≡ old.fixed.maps.items ++ plain ∷ []
     put_last routers are (inl same) = absurd
         (some_within old.policies.items place (let a = within_get more place is.other is.at in let b = ap (λ (l : List Plain). length l) same in let c =
         are.total in omega arith) missing)

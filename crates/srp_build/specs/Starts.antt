@@ -19,7 +19,8 @@ origins_behind place (origin ∷ origins) = if nat_eq origin.router place then o
 -- the initial routes of routers from a place on, by their origins in order
 abbrev pub starts_from : ℕ → List Origin → List Router → List (Option Route)
 starts_from place origins [] = []
-starts_from place origins (router ∷ routers) = option_map (route_from router) (first_cost_at place origins) ∷ starts_from (place + 1) (origins_behind place origins) routers
+starts_from place origins (router ∷ routers) =
+    option_map (route_from router) (first_cost_at place origins) ∷ starts_from (place + 1) (origins_behind place origins) routers
 
 -- no router is lone
 abbrev pub none_lone : List Router → List Bool

@@ -5,5 +5,5 @@ use Rattle.net_topology.specs.Peers.{peer_at_place}
 use Rattle.net_topology.proofs.peers.push_peers.Given as goal
 
 abbrev pub invariant-loop-i : goal.invariant-loop-i
-invariant-loop-i l = l.found.items ++ filter_map peer_at_place (map (place_on l.router l.owner) (enumerate_from l.i (drop l.i l.neighbors))) ≡ l.initial.found.items
-    ++ filter_map peer_at_place (map (place_on l.router l.owner) (enumerate_from 0 l.neighbors))
+invariant-loop-i l = l.found.items ++ filter_map peer_at_place (map (place_on l.router l.owner) (enumerate_from l.i (drop l.i l.neighbors)))
+    ≡ l.initial.found.items ++ filter_map peer_at_place (map (place_on l.router l.owner) (enumerate_from 0 l.neighbors))

@@ -17,7 +17,8 @@ pub loop-from-init : goal.loop-from-init
 loop-from-init c =
     let bs = c.args.bytes.now in
     let nothing = c.in_ok-said.ensures in
-    let count : length c.in_ok-said.said.seen ≡ c.args.count = ap (λ (s : LabelsSoFar). length s.seen) nothing ∙ length-replicate {A = Bool} c.args.count false in
+    let count : length c.in_ok-said.said.seen ≡ c.args.count = ap (λ (s : LabelsSoFar). length s.seen) nothing
+        ∙ length-replicate {A = Bool} c.args.count false in
     record {
       few = omega arith;
       inside = omega arith;
