@@ -13,7 +13,7 @@ answers/NAME.out, with NAME.err and NAME.status where these are not empty and 0.
   code       the code that a page quotes from a file stands there
   picture    the picture of README is what bonsai-draw draws
   definitions  docs/PROVED.md lists the definitions that tools/reading-list prints, each name once
-  names      scripts/names-twice has the names that more than one file of definitions defines
+  names      no name is defined by more than one file of definitions
   crates     docs/ARCHITECTURE.md has the table that tools/architecture makes
 """
 from __future__ import annotations
@@ -229,10 +229,10 @@ def faults_of_definitions() -> list[str]:
 
 
 def faults_of_names() -> list[str]:
-    """The names that several files define are those that are known."""
+    """No name is defined by several files."""
     listed = subprocess.run([sys.executable, TOP / "tools" / "reading-list", "--twice"], stdout=subprocess.PIPE, check=False)
-    known = (SCRIPTS / "names-twice").read_bytes()
-    return [] if listed.stdout == known else ["examples/scripts/names-twice has not what tools/reading-list --twice prints"]
+    found = [f"tools/reading-list --twice: {line}" for line in listed.stdout.decode().splitlines()]
+    return found if listed.returncode == 0 else ["tools/reading-list --twice fails"]
 
 
 def faults_of_code() -> list[str]:

@@ -1,7 +1,9 @@
 pub mod Join
 pub mod Names
+pub mod Numbering
 pub mod Numbers
 pub mod Options
+pub mod Pairs
 pub mod Partition
 pub mod Prefixes
 pub mod Sets

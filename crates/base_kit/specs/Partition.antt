@@ -44,6 +44,10 @@ pub record IsNumbered (groups : List ℕ) (count : ℕ) : Type 0 where
   pub used : (group : ℕ) → group < count → Contains groups group
   pub in_order : (v group : ℕ) → v < length groups → group < slice_index groups v → (u : ℕ) × (u < v) × (slice_index groups u ≡ group)
 
+-- the members of a group among the first routers, ascending
+abbrev pub members_among : ℕ → List ℕ → ℕ → List ℕ
+members_among count groups group = filter (λ router. slice_index groups router == group) (range_with_len 0 count)
+
 -- the members of a group, ascending
 abbrev pub members_of : List ℕ → ℕ → List ℕ
 members_of groups group = filter (λ router. slice_index groups router == group) (range_with_len 0 (length groups))

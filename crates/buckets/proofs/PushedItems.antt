@@ -6,7 +6,8 @@ use Rattle.std.specs.declared.alloc.Global.{Global}
 use Rattle.std.proofs.lemmas.Bool.Decides.{nat_tests}
 use Rattle.std.proofs.lemmas.List.{take_more}
 use Rattle.std.proofs.lemmas.List.Elements.{filter-append}
-use Rattle.buckets.specs.Buckets.{same_pair, is_at_pair, Index, bucket, PushesAt, IsIndex}
+use Rattle.base_kit.specs.Pairs.{same_pair}
+use Rattle.buckets.specs.Buckets.{is_at_pair, Index, bucket, PushesAt, IsIndex}
 
 items_of : {T : Type 0} → Option (Vec T Global) → List T
 items_of {T} o = option_map_or (λ (v : Vec T Global). v.items) o []

@@ -1,13 +1,11 @@
 -- Lists of items by pairs of numbers.
-use Rattle.std.specs.Prelude.{◌≡◌, ℕ, Bool, ◌&&◌, List, [], ◌∷◌, ◌++◌, Vec, filter, nat_eq, if◌then◌else◌}
+use Rattle.std.specs.Prelude.{◌≡◌, ℕ, Bool, List, [], ◌∷◌, ◌++◌, Vec, filter, if◌then◌else◌}
 use Rattle.std.specs.Option.{option_map_or}
 use Rattle.std.specs.HashMap.{HashMap, get}
 use Rattle.std.specs.declared.alloc.Global.{Global}
 use Rattle.std.specs.declared.hash.FoldHasher.{FoldHasher}
 use Rattle.std.specs.declared.hash.BuildHasherDefault.{BuildHasherDefault}
-
-abbrev pub same_pair : ℕ × ℕ → ℕ × ℕ → Bool
-same_pair p q = nat_eq p.0 q.0 && nat_eq p.1 q.1
+use Rattle.base_kit.specs.Pairs.{same_pair}
 
 abbrev pub Index : Type 0 → Type 0
 Index T = HashMap (ℕ × ℕ) (Vec T Global) (BuildHasherDefault FoldHasher)

@@ -10,7 +10,7 @@ use Rattle.base_kit.proofs.SetFacts.{same_number, has-with_number}
 use Rattle.cfg_ast.specs.meaning.Addresses.{Address}
 use Rattle.cfg_ast.specs.meaning.RouterFaults.{overlap}
 use Rattle.cfg_check.specs.declared.overlaps.Blocks.{Blocks}
-use Rattle.buckets.specs.Buckets.{same_pair}
+use Rattle.base_kit.specs.Pairs.{same_pair}
 use Rattle.cfg_check.specs.Blocks.{block_of, subnet_is_block, is_around, is_under, is_kept_at, Pairs, meets, HasLens, AddsBlock, AddsAround, AddsSubnet, IsKept}
 use Rattle.cfg_check.proofs.Seen.{any_more, same_either_way}
 

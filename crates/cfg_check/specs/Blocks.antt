@@ -5,7 +5,7 @@ use Rattle.std.specs.HashSet.{HashSet, contains}
 use Rattle.std.specs.declared.hash.FoldHasher.{FoldHasher}
 use Rattle.std.specs.declared.hash.BuildHasherDefault.{BuildHasherDefault}
 use Rattle.base_kit.specs.Sets.{has}
-use Rattle.buckets.specs.Buckets.{same_pair}
+use Rattle.base_kit.specs.Pairs.{same_pair}
 use Rattle.cfg_ast.specs.meaning.Addresses.{Address}
 use Rattle.cfg_check.specs.declared.overlaps.Blocks.{Blocks}
 

@@ -6,40 +6,41 @@ use Rattle.std.specs.List.{cons_option, enumerate_from}
 use Rattle.std.specs.Option.{unwrap_or}
 use Rattle.std.proofs.lemmas.List.{take_more}
 use Rattle.std.proofs.lemmas.List.Elements.{filter-append, filter_map-append}
+use Rattle.base_kit.specs.Pairs.{same_pair}
 use Rattle.base_kit.specs.declared.act_graph.Edge.{Edge}
 use Rattle.base_kit.specs.declared.protocol.Protocol.{Protocol}
 use Rattle.base_kit.specs.declared.protocol.Protocol.TheVariants.{Bgp as OverBgp, Ospf as OverOspf}
 use Rattle.abstract_net.specs.declared.qlink.QLink.{QLink}
 use Rattle.abstract_net.specs.Carried.{side_of}
 use Rattle.srp_quotient.specs.Groups.{or_else, last_of, edge_into}
-use Rattle.config_emit.specs.ActLinks.{group_pair, same_two_groups, joins_pair, own_sides, sides_or, last_sides, SidesByPair, no_sides, sides_at, AreLastSides, NotesSides, filling, FillsSides, drawn, act_link_by, full_sides, act_link, act_links}
+use Rattle.config_emit.specs.ActLinks.{group_pair, joins_pair, own_sides, sides_or, last_sides, SidesByPair, no_sides, sides_at, AreLastSides, NotesSides, filling, FillsSides, drawn, act_link_by, full_sides, act_link, act_links}
 use Rattle.config_emit.specs.declared.act_links.Sides.{Sides}
 use Rattle.config_emit.proofs.ListSteps.{map_ext, same_numbers, same_either_way, both}
 
-same_pairs : (p q : ℕ × ℕ) → same_two_groups p q ≡ true → p ≡ q
+same_pairs : (p q : ℕ × ℕ) → same_pair p q ≡ true → p ≡ q
 same_pairs p q e =
     let parts = both (nat_eq p.0 q.0) (nat_eq p.1 q.1) e in
     let first : p.0 ≡ q.0 = same_numbers p.0 q.0 parts.0 in
     let second : p.1 ≡ q.1 = same_numbers p.1 q.1 parts.1 in
     ap (λ m. (m, p.1)) first ∙ ap (λ n. (q.0, n)) second
 
-same_turned : (p q : ℕ × ℕ) → same_two_groups p q ≡ same_two_groups q p
+same_turned : (p q : ℕ × ℕ) → same_pair p q ≡ same_pair q p
 same_turned p q = ap (λ b. b && nat_eq p.1 q.1) (same_either_way p.0 q.0) ∙ ap (λ b. nat_eq q.0 p.0 && b) (same_either_way p.1 q.1)
 
 -- ---- one link noted
 
 noted_step : (link : QLink) (s : Sides) (old : SidesByPair) (q : ℕ × ℕ) (b : Bool) → s ≡ sides_or (own_sides link) (sides_at old (group_pair link)) →
     (b ≡ true → group_pair link ≡ q)
-    → unwrap_or (cond b (Some s) (get same_two_groups old q)) no_sides ≡ cond b (sides_or (own_sides link) (sides_at old q)) (sides_at old q)
+    → unwrap_or (cond b (Some s) (get same_pair old q)) no_sides ≡ cond b (sides_or (own_sides link) (sides_at old q)) (sides_at old q)
 noted_step link s old q true is same = is ∙ ap (λ p. sides_or (own_sides link) (sides_at old p)) (same refl)
 noted_step link s old q false is same = refl
 
 pub noted : (old new : SidesByPair) (link : QLink) (s : Sides) →
-    ((q : ℕ × ℕ) → get same_two_groups new q ≡ cond (same_two_groups (group_pair link) q) (Some s) (get same_two_groups old q))
+    ((q : ℕ × ℕ) → get same_pair new q ≡ cond (same_pair (group_pair link) q) (Some s) (get same_pair old q))
     → s ≡ sides_or (own_sides link) (sides_at old (group_pair link)) → NotesSides old new link
 noted old new link s put is = record {
   each = λ q. ap (λ o. unwrap_or o no_sides) (put q)
-      ∙ noted_step link s old q (same_two_groups (group_pair link) q) is (same_pairs (group_pair link) q);
+      ∙ noted_step link s old q (same_pair (group_pair link) q) is (same_pairs (group_pair link) q);
 }
 
 -- ---- the last sides of one link more

@@ -1,11 +1,12 @@
 -- The links of the groups with the acts that stand at them, as they are gathered for `emit`.
-use Rattle.std.specs.Prelude.{◌≡◌, ℕ, Bool, ◌&&◌, ◌||◌, List, [], ◌∷◌, ◌++◌, Option, None, Vec, map, filter, filter_map, nat_eq, if◌then◌else◌}
+use Rattle.std.specs.Prelude.{◌≡◌, ℕ, Bool, ◌||◌, List, [], ◌∷◌, ◌++◌, Option, None, Vec, map, filter, filter_map, nat_eq, if◌then◌else◌}
 use Rattle.std.specs.HashMap.{HashMap, get}
 use Rattle.std.specs.List.{enumerate_from}
 use Rattle.std.specs.Option.{option_map, option_map_or, unwrap_or}
 use Rattle.std.specs.declared.alloc.Global.{Global}
 use Rattle.std.specs.declared.hash.FoldHasher.{FoldHasher}
 use Rattle.std.specs.declared.hash.BuildHasherDefault.{BuildHasherDefault}
+use Rattle.base_kit.specs.Pairs.{same_pair}
 use Rattle.base_kit.specs.declared.act_graph.Edge.{Edge}
 use Rattle.base_kit.specs.declared.protocol.Protocol.{Protocol}
 use Rattle.base_kit.specs.declared.protocol.Protocol.TheVariants.{Bgp as OverBgp, Ospf as OverOspf}
@@ -20,11 +21,8 @@ use Rattle.config_emit.specs.declared.act_links.Sides.{Sides}
 abbrev pub group_pair : QLink → ℕ × ℕ
 group_pair l = (l.low, l.high)
 
-abbrev pub same_two_groups : ℕ × ℕ → ℕ × ℕ → Bool
-same_two_groups p q = nat_eq p.0 q.0 && nat_eq p.1 q.1
-
 abbrev pub joins_pair : ℕ × ℕ → QLink → Bool
-joins_pair q l = same_two_groups q (group_pair l)
+joins_pair q l = same_pair q (group_pair l)
 
 abbrev pub own_sides : QLink → Sides
 own_sides l = record { to_low = side_of l.low l; to_high = side_of l.high l }
@@ -48,14 +46,14 @@ abbrev pub no_sides : Sides
 no_sides = record { to_low = None; to_high = None }
 
 abbrev pub sides_at : SidesByPair → ℕ × ℕ → Sides
-sides_at last q = unwrap_or (get same_two_groups last q) no_sides
+sides_at last q = unwrap_or (get same_pair last q) no_sides
 
 pub record AreLastSides (last : SidesByPair) (links : List QLink) : Type 0 where
   pub each : (q : ℕ × ℕ) → sides_at last q ≡ last_sides links q
 
 -- the sides of a link were put before those of its pair
 pub record NotesSides (old new : SidesByPair) (link : QLink) : Type 0 where
-  pub each : (q : ℕ × ℕ) → sides_at new q ≡ (if same_two_groups (group_pair link) q then sides_or (own_sides link) (sides_at old q) else sides_at old q)
+  pub each : (q : ℕ × ℕ) → sides_at new q ≡ (if same_pair (group_pair link) q then sides_or (own_sides link) (sides_at old q) else sides_at old q)
 
 -- the edges that fill the sides of links: in OSPF the last of the pair, in BGP none
 abbrev pub filling : Protocol → List QLink → ℕ × ℕ → Sides

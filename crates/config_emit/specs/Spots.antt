@@ -1,9 +1,10 @@
 -- The interfaces of a router by their subnets, as they are gathered for `emit`.
-use Rattle.std.specs.Prelude.{◌≡◌, ℕ, Bool, true, false, ◌&&◌, List, Option, Some, None, ◌++◌, codes, decimal, find, nat_eq, is_some, Contains, if◌then◌else◌}
+use Rattle.std.specs.Prelude.{◌≡◌, ℕ, Bool, true, false, ◌&&◌, List, Option, Some, None, ◌++◌, codes, decimal, find, is_some, Contains, if◌then◌else◌}
 use Rattle.std.specs.HashMap.{HashMap, get}
 use Rattle.std.specs.Option.{option_map, option_and_then, option_or}
 use Rattle.std.specs.declared.hash.FoldHasher.{FoldHasher}
 use Rattle.std.specs.declared.hash.BuildHasherDefault.{BuildHasherDefault}
+use Rattle.base_kit.specs.Pairs.{same_pair}
 use Rattle.base_kit.specs.Prefixes.{Prefix}
 use Rattle.base_kit.specs.declared.protocol.Protocol.{Protocol}
 use Rattle.base_kit.specs.declared.protocol.Protocol.TheVariants.{Bgp as OverBgp, Ospf as OverOspf}
@@ -18,9 +19,6 @@ use Rattle.config_emit.specs.declared.class_interfaces.Spot.{Spot}
 
 abbrev pub SpotsBySubnet : Type 0
 SpotsBySubnet = HashMap (ℕ × ℕ) Spot (BuildHasherDefault FoldHasher)
-
-abbrev pub same_subnet_key : ℕ × ℕ → ℕ × ℕ → Bool
-same_subnet_key p q = nat_eq p.0 q.0 && nat_eq p.1 q.1
 
 abbrev pub spot_with : Option ℕ → Address → Spot
 spot_with cost a = record { address = a; cost = cost }
@@ -39,11 +37,11 @@ serves q r p x = counts q r x && is_up_in (record { addr = p.0; len = p.1 }) x
 
 -- each subnet has the first interface that counts
 pub record AreSpots (q : Protocol) (r : Router) (spots : SpotsBySubnet) (interfaces : List Interface) : Type 0 where
-  pub each : (p : ℕ × ℕ) → get same_subnet_key spots p ≡ option_and_then (spot_of_interface q) (find (serves q r p) interfaces)
+  pub each : (p : ℕ × ℕ) → get same_pair spots p ≡ option_and_then (spot_of_interface q) (find (serves q r p) interfaces)
 
 -- an interface was put where there was none before
 pub record PutsSpot (q : Protocol) (r : Router) (old new : SpotsBySubnet) (x : Interface) : Type 0 where
-  pub each : (p : ℕ × ℕ) → get same_subnet_key new p ≡ option_or (get same_subnet_key old p) (if serves q r p x then spot_of_interface q x else None)
+  pub each : (p : ℕ × ℕ) → get same_pair new p ≡ option_or (get same_pair old p) (if serves q r p x then spot_of_interface q x else None)
 
 -- the interface of the j-th prefix
 abbrev pub interface_at : ℕ → Spot → Interface
@@ -57,7 +55,7 @@ interface_at j spot = record {
 
 -- the interface of the j-th prefix, where there is one
 abbrev pub served_at : SpotsBySubnet → ℕ × Prefix → Option Interface
-served_at spots (j, p) = option_map (interface_at j) (get same_subnet_key spots (p.addr, p.len))
+served_at spots (j, p) = option_map (interface_at j) (get same_pair spots (p.addr, p.len))
 
 -- the router originates all prefixes
 pub record OriginatesEach (r : Router) (prefixes : List Prefix) : Type 0 where

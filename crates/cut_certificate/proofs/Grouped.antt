@@ -7,9 +7,9 @@ use Rattle.std.proofs.lemmas.List.{get_or-set_same, get_or-set_other, append-nil
 use Rattle.std.proofs.lemmas.List.FromFn.{length-range_with_len, get_or-range_with_len}
 use Rattle.std.proofs.lemmas.List.Elements.{filter-append, All-filter, All-cons, All-from_get_or}
 use Rattle.std.proofs.Math.ListN.{length-set}
-use Rattle.base_kit.specs.Partition.{members_of}
+use Rattle.base_kit.specs.Partition.{members_among, members_of}
 use Rattle.cut_certificate.specs.Blocks.{distinct, place_among, number_among, groups_of}
-use Rattle.cut_certificate.specs.Members.{members_among, AreGroupsAmong}
+use Rattle.cut_certificate.specs.Members.{AreGroupsAmong}
 use Rattle.cut_certificate.proofs.Seen.{same_test, other_test, at_place, distinct_has, distinct_own}
 use Rattle.cut_certificate.proofs.Used.{map_at, map_long}
 

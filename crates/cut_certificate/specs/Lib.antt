@@ -8,7 +8,6 @@ pub mod Kept
 pub mod Laws
 pub mod Members
 pub mod Moves
-pub mod Numbering
 pub mod Outgoing
 pub mod Printed
 pub mod Texts

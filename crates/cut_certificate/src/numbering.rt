@@ -2,7 +2,7 @@
 
 ghost use Rattle.std.specs.Prelude.{◌≡◌, ◌<◌, ◌^◌, IfOk, length, map};
 ghost use Rattle.cut_certificate.specs.Blocks.{distinct, number_among};
-ghost use Rattle.cut_certificate.specs.Numbering.{IsKeyNamed};
+ghost use Rattle.base_kit.specs.Numbering.{IsKeyNamed};
 
 use base_kit::NoMemory;
 use std::alloc::Global;

@@ -7,7 +7,7 @@ use Rattle.cfg_ast.specs.declared.network.Network.{Network}
 use Rattle.cfg_ast.specs.declared.network.Router.{Router}
 use Rattle.cfg_ast.specs.declared.topology.Link.{Link}
 use Rattle.cfg_ast.specs.meaning.Topology.{Place, places, neighbors_of}
-use Rattle.buckets.specs.Buckets.{same_pair}
+use Rattle.base_kit.specs.Pairs.{same_pair}
 use Rattle.net_topology.specs.Ups.{addr_of, attachment_of, same_attachment, last_with}
 use Rattle.net_topology.specs.declared.peers.Peer.{Peer}
 use Rattle.net_topology.specs.declared.ups.Attachment.{Attachment}

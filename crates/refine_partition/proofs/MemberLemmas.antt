@@ -9,9 +9,9 @@ use Rattle.std.proofs.lemmas.List.{get_or-set_same, get_or-set_other, append-nil
 use Rattle.std.proofs.lemmas.List.FromFn.{length-range_with_len, get_or-range_with_len}
 use Rattle.std.proofs.lemmas.List.Elements.{filter-append, filter_passes, All-filter, All-cons, All-from_get_or, filter_map-append}
 use Rattle.std.proofs.Math.ListN.{length-set}
-use Rattle.base_kit.specs.Partition.{members_of}
+use Rattle.base_kit.specs.Partition.{members_among, members_of}
 use Rattle.base_kit.specs.declared.act_graph.Edge.{Edge}
-use Rattle.refine_partition.specs.Members.{members_among, AreBlocksAmong, AreBlocks, AreBlockMembers}
+use Rattle.refine_partition.specs.Members.{AreBlocksAmong, AreBlocks, AreBlockMembers}
 use Rattle.refine_partition.specs.Index.{import_from, IsImportIndex}
 use Rattle.refine_partition.specs.declared.imports.Import.{Import}
 

@@ -1,12 +1,7 @@
 -- The members of all blocks.
-use Rattle.std.specs.Prelude.{◌≡◌, ℕ, ◌<◌, List, length, map, slice_index, slice_index_or, filter, ◌==◌, All, Contains, Vec}
-use Rattle.std.specs.List.{range_with_len}
+use Rattle.std.specs.Prelude.{◌≡◌, ℕ, ◌<◌, List, length, map, slice_index, slice_index_or, All, Contains, Vec}
 use Rattle.std.specs.declared.alloc.Global.{Global}
-use Rattle.base_kit.specs.Partition.{members_of}
-
--- the members of a block among the first routers, ascending
-abbrev pub members_among : ℕ → List ℕ → ℕ → List ℕ
-members_among count numbers block = filter (λ router. slice_index numbers router == block) (range_with_len 0 count)
+use Rattle.base_kit.specs.Partition.{members_among, members_of}
 
 -- each block has its members among the first routers
 pub record AreBlocksAmong (count : ℕ) (numbers : List ℕ) (blocks : List (Vec ℕ Global)) : Type 0 where

@@ -1,7 +1,8 @@
 //! Numbers for keys, in the order in which the keys first stand.
 
 ghost use Rattle.std.specs.Prelude.{◌≡◌, ◌<◌, ◌^◌, IfOk, length};
-ghost use Rattle.refine_partition.specs.Numbering.{IsKeyNamed, IsNumbering};
+ghost use Rattle.base_kit.specs.Numbering.{IsKeyNamed};
+ghost use Rattle.refine_partition.specs.Numbering.{IsNumbering};
 
 use base_kit::NoMemory;
 use std::alloc::Global;

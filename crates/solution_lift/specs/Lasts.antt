@@ -1,12 +1,9 @@
 -- The last edges that links carry into one group from another.
-use Rattle.std.specs.Prelude.{ℕ, Bool, ◌&&◌, List, Option, None, filter_map, nat_eq, if◌then◌else◌}
+use Rattle.std.specs.Prelude.{ℕ, ◌&&◌, List, Option, None, filter_map, nat_eq, if◌then◌else◌}
 use Rattle.base_kit.specs.declared.protocol.Protocol.{Protocol}
 use Rattle.base_kit.specs.declared.protocol.Protocol.TheVariants.{Bgp as OverBgp, Ospf as OverOspf}
 use Rattle.abstract_net.specs.declared.qlink.QLink.{QLink}
 use Rattle.srp_quotient.specs.Groups.{last_of, or_else}
-
-abbrev pub same_direction : ℕ × ℕ → ℕ × ℕ → Bool
-same_direction a b = nat_eq a.0 b.0 && nat_eq a.1 b.1
 
 -- the edge that the link carries into g from h
 abbrev pub carried : ℕ → ℕ → QLink → Option ℕ

@@ -6,7 +6,8 @@ ghost use Rattle.std.specs.List.{enumerate_from};
 ghost use Rattle.by_key.specs.ByKey.{by_key};
 ghost use Rattle.srp_quotient.specs.Groups.{or_else, edge_into, lower_edge, listed, edges_of_link, importer_of, exporter_of, quotient_edges};
 ghost use Rattle.abstract_net.specs.Carried.{IsBelow};
-ghost use Rattle.solution_lift.specs.Lasts.{same_direction, last_between, standing};
+ghost use Rattle.base_kit.specs.Pairs.{same_pair};
+ghost use Rattle.solution_lift.specs.Lasts.{last_between, standing};
 
 use abstract_net::{QLink, act_at};
 use base_kit::{Edge, List, NoMemory, Protocol};
@@ -20,7 +21,7 @@ fn keep(
     from: u32,
     side: Option<u32>,
 ) -> Result<(), NoMemory>
-    ensures { OnOk result ((g h : ℕ) → map.get same_direction lasts.new (g, h) ≡ (if nat_eq into g && nat_eq from h then or_else side (map.get same_direction lasts.old (g, h)) else map.get same_direction lasts.old (g, h))) }
+    ensures { OnOk result ((g h : ℕ) → map.get same_pair lasts.new (g, h) ≡ (if nat_eq into g && nat_eq from h then or_else side (map.get same_pair lasts.old (g, h)) else map.get same_pair lasts.old (g, h))) }
 {
     if let Some(edge) = side {
         lasts.insert((into, from), edge)?;
@@ -31,7 +32,7 @@ fn keep(
 // The last edges that links carry into a group from another, by both groups.
 fn lasts_of(alloc: Global, links: &[QLink]) -> Result<HashMap<(u32, u32), u32>, NoMemory>
     requires { All (λ (link : QLink). link.low < link.high) links.now }
-    ensures { IfOk result (λ lasts. (g h : ℕ) → map.get same_direction lasts (g, h) ≡ last_between g h links.now) }
+    ensures { IfOk result (λ lasts. (g h : ℕ) → map.get same_pair lasts (g, h) ≡ last_between g h links.now) }
 {
     let mut lasts = HashMap::new(alloc);
     for link in links {
@@ -49,7 +50,7 @@ fn standing(
     from: u32,
     side: Option<u32>,
 ) -> Option<u32>
-    ensures { result ≡ standing protocol (map.get same_direction lasts.now (into, from)) side }
+    ensures { result ≡ standing protocol (map.get same_pair lasts.now (into, from)) side }
 {
     match protocol {
         Protocol::Bgp => side,

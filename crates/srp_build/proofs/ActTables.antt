@@ -3,7 +3,8 @@ use Rattle.std.proofs.Common.{◌≡◌, ℕ, zero, suc, ◌<◌, Bool, true, fa
 use Rattle.std.specs.Prelude.{Contains}
 use Rattle.base_kit.proofs.Elements.{In, contains_in, in_contains, in_left, in_right}
 use Rattle.base_kit.proofs.SetFacts.{same_number}
-use Rattle.buckets.specs.Buckets.{same_pair, Index, bucket, PushesAt}
+use Rattle.base_kit.specs.Pairs.{same_pair}
+use Rattle.buckets.specs.Buckets.{Index, bucket, PushesAt}
 use Rattle.dd_core.specs.Sets.{Shown, IsShown}
 use Rattle.policy_dd.specs.declared.edge.EdgeFn.{EdgeFn}
 use Rattle.policy_dd.specs.Compare.{OneForm}

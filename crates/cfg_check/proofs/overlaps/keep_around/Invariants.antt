@@ -1,7 +1,7 @@
 use Rattle.std.proofs.Common.{◌≡◌, ℕ, ◌&&◌, ◌||◌, take}
 use Rattle.std.specs.HashSet.{contains}
 use Rattle.base_kit.specs.Sets.{has}
-use Rattle.buckets.specs.Buckets.{same_pair}
+use Rattle.base_kit.specs.Pairs.{same_pair}
 use Rattle.cfg_check.specs.Blocks.{is_around}
 use Rattle.cfg_check.proofs.overlaps.keep_around.Given as goal
 

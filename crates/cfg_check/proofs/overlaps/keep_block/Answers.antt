@@ -1,6 +1,6 @@
 use Rattle.std.proofs.Common.{◌≤◌, true, subst, arith}
 use Rattle.std.specs.HashSet.{Updates}
-use Rattle.buckets.specs.Buckets.{same_pair}
+use Rattle.base_kit.specs.Pairs.{same_pair}
 use Rattle.cfg_check.proofs.BlockLemmas.{block_added}
 use Rattle.cfg_check.proofs.overlaps.keep_block.Goals as goal
 

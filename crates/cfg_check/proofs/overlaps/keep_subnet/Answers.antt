@@ -1,6 +1,6 @@
 use Rattle.std.proofs.Common.{◌≡◌, true, ap, ◌∙◌, subst}
 use Rattle.std.specs.HashSet.{Updates}
-use Rattle.buckets.specs.Buckets.{same_pair}
+use Rattle.base_kit.specs.Pairs.{same_pair}
 use Rattle.cfg_check.specs.Blocks.{block_of}
 use Rattle.cfg_check.proofs.BlockLemmas.{pair_added}
 use Rattle.cfg_check.proofs.overlaps.keep_subnet.Goals as goal
