@@ -8,8 +8,8 @@ pub fn quotient_carries()
     ensures { QuotientCarries }
 {}
 
-/// Where each link of the network joins two groups at most, and has one edge in each direction between
-/// them, the links between groups are no more than those of the network.
+/// If each link of the network joins at most two groups, with one edge between them in each direction,
+/// there are no more links between groups than in the network.
 pub fn no_more_links()
     ensures { NoMoreLinks }
 {}

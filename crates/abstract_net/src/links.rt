@@ -11,12 +11,13 @@ use base_kit::{ActGraph, Edge, NoMemory};
 use refine_partition::Partition;
 use std::alloc::Global;
 
-/// The links between the groups of a partition of routers, from edges that another has: fewer than
-/// 2^32, with both ends among the routers.
+/// The links between the groups of a partition of routers, from a slice of edges. There are fewer than
+/// 2^32 edges, and both ends of each are among the routers.
 ///
-/// They go by their lower and then their higher group. Between two groups the first link has the first
-/// act of each direction, the second the second, and so on: the different acts of a direction go by
-/// the least links of edges that have them, and each is given by the first such edge.
+/// The links are ordered by their lower and then their higher group. Between two groups the first link
+/// has the first act of each direction, the second link the second, and so on. The different acts of a
+/// direction are ordered by the least links of the edges that have them, and each act is given by the
+/// first such edge.
 ///
 /// # Errors
 /// Out of memory.

@@ -1,4 +1,4 @@
-//! Routers activated, called.
+//! Calls that activate routers.
 
 ghost use Rattle.std.specs.Prelude.{◌≡◌, ◌≢◌, ◌<◌, ◌≤◌, ◌^◌, All, IfOk, MatchBool, MatchOption, OnErr, length};
 ghost use Rattle.route_run.specs.Activations.{IsFirstMoving, activated, labels_after, no_labels};

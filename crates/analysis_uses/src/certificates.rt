@@ -1,4 +1,4 @@
-//! Certificates of coarseness, called.
+//! Calls on certificates of coarseness.
 
 ghost use Rattle.std.specs.Prelude.{◌≡◌, ◌≤◌, IfOk, length};
 ghost use Rattle.cut_certificate.specs.Answers.{Verifies};

@@ -1,4 +1,4 @@
-//! The network of the groups made, called.
+//! Calls that make the network of the groups.
 
 ghost use Rattle.std.specs.Prelude.{◌≡◌, ℕ, Contains, IfOk, length};
 ghost use Rattle.abstract_net.specs.Links.{quotient_links};

@@ -1,7 +1,7 @@
 //! How another analysis uses the library, from a routing problem to the answers about it.
 //!
-//! For each public call there is a function that makes it, in the form in which the call is promised, so
-//! that a change of the form does not compile here. `library_uses` does so for the calls below.
+//! For each public call there is a function here that makes it in the form that is promised. If the form
+//! changes, this crate does not compile. `library_uses` does the same for the calls below.
 #![tactic(auto)]
 
 pub mod activations;

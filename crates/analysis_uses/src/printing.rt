@@ -1,4 +1,4 @@
-//! Networks and reports printed, called.
+//! Calls that print networks and reports.
 
 ghost use Rattle.std.specs.Prelude.{◌≡◌, IfOk};
 ghost use Rattle.cfg_ast.specs.printing.Printed.{printed};

@@ -1,4 +1,4 @@
-//! Routing problems built and asked, called.
+//! Calls that build routing problems and ask about them.
 
 ghost use Rattle.std.specs.Prelude.{◌≡◌, ◌<◌, ◌↔◌, ℕ, List as Items, Contains, IfOk};
 ghost use Rattle.base_kit.specs.Partition.{IsCoarsestOn};

@@ -1,4 +1,4 @@
-//! Solutions read, judged and carried, called.
+//! Calls that read, judge and carry solutions.
 
 ghost use Rattle.std.specs.Prelude.{◌≡◌, ◌<◌, ◌≤◌, ◌^◌, ℕ, IfOk, length};
 ghost use Rattle.abstract_net.specs.Links.{quotient_links};

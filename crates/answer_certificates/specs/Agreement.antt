@@ -1,4 +1,4 @@
--- What `certify` and `verify` have to do with each other, and with the groups of a class.
+-- How `certify` and `verify` relate to each other, and to the groups of a class.
 use Rattle.std.specs.Prelude.{◌≡◌, ℕ, List, codes, Some, Ok}
 use Rattle.base_kit.specs.declared.act_graph.ActGraph.{ActGraph}
 use Rattle.cfg_ast.specs.declared.network.Network.{Network}

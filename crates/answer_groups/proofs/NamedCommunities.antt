@@ -1,4 +1,4 @@
--- The communities that the lines of a well-formed network name are none that are set aside.
+-- The lines of a well-formed network name no community that is set aside.
 use Rattle.std.proofs.Common.{ℕ, Bool, true, false, cond, List, [], ◌∷◌, ◌++◌, map, Option, Some, None, nat_lt}
 use Rattle.std.specs.Prelude.{◌==◌, IfSome, flat_map}
 use Rattle.std.specs.List.{AllByRecursion}

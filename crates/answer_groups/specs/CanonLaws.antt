@@ -1,4 +1,4 @@
--- What `canon` writes for an edge depends on nothing but what the edge imports.
+-- What `canon` writes for an edge depends only on what the edge imports.
 use Rattle.std.specs.Prelude.{◌≡◌, ℕ, List, Contains}
 use Rattle.base_kit.specs.declared.act_graph.Edge.{Edge}
 use Rattle.canon_policy.specs.CanonicalProblem.{IsCanonicalProblem}

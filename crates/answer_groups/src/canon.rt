@@ -17,7 +17,7 @@ use driver::{Shared, emitted_of};
 use srp_core::Srp;
 use std::alloc::Global;
 
-// The refusal of a class of whose problem this edge has no canonical lists.
+// The refusal of a class, because this edge of its problem has no canonical lists.
 fn no_canon(alloc: Global, problem: &Srp, edge: &Edge) -> Reply
     ensures { Answers result (Only (refused (no_canon problem.now edge.now))) ⊥ ⊥ }
 {
@@ -26,7 +26,7 @@ fn no_canon(alloc: Global, problem: &Srp, edge: &Edge) -> Reply
     refuse(format!(in alloc; "NoCanon {importer} {exporter}"))
 }
 
-// The problem of a class with canonical acts, or what is told where an edge has no canonical lists.
+// The problem of a class with canonical acts, or the reply to tell if an edge has no canonical lists.
 fn canonical_over(
     alloc: Global,
     checked: &Checked,
@@ -56,7 +56,7 @@ fn canonical_over(
     }
 }
 
-// The same, where the problems of other classes are not wanted.
+// The same, if no other class is needed.
 fn canonical_for(alloc: Global, checked: &Checked, class: &DestClass) -> Result<Srp, Reply>
     requires { Contains (classes_of checked.now.network) class.now }
     ensures problem { IfOk result (IsCanonicalFor checked.now.network class.now) }

@@ -8,17 +8,17 @@ pub fn groups_answer_is_one()
     ensures { GroupsAnswerIsOne }
 {}
 
-/// And so has `compress`.
+/// The same holds of `compress`.
 pub fn compress_answer_is_one()
     ensures { CompressAnswerIsOne }
 {}
 
-/// And so has `canon`.
+/// The same holds of `canon`.
 pub fn canon_answer_is_one()
     ensures { CanonAnswerIsOne }
 {}
 
-/// What `canon` writes for an edge depends on what the edge imports alone.
+/// What `canon` writes for an edge depends only on what the edge imports.
 pub fn alike_edges_have_one_act()
     ensures { AlikeEdgesHaveOneAct }
 {

@@ -1,7 +1,7 @@
 //! The commands that tell of classes and groups: `classes`, `groups`, `compress` and `canon`.
 //!
-//! Each answers with a reply whose outcome its definition allows, or out of memory. The module `laws`
-//! says that there is one such outcome.
+//! Each command replies with an outcome that its definition allows, or that memory ran out. The module
+//! `laws` says that there is only one such outcome.
 #![tactic(auto)]
 
 pub mod canon;

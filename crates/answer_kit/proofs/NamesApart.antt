@@ -58,7 +58,7 @@ pub names_apart : (n : Network) → IsFaultless n → AreApart (map name_of n.ro
 unfolding shared_name_lines
 names_apart n faultless = (none_repeat [] n.routers faultless.shared_name).1
 
--- and so have those of a problem of a class
+-- the routers of a problem of a class have names of their own, too
 pub problem_apart : (n : Network) → IsFaultless n → (class : DestClass) → Contains (classes_of n) class → (P : Problem) → IsProblemOfClass n class P
     → AreApart P.names
 problem_apart n faultless class c P of_class =

@@ -1,4 +1,4 @@
--- Public: a text, and the network or the solution that it gives, allow one outcome where their contents do.
+-- Public: a text allows one outcome if its content, a network or a solution, allows one.
 use Rattle.std.proofs.Common.{◌≡◌, inl, inr, ℕ, List, sym, ◌∙◌, subst, arith, Option, Some, None, Result, Ok, Err}
 use Rattle.std.specs.Prelude.{IsSome}
 use Rattle.cfg_ast.specs.declared.network.Network.{Network}
@@ -14,7 +14,7 @@ use Rattle.answer_kit.specs.Networks.{text_limit, long_text, IsOfReading, IsOfNe
 use Rattle.answer_kit.specs.Outcome.{Outcome}
 use Rattle.answer_kit.specs.SecondFiles.{IsOfText, IsOfSecond, solution_limit, long_solution, IsOfLabels, IsOfLabelsIn, IsOfSolution}
 
--- of a text one outcome is allowed, where that is so if it is short
+-- a text allows one outcome, if it does so when it is short
 pub one_of_text : (limit : ℕ) (long : List ℕ) (A B : List ℕ → Outcome → Type 0) (text : List ℕ) (o p : Outcome) → (A text o → B text p → o ≡ p)
     → IsOfText limit long A text o → IsOfText limit long B text p → o ≡ p
 one_of_text limit long A B text o p one (inl x) (inl y) = x.1 ∙ sym y.1
@@ -22,14 +22,14 @@ one_of_text limit long A B text o p one (inl x) (inr y) = absurd (omega (arith, 
 one_of_text limit long A B text o p one (inr x) (inl y) = absurd (omega (arith, x.0, y.0))
 one_of_text limit long A B text o p one (inr x) (inr y) = one x.1 y.1
 
--- and so of a file that is told
+-- the same of a file that is told
 pub one_of_second : (limit : ℕ) (long : List ℕ) (A B : List ℕ → Outcome → Type 0) (second : Option (List ℕ)) → IsSome second → (o p : Outcome)
     → ((text : List ℕ) → A text o → B text p → o ≡ p)
     → IsOfSecond limit long second A o → IsOfSecond limit long second B p → o ≡ p
 one_of_second limit long A B None told o p one x y = cc
 one_of_second limit long A B (Some text) told o p one x y = one_of_text limit long A B text o p (one text) x y
 
--- and of the network that a text gives
+-- the same of the network that a text gives
 one_of_reading : (A : Network → Outcome → Type 0) → ((n : Network) (o p : Outcome) → A n o → A n p → o ≡ p) → (r : Result Network ReadRefusal) (o p : Outcome)
     → IsOfReading A r o → IsOfReading A r p → o ≡ p
 one_of_reading A one (Ok n) o p x y = one n o p x y
@@ -42,7 +42,7 @@ one_of_network A one text o p x y =
     one_of_text text_limit long_text (λ t q. IsOfReading A (reading_of t) q) (λ t q. IsOfReading A (reading_of t) q) text o p
     (one_of_reading A one (reading_of text) o p) x y
 
--- of the labels of a solution one outcome is allowed, where that is so of all labels
+-- the labels of a solution allow one outcome, if all labels do
 module _ (P Q : Problem) (protocols : P.protocol ≡ Q.protocol) (names : P.names ≡ Q.names) (A B : List (Option Route) → Outcome → Type 0)
     (one : (labels : List (Option Route)) (o p : Outcome) → A labels o → B labels p → o ≡ p) where
   one_of_labels : (r : Result (List (Option Route)) SolRefusal) (o p : Outcome) → IsOfLabels A r o → IsOfLabels B r p → o ≡ p

@@ -1,4 +1,4 @@
--- The class that a number names, and what is to be written where there is none.
+-- The class that a number names, and what is to be written if there is none.
 use Rattle.std.specs.Prelude.{◌≡◌, ◌-◌, ℕ, List, ◌++◌, codes, decimal, Option, Some, None, slice_get, nat_eq, if◌then◌else◌}
 use Rattle.cfg_ast.specs.declared.classes.DestClass.{DestClass}
 use Rattle.answer_kit.specs.Outcome.{Outcome, refused}

@@ -32,7 +32,7 @@ IsOfNetworkIn IsAllowed text o = IsOfText text_limit long_text (λ t p. IsOfRead
 abbrev pub AllowsNoNetwork : Network → Outcome → Type 0
 AllowsNoNetwork network o = ⊥
 
--- A refusal of the text is answered by its line and kind, and want of memory as such.
+-- A refusal of the text is answered by its line and kind, and a lack of memory as such.
 abbrev pub Refuses : Reply → ReadRefusal → Type 0
 Refuses reply (read_refusal.At line kind) = Answers reply (Only (refused (line_reason line kind))) ⊥ ⊥
 Refuses reply read_refusal.Memory = reply ≡ NoMemory

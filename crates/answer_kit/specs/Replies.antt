@@ -20,7 +20,8 @@ told_by NoMemory first second = out_of_memory
 abbrev pub Only : Outcome → Outcome → Type 0
 Only allowed o = o ≡ allowed
 
--- A reply to a command has its cause: it is an outcome that is allowed, or a fault of one of the files, or want of memory.
+-- A reply to a command has its cause: it is an outcome that is allowed, or a fault of one of the files,
+-- or memory ran out.
 abbrev pub Answers : Reply → (Outcome → Type 0) → Type 0 → Type 0 → Type 0
 Answers (Output bytes) IsAllowed first_rose second_rose = IsAllowed (done bytes.items)
 Answers (Refusal reason) IsAllowed first_rose second_rose = IsAllowed (refused reason.items)

@@ -1,6 +1,6 @@
 //! What the commands share: the reply that a command comes to and the outcome that it stands for, the
-//! class of a number, and the second file with its solution. Each of these is given, or what is told
-//! where there is none.
+//! class of a number, and the second file with its solution. Each call gives one of these, or the reply
+//! to tell if there is none.
 #![tactic(auto)]
 
 mod class_numbers;

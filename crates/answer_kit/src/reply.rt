@@ -23,7 +23,7 @@ pub enum Reply {
     NoMemory,
 }
 
-/// The refusal for this reason, or want of memory where there was none to write it.
+/// The refusal for this reason, or out of memory if the reason could not be written.
 pub fn refuse(reason: Result<String, AllocError>) -> Reply
     ensures { Answers result (IsRefusalFor reason) ⊥ ⊥ }
 {

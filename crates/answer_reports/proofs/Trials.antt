@@ -1,4 +1,4 @@
--- What is allowed of a size, by whether there is a fat tree of it.
+-- The outcomes that a size allows, by whether there is a fat tree of that size.
 use Rattle.std.proofs.Common.{◌≡◌, ℕ, Bool, true, false, List, sym, subst}
 use Rattle.fat_gen.specs.FatTrees.{is_size, fat_tree_text}
 use Rattle.answer_kit.specs.Outcome.{Outcome, refused}

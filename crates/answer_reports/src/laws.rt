@@ -10,7 +10,7 @@ pub fn report_answer_is_one()
     built_problem_is_one();
 }
 
-/// And so has `json`.
+/// The same holds of `json`.
 pub fn json_answer_is_one()
     ensures { JsonAnswerIsOne }
 {

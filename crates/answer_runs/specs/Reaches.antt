@@ -20,7 +20,7 @@ use Rattle.answer_solutions.specs.Checks.{break_reason}
 abbrev pub name_lines : Problem → List ℕ → List ℕ
 name_lines problem run = flat_map (λ router. slice_index_or problem.names router [] ++ codes "\n") run
 
--- the order of the labels, a name a line
+-- the order of the labels, one name on each line
 pub record IsOrderTold (problem : Problem) (labels : List (Option Route)) (o : Outcome) : Type 0 where
   pub run : List ℕ
   pub is : IsOrderOf problem labels run

@@ -1,7 +1,8 @@
 //! The commands that activate routers: `run` and `reach`.
 //!
-//! Each answers with a reply whose outcome its definition allows, or that the second file could not be
-//! read, or out of memory. The module `laws` says that there is one such outcome where the file is told.
+//! Each command replies with an outcome that its definition allows, or that the second file could not be
+//! read, or that memory ran out. The module `laws` says that there is only one such outcome if the file
+//! is told.
 #![tactic(auto)]
 
 pub mod laws;

@@ -24,7 +24,7 @@ use solution_check::{Answer, check};
 use srp_core::{Labels, Srp};
 use std::alloc::{AllocError, Global};
 
-// Puts a line with the name of each router that is activated, which is one.
+// Puts a line with the name of the one router that is activated.
 fn put_name(text: &mut String, problem: &Srp, activation: Activation) -> Result<(), AllocError>
     requires { IsSingle activation }
     ensures { IfOk result (λ _. string_bytes text.new ≡ string_bytes text.old ++ name_lines problem.now (routers_of (count problem.now) activation)) }
@@ -51,7 +51,7 @@ fn name_lines(alloc: Global, problem: &Srp, schedule: &[Activation]) -> Result<V
     Ok(text.into_bytes())
 }
 
-// The order of stable labels, a name a line.
+// The order of stable labels, one name on each line.
 fn order_text(alloc: Global, problem: &Srp, labels: &Labels) -> Result<Vec<u8>, NoMemory>
     requires { IsStable problem.now labels.now }
     ensures { IfOk result (λ bytes. IsOrderTold problem.now labels.now (done bytes.items)) }
@@ -96,8 +96,8 @@ fn answer_of_problem<S: Source>(alloc: Global, problem: &Srp, second: &str, file
     }
 }
 
-/// The order of the solution in the second file, of a class, a name a line. Run from no labels it leads to
-/// a solution in which each router has the same key.
+/// The order of the solution in the second file, for a class, with one name on each line. The order, run
+/// from no labels, leads to a solution in which each router has the same key.
 pub fn answer<S: Source>(
     alloc: Global,
     checked: &Checked,

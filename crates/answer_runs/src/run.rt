@@ -99,8 +99,8 @@ fn answer_of_problem<S: Source>(alloc: Global, problem: &Srp, second: &str, file
     }
 }
 
-/// Runs the schedule in the second file on a class, from no labels: whether the labels are at rest behind
-/// it, and the labels.
+/// Runs the schedule in the second file on a class, from no labels. It answers whether the labels are
+/// then at rest, and the labels.
 pub fn answer<S: Source>(
     alloc: Global,
     checked: &Checked,

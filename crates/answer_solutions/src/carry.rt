@@ -118,8 +118,9 @@ fn answer_of_sides<S: Source>(
     }
 }
 
-/// Labels for the solution in the second file, of a class: those of the groups for one of the routers, or those of
-/// the routers for one of the groups. They stand in the order of the groups or routers that they label.
+/// Carries the solution in the second file, for a class: a solution of the routers gives labels of the
+/// groups, and a solution of the groups gives labels of the routers. The labels stand in the order of
+/// the groups or routers that they label.
 pub fn answer<S: Source>(
     alloc: Global,
     way: Way,

@@ -14,7 +14,7 @@ pub fn check_answer_is_one()
     ensures { CheckAnswerIsOne }
 {}
 
-/// And so has `fold`.
+/// The same holds of `fold`.
 pub fn fold_answer_is_one()
     ensures { FoldAnswerIsOne }
 {
@@ -23,7 +23,7 @@ pub fn fold_answer_is_one()
     folding_is_one();
 }
 
-/// And so has `lift`.
+/// The same holds of `lift`.
 pub fn lift_answer_is_one()
     ensures { LiftAnswerIsOne }
 {

@@ -1,9 +1,10 @@
 //! The commands on a solution: `check` judges one, `fold` carries it to the groups, and `lift` carries
 //! one of the groups to the routers.
 //!
-//! Each answers with a reply whose outcome its definition allows, or that the second file could not be
-//! read, or out of memory. The module `laws` says that there is one such outcome where the file is told,
-//! and that what `fold` and `lift` write is read as labels that are stable there and correspond.
+//! Each command replies with an outcome that its definition allows, or that the second file could not be
+//! read, or that memory ran out. The module `laws` says that there is only one such outcome if the file
+//! is told. It also says that what `fold` and `lift` write is read as labels that are stable in the
+//! other problem and correspond.
 #![tactic(auto)]
 
 pub mod breaks;

@@ -32,7 +32,7 @@ fn text_refusal(alloc: Global, refusal: ReadRefusal) -> Reply
     }
 }
 
-/// The network of a text in which no fault stands, or what is told where there is none.
+/// The network of a text in which no fault stands, or the reply to tell if there is none.
 pub fn network_in(alloc: Global, text: &[u8]) -> Result<Checked, Reply>
     requires { length text.now ≤ text_limit }
     ensures read { IfOk result (λ checked. reading_of text.now ≡ Ok checked.network) }

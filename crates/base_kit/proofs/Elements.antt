@@ -1,4 +1,4 @@
--- What the lists that `map`, `filter`, `flat_map` and the like give contain.
+-- The elements of the lists that `map`, `filter`, `flat_map` and the like give.
 use Rattle.std.proofs.Common.{◌≡◌, ℕ, zero, suc, ◌+◌, ◌<◌, Bool, true, false, cond, List, [], ◌∷◌, ◌++◌, map, length, ◌⊎◌, inl, inr, Option, Some, None, refl, sym, ◌∙◌, ap, subst, arith, add-zero}
 use Rattle.std.specs.Prelude.{Contains, filter, filter_map, flat_map, slice_get, slice_index_or}
 use Rattle.std.specs.List.{enumerate_from, range_with_len, cons_option}

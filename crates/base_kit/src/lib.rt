@@ -1,10 +1,9 @@
 //! The small types that every other crate stands on, with exact contracts.
 //!
 //! Lists and texts grow at their end, and contracts see them as lists of items and of bytes. A set of
-//! numbers is its ascending list. Numbers and addresses are read exactly by their grammar: the answer
-//! is `None` where the word is off it, and the number itself everywhere else. A graph of acting edges
-//! keeps its rules in its type, and beside it stands what an admissible and the coarsest partition of
-//! its routers is.
+//! numbers is its ascending list. Numbers and addresses are read exactly by their grammar: a word that
+//! it does not allow gives `None`, and every other word gives its number. A graph of acting edges keeps
+//! its rules in its type. `specs/Partition.antt` defines its admissible partitions and the coarsest one.
 #![tactic(auto)]
 
 mod act_graph;

@@ -1,4 +1,4 @@
--- What is allowed to a command of a kind is allowed to a command that is of that kind.
+-- What is allowed for a command is allowed for a command that equals it.
 use Rattle.std.proofs.Common.{◌≡◌, ℕ, List, Option, sym, subst}
 use Rattle.cfg_ast.specs.declared.classes.DestClass.{DestClass}
 use Rattle.cfg_ast.specs.declared.network.Network.{Network}

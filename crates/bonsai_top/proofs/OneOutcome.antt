@@ -1,4 +1,4 @@
--- There is one outcome, where the files that decide it are told.
+-- There is only one outcome, if the files that decide it are told.
 use Rattle.std.proofs.Common.{◌≡◌, ℕ, Bool, true, false, List, refl, sym, ◌∙◌, Option, Some, None}
 use Rattle.std.specs.Prelude.{IsSome}
 use Rattle.cfg_ast.specs.declared.network.Network.{Network}

@@ -1,4 +1,4 @@
--- From a reply that has its cause and was told, to what the whole call does.
+-- From a reply that has its cause and was told to what the whole call does.
 use Rattle.std.proofs.Common.{◌≡◌, ◌≢◌, ◌⊎◌, inl, inr, ⊎_elim, ℕ, List, refl, ◌∙◌, ap, Option}
 use Rattle.answer_kit.specs.declared.status.Status.{Status}
 use Rattle.answer_kit.specs.declared.status.Status.TheVariants.{WriteFault, Memory}

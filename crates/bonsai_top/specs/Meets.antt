@@ -1,4 +1,4 @@
--- What a status and what the sinks took have to do with the outcomes that are allowed.
+-- How a status and the bytes that the sinks took relate to the outcomes that are allowed.
 use Rattle.std.specs.Prelude.{◌≡◌, ◌≢◌, ◌⊎◌, ℕ, List, [], Option}
 use Rattle.io_kit.specs.Ends.{Rose, Took, TookPart}
 use Rattle.answer_kit.specs.declared.status.Status.{Status}
@@ -16,7 +16,7 @@ pub record Tells (o : Outcome) (result : Status) (out_old out_new : Option (List
   -- where nothing is to be written to `out`, it is `err` that failed
   pub cause : result ≡ WriteFault → Rose err_before err_now ⊎ ((o.status ≡ Done) × Rose out_before out_now)
 
--- An outcome has its cause: it is allowed, or names a file that failed, or is want of memory.
+-- An outcome has its cause: it is allowed, or names a file that failed, or says that memory ran out.
 abbrev pub HasCause : (Outcome → Type 0) → List ℕ → List ℕ → Type 0 → Type 0 → Outcome → Type 0
 HasCause IsAllowed first second first_rose second_rose o =
     IsAllowed o ⊎ (first_rose × (o ≡ read_fault first)) ⊎ (second_rose × (o ≡ read_fault second)) ⊎ (o ≡ out_of_memory)
@@ -34,6 +34,6 @@ pub record RunMeets (IsAllowed : Outcome → Type 0) (first second : List ℕ) (
   pub outcome : Outcome
   pub cause : HasCause IsAllowed first second first_rose second_rose outcome
   pub told : Tells outcome result out_old out_new out_before out_now err_old err_new err_before err_now
-  -- without a fault it is an allowed one, told whole, unless memory is wanting
+  -- without a fault it is an allowed one, told whole, unless memory ran out
   pub complete : ¬ first_rose → ¬ second_rose → ¬ Rose out_before out_now → ¬ Rose err_before err_now
       → IsWhole IsAllowed outcome result out_old out_new err_old err_new ⊎ (result ≡ Memory)

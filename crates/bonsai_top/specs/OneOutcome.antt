@@ -1,4 +1,4 @@
--- There is one outcome, where the files that decide it are told.
+-- There is only one outcome, if the files that decide it are told.
 use Rattle.std.specs.Prelude.{◌≡◌, ℕ, Bool, true, false, List, Option, Some, None, IsSome}
 use Rattle.bonsai_top.specs.declared.command.ClassCommand.TheVariants as on_class
 use Rattle.bonsai_top.specs.declared.command.Command.{Command}

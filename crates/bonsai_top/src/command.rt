@@ -35,7 +35,7 @@ pub enum SecondCommand {
     Verify,
 }
 
-/// A command by what it is over.
+/// A command, by what it works on.
 #[derive(Clone, Copy, Debug, PartialEq, Eq)]
 pub enum Command {
     /// The network of the first file.

@@ -2,8 +2,8 @@
 
 ghost use Rattle.bonsai_top.specs.OneOutcome.{OutcomeIsOne};
 
-/// The words allow one outcome, where the files that the command reads are told. Which certificate `certify`
-/// writes is free.
+/// The words allow only one outcome, if the files that the command reads are told. The exception is
+/// `certify`, which may choose the certificate.
 pub fn outcome_is_one()
     ensures { OutcomeIsOne }
 {

@@ -2,10 +2,10 @@
 //!
 //! `run` reads the files that the words name, does the command's work and tells its result, a refusal
 //! or a fault. The words and the contents of the files allow an outcome: a status, the bytes for `out`
-//! and the line for `err`. `run` answers that status and writes exactly these bytes, or names a fault
-//! that the outside counted in this call, or want of memory. What it writes to `out` is always a first
-//! part of the outcome's bytes. The module `laws` says that there is one such outcome where the files
-//! are told.
+//! and the line for `err`. `run` answers that status and writes exactly these bytes, or it names a fault
+//! that the outside counted in this call, or says that memory ran out. What it writes to `out` is always
+//! a first part of the outcome's bytes. The module `laws` says that there is only one such outcome if
+//! the files are told.
 #![tactic(auto)]
 
 mod command;

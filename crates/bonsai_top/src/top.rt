@@ -27,29 +27,29 @@ pub fn run<S: Source, O: Sink, E: Sink>(
     out: &mut O,
     err: &mut E,
 ) -> Status
-    // An outcome that the words allow over the contents is told, as far as these are told, or a fault
-    // that has its cause, or want of memory.
+    // What is told is an outcome that the words allow over the contents, as far as these are told, or a
+    // fault that has its cause, or that memory ran out.
     ensures meets { RunMeets (IsOutcome (bytes_of_words words.now) (S.contents files.old)) (file_of (bytes_of_words words.now)) (second_of (bytes_of_words words.now))
         (FirstRose (command_of (bytes_of_words words.now)) (S.faults files.old (file_of (bytes_of_words words.now))) (S.faults files.new (file_of (bytes_of_words words.now))))
         (SecondRose (command_of (bytes_of_words words.now)) (S.faults files.old (second_of (bytes_of_words words.now))) (S.faults files.new (second_of (bytes_of_words words.now)))) result
         (O.taken out.old) (O.taken out.new) (O.faults out.old) (O.faults out.new) (E.taken err.old) (E.taken err.new) (E.faults err.old) (E.faults err.new) }
 
-    // Words that name no command, and these alone, are misuse. Where they name none, or one that reads no
-    // file, no file is touched.
+    // Exactly the words that name no command are misuse. If the words name no command, or one that reads
+    // no file, no file is touched.
     ensures usage { command_of (bytes_of_words words.now) ≡ None → (result ≡ Status.Usage) ⊎ (result ≡ Status.WriteFault) }
     ensures usage_only { result ≡ Status.Usage → command_of (bytes_of_words words.now) ≡ None }
     ensures unread { is_read reads_first (command_of (bytes_of_words words.now)) ≡ false → files.new ≡ files.old }
 
-    // The headline: where `compress` is done over a file that is told, what was written is read as the
+    // The headline: if `compress` is done over a file that is told, what was written is read as the
     // compressed network.
     ensures headline { result ≡ Status.Done → (number : ℕ) → command_of (bytes_of_words words.now) ≡ Some (command.OnClass on_class.Compress number) → (text before : List ℕ)
         → S.contents files.old (file_of (bytes_of_words words.now)) ≡ Some text → O.taken out.old ≡ Some before → IsHeadline text number before (O.taken out.new) }
 
-    // And so it is where `canon` is done.
+    // The same holds if `canon` is done.
     ensures canonical { result ≡ Status.Done → (number : ℕ) → command_of (bytes_of_words words.now) ≡ Some (command.OnClass on_class.Canon number) → (text before : List ℕ)
         → S.contents files.old (file_of (bytes_of_words words.now)) ≡ Some text → O.taken out.old ≡ Some before → IsHeadline text number before (O.taken out.new) }
 
-    // Where `fold` or `lift` is done over files that are told, what was written is read as stable labels of
+    // If `fold` or `lift` is done over files that are told, what was written is read as stable labels of
     // the other problem that correspond to the solution.
     ensures folded { result ≡ Status.Done → (number : ℕ) → command_of (bytes_of_words words.now) ≡ Some (command.OnSecond on_second.Fold number) → (text solution before : List ℕ)
         → S.contents files.old (file_of (bytes_of_words words.now)) ≡ Some text → S.contents files.old (second_of (bytes_of_words words.now)) ≡ Some solution → O.taken out.old ≡ Some before

@@ -156,7 +156,7 @@ fn over_files<S: Source>(
     }
 }
 
-/// Does the command's work, over the files where it reads one.
+/// Does the command's work, over the files if it reads one.
 pub fn work<S: Source>(
     alloc: Global,
     command: Command,

@@ -1,4 +1,5 @@
--- The canonical act instead of an act, and the acts of a problem with canonical ones in their places.
+-- The canonical act in place of an act, and the acts of a problem after canonical ones took their
+-- places.
 use Rattle.std.proofs.Common.{◌≡◌, ℕ, ◌+◌, Bool, true, false, ◌||◌, nat_lt, List, [], ◌∷◌, length, Option, Some, None, Err, refl, sym, ap, subst}
 use Rattle.std.specs.Prelude.{if◌then◌else◌}
 use Rattle.std.specs.List.{AllByRecursion, list_any}

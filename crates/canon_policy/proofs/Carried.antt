@@ -1,4 +1,4 @@
--- What the code asks of nodes, against what is asked of parts.
+-- What the code asks of nodes is what the definition asks of parts.
 use Rattle.std.proofs.Common.{◌≡◌, ℕ, zero, suc, ◌+◌, ◌<◌, Bool, true, false, ◌&&◌, List, [], ◌∷◌, ◌++◌, length, take, get_or, Option, Some, None, refl, sym, ◌∙◌, ap, arith, inl, inr, ◌⊎◌}
 use Rattle.std.specs.Prelude.{if◌then◌else◌, MatchOption, IfSome}
 use Rattle.std.specs.Option.{option_map}

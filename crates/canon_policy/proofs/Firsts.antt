@@ -1,4 +1,4 @@
--- The first community of a node, against the least on which a part depends.
+-- The first community on which a node depends is the least on which its part depends.
 use Rattle.std.proofs.Common.{◌≡◌, ◌≢◌, ℕ, ◌≤◌, Bool, true, false, not, ◌&&◌, ◌||◌, cond, nat_eq, List, [], ◌∷◌, ◌++◌, Option, Some, None, refl, sym, ◌∙◌, ap, arith, inl, inr}
 use Rattle.std.specs.Prelude.{find, MatchOption, nat_le}
 use Rattle.std.specs.List.{list_any}

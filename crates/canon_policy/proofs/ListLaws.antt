@@ -1,4 +1,4 @@
--- Canonical lists depend on the function alone, and import as it does.
+-- Canonical lists depend only on the function, and import as it does.
 use Rattle.std.proofs.Common.{◌≡◌, ℕ, true, List, Option, Some, sym, ◌∙◌, ap, subst}
 use Rattle.std.proofs.Math.Path.{fun_ext}
 use Rattle.base_kit.specs.Sets.{IsAscending}

@@ -1,5 +1,5 @@
--- Functions that communities outside the universe bear upon only by being kept or not, and what they are on
--- the sets that agree with a settled fixing.
+-- Functions that either keep or drop communities outside the universe and do not otherwise depend on
+-- them, and their values on the sets that agree with a settled fixing.
 use Rattle.std.proofs.Common.{◌≡◌, ℕ, Bool, true, false, ◌&&◌, ◌||◌, nat_eq, List, [], ◌∷◌, Option, None, refl, sym, ◌∙◌, ap, inl, inr}
 use Rattle.std.specs.Prelude.{if◌then◌else◌}
 use Rattle.std.specs.Bool.{beq}
@@ -90,7 +90,7 @@ more_agrees fixing c agrees free = record {
     neither d h true e = let same : c ≡ d = equal c d e in absurd (let h' : has fixing.absent c ≡ true = ap (has fixing.absent) same ∙ h in cc)
     neither d h false e = agrees.absent d h
 
--- a settled community: one answer, or in the result exactly where it is in the set
+-- a settled community: it has one answer, or is in the result exactly if it is in the set
 pub data IsSettled (f : List ℕ → Option Imported) (fixing : Fixing) (c : ℕ) (kept : Bool) : Type 0 where
   one : ((a b : List ℕ) → Agrees fixing a → Agrees fixing b → carries f c a ≡ carries f c b) → IsSettled f fixing c kept
   following : kept ≡ true → ((a : List ℕ) → Agrees fixing a → carries f c a ≡ has a c) → IsSettled f fixing c kept

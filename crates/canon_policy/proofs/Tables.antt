@@ -1,4 +1,4 @@
--- Tables that give numbers nodes, and the number of a set that such a table tells.
+-- Tables from numbers to nodes, and the number that such a table gives to a set.
 use Rattle.std.proofs.Common.{◌≡◌, ℕ, ◌+◌, ◌<◌, Bool, true, false, ◌||◌, nat_eq, List, [], ◌∷◌, refl, sym, ◌∙◌, ap, arith, inl, inr}
 use Rattle.std.proofs.lemmas.Bool.{cases_eq}
 use Rattle.std.specs.List.{AllByRecursion}

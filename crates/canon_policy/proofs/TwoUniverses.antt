@@ -57,7 +57,7 @@ nothing_least : (universe : List ℕ) (part : List ℕ → ℕ) (y : ℕ) → le
 unfolding least
 nothing_least universe part y e known = none_found (depends universe part) universe y e (has_in universe y known)
 
--- a part that depends on a community depends on none outside a universe on which it hangs
+-- if a part depends only on a universe, each community on which it depends is in the universe
 known_of : (universe : List ℕ) (part : List ℕ → ℕ) (x : ℕ) → NumberHangsOn universe part → Differing part x → has universe x ≡ true
 known_of universe part x hangs d = by (has universe x) refl
   where

@@ -1,4 +1,5 @@
--- A uniform function is plain where it does not depend on communities outside, over one universe as over another.
+-- A uniform function is plain if it does not depend on communities outside. This holds over one universe
+-- as over another.
 use Rattle.std.proofs.Common.{◌≡◌, ℕ, Bool, true, false, not, ◌&&◌, ◌||◌, nat_eq, List, ◌++◌, Option, None, refl, sym, ◌∙◌, ap}
 use Rattle.std.specs.Bool.{beq}
 use Rattle.std.specs.List.{list_any}
@@ -64,7 +65,7 @@ module _ (universe : List ℕ) (f : List ℕ → Option Imported) (uniform : IsU
       (or_none (first (named universe set)) (second (named universe set) || third (named universe set)) (same_there set)).1).1
       (has_in universe c known))
 
-  -- what is the same for one trace, and for a community more outside, hangs on the universe
+  -- what is the same for one trace, and for one more community outside, depends only on the universe
   module _ {X : Type 0} (part : List ℕ → X) (traced : (a b : List ℕ) → HaveOneTrace universe a b → part a ≡ part b)
       (one : (set : List ℕ) → part (named universe set) ≡ part (put (named universe set))) where
     to_named : (set : List ℕ) → part set ≡ part (named universe set)

@@ -38,7 +38,7 @@ value_same shown is node inside a b same =
               (any_same (λ c. not (has shown.universe c)) b a (λ c. sym (same c)))))
     ]) inside inside
 
--- what depends on no community outside the universe hangs on the universe
+-- what depends on no community outside the universe depends only on the universe
 all_below : (n : ℕ) (xs : List ℕ) (x : ℕ) → outside_of xs ≤ n → In xs x → x < n
 all_below n [] x le h = absurd h
 all_below n (y ∷ ys) x le (inl e) = omega arith
@@ -70,7 +70,7 @@ none_others universe set = by (list_any (λ c. not (has universe c)) (filter (ha
         part false b e = absurd cc
     by false e = refl
 
--- the tests of a set are those of its part in the universe, with a community outside where it has one
+-- the tests of a set are those of its part in the universe, with a community outside if the set has one
 tests_named : (universe set : List ℕ) (outside : ℕ) (v : ℕ) → v ≤ length universe → has universe outside ≡ false → has_others universe set ≡ true
     → test_of universe set v ≡ test_of universe (with_number outside (named universe set)) v
 tests_named universe set outside v le none others = elim (cases_lt v (length universe)) [

@@ -1,5 +1,5 @@
--- Nodes of sets that are made to agree tell the parts under a fixing that fixes one more, and what too many
--- fixings are.
+-- Nodes of sets that are made to agree tell the parts under a fixing that fixes one more community. Also
+-- what it means that there are too many fixings.
 use Rattle.std.proofs.Common.{◌≡◌, ℕ, zero, suc, ◌+◌, ◌<◌, ◌≤◌, Bool, true, false, not, ◌&&◌, ◌||◌, nat_lt, nat_eq, List, [], ◌∷◌, ◌++◌, length, Option, Some, None, Result, Ok, Err, refl, sym, ◌∙◌, ap, subst, arith, inl, inr}
 use Rattle.std.specs.List.{AllByRecursion, list_any}
 use Rattle.std.specs.Option.{option_map, option_map_or}

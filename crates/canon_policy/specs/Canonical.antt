@@ -19,8 +19,8 @@ use Rattle.canon_policy.specs.Fixings.{Part, Asked, nothing_fixed, sets_of, yes,
 use Rattle.canon_policy.specs.Fixings.Part.{number, community}
 use Rattle.canon_policy.specs.Entries.{in_entry, out_entry}
 
--- Where acceptance, the preference, the count, or whether a community of the universe is in the result
--- is another one once a community outside the universe is put in.
+-- Whether one more community, from outside the universe, changes acceptance, the preference, the count,
+-- or which communities of the universe are in the result.
 abbrev pub differs_with_outside : List ℕ → (List ℕ → Option Imported) → List ℕ → Bool
 differs_with_outside universe f set =
     let more = with_number (outside_of universe) set in
@@ -79,8 +79,8 @@ abbrev pub without_last_denies : List PlainEntry → List PlainEntry
 without_last_denies [] = []
 without_last_denies (entry ∷ entries) = put_before_entries entry (without_last_denies entries)
 
--- There is no such list where an entry is wide, or there are more than 65,535, those that deny at the end
--- among them.
+-- There is no list if an entry is wide, or if there are more than 65,535 entries, counting those at the
+-- end that deny.
 unfoldable pub limited : List PlainEntry → Option Plain
 limited entries = if nat_lt 65535 (length entries) || list_any is_wide entries then None else Some (record { entries = without_last_denies entries })
 
@@ -104,8 +104,8 @@ lists_of None into = None
 lists_of (Some out) None = None
 lists_of (Some out) (Some into) = Some (record { out = out; into = into })
 
--- A function has no canonical lists where it depends on communities outside the universe otherwise than
--- by keeping them or not.
+-- A function has no canonical lists if it depends on communities outside the universe, apart from
+-- keeping them or not.
 unfoldable pub canonical_of : List ℕ → (List ℕ → Option Imported) → Option CanonEdge
 canonical_of universe f = if depends_on_others universe f then None else lists_of (out_list universe f) (in_list universe f)
 

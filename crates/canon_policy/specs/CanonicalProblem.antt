@@ -1,5 +1,5 @@
--- The problem with the canonical acts of its edges: what each edge imports, said in the one way that depends on
--- nothing but what it imports.
+-- The problem with the canonical acts of its edges. A canonical act depends only on what its edge
+-- imports.
 use Rattle.std.specs.Prelude.{◌≡◌, ◌≢◌, ℕ, Bool, true, List, ◌∷◌, ◌++◌, length, Option, Some, None, Result, Ok, Err, Contains, slice_index_or}
 use Rattle.std.specs.List.{AllByRecursion}
 use Rattle.std.specs.Option.{is_some, option_map}
@@ -23,7 +23,8 @@ unfoldable pub canonical_act : List ℕ → Act → Option Act
 canonical_act universe (Import out sends into) = option_map session_with (canonical_lists_of universe (import_of out sends into))
 canonical_act universe (Cost cost) = Some (Cost cost)
 
--- The edges have the canonical ones of their acts. An act that no edge has stays as it is, and so does all else.
+-- Each edge gets the canonical act in place of its act. Acts that no edge has stay as they are, and so
+-- does all else.
 pub record IsCanonicalProblem (universe : List ℕ) (old new : Problem) : Type 0 where
   pub protocol : new.protocol ≡ old.protocol
   pub names : new.names ≡ old.names
@@ -50,7 +51,7 @@ pub record IsFirstWithout (universe : List ℕ) (problem : Problem) (place : ℕ
   pub none : canonical_act universe (act_of problem edge) ≡ None
   pub earlier : AllByRecursion (λ earlier. has_canonical universe problem earlier ≡ true) before
 
--- the problem with canonical acts, the first edge without, or want of memory
+-- the problem with canonical acts, or the first edge without one, or out of memory
 abbrev pub IsCanonicalOr : List ℕ → Problem → Result Problem CanonSrpRefusal → Type 0
 IsCanonicalOr universe old (Ok new) = IsCanonicalProblem universe old new
 IsCanonicalOr universe old (Err (NoCanon place)) = IsFirstWithout universe old place

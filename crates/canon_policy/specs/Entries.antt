@@ -1,5 +1,5 @@
--- The entry of a canonical list for a settled fixing. Each part has one value there, that on the set that
--- has what is fixed as present and nothing else.
+-- The entry of a canonical list for a settled fixing (`Fixings.antt`). What it says is taken from the
+-- set of just the communities that are fixed as present.
 use Rattle.std.specs.Prelude.{ℕ, ◌-◌, Bool, true, false, not, ◌&&◌, List, [], ◌∷◌, Option, Some, None, map, filter, nat_eq, if◌then◌else◌}
 use Rattle.base_kit.specs.Sets.{has, with_number}
 use Rattle.cfg_ast.specs.declared.policy.Change.{Change}
@@ -53,8 +53,8 @@ is_removed f fixing c = not (has fixing.absent c) && not (carries f c (with_numb
 abbrev pub is_added : (List ℕ → Option Imported) → Fixing → ℕ → Bool
 is_added f fixing c = always_carried f fixing c && not (has fixing.present c)
 
--- Where communities outside the universe are kept, those that are in every result are added; else the
--- result replaces all.
+-- If communities outside the universe are kept, the communities that are in every result are added; else
+-- the result replaces all.
 abbrev pub canonical_change : List ℕ → (List ℕ → Option Imported) → Fixing → Option Change
 canonical_change universe f fixing =
     if keeps f universe fixing.present then addition_of (filter (is_added f fixing) universe) else replacement_by (filter (always_carried f fixing) universe)
@@ -67,8 +67,8 @@ deletion_for universe f fixing =
 abbrev pub denying : ℕ → Fixing → PlainEntry
 denying seq fixing = record { seq = seq; permit = false; lists = match_of fixing.present; lp = None; change = None; delete = None; adds = 0; exact = false }
 
--- A fixing whose sets are not accepted denies. Else the entry of the in list sets the preference, which is
--- 100 where no map sets it, and the communities.
+-- The entry of a fixing whose sets are not accepted denies. Else the entry of the in list sets the
+-- preference, which is 100 if no map sets it, and the communities.
 abbrev pub in_entry : List ℕ → (List ℕ → Option Imported) → ℕ → Fixing → PlainEntry
 in_entry universe f seq fixing =
     if accepts f fixing.present then record {

@@ -16,7 +16,7 @@ pub record HasCanonical (universe : List ℕ) (problem : Problem) : Type 0 where
   pub printable : AllByRecursion IsPrintableAct canonical.acts
   pub within : AllByRecursion (IsActWithin universe) canonical.acts
 
--- an edge whose act has no canonical lists, before which each edge has some
+-- an edge whose act has no canonical lists; the act of each edge before it has some
 pub record IsWithoutCanonical (universe : List ℕ) (problem : Problem) : Type 0 where
   pub place : ℕ
   pub first : IsFirstWithout universe problem place

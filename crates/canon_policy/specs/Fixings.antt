@@ -1,5 +1,5 @@
--- Fixings: what is known of a set of communities. Each part of a function is asked in its order, until it
--- has one value on all sets that agree; what it still depends on is fixed next.
+-- Fixings: what is known about a set of communities. The parts of a function are asked in order, each
+-- until it is settled on all sets that agree; a community on which it still depends is fixed next.
 use Rattle.std.specs.Prelude.{ℕ, zero, suc, Bool, not, ◌&&◌, List, [], ◌∷◌, ◌++◌, Option, None, map, find, nat_eq, if◌then◌else◌}
 use Rattle.std.specs.Bool.{beq}
 use Rattle.std.specs.List.{list_any, list_all}
@@ -38,7 +38,7 @@ unfoldable pub sets_of : List ℕ → List (List ℕ)
 sets_of [] = [] ∷ []
 sets_of (c ∷ cs) = map (λ (set : List ℕ). c ∷ set) (sets_of cs) ++ sets_of cs
 
--- on two sets that differ in the community alone the part has different values
+-- on two sets that differ only in the community, the part has different values
 abbrev pub differs : (List ℕ → ℕ) → ℕ → List ℕ → Bool
 differs part c set = not (nat_eq (part (with_number c set)) (part (without_number c set)))
 
@@ -52,13 +52,13 @@ least universe part = find (depends universe part) universe
 abbrev pub yes : Bool → ℕ
 yes b = if b then 1 else 0
 
--- on all sets that agree the community is in the result exactly where the set has it
+-- on all sets that agree, the community is in the result exactly if the set has it
 unfoldable pub follows : List ℕ → Fixing → ℕ → (List ℕ → Bool) → Bool
 follows universe fixing c test = list_all (λ set. beq (test (agreeing fixing set)) (has (agreeing fixing set) c)) (sets_of universe)
 
--- Where a part is not settled on the sets that agree, the least community on which it depends there. A
--- part is settled where it has one value. Where communities outside the universe are kept, one of the
--- universe is also settled where it is in the result exactly if it is in the set.
+-- The least community on which a part depends on the sets that agree, if the part is not settled there.
+-- A part is settled if it has one value. If communities outside the universe are kept, a community of
+-- the universe is also settled if it is in the result exactly when it is in the set.
 abbrev pub unsettled : List ℕ → (List ℕ → Bool) → Fixing → Part → Option ℕ
 unsettled universe kept fixing (number part) = least universe (λ set. part (agreeing fixing set))
 unsettled universe kept fixing (community c test) =
@@ -69,7 +69,7 @@ first_unsettled ask [] = None
 first_unsettled ask (part ∷ parts) = option_or (ask part) (first_unsettled ask parts)
 
 -- The community by which a fixing is split: the least on which the first unsettled part depends.
--- Acceptance comes first, and is all that is asked where no set that agrees is accepted.
+-- Acceptance comes first. If no set that agrees is accepted, nothing else is asked.
 unfoldable pub split : List ℕ → Asked → Fixing → Option ℕ
 split universe asked fixing =
     option_or (least universe (λ set. yes (asked.accepted (agreeing fixing set))))

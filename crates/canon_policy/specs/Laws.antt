@@ -18,13 +18,15 @@ use Rattle.srp_core.specs.ActMaps.{IsPrintableAct, IsActWithin}
 abbrev pub EqualFunctionsHaveEqualLists : Type 0
 EqualFunctionsHaveEqualLists = (universe : List ℕ) (f g : List ℕ → Option Imported) → AreOneImport f g → canonical_lists_of universe f ≡ canonical_lists_of universe g
 
--- So have functions over two universes, each of which is uniform over its own: the universe does not matter.
+-- The same holds of functions over two universes, if each is uniform over its own: the universe does not
+-- matter.
 abbrev pub UniverseDoesNotMatter : Type 0
 UniverseDoesNotMatter = (universe other : List ℕ) (f g : List ℕ → Option Imported) → IsAscending universe → IsAscending other → IsUniform universe (on_sets f)
     → IsUniform other (on_sets g) → AreOneImport f g → canonical_lists_of universe f ≡ canonical_lists_of other g
 
--- What is written for an edge depends on what it imports alone: acts that act alike have equal canonical acts, or neither
--- has one, whatever maps they were given by and whatever communities the networks name besides.
+-- What is written for an edge depends only on what it imports: acts that act alike have equal canonical
+-- acts, or neither has one. This holds for all maps by which the acts were given, and for all other
+-- communities that the networks name.
 abbrev pub AlikeActsAreWrittenAlike : Type 0
 AlikeActsAreWrittenAlike = (universe other : List ℕ) (first second : Act) → IsAscending universe → IsAscending other → IsPrintableAct first → IsPrintableAct second
     → IsActWithin universe first → IsActWithin other second → ActsAlike first second → canonical_act universe first ≡ canonical_act other second

@@ -1,5 +1,6 @@
--- What the calls make of the nodes of a function: whether one depends on a community outside the universe, the
--- entries, by the values on what a settled fixing has present, and the nodes of the parts.
+-- What the calls compute from the nodes of a function: whether a node depends on a community outside the
+-- universe, the nodes of the parts, and the entries, which follow from the values on the set of the
+-- communities that a settled fixing has as present.
 use Rattle.std.specs.Prelude.{◌≡◌, ℕ, Bool, true, false, not, ◌&&◌, List, [], ◌∷◌, ◌++◌, Option, Some, None, Result, Ok, Err, ◌⊎◌, filter, nat_eq, if◌then◌else◌}
 use Rattle.std.specs.List.{AllByRecursion, list_all}
 use Rattle.base_kit.specs.declared.ids.Community.{Community}
@@ -36,7 +37,7 @@ abbrev pub nodes_of : List (ℕ × ℕ) → List ℕ
 nodes_of [] = []
 nodes_of (case ∷ cases) = case.1 ∷ nodes_of cases
 
--- all nodes of a function but that of keeping
+-- all nodes of a function except that of keeping
 abbrev pub told_nodes : EdgeFn → List ℕ
 told_nodes edge = edge.permit ∷ (nodes_of edge.lps ++ (nodes_of edge.adds ++ nodes_of (by_number edge.outs)))
 
@@ -78,8 +79,8 @@ abbrev pub count_in : Shown → List ℕ → List (ℕ × ℕ) → ℕ
 count_in shown set [] = 0
 count_in shown set (case ∷ cases) = if value_of shown set case.1 then case.0 else count_in shown set cases
 
--- The names of the change, which are added where communities outside the universe are kept, and else
--- replace all.
+-- The names of the change. They are added if communities outside the universe are kept, and else replace
+-- all.
 abbrev pub names_made : Shown → EdgeFn → Fixing → List ℕ
 names_made shown edge fixing =
     if value_of shown fixing.present edge.rest then filter (is_not_present fixing) (carried_in shown fixing.present edge.outs) else carried_in shown fixing.present edge.outs
@@ -137,7 +138,7 @@ in_nodes edge = record { permit = edge.permit; rest = edge.rest; parts = Told (e
 abbrev pub out_nodes : EdgeFn → Nodes
 out_nodes edge = record { permit = edge.permit; rest = edge.rest; parts = Told (nodes_of edge.adds) ∷ [] }
 
--- the list that there is, none, or want of memory
+-- the list that there is, or none, or out of memory
 abbrev pub IsListOf : Result Plain CanonRefusal → Option Plain → Type 0
 IsListOf (Ok plain) list = list ≡ Some plain
 IsListOf (Err NoCanon) list = list ≡ None

@@ -15,7 +15,7 @@ use Rattle.srp_core.specs.Problem.{Problem, act_of}
 use Rattle.canon_policy.specs.CanonicalProblem.{canonical_act, IsFirstWithout}
 use Rattle.srp_core.specs.ActMaps.{IsPrintableAct, IsActWithin}
 
--- the canonical act, none, or want of memory
+-- the canonical act, or none, or out of memory
 abbrev pub IsCanonicalActOr : List ℕ → Act → Result Act CanonRefusal → Type 0
 IsCanonicalActOr universe old (Ok new) = canonical_act universe old ≡ Some new
 IsCanonicalActOr universe old (Err canon_refusal.NoCanon) = canonical_act universe old ≡ None

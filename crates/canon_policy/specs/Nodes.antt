@@ -31,7 +31,7 @@ pub record AreFunctionNodesInside (shown : Shown) (nodes : Nodes) : Type 0 where
 abbrev pub AgreeAt : Shown → List ℕ → List ℕ → List ℕ → Type 0
 AgreeAt shown nodes a b = AllByRecursion (λ node. value_of shown a node ≡ value_of shown b node) nodes
 
--- the part has one number on two sets exactly where all nodes have one value on both
+-- the part has one number on two sets exactly if each node has one value on both
 pub record NodesTellPart (shown : Shown) (nodes : List ℕ) (part : List ℕ → ℕ) : Type 0 where
   pub same : (a b : List ℕ) → AgreeAt shown nodes a b → part a ≡ part b
   pub apart : (a b : List ℕ) → part a ≡ part b → AgreeAt shown nodes a b

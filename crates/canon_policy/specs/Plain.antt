@@ -1,5 +1,6 @@
--- Import functions on which communities outside a universe bear only by being kept or not. Such are those of
--- maps that name communities of the universe and match none of them exactly.
+-- Import functions that either keep or drop communities outside a universe, and do not otherwise depend
+-- on them. The functions of maps are such functions if the maps name only communities of the universe
+-- and no match of theirs is exact.
 use Rattle.std.specs.Prelude.{◌≡◌, ℕ, true, false, ◌&&◌, List, Option, Some}
 use Rattle.base_kit.specs.Sets.{has, IsAscending}
 use Rattle.route_maps.specs.declared.plain.Imported.{Imported}

@@ -1,4 +1,4 @@
--- Import functions for which communities outside a universe are as good as one another.
+-- Import functions that treat all communities outside a universe alike.
 use Rattle.std.specs.Prelude.{◌≡◌, ℕ, true, false, ◌&&◌, List, Option, Some}
 use Rattle.base_kit.specs.Sets.{has, IsAscending}
 use Rattle.dd_core.specs.Sets.{has_others}

@@ -37,7 +37,8 @@ fn push_carried(parts: &mut List<PartNodes>, outs: &[(Community, NodeId)]) -> Re
     Ok(())
 }
 
-/// Acceptance, whether communities that no line names are kept, the preference, and each community.
+/// The nodes for the importer's list: acceptance, whether communities that no line names are kept, the
+/// preference, and each community.
 fn in_nodes(alloc: Global, edge: &EdgeFn) -> Result<Nodes, NoMemory>
     ensures { IfOk result (λ nodes. nodes ≡ in_nodes edge.now) }
 {
@@ -56,7 +57,7 @@ fn in_nodes(alloc: Global, edge: &EdgeFn) -> Result<Nodes, NoMemory>
     })
 }
 
-/// Acceptance and the count.
+/// The nodes for the exporter's list: acceptance and the count.
 fn out_nodes(alloc: Global, edge: &EdgeFn) -> Result<Nodes, NoMemory>
     ensures { IfOk result (λ nodes. nodes ≡ out_nodes edge.now) }
 {
@@ -177,7 +178,7 @@ fn any_is_wide(entries: &[PlainEntry]) -> bool
     entries.iter().any(|entry| is_wide(entry))
 }
 
-/// The list of so many entries, none where one is wide.
+/// The list of these entries, unless there are too many or one is wide.
 fn limited(entries: List<PlainEntry>) -> Option<Plain>
     ensures { result ≡ limited entries }
 {
@@ -192,7 +193,7 @@ fn limited(entries: List<PlainEntry>) -> Option<Plain>
     })
 }
 
-/// The importer's list, where there is one, of its settled fixings.
+/// The importer's list, made from its settled fixings, if there is one.
 fn in_list_of(
     alloc: Global,
     store: &Store,
@@ -210,7 +211,8 @@ fn in_list_of(
     Ok(limited(entries))
 }
 
-/// The exporter's list, where there is one and some count is above 0, of its settled fixings.
+/// The exporter's list of a function with some count above 0, made from its settled fixings, if there is
+/// one.
 fn out_list_of(
     alloc: Global,
     store: &Store,
@@ -291,9 +293,9 @@ fn out_list(alloc: Global, store: &mut Store, edge: &EdgeFn) -> Result<Plain, Ca
     }
 }
 
-/// The canonical lists of a function of a session, which the nodes mean in the one form that `edge_fn`
-/// makes. They import every set of communities as it does, and can be printed where its preferences and
-/// counts are such as a line can say.
+/// The canonical lists of the function of a session, whose nodes have the form that `edge_fn` makes. The
+/// lists import every set of communities as the function does. They can be printed if lines can hold the
+/// preferences and counts of the function.
 pub fn canon(alloc: Global, store: &mut Store, edge: &EdgeFn) -> Result<CanonEdge, CanonRefusal>
     requires { IsEdgeForm store.old edge.now }
     ensures grows { Grows store.old store.new }

@@ -111,7 +111,7 @@ fn always_carried(
     Ok(carried)
 }
 
-/// Of these communities those that some set which agrees has not.
+/// Those of these communities that are not fixed as present.
 fn not_present(alloc: Global, comms: &[u32], fixing: &Fixing) -> Result<Vec<u32>, NoMemory>
     ensures { IfOk result (λ more. more.items ≡ filter (is_not_present fixing.now) comms.now) }
 {

@@ -6,7 +6,7 @@ ghost use Rattle.canon_policy.specs.Fixings.{nothing_fixed, with_present, with_a
 use base_kit::{NoMemory, NumSet};
 use std::alloc::Global;
 
-/// What is known of a set of communities: that it has some, and has others not.
+/// What is known about a set of communities: some that it has, and some that it does not have.
 #[derive(Drop)]
 pub struct Fixing {
     pub present: NumSet,
@@ -24,7 +24,7 @@ impl Fixing {
         }
     }
 
-    /// The set has the community, too.
+    /// The fixing with one more community that the set has.
     pub fn with_present(&self, community: u32) -> Result<Fixing, NoMemory>
         ensures { IfOk result (λ fixing. fixing ≡ with_present community self.now) }
     {
@@ -34,7 +34,7 @@ impl Fixing {
         Ok(Fixing { present, absent })
     }
 
-    /// The set has not the community, either.
+    /// The fixing with one more community that the set does not have.
     pub fn with_absent(&self, community: u32) -> Result<Fixing, NoMemory>
         ensures { IfOk result (λ fixing. fixing ≡ with_absent community self.now) }
     {

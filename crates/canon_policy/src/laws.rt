@@ -14,8 +14,8 @@ pub fn universe_does_not_matter()
     ensures { UniverseDoesNotMatter }
 {}
 
-/// What is written for an edge depends on what it imports alone: acts that act alike have equal canonical acts,
-/// also those of two networks, or neither has one.
+/// What is written for an edge depends only on what it imports: acts that act alike, also acts of two
+/// networks, have equal canonical acts, or neither has one.
 pub fn alike_acts_are_written_alike()
     ensures { AlikeActsAreWrittenAlike }
 {}

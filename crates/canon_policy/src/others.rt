@@ -1,4 +1,4 @@
-//! Whether a function depends on communities that no line names, otherwise than by keeping them.
+//! Whether a function depends on communities that no line names, apart from keeping them or not.
 
 ghost use Rattle.std.specs.Prelude.{◌≡◌, ◌++◌, ◌∷◌, [], ℕ, List as Items, Option, IfOk, OnOk, true, false};
 ghost use Rattle.route_maps.specs.declared.plain.Imported.{Imported};

@@ -18,7 +18,8 @@ use std::alloc::Global;
 /// The nodes of a part of a function of a session.
 #[derive(Drop)]
 pub enum PartNodes {
-    /// Of one that these nodes tell.
+    /// A part whose number these nodes determine: two sets give one number exactly if each node has one
+    /// value on both.
     Told(List<NodeId>),
     /// Whether a community is in the result.
     Carried(Community, NodeId),
@@ -57,7 +58,7 @@ fn least_of(store: &Store, nodes: &[NodeId]) -> Option<Community>
     least
 }
 
-// The least community on which it depends whether a community is in the result, none where it is settled.
+// The least community on which the carrying of a community depends; none if that is settled.
 fn least_of_carried(
     alloc: Global,
     store: &mut Store,
@@ -105,7 +106,7 @@ fn least_of_part(
     }
 }
 
-// The least community on which the first part depends that is not settled.
+// The least community on which the first part that is not settled depends.
 fn first_unsettled(
     alloc: Global,
     store: &mut Store,

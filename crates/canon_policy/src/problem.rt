@@ -47,8 +47,8 @@ impl From<AllocError> for CanonSrpRefusal {
 /// lists of its function, with communities sent. Costs stay, and so do acts that no edge has.
 ///
 /// # Errors
-/// The place of the first edge whose act has no canonical lists, or out of memory. After either the store
-/// may have more nodes.
+/// The place of the first edge whose act has no canonical lists, or out of memory. In both cases the
+/// store may have more nodes.
 pub fn canon_srp(alloc: Global, srp: &Srp, store: &mut Store) -> Result<Srp, CanonSrpRefusal>
     requires communities { AreCommunities store.old.universe }
     requires printable { AllByRecursion IsPrintableAct srp.now.acts }

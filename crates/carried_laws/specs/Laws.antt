@@ -41,7 +41,7 @@ abbrev pub FoldSolvesCompressed : Type 0
 FoldSolvesCompressed = (network : Network) → ∥ IsGiven network ∥₁ → IsFaultless network → (number : ℕ) (solution written configurations : List ℕ)
     → IsCompressAnswer network number (done configurations) → IsFoldAnswer network number (Some solution) (done written) → SolvesClass network number written configurations
 
--- A solution of which `lift` writes one solves what `compress` writes of the class.
+-- A solution that `lift` takes solves what `compress` writes of the class.
 abbrev pub LiftTakesCompressed : Type 0
 LiftTakesCompressed = (network : Network) → ∥ IsGiven network ∥₁ → IsFaultless network → (number : ℕ) (solution written configurations : List ℕ)
     → IsCompressAnswer network number (done configurations) → IsLiftAnswer network number (Some solution) (done written) → SolvesClass network number solution configurations

@@ -1,4 +1,4 @@
-//! What `fold` and `lift` have to do with the network that `compress` writes, as laws.
+//! Laws that relate `fold` and `lift` to the network that `compress` writes.
 //!
 //! The labels of the groups that `fold` writes, and those that `lift` takes, are stable solutions of the
 //! network that `compress` writes of the same class, for each prefix of the class. Each law is the contract of a

@@ -29,7 +29,8 @@ abbrev pub PrintedCertificateIsReadBack : Type 0
 PrintedCertificateIsReadBack = (graph : ActGraph) (names : List (List ℕ)) (c : Certificate) → CanBeNamed graph names → IsAccepted graph c
     → certificate_of_text graph names (certificate_text graph.edges names c) ≡ Ok c
 
--- Its text for at most 4,096 routers, with at most as many splits as routers, has at most 16,777,216 bytes.
+-- Its text has at most 16,777,216 bytes, if there are at most 4,096 routers and no more splits than
+-- routers.
 abbrev pub PrintedCertificateIsShort : Type 0
 PrintedCertificateIsShort = (graph : ActGraph) (names : List (List ℕ)) (c : Certificate) → CanBeNamed graph names → IsAccepted graph c → length c.splits ≤ graph.count → graph.count ≤ 4096
     → length (certificate_text graph.edges names c) ≤ 16777216

@@ -21,7 +21,7 @@ range_split a (suc m) n =
     let f : a + suc m ≡ (a + 1) + m = omega arith in
     rw (e, f) (ap (λ r. a ∷ r) (range_split (a + 1) m n))
 
--- what begins a word does not hang on where the line begins, but at its first place
+-- what begins a word does not depend on where the line begins, except at its first place
 same_behind : (bs : List ℕ) (from next k : ℕ) → from < next → next < k → begins_word bs from k ≡ begins_word bs next k
 same_behind bs from next k lt gt = rw (ne_eqb k from (omega arith), ne_eqb k next (omega arith)) refl
 

@@ -1,6 +1,6 @@
 //! What the tables say of a line's head.
 
-/// What a line is whose head is in a table.
+/// What a line is, if its head is in a table.
 #[derive(Clone, Copy, Debug, PartialEq, Eq)]
 pub enum HeadClass {
     /// A router line of that form.

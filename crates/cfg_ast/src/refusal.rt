@@ -7,8 +7,8 @@ ghost use Rattle.cfg_ast.specs.declared.refusal.ReadRefusal.TheVariants as read_
 use base_kit::NoMemory;
 use thiserror::Error;
 
-/// What is wrong with a text. Of the faults of meaning at one line the one whose kind stands first here
-/// decides; which of the faults of a line as such or of its form decides is said where lines are read.
+/// What is wrong with a text. If a line has several faults of meaning, the kind that comes first here
+/// decides. `specs/text/` says which fault of a line as such, or of form, decides.
 #[derive(Clone, Copy, Debug, PartialEq, Eq)]
 pub enum Kind {
     NotAscii,

@@ -1,4 +1,4 @@
--- That no fault of its meaning stands in a network, kind by kind.
+-- What it means, kind by kind, that a network has no fault of meaning.
 use Rattle.std.specs.Prelude.{◌≡◌, []}
 use Rattle.cfg_ast.specs.declared.network.Network.{Network}
 use Rattle.cfg_ast.specs.meaning.PolicyFaults.{undefined_map_lines, undefined_list_lines, delete_list_lines, too_many_communities_lines, prepend_form_lines, prepend_in_lines}

@@ -1,4 +1,4 @@
--- What follows where no fault stands in a network.
+-- What follows if a network has no fault.
 use Rattle.std.specs.Prelude.{◌≡◌, ◌≤◌, length, Ok}
 use Rattle.cfg_ast.specs.declared.network.Network.{Network}
 use Rattle.cfg_ast.specs.meaning.Meaning.{judged}

@@ -3,7 +3,7 @@ use Rattle.std.specs.Prelude.{ℕ, Bool, true, false, List, [], ◌∷◌, Optio
 use Rattle.cfg_ast.specs.declared.refusal.Kind.{Kind}
 use Rattle.cfg_ast.specs.declared.refusal.Fault.{Fault}
 
--- the lesser of two lines, where there are any
+-- the lesser of two lines, if there are any
 abbrev pub lesser_line : Option ℕ → Option ℕ → Option ℕ
 lesser_line None line = line
 lesser_line (Some x) None = Some x

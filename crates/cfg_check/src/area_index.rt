@@ -27,7 +27,8 @@ pub struct AreaIndex<'a> {
     pub ghost listed: { 4 < length (listed_of router.now.ospf) → HasNames names (λ q. list_any (bytes_eq q) (listed_of router.now.ospf)) },
 }
 
-// The names that make their interfaces passive, or not passive where all others are.
+// The names that make their interfaces passive; if all others are passive, the names that make them not
+// passive.
 fn listed(router: &Router) -> &[Text]
     ensures { result.now ≡ listed_of router.now.ospf }
 {
@@ -43,7 +44,7 @@ fn listed(router: &Router) -> &[Text]
     }
 }
 
-// The set of the names, which is asked only where they are many.
+// The set of the names. It is used only if they are many.
 fn name_set(alloc: Global, texts: &[Text]) -> Result<HashSet<&str>, NoMemory>
     ensures { IfOk result (λ names. 4 < length texts.now → HasNames names (λ q. list_any (bytes_eq q) texts.now)) }
 {

@@ -63,8 +63,8 @@ fn least_fault(
 
 /// Checks the meaning of a network that some text gives.
 ///
-/// A refusal is that of the least line at fault, and of several faults at one line of the first kind in
-/// the order of `Kind`. On a refusal, want of memory included, the network is given up.
+/// It refuses at the least line with a fault; if that line has several faults, the first kind in the
+/// order of `Kind` decides. After a refusal, or if memory runs out, the network is dropped.
 pub fn check_network(alloc: Global, network: Network) -> Result<Checked, ReadRefusal>
     requires { IsGiven network }
     ensures ok { IfOk result (λ checked. checked.network ≡ network) }

@@ -157,7 +157,7 @@ fn exceeds(alloc: Global, mentions: &[Mention], line: u32) -> Result<bool, NoMem
     Ok(false)
 }
 
-// The first line with which more communities than allowed stand, which is not after `last`.
+// The first line up to which more communities stand than are allowed. It is not after `last`.
 fn first_exceeding(alloc: Global, mentions: &[Mention], last: u32) -> Result<u32, NoMemory>
     requires { 1024 < count_up_to mentions.now last }
     ensures few { IfOk result (λ line. count_before mentions.now line ≤ 1024) }

@@ -6,7 +6,7 @@ ghost use Rattle.cfg_check.specs.LeastLine.{lesser_line, fault_line_if, fault_at
 
 use cfg_ast::{Fault, Kind};
 
-/// The lesser of two lines, where there are any.
+/// The lesser of two lines, if there are any.
 pub(crate) fn lesser_line(least: Option<u32>, line: Option<u32>) -> Option<u32>
     ensures { result ≡ lesser_line least line }
 {
@@ -17,7 +17,7 @@ pub(crate) fn lesser_line(least: Option<u32>, line: Option<u32>) -> Option<u32>
     }
 }
 
-/// The lesser of a line and another one that counts only where there is a fault.
+/// The lesser of a line and another one that counts only if there is a fault.
 pub(crate) fn with_line_if(least: Option<u32>, at_fault: bool, line: u32) -> Option<u32>
     ensures { result ≡ lesser_line least (fault_line_if at_fault line) }
 {
@@ -28,8 +28,8 @@ pub(crate) fn with_line_if(least: Option<u32>, at_fault: bool, line: u32) -> Opt
     }
 }
 
-/// The fault with the lesser line, of a fault and the one of a kind at a line, where there are any; on one
-/// line the first of them.
+/// The fault with the lesser line: `least`, or the fault of this kind at `line`, if they are there. If
+/// both are at the same line, it is `least`.
 pub(crate) fn with_fault(least: Option<Fault>, kind: Kind, line: Option<u32>) -> Option<Fault>
     ensures { result ≡ lesser_fault least (fault_at kind line) }
 {

@@ -1,10 +1,10 @@
 //! Whether a network may be used: the third pass of the reading.
 //!
 //! `check_network` looks for every fault that the meaning of lines can have, as a name, a number or an
-//! address that stands twice, or too many pairs of adjacent interfaces. It refuses the network by the
-//! least line at fault, and of several faults at one line by the first kind in the order of `Kind`. Where
-//! there is none it gives a `Checked`, whose type keeps that some text gives its network and that no
-//! fault stands in it.
+//! address that stands twice, or too many pairs of adjacent interfaces. It refuses the network at the
+//! least line with a fault. If that line has several faults, the first kind in the order of `Kind`
+//! decides. If there is no fault it gives a `Checked`, whose type keeps that some text gives its network
+//! and that the network has no fault.
 #![tactic(auto)]
 
 mod addresses;

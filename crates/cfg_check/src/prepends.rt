@@ -101,7 +101,7 @@ fn prepending_maps_in_of(alloc: Global, router: &Router) -> Result<Option<u32>, 
     Ok(prepending_maps_in(&names, neighbors(router)))
 }
 
-/// The least line that gives a neighbour a map in which has an entry that prepends.
+/// The least line that gives a neighbour an in map with an entry that prepends.
 pub(crate) fn prepend_in(alloc: Global, routers: &[Router]) -> Result<Option<u32>, NoMemory>
     ensures { IfOk result (λ line. line ≡ least_line (flat_map prepending_maps_in_of routers.now)) }
 {

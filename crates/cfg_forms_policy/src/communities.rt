@@ -135,8 +135,8 @@ fn values(alloc: Global, bytes: &[u8], words: &[Span]) -> Result<NumSet, NoMemor
     Ok(set)
 }
 
-/// The communities that the words are: 1 to 32 communities, each once, or `BadForm`. `WellKnown` where
-/// they are, and one of them is well-known.
+/// The communities that the words spell: 1 to 32 communities, each once, or else `BadForm`. `WellKnown`
+/// if the words spell such communities and one of them is well-known.
 #[tactic(auto, unfolding(cfg_ast::specs::text::PolicyForms::community_words))]
 pub(crate) fn communities(alloc: Global, bytes: &[u8], words: &[Span]) -> Result<NumSet, FormFault>
     requires { AllByRecursion (IsWordIn bytes.now) words.now }

@@ -2,8 +2,8 @@
 //!
 //! `policy_item` reads one line of a running configuration, at the top or in an entry of a route map.
 //! It answers exactly the item that the definition gives, and exactly its fault where the line has one:
-//! a head in no table, a refused head, a form that the line does not fit, or, where the line is at no
-//! other fault, a well-known community. Only want of memory is free.
+//! a head in no table, a refused head, a form that the line does not fit, or, if the line has no other
+//! fault, a well-known community. The contract leaves open only when memory runs out.
 #![tactic(auto)]
 
 mod act;

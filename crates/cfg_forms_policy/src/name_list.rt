@@ -56,7 +56,7 @@ fn copies(alloc: Global, bytes: &[u8], words: &[Span]) -> Result<List<Text>, NoM
     Ok(names)
 }
 
-/// The names that the words are: 1 to 32 names of lists, each once, or `BadForm`.
+/// The words as names: 1 to 32 names of lists, each once, or else `BadForm`.
 #[tactic(auto, unfolding(cfg_ast::specs::text::PolicyForms::list_names_of))]
 pub(crate) fn list_names(
     alloc: Global,

@@ -9,8 +9,8 @@ use base_kit::{List, NoMemory};
 use cfg_ast::Line;
 use std::alloc::Global;
 
-/// All lines of a text, numbered from 1, those that are skipped among them, however many there are and
-/// however long. Their bytes may be any.
+/// All lines of a text, numbered from 1, including those that are skipped. There may be any number of
+/// lines, of any length and with any bytes.
 pub fn every_line(alloc: Global, bytes: &[u8]) -> Result<List<Line>, NoMemory>
     requires { length bytes.now ≤ 268435456 }
     ensures exact { IfOk result (λ found. found ≡ all_lines_of bytes.now) }

@@ -21,8 +21,8 @@ fn keep(found: &mut List<Line>, bytes: &[u8], line: Line) -> Result<(), NoMemory
     Ok(())
 }
 
-/// The lines of a text that are not skipped, numbered from 1: those with a word whose first word does
-/// not begin with `!`.
+/// The lines of a text that are not skipped, numbered from 1: lines that have words, and whose first
+/// word does not begin with `!`.
 ///
 /// # Errors
 ///

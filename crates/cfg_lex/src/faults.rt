@@ -37,7 +37,7 @@ pub(crate) fn kind_from(
 ///
 /// # Errors
 ///
-/// That of `lines`, which decides in the same way.
+/// The refusal of `lines`, which decides in the same way.
 pub fn sound(bytes: &[u8]) -> Result<(), ReadRefusal>
     requires { length bytes.now ≤ 16777216 }
     ensures { result ≡ without_value (lines_of bytes.now) }

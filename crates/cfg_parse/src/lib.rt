@@ -1,8 +1,8 @@
 //! The network of a text.
 //!
-//! `read_network` reads a text line by line and gives the network of the text. It refuses the text at the
-//! first line with a fault of its own, or else at the first with a fault of form, or else for want of an
-//! end. Its contract is the definition `network_of_text`.
+//! `read_network` reads a text line by line and gives the network of the text. It refuses the text at
+//! the first line with a fault of its own, or else at the first with a fault of form, or else because
+//! the last `end` is missing. Its contract is the definition `network_of_text`.
 //!
 //! `read_members` gives the names on the member lines of a text, which reading a network skips.
 #![tactic(auto)]

@@ -95,8 +95,9 @@ fn members_in(alloc: Global, bytes: &[u8], lines: &[Line]) -> Result<List<List<T
     Ok(ended)
 }
 
-/// For each top line `end`, in order, the names on the lines before it, and behind the top line `end`
-/// before, whose words are `!`, `member` and the name of a router. The text may have any faults.
+/// One list for each top line `end`, in order: the names on the member lines between the `end` before it
+/// and this one. A member line has the words `!`, `member` and the name of a router. The text may have
+/// any faults.
 #[tactic(auto, unfolding(cfg_ast::specs::text::Members::members_of_text))]
 pub fn read_members(alloc: Global, bytes: &[u8]) -> Result<List<List<Text>>, NoMemory>
     requires { length bytes.now ≤ 16777216 }

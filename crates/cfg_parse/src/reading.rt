@@ -133,12 +133,12 @@ fn read_lines(alloc: Global, bytes: &[u8]) -> Result<State, ReadRefusal>
 ///
 /// # Errors
 ///
-/// The first line with a fault of its own decides (`NotAscii`, `LineTooLong`, `TooManyLines`). Without
-/// one, the first line decides that has, by itself and by the lines before it, one of these faults, the
-/// first of them in this order: `Misplaced` for an indented line without a stanza, `UnknownLine`,
-/// `Unsupported`, `BadForm`, `WellKnown`, `Misplaced` for a line of a neighbour before its `remote-as`,
-/// `Repeated`, `NoHostname`. Last comes `NoEnd`, at the last line that is not skipped. `Memory` where
-/// memory ran out.
+/// The first line with a fault of its own decides (`NotAscii`, `LineTooLong`, `TooManyLines`). If there
+/// is none, the first line decides that has one of the following faults, by itself or by the lines
+/// before it. If it has several, the first in this order decides: `Misplaced` for an indented line
+/// without a stanza, `UnknownLine`, `Unsupported`, `BadForm`, `WellKnown`, `Misplaced` for a line of a
+/// neighbour before its `remote-as`, `Repeated`, `NoHostname`. Last comes `NoEnd`, at the last line that
+/// is not skipped. `Memory` where memory ran out.
 #[tactic(auto, unfolding(cfg_ast::specs::text::Reading::network_of_text, cfg_ast::specs::text::Reading::network_of_lines))]
 pub fn read_network(alloc: Global, bytes: &[u8]) -> Result<Network, ReadRefusal>
     requires { length bytes.now ≤ 16777216 }

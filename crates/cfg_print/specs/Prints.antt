@@ -1,4 +1,4 @@
--- What printing answers: the whole text, or that it would be longer than a text that is read may be.
+-- What printing answers: the whole text, or that the text would be too long to be read.
 use Rattle.std.specs.Prelude.{◌≡◌, ℕ, Bool, true, false, ◌||◌, List, length, filter, ◌==◌, nat_lt, Result, Ok, Err}
 use Rattle.cfg_print.specs.declared.refusal.PrintRefusal.{PrintRefusal}
 use Rattle.cfg_print.specs.declared.refusal.PrintRefusal.TheVariants.{TooLong, Memory}

@@ -15,7 +15,7 @@ fn count_newlines(bytes: &[u8]) -> usize
     bytes.iter().filter(|b| **b == b'\n').count()
 }
 
-// More bytes or more lines than a text has that is read.
+// Whether there are more bytes or more lines than a text that is read may have.
 #[tactic(auto, unfolding(crate::specs::Prints::is_too_long))]
 fn is_too_long(bytes: &[u8]) -> bool
     ensures { result ≡ is_too_long bytes.now }
@@ -27,7 +27,7 @@ fn is_too_long(bytes: &[u8]) -> bool
 ///
 /// # Errors
 ///
-/// `TooLong` exactly where the text has more than 16,777,216 bytes or 1,000,000 lines, as no text has
+/// `TooLong` exactly if the text has more than 16,777,216 bytes or 1,000,000 lines, the limits of a text
 /// that is read. `Memory` where memory ran out.
 #[tactic(auto, unfolding(cfg_ast::specs::printing::Printed::printed))]
 pub fn text(alloc: Global, network: &Network, notes: &Notes) -> Result<Vec<u8>, PrintRefusal>

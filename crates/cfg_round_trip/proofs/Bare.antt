@@ -1,4 +1,4 @@
--- What is read but for the numbers of lines.
+-- What is read, except for line numbers.
 use Rattle.std.proofs.Common.{◌≡◌, ℕ, Bool, true, false, List, [], ◌∷◌, Option, Some, None, Result, Ok, Err, refl, ap, ◌∙◌, map}
 use Rattle.std.specs.Prelude.{if◌then◌else◌, is_some}
 use Rattle.std.specs.List.{list_any}
@@ -69,12 +69,12 @@ abbrev pub bare_refusal : ReadRefusal → ReadRefusal
 bare_refusal (refusal.At n kind) = refusal.At 0 kind
 bare_refusal refusal.Memory = refusal.Memory
 
--- what a form says, but for numbers
+-- what a form says, except for line numbers
 abbrev pub on_ok : {A B : Type 0} → (A → B) → Result A FormFault → Result B FormFault
 on_ok h (Ok x) = Ok (h x)
 on_ok h (Err fault) = Err fault
 
--- what a step gives, but for numbers
+-- what a step gives, except for line numbers
 abbrev pub on_result : {A B : Type 0} → (A → B) → Result A ReadRefusal → Result B ReadRefusal
 on_result h (Ok x) = Ok (h x)
 on_result h (Err fault) = Err (bare_refusal fault)

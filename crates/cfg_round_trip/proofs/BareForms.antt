@@ -1,4 +1,4 @@
--- What a form of a line says does not hang on the number of the line.
+-- What a form of a line says does not depend on the line number.
 use Rattle.std.proofs.Common.{◌≡◌, ℕ, Bool, true, false, ◌&&◌, List, [], ◌∷◌, length, Option, Some, None, refl}
 use Rattle.std.specs.Prelude.{codes, bytes_eq, nat_le}
 use Rattle.std.specs.Option.{is_some}

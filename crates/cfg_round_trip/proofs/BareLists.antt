@@ -1,4 +1,4 @@
--- What a line adds to lists and route maps does not hang on the numbers of lines.
+-- What a line adds to lists and route maps does not depend on line numbers.
 use Rattle.std.proofs.Common.{◌≡◌, ℕ, Bool, true, false, ◌&&◌, List, [], ◌∷◌, map, refl, sym, ap, ◌∙◌}
 use Rattle.std.specs.Prelude.{nat_lt, ◌==◌, if◌then◌else◌}
 use Rattle.std.proofs.lemmas.List.{map_push}

@@ -1,4 +1,4 @@
--- What a line adds to an open stanza does not hang on the numbers of lines.
+-- What a line adds to an open stanza does not depend on line numbers.
 use Rattle.std.proofs.Common.{◌≡◌, ℕ, Bool, true, false, List, [], ◌∷◌, ◌++◌, map, Option, Some, None, Ok, refl, sym, ap, ◌∙◌}
 use Rattle.std.specs.Prelude.{◌==◌, if◌then◌else◌}
 use Rattle.std.specs.List.{list_any}

@@ -1,4 +1,4 @@
--- Reading does not hang on the numbers of lines.
+-- Reading does not depend on line numbers.
 use Rattle.std.proofs.Common.{◌≡◌, ℕ, Bool, true, false, List, [], ◌∷◌, map, Option, Some, None, Ok, refl, sym, ap, ◌∙◌}
 use Rattle.std.specs.Prelude.{bytes_eq, ◌==◌, if◌then◌else◌}
 use Rattle.std.specs.Option.{option_map}
@@ -148,7 +148,7 @@ step_same s l = by (l.indent == 0) (is_policy_line l.words)
     by true false = step_router_same s l
     by false listed = then_same bare_stanza bare_state _ _ _ _ (take_inner_same l s.draft.stanza) (λ stanza. refl)
 
--- reading lines without their numbers gives the same but for numbers
+-- reading lines without their numbers gives the same except for line numbers
 pub steps_same : (ls : List TextLine) (s : State) → steps (bare_state s) (map bare_line ls) ≡ on_result bare_state (steps s ls)
 unfolding steps
 steps_same [] s = refl

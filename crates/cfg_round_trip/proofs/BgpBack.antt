@@ -1,4 +1,4 @@
--- The printed lines of a BGP process are read as it.
+-- The printed lines of a BGP process are read back as the process.
 use Rattle.std.proofs.Common.{◌≡◌, ℕ, Bool, true, false, List, [], ◌∷◌, ◌++◌, map, Option, Some, None, Result, Ok, refl, sym, ap, ◌∙◌}
 use Rattle.std.specs.Prelude.{IfSome, codes, ◌==◌}
 use Rattle.std.specs.Option.{option_map}

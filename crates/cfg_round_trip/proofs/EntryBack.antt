@@ -1,4 +1,4 @@
--- The printed lines of an entry of a route map are read as it.
+-- The printed lines of an entry of a route map are read back as the entry.
 use Rattle.std.proofs.Common.{◌≡◌, ℕ, Bool, true, false, List, [], ◌∷◌, ◌++◌, Option, Some, None, Ok, refl, sym, ap, ◌∙◌}
 use Rattle.std.specs.Prelude.{IfSome}
 use Rattle.std.specs.Option.{option_map}

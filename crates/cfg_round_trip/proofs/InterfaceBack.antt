@@ -1,4 +1,4 @@
--- The printed lines of an interface are read as it.
+-- The printed lines of an interface are read back as the interface.
 use Rattle.std.proofs.Common.{◌≡◌, ℕ, Bool, true, false, List, [], ◌∷◌, ◌++◌, Option, Some, None, Ok, refl}
 use Rattle.std.specs.Prelude.{IfSome}
 use Rattle.std.specs.Option.{option_map}

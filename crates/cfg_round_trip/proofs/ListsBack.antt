@@ -1,4 +1,4 @@
--- The printed lines of lists and route maps are read as these, list by list.
+-- The printed lines of lists and route maps are read back, list by list.
 use Rattle.std.proofs.Common.{◌≡◌, ℕ, ◌<◌, Bool, true, false, ◌&&◌, List, [], ◌∷◌, ◌++◌, map, refl, arith}
 use Rattle.std.specs.Prelude.{bytes_eq, nat_lt, ◌==◌}
 use Rattle.std.specs.List.{AllByRecursion, list_any}

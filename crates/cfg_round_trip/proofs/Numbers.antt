@@ -1,4 +1,4 @@
--- The network of some lines does not hang on their numbers.
+-- The network of some lines does not depend on their numbers.
 use Rattle.std.proofs.Common.{◌≡◌, ℕ, ◌-◌, Bool, true, false, ◌&&◌, List, length, map, Option, Some, None, Result, Ok, Err, refl, sym, ap, ◌∙◌}
 use Rattle.std.specs.Prelude.{◌==◌, slice_get, if◌then◌else◌}
 use Rattle.std.specs.Option.{option_map}
@@ -38,7 +38,7 @@ pub network_same : (ls : List TextLine) → network_of_lines (map bare_line ls) 
 unfolding network_of_lines
 network_same ls = then_same bare_state bare _ _ _ _ (steps_same ls at_start) (λ s. then_same itself bare _ _ _ _ (ending_same ls) (λ x. refl))
 
--- a network that is given but for numbers
+-- a network that is given except for line numbers
 given_bare : (r : Result Network ReadRefusal) (b : Network) → on_result bare r ≡ Ok b → (m : Network) × (r ≡ Ok m) × (bare m ≡ b)
 given_bare (Ok m) b e = (m, refl, let same : bare m ≡ b = cc in same)
 given_bare (Err fault) b e = absurd cc

@@ -1,4 +1,4 @@
--- The printed lines of prefix lists and community lists are read as these.
+-- The printed lines of prefix lists and community lists are read back as these lists.
 use Rattle.std.proofs.Common.{◌≡◌, ℕ, ◌<◌, ◌≤◌, false, List, [], ◌∷◌, ◌++◌, length, map, Option, refl, sym, ap, ◌∙◌, arith}
 use Rattle.std.specs.Prelude.{nat_lt}
 use Rattle.std.specs.List.{AllByRecursion, IsDistinct, list_any, flat_map}
@@ -75,7 +75,7 @@ no_last_entry name seq done entries new below =
     last_no_number (is_prefix_list name) (λ (l : PrefixList). has_seq l.entries seq) done (list_with name entries) new
     (none_same (λ (x : PrefixEntry). x.seq) seq entries below)
 
--- the draft but for its prefix lists
+-- the draft without its prefix lists
 record Rest : Type 0 where
   name : Option Named
   interfaces : List Interface

@@ -1,4 +1,4 @@
--- Each printed line of a well-formed network has words, and they are words as lines have them.
+-- Each printed line of a well-formed network has words, and these are words that a line can have.
 use Rattle.std.proofs.Common.{ℕ, ◌≤◌, Bool, true, false, List, [], ◌∷◌, ◌++◌, map, flat_map, refl, codes, Option, Some, None, arith}
 use Rattle.std.specs.Prelude.{IfSome, is_some, if◌then◌else◌}
 use Rattle.std.specs.List.{AllByRecursion}

@@ -1,4 +1,4 @@
--- The printed lines of route maps are read as these.
+-- The printed lines of route maps are read back as these maps.
 use Rattle.std.proofs.Common.{◌≡◌, ℕ, ◌<◌, ◌≤◌, false, List, [], ◌∷◌, ◌++◌, length, map, Option, refl, sym, ap, ◌∙◌, arith}
 use Rattle.std.specs.Prelude.{nat_lt}
 use Rattle.std.specs.List.{AllByRecursion, IsDistinct, list_any, flat_map}
@@ -25,7 +25,7 @@ use Rattle.cfg_round_trip.proofs.ListsBack.{new_last, change_last, put_last, Are
 use Rattle.cfg_round_trip.proofs.EntryBack.{entry_rest, entry_inner}
 use Rattle.cfg_round_trip.proofs.PrefixListsBack.{draft_of}
 
--- the draft but for its route maps
+-- the draft without its route maps
 record Rest : Type 0 where
   name : Option Named
   interfaces : List Interface

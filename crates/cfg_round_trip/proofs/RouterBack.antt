@@ -1,4 +1,4 @@
--- The printed lines of a router are read as it.
+-- The printed lines of a router are read back as the router.
 use Rattle.std.proofs.Common.{◌≡◌, ℕ, true, false, List, [], ◌∷◌, ◌++◌, filter, map, Option, Some, None, Ok, refl, sym, ap, ◌∙◌}
 use Rattle.std.specs.Prelude.{IfSome, codes}
 use Rattle.std.specs.Fmt.{decimal}
@@ -109,7 +109,7 @@ end_stepped : (rs : List Router) (now d : Draft) → with_closed now ≡ d → s
 unfolding step step_router take_top is_policy_line
 end_stepped rs now d same = rw (end_item, same) refl
 
--- the lines but for the last one
+-- all lines except the last one
 abbrev pub router_front : Router → List (List ℕ) → List TextLine
 router_front r names =
     line 0 (codes "hostname" ∷ r.name ∷ [])

@@ -1,5 +1,5 @@
--- The printed lines of a well-formed network are short, but for the match lines of route maps, of which
--- that has to be known.
+-- The printed lines of a well-formed network are short. For the match lines of its route maps this is a
+-- premise.
 use Rattle.std.proofs.Common.{◌≡◌, ℕ, ◌+◌, ◌*◌, ◌≤◌, Bool, true, false, List, [], ◌∷◌, ◌++◌, length, map, Option, Some, None, arith}
 use Rattle.std.specs.Prelude.{IfSome, codes, flat_map, is_some, if◌then◌else◌}
 use Rattle.std.specs.Fmt.{decimal}

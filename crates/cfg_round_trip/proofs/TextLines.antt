@@ -1,4 +1,4 @@
--- The lines of a printed text are the lines that were printed, but for their numbers.
+-- The lines of a printed text are the lines that were printed, except for their numbers.
 use Rattle.std.proofs.Common.{◌≡◌, ℕ, zero, suc, ◌+◌, ◌-◌, ◌<◌, ◌≤◌, Bool, true, false, cond, not, ◌&&◌, List, [], ◌∷◌, ◌++◌, length, get_or, take, drop, map, filter, slice_index, refl, sym, ap, ◌∙◌, arith, append_assoc, length-append, None, Ok}
 use Rattle.std.specs.Prelude.{◌==◌, nat_lt}
 use Rattle.std.specs.List.{AllByRecursion, slice_range}

@@ -1,4 +1,4 @@
--- What has no numbers of lines is itself but for them.
+-- Taking out line numbers twice is the same as taking them out once.
 use Rattle.std.proofs.Common.{◌≡◌, List, [], ◌∷◌, map, Option, Some, None, refl, ap}
 use Rattle.std.specs.Option.{option_map}
 use Rattle.cfg_ast.specs.declared.network.Network.{Network}

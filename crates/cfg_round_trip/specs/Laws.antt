@@ -11,7 +11,8 @@ use Rattle.cfg_ast.specs.printing.WellFormed.{IsWellFormed}
 use Rattle.cfg_round_trip.specs.Notes.{AreNotes}
 use Rattle.cfg_round_trip.specs.ShortMaps.{HasShortMaps}
 
--- Lines that are the same but for their numbers give networks that are.
+-- Lines that are the same except for their numbers give networks that are the same except for line
+-- numbers.
 abbrev pub NumbersAreAside : Type 0
 NumbersAreAside = (ls ms : List TextLine) → map bare_line ls ≡ map bare_line ms → (n : Network) → network_of_lines ls ≡ Ok n →
     (m : Network) × (network_of_lines ms ≡ Ok m) × (bare m ≡ bare n)
@@ -20,23 +21,23 @@ NumbersAreAside = (ls ms : List TextLine) → map bare_line ls ≡ map bare_line
 abbrev pub HasFewLines : Network → Notes → Type 0
 HasFewLines network notes = length (filter (λ b. b == 10) (printed network notes)) ≤ 1000000
 
--- of at most 1,024 bytes each, but for the newline
+-- of at most 1,024 bytes each, without the newline
 abbrev pub HasShortLines : Network → Notes → Type 0
 HasShortLines network notes = AllByRecursion (λ (l : TextLine). length (line_text l) ≤ 1025) (printed_lines network notes)
 
--- the printed text is read as the network, but for the numbers of lines
+-- the printed text is read as the network, except for line numbers
 pub record IsReadBack (network : Network) (notes : Notes) : Type 0 where
   pub read : Network
   pub reads : network_of_text (printed network notes) ≡ Ok read
   pub same : bare read ≡ bare network
 
--- What is printed of a well-formed network is read back, where the text keeps the limits of a text that
--- is read.
+-- What is printed of a well-formed network is read back, if the text keeps the limits of a text that is
+-- read.
 abbrev pub PrintedIsReadBack : Type 0
 PrintedIsReadBack = (network : Network) (notes : Notes) → IsWellFormed network → AreNotes network notes → HasFewLines network notes →
     HasShortLines network notes → IsReadBack network notes
 
--- The lines that are printed of a well-formed network are short if the match lines of its route maps are.
+-- The printed lines of a well-formed network are short if the match lines of its route maps are.
 abbrev pub ShortNamesGiveShortLines : Type 0
 ShortNamesGiveShortLines = (network : Network) (notes : Notes) → IsWellFormed network → AllByRecursion HasShortMaps network.routers → AreNotes network notes →
     HasShortLines network notes

@@ -8,7 +8,7 @@ use Rattle.cfg_ast.specs.declared.policy.RouteMap.{RouteMap}
 use Rattle.cfg_ast.specs.text.TextLines.{TextLine}
 use Rattle.cfg_ast.specs.printing.Printed.{line_text, match_prefixes_line, match_comms_line}
 
--- at most 1,024 bytes, but for the newline
+-- at most 1,024 bytes, without the newline
 abbrev pub IsShortLine : TextLine → Type 0
 IsShortLine l = length (line_text l) ≤ 1025
 

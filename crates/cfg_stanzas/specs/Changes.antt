@@ -1,4 +1,4 @@
--- What a call that changes a value in place leaves, as against its definition.
+-- What a call that changes a value in place leaves, compared with its definition.
 use Rattle.std.specs.Prelude.{◌≡◌, Result, Ok, Err}
 use Rattle.cfg_ast.specs.declared.refusal.ReadRefusal.{ReadRefusal}
 use Rattle.cfg_ast.specs.text.Answers.{RefusesAs}

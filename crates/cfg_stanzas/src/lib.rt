@@ -2,7 +2,8 @@
 //!
 //! An interface, a BGP process, an OSPF process and an entry of a route map each change in place by what one of
 //! their lines says, exactly as the definition does: the new value, or the fault of the line. `said_in` and
-//! `policy_said_in` read a line, with its fault at its line. Only want of memory is free.
+//! `policy_said_in` read a line, with its fault at its line. The contract leaves open only when memory
+//! runs out.
 #![tactic(auto)]
 
 mod areas;

@@ -33,7 +33,7 @@ impl Model for Neighbors {
     ghost invariant = { λ a. HasAddresses a.places a.items.items };
 }
 
-/// A neighbour of which only its `remote-as` line has stood.
+/// A neighbour with only its `remote-as` line so far.
 pub(crate) fn new_neighbor(number: u32, addr: u32, remote: u32) -> Neighbor
     ensures { result ≡ new_neighbor number addr remote }
 {

@@ -21,7 +21,7 @@ pub fn cut_to(len: u8, addr: u32) -> Prefix
     Prefix::new(addr - bits_behind(len, addr), len)
 }
 
-/// The prefix of that address and length, where no bits of the address stand behind the length.
+/// The prefix of that address and length, if all bits of the address behind the length are 0.
 #[tactic(auto, unfolding(cfg_ast::specs::text::Words::exact_prefix))]
 pub fn exact_prefix(addr: u32, len: u8) -> Option<Prefix>
     requires { len ≤ 32 }

@@ -1,4 +1,4 @@
--- Edges of problems that are alike are the same where their acts have the same numbers.
+-- Edges of problems that are alike are the same if their acts have the same numbers.
 use Rattle.std.proofs.Common.{◌≡◌, ℕ, zero, suc, List, [], ◌∷◌, map, length, Some, refl, subst, arith}
 use Rattle.std.specs.Prelude.{slice_get}
 use Rattle.base_kit.specs.declared.act_graph.Edge.{Edge}

@@ -1,5 +1,5 @@
--- A network and a prefix have one problem whose acts stand by their first edges, each as the lines at the
--- ends of its first edge write it.
+-- A network and a prefix have only one problem in which acts are in the order of their first edges, each
+-- as the lines at the ends of its first edge write it.
 use Rattle.std.proofs.Common.{◌≡◌, ◌≢◌, ℕ, zero, suc, ◌<◌, Bool, List, [], ◌∷◌, map, length, Option, Some, refl, sym, ap, ◌∙◌, subst, inl, inr, arith, ext_get_or}
 use Rattle.std.specs.Prelude.{Contains, slice_get, slice_index_or}
 use Rattle.std.proofs.lemmas.Bool.{cases_eq}

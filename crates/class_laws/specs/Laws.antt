@@ -1,4 +1,4 @@
--- A class of a network has one problem that is built for it.
+-- A class of a network has only one problem that is built for it.
 use Rattle.std.specs.Prelude.{◌≡◌, Contains}
 use Rattle.cfg_ast.specs.declared.network.Network.{Network}
 use Rattle.cfg_ast.specs.declared.classes.DestClass.{DestClass}

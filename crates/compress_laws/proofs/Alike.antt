@@ -1,4 +1,4 @@
--- Public: a problem that is alike to that of a network and a prefix is one of them too.
+-- Public: a problem that is alike to a problem of a network and a prefix is also a problem of them.
 use Rattle.std.proofs.Common.{◌≡◌, ℕ, sym, ap, ◌∙◌, subst, Some}
 use Rattle.base_kit.specs.declared.act_graph.Edge.{Edge}
 use Rattle.base_kit.specs.declared.protocol.Protocol.{Protocol}

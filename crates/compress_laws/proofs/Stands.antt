@@ -1,4 +1,4 @@
--- What a network that is that of the groups but for the numbers of lines stands for.
+-- What a network stands for if it is the network of the groups except for line numbers.
 use Rattle.line_number_laws.specs.Laws.{FaultsAside, ProblemAside, ProtocolAside}
 use Rattle.config_emit.specs.Emitted.{emitted}
 use Rattle.config_emit.specs.Laws.{EmittedStandsForGroups}

@@ -19,6 +19,6 @@ pub record IsPlanFor (IsProblemFor : Network → DestClass → Problem → Type 
   pub numbered : IsNumbered e.groups e.count
   pub links : e.links ≡ quotient_links e.problem.edges e.groups e.count
 
--- The plan of a class, of which there is one: that with the problem that is built for it.
+-- The only plan of a class: the one with the problem that is built for it.
 abbrev pub IsPlanOf : Network → DestClass → Plan → Type 0
 IsPlanOf network class e = IsPlanFor IsBuiltFor network class e

@@ -1,4 +1,4 @@
--- The links of every network that is that of the groups but for the numbers of lines.
+-- The links of every network that is the network of the groups except for line numbers.
 use Rattle.std.specs.Prelude.{◌≡◌, map}
 use Rattle.std.specs.List.{enumerate_from}
 use Rattle.cfg_ast.specs.declared.network.Network.{Network}

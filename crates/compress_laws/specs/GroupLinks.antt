@@ -31,8 +31,8 @@ pub record HasOneOfEachAct (problem : Problem) (groups : List ℕ) (g h : ℕ) (
 abbrev pub joins : ℕ → ℕ → Link → Bool
 joins low high link = nat_eq link.low low && nat_eq link.high high
 
--- Between the routers that stand for two groups the network that is read back has as many links as there are
--- different acts of the problem in that direction, from the one group into the other, that has more of them.
+-- Between the routers that stand for two groups, the network that is read back has as many links as the
+-- problem has different acts from one group into the other, in the direction that has more of them.
 pub record HasLinksForActs (problem : Problem) (groups : List ℕ) (read : Network) (low high : ℕ) : Type 0 where
   pub into_low : List Edge
   pub into_high : List Edge

@@ -27,7 +27,8 @@ use Rattle.compress_laws.specs.Compressed.{Compresses}
 abbrev pub compressed_text : Plan → List ℕ
 compressed_text e = printed (emitted e) (notes_of e)
 
--- Where its groups are the coarsest ones and it has at most 1,000,000 lines and 16,777,216 bytes, it compresses the network.
+-- It compresses the network, if the groups are the coarsest and it has at most 1,000,000 lines and
+-- 16,777,216 bytes.
 abbrev pub TextCompresses : Type 0
 TextCompresses = (e : Plan) → IsPlan e → IsCoarsest e.problem e.groups → HasFewLines (emitted e) (notes_of e) → length (compressed_text e) ≤ 16777216 → Compresses e.network e.class (compressed_text e)
 
@@ -43,7 +44,7 @@ abbrev pub BuiltFits : Type 0
 BuiltFits = (n : Network) (class : DestClass) (problem : Problem)
     → ∥ IsGiven n ∥₁ → IsFaultless n → Contains (classes_of n) class → IsBuiltFor n class problem → FitsClass n class problem
 
--- A plan with such a problem fits together, where no prefix of the class meets the addresses of the links.
+-- A plan with such a problem fits together, if no prefix of the class meets the addresses of the links.
 abbrev pub FittingPlanFits : Type 0
 FittingPlanFits = (n : Network) (class : DestClass) (e : Plan)
     → ∥ IsGiven n ∥₁ → IsFaultless n → Contains (classes_of n) class → IsPlanFor FitsClass n class e → pool_line n class ≡ None → IsPlan e
@@ -54,7 +55,7 @@ FittingPlanCompresses = (n : Network) (class : DestClass) (e : Plan)
     → ∥ IsGiven n ∥₁ → IsFaultless n → Contains (classes_of n) class → IsPlanFor FitsClass n class e
     → pool_line n class ≡ None → is_too_long (compressed_text e) ≡ false → Compresses n class (compressed_text e)
 
--- A plan of a class of a network that may be used fits together, where no prefix of the class meets the
+-- A plan of a class of a network that may be used fits together, if no prefix of the class meets the
 -- addresses of the links.
 abbrev pub PlanFits : Type 0
 PlanFits = (n : Network) (class : DestClass) (e : Plan) → ∥ IsGiven n ∥₁ → IsFaultless n → Contains (classes_of n) class → IsPlanOf n class e → pool_line n class ≡ None → IsPlan e

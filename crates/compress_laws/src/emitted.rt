@@ -1,4 +1,4 @@
-//! What holds of every network that is that of the groups but for the numbers of lines.
+//! What holds of every network that is the network of the groups except for line numbers.
 ghost use Rattle.config_emit.specs.Laws.{EmittedIsNoLarger, EmittedStandsForGroups};
 ghost use Rattle.compress_laws.specs.EmittedLinks.{EmittedHasPlannedLinks};
 

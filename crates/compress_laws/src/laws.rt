@@ -1,7 +1,7 @@
 //! The law of what is written.
 ghost use Rattle.compress_laws.specs.Laws.{TextCompresses, BuiltFits, FittingPlanFits, FittingPlanCompresses, PlanFits, PlanCompresses, TextHasProblemOfGroups};
 
-/// The text that is written of a plan, whose groups are the coarsest ones, compresses the network.
+/// The text of a plan compresses the network, if its groups are the coarsest.
 pub fn text_compresses()
     ensures { TextCompresses }
 {
@@ -29,15 +29,15 @@ pub fn built_fits()
     srp_build::laws::acts_stay_within();
 }
 
-/// A plan with a problem that fits the class fits together, where no prefix of the class meets the addresses
-/// of the links.
+/// A plan with a problem that fits the class fits together, if no prefix of the class meets the
+/// addresses of the links.
 pub fn fitting_plan_fits()
     ensures { FittingPlanFits }
 {
     given_laws::given_is_well_formed();
 }
 
-/// The text of a plan with such a problem, which is not too long, compresses the network.
+/// The text of a plan with such a problem compresses the network, if the text is not too long.
 pub fn fitting_plan_compresses()
     ensures { FittingPlanCompresses }
 {
@@ -53,7 +53,7 @@ pub fn plan_fits()
     fitting_plan_fits();
 }
 
-/// The text of the plan of a class, which is not too long, compresses the network.
+/// The text of the plan of a class compresses the network, if the text is not too long.
 pub fn plan_compresses()
     ensures { PlanCompresses }
 {
@@ -61,7 +61,8 @@ pub fn plan_compresses()
     fitting_plan_compresses();
 }
 
-/// The text of the plan of a class, which is not too long, is read as a network that has the problem of the groups.
+/// The text of the plan of a class, if it is not too long, is read as a network that has the problem of
+/// the groups.
 pub fn text_has_problem_of_groups()
     ensures { TextHasProblemOfGroups }
 {

@@ -1,4 +1,4 @@
-//! What is written of a class describes the compressed network, as a law.
+//! The law that the text written for a class describes the compressed network.
 //!
 //! `specs/Compressed` says what it means that the bytes of configurations compress a network for a class
 //! of destination prefixes: they are read without refusal, their routers are the groups of the coarsest

@@ -1,4 +1,4 @@
--- Two maps are the same where they say the same, and so are their keys.
+-- Two maps are the same exactly if they say the same, and so are their keys.
 use Rattle.std.proofs.Common.{◌≡◌, ℕ, Bool, true, false, ◌&&◌, List, [], ◌∷◌, map, Option, Some, None, nat_eq, refl, sym, ◌∙◌, ap, arith}
 use Rattle.std.specs.Prelude.{bytes_eq, is_some}
 use Rattle.std.specs.Bool.{beq}
@@ -111,7 +111,7 @@ pub said_maps : (a b : Plain) → same_map a b ≡ is_map (said_of_map a) (said_
 unfolding same_map
 said_maps a b = items_same same_entry is_entry entry_said said_entries a.entries b.entries
 
--- ---- the tests tell what is said_of_map apart
+-- ---- the tests tell apart what maps say
 
 beq_one : (a b : Bool) → beq a b ≡ true → a ≡ b
 beq_one true true e = refl

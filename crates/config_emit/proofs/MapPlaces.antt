@@ -74,7 +74,7 @@ position_last {X} test (y ∷ ys) x none here = position_cons test y (ys ++ x �
   step later true at = absurd cc
   step later false at = ap suc (later at here)
 
--- ---- what is said_of_map
+-- ---- what maps say
 
 pub tells_turned : {X : Type 0} (p : X → X → Bool) → Tells p → (x y : X) → p x y ≡ p y x
 tells_turned {X} p t x y = step (p x y) (p y x) refl refl where

@@ -67,7 +67,7 @@ process_of e g = record {
   neighbors = map (neighbor_at e g) (links_at e g);
 }
 
--- a group has a process where it has an AS number, as it does where it originates the class or has a link
+-- a group has a process if it has an AS number, which it has if it originates the class or has a link
 abbrev pub written_bgp : Protocol → Plan → ℕ → Option BgpProcess
 written_bgp OverBgp e g = if nat_eq (number (small e) g) 0 then None else Some (process_of e g)
 written_bgp OverOspf e g = None

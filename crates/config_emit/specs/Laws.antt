@@ -1,4 +1,4 @@
--- What the network of the groups is, for every network that equals it but for the numbers of lines.
+-- What holds of every network that equals the network of the groups except for line numbers.
 use Rattle.std.specs.Prelude.{◌≡◌, List, ℕ, None, ◌≤◌, length, Contains}
 use Rattle.std.specs.List.{AllByRecursion}
 use Rattle.base_kit.specs.Prefixes.{Prefix}

@@ -1,4 +1,4 @@
--- What plain maps say, the names of their lists and the numbers of lines aside, as keys of an index.
+-- What plain maps say, without the names of their lists and without line numbers, as keys of an index.
 use Rattle.std.specs.Prelude.{ℕ, Bool, ◌&&◌, List, Option, map, nat_eq, bytes_eq, is_some}
 use Rattle.std.specs.Bool.{beq}
 use Rattle.std.specs.Global.{Vec}
@@ -88,7 +88,7 @@ entry_shown k = record {
 abbrev pub shown : Vec EntryKey → List EntrySaid
 shown k = map entry_shown k.items
 
--- ---- whether the same is said_of_map
+-- ---- whether maps say the same
 
 abbrev pub is_line : LineSaid → LineSaid → Bool
 is_line a b = beq a.0 b.0 && bytes_eq a.1 b.1

@@ -67,7 +67,7 @@ if_written (Some m) = if is_whole m.entries then [] else m ∷ []
 abbrev pub maps_at : Plan → ℕ → QLink → List Plain
 maps_at e g l = if_written (Some (act_in_map (act_into e g l))) ++ if_written (act_out_map (act_into e (other_end g l) l))
 
--- of maps that are equal but for names and lines the first
+-- of maps that are equal except for names and lines, the first
 abbrev pub firsts : List Plain → List Plain → List Plain
 firsts seen [] = []
 firsts seen (m ∷ ms) = if list_any (same_map m) seen then firsts seen ms else m ∷ firsts (m ∷ seen) ms

@@ -33,7 +33,7 @@ first_router_of e g = slice_get e.network.routers (first_member e.groups g)
 abbrev pub act_of_place : Plan → ℕ → Act
 act_of_place e k = slice_index_or e.problem.acts (act_at e.problem.edges k) (Cost 0)
 
--- The act that a link carries into its end g. In OSPF, where a link carries none, that of the last link
--- between the two groups that carries one.
+-- The act that a link carries into its end g. In OSPF, a link that carries none there takes the act of
+-- the last link between the two groups that carries one.
 abbrev pub act_into : Plan → ℕ → QLink → Option Act
 act_into e g l = option_map (act_of_place e) (edge_into e.problem.protocol e.links g l)

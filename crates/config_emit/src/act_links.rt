@@ -146,8 +146,8 @@ fn drawn(edges: &[Edge], number: usize, link: &QLink, sides: Sides) -> ActLink
     }
 }
 
-// For each pair of groups the edges that fill the sides of its links: in OSPF, where both ends have a
-// cost, the last ones, in BGP none.
+// For each pair of groups, the edges that fill the sides of its links. In OSPF, where both ends have a
+// cost, they are the last ones of the pair; in BGP there are none.
 fn filling_sides(
     alloc: Global,
     protocol: Protocol,

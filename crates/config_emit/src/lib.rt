@@ -2,9 +2,9 @@
 //!
 //! `emit` writes a router for each group of an admissible partition and a link for each link of the
 //! quotient, exactly as the definition `emitted` has it. It refuses where the prefixes of the class meet
-//! 100.64.0.0/10, from which the links get their addresses. That the network written can be printed and
-//! read back, that no fault of meaning stands in it, that its problem is the quotient, and that it is no
-//! larger than the network read are laws about that definition, which `specs/Laws.antt` states.
+//! 100.64.0.0/10, from which the links get their addresses. `specs/Laws.antt` states laws about that
+//! definition: the network that is written can be printed and read back, it has no fault of meaning, its
+//! problem is the quotient, and it is no larger than the network read.
 #![tactic(auto)]
 
 mod act_links;

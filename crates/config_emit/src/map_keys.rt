@@ -24,7 +24,7 @@ pub(crate) enum ChangeKey {
     Append(Vec<u32>),
 }
 
-/// What an entry of a plain map says, the names of its lists and the numbers of lines aside.
+/// What an entry of a plain map says, without the names of its lists and without line numbers.
 #[derive(PartialEq, Eq, Hash, Drop)]
 pub(crate) struct EntryKey {
     pub(crate) seq: u32,

@@ -92,7 +92,7 @@ fn notes_of(alloc: Global, source: &Source) -> Result<Notes, NoMemory>
 }
 
 /// The network of the groups of a class of `net`: of its problem `srp`, an admissible partition `p` of
-/// the problem and the links `q` of the groups. `PoolOverlap` exactly where a prefix of the class meets
+/// the problem and the links `q` of the groups. `PoolOverlap` exactly if a prefix of the class meets
 /// 100.64.0.0/10. All line numbers of the network are 0.
 pub fn emit(
     alloc: Global,

@@ -1,4 +1,4 @@
--- What a call that may run out of memory answers, as against its definition.
+-- The answer of a call that may run out of memory, compared with its definition.
 use Rattle.std.specs.Prelude.{◌≡◌, ℕ, Result, Ok, Err}
 use Rattle.cut_certificate.specs.declared.refusal.CutKind.{CutKind}
 use Rattle.cut_certificate.specs.declared.refusal.CutRefusal.{CutRefusal}
@@ -6,7 +6,7 @@ use Rattle.cut_certificate.specs.declared.refusal.CutRefusal.TheVariants as refu
 use Rattle.cut_certificate.specs.declared.refusal.Stop.{Stop}
 use Rattle.cut_certificate.specs.declared.refusal.Stop.TheVariants as stop
 
--- the answer is that of the definition, or want of memory
+-- the answer is that of the definition, or memory ran out
 abbrev pub Verifies : {X : Type 0} → Result X CutRefusal → Result X CutRefusal → Type 0
 Verifies (Ok x) defined = defined ≡ Ok x
 Verifies (Err refusal.Memory) defined = Unit {0}

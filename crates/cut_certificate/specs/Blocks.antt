@@ -45,7 +45,7 @@ groups_of numbers = map (members_of numbers) (distinct numbers)
 
 -- ---- splits
 
--- an edge into the block that acts so, and one of this router
+-- an edge with this act into the block, and one of this router
 abbrev pub leads_into : List ℕ → ℕ → ℕ → Edge → Bool
 leads_into numbers block act edge = edge.act == act && slice_index numbers edge.exporter == block
 

@@ -4,7 +4,8 @@ use Rattle.std.specs.List.{list_all}
 use Rattle.base_kit.specs.declared.act_graph.Edge.{Edge}
 use Rattle.cut_certificate.specs.Blocks.{groups_of, reaches}
 
--- the edge lies inside its block, or the other router has an edge into the exporter's block that acts so
+-- the edge lies inside its block, or the other router has an edge into the exporter's block with the
+-- same act
 abbrev pub is_matched : List Edge → List ℕ → ℕ → ℕ → Edge → Bool
 is_matched edges numbers router other edge =
     slice_index numbers edge.exporter == slice_index numbers router || reaches edges numbers (slice_index numbers edge.exporter) edge.act other

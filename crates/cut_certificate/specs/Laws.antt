@@ -1,4 +1,4 @@
--- Which graphs give a text one certificate, and of what a text is refused as not admissible.
+-- For which graphs a text gives the same certificate, and when a text is refused as not admissible.
 use Rattle.std.specs.Prelude.{◌≡◌, ℕ, ◌<◌, List, [], ◌∷◌, ◌++◌, length, map, Option, Ok, Err}
 use Rattle.base_kit.specs.declared.act_graph.Edge.{Edge}
 use Rattle.base_kit.specs.declared.act_graph.ActGraph.{ActGraph}
@@ -16,7 +16,7 @@ use Rattle.cut_certificate.specs.Texts.{Standing, opening, router_named, with_li
 abbrev pub ColorsFollow : ActGraph → ActGraph → Type 0
 ColorsFollow first second = (u v : ℕ) → u < first.count → v < first.count → color first u ≡ color first v → color second u ≡ color second v
 
--- graphs that are the same but for which numbers their colors are
+-- graphs that differ only in the numbers of their colors
 pub record AreSameButColors (first second : ActGraph) : Type 0 where
   pub count : first.count ≡ second.count
   pub edges : first.edges ≡ second.edges
@@ -53,6 +53,6 @@ pub record IsNotAdmissibleAt (graph : ActGraph) (names : List (List ℕ)) (bs : 
   pub named : reading.named ≡ length (groups_of reading.blocks.numbers)
   pub not : IsNotAdmissible graph (certificate_of reading)
 
--- A text is refused as not admissible only where its groups are not.
+-- A text is refused as not admissible only if its groups are not admissible.
 abbrev pub NotAdmissibleIsSo : Type 0
 NotAdmissibleIsSo = (graph : ActGraph) (names : List (List ℕ)) (bs : List ℕ) (line : ℕ) → certificate_of_text graph names bs ≡ Err (At line NotAdmissible) → IsNotAdmissibleAt graph names bs line

@@ -8,7 +8,7 @@ use Rattle.cut_certificate.specs.declared.outgoing.Placed.{Placed}
 use Rattle.cut_certificate.specs.Blocks.{edge_act, reaches}
 use Rattle.cut_certificate.specs.Evenness.{mirror_each_other}
 
--- an edge of the router into another block, of which the other router has no twin
+-- an edge of the router into another block; the other router has no twin of it
 pub record IsUnmatched (edges : List Edge) (numbers : List ℕ) (p : Placed) (router other : ℕ) : Type 0 where
   pub inside : p.place < length edges
   pub act : edge_act edges p.place ≡ p.edge.act

@@ -15,9 +15,9 @@ use base_kit::{ActGraph, NoMemory};
 use std::alloc::Global;
 use std::marker::Model;
 
-/// The number of each router's block, from 1, and how many blocks there are. The list of a block, by its
-/// number, has all its members, in any order, and maybe routers that have left it: each is dropped where
-/// it is met, so that a split looks at no member of a large block that stays.
+/// The number of each router's block, from 1, and how many blocks there are. The list of a block, at the
+/// number of the block, has all its members, in any order, and perhaps routers that have left it. These
+/// are dropped when they are met. So a split does not look at the members of a large block that stay.
 #[derive(Drop)]
 pub(crate) struct Blocks {
     numbers: Vec<usize>,
@@ -105,14 +105,14 @@ impl Blocks {
             && (1 <= split.by && split.by as usize <= self.count)
     }
 
-    /// The list of a block, in which all its members stand and maybe routers that have left it.
+    /// The list of a block: all its members, and perhaps routers that have left it.
     pub(crate) fn list_of(&self, block: usize) -> Option<&Vec<u32>> {
         self.lists.get(block)
     }
 
-    /// The blocks after a split, whose edge acts so, or these blocks and the fault of the split:
-    /// `NoBlock` where one of the two is no block, else `SameBlock` where they are one, else
-    /// `NothingSplit` where all members would stay or all would go.
+    /// The blocks after a split whose edge has this act, or these blocks and the fault of the split:
+    /// `NoBlock` if one of its two blocks does not exist, else `SameBlock` if they are one block, else
+    /// `NothingSplit` if all members would stay or all would go.
     pub(crate) fn split_by(
         self,
         alloc: Global,

@@ -1,4 +1,4 @@
-//! Splits as long as a block is not even.
+//! Splits that go on as long as some block is not even.
 
 ghost use Rattle.std.specs.Prelude.{◌≡◌, ◌<◌, ◌≤◌, ◌-◌, ◌^◌, ◌++◌, ◌∷◌, [], All, IfOk, MatchOption, Ok, OnOk, length, slice_index, slice_set, true};
 ghost use Rattle.cut_certificate.specs.Blocks.{first_blocks, split_by};
@@ -20,7 +20,7 @@ use crate::turns::with_turns;
 use base_kit::{ActGraph, List, NoMemory};
 use std::alloc::Global;
 
-/// An edge that parts a block: one member has it, and goes, and another one has no twin, and stays.
+/// An edge that parts a block: one member has it and goes, another member has no twin of it and stays.
 #[derive(Clone, Copy)]
 pub(crate) struct Parting {
     pub(crate) goes: u32,
@@ -42,7 +42,7 @@ fn leaders(alloc: Global, numbers: &[usize], count: usize) -> Result<Vec<u32>, N
     Ok(leaders)
 }
 
-// An edge of one of two members of a block of which the other one has no twin.
+// An edge of one of two members of a block; the other member has no twin of it.
 fn what_parts(
     graph: &ActGraph,
     outgoing: &[Vec<Placed>],
@@ -186,8 +186,8 @@ fn refined(
     }
 }
 
-/// A certificate of the graph that is accepted, with at most as many splits as routers. Where a large block
-/// is split by a smaller one, its members that stay are not gone through.
+/// A certificate of the graph that is accepted, with at most as many splits as routers. If a large block
+/// is split by a smaller one, the members that stay are not looked at.
 pub fn certify(alloc: Global, graph: &ActGraph) -> Result<Certificate, NoMemory>
     ensures accepted { IfOk result (IsAccepted graph.now) }
     ensures few { IfOk result (λ c. length c.splits ≤ graph.now.count) }

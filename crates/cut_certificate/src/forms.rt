@@ -58,7 +58,7 @@ fn are_names(line: &[u8]) -> bool
     true
 }
 
-/// Whether the words are names, of which there are some.
+/// Whether the words are names, and there is at least one.
 pub(crate) fn is_group(line: &[u8]) -> bool
     ensures { result ≡ is_some (group_form (words_of line.now)) }
 {

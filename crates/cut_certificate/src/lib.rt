@@ -2,8 +2,8 @@
 //! admissible partition of a graph, so that a reader needs to trust no refinement.
 //!
 //! `verify` reads the text of a certificate exactly by the definition `certificate_of_text`: the
-//! certificate, or the first line at fault with its kind. What it accepts names the coarsest admissible
-//! partition. `certify` makes a certificate that is accepted, and
+//! certificate, or the first line at fault with its kind. A certificate that it accepts names the
+//! coarsest admissible partition. `certify` makes a certificate that is accepted, and
 //! `print_certificate` writes it as a text.
 #![tactic(auto)]
 

@@ -182,7 +182,7 @@ fn with_end(
     }
 }
 
-/// How far the certificate has been read behind this line too.
+/// How far the certificate has been read, this line included.
 #[tactic(auto, unfolding(crate::specs::Forms::certificate_line_of))]
 pub(crate) fn with_line(
     alloc: Global,

@@ -11,7 +11,7 @@ ghost use Rattle.cut_certificate.specs.Uneven.{IsUnmatched};
 use crate::outgoing::Placed;
 use base_kit::{ActGraph, List};
 
-/// Whether an edge of the list acts so and comes from the block.
+/// Whether an edge of the list has this act and comes from the block.
 pub(crate) fn leads_into(list: &[Placed], numbers: &[usize], block: usize, act: u32) -> bool
     requires { All (λ p. p.edge.exporter < length numbers.now) list.now }
     ensures { result ≡ list_any (λ p. leads_into numbers.now block act p.edge) list.now }

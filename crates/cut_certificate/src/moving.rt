@@ -10,7 +10,7 @@ use crate::outgoing::Placed;
 use base_kit::{ActGraph, NoMemory};
 use std::alloc::Global;
 
-// Whether the router is a member of the divided block and has an edge into the other one that acts so.
+// Whether the router is a member of the divided block and has an edge with this act into the other one.
 fn is_mover(
     graph: &ActGraph,
     outgoing: &[Vec<Placed>],
@@ -34,7 +34,7 @@ fn is_mover(
     leads_into(list, numbers, split.by as usize, act)
 }
 
-// Adds the importers of the edges that act so.
+// Adds the importers of the edges with this act.
 fn add_importers(found: &mut Vec<u32>, edges: &[Placed], act: u32) -> Result<(), NoMemory>
     ensures { OnOk result (AreAdded found.old.items found.new.items edges.now act) }
 {
@@ -46,7 +46,7 @@ fn add_importers(found: &mut Vec<u32>, edges: &[Placed], act: u32) -> Result<(),
     Ok(())
 }
 
-// The importers of the edges from the listed routers that act so.
+// The importers of the edges with this act from the listed routers.
 fn importers(
     alloc: Global,
     incoming: &[Vec<Placed>],

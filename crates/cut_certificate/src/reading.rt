@@ -72,9 +72,9 @@ fn read_lines(
 
 /// The certificate that a text spells for a graph whose routers have these names. Its groups are those
 /// of the coarsest admissible partition. The text is a line `bonsai certificate 1`, lines
-/// `split B T NAME L`, a line `group NAME ..` for each group, and a line `end`. A split takes the members
-/// of block B that have an edge into block T which acts as the edge does by which NAME imports over link
-/// L, and makes them the next block. Lines without words are passed over.
+/// `split B T NAME L`, a line `group NAME ..` for each group, and a line `end`. A split line names the
+/// edge by which NAME imports over link L. The split takes the members of block B that have an edge with
+/// the same act into block T, and makes them the next block. Lines without words are passed over.
 ///
 /// # Errors
 ///

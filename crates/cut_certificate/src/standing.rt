@@ -122,7 +122,7 @@ impl Standing {
         }
     }
 
-    /// The split, whose edge acts so, has been made too.
+    /// The split, whose edge has this act, has been made too.
     pub(crate) fn with_split(
         self,
         alloc: Global,

@@ -1,5 +1,5 @@
-//! Splits by one block after another, small ones first. What is left uneven, if anything, shows when all
-//! routers are gone over: nothing here has to be complete.
+//! Splits by one block after another, small ones first. The splits here need not be complete: the caller
+//! goes over all routers afterwards and splits what is still uneven.
 
 ghost use Rattle.std.specs.Prelude.{◌≡◌, IfOk};
 ghost use Rattle.cut_certificate.specs.Moves.{AreIncoming, IsCourse};
@@ -107,7 +107,7 @@ fn ends_router(reached: &[Reach], place: usize) -> bool {
     }
 }
 
-// Splits a block of which edges reach so many members, unless these are all that are listed.
+// Splits a block in which edges reach so many members, unless these are all that are listed.
 fn with_block(
     alloc: Global,
     graph: &ActGraph,
@@ -134,7 +134,7 @@ fn with_block(
     with_split(alloc, graph, outgoing, incoming, course, split)
 }
 
-// Splits each block of which edges of one act reach some members, but not all that are listed.
+// Splits each block in which edges of one act reach some of the listed members, but not all.
 fn with_reached(
     alloc: Global,
     graph: &ActGraph,
@@ -212,7 +212,7 @@ fn wait(pending: &mut Pending, block: u32, is_large: bool) -> Result<(), NoMemor
     Ok(())
 }
 
-// Lets both parts of each block wait that was divided by the splits from a place on.
+// Lets both parts of each block wait, for the blocks that the splits from a place on divided.
 fn add_parts(pending: &mut Pending, course: &Course, from: usize) -> Result<(), NoMemory> {
     let splits = course.splits.as_slice();
     for place in from..splits.len() {
@@ -238,7 +238,7 @@ fn all_waiting(alloc: Global, count: usize) -> Result<Pending, NoMemory> {
     Ok(Pending { queue, waits })
 }
 
-/// Splits as long as a block waits for its turn, of which each router brings at most two.
+/// Splits while a block waits for its turn. There are at most two turns for each router.
 pub(crate) fn with_turns(
     alloc: Global,
     graph: &ActGraph,

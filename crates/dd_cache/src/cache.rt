@@ -61,9 +61,8 @@ impl Cache {
         node
     }
 
-    /// Puts the node under the key, first. An earlier entry of the key goes, and so does the last
-    /// entry where there would be more than the capacity. Only a key that is not there may want
-    /// memory.
+    /// Puts the node under the key, first. An earlier entry of the key goes, and the last entry too if
+    /// there would be more than the capacity. Memory can run out only for a key that is not there.
     pub fn keep(&mut self, key: OpKey, node: usize) -> Result<(), NoMemory>
         ensures ok { OnOk result (self.new ≡ memory self.old.capacity (kept self.old.capacity key node self.old.entries)) }
         ensures err { OnErr result (self.new ≡ self.old) }

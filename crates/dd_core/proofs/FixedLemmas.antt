@@ -63,7 +63,7 @@ leads_restricted old new fix from place node extends inside leads is = record {
     above_place : (v : ℕ) → IsAbove new v from → IsAbove new v place
     above_place v above = above_kept old new v place extends leads.inside (leads.above v (above_before old new v from extends inside above))
 
--- the value hangs on the variables from the node's own on
+-- the value depends only on the variables from the node's own on
 later_step : (nodes : List Node) (f g : ℕ → Bool) (v i : ℕ) → IsStore nodes → ((w : ℕ) → v ≤ w → f w ≡ g w) →
     ((k : ℕ) → k < i → k < length nodes → IsNotBefore nodes v k → value nodes f k ≡ value nodes g k) → i < length nodes → IsNotBefore nodes v i →
     IsNodeAt nodes i → value nodes f i ≡ value nodes g i

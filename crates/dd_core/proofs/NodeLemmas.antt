@@ -1,4 +1,4 @@
--- What the values of a node and of its sons have to do with its variable.
+-- How the values of a node and of its sons relate to its variable.
 use Rattle.std.proofs.Common.{◌≡◌, ℕ, zero, suc, ◌<◌, Bool, true, false, List, length, get_or, slice_get, Some, sym, ◌∙◌, arith}
 use Rattle.std.specs.Prelude.{if◌then◌else◌, ◌==◌}
 use Rattle.std.proofs.lemmas.Bool.Decides.{nat_tests}

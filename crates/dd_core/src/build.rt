@@ -48,8 +48,8 @@ pub fn first_variable(table: &Table, variable: usize, place: usize) -> usize
     }
 }
 
-/// The node's diagrams where the variable, which no node before it has, is true, and where it is
-/// false.
+/// The node's diagrams where the variable is true and where it is false. The variable is not after that
+/// of the node.
 pub fn sons(table: &Table, variable: usize, place: usize) -> (usize, usize)
     requires store { IsStore table.now }
     requires inside { place < length table.now }

@@ -4,7 +4,7 @@ ghost use Rattle.std.specs.Prelude.{◌≡◌, ◌<◌, ℕ, List, length};
 ghost use Rattle.base_kit.specs.Sets.{IsAscending};
 ghost use Rattle.dd_core.specs.Sets.{Shown, IsShown, Grows, value_of};
 
-/// While a store grows, and where it ran out of memory, every old node keeps its value on every set.
+/// While a store grows, and also if memory runs out, every old node keeps its value on every set.
 pub fn values_are_kept()
     ensures { (old new : Shown) (set : List ℕ) (node : ℕ) → Grows old new → node < length old.nodes → value_of new set node ≡ value_of old set node }
 {}

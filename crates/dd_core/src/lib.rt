@@ -4,9 +4,9 @@
 //! the store's universe, in their order, and last `others`, which is true where the set has a
 //! community outside the universe. Equal numbers are equal functions, and different numbers differ
 //! on some set that a proof can name: `is_same` carries both. Old numbers keep their meaning while
-//! the store grows, also where memory runs out. `ite`, and `not`, `and` and `or`, which are that
-//! `ite`, ask first what the store remembers and remember their answer last; a remembered operation
-//! is answered as it was, and adds no node.
+//! the store grows, also where memory runs out. `not`, `and` and `or` are cases of `ite`. `ite` first
+//! looks for the operation among those that the store remembers, and at the end puts its answer there. A
+//! remembered operation gets its earlier answer, and adds no node.
 #![tactic(auto)]
 
 mod build;

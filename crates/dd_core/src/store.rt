@@ -290,7 +290,8 @@ impl Store {
     }
 }
 
-/// Whether two diagrams have one value on every set of communities: exactly where their numbers are equal.
+/// Whether two diagrams have one value on every set of communities. They do exactly if their numbers are
+/// equal.
 pub fn is_same(store: &Store, a: NodeId, b: NodeId) -> bool
     requires a_inside { a < length store.now.nodes }
     requires b_inside { b < length store.now.nodes }

@@ -21,7 +21,7 @@ or_false : (b : Bool) → (b || false) ≡ b
 or_false true = refl
 or_false false = refl
 
--- groups by what some lists answer, which answer alike exactly where all do
+-- groups by what some lists answer; these answer alike exactly if all lists do
 module _ (network : Network) (lists : List PrefixList)
     (asked : (p q : Prefix) → alike_to lists p q ≡ same_items beq (answers_of network p) (answers_of network q)) where
   abbrev alike : Prefix → Prefix → Bool

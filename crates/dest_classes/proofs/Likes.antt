@@ -18,7 +18,8 @@ module _ (lists : List PrefixList) where
   abbrev traits_at : Member → Traits
   traits_at m = record { origins = m.origins; answers = answers_to lists m.prefix }
 
-  -- a member is of the cell of one group exactly where it is answered as those of the other
+  -- a member is of the cell of one group exactly if the lists answer it as they answer the members of
+  -- the other
   record IsAlike (group : Group) (likes : Likes) (m : Member) : Type 0 where
     alike : nat_eq m.cell group.cell ≡ same_items beq (answers_to lists m.prefix) likes.traits.answers
 

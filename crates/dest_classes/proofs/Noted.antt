@@ -1,4 +1,4 @@
--- What is noted of a prefix are its originators.
+-- The routers that are noted for a prefix are its originators.
 use Rattle.std.proofs.Common.{◌≡◌, ℕ, ◌+◌, ◌<◌, suc, Bool, true, false, cond, List, [], ◌∷◌, ◌++◌, Option, Some, None, refl, sym, ◌∙◌, ap, arith, append_assoc, append-nil, length, length-append, ◌-◌, zero, eq-eqb, true≢false}
 use Rattle.std.specs.Prelude.{filter_map, find, nat_eq, slice_get, unwrap_or}
 use Rattle.std.specs.Option.{option_map, option_map_or}

@@ -105,7 +105,7 @@ second_alone a b x not_x at_x = step (same_cell_key a b) refl where
 both_alike : (a b x : Key) → same_cell_key a x ≡ true → same_cell_key b x ≡ true → same_cell_key a b ≡ true
 both_alike a b x at_a at_b = ap (λ k. same_cell_key k b) (key_one a x at_a) ∙ ap (same_cell_key x) (key_one b x at_b) ∙ key_self x
 
--- known keys have one place exactly where they are one
+-- known keys have one place exactly if they are equal
 pub one_place : (keys : List Key) (a b : Key) → is_known keys a ≡ true → is_known keys b ≡ true → nat_eq (place keys a) (place keys b) ≡ same_cell_key a b
 one_place [] a b known other = absurd (true≢false (sym known))
 one_place (x ∷ keys) a b known other = step (same_cell_key a x) (same_cell_key b x) refl refl known other (one_place keys a b) where

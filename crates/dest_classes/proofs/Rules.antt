@@ -1,4 +1,4 @@
--- Rules are compared by what they say, so a set has what lists say.
+-- Rules that compare equal are equal, so a set of rules tells what lists say.
 use Rattle.std.proofs.Common.{◌≡◌, ℕ, Bool, true, cond, List, [], ◌∷◌, ◌++◌, Option, Bor, sym, ◌∙◌, ap, rules}
 use Rattle.std.specs.HashSet.{HashSet, Updates}
 use Rattle.std.specs.Global.{Vec}

@@ -1,4 +1,4 @@
--- Lists that say the same answer alike, so one of them tells as much as all.
+-- Lists that say the same give the same answers, so one of them tells as much as all.
 use Rattle.std.proofs.Common.{◌≡◌, Bool, true, false, cond, ◌&&◌, ◌||◌, List, [], ◌∷◌, ◌++◌, map, refl, sym, ◌∙◌, ap, true≢false}
 use Rattle.std.specs.Prelude.{flat_map, nat_eq}
 use Rattle.std.specs.Bool.{beq}
@@ -65,7 +65,7 @@ module _ (p q : Prefix) where
       alike-with_lists lists (with_list list asked) ∙ ap (λ b. b && alike_to lists p q) (alike-with_list list asked)
       ∙ both_assoc (alike_to asked p q) (answers_both list) (alike_to lists p q)
 
--- the lists that are asked answer two prefixes alike exactly where all lists do
+-- the lists that are asked answer two prefixes alike exactly if all lists do
 pub asked_alike : (network : Network) (p q : Prefix) → alike_to (lists_asked network) p q ≡ same_items beq (answers_of network p) (answers_of network q)
 unfolding lists_asked answers_of
 asked_alike network p q = alike-with_lists p q (flat_map lists_on network.routers) []

@@ -35,6 +35,6 @@ words_alike (list ∷ lists) p q w v =
     words_alike lists p q (2 * w + bit a) (2 * v + bit b) ∙ ap (λ t. t && alike_to lists p q) (one_bit w v a b)
     ∙ both_assoc (nat_eq w v) (beq a b) (alike_to lists p q)
 
--- lists give two prefixes one word exactly where they answer both alike
+-- lists give two prefixes one word exactly if they answer both alike
 pub one_word : (lists : List PrefixList) (p q : Prefix) → nat_eq (word_of lists p) (word_of lists q) ≡ alike_to lists p q
 one_word lists p q = words_alike lists p q 0 0

@@ -47,7 +47,7 @@ entries_of members = map entry_of members
 abbrev pub alike_to : List PrefixList → Prefix → Prefix → Bool
 alike_to lists p q = same_items beq (answers_to lists p) (answers_to lists q)
 
--- a later member is of the cell of this one exactly where the lists answer both alike
+-- a later member is of the cell of this one exactly if the lists answer both alike
 pub record IsCellTold (lists : List PrefixList) (member later : Member) : Type 0 where
   pub alike : nat_eq later.cell member.cell ≡ alike_to lists later.prefix member.prefix
 

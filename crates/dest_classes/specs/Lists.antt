@@ -1,4 +1,4 @@
--- The prefix lists of a network, each once of those that say the same.
+-- The prefix lists of a network: of several that say the same, only the first.
 use Rattle.std.specs.Prelude.{◌≡◌, Bool, List, [], ◌∷◌, ◌++◌, map, flat_map, if◌then◌else◌}
 use Rattle.std.specs.HashSet.{HashSet, contains}
 use Rattle.std.specs.List.{list_any}
@@ -16,7 +16,7 @@ use Rattle.dest_classes.specs.contracts.lists.RulePartialEq.TheImpl as rule_eq
 abbrev pub same_rule : Rule → Rule → Bool
 same_rule = (rule_eq.ghosts).eq
 
--- what an entry says, its number and its line aside
+-- what an entry says, without its number and its line
 abbrev pub rule_of : PrefixEntry → Rule
 rule_of entry = record { permit = entry.permit; addr = entry.prefix.addr; len = entry.prefix.len; ge = entry.ge; le = entry.le }
 
@@ -43,11 +43,11 @@ abbrev pub with_lists : List PrefixList → List PrefixList → List PrefixList
 with_lists [] asked = asked
 with_lists (list ∷ lists) asked = with_lists lists (with_list list asked)
 
--- the lists, each once of those that say the same
+-- the lists: of several that say the same, only the first
 abbrev pub different : List PrefixList → List PrefixList
 different lists = with_lists lists []
 
--- the prefix lists of a network, each once of those that say the same
+-- the prefix lists of a network: of several that say the same, only the first
 unfoldable pub lists_asked : Network → List PrefixList
 lists_asked network = different (flat_map lists_on network.routers)
 

@@ -1,5 +1,5 @@
--- What the interfaces of a router make it originate, in their order, and what is known of a prefix once
--- some of it was noted.
+-- What a router originates because of its interfaces, in their order, and what is known about a prefix
+-- after some of its originators were noted.
 use Rattle.std.specs.BTreeSet.{BTreeSet, contains}
 use Rattle.std.specs.Prelude.{◌≡◌, ℕ, ◌-◌, Bool, false, List, [], ◌∷◌, ◌++◌, Option, Some, None, filter_map, length, nat_eq, slice_get, unwrap_or, if◌then◌else◌}
 use Rattle.std.specs.Option.{option_map_or}

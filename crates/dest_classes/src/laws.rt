@@ -2,8 +2,8 @@
 
 ghost use Rattle.cfg_ast.specs.meaning.Classes.{SameClassIsDecided, ClassOfEachMember, ClassAscends};
 
-/// Law: two prefixes are in one class exactly where they have the same originators with the same
-/// initial routes, and the same answers.
+/// Law: two prefixes are in one class exactly if they have the same originators with the same initial
+/// routes, and all lists answer both alike.
 pub fn same_class_is_decided()
     ensures { SameClassIsDecided }
 {}

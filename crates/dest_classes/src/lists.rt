@@ -9,7 +9,7 @@ use cfg_ast::{Network, PrefixEntry, PrefixList};
 use std::alloc::Global;
 use std::collections::HashSet;
 
-/// What an entry of a prefix list says, its number and its line aside.
+/// What an entry of a prefix list says, without its number and its line.
 #[derive(Clone, Copy, PartialEq, Eq, Hash)]
 pub struct Rule {
     pub permit: bool,
@@ -60,7 +60,7 @@ fn ask<'a>(
     Ok(())
 }
 
-// The lists, each once of those that say the same.
+// The lists: of several that say the same, only the first.
 fn different<'a>(alloc: Global, lists: &[&'a PrefixList]) -> Result<Vec<&'a PrefixList>, NoMemory>
     ensures { IfOk result (λ v. map (λ list. list.now) v.items ≡ different (map (λ list. list.now) lists.now)) }
 {
@@ -85,7 +85,7 @@ fn lists_of<'a>(alloc: Global, net: &'a Network) -> Result<Vec<&'a PrefixList>, 
     Ok(lists)
 }
 
-/// The prefix lists of all routers, each once of those that say the same.
+/// The prefix lists of all routers: of several that say the same, only the first.
 pub fn lists_asked<'a>(alloc: Global, net: &'a Network) -> Result<Vec<&'a PrefixList>, NoMemory>
     ensures { IfOk result (λ v. map (λ list. list.now) v.items ≡ lists_asked net.now) }
 {

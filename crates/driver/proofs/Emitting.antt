@@ -1,4 +1,5 @@
--- Public: from what `emit` answers to what is emitted of a problem, and of a plan that it makes allowed.
+-- Public: from what `emit` answers to what is emitted of a problem. What is emitted stays allowed if
+-- more plans are allowed.
 use Rattle.std.proofs.Common.{ℕ, Result, Ok, Err, refl}
 use Rattle.base_kit.specs.Partition.{IsNumbered}
 use Rattle.cfg_ast.specs.declared.classes.DestClass.{DestClass}

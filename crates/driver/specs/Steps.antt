@@ -31,8 +31,8 @@ pub record IsGroupingOf (problem : Problem) (g : Grouping) : Type 0 where
   pub coarsest : IsCoarsest g.problem g.groups
   pub links : (count : ℕ) → IsNumbered g.groups count → g.quotient.links ≡ quotient_links g.problem.edges g.groups count
 
--- The plan by which a problem of a class is compressed, of which there is one: its coarsest admissible partition with
--- the groups numbered by their least members, and the links between the groups.
+-- The only plan by which a problem of a class is compressed: its coarsest admissible partition with the
+-- groups numbered by their least members, and the links between the groups.
 pub record IsPlanWith (network : Network) (class : DestClass) (problem : Problem) (plan : Plan) : Type 0 where
   pub network_is : plan.network ≡ network
   pub class_is : plan.class ≡ class

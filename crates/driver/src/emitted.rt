@@ -16,7 +16,7 @@ use std::alloc::Global;
 /// The network of the groups of a problem of a class.
 ///
 /// # Errors
-/// `PoolOverlap` exactly where a prefix of the class meets the addresses of the links. Out of memory.
+/// `PoolOverlap` exactly if a prefix of the class meets the addresses of the links. Out of memory.
 pub fn emitted_of(
     alloc: Global,
     checked: &Checked,

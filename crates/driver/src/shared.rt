@@ -82,7 +82,7 @@ impl Shared {
     }
 }
 
-/// The problem of a class, where those of other classes are not wanted.
+/// The problem of a class, if no other class is needed.
 ///
 /// # Errors
 /// Out of memory.

@@ -19,7 +19,7 @@ use Rattle.emit_fault_laws.proofs.Prepends.{no_foreign_prepend, none_inbound}
 use Rattle.emit_fault_laws.proofs.Processes.{no_mixed_protocols, no_other_area}
 use Rattle.emit_form_laws.specs.Laws.{GroupsAreNoMore, GroupsHaveNoMoreLinks, GroupsHaveFewLinks}
 
--- the laws below that the proof rests on
+-- the laws below on which the proof depends
 pub record HasLaws : Type 0 where
   pub carries : QuotientCarries
   pub no_more_groups : GroupsAreNoMore

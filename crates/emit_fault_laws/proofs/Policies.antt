@@ -1,5 +1,5 @@
--- The names that policy lines of the network of the groups give are defined, deletion lists have one community a line,
--- and only own numbers are put before a path, and none inbound.
+-- In the network of the groups each name that a policy line gives is defined, deletion lists have one
+-- community a line, and routers prepend only their own AS numbers, and only outbound.
 use Rattle.std.proofs.Common.{◌≡◌, ℕ, Bool, true, false, cond, not, List, [], ◌∷◌, ◌++◌, map, ◌⊎◌, inl, inr, Option, Some, None, refl, sym, ◌∙◌, ap, subst, bytes_eq}
 use Rattle.std.specs.Prelude.{flat_map}
 use Rattle.std.specs.Option.{option_map, option_map_or}

@@ -1,4 +1,4 @@
--- The routers of the network of the groups put only their own numbers before a path, and none inbound.
+-- The routers of the network of the groups prepend only their own AS numbers, and only outbound.
 use Rattle.std.proofs.Common.{◌≡◌, ◌≢◌, ℕ, zero, suc, ◌≤◌, Bool, true, false, cond, ◌&&◌, List, [], ◌∷◌, length, inl, inr, Option, Some, None, refl, sym, ◌∙◌, ap, subst, arith, nat_eq, bytes_eq}
 use Rattle.std.specs.Prelude.{IfSome, is_some, replicate, slice_get, slice_index_or}
 use Rattle.std.specs.Bool.{beq}

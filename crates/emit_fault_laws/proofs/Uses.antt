@@ -1,4 +1,5 @@
--- The maps of a group hold, for each map that a neighbour of it uses, one that is the same, at its number.
+-- For each map that a neighbour line of a group uses, the group has a map that says the same, at its
+-- number.
 use Rattle.std.proofs.Common.{find, ◌≡◌, ℕ, ◌+◌, Bool, true, false, cond, ◌&&◌, ◌||◌, List, [], ◌∷◌, ◌⊎◌, inl, inr, Option, Some, None, refl, sym, ◌∙◌, ap, subst, arith, nat_eq}
 use Rattle.std.specs.Prelude.{filter, flat_map}
 use Rattle.std.specs.Bool.{beq}

@@ -1,4 +1,4 @@
--- What the meaning of the network of the groups lacks.
+-- The network of the groups has no fault of meaning.
 use Rattle.cfg_check.specs.Faultless.{IsFaultless}
 use Rattle.config_emit.specs.Emitted.{emitted}
 use Rattle.config_emit.specs.Laws.{IsPlan}

@@ -1,4 +1,4 @@
-//! That no fault of meaning stands in the network of the groups.
+//! The law that the network of the groups has no fault of meaning.
 ghost use Rattle.emit_fault_laws.specs.Laws.{EmittedIsFaultless};
 
 /// No fault of any kind stands in the meaning of the network of the groups of a plan.

@@ -7,8 +7,8 @@
 
 ghost use Rattle.emit_link_laws.specs.Laws.{EmittedLinks};
 
-/// The links of the network of the groups are those of the plan, in order. In BGP this rests on that no
-/// fault stands in the network.
+/// The links of the network of the groups are those of the plan, in order. In BGP this depends on the
+/// network having no fault.
 pub fn emitted_links()
     ensures { EmittedLinks }
 {

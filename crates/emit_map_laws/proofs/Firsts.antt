@@ -1,4 +1,5 @@
--- The maps of a router, by first use, hold for each use a map that is the same, at its number.
+-- For each use of a map, the maps of a router, in the order of first use, have one that says the same,
+-- at its number.
 use Rattle.std.proofs.Common.{◌≡◌, ℕ, ◌+◌, Bool, true, false, cond, ◌||◌, List, [], ◌∷◌, ◌⊎◌, inl, inr, Option, Some, None, refl, sym, ap, ◌∙◌, subst, arith, find, nat_eq, eq-eqb}
 use Rattle.std.specs.Prelude.{if◌then◌else◌}
 use Rattle.std.specs.Bool.{beq}

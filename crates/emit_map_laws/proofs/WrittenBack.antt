@@ -1,4 +1,4 @@
--- The plain map of a map as it is written is the map that was written, but for names and lines.
+-- The plain map of a map as it is written is the map that was to be written, except for names and lines.
 use Rattle.std.proofs.Common.{◌≡◌, ℕ, zero, suc, ◌+◌, ◌^◌, ◌<◌, ◌≤◌, Bool, true, false, ◌&&◌, List, [], ◌∷◌, length, map, inl, inr, Option, Some, None, refl, sym, ap, ◌∙◌, subst, arith, find, filter_map, bytes_eq, nat_eq, decimal, codes, replicate, eq-eqb}
 use Rattle.std.specs.Prelude.{is_some, min, if◌then◌else◌}
 use Rattle.std.specs.Bool.{beq}

@@ -18,8 +18,8 @@ abbrev pub imported_by : Option Act → List ℕ → Option Imported
 imported_by None comms = None
 imported_by (Some act) comms = import_by act comms
 
--- A session of the network of the groups imports into an end of its link what the act does that the link
--- carries there, and nothing where it carries none.
+-- A session of the network of the groups imports, at an end of its link, what the act imports that the
+-- link carries into that end. If the link carries no act there, the session imports nothing.
 abbrev pub SessionsImportActs : Type 0
 SessionsImportActs = (e : Plan) → IsPlan e → e.problem.protocol ≡ OverBgp → (p : Prefix) (g t : ℕ) (l : QLink) → Contains e.links l → touches g l ≡ true →
     (comms : List ℕ)

@@ -1,8 +1,8 @@
 //! Laws of the sessions of the network of the groups.
 ghost use Rattle.emit_map_laws.specs.Laws.{SessionsImportActs};
 
-/// A session of the network of the groups imports into an end of its link what the act does that the link
-/// carries there, and nothing where it carries none.
+/// A session of the network of the groups imports, at an end of its link, what the act imports that the
+/// link carries into that end. If the link carries no act there, the session imports nothing.
 pub fn sessions_import_acts()
     ensures { SessionsImportActs }
 {

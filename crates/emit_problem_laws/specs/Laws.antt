@@ -7,7 +7,7 @@ use Rattle.config_emit.specs.Emitted.{emitted}
 use Rattle.config_emit.specs.Laws.{IsPlan}
 use Rattle.config_emit.specs.Plan.{Plan, small}
 
--- Where no fault stands in the network of the groups, its problem, for every prefix of the class, is that of the
--- groups.
+-- If no fault stands in the network of the groups, its problem for every prefix of the class is that of
+-- the groups.
 abbrev pub EmittedHasProblem : Type 0
 EmittedHasProblem = (e : Plan) → IsPlan e → IsFaultless (emitted e) → (p : Prefix) → Contains e.class.prefixes p → IsProblemOf (emitted e) p (small e)

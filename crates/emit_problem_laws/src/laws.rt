@@ -1,8 +1,8 @@
 //! What holds of the problem of the network of the groups.
 ghost use Rattle.emit_problem_laws.specs.Laws.{EmittedHasProblem};
 
-/// Where no fault stands in the network of the groups, its problem, for every prefix of the class, is that
-/// of the groups.
+/// If no fault stands in the network of the groups, its problem for every prefix of the class is that of
+/// the groups.
 pub fn emitted_has_problem()
     ensures { EmittedHasProblem }
 {

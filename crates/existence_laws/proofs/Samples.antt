@@ -1,5 +1,5 @@
--- Finitely many sets of communities decide what sessions import: those of the named ones, each with and without one that no line
--- names.
+-- Finitely many sets of communities decide what sessions import: the sets of named communities, each
+-- with and without one community that no line names.
 use Rattle.std.proofs.Common.{◌≡◌, ℕ, ◌+◌, Bool, true, false, ◌&&◌, List, ◌++◌, map, Option, Some, None, refl, sym, ap, ◌∙◌, subst, arith}
 use Rattle.std.specs.Option.{option_map, option_map_or}
 use Rattle.base_kit.specs.Sets.{has, with_number, IsAscending}

@@ -1,4 +1,4 @@
--- What there is: a problem of each class, a graph of each problem, and a certificate of each graph.
+-- Each class has a problem, each problem has a graph, and each graph has a certificate.
 use Rattle.std.specs.Prelude.{◌≤◌, length, Contains}
 use Rattle.base_kit.specs.declared.act_graph.ActGraph.{ActGraph}
 use Rattle.cfg_ast.specs.declared.classes.DestClass.{DestClass}

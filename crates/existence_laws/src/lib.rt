@@ -1,7 +1,8 @@
-//! What there is, whatever memory a computer has: a problem of each class, a graph of each problem, and a certificate of each graph.
+//! Each class has a problem, each problem has a graph, and each graph has a certificate. These laws do
+//! not depend on the memory of a computer.
 //!
-//! The program makes each of them, or says that memory is wanting. These laws say that there is one in each
-//! case. Each law is the contract of a function that does nothing.
+//! The program makes each of them, or says that memory ran out. These laws say that each of them exists
+//! in any case. Each law is the contract of a function that does nothing.
 #![tactic(auto)]
 
 ghost use Rattle.existence_laws.specs.Laws.{EachClassHasProblem, EachGraphHasCertificate, EachProblemHasGraph};

@@ -18,7 +18,7 @@ text_by_half half = flat_map (switch_lines (cables half)) (enumerate_from 0 (swi
 unfoldable pub fat_tree_text : ℕ → List ℕ
 fat_tree_text size = text_by_half (size / 2)
 
--- the bytes of what is given are the text of a size; or it is none; or memory ran out
+-- the bytes of what is given are the text of a size; or the size is none; or memory ran out
 abbrev pub IsFatTree : {X : Type 0} → (X → List ℕ) → Result X FatRefusal → ℕ → Type 0
 IsFatTree bytes (Ok x) size = (is_size size ≡ true) × (bytes x ≡ fat_tree_text size)
 IsFatTree bytes (Err BadSize) size = is_size size ≡ false

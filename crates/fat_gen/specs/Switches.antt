@@ -1,6 +1,6 @@
 -- The switches of a fat tree (Al-Fares, Loukissas and Vahdat, A Scalable, Commodity Data Center Network
--- Architecture, SIGCOMM 2008). By the half h of its size, which is the number of ports of a switch, there are
--- h * h core switches, and 2 * h pods of h aggregation and h edge switches each.
+-- Architecture, SIGCOMM 2008). The size is the number of ports of a switch; let h be half of it. There
+-- are h * h core switches, and 2 * h pods of h aggregation and h edge switches each.
 use Rattle.std.specs.Prelude.{ℕ, ◌+◌, ◌*◌, List, ◌++◌, map, flat_map}
 use Rattle.std.specs.List.{range_with_len}
 use Rattle.fat_gen.specs.declared.switch.Switch.{Switch}

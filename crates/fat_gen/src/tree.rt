@@ -69,7 +69,7 @@ fn text_by_half(alloc: Global, half: u8) -> Result<Vec<u8>, AllocError>
 ///
 /// # Errors
 ///
-/// `BadSize` exactly where the size is odd, or not from 4 to 20. `Memory` where memory ran out.
+/// `BadSize` exactly if the size is odd, or not from 4 to 20. `Memory` where memory ran out.
 #[tactic(auto, unfolding(crate::specs::FatTrees::fat_tree_text))]
 pub fn fat_tree(alloc: Global, k: u32) -> Result<Vec<u8>, FatRefusal>
     ensures { IsFatTree (λ bytes. bytes.items) result k }

@@ -33,7 +33,7 @@ use Rattle.given_laws.proofs.ListSteps.{prefix_lists_step, prefix_lists_once, co
 abbrev IsHost : Named → Type 0
 IsHost host = is_router_name host.name ≡ true
 
--- what stands of a router but for its open stanza
+-- what is read of a router except its open stanza
 pub record AreParts (host : Option Named) (ins : List Interface) (b : Option BgpProcess) (o : Option OspfProcess) (ps : List PrefixList)
     (cs : List CommunityList) (ms : List RouteMap) : Type 0 where
   pub named : IfSome host IsHost

@@ -1,4 +1,4 @@
--- That a network is well formed is a proposition: it says no more where it is known twice.
+-- That a network is well formed is a proposition: any two proofs of it are equal.
 use Rattle.std.proofs.Common.{ℕ, Bool, true, false, List, [], ◌∷◌, Option, Some, None}
 use Rattle.std.specs.List.{AllByRecursion-prop, IsDistinct-prop}
 use Rattle.std.specs.Option.{MatchOption-prop}

@@ -1,4 +1,4 @@
--- A network of which it is known that some text gives it is well formed. Public: crates above may cite it.
+-- A network that some text gives is well formed. Public: crates above may cite it.
 use Rattle.std.proofs.Common.{◌≡◌, ℕ, ◌≤◌, List, Option, Some, None, Result, Ok, Err, refl, arith}
 use Rattle.std.specs.Prelude.{IfOk, IfSome, is_some, if◌then◌else◌}
 use Rattle.std.specs.Option.{option_map}

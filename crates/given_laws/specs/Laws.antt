@@ -1,4 +1,4 @@
--- What every network has of which it is known that some text gives it.
+-- What holds of every network that some text gives.
 use Rattle.std.specs.Prelude.{◌≡◌, ℕ, ◌<◌, ◌≤◌, ◌⊎◌, Bool, not, List, [], ◌∷◌, Option, Contains, IfSome, length, map, filter, filter_map, flat_map}
 use Rattle.std.specs.Option.{option_map, option_map_or}
 use Rattle.std.specs.List.{AllByRecursion, list_any}
@@ -42,7 +42,8 @@ address_line_of i = option_map (λ (a : Address). a.line) i.address
 abbrev pub given_address_line : Place Interface → Option ℕ
 given_address_line p = address_line_of p.value
 
--- The order of places is that of lines, for interfaces, their addresses and neighbours, of which there are few.
+-- Interfaces, their addresses and neighbours are few, and the order of their places is the order of
+-- their lines.
 pub record PlacesAreInOrder (network : Network) : Type 0 where
   pub interfaces : IsAscending (map interface_line (places interfaces_of network))
   pub addresses : IsAscending (filter_map given_address_line (places interfaces_of network))

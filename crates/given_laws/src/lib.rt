@@ -1,8 +1,8 @@
 //! Laws of the networks that some text gives.
 //!
-//! A network of which it is known that some text gives it, as that of a checked one, is as the grammar of
-//! lines has it. A caller that holds such a network calls the law that it needs, and knows what the law
-//! says of its network; it needs no text.
+//! If some text gives a network, as is known of each checked one, the network has the form that the
+//! grammar of lines demands. A caller that has such a network calls the law that it needs; it does not
+//! need the text.
 #![tactic(auto)]
 
 ghost use Rattle.given_laws.specs.Laws.{GivenCostsArePositive, GivenIsWellFormed, GivenLinksAreInOrder, GivenPlacesAreInOrder, GivenRoutersAreWellFormed};
@@ -18,7 +18,7 @@ pub fn given_routers_are_well_formed()
     ensures { GivenRoutersAreWellFormed }
 {}
 
-/// The cost of an interface is at least 1, be it given or that of its type.
+/// The cost of an interface is at least 1, whether a line gives it or it follows from the type.
 pub fn given_costs_are_positive()
     ensures { GivenCostsArePositive }
 {}

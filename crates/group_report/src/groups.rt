@@ -56,7 +56,7 @@ fn put_group(
     text.push_str("\n")
 }
 
-/// Appends the line of each group, of which there are so many.
+/// Appends the lines of so many groups.
 pub(crate) fn put_group_lines(
     text: &mut String,
     problem: &Srp,

@@ -46,7 +46,7 @@ fn group(alloc: Global, problem: &Srp, members: &[u32]) -> Result<Value, AllocEr
     json!(in alloc; {"lone": lone, "members": members, "name": name, "origin": origin})
 }
 
-/// The group objects, of which there are so many.
+/// The objects of so many groups.
 pub(crate) fn groups(
     alloc: Global,
     problem: &Srp,
@@ -64,7 +64,7 @@ pub(crate) fn groups(
     Ok(groups)
 }
 
-/// How many there are between groups, and how many there were.
+/// The counts of routers or of links: after compression, and before it.
 pub(crate) fn counts(alloc: Global, after: usize, before: u32) -> Result<Value, AllocError>
     ensures { IfOk result (λ value. view value ≡ counts_data after before) }
 {

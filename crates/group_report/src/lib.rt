@@ -3,7 +3,8 @@
 //! `report` writes how many routers and links there were and are, the groups and the neighbours that
 //! are part of no session as lines of text, exactly as the definition `report_text` says, and `json`
 //! writes the same as one line of JSON, as `json_text` says. `count_line` writes the line of the
-//! counts alone, and `link_count` counts the links between groups where nobody asks which.
+//! counts alone, and `link_count` counts the links between groups for callers that do not need the links
+//! themselves.
 #![tactic(auto)]
 
 mod counts;

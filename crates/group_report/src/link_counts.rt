@@ -1,4 +1,4 @@
-//! How many links there are between groups, where nobody asks which.
+//! The number of links between groups, for callers that do not need the links themselves.
 
 ghost use Rattle.std.specs.Prelude.{◌≡◌, ◌+◌, ◌<◌, ◌≤◌, ◌^◌, All, IfOk, IfSome, length};
 ghost use Rattle.base_kit.specs.Partition.{IsNumbered};
@@ -131,8 +131,8 @@ fn count_over(
     Ok(quotient.links.len())
 }
 
-/// How many links `links_of_groups` gives between these groups of a problem. Where there are few groups
-/// and acts, no link is made.
+/// How many links `links_of_groups` gives between these groups of a problem. If there are few groups and
+/// acts, no link is made.
 ///
 /// # Errors
 /// Out of memory.

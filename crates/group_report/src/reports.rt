@@ -38,7 +38,7 @@ fn put_all_unmatched(
     Ok(())
 }
 
-// Appends a report on groups, of which there are so many.
+// Appends a report on so many groups.
 fn put_report(
     text: &mut String,
     class_number: u32,

@@ -9,8 +9,8 @@ use base_kit::{List, NoMemory};
 use std::alloc::Global;
 use std::marker::Model;
 
-/// Memory that takes bytes. It fails at the calls whose numbers, from 1, are listed, and at a piece
-/// that is not empty when its room is full.
+/// Memory that takes bytes. A call fails if its number, counted from 1, is listed. It also fails if the
+/// room is full and the piece is not empty.
 #[derive(Drop)]
 pub struct MemSink {
     bytes: Vec<u8>,
@@ -80,7 +80,7 @@ impl Sink for MemSink {
         ensures same { OnErr result (Some self.new.taken ≡ Some self.old.taken) }
         ensures cause { OnErr result (Rose self.old.faults self.new.faults) }
 
-        // Exactly where the call is listed, or there is no room.
+        // It fails exactly if the call is listed, or there is no room.
         ensures fails { IsErr result ↔ FailsAt self.old bytes.now }
         ensures calls { self.new.calls ≡ up self.old.calls }
         ensures counted { OnErr result (self.new.faults ≡ up self.old.faults) }

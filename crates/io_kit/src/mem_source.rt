@@ -10,8 +10,8 @@ use crate::{Failed, MemFile, Source};
 use base_kit::List;
 use std::marker::Model;
 
-/// Files in memory. It fails at the calls whose numbers are listed, its calls of `begin` and `read`
-/// being numbered together from 1, and at a `begin` of a name that it does not hold.
+/// Files in memory. A call fails if its number is listed; calls of `begin` and `read` are numbered
+/// together from 1. A `begin` also fails if no file has the name.
 #[derive(Drop)]
 pub struct MemSource {
     files: List<MemFile>,
@@ -33,7 +33,8 @@ impl Model for MemSource {
 }
 
 impl MemSource {
-    /// These files, of which the first of a name counts, and the numbers of the calls that fail.
+    /// These files, and the numbers of the calls that fail. If several files have one name, the first
+    /// counts.
     pub fn new(files: List<MemFile>, failing: List<u64>) -> Self
         ensures { result ≡ record { files = files; rest = []; failing = failing; calls = 0; faults = 0 } }
     {
@@ -66,7 +67,7 @@ impl Source for MemSource {
         ensures empty { OnErr result (Some self.new.rest ≡ Some []) }
         ensures cause { OnErr result (Rose self.old.faults self.new.faults) }
 
-        // Exactly where the call is listed, or the name is not held.
+        // It fails exactly if the call is listed, or the name is not there.
         ensures fails { IsErr result ↔ Contains self.old.failing (up self.old.calls) ⊎ (contents_of self.old.files name.now ≡ None) }
         ensures calls { self.new.calls ≡ up self.old.calls }
         ensures counted { OnErr result (self.new.faults ≡ up self.old.faults) }
@@ -101,7 +102,7 @@ impl Source for MemSource {
         ensures end { IfOk result (λ count. count ≡ 0 → 0 < length buf.new → IfSome (Some self.new.rest) (λ r. r ≡ [])) }
         ensures cause { OnErr result ((n : List ℕ) → all_begun n ≡ true → Rose self.old.faults self.new.faults) }
 
-        // Exactly where the call is listed.
+        // It fails exactly if the call is listed.
         ensures fails { IsErr result ↔ Contains self.old.failing (up self.old.calls) }
         ensures calls { self.new.calls ≡ up self.old.calls }
         ensures counted { OnErr result (self.new.faults ≡ up self.old.faults) }

@@ -27,7 +27,7 @@ impl Model for SureSource {
 }
 
 impl SureSource {
-    /// These files, of which the first of a name counts.
+    /// These files. If several have one name, the first counts.
     pub fn new(files: List<MemFile>) -> Self
         ensures { result ≡ record { files = files; rest = [] } }
     {

@@ -21,8 +21,8 @@ pub enum InFault {
     Memory,
 }
 
-/// Reads the whole content of a name. It is `TooLong` exactly where it has more than `limit` bytes,
-/// and `Failed` only where the count of faults of that name rose.
+/// Reads the whole content of a name. The answer is `TooLong` exactly if the content has more than
+/// `limit` bytes, and `Failed` only if the count of faults of that name rose.
 #[tactic(auto, using(crate::proofs::Rises::rose_earlier))]
 pub fn read_all<S: Source>(
     alloc: Global,

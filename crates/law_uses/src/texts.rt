@@ -1,4 +1,4 @@
-//! Laws of texts, called.
+//! Calls of laws of texts.
 
 ghost use Rattle.cfg_ast.specs.text.Reading.{IsGiven};
 ghost use Rattle.given_laws.specs.Laws.{PlacesAreInOrder};
@@ -17,7 +17,7 @@ pub fn is_in_order(network: &Network)
     given_places_are_in_order();
 }
 
-/// What is printed of such a network is read as it but for the numbers of lines.
+/// The printed text of such a network is read back as the same network except for line numbers.
 pub fn reads_back(network: &Network, notes: &Notes)
     requires known { ∥ IsGiven network.now ∥₁ }
     requires noted { AreNotes network.now notes.now }

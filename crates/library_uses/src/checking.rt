@@ -1,4 +1,4 @@
-//! Networks checked and asked, called.
+//! Calls that check networks and ask about them.
 
 ghost use Rattle.std.specs.Prelude.{◌≡◌, ◌<◌, IfErr, IfOk, length};
 ghost use Rattle.cfg_ast.specs.meaning.Classes.{classes_of};

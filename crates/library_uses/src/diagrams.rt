@@ -1,4 +1,5 @@
-//! Decision diagrams over sets of communities, their memory, and the functions of sessions, called.
+//! Calls on decision diagrams over sets of communities, on their memory, and on the functions of
+//! sessions.
 
 ghost use Rattle.std.specs.Prelude.{◌≡◌, ◌≤◌, ◌<◌, [], ◌&&◌, ◌||◌, ℕ, List as Items, Ok, Option, Some, IfOk, OnErr, OnOk, length, not, true, false};
 ghost use Rattle.base_kit.specs.Sets.{has};

@@ -1,7 +1,7 @@
 //! How another analysis uses the library, from the bytes of a text to a partition of a graph.
 //!
-//! For each public call there is a function that makes it, in the form in which the call is promised, so
-//! that a change of the form does not compile here. The module `worked` has three uses in full.
+//! For each public call there is a function here that makes it in the form that is promised. If the form
+//! changes, this crate does not compile. The module `worked` has three uses in full.
 #![tactic(auto)]
 
 pub mod checking;

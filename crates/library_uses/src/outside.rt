@@ -1,4 +1,4 @@
-//! Files that are read and places that take bytes, called.
+//! Calls on files that are read and on places that take bytes.
 
 ghost use Rattle.std.specs.Prelude.{◌≡◌, ◌≤◌, [], IfOk, IfSome, IsErrOf, OnErr, OnOk, length, true};
 ghost use Rattle.io_kit.specs.Ends.{Rose, Took, TookPart};
@@ -36,14 +36,14 @@ pub fn write<K: Sink>(sink: &mut K, bytes: &[u8]) -> Result<usize, Failed>
     sink.write(bytes)
 }
 
-/// Files in memory, of which some calls fail.
+/// Files in memory. Some calls on them fail.
 pub fn failing_files(files: List<MemFile>, failing: List<u64>) -> MemSource
     ensures { result ≡ record { files = files; rest = []; failing = failing; calls = 0; faults = 0 } }
 {
     MemSource::new(files, failing)
 }
 
-/// A place in memory, of which some calls fail.
+/// A place in memory. Some calls on it fail.
 pub fn failing_sink(
     alloc: Global,
     most: usize,

@@ -1,4 +1,4 @@
-//! Lists and route maps, called.
+//! Calls on lists and route maps.
 
 ghost use Rattle.std.specs.Prelude.{◌≡◌, IfOk, option_copied};
 ghost use Rattle.cfg_ast.specs.meaning.Lists.{community_list_permits, community_list_permits_exactly};

@@ -1,4 +1,4 @@
-//! Texts read, called.
+//! Calls that read texts.
 
 ghost use Rattle.std.specs.Prelude.{◌≡◌, ◌≤◌, All, IfOk, length};
 ghost use Rattle.cfg_ast.specs.text.Answers.{Gives, Reads};

@@ -1,4 +1,4 @@
-//! Graphs refined, and their partitions asked, called.
+//! Calls that refine graphs and ask about their partitions.
 
 ghost use Rattle.std.specs.Prelude.{◌≡◌, ℕ, ◌+◌, ◌*◌, ◌≤◌, ◌<◌, [], Contains, IfOk, OnErr, OnOk, length, slice_index, slice_index_or};
 ghost use Rattle.base_kit.specs.Partition.{IsCoarsestOn, IsNumbered, members_of};

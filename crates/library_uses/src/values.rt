@@ -1,4 +1,4 @@
-//! Lists, texts, sets, numbers and counters, called.
+//! Calls on lists, texts, sets, numbers and counters.
 
 ghost use Rattle.std.specs.Prelude.{◌≡◌, ◌+◌, ◌<◌, [], ◌∷◌, ◌++◌, IfOk, OnErr, OnOk};
 ghost use Rattle.std.specs.Cmp.Lexicographic.{slice_cmp};

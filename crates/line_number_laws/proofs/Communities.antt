@@ -1,5 +1,5 @@
--- The communities of a network do not hang on the numbers of its lines, and where they are few no line
--- has one too many, whatever its number.
+-- The communities of a network do not depend on line numbers. If they are few, no line has one too many,
+-- whatever its number.
 use Rattle.std.proofs.Common.{◌≡◌, ◌≤◌, ℕ, Bool, true, false, cond, not, ◌&&◌, ◌||◌, List, [], ◌∷◌, map, filter, length, refl, sym, ap, ◌∙◌, arith}
 use Rattle.std.specs.Prelude.{flat_map, nat_eq, nat_lt, nat_le}
 use Rattle.std.proofs.lemmas.Bool.Decides.{nat_tests}

@@ -1,5 +1,5 @@
--- Where no fault stands in the meaning of a network, none stands in that of a network that is the same
--- but for the numbers of its lines.
+-- If a network has no fault of meaning, a network that is the same except for line numbers has none
+-- either.
 use Rattle.std.proofs.Common.{◌≡◌, ◌≤◌, ℕ, List, [], length, sym, ap, subst, ◌∙◌}
 use Rattle.cfg_ast.specs.declared.network.Network.{Network}
 use Rattle.cfg_ast.specs.meaning.PolicyFaults.{communities_of, undefined_map_lines, undefined_list_lines, delete_list_lines, prepend_form_lines, prepend_in_lines}

@@ -1,4 +1,4 @@
--- Interfaces, subnets, the area and initial routes do not hang on the numbers of lines.
+-- Interfaces, subnets, the area and initial routes do not depend on line numbers.
 use Rattle.std.proofs.Common.{◌≡◌, ℕ, Bool, true, false, cond, ◌&&◌, List, [], Option, Some, None, map, filter, refl, ap, ◌∙◌}
 use Rattle.std.specs.Prelude.{filter_map, nat_eq, option_and_then, slice_get}
 use Rattle.std.specs.Option.{option_map, option_map_or}

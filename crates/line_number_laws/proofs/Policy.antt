@@ -1,4 +1,4 @@
--- What a session imports does not hang on the numbers of lines.
+-- What a session imports does not depend on line numbers.
 use Rattle.std.proofs.Common.{◌≡◌, ℕ, Bool, true, false, cond, not, List, [], ◌∷◌, Option, Some, None, map, filter, refl, ap, ◌∙◌}
 use Rattle.std.specs.Prelude.{bytes_eq}
 use Rattle.std.specs.Option.{option_map, option_map_or, option_and_then}

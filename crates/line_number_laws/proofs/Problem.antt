@@ -1,4 +1,4 @@
--- A problem of a network is a problem of each network that is the same but for the numbers of lines.
+-- A problem of a network is a problem of each network that is the same except for line numbers.
 use Rattle.std.proofs.Common.{◌≡◌, ℕ, List, Option, Some, None, map, refl, sym, ap, ◌∙◌, inl, inr}
 use Rattle.std.specs.Prelude.{slice_get}
 use Rattle.std.specs.Option.{option_map}
@@ -24,7 +24,8 @@ use Rattle.line_number_laws.proofs.Links as links
 use Rattle.line_number_laws.proofs.Mapped.{map_mapped}
 use Rattle.line_number_laws.proofs.Policy.{session_import_bare}
 
--- What does not hang on what `h` changes is the same of two items that `h` makes one.
+-- A function that does not depend on what `h` changes has the same value on two items that `h` makes
+-- one.
 same_of : {A B : Type 0} (h : A → A) (f : A → B) → ((x : A) → f (h x) ≡ f x) → (x y : A) → h x ≡ h y → f x ≡ f y
 same_of h f aside x y same = sym (aside x) ∙ ap f same ∙ aside y
 

@@ -1,4 +1,4 @@
--- The protocol of a network without faults does not hang on the numbers of lines.
+-- The protocol of a network without faults does not depend on line numbers.
 use Rattle.std.proofs.Common.{◌≡◌, ℕ, zero, suc, Bool, true, false, cond, not, ◌&&◌, List, [], ◌∷◌, Option, Some, None, map, filter, length, refl, sym, ap, subst, ◌∙◌, length-append}
 use Rattle.std.specs.Prelude.{flat_map, nat_lt, slice_get}
 use Rattle.std.specs.Option.{option_map}
@@ -16,8 +16,8 @@ use Rattle.cfg_ast.specs.printing.Bare.{bare_bgp, bare_ospf, bare_router, bare}
 use Rattle.line_number_laws.specs.Laws.{ProtocolAside}
 use Rattle.line_number_laws.proofs.RouterLines.{no_items}
 
--- The `router` lines of a router with two processes change places, but have one protocol in either
--- order or in none.
+-- The `router` lines of a router with two processes may change places: in both orders they have one
+-- protocol, or in neither.
 
 is_of : Protocol → ProtocolLine → Bool
 is_of q line = is_same_protocol q line.protocol

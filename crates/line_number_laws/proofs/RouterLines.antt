@@ -1,5 +1,5 @@
--- The lines at which router lines are at fault are as many, whatever their numbers: in the network
--- without numbers each of them is at 0.
+-- How many router lines have a fault does not depend on line numbers: in the network without line
+-- numbers each of these faults is at line 0.
 use Rattle.std.proofs.Common.{◌≡◌, ℕ, ◌+◌, Bool, true, false, cond, ◌&&◌, List, [], ◌∷◌, ◌++◌, Option, Some, None, map, filter, length, refl, sym, ap, ◌∙◌}
 use Rattle.std.specs.Prelude.{flat_map, nat_eq, nat_lt}
 use Rattle.std.specs.Option.{option_map}

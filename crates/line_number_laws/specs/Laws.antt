@@ -1,4 +1,4 @@
--- What two networks share that are the same but for the numbers of their lines.
+-- What two networks share if they are the same except for line numbers.
 use Rattle.std.specs.Prelude.{◌≡◌, ◌≤◌, [], length}
 use Rattle.base_kit.specs.Prefixes.{Prefix}
 use Rattle.cfg_ast.specs.declared.network.Network.{Network}
@@ -19,14 +19,14 @@ abbrev pub ProblemAside : Type 0
 ProblemAside = (m n : Network) (p : Prefix) (problem : Problem) → bare m ≡ bare n → protocol_of m ≡ protocol_of n → IsProblemOf n p problem →
     IsProblemOf m p problem
 
--- If no fault of its meaning stands in one, none stands in the other.
+-- If one has no fault of meaning, the other has none.
 abbrev pub FaultsAside : Type 0
 FaultsAside = (m n : Network) → bare m ≡ bare n → IsFaultless n → IsFaultless m
 
--- Where a network names few communities, none is one too many, whatever the numbers of its lines are.
+-- If a network names few communities, none is one too many, whatever the line numbers are.
 abbrev pub FewCommunitiesPass : Type 0
 FewCommunitiesPass = (n : Network) → length (communities_of n) ≤ 1024 → too_many_communities_lines n ≡ []
 
--- Where no fault of its meaning stands in one, both have one protocol.
+-- If one has no fault of meaning, both have one protocol.
 abbrev pub ProtocolAside : Type 0
 ProtocolAside = (m n : Network) → bare m ≡ bare n → IsFaultless n → protocol_of m ≡ protocol_of n

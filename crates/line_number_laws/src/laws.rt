@@ -1,33 +1,33 @@
-//! What does not hang on the numbers of lines.
+//! What does not depend on line numbers.
 ghost use Rattle.line_number_laws.specs.Laws.{FaultsAside, FewCommunitiesPass, LinksAside, ProblemAside, ProtocolAside};
 
-/// The links of a network do not hang on the numbers of its lines.
+/// The links of a network do not depend on line numbers.
 pub fn links_aside()
     ensures { LinksAside }
 {}
 
-/// The problem of a network and a prefix is that of every network that is the same but for the numbers
-/// of its lines, where both have one protocol: a router with processes of both protocols has that of
-/// the lesser line.
+/// A problem of a network and a prefix is also a problem of every network that is the same except for
+/// line numbers, if both have one protocol. This premise is needed: a router with processes of both
+/// protocols has the protocol of the lesser line.
 pub fn problem_aside()
     ensures { ProblemAside }
 {}
 
-/// Where no fault stands in the meaning of a network, none stands in that of a network that is the same
-/// but for the numbers of its lines.
+/// If a network has no fault of meaning, a network that is the same except for line numbers has none
+/// either.
 pub fn faults_aside()
     ensures { FaultsAside }
 {
     cfg_check::laws::few_communities();
 }
 
-/// No line has a community too many where the lines of the network name at most 1,024, whatever their
+/// If the lines of a network name at most 1,024 communities, no line has one too many, whatever the line
 /// numbers are.
 pub fn few_communities_pass()
     ensures { FewCommunitiesPass }
 {}
 
-/// A network that is the same as a faultless one but for the numbers of its lines has its protocol.
+/// A network that is the same as one without faults, except for line numbers, has the same protocol.
 pub fn protocol_aside()
     ensures { ProtocolAside }
 {}

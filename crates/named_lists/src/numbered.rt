@@ -81,7 +81,7 @@ fn put_last<E: Numbered>(
     }
 }
 
-// The entries by number, those of one number as they stand.
+// The entries ordered by number; those of one number keep their order.
 fn by_number<E: Numbered>(entries: List<E>) -> Result<List<E>, NoMemory>
     ensures { IfOk result (λ all. all ≡ in_number_order E.number entries) }
 {

@@ -67,7 +67,7 @@ fn hold_all<E: Numbered>(
     Ok(())
 }
 
-/// Puts what the set has to hold once an entry of this number stands behind the others at a place.
+/// Puts in what the set has to hold after an entry of this number was put behind the others at a place.
 pub(crate) fn hold<E: Numbered>(
     numbers: &mut BTreeSet<(usize, u32)>,
     place: usize,

@@ -1,4 +1,4 @@
--- Neighbours that are part of no session, by an index against all pairs.
+-- Neighbours that are part of no session: an index finds the same ones as all pairs.
 use Rattle.std.proofs.Common.{◌≡◌, ℕ, Bool, true, false, not, cond, ◌&&◌, ◌||◌, List, [], ◌∷◌, map, filter, filter_map, flat_map, nat_eq, Option, Some, None, refl, ◌∙◌, ap, arith}
 use Rattle.std.specs.List.{list_any, cons_option, enumerate_from}
 use Rattle.std.proofs.lemmas.Bool.Decides.{nat_tests}

@@ -1,4 +1,4 @@
--- Links by an index against links by all pairs.
+-- Links that an index finds are the links by all pairs.
 use Rattle.std.proofs.Common.{◌≡◌, Bool, true, false, cond, ◌&&◌, List, [], ◌∷◌, ◌++◌, map, filter, filter_map, flat_map, Option, Some, None, refl, sym, ◌∙◌, ap}
 use Rattle.std.specs.List.{cons_option}
 use Rattle.cfg_ast.specs.declared.topology.Link.{Link}

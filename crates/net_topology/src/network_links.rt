@@ -21,7 +21,7 @@ fn append(links: &mut List<Link>, more: &[Link]) -> Result<(), NoMemory>
 }
 
 /// The links of a network: its BGP sessions or its OSPF adjacencies, in the order of their ends, the
-/// earlier end first. Only want of memory is an error.
+/// earlier end first. The only error is that memory ran out.
 #[tactic(auto, unfolding(cfg_ast::specs::meaning::Topology::links_of))]
 pub fn links(alloc: Global, net: &Checked) -> Result<List<Link>, NoMemory>
     ensures { IfOk result (λ links. links ≡ links_of net.now.network) }

@@ -86,8 +86,8 @@ fn unmatched_among(
     Ok(found)
 }
 
-/// The neighbours that are part of no session, those that are shut down too, in order. Only want of
-/// memory is an error.
+/// The neighbours that are part of no session, also those that are shut down, in order. The only error
+/// is that memory ran out.
 #[tactic(auto, using(crate::proofs::AloneLemmas::unmatched_by_index))]
 pub fn unmatched(alloc: Global, net: &Checked) -> Result<List<Unmatched>, NoMemory>
     ensures { IfOk result (λ found. found ≡ unmatched_of net.now.network) }

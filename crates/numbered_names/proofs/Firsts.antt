@@ -1,4 +1,4 @@
--- Where in a list the first item stands that passes a test. Public: crates above cite these lemmas.
+-- The place of the first item of a list that passes a test. Public: crates above cite these lemmas.
 use Rattle.std.proofs.Common.{◌≡◌, ℕ, suc, ◌+◌, ◌<◌, ◌≤◌, Bool, true, false, cond, not, ◌||◌, List, [], ◌∷◌, ◌++◌, length, map, get_or, Option, Some, None, refl, sym, ap, ◌∙◌, arith, true≢false}
 use Rattle.std.specs.Prelude.{is_some, nat_eq, nat_lt, bytes_eq}
 use Rattle.std.proofs.Math.ListN.{set}

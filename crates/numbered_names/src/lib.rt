@@ -1,4 +1,4 @@
-//! The places of names: that of a name is where it stands first among given items.
+//! The places of names: the place of a name is that of the first of the given items that has it.
 //!
 //! `NamePlaces::of` goes over the items once and keeps a copy of each name. After that a name gives its
 //! place, and a word of a text too, whatever bytes it has; `number_of_word` gives the place as a number

@@ -34,7 +34,7 @@ impl NamePlaces {
     /// Notes the place of an item that stands behind the others, if it is the first of its name.
     ///
     /// # Errors
-    /// Out of memory: then the names of the others have their places still.
+    /// Out of memory: then the names of the others still have their places.
     pub fn note<T: HasName>(&mut self, alloc: Global, items: &[T], item: &T) -> Result<(), NoMemory>
         requires { ArePlacesOf T.name self.old items.now }
         ensures ok { OnOk result (ArePlacesOf T.name self.new (items.now ++ item.now ∷ [])) }
@@ -48,7 +48,7 @@ impl NamePlaces {
         Ok(())
     }
 
-    /// The places of the names of items. Of several items of one name it is that of the first.
+    /// The places of the names of items. If several items have one name, its place is that of the first.
     pub fn of<T: HasName>(alloc: Global, items: &[T]) -> Result<Self, NoMemory>
         ensures { IfOk result (λ places. ArePlacesOf T.name places items.now) }
     {

@@ -1,4 +1,4 @@
--- Nodes that are made so have the form of a session.
+-- Nodes that are made as `Built.antt` says have the form of a session.
 use Rattle.std.proofs.Common.{◌≡◌, ℕ, Bool, true, false, not, ◌&&◌, ◌||◌, nat_eq, List, [], ◌∷◌, Option, Some, None, refl, sym, ◌∙◌, ap, arith, inl, inr}
 use Rattle.std.specs.List.{list_any, AllByRecursion}
 use Rattle.std.specs.Option.{unwrap_or}
@@ -149,7 +149,7 @@ and_left : (a b : Bool) → a && b ≡ true → a ≡ true
 and_left true b e = refl
 and_left false b e = e
 
--- where the community_list_permits are not both, neither is a pair of which one implies the other
+-- if two tests are not both true, two tests that imply them are not both true
 both_false : (a b x y : Bool) → a && b ≡ false → (x ≡ true → a ≡ true) → (y ≡ true → b ≡ true) → x && y ≡ false
 both_false a b true true e f g = let e1 = f refl in let e2 = g refl in let no = rw (e1, e2) at e in absurd cc
 both_false a b true false e f g = refl

@@ -39,14 +39,14 @@ pub record IsOutPushed (old new : Shown) (outs : List (ℕ × ℕ)) (permit : �
   pub plain_is : Means new plain (λ set. carried_by_rest old rest community set)
   pub pushed : IsPushedUnlessPlain new outs r community node plain
 
--- the communities that are on some accepted set carried otherwise than the rest
+-- the communities that some accepted set carries otherwise than the rest
 pub record AreOuts (old new : Shown) (permit : ℕ) (carried : Carried) (rest : ℕ) (outs : List (ℕ × ℕ)) : Type 0 where
   pub cases : AreCases new (carried_by_rest old rest) outs
   pub known : (c : ℕ) → has (keys_of outs) c ≡ true → has old.universe c ≡ true
   pub value : (set : List ℕ) (c : ℕ) → has old.universe c ≡ true → case_or new set outs c (carried_by_rest old rest c set) ≡ value_of old set permit
       && has_in old carried set c
 
--- the nodes of both maps put together, with one that tells whether a community more would be kept
+-- the nodes of both maps put together, with one that tells whether one more community would be kept
 pub record IsPutTogether (old new : Shown) (seen : Crossing) (beyond : ℕ) (edge : EdgeFn) : Type 0 where
   pub permit_inside : edge.permit < length new.nodes
   pub rest_inside : edge.rest < length new.nodes

@@ -45,7 +45,7 @@ leaves entry c = keeps_rest entry.change && spares entry.delete c
 abbrev pub leaves_unnamed : PlainEntry → Bool
 leaves_unnamed entry = keeps_rest entry.change && spares_unnamed entry.delete
 
--- an answer for each community: one for all, but for the odd ones
+-- an answer for each community: one for all except the odd ones
 abbrev pub answer_to : Answers → ℕ → Bool
 answer_to answers c = if has answers.odd c then not answers.all else answers.all
 

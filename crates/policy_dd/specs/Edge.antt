@@ -72,7 +72,7 @@ pub record IsOneOf (shown : Shown) (permit : ℕ) (cases : List (ℕ × ℕ)) (s
 
 -- The diagrams mean the import on every set of communities, and have the one form of all that mean it:
 -- nodes are true only where `permit` is; preferences and counts ascend and each comes on some set; the
--- communities in `outs` are those of the universe that are on some set not carried as `rest` says; and
+-- communities in `outs` are those of the universe that some set does not carry as `rest` says; and
 -- `rest` says of a set without a community outside the universe what it says of the set with one more.
 pub record IsEdgeFn (shown : Shown) (edge : EdgeFn) (import : List ℕ → Option Imported) : Type 0 where
   pub permit_inside : edge.permit < length shown.nodes

@@ -1,4 +1,4 @@
--- Imports of sets of communities, one against another.
+-- Imports of sets of communities, compared with one another.
 use Rattle.std.specs.Prelude.{◌≡◌, ◌≢◌, ℕ, List, Option, Some, None}
 use Rattle.base_kit.specs.Sets.{IsAscending}
 use Rattle.route_maps.specs.declared.plain.Imported.{Imported}

@@ -1,4 +1,4 @@
--- Tables that give numbers nodes, and how they grow.
+-- Tables from numbers to nodes, and how they grow.
 use Rattle.std.specs.Prelude.{◌≡◌, ℕ, ◌+◌, ◌<◌, Bool, true, false, ◌&&◌, ◌||◌, nat_eq, nat_lt, List, [], ◌∷◌, ◌++◌, length, Option, Some, None, if◌then◌else◌}
 use Rattle.std.specs.List.{slice_index_or}
 use Rattle.base_kit.specs.Sets.{has, IsAscending}
@@ -55,7 +55,7 @@ pub data IsPushedUnlessPlain (shown : Shown) (cases more : List (ℕ × ℕ)) (k
   pushed : more ≡ cases ++ (key, node) ∷ [] → DifferOnSet shown node plain → IsPushedUnlessPlain shown cases more key node plain
   left_out : more ≡ cases → ((set : List ℕ) → value_of shown set node ≡ value_of shown set plain) → IsPushedUnlessPlain shown cases more key node plain
 
--- of these keys, those whose test is on some set another one than that of keys without a node
+-- those of these keys whose test differs on some set from the one for keys without a node
 pub record IsSelection (shown : Shown) (other test : ℕ → List ℕ → Bool) (keys : List ℕ) (cases : List (ℕ × ℕ)) : Type 0 where
   pub each : AllCases shown other cases
   pub ascending : IsAscending (keys_of cases)

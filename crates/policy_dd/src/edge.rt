@@ -18,8 +18,9 @@ pub struct EdgeFn {
     pub lps: List<(u32, NodeId)>,
     /// The counts of AS numbers put before the path, in the same way.
     pub adds: List<(u8, NodeId)>,
-    /// The communities that are not carried just where the set has them and `rest` is true, ascending,
-    /// each with the node of the sets for which it is carried.
+    /// The communities that some accepted set does not carry as `rest` says, ascending, each with the
+    /// node of the sets for which it is carried. As `rest` says, a community is carried if the set has
+    /// it and `rest` is true.
     pub outs: List<(Community, NodeId)>,
     /// Where every other community of the set is carried.
     pub rest: NodeId,

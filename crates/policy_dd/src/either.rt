@@ -1,4 +1,4 @@
-//! Two parts of a map, of which the first decides where it can.
+//! Two parts of a map: the first decides if one of its entries holds.
 
 ghost use Rattle.std.specs.Prelude.{◌≡◌, ◌<◌, length, IfOk, ◌&&◌, not, false};
 ghost use Rattle.base_kit.specs.Sets.{IsAscending};
@@ -37,8 +37,8 @@ fn or_unless(
     Ok(all)
 }
 
-/// What a map does of which `first` is the front part, and `last` the back part: the first decides
-/// where one of its entries holds.
+/// What a map does whose front part is `first` and whose back part is `last`: `first` decides if one of
+/// its entries holds, and otherwise `last`.
 pub fn either(store: &mut Store, first: MapFn, last: &MapFn) -> Result<MapFn, NoMemory>
     requires first_inside { AreMapInside store.old first }
     requires last_inside { AreMapInside store.old last.now }

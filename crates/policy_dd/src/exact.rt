@@ -74,9 +74,9 @@ fn where_permitted(store: &Store, none: NodeId, line: &CommunityLine) -> NodeId
     store.constant(false)
 }
 
-/// The sets on which the first line permits that names just what is carried of the communities, where
-/// `none` tells that nothing else is. The lines part at each community, so that they share what they
-/// have in common.
+/// The sets for which some line names exactly the carried communities, and the first such line permits.
+/// `none` says that no other community is carried. The lines are divided at each community, so that they
+/// share what they have in common.
 fn answer_by_communities(
     alloc: Global,
     store: &mut Store,
@@ -117,8 +117,8 @@ fn all_lines<'a>(
     Ok(all)
 }
 
-/// The sets on which the first line permits that names exactly the communities that are carried. No
-/// line does where others are always carried.
+/// The sets for which some line names exactly the carried communities, and the first such line permits.
+/// If other communities are always carried, there is no such line.
 pub fn exact_answer(
     alloc: Global,
     store: &mut Store,

@@ -41,8 +41,8 @@ fn limit(
     Ok(limited)
 }
 
-/// The communities that can be carried otherwise than the rest: few of them, those with a node of their
-/// own, where no other can be.
+/// The communities that can be carried otherwise than the rest: if `few`, only those with a node of
+/// their own, else all of the universe.
 fn out_keys(alloc: Global, store: &Store, carried: &Carried, few: bool) -> Result<NumSet, NoMemory>
     requires { AreNodesInside store.now carried.now }
     ensures { IfOk result (AreOutKeys store.now carried.now few) }
@@ -79,7 +79,7 @@ fn push_out(
     Ok(more)
 }
 
-/// The communities that are on some accepted set carried otherwise than the rest.
+/// The communities that some accepted set carries otherwise than the rest.
 fn outs_of(
     alloc: Global,
     store: &mut Store,

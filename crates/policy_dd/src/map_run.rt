@@ -125,7 +125,7 @@ fn taken(
     })
 }
 
-/// An entry more that does nothing where it decides.
+/// One more entry, which does nothing where it decides.
 fn passed_over(m: MapFn, before: NodeId) -> MapFn
     ensures { result ≡ record m { before = before } }
 {

@@ -101,7 +101,7 @@ fn decision_of_line(
     Ok(Decision { holds, permits })
 }
 
-/// What lines say of which `first` tells those in front, and `last` the others.
+/// What lines say, if `first` is what the front ones say and `last` what the others say.
 fn first_decides(store: &mut Store, first: &Decision, last: &Decision) -> Result<Decision, NoMemory>
     requires first_inside { IsDecisionInside store.old first.now }
     requires last_inside { IsDecisionInside store.old last.now }

@@ -54,7 +54,7 @@ fn read_changes(entries: &[PlainEntry])
     }
 }
 
-/// A session on a set, of which `others` tells whether it has communities outside the universe.
+/// What a session does to a set. `others` tells whether the set has communities outside the universe.
 fn cross(
     alloc: Global,
     store: &mut Store,
@@ -109,10 +109,10 @@ fn kept_beyond(
 
 /// The function of a session: what is imported through the exporter's map `out`, the sending of
 /// communities or not, and the importer's map `into`. The maps name only communities of the store's
-/// universe. After want of memory the store may have more nodes.
+/// universe. If memory runs out, the store may have more nodes.
 ///
-/// The maps are crossed twice: on the set as it is, and as if it had a community outside the universe,
-/// which tells whether such a one would be kept.
+/// The maps are crossed twice: on the set as it is, and as if it had a community outside the universe.
+/// The second crossing tells whether such a community would be kept.
 pub fn edge_fn(
     alloc: Global,
     store: &mut Store,

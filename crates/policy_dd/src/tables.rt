@@ -125,7 +125,7 @@ pub fn with_keys(set: NumSet, cases: &[(u32, NodeId)]) -> Result<NumSet, NoMemor
     Ok(set)
 }
 
-/// Puts a case last, but for one whose node is the plain one.
+/// Puts a case last, unless its node is the plain one.
 pub fn push_unless_plain(
     store: &Store,
     cases: List<(u32, NodeId)>,

@@ -1,5 +1,5 @@
-//! Tests of the functions of sessions, over maps that are made here. Its only code of its own asks, when
-//! it runs, whether a map names communities of a set alone, so that the tests need promise nothing.
+//! Tests of the functions of sessions, over maps that are made here. The only other code asks, when it
+//! runs, whether a map names only communities of a set, so that the tests need not promise it.
 #![tactic(auto)]
 
 #[cfg(test)]

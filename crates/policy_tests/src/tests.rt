@@ -186,7 +186,7 @@ fn has_count(cases: &[(u8, NodeId)], node: NodeId) -> bool {
     cases.len() == 1 && cases[0].0 == 0 && cases[0].1 == node
 }
 
-// Whether the node tells all that the function does, which is of one preference and adds nothing.
+// Whether the node tells all that the function does. The function has one preference and adds nothing.
 fn is_told_by(store: &Store, edge: &EdgeFn, node: NodeId) -> bool {
     edge.permit == node
         && edge.rest == node
@@ -227,8 +227,8 @@ fn two_hundred(alloc: Global) -> Option<NumSet> {
     Some(set)
 }
 
-// The list with a line for each community from 1:1 to 1:200, upwards or downwards. Each line permits,
-// but that of 1:200 only if it is to.
+// The list with a line for each community from 1:1 to 1:200, upwards or downwards. Each line permits;
+// that of 1:200 does so only if `last` is true.
 fn line_by_line(alloc: Global, upwards: bool, last: bool) -> Option<CommunityList> {
     let mut lines = List::new(alloc);
     for i in 0..200u32 {

@@ -1,7 +1,7 @@
 //! Prints the network of a text, reads what it printed, and prints that once more.
 //!
-//! It says how many lines were printed and whether both prints are the same: then the network that was
-//! read back is the same but for the numbers of lines, and its routers have the same members.
+//! It says how many lines were printed and whether both prints are the same. If they are, the network
+//! that was read back is the same except for line numbers, and its routers have the same members.
 #![tactic(auto)]
 
 ghost use Rattle.std.specs.Prelude.{◌≡◌, IfOk, Ok, length, filter, ◌==◌};

@@ -1,7 +1,7 @@
 //! Numbers, addresses, prefixes, communities and names at the end of a text.
 //!
-//! Each call appends exactly the bytes that the definitions of printing give for a value, or finds no
-//! memory. What prints lines puts them together from these.
+//! Each call appends exactly the bytes that the definitions of printing give for a value, or runs out of
+//! memory. Crates that print lines put them together from these.
 #![tactic(auto)]
 
 mod values;

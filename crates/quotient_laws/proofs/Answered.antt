@@ -1,4 +1,5 @@
--- What holds of labels exactly where it holds of labels that correspond has one answer in a problem and in its quotient.
+-- A question that holds of labels exactly if it holds of the labels that correspond has one answer in a
+-- problem and in its quotient.
 use Rattle.std.proofs.Common.{ℕ, List, Option}
 use Rattle.srp_core.specs.declared.route.Route.{Route}
 use Rattle.srp_core.specs.Problem.{Problem, IsProblem}
@@ -15,7 +16,7 @@ abbrev pub Up : Type 0
 Up = (problem small : Problem) (groups : List ℕ) (lower : List (Option Route)) → IsProblem problem → IsProblem small
     → IsAdmissible problem groups → IsQuotient problem groups small → IsStable small lower → Above problem small groups lower
 
--- what is asked holds of the labels of the routers exactly where of those of the groups
+-- what is asked holds of the labels of the routers exactly if it holds of those of the groups
 pub record AnswersAlike (problem small : Problem) (groups : List ℕ) (asks : Question) (labels lower : List (Option Route)) : Type 0 where
   pub below : asks problem (group_of groups) labels → asks small itself lower
   pub above : asks small itself lower → asks problem (group_of groups) labels

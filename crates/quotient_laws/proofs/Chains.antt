@@ -1,5 +1,5 @@
--- Chains of routers lie above chains of groups, and from each member of its first group a chain of groups has one of
--- routers above it.
+-- Each chain of routers lies above a chain of groups. Above each chain of groups lies a chain of routers
+-- from each member of its first group.
 use Rattle.std.proofs.Common.{◌≡◌, ℕ, ◌<◌, zero, suc, List, refl, sym, ap, ◌∙◌, subst, Option, None}
 use Rattle.srp_core.specs.declared.route.Route.{Route}
 use Rattle.srp_core.specs.Problem.{Problem, count, IsProblem}

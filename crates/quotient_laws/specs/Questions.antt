@@ -1,6 +1,7 @@
--- Questions about a labelling, of which a problem and its quotient give one answer: those that are asked of the keys of
--- groups and of the groups to which they forward, and three of the field, asked of routers (Beckett, Gupta, Mahajan and
--- Walker, Control Plane Compression, SIGCOMM 2018, section 4).
+-- Questions about a labelling that have the same answer in a problem and in its quotient: questions
+-- about the keys of groups and about the groups to which they forward, and three questions of the field
+-- about routers (Beckett, Gupta, Mahajan and Walker, Control Plane Compression, SIGCOMM 2018, section
+-- 4).
 use Rattle.std.specs.Prelude.{◌≡◌, ◌≢◌, ℕ, ◌<◌, zero, suc, List, Option, None}
 use Rattle.std.specs.Option.{option_map}
 use Rattle.srp_core.specs.declared.route.Route.{Route}
@@ -36,8 +37,8 @@ pub record IsSolution (problem : Problem) (asks : List (Option Route) → Type 0
 abbrev pub InEach : Problem → (List (Option Route) → Type 0) → Type 0
 InEach problem asks = (labels : List (Option Route)) → IsStable problem labels → asks labels
 
--- What is asked holds of every stable solution of the one problem exactly where it holds of every one of the other, and of
--- some exactly where of some.
+-- What is asked holds of every stable solution of the one problem exactly if it holds of every one of
+-- the other, and of some exactly if it holds of some.
 pub record HasOneAnswer (problem small : Problem) (groups : List ℕ) (asks : Question) : Type 0 where
   pub every_below : InEach problem (asks problem (group_of groups)) → InEach small (asks small itself)
   pub every_above : InEach small (asks small itself) → InEach problem (asks problem (group_of groups))
@@ -82,7 +83,7 @@ pub record ShowSame (first second : Picture) : Type 0 where
   pub forwards : (g h : ℕ) → first.forwards g h → second.forwards g h
   pub forwarded : (g h : ℕ) → second.forwards g h → first.forwards g h
 
--- What is asked of pictures, whatever it says: pictures that show the same have the same answer.
+-- A question about pictures, whatever it asks: pictures that show the same have the same answer.
 abbrev pub IsOfPictures : (Picture → Type 0) → Type 1
 IsOfPictures asks = (first second : Picture) → ShowSame first second → asks first → asks second
 

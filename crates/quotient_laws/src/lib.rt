@@ -1,5 +1,5 @@
-//! What holds of a problem and its quotient: the quotient by the coarsest partition is as small as partitions make
-//! it, and answers for the problem.
+//! What holds of a problem and its quotient: no admissible partition makes the quotient by the coarsest
+//! partition any smaller, and this quotient answers questions for the problem.
 //!
 //! An admissible partition of the quotient, carried back along the groups, is one of the problem: members of one
 //! group have edges that act alike into the same other groups. So it is no coarser than the groups themselves, and
@@ -44,8 +44,9 @@ pub fn pictures_agree()
     from_quotient();
 }
 
-/// Reachability, path length and waypoints, asked of the routers of groups, hold of every stable solution of the one
-/// problem exactly where they hold of every one of the other, and of some exactly where of some.
+/// Reachability, path length and waypoints are asked of the routers of groups. They hold of every stable
+/// solution of the one problem exactly if they hold of every one of the other, and of some exactly if
+/// they hold of some.
 pub fn questions_carry()
     ensures { QuestionsCarry }
 {
@@ -53,8 +54,9 @@ pub fn questions_carry()
     from_quotient();
 }
 
-/// A question about groups: whatever is asked of the keys that groups hold and of the groups to which they forward. What
-/// shows the same has the same answer. Whoever has a question calls a law with the marker `Brand` and picks the two members.
+/// A question about the keys that groups hold and about the groups to which they forward. Pictures that
+/// show the same have the same answer. Whoever has a question calls a law with the marker `Brand` and
+/// picks the two members.
 pub trait AsksOfGroups {
     ghost asks: { Picture → Type 0 };
 
@@ -67,8 +69,8 @@ impl AsksOfGroups for Brand {
     ghost one_answer = { λ first second same holds. holds };
 }
 
-/// Each question about groups holds of every stable solution of the one problem exactly where it holds of every one of
-/// the other, and of some exactly where of some.
+/// Each question about groups holds of every stable solution of the one problem exactly if it holds of
+/// every one of the other, and of some exactly if it holds of some.
 pub fn group_question_carries<Q: AsksOfGroups>()
     ensures { GroupQuestionCarries Q.asks }
 {

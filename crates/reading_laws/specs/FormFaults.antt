@@ -274,7 +274,8 @@ abbrev pub nameless : List TextLine → ℕ → Bool → Option ReadRefusal
 nameless past n false = None
 nameless past n true = if is_given past (whole host_name) then None else Some (refusal.At n kind.NoHostname)
 
--- the faults of a line in their order: its head and form, its place, what it repeats, the want of a host name
+-- the faults of a line in their order: its head and form, its place, what it repeats, and a missing host
+-- name
 abbrev pub saying_fault : List TextLine → ℕ → Result Saying FormFault → Option ReadRefusal
 saying_fault past n (Err fault) = Some (refusal_of n fault)
 saying_fault past n (Ok s) = fault_or_else (stranger past n s.peer) (fault_or_else (repeated past n s.gives) (nameless past n s.ends))
@@ -297,7 +298,7 @@ fault_in (Err fault) = Some fault
 abbrev pub FirstFaultDecides : Type 0
 FirstFaultDecides = (ls : List TextLine) → fault_in (steps at_start ls) ≡ first_form_fault [] ls
 
--- the fault of a text: of its lines as such, or else the first fault of form, or else want of an end
+-- the fault of a text: of its lines as such, or else the first fault of form, or else a missing end
 abbrev pub text_fault : List ℕ → Result (List Line) ReadRefusal → Option ReadRefusal
 text_fault bs (Err fault) = Some fault
 text_fault bs (Ok ls) = fault_or_else (first_form_fault [] (texts_of bs ls)) (fault_in (ending (texts_of bs ls)))

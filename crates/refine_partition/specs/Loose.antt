@@ -31,12 +31,14 @@ pub record IsStillListed (numbers : List ℕ) (block : ℕ) (old new : List ℕ)
   pub routers : All (λ u. u < length numbers) new
   pub members : (u : ℕ) → Contains old u → slice_index numbers u ≡ block → Contains new u
 
--- The class of one of the block's listed members. Where it is not the block's number, none has that.
+-- The class of one of the block's listed members. If it is not the block's number, no listed member has
+-- that number as its class.
 pub record IsStayingClass (numbers classes : List ℕ) (block : ℕ) (list : List ℕ) (class : ℕ) : Type 0 where
   pub member : (u : ℕ) × Contains list u × (slice_index numbers u ≡ block) × (slice_index classes u ≡ class)
   pub all_left : class ≢ block → (u : ℕ) → Contains list u → slice_index numbers u ≡ block → slice_index classes u ≢ block
 
--- the class of one of the block's members: where it is not the block's number, none has that
+-- the class of one of the block's members; if it is not the block's number, no member has that number as
+-- its class
 pub record IsStaying (numbers classes : List ℕ) (block class : ℕ) : Type 0 where
   pub member : (u : ℕ) × (u < length numbers) × (slice_index numbers u ≡ block) × (slice_index classes u ≡ class)
   pub all_left : class ≢ block → (u : ℕ) → u < length numbers → slice_index numbers u ≡ block → slice_index classes u ≢ block
@@ -101,8 +103,8 @@ pub record AreSettled (numbers classes : List ℕ) (lists : List (Vec ℕ Global
   pub used : AreUsed (length lists) numbers
   pub classes_are : classes ≡ numbers
 
--- The same blocks under other numbers: two routers have one number where they had, and each number below
--- `count` is in use.
+-- The same blocks under other numbers: two routers have one number exactly if they had one before, and
+-- each number below `count` is in use.
 pub record AreRenamed (count : ℕ) (numbers others : List ℕ) : Type 0 where
   pub total : length others ≡ length numbers
   pub below : All (λ number. number < count) others

@@ -1,11 +1,11 @@
-//! A graph whose colors and edges belong to another.
+//! A graph over borrowed colors and edges.
 
 ghost use Rattle.std.specs.Prelude.{◌≡◌, ◌<◌, ◌^◌, All, length};
 
 use base_kit::{ActGraph, Edge};
 use std::marker::Model;
 
-/// A graph over borrowed colors and edges, as an `ActGraph` is one over its own.
+/// A graph over borrowed colors and edges. An `ActGraph` is one over its own.
 #[derive(Drop)]
 pub struct GraphView<'a> {
     count: u32,

@@ -72,7 +72,7 @@ fn from_numbers(alloc: Global, numbers: Vec<u32>, count: u32) -> Result<Partitio
     })
 }
 
-/// The coarsest admissible partition of a graph that another has: every admissible one refines it. It
+/// The coarsest admissible partition of a graph over borrowed edges: every admissible one refines it. It
 /// counts its turns, at most two for each router. Its groups are the blocks to which as many splits lead
 /// from the start, each as `split_by` divides, number for number.
 pub fn coarsest_over<L: Ledger>(

@@ -12,7 +12,7 @@ use std::alloc::Global;
 use std::collections::VecDeque;
 use std::sync::ledger::Ledger;
 
-/// Puts a block into the queue: a large one where its turn comes last.
+/// Puts a block into the queue: a large one at the end whose turn comes last.
 fn enqueue(queue: &mut VecDeque<u32>, block: u32, is_large: bool) -> Result<(), NoMemory>
     ensures { OnOk result (IsWaiting queue.old.items queue.new.items block) }
 {

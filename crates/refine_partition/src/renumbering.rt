@@ -27,8 +27,8 @@ fn is_least(numbers: &[u32], blocks: &[Vec<u32>], router: u32) -> bool
     block[0] == router
 }
 
-/// The number of a class that has none yet: its block's where the router is the least member, or that
-/// of a further piece.
+/// The number of a class that has none yet: that of its block if the router is the least member, else
+/// that of a further piece.
 fn fresh_number(
     origins: &mut Vec<u32>,
     numbers: &[u32],

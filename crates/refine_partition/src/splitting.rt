@@ -67,7 +67,7 @@ impl Splitting {
     /// Divides every other block by the sets of acts of its members' edges into this one, which counts
     /// as one step. The piece of the least member keeps the block's number, and the further pieces get
     /// the next numbers, in the order of the numbers of the divided blocks and within one block of
-    /// their least members. After want of memory the blocks are as before.
+    /// their least members. If memory runs out, the blocks stay as before.
     pub fn split_by<L: Ledger>(
         &mut self,
         graph: &ActGraph,

@@ -57,9 +57,9 @@ fn keep_members(lists: &mut Vec<Vec<u32>>, numbers: &[u32], block: u32)
 }
 
 /// Divides all other blocks by the acts of their members' edges into the taken one, which counts as one
-/// step, and gives for each new piece the block that it comes from. Under whatever numbers the blocks had,
-/// this is the split of a `Splitting`, number for number. The numbers here are other ones: members that no
-/// edge reaches keep theirs, also where the least member leaves them, so that nobody looks at them.
+/// step, and gives for each new piece the block that it comes from. Whatever numbers the blocks had,
+/// this is the split of a `Splitting`, number for number. The numbers here are other ones: members that
+/// no edge reaches keep theirs, even if the least member leaves them, so that nobody looks at them.
 pub fn turn<L: Ledger>(
     alloc: Global,
     graph: &GraphView,

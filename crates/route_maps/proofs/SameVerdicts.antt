@@ -1,5 +1,5 @@
--- Maps that are the same but for names and lines have equal verdicts. Public: crates above cite
--- `same_verdict`.
+-- Maps that are the same except for names and line numbers have equal verdicts. Public: crates above
+-- cite `same_verdict`.
 use Rattle.std.proofs.Common.{◌≡◌, ℕ, Bool, true, false, cond, not, ◌&&◌, ◌||◌, List, [], ◌∷◌, Option, Some, None, refl, ap, ◌∙◌, filter, nat_eq, bytes_eq}
 use Rattle.std.specs.Bool.{beq}
 use Rattle.std.specs.List.{list_any, list_all}

@@ -1,5 +1,5 @@
--- Plain maps that are the same but for the names of their lists and the numbers of lines. A route map of
--- IOS matches communities by what its lists say, and not by how they are called.
+-- Plain maps that are the same except for the names of their lists and line numbers. A route map of IOS
+-- matches communities by what its lists say, and not by the names of the lists.
 use Rattle.std.specs.Prelude.{Bool, true, false, ◌&&◌, List, Option, Some, None, nat_eq, bytes_eq}
 use Rattle.std.specs.Bool.{beq}
 use Rattle.std.specs.Option.{option_eq}
@@ -33,7 +33,7 @@ same_change (Replace a) (Replace b) = bytes_eq a b
 same_change (Append a) (Append b) = bytes_eq a b
 same_change _ _ = false
 
--- all that an entry has, but for those names and numbers
+-- all that an entry has, except those names and numbers
 abbrev pub same_entry : PlainEntry → PlainEntry → Bool
 same_entry a b =
     nat_eq a.seq b.seq && (beq a.permit b.permit && (same_match a.exact b.exact a.lists b.lists

@@ -4,8 +4,8 @@
 //! communities: its entries are tried by sequence number, the first that holds decides, and the end
 //! denies. `import` gives what a router takes over a session from its neighbour's route, through the
 //! maps of both ends: nothing, or a preference, a set of communities and a count of AS numbers that
-//! the exporter puts before the path. `same_map` tells whether two maps are the same but for the names
-//! of their lists and the numbers of lines; such maps have equal verdicts.
+//! the exporter puts before the path. `same_map` tells whether two maps are the same except for the
+//! names of their lists and line numbers; such maps have equal verdicts.
 #![tactic(auto)]
 
 mod copies;

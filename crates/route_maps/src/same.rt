@@ -107,8 +107,8 @@ fn same_entries(a: &[PlainEntry], b: &[PlainEntry]) -> bool
     true
 }
 
-/// Whether two maps are the same but for the names of their lists and the numbers of lines: the same
-/// entries in order, with the same numbers, matches, preferences, changes, deletions and counts.
+/// Whether two maps are the same except for the names of their lists and line numbers: the same entries
+/// in order, with the same numbers, matches, preferences, changes, deletions and counts.
 #[tactic(auto, unfolding(crate::specs::Same::same_map))]
 pub fn same_map(a: &Plain, b: &Plain) -> bool
     ensures { result ≡ same_map a.now b.now }

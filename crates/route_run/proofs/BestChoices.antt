@@ -188,7 +188,7 @@ and_true : (b c : Bool) → c ≡ true → b ≡ b && c
 and_true true c e = sym e
 and_true false c e = refl
 
--- where a route is unbeaten, it is kept exactly where it is held
+-- if a route is unbeaten, it is kept exactly if it is held
 pub held_kept : (test : ℕ → Bool) (all : List Candidate) (r : Route) → is_unbeaten test all r ≡ true → is_held all r ≡ is_still_best test all (Some r)
 held_kept test all r e = and_true (is_held all r) (is_unbeaten test all r) e
 

@@ -1,4 +1,5 @@
--- Paths whose lone numbers need not be sought: where no number is lone, and equal ones.
+-- Two cases in which the lone numbers of paths need not be sought: no number is lone, or the paths are
+-- equal.
 use Rattle.std.proofs.Common.{◌≡◌, ℕ, Bool, false, List, [], ◌∷◌, length, refl, sym, ap, ◌∙◌, arith, nat_eq}
 use Rattle.std.specs.HashSet.{HashSet, contains, hash_set_len}
 use Rattle.std.specs.List.{list_any}

@@ -1,4 +1,4 @@
--- The order of labels is one.
+-- Labels have only one order.
 use Rattle.std.proofs.Common.{◌≡◌, ℕ, ◌<◌, List, [], ◌∷◌, Option, Some, None, refl, sym, ◌∙◌, subst, arith, inl, inr}
 use Rattle.base_kit.proofs.Elements.{In, in_contains}
 use Rattle.srp_core.specs.declared.route.Route.{Route}

@@ -1,5 +1,5 @@
--- Paths are short in every run: each number stands on them so many times as one import prepends, and
--- once more.
+-- Paths are short in every run: a number stands on a path at most p + 1 times, if imports prepend at
+-- most p numbers.
 use Rattle.std.proofs.Common.{◌≡◌, ◌≢◌, ◌⊎◌, ℕ, zero, suc, ◌+◌, ◌*◌, ◌-◌, ◌<◌, ◌≤◌, Bool, true, false, cond, List, [], ◌∷◌, length, get_or, Option, Some, refl, sym, ap, ◌∙◌, subst, arith, inl, inr, suc-mul}
 use Rattle.std.specs.Prelude.{Contains, nat_eq, remove}
 use Rattle.std.proofs.lemmas.Bool.{cases_eq, cases_lt, eqb-false, eq-eqb, ne_eqb, cond-true, cond-false}

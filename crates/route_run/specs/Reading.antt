@@ -14,7 +14,7 @@ preceded done (Err refusal) = Err refusal
 abbrev pub answer_with : List (List ℕ) → List Activation → ℕ → List (List ℕ) → List LineWord → Result (List Activation) ScheduleRefusal
 answer_with names done line words later = preceded done (schedule_of_words names (words_at line words ++ later))
 
--- the line is refused by one of its words, or for want of memory
+-- the line is refused because of one of its words, or because memory ran out
 abbrev pub RefusesLine : List (List ℕ) → List Activation → ℕ → List (List ℕ) → ScheduleRefusal → Type 0
 RefusesLine names done line words schedule_refusal.Memory = Unit {0}
 RefusesLine names done line words (schedule_refusal.UnknownRouter at) = (later : List LineWord) →

@@ -66,7 +66,7 @@ words_of_text bs = flat_map words_on (map (text_line bs) (all_lines_of bs))
 abbrev pub schedule_of_text : List (List ℕ) → List ℕ → Result (List Activation) ScheduleRefusal
 schedule_of_text names bs = schedule_of_words names (words_of_text bs)
 
--- the answer is that of the definition, or want of memory
+-- the answer is that of the definition, or memory ran out
 abbrev pub ReadsSchedule : Result (List Activation) ScheduleRefusal → Result (List Activation) ScheduleRefusal → Type 0
 ReadsSchedule (Ok schedule) defined = defined ≡ Ok schedule
 ReadsSchedule (Err schedule_refusal.Memory) defined = Unit {0}

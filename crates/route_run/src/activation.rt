@@ -84,7 +84,7 @@ impl<'a> Runner<'a> {
     ///
     /// # Errors
     ///
-    /// Where memory ran out, and then the labels are as before.
+    /// Out of memory: the labels stay as they were.
     pub fn activate(&self, labels: &mut Labels, router: u32) -> Result<bool, NoMemory>
         requires router { router < count self.now }
         requires labels { AreLabels self.now labels.old }
@@ -109,7 +109,7 @@ impl<'a> Runner<'a> {
 ///
 /// # Errors
 ///
-/// Where memory ran out, and then the labels are as before.
+/// Out of memory: the labels stay as they were.
 pub fn activate(
     alloc: Global,
     srp: &Srp,

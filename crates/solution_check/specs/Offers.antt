@@ -1,4 +1,4 @@
--- What the edges of a router offer it, as against its label.
+-- What the edges of a router offer it, compared with its label.
 use Rattle.std.specs.Prelude.{◌≡◌, ℕ, Bool, true, false, not, ◌||◌, List, Option, Some, None, [], Contains, filter_map, if◌then◌else◌}
 use Rattle.std.specs.List.{list_any, cons_option}
 use Rattle.std.specs.Ordering.{is_lt}

@@ -30,7 +30,7 @@ fn loops(exporter: u32, own: u32, path: &[u32]) -> bool
     exporter == own || path.contains(&own)
 }
 
-// What an act makes of the route of the exporter with that number, but for a path with the own number.
+// What an act makes of the route of the exporter with that number, unless the own number is on the path.
 #[tactic(auto, unfolding(srp_core::specs::Acts::step_by, srp_core::specs::Acts::import_by))]
 fn offer_by(
     alloc: Global,
@@ -110,7 +110,7 @@ fn are_all(path: &[u32], number: u32) -> bool
     path.iter().all(|other| *other == number)
 }
 
-/// Whether a path is the number one time more than the count, and then another path.
+/// Whether a path begins with the number, one time more than the count, and goes on as another path.
 pub(crate) fn is_lengthened(path: &[u32], number: u32, adds: u8, rest: &[u32]) -> bool
     ensures { result ≡ bytes_eq path.now (prepended (suc adds) number rest.now) }
 {

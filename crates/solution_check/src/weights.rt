@@ -25,7 +25,7 @@ use srp_core::{Labels, Route, Srp};
 use std::alloc::Global;
 use std::cmp::Ordering;
 
-/// Whether some candidates have the label among them, and one that beats it.
+/// Whether the label is among some candidates, and whether one of them beats it.
 #[derive(Clone, Copy, Debug, PartialEq, Eq)]
 pub(crate) struct Weight {
     pub(crate) held: bool,
@@ -128,7 +128,7 @@ fn weigh_import(
     Ok(Weight { held, beaten })
 }
 
-// What a route weighs, whose lone numbers are none.
+// The weight of a route that has no lone router on its path.
 fn weigh_bare(
     alloc: Global,
     candidate: &Route,
@@ -283,8 +283,8 @@ fn weigh_edges(
     Ok(weight)
 }
 
-/// What the initial route of a router and the routes of its edges weigh, as against its label and the
-/// lone numbers on its path.
+/// The weight of the initial route of a router and of the routes of its edges, compared with its label
+/// and the lone numbers on the label's path.
 pub(crate) fn weigh(
     alloc: Global,
     srp: &Srp,

@@ -1,5 +1,5 @@
--- What a session of a network imports: communities that the network names, where those that are sent are, and at most
--- ten AS numbers more.
+-- What a session of a network imports: at most ten more AS numbers, and only communities that the
+-- network names, if this holds of the communities that are sent.
 use Rattle.std.proofs.Common.{◌≡◌, ◌≤◌, ℕ, Bool, true, false, cond, not, ◌||◌, List, [], ◌∷◌, map, filter, refl, ap, ◌∙◌, subst, arith, Option, Some, None}
 use Rattle.std.specs.Prelude.{nat_eq, nat_lt, IfSome, bytes_eq, flat_map, Contains, ◌==◌}
 use Rattle.std.specs.List.{AllByRecursion}

@@ -1,4 +1,5 @@
--- How many labels are smaller than each: all together at most half the square of how many there are.
+-- How many labels are smaller than each label: summed over all labels, at most half the square of their
+-- number.
 use Rattle.std.proofs.Common.{◌≡◌, ◌≤◌, ◌<◌, ℕ, zero, suc, ◌+◌, ◌*◌, Bool, true, false, cond, List, [], ◌∷◌, length, Option, Some, None, refl, ap, ◌∙◌, arith}
 use Rattle.std.specs.Prelude.{nat_lt}
 use Rattle.std.proofs.Math.Nat.{mul-suc, suc-mul}

@@ -13,8 +13,8 @@ use Rattle.srp_core.specs.ProblemOf.{IsProblemOf}
 use Rattle.srp_core.specs.Quotient.{IsQuotient}
 use Rattle.srp_core.specs.Stability.{IsStable}
 
--- 12,379 bytes for each of 4,096 lines but the hops of its path, and 14 for each of 8,388,608 hops: a path has at most one for
--- each smaller label, and of two labels at most one is smaller
+-- 12,379 bytes for each of 4,096 lines without the hops of its path, and 14 for each of 8,388,608 hops:
+-- a path has at most one for each smaller label, and of two labels at most one is smaller
 abbrev pub most_bytes : ℕ
 most_bytes = 168144896
 
@@ -24,7 +24,7 @@ abbrev pub StableTextIsShort : Type 0
 StableTextIsShort = (network : Network) → ∥ IsGiven network ∥₁ → IsFaultless network → (prefix : Prefix) (problem : Problem) (labels : List (Option Route))
     → IsProblemOf network prefix problem → IsStable problem labels → length (labels_text problem.names labels) ≤ most_bytes
 
--- So is that of every stable solution of the problem of its groups, which have names of routers.
+-- The same holds for every stable solution of the problem of its groups, which have names of routers.
 abbrev pub TextOfGroupsIsShort : Type 0
 TextOfGroupsIsShort =
     (network : Network) → ∥ IsGiven network ∥₁ → IsFaultless network → (prefix : Prefix) (problem small : Problem) (groups : List ℕ)

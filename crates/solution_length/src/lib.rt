@@ -1,7 +1,7 @@
 //! How long the text of a stable solution is at most.
 //!
-//! The laws speak of the definitions alone. A caller that has what they speak of by contract calls the
-//! law that it needs.
+//! The laws speak only of definitions. A caller that knows from contracts what these definitions give
+//! calls the law that it needs.
 #![tactic(auto)]
 
 ghost use Rattle.solution_length.specs.Laws.{StableTextIsShort, TextOfGroupsIsShort};

@@ -1,4 +1,4 @@
--- What the two halves of folding and lifting, over BGP and over OSPF, come to.
+-- The two halves of folding and lifting, over BGP and over OSPF, put together.
 use Rattle.std.proofs.Common.{◌≡◌, ℕ, ◌<◌, List, Option, None, Result, Ok, Err, IfOk, refl, sym, ◌∙◌, ap, arith, inl, inr, ext_get_or}
 use Rattle.std.proofs.lemmas.Bool.{cases_lt}
 use Rattle.base_kit.specs.declared.protocol.Protocol.{Protocol}

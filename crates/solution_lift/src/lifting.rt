@@ -110,9 +110,9 @@ pub fn lift_from(
 /// Labels of the routers from stable labels of the groups. They are stable and correspond.
 ///
 /// In OSPF a router has the cost of its group. In BGP a router that originates has its initial route.
-/// For every other whose group has a route, the first number on that route's path is that of a group:
-/// the router takes its route from the least router of that group that gives it one of the key of its
-/// group's route.
+/// For every other router whose group has a route, the first number on that route's path is the number
+/// of a group. The router takes its route from the least router of that group that gives it a route with
+/// the key of its own group's route.
 ///
 /// # Errors
 /// Out of memory.

@@ -118,9 +118,9 @@ fn source_of(sources: &HashMap<u32, u32>, route: &Route) -> Option<u32>
     }
 }
 
-/// What a router of the target gets while labels are carried to it: its initial route or, from the
-/// labels so far, a route of the key of the one that it asks for, from the side of the number that is
-/// first on that route's path.
+/// What a router of the target gets while labels are carried to it: its initial route, or a route that
+/// the labels so far give. That route has the key of the route that the router asks for, and comes from
+/// the side of the first number on the path of the route asked for.
 pub fn next(
     alloc: Global,
     target: &Srp,

@@ -148,8 +148,8 @@ fn number_of_group(srp: &Srp, p: &Partition, linked: bool, group: u32) -> u32
     }
 }
 
-/// The AS numbers of the groups: of a group that originates or has a link the first number of its
-/// members that is not 0, of others 0.
+/// The AS numbers of the groups. A group that originates or has a link has the first number of its
+/// members that is not 0; other groups have 0.
 pub fn numbers_of(
     alloc: Global,
     srp: &Srp,

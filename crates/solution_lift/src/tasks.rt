@@ -68,8 +68,8 @@ fn sort_by_size(tasks: &mut Vec<Task>) -> Result<(), NoMemory>
     Ok(())
 }
 
-/// The tasks of all that ask for a label, those of smaller labels first. The label that a router asks
-/// for is that at its place in `at`.
+/// The tasks of all routers that ask for a label; tasks for smaller labels come first. A router asks for
+/// the label whose place `at` gives for it.
 pub fn tasks_of(alloc: Global, asked: &[Option<Route>], at: &[u32]) -> Result<Vec<Task>, NoMemory>
     requires { length at.now < 2 ^ 32 }
     ensures { IfOk result (λ tasks. IsOrder asked.now at.now tasks.items) }

@@ -1,4 +1,4 @@
--- What the problem of the groups says is in range, where what the problem says is.
+-- If what a problem says is in range, then what the problem of its groups says is in range too.
 use Rattle.std.proofs.Common.{◌≡◌, ℕ, ◌<◌, Bool, true, false, cond, ◌&&◌, not, List, [], ◌∷◌, length, refl, sym, ap, ◌∙◌, subst, arith}
 use Rattle.std.specs.Prelude.{nat_eq}
 use Rattle.std.specs.List.{AllByRecursion}

@@ -1,4 +1,4 @@
--- Stable labels are in range, where what their problem says is.
+-- If what a problem says is in range, then its stable labels are in range too.
 use Rattle.std.proofs.Common.{◌≡◌, ℕ, zero, suc, ◌+◌, ◌<◌, ◌≤◌, Bool, true, false, cond, List, [], ◌∷◌, refl, sym, subst, arith, Option, Some, None}
 use Rattle.std.specs.Prelude.{nat_lt, Contains}
 use Rattle.std.specs.List.{AllByRecursion}

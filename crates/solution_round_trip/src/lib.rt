@@ -1,8 +1,8 @@
 //! Laws of the text of a solution: what is printed of labels in range is read back, and the labels of
 //! every stable solution are in range.
 //!
-//! The laws speak of the definitions alone. A caller that has what they speak of by contract calls the
-//! law that it needs.
+//! The laws speak only of definitions. A caller that knows from contracts what these definitions give
+//! calls the law that it needs.
 #![tactic(auto)]
 
 ghost use Rattle.solution_round_trip.specs.Laws.{PrintedSolutionIsReadBack, StableIsInRange, StableOfGroupsIsInRange};

@@ -48,7 +48,7 @@ given [] labels = []
 given (b ∷ seen) [] = []
 given (b ∷ seen) (label ∷ labels) = given_at b label ∷ given seen labels
 
--- the standing is what the named_labels say of the names
+-- the standing is what these named labels say of the names
 record IsOf (says : List NamedLabel) (names : List (List ℕ)) (s : LabelsSoFar) : Type 0 where
   total : length s.seen ≡ length names
   labels_total : length s.labels ≡ length names

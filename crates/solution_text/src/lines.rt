@@ -94,7 +94,7 @@ fn with_saying(
     }
 }
 
-/// What is said behind the line of this number too.
+/// What is said so far, the line of this number included.
 pub(crate) fn with_line(
     alloc: Global,
     protocol: Protocol,

@@ -17,7 +17,7 @@ pub struct Places {
     pub(crate) route_maps: NamePlaces,
 }
 
-/// The places of the router's lists and maps. Where several have one name, that of the first.
+/// The places of the router's lists and maps. If several have one name, it has the place of the first.
 pub fn places_of(alloc: Global, router: &Router) -> Result<Places, NoMemory>
     ensures { IfOk result (ArePlacesOfRouter router.now) }
 {

@@ -1,4 +1,4 @@
--- A checked BGP network has what its problem rests on.
+-- A checked BGP network has what its problem depends on.
 use Rattle.std.proofs.Common.{◌≡◌, ◌≤◌, Bool, true, false, cond, List, [], ◌∷◌, length, inl, inr, Option, Some, None, refl, arith}
 use Rattle.std.specs.Prelude.{is_some, nat_lt}
 use Rattle.base_kit.specs.declared.protocol.Protocol.{Protocol}

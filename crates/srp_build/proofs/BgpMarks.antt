@@ -21,7 +21,8 @@ use Rattle.srp_build.proofs.BgpLinks.{read_map}
 use Rattle.srp_build.proofs.BgpParts.{AreBgpParts, made, HasEdge, IsLeft, same_ends, edge_import, closed_to}
 use Rattle.srp_build.proofs.SortedEdges.{from}
 
--- of functions that agree with one that accepts something all accepted routes have one preference
+-- functions that each agree with one that accepts something agree with each other: all accepted routes
+-- have one preference
 pub first_decides : (f g h : List ℕ → Option Imported) → AcceptsSome f → HaveOnePreference f g → HaveOnePreference f h → HaveOnePreference g h
 first_decides f g h some with_g with_h = record {
   same = λ set other first second a b is_first is_second.

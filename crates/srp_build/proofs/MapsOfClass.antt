@@ -1,4 +1,5 @@
--- A router's maps mean the same for all prefixes of a class, since they ask its prefix lists alone.
+-- A router's maps mean the same for all prefixes of a class, since they ask only its prefix lists about
+-- a prefix.
 use Rattle.std.proofs.Common.{◌≡◌, ℕ, Bool, false, List, [], ◌∷◌, map, filter, flat_map, Option, Some, None, inl, inr, refl, sym, ◌∙◌, ap, subst}
 use Rattle.std.specs.Prelude.{Contains, bytes_eq, if◌then◌else◌}
 use Rattle.std.specs.Option.{option_map_or}

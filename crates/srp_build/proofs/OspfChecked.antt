@@ -1,4 +1,4 @@
--- A checked OSPF network has what its problem rests on.
+-- A checked OSPF network has what its problem depends on.
 use Rattle.std.proofs.Common.{◌≡◌, ℕ, ◌≤◌, Bool, true, false, cond, ◌&&◌, List, [], ◌∷◌, map, length, ◌⊎◌, inl, inr, Option, Some, None, refl, sym, ◌∙◌, ap, subst, arith}
 use Rattle.std.specs.Prelude.{not, filter, flat_map, slice_get, is_some}
 use Rattle.std.specs.Prelude.{nat_lt, IfSome}

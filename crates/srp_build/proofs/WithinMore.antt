@@ -1,4 +1,4 @@
--- Maps that name only communities of a set name only those of any set with all of these.
+-- Maps that name only communities of a set also name only communities of every larger set.
 use Rattle.std.proofs.Common.{◌≡◌, ℕ, Bool, true, false, ◌||◌, nat_eq, List, [], ◌∷◌, Option, Some, None, refl, sym, subst, arith}
 use Rattle.std.specs.Prelude.{Contains, IfSome, slice_get}
 use Rattle.std.specs.Option.{option_map_or}

@@ -1,4 +1,4 @@
--- What the problem of a BGP network rests on.
+-- What the problem of a BGP network depends on.
 use Rattle.std.specs.Prelude.{◌≡◌, ◌<◌, ◌^◌, [], length, Some, None, Contains}
 use Rattle.base_kit.specs.declared.protocol.Protocol.TheVariants as protocol
 use Rattle.cfg_ast.specs.declared.network.Network.{Network}
@@ -7,7 +7,8 @@ use Rattle.cfg_ast.specs.meaning.PolicyFaults.{prepend_in_lines}
 use Rattle.cfg_ast.specs.meaning.RouterFaults.{protocol_of, shared_as_lines}
 use Rattle.cfg_ast.specs.printing.WellFormed.{IsWellFormed}
 
--- BGP alone, as the grammar has it, with AS numbers of their own and in maps that add none to paths
+-- the network runs only BGP and is as the grammar has it; its routers have AS numbers of their own, and
+-- their in maps add none to paths
 pub record IsBgp (n : Network) : Type 0 where
   pub protocol : protocol_of n ≡ Some protocol.Bgp
   pub form : IsWellFormed n

@@ -45,7 +45,7 @@ pub record IsImportOf (routers : List Router) (lines : LineMaps) (maps : PolicyM
   pub maps_are : maps.maps.items ≡ lines.maps
   pub is : import_at routers lines hop ≡ Some (with_maps maps.numbers.items import)
 
--- the importer has_initial, or no lines stand at the ends, or nothing is accepted
+-- the importer has an initial route, or no lines stand at the ends, or nothing is accepted
 pub data IsLeftOut (routers : List Router) (init : List (Option Route)) (maps : LineMaps) (hop : Hop) : Type 0 where
   started : has_initial init hop.importer ≡ true → IsLeftOut routers init maps hop
   unjoined : import_at routers maps hop ≡ None → IsLeftOut routers init maps hop

@@ -44,7 +44,8 @@ pub record HasProblem (network : Network) (class : DestClass) : Type 0 where
   pub problem : Problem
   pub built : IsBuiltFor network class problem
 
--- Where finitely many sets decide, each class of a network that some text gives, and that has no fault, has a problem.
+-- If finitely many sets decide, each class of a network that some text gives and that has no fault has a
+-- problem.
 abbrev pub SamplesGiveProblems : Type 0
 SamplesGiveProblems = ((universe : List ℕ) → HasSamples universe)
     → (network : Network) → ∥ IsGiven network ∥₁ → IsFaultless network → (class : DestClass) → Contains (classes_of network) class → HasProblem network class

@@ -1,4 +1,4 @@
--- The acts of a problem as the lines at the ends of the first edges that have them give them.
+-- The acts of a problem, each as the lines at the ends of the first edge that has it give it.
 use Rattle.std.specs.Prelude.{◌≡◌, ◌≢◌, ℕ, ◌<◌, Bool, List, Some, slice_get}
 use Rattle.base_kit.specs.declared.act_graph.Edge.{Edge}
 use Rattle.base_kit.specs.Prefixes.{Prefix}

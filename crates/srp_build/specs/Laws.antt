@@ -27,9 +27,9 @@ MapsOfClass = (n : Network) (class : DestClass) (p q : Prefix) → Contains (cla
     (router : Router) → Contains n.routers router
     → (name list : Option (List ℕ)) (inbound : Bool) → plain_of router name list p inbound ≡ plain_of router name list q inbound
 
--- Where a first import accepts something, and all routes that it and another accept have one preference,
--- so have those of any two such others: a router is lone exactly where some edge, the first itself
--- included, does not agree with the first.
+-- Suppose that a first import accepts something, and that the routes which it and each of two others
+-- accept have one preference. Then the routes of these two others have one preference as well. So a
+-- router is lone exactly if some edge, the first itself included, does not agree with the first.
 abbrev pub FirstDecidesLone : Type 0
 FirstDecidesLone = (first f g : List ℕ → Option Imported) → AcceptsSome first → HaveOnePreference first f → HaveOnePreference first g → HaveOnePreference f g
 

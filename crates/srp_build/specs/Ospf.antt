@@ -1,4 +1,4 @@
--- What the problem of an OSPF network rests on.
+-- What the problem of an OSPF network depends on.
 use Rattle.std.specs.Prelude.{◌≡◌, ℕ, ◌<◌, ◌^◌, true, length, Some, None, Contains, slice_get}
 use Rattle.base_kit.specs.declared.protocol.Protocol.TheVariants as protocol
 use Rattle.cfg_ast.specs.declared.network.Network.{Network}

@@ -14,8 +14,8 @@ use policy_dd::{EdgeFn, accepts_some, same};
 use std::alloc::Global;
 use std::collections::HashMap;
 
-/// An act of sessions: the first direction that has it, the import there, and the function that all of
-/// them have.
+/// An act of sessions: the first direction that has it, the import there, and the function that all
+/// directions with this act have.
 #[derive(Drop)]
 pub struct BgpAct {
     pub first: Hop,
@@ -23,8 +23,8 @@ pub struct BgpAct {
     pub function: EdgeFn,
 }
 
-/// Acts of sessions, which are found by the last halves of the places of two nodes of their functions. No
-/// two of them import alike.
+/// Acts of sessions, no two of which import alike. An act is found by the last halves of the places of
+/// two nodes of its function.
 #[derive(Drop)]
 pub struct Acts {
     pub acts: Vec<BgpAct>,
@@ -112,8 +112,8 @@ impl Acts {
         Ok(number)
     }
 
-    /// The number of the act of an import with this function, none where it accepts nothing. The act is
-    /// put last unless one that imports alike is there; the direction is then the first that has it.
+    /// The number of the act of an import with this function; none if it accepts nothing. If no act that
+    /// imports alike is there, the act is put last, and the direction is the first that has it.
     pub fn act_of_function(
         &mut self,
         alloc: Global,

@@ -17,7 +17,7 @@ use given_laws::given_is_well_formed;
 use net_topology::laws::few_links;
 use std::alloc::Global;
 
-/// The directions of the links of a network, by importer, then exporter, then link. They do not hang
+/// The directions of the links of a network, by importer, then exporter, then link. They do not depend
 /// on a class.
 #[derive(Drop)]
 pub enum Directions {

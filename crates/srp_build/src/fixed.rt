@@ -27,8 +27,8 @@ fn names_no_list(router: &Router, places: &Places, name: &Text) -> bool
     }
 }
 
-/// Whether the map of a line is the same for every prefix, as it is where neither the line nor its map
-/// names a prefix list.
+/// Whether neither the line nor its map names a prefix list. If so, the map of the line is the same for
+/// every prefix.
 pub fn is_fixed(router: &Router, places: &Places, inbound: bool, line: &Neighbor) -> bool
     requires { ArePlacesOfRouter router.now places.now }
     ensures { result ≡ true → IsSameForEachPrefix router.now inbound line.now }

@@ -12,18 +12,19 @@ pub fn no_class_without_process()
     ensures { NoClassWithoutProcess }
 {}
 
-/// The maps of a router mean the same for all prefixes of a class, since they ask prefix lists alone.
+/// The maps of a router mean the same for all prefixes of a class, since they ask only prefix lists
+/// about a prefix.
 pub fn maps_of_class()
     ensures { MapsOfClass }
 {}
 
-/// Routes that others accept have one preference where each other agrees with a first import that
-/// accepts something.
+/// Suppose that a first import accepts something, and that the routes which it and each of two others
+/// accept have one preference. Then the routes of these two others have one preference too.
 pub fn first_decides_lone()
     ensures { FirstDecidesLone }
 {}
 
-/// The acts of a problem can be printed where the maps of the network can.
+/// The acts of a problem can be printed if the maps of the network can.
 pub fn acts_print()
     ensures { ActsPrint }
 {}
@@ -33,8 +34,8 @@ pub fn acts_stay_within()
     ensures { ActsStayWithin }
 {}
 
-/// Where finitely many sets of communities decide what sessions import, each class of a network that a text gives, and that
-/// has no fault, has a problem.
+/// If finitely many sets of communities decide what sessions import, each class of a network that a text
+/// gives and that has no fault has a problem.
 pub fn samples_give_problems()
     ensures { SamplesGiveProblems }
 {

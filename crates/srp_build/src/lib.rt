@@ -1,12 +1,13 @@
 //! The stable routing problem of a destination class.
 //!
 //! `build` gives the problem of a checked network for every prefix of one of its classes: its routers,
-//! what they originate, and an edge for each direction of a link that carries routes. In OSPF edges that
-//! cost the same share an act. In BGP edges that import every set of communities alike do, and a router
-//! is lone where it accepts routes with different preferences. Acts stand in the order of the first edges
-//! that have them. The problem serves every prefix of its class, since the prefixes of a class are
-//! originated alike and every prefix list answers them alike. `directions_of` gives what does not hang
-//! on a class, and `build_over` takes it from there, where problems of several classes are wanted.
+//! what they originate, and an edge for each direction of a link that carries routes. In OSPF edges of
+//! the same cost share an act. In BGP edges share an act if they import every set of communities alike,
+//! and a router is lone if it accepts routes with different preferences. Acts stand in the order of the
+//! first edges that have them. The problem serves every prefix of its class, since the prefixes of a
+//! class are originated alike and every prefix list answers them alike. To build the problems of several
+//! classes, call `directions_of` once for what does not depend on a class, and then `build_over` for
+//! each class.
 #![tactic(auto)]
 
 mod acts;

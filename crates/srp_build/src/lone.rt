@@ -10,8 +10,8 @@ use dd_core::Store;
 use policy_dd::several;
 use std::alloc::Global;
 
-/// What is known of a router: the act of its first edge, and whether it accepts, over that edge and
-/// another or the same one, with different preferences.
+/// What is known of a router: the act of its first edge, and whether it accepts routes with different
+/// preferences over this edge and some edge, which may be the same one.
 #[derive(Clone, Copy, Debug, PartialEq, Eq)]
 pub struct Mark {
     pub first: Option<u32>,
@@ -87,8 +87,8 @@ fn read_marks(alloc: Global, marks: &[Mark]) -> Result<List<bool>, NoMemory>
     Ok(lone)
 }
 
-/// For each router, whether it accepts routes with different preferences: over its first edge and
-/// another one, or over its first edge alone.
+/// For each router, whether it accepts routes with different preferences. It is enough to compare each
+/// edge with the first one: the law `FirstDecidesLone` (`specs/Laws.antt`) says so.
 pub fn lone_of(
     alloc: Global,
     store: &Store,

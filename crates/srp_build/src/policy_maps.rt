@@ -13,7 +13,8 @@ use route_maps::Plain;
 use specialize::Places;
 use std::alloc::Global;
 
-/// The plain maps of all policies of lines for a prefix: each map once, and the number of that of each policy.
+/// The plain maps of all policies of lines for a prefix: each map once, and for each policy the number
+/// of its map.
 #[derive(Drop)]
 pub struct PolicyMaps {
     pub maps: Vec<Plain>,

@@ -108,8 +108,8 @@ pub fn build_over(
     }
 }
 
-/// The problem as `build_over` gives it, from the links of the network. For several classes make the
-/// directions once, and call that.
+/// The problem as `build_over` gives it, from the links of the network. For several classes, make the
+/// directions once and call `build_over`.
 pub fn build(
     alloc: Global,
     net: &Checked,

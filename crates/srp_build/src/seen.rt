@@ -74,8 +74,8 @@ fn number_of_last(
     number_if_same(inbound, lines, numbers, line, last)
 }
 
-/// The lines of a router that were seen, one of those that name the same map and the same list. The last
-/// line may not be noted yet, so that a router whose lines all name the same needs no index.
+/// The lines of a router that were seen: of several that name the same map and the same list, only one.
+/// The last line may not be noted yet, so that a router whose lines all name the same needs no index.
 #[derive(Drop)]
 pub struct Seen {
     by_sum: Index<usize>,

@@ -13,7 +13,7 @@ use cfg_ast::Router;
 use specialize::{Places, places_of};
 use std::alloc::Global;
 
-/// The directions of sessions, and what of their maps does not hang on a class.
+/// The directions of sessions, and what is known of their maps without a class.
 #[derive(Drop)]
 pub struct SessionHops {
     pub hops: Vec<Hop>,

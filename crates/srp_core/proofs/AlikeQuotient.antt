@@ -1,4 +1,5 @@
--- Public: quotients, and labels of a problem and its quotient, of problems that are alike.
+-- Public: what relates a problem to its quotient, and their labels, holds of problems that are alike to
+-- both.
 use Rattle.std.proofs.Common.{◌≡◌, ℕ, ◌<◌, List, [], sym, ap, ◌∙◌, subst, arith, Option}
 use Rattle.std.specs.Prelude.{slice_index_or}
 use Rattle.base_kit.specs.declared.act_graph.Edge.{Edge}

@@ -1,6 +1,7 @@
--- The definitions are met together where a lone router's loop check drops a route: router 0 originates,
--- router 1 learns from it over two parallel links, and prefers what comes from router 2. Routers 2 and 3
--- are one group with an edge inside; they learn from router 1, which puts its number twice before paths.
+-- An example in which all definitions hold together and the loop check of a lone router drops a route:
+-- router 0 originates, router 1 learns from it over two parallel links, and prefers what comes from
+-- router 2. Routers 2 and 3 are one group with an edge inside; they learn from router 1, which puts its
+-- number twice before paths.
 use Rattle.std.proofs.Common.{◌≡◌, ◌≢◌, ℕ, zero, suc, ◌+◌, ◌<◌, true, false, cond, All, List, [], ◌∷◌, Option, Some, None, refl, sym, ap, ◌∙◌, subst, inl, inr, arith}
 use Rattle.std.specs.Prelude.{Contains, nat_eq, slice_index_or}
 use Rattle.base_kit.specs.declared.act_graph.Edge.{Edge}

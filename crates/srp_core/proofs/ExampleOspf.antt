@@ -1,4 +1,4 @@
--- The definitions are met together in OSPF: one of two adjacent routers originates.
+-- An example in OSPF in which all definitions hold together: one of two adjacent routers originates.
 use Rattle.std.proofs.Common.{◌≡◌, ◌≢◌, ℕ, zero, suc, ◌<◌, true, false, List, [], ◌∷◌, Option, Some, None, refl, sym, ap, ◌∙◌, subst, inl, arith}
 use Rattle.std.specs.Prelude.{Contains}
 use Rattle.std.specs.declared.cmp.Ordering.TheVariants.{Less}

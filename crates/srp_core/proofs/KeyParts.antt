@@ -1,4 +1,4 @@
--- Keys are equal where what they are made of is.
+-- Keys are equal if their parts are equal.
 use Rattle.std.proofs.Common.{◌≡◌, ℕ, Bool, true, false, List, refl, sym, ap, ◌∙◌, subst, inl, inr}
 use Rattle.std.specs.Prelude.{◌&&◌}
 use Rattle.std.specs.declared.cmp.Ordering.TheVariants.{Equal}

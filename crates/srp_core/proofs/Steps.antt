@@ -173,7 +173,7 @@ step_same OverOspf test (Cost cost) (Cost cost') number number' (Ospf other) (Os
     let f = subst (λ n. nat_lt 4294967295 n ≡ false) sums s.0 in
     (Ospf (cost' + other'), costed cost' number' other' f, ap (key_by test) s.1 ∙ ap (λ n. key_by test (Ospf n)) sums)
 
--- what a step in BGP rests on
+-- what a step in BGP depends on
 pub step_accepts : (act : Act) (number : ℕ) (r c : Route) → IsRouteOf OverBgp r → step_by act number r ≡ Some c →
     (i : Imported) × (import_by act (comms_of r) ≡ Some i) × (i.lp ≡ preference_of c) × IsAscending (comms_of r)
 step_accepts (Import out sends into) number (Bgp lp' path comms) c fits e =

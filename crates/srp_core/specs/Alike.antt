@@ -1,5 +1,5 @@
--- Problems that are the same but for which of the acts that act alike their edges have. A network and a
--- prefix leave just that open.
+-- Two problems are alike if they differ only in the acts of their edges, and edges at one place act
+-- alike. A network and a prefix determine the problem up to this.
 use Rattle.std.specs.Prelude.{◌≡◌, List, [], ◌∷◌}
 use Rattle.base_kit.specs.declared.act_graph.Edge.{Edge}
 use Rattle.srp_core.specs.Acts.{ActsAlike}

@@ -1,7 +1,7 @@
 -- The lone numbers of a path, one after the other.
 use Rattle.std.specs.Prelude.{ℕ, Bool, cond, true, List, [], ◌∷◌, Option, Some, None, nat_lt, min}
 
--- what of an ascending list is above the number, all of it where there is none
+-- the part of an ascending list above the number; all of it if there is no number
 abbrev pub is_over : Option ℕ → ℕ → Bool
 is_over None number = true
 is_over (Some bound) number = nat_lt bound number

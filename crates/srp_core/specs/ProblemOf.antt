@@ -108,9 +108,9 @@ pub record StandsFor (problem : Problem) (network : Network) (prefix : Prefix) (
   pub exporter : edge.exporter ≡ d.exporter
   pub means : MeansLink network prefix d (act_of problem edge)
 
--- The problem of a network and a prefix. Its edges are exactly the directions of links that carry routes,
--- each with an act that does the same; which of the acts that act alike it has is free. Its rules say
--- which routers are lone.
+-- The problem of a network and a prefix. Its edges are exactly the directions of links that carry
+-- routes. Each has an act that does what the direction does; which of several acts that act alike it has
+-- is free. Its rules say which routers are lone.
 pub record IsProblemOf (network : Network) (prefix : Prefix) (problem : Problem) : Type 0 where
   pub rules : IsProblem problem
   pub protocol : protocol_of network ≡ Some problem.protocol

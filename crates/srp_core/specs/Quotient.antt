@@ -59,8 +59,9 @@ pub record Lies (problem small : Problem) (groups : List ℕ) (edge lower : Edge
   pub alike : ActsAlike (act_of problem edge) (act_of small lower)
 
 -- The routers of `small` are the groups in order, named by their first members. A group has the initial
--- route and the mark of its members, and where it is used the number of its first member with one, else
--- 0. Between different groups it has an edge for each act of their members' edges, and no other edges.
+-- route and the mark of its members. A group that is used has the number of its first member with one;
+-- other groups have 0. Between different groups `small` has an edge for each act of their members'
+-- edges, and no other edges.
 pub record IsQuotient (problem : Problem) (groups : List ℕ) (small : Problem) : Type 0 where
   pub protocol : problem.protocol ≡ small.protocol
   pub inside : (u : ℕ) → u < count problem → group_of groups u < count small
@@ -74,8 +75,8 @@ pub record IsQuotient (problem : Problem) (groups : List ℕ) (small : Problem) 
   pub numbers : (g : ℕ) → g < count small → IsUsed small g → number small g ≡ first_number problem.numbers groups g
   pub unused : (g : ℕ) → g < count small → ¬ IsUsed small g → number small g ≡ 0
 
--- What `IsQuotient` leaves open of the tables of a quotient is as the rules of a problem want it, and
--- its acts are those of the problem.
+-- The tables of a quotient keep those rules of a problem that `IsQuotient` leaves open, and its acts are
+-- those of the problem.
 pub record KeepsTables (problem small : Problem) : Type 0 where
   pub tables : HasTables small
   pub edges : HasEdges small
@@ -98,7 +99,7 @@ abbrev pub AreLinked : ℕ → List ℕ → List ℕ → ℕ → ℕ → ℕ →
 AreLinked count first second zero u v = u ≡ v
 AreLinked count first second (suc steps) u v = (w : ℕ) × (w < count) × AreTogetherInOne first second u w × AreLinked count first second steps w v
 
--- the join of two partitions: routers are together exactly where a chain leads from one to the other
+-- the join of two partitions: routers are together exactly if a chain leads from one to the other
 pub record IsJoin (count : ℕ) (first second joined : List ℕ) : Type 0 where
   pub total : length joined ≡ count
   pub linked : (u v : ℕ) → u < count → v < count → group_of joined u ≡ group_of joined v → (steps : ℕ) × AreLinked count first second steps u v

@@ -26,8 +26,8 @@ pub record AreColors (problem : Problem) (colors : List ℕ) : Type 0 where
   pub distinct : AreDistinct starts
   pub placed : (u : ℕ) → u < count problem → slice_get starts (slice_index colors u) ≡ Some (start problem u)
 
--- the graph has the problem's routers and edges; lone routers have colors of their own, and the others
--- equal colors exactly where their initial routes are equal or both are none
+-- the graph has the problem's routers and edges; lone routers have colors of their own, and two others
+-- have equal colors exactly if their initial routes are equal or both are none
 pub record IsGraphOf (problem : Problem) (graph : ActGraph) : Type 0 where
   pub routers : graph.count ≡ count problem
   pub edges : graph.edges ≡ problem.edges

@@ -30,8 +30,8 @@ fn colors(srp: &Srp) -> Result<Vec<u32>, NoMemory>
 }
 
 impl Srp {
-    /// One color for each router: lone routers have colors of their own, and the others equal colors
-    /// exactly where their initial routes are equal or both are none. With the problem's routers and
+    /// One color for each router. Lone routers have colors of their own. Two other routers have equal
+    /// colors exactly if their initial routes are equal or both are none. With the problem's routers and
     /// edges they are the graph of the problem, which `graph` gives with a copy of the edges.
     pub fn colors(&self) -> Result<Vec<u32>, NoMemory>
         ensures colors { IfOk result (λ colors. AreColors self.now colors.items) }
@@ -39,14 +39,14 @@ impl Srp {
         ensures graph { IfOk result (λ colors. (graph : ActGraph) → graph.count ≡ count self.now → graph.colors ≡ colors.items → graph.edges ≡ self.now.edges → IsGraphOf self.now graph) }
         ensures coarsest { IfOk result (λ colors. (graph : ActGraph) → graph.count ≡ count self.now → graph.colors ≡ colors.items → graph.edges ≡ self.now.edges → (groups : List ℕ) → IsCoarsest self.now groups ↔ partition.IsCoarsestOn graph groups) }
     {
-        // The count's contract says that this is a problem, which the last two clauses rest on.
+        // The count's contract says that this is a problem. The last two clauses depend on it.
         let _known = self.count();
         let colors = colors(self)?;
         Ok(colors)
     }
 
-    /// The graph of the problem: lone routers have colors of their own, and the others equal colors
-    /// exactly where their initial routes are equal or both are none. Its edges are those of the
+    /// The graph of the problem. Lone routers have colors of their own. Two other routers have equal
+    /// colors exactly if their initial routes are equal or both are none. Its edges are those of the
     /// problem, in the same order. Its admissible partitions are those of the problem.
     pub fn graph(&self) -> Result<ActGraph, NoMemory>
         ensures graph { IfOk result (λ graph. IsGraphOf self.now graph) }

@@ -36,14 +36,14 @@ pub fn from_quotient()
     ensures { (problem small : Problem) (groups : List ℕ) (lower : List (Option Route)) → IsProblem problem → IsProblem small → IsAdmissible problem groups → IsQuotient problem groups small → IsStable small lower → Above problem small groups lower }
 {}
 
-/// The quotient of a problem by an admissible partition keeps the rules of a problem, where its tables
-/// do what the quotient relation leaves open.
+/// The quotient of a problem by an admissible partition keeps the rules of a problem, if its tables keep
+/// those rules that the quotient relation leaves open.
 pub fn quotient_is_problem()
     ensures { (problem small : Problem) (groups : List ℕ) → IsProblem problem → IsAdmissible problem groups → IsQuotient problem groups small → KeepsTables problem small → IsProblem small }
 {}
 
-/// In stable labels each number on a path is that of a router with a label, whose path is what stands
-/// behind the last place of the number, and so is strictly shorter.
+/// In stable labels each number on a path is the number of a router with a label. The path of that label
+/// is what stands behind the last place of the number, so it is strictly shorter.
 pub fn chains()
     ensures { (problem : Problem) (labels : List (Option Route)) → IsProblem problem → IsStable problem labels → (u wanted : ℕ) (route : Route) (before after : List ℕ) → label labels u ≡ Some route → path_of route ≡ before ++ (wanted ∷ after) → is_on wanted after ≡ false → HasPath problem labels wanted after }
 {}
@@ -111,8 +111,8 @@ pub fn tracking()
     ensures { (problem small : Problem) (groups : List ℕ) (labels lower : List (Option Route)) → IsProblem problem → IsProblem small → IsAdmissible problem groups → IsQuotient problem groups small → small.protocol ≡ OverBgp → IsStable small lower → IsLift problem small groups lower labels → (u : ℕ) (route other : Route) → label labels u ≡ Some route → label lower (group_of groups u) ≡ Some other → AllTrack problem small groups (path_of route) (path_of other) }
 {}
 
-/// The list of candidates of a router has its candidates and no others, and labels are stable exactly
-/// where each router is settled by its list.
+/// The list of candidates of a router has its candidates and no others, and labels are stable exactly if
+/// each router is settled by its list.
 pub fn listed_candidates()
     ensures sound { (problem : Problem) (labels : List (Option Route)) (u : ℕ) (candidate : Candidate) → Contains (candidates problem labels u) candidate → IsCandidate problem labels u candidate.route }
     ensures complete { (problem : Problem) (labels : List (Option Route)) (u : ℕ) (route : Route) → IsCandidate problem labels u route → (candidate : Candidate) × Contains (candidates problem labels u) candidate × (candidate.route ≡ route) }

@@ -37,8 +37,8 @@ last_of (k ∷ ks) = or_else (last_of ks) (Some k)
 abbrev pub last_into : List QLink → ℕ → QLink → Option ℕ
 last_into links g l = last_of (filter_map (side_of g) (filter (same_group_pair l) links))
 
--- The edge that stands at a link for the direction into g: that of the link, and in OSPF, where a link
--- has a cost at both ends, else the last one of the pair.
+-- The edge that stands at a link for the direction into g: that of the link. If the link has none, it is
+-- in OSPF, where a link has a cost at both ends, the last one of the pair.
 unfoldable pub edge_into : Protocol → List QLink → ℕ → QLink → Option ℕ
 edge_into OverBgp links g l = side_of g l
 edge_into OverOspf links g l = or_else (side_of g l) (last_into links g l)

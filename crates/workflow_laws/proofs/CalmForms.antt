@@ -1,4 +1,4 @@
--- No form of a line answers with want of memory.
+-- No form of a line answers that memory ran out.
 use Rattle.std.proofs.Common.{ℕ, Bool, true, false, cond, List, [], ◌∷◌, Option, Some, None, Result, Ok, Err, codes}
 use Rattle.std.specs.Prelude.{◌&&◌, bytes_eq, is_some, length, nat_le}
 use Rattle.std.specs.List.{list_all, list_any}

@@ -1,4 +1,4 @@
--- Where `fold` has an outcome for one solution, `fold` and `lift` have one for each.
+-- If `fold` has an outcome for one solution, `fold` and `lift` have one for each solution.
 use Rattle.std.proofs.Common.{ℕ, List, refl, sym, subst, Option}
 use Rattle.std.specs.Prelude.{Contains, IsSome}
 use Rattle.cfg_ast.specs.declared.classes.DestClass.{DestClass}

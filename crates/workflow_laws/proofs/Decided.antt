@@ -100,7 +100,7 @@ module _ (sound : IsSound) (complete : IsComplete) (P : Problem) (L : List (Opti
     is_one : (c : Candidate) → In (candidates P L u) c → IsIt c.route
     is_one c i = sound P L u c (contains_in (candidates P L u) c i)
 
-    -- never candidate passes a test, where none of the list does
+    -- no candidate passes a test if none of the list does
     none_passes : (A : Route → Type 0) → ¬ ((c : Candidate) × In (candidates P L u) c × A c.route) → (route : Route) → IsIt route → A route → ⊥
     none_passes A none route is holds =
         let k = complete P L u route is in

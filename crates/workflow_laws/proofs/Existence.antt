@@ -1,4 +1,4 @@
--- Where `report` has an outcome, so have the other commands that compress the class.
+-- If `report` has an outcome, the other commands that compress the class have one too.
 use Rattle.std.proofs.Common.{◌≡◌, inl, inr, ℕ, Bool, true, false, List, [], refl, sym, subst, Option, Some, None, Result, Ok, Err, codes}
 use Rattle.std.specs.Prelude.{Contains, IsSome}
 use Rattle.cfg_ast.specs.declared.classes.DestClass.{DestClass}

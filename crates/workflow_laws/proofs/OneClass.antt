@@ -1,7 +1,7 @@
 -- In BGP the network of the groups has one class.
 --
 -- 1. What its routers originate are prefixes of the class that it was written for.
--- 2. These are in one class there.
+-- 2. These are in one class there (`SmallStarts.antt`).
 -- 3. So there is one class, and its number is 1.
 use Rattle.std.proofs.Common.{◌≡◌, ℕ, zero, suc, Bool, true, false, cond, ◌||◌, ◌&&◌, not, List, [], ◌∷◌, map, filter, filter_map, inl, inr, refl, sym, ap, ◌∙◌, subst, true≢false, Option, Some, None}
 use Rattle.std.specs.Prelude.{find, is_some, nat_eq, slice_get}
@@ -35,11 +35,11 @@ use Rattle.workflow_laws.proofs.SmallClass.{any_some}
 same_some : {X : Type 0} (x y : X) → Some x ≡ Some y → x ≡ y
 same_some x y e = cc
 
--- each item of a list that is another one but for lines
+-- each item of a list that is another one except for line numbers
 from_bare : {X : Type 0} (f : X → X) (xs ys : List X) (x : X) → map f xs ≡ map f ys → In xs x → (y : X) × In ys y × (f y ≡ f x)
 from_bare f xs ys x same at = map_in f ys (f x) (subst (λ zs. In zs (f x)) same (in_map f xs x at))
 
--- the router of a group, but for lines
+-- the router of a group, except for line numbers
 pub record IsOfGroup (e : Plan) (r : Router) : Type 0 where
   pub group : ℕ
   pub same : bare_router r ≡ bare_router (emitted_router e group)

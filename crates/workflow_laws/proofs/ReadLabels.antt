@@ -1,6 +1,6 @@
 -- A text gives labels of a problem, or has a line at fault.
 --
--- 1. What is said of a router has its communities in order, so all labels have.
+-- 1. What is said of a router has its communities in order, so all labels have them in order.
 -- 2. The fault of a text is that of a line.
 use Rattle.std.proofs.Common.{◌≡◌, ℕ, zero, suc, ◌+◌, ◌<◌, ◌&&◌, Bool, true, false, cond, List, [], ◌∷◌, All, length, refl, sym, ap, ◌∙◌, subst}
 use Rattle.std.proofs.Common.{arith, Option, Some, None, Ok, Err, codes, map}

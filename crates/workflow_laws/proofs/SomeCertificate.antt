@@ -25,7 +25,7 @@ use Rattle.answer_kit.specs.Outcome.{done, refused}
 use Rattle.answer_kit.specs.SecondFiles.{IsOfSecond}
 use Rattle.workflow_laws.proofs.Labelled.{SomeOf}
 
--- a text is refused at a line, and never for want of memory
+-- a text is refused at a line, and never because memory ran out
 ended_at : (line : ℕ) (s : Standing) (stage : Stage) → ended line s stage ≡ Err cut_refusal.Memory → ⊥
 ended_at line s Opening e = cc
 ended_at line s Splitting e = cc

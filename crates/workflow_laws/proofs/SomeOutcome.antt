@@ -59,7 +59,7 @@ use Rattle.workflow_laws.proofs.Labelled.{RestIsStable, SomeOf}
 use Rattle.workflow_laws.proofs.SomeCanon.{some_canon}
 use Rattle.workflow_laws.proofs.SomeCertificate.{some_certify, some_verify}
 
--- the laws that existence rests on
+-- the laws on which existence depends
 pub record HasLaws : Type 0 where
   pub well : WhatIsReadIsWell
   pub judged : EachTextIsJudged

@@ -1,4 +1,4 @@
--- Where a command does its work on stable labels alone, its outcome tells what `check` says of them.
+-- If a command does its work only on stable labels, its outcome tells what `check` says of them.
 use Rattle.std.proofs.Common.{◌≡◌, inl, inr, ℕ, List, sym, ap, Option, Some, None, Result, Ok, Err, codes}
 use Rattle.std.specs.Prelude.{IsSome}
 use Rattle.srp_core.specs.declared.route.Route.{Route}

@@ -6,8 +6,8 @@ use Rattle.bonsai_top.specs.Outcomes.{IsOutcome}
 use Rattle.workflow_laws.specs.Setting.{Contents, IsCompressed, IsShort, verdict_told}
 use Rattle.workflow_laws.specs.Words.{check, fold, lift}
 
--- `check F N S` and `fold F N S` have one outcome, refusals and `not stable` included, but for what is written where
--- the work is done.
+-- `check F N S` and `fold F N S` have the same outcome, refusals and `not stable` included, except for
+-- what is written if the work is done.
 abbrev pub CheckIsFold : Type 0
 CheckIsFold = (contents : Contents) (F S text : List ℕ) (N : ℕ) → IsShort N → contents F ≡ Some text → IsSome (contents S)
     → (folded checked : Outcome) → IsOutcome (fold F N S) contents folded → IsOutcome (check F N S) contents checked → checked ≡ verdict_told folded

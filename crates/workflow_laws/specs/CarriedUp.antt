@@ -6,8 +6,8 @@ use Rattle.bonsai_top.specs.Outcomes.{IsOutcome}
 use Rattle.workflow_laws.specs.Setting.{Contents, IsCompressed, IsShort, verdict_told}
 use Rattle.workflow_laws.specs.Words.{check, lift}
 
--- `check G K S` and `lift F N S` have one outcome, refusals and `not stable` included, but for what is written where
--- the work is done.
+-- `check G K S` and `lift F N S` have the same outcome, refusals and `not stable` included, except for
+-- what is written if the work is done.
 abbrev pub CheckBelowIsLift : Type 0
 CheckBelowIsLift = (contents : Contents) (F G S : List ℕ) (N K : ℕ) → IsCompressed contents F N G K → IsSome (contents S)
     → (lifted checked : Outcome) → IsOutcome (lift F N S) contents lifted → IsOutcome (check G K S) contents checked → checked ≡ verdict_told lifted

@@ -1,4 +1,4 @@
--- There is an outcome, and no other one but for the choice of a certificate.
+-- There is an outcome, and only one except for the choice of a certificate.
 use Rattle.std.specs.Prelude.{◌≡◌, ◌≢◌, ◌⊎◌, ℕ, List, Some, IsSome, Err}
 use Rattle.cfg_ast.specs.declared.refusal.ReadRefusal.TheVariants.{Memory}
 use Rattle.cfg_ast.specs.text.Reading.{reading_of}
@@ -39,8 +39,8 @@ pub record HaveOutcomes (contents : Contents) (F S : List ℕ) (N : ℕ) : Type 
   pub run : HasOutcome (run F N S) contents
   pub reach : HasOutcome (reach F N S) contents
 
--- Where `report F N` has an outcome, so have `classes F`, `groups F N`, `compress F N` and `json F N`, and whatever S
--- holds `check F N S`, `run F N S` and `reach F N S`.
+-- If `report F N` has an outcome, then `classes F`, `groups F N`, `compress F N` and `json F N` have
+-- one, and `check F N S`, `run F N S` and `reach F N S` have one whatever S holds.
 abbrev pub OutcomesComeTogether : Type 0
 OutcomesComeTogether = (contents : Contents) (F S text : List ℕ) (N : ℕ) → IsShort N → contents F ≡ Some text → IsSome (contents S)
     → HasOutcome (report F N) contents → HaveOutcomes contents F S N
@@ -50,7 +50,8 @@ pub record HaveCarried (contents : Contents) (F S : List ℕ) (N : ℕ) : Type 0
   pub fold : HasOutcome (fold F N S) contents
   pub lift : HasOutcome (lift F N S) contents
 
--- Where `fold F N S` has an outcome for one S, then whatever T holds `fold F N T` and `lift F N T` have one.
+-- If `fold F N S` has an outcome for one S, then `fold F N T` and `lift F N T` have one, whatever T
+-- holds.
 abbrev pub SolutionsAreCarried : Type 0
 SolutionsAreCarried = (contents : Contents) (F S T text : List ℕ) (N : ℕ) → IsShort N → contents F ≡ Some text → IsSome (contents T)
     → HasOutcome (fold F N S) contents → HaveCarried contents F T N
@@ -61,7 +62,7 @@ SolutionsAreCarried = (contents : Contents) (F S T text : List ℕ) (N : ℕ) �
 abbrev pub EachTextIsJudged : Type 0
 EachTextIsJudged = (text : List ℕ) → reading_of text ≢ Err Memory
 
--- Whatever the words are, and whatever the files hold that are told, some outcome is allowed. With `OutcomesAgree` it is the
--- only one, but for the choice of a certificate.
+-- For all words, and for all contents of the files that are told, some outcome is allowed. With
+-- `OutcomesAgree` it is the only one, except for the choice of a certificate.
 abbrev pub ThereIsAnOutcome : Type 0
 ThereIsAnOutcome = (words : List (List ℕ)) (contents : Contents) → AreTold words contents → HasOutcome words contents

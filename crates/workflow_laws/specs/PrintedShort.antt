@@ -15,8 +15,8 @@ pub record AreRead (contents : Contents) (F S : List ℕ) (N : ℕ) : Type 0 whe
   pub rested : (written : List ℕ) → IsOutcome (run F N S) contents (done (codes "rest\n" ++ written)) → length written ≤ solution_limit
   pub reached : (written : List ℕ) → IsOutcome (reach F N S) contents (done written) → length written ≤ schedule_limit
 
--- What `fold`, `lift` and, behind the first line `rest`, `run` write is within the limit of a solution, and what `reach`
--- writes within that of a schedule.
+-- What `fold` and `lift` write, and what `run` writes behind the first line `rest`, is within the limit
+-- of a solution. What `reach` writes is within the limit of a schedule.
 abbrev pub PrintedIsShort : Type 0
 PrintedIsShort = (contents : Contents) (F S text second : List ℕ) (N : ℕ) → IsShort N → contents F ≡ Some text → contents S ≡ Some second
     → AreRead contents F S N

@@ -25,7 +25,8 @@ pub record HaveProblems (large small : Network) (p : Prefix) : Type 0 where
   pub of_large : IsProblemOf large p above
   pub of_small : IsProblemOf small p below
 
--- So for each prefix of the class, which has one: both networks have a problem for it, and whichever they have answer alike.
+-- The class has a prefix, and for each of its prefixes both networks have a problem. Whichever problems
+-- they have answer alike.
 pub record AnswersFor (large small : Network) (class : DestClass) : Type 0 where
   pub some : Prefix
   pub some_in : Contains class.prefixes some
@@ -39,10 +40,11 @@ abbrev pub SmallAnswersForLarge : Type 0
 SmallAnswersForLarge = (contents : Contents) (F G : List ℕ) (N K : ℕ)
     → (c : IsCompressed contents F N G K) → AnswersFor c.of_large.network c.of_small.network c.of_large.class
 
--- ---- whatever is asked
+-- ---- any question
 
--- A problem of the large network and one of the small, whose routers are the coarsest groups of the large one's: what is asked
--- holds of every stable solution of the one exactly where of every one of the other, and of some exactly where of some.
+-- A problem of the large network and one of the small, whose routers are the coarsest groups of the
+-- large one's: what is asked holds of every stable solution of the one exactly if it holds of every one
+-- of the other, and of some exactly if it holds of some.
 pub record AnswerOf (asks : Picture → Type 0) (problem small : Problem) (groups : List ℕ) : Type 0 where
   pub coarsest : IsCoarsest problem groups
   pub quotient : IsQuotient problem groups small
@@ -54,8 +56,8 @@ pub record AnswersOf (asks : Picture → Type 0) (large small : Network) (class 
   pub alike : (p : Prefix) → Contains class.prefixes p
       → (above below : Problem) → IsProblemOf large p above → IsProblemOf small p below → AnswerOf asks above below groups
 
--- Whatever is asked of a labelling by the keys that groups hold and by which groups forward to which: the network of G has the
--- answer of that of F.
+-- A question about a labelling that depends only on the keys that groups hold and on which groups
+-- forward to which: the network of G gives the same answer as that of F.
 abbrev pub EachQuestionCarries : (Picture → Type 0) → Type 0
 EachQuestionCarries asks = (contents : Contents) (F G : List ℕ) (N K : ℕ)
     → (c : IsCompressed contents F N G K) → AnswersOf asks c.of_large.network c.of_small.network c.of_large.class

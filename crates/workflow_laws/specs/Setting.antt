@@ -1,4 +1,4 @@
--- What a person has when the small network is asked in place of the large one.
+-- What a person has who asks the small network in place of the large one.
 use Rattle.std.specs.Prelude.{◌≡◌, ◌≤◌, ℕ, List, Option, Some, Ok, Contains, codes}
 use Rattle.base_kit.specs.Prefixes.{Prefix}
 use Rattle.cfg_ast.specs.declared.classes.DestClass.{DestClass}
@@ -53,6 +53,6 @@ said WriteFault o = o
 said Memory o = o
 said NotStable o = o
 
--- an outcome, with `stable` in place of what is written where the work is done
+-- an outcome; if the work is done, it has `stable` in place of what is written
 abbrev pub verdict_told : Outcome → Outcome
 verdict_told o = said o.status o

@@ -1,8 +1,8 @@
 //! What the commands do together, as laws over the words that a person types.
 //!
-//! A person compresses a network, asks the small network and carries the answer back. Each law says what the
-//! outcome of one command is by that of another, for all words and contents of files that are told. A law is the
-//! contract of a function that does nothing: whoever needs one calls it.
+//! A person compresses a network, asks the small network and carries the answer back. Each law relates
+//! the outcome of one command to that of another, for all words and for all files whose contents are
+//! told. A law is the contract of a function that does nothing: whoever needs one calls it.
 #![tactic(auto)]
 
 ghost use Rattle.workflow_laws.specs.Again.{CompressedAgain};
@@ -50,8 +50,8 @@ pub fn class_is_kept()
     quotient_is_quotient();
 }
 
-/// `check` of the small network and `lift` of the large one have one outcome, but for what is written
-/// where the work is done.
+/// `check` of the small network and `lift` of the large one have the same outcome, except for what is
+/// written if the work is done.
 pub fn check_below_is_lift()
     ensures { CheckBelowIsLift }
 {
@@ -80,7 +80,7 @@ pub fn what_is_lifted_is_stable()
     printed_is_short();
 }
 
-/// `check` and `fold` have one outcome, but for what is written where the work is done.
+/// `check` and `fold` have the same outcome, except for what is written if the work is done.
 pub fn check_is_fold()
     ensures { CheckIsFold }
 {}
@@ -163,8 +163,9 @@ pub fn small_answers_for_large()
     questions_carry();
 }
 
-/// Whatever is asked of the keys that groups hold and of the groups to which they forward holds of every stable solution of
-/// the one network exactly where of every one of the other, and of some exactly where of some.
+/// A question about the keys that groups hold and about the groups to which they forward: it holds of
+/// every stable solution of the one network exactly if it holds of every one of the other, and of some
+/// exactly if it holds of some.
 pub fn each_question_carries<Q: AsksOfGroups>()
     ensures { EachQuestionCarries Q.asks }
 {
@@ -179,7 +180,8 @@ pub fn outcomes_agree()
     outcome_is_one();
 }
 
-/// Where `report` has an outcome, so have other commands on the class, with whatever solution or schedule.
+/// If `report` has an outcome, other commands on the class have one too, for every solution and every
+/// schedule.
 pub fn outcomes_come_together()
     ensures { OutcomesComeTogether }
 {
@@ -188,7 +190,7 @@ pub fn outcomes_come_together()
     rest();
 }
 
-/// Where `fold` has an outcome for one solution, `fold` and `lift` have one for each.
+/// If `fold` has an outcome for one solution, `fold` and `lift` have one for each solution.
 pub fn solutions_are_carried()
     ensures { SolutionsAreCarried }
 {

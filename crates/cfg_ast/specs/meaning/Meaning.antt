@@ -35,7 +35,7 @@ meaning_faults n =
     ++ faults_at kind.PrependForm (prepend_form_lines n)
     ++ faults_at kind.PrependIn (prepend_in_lines n)
 
--- the fault with the lesser line, where there are any; on one line the first
+-- the fault with the lesser line, if there are any; on the same line the first of them
 abbrev pub lesser_fault : Option Fault → Option Fault → Option Fault
 lesser_fault None o = o
 lesser_fault (Some f) None = Some f

@@ -1,4 +1,4 @@
--- Networks but for the numbers of their lines: each number of a line is put to 0.
+-- Networks without their line numbers: each line number is set to 0.
 use Rattle.std.specs.Prelude.{map}
 use Rattle.std.specs.Option.{option_map}
 use Rattle.cfg_ast.specs.meaning.Addresses.{Address}
@@ -119,6 +119,6 @@ bare_router r = record r {
   route_maps = map bare_route_map r.route_maps;
 }
 
--- the network but for the numbers of its lines
+-- the network without its line numbers
 abbrev pub bare : Network → Network
 bare network = record { routers = map bare_router network.routers }

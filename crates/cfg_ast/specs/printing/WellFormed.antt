@@ -1,6 +1,6 @@
 -- Networks as the grammar of running configurations has them: names are names, numbers lie in their
 -- ranges, what may stand once stands once, and entries ascend. Each fact is one that a line's form or
--- the reading of lines ensures. Nothing here hangs on the numbers of lines, or on how many there are.
+-- the reading of lines ensures. Nothing here depends on line numbers, or on how many lines there are.
 use Rattle.std.specs.Prelude.{◌≡◌, ◌≤◌, ℕ, Bool, true, false, List, length, map, ◌==◌, Option, Some, None, IfSome, bytes_eq, codes}
 use Rattle.std.specs.List.{AllByRecursion, IsDistinct}
 use Rattle.base_kit.specs.Prefixes.{Prefix, same_prefix}

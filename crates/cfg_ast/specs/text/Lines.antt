@@ -1,5 +1,5 @@
 -- The lines of a text, by where its newlines stand, and their words, the longest runs of bytes that
--- are no blanks. A text is ASCII (RFC 20) but for other control bytes than the tab.
+-- are no blanks. The lines of a text are ASCII (RFC 20), without control bytes except the tab.
 use Rattle.std.specs.Prelude.{ℕ, ◌+◌, ◌-◌, ◌≤◌, Bool, true, false, not, ◌&&◌, ◌||◌, List, [], ◌∷◌, length, map, filter, slice_index, ◌==◌, nat_lt, nat_le, if◌then◌else◌, Option, Some, None, Result, Ok, Err}
 use Rattle.std.specs.List.{range_with_len, position_or_len, enumerate_from, filter_map, slice_split, slice_range, AllByRecursion}
 use Rattle.std.specs.Str.{IsAscii}

@@ -1,5 +1,5 @@
--- The names on the `! member` lines of a text, router by router. To one who reads the network such a
--- line is a comment, and a text is read for its members whatever faults it has.
+-- The names on the `! member` lines of a text, router by router. For the reader of the network such a
+-- line is a comment. A text is read for its members even if it has faults.
 use Rattle.std.specs.Prelude.{ℕ, ◌≤◌, Bool, ◌&&◌, List, [], ◌∷◌, length, ◌==◌, map, filter_map, if◌then◌else◌, Option, Some, None, codes, bytes_eq}
 use Rattle.std.specs.List.{slice_split, AllByRecursion}
 use Rattle.cfg_ast.specs.declared.line.Line.{Line}

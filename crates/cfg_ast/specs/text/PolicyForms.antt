@@ -51,7 +51,7 @@ has_mark mark [] = false
 has_mark mark (word ∷ []) = bytes_eq word mark
 has_mark mark (word ∷ next ∷ words) = has_mark mark (next ∷ words)
 
--- the words but for the last one
+-- all words except the last one
 abbrev pub but_last : List (List ℕ) → List (List ℕ)
 but_last words = take (length words - 1) words
 

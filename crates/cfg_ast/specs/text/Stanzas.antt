@@ -55,7 +55,7 @@ has_network nets prefix = list_any (λ (net : NetLine). same_prefix net.prefix p
 unfoldable pub has_neighbor : List Neighbor → ℕ → Bool
 has_neighbor peers addr = list_any (λ (p : Neighbor). p.addr == addr) peers
 
--- a neighbour of which only its `remote-as` line has stood
+-- a neighbour with only its `remote-as` line so far
 abbrev pub new_neighbor : ℕ → ℕ → ℕ → Neighbor
 new_neighbor n addr remote = record {
   addr = addr;
@@ -96,7 +96,7 @@ at_neighbor n addr change (p ∷ peers) =
 abbrev pub with_peer : ℕ → ℕ → RouterItem → BgpProcess → Result BgpProcess ReadRefusal
 with_peer n addr said b = at_neighbor n addr (set_neighbor n said) b.neighbors >>= (λ (peers : List Neighbor). Ok (record b { neighbors = peers }))
 
--- the neighbour of which a line says something, but for its `remote-as` line
+-- the neighbour of which a line other than its `remote-as` line says something
 abbrev pub peer_of : RouterItem → Option ℕ
 peer_of (item.PeerShut addr) = Some addr
 peer_of (item.PeerSends addr) = Some addr

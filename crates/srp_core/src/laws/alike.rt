@@ -1,5 +1,5 @@
 //! What holds of one of two problems that are alike holds of the other. The problems of a network and a
-//! prefix are alike: only which of the acts that act alike an edge has is left open.
+//! prefix are alike: they leave open only which of several acts that act alike an edge has.
 ghost use Rattle.std.specs.Prelude.{◌≡◌, ℕ, ◌<◌, List, Option, Some, Contains};
 ghost use Rattle.base_kit.specs.Prefixes.{Prefix};
 ghost use Rattle.base_kit.specs.declared.act_graph.Edge.{Edge};
@@ -18,18 +18,19 @@ pub fn problems_of_one_prefix()
     ensures { (network : Network) (prefix : Prefix) (first second : Problem) → IsProblemOf network prefix first → IsProblemOf network prefix second → ProblemsAlike first second }
 {}
 
-/// Problems are alike both ways, and along a chain.
+/// The relation of being alike is symmetric and transitive.
 pub fn both_ways()
     ensures turned { (first second : Problem) → ProblemsAlike first second → ProblemsAlike second first }
     ensures joined { (first second third : Problem) → ProblemsAlike first second → ProblemsAlike second third → ProblemsAlike first third }
 {}
 
-/// Each edge has one that is alike.
+/// Each edge of one problem has an edge of the other that is alike.
 pub fn edges()
     ensures { (first second : Problem) → ProblemsAlike first second → (edge : Edge) → Contains first.edges edge → (other : Edge) × Contains second.edges other × EdgesAlike first second edge other }
 {}
 
-/// Routes have one key in both problems, and so routes of equal keys have equal keys.
+/// A route has one key in both problems. So two routes that have equal keys in two problems have equal
+/// keys in problems that are alike to these.
 pub fn keys()
     ensures one { (first second : Problem) → ProblemsAlike first second → (route : Route) → key_of first route ≡ key_of second route }
     ensures same { (first other small less : Problem) → ProblemsAlike first other → ProblemsAlike small less → (a b : Option Route) → HaveSameKeys first small a b → HaveSameKeys other less a b }
@@ -41,13 +42,14 @@ pub fn same_candidates()
     ensures lists { (first second : Problem) (labels : List (Option Route)) → ProblemsAlike first second → AreLabels first labels → (router : ℕ) → candidates first labels router ≡ candidates second labels router }
 {}
 
-/// Stable labels are stable, and routers forward to the same routers.
+/// Labels that are stable in one problem are stable in the other, and routers forward to the same
+/// routers.
 pub fn stability()
     ensures stable { (first second : Problem) (labels : List (Option Route)) → ProblemsAlike first second → IsStable first labels → IsStable second labels }
     ensures forwards { (first second : Problem) (labels : List (Option Route)) → ProblemsAlike first second → AreLabels first labels → (router next : ℕ) → ForwardsTo first labels router next → ForwardsTo second labels router next }
 {}
 
-/// Admissible partitions are admissible, and the coarsest one is the coarsest.
+/// A partition that is admissible, or the coarsest, in one problem is so in the other.
 pub fn partitions()
     ensures admissible { (first second : Problem) (groups : List ℕ) → ProblemsAlike first second → IsAdmissible first groups → IsAdmissible second groups }
     ensures coarsest { (first second : Problem) (groups : List ℕ) → ProblemsAlike first second → IsCoarsest first groups → IsCoarsest second groups }

@@ -9,9 +9,10 @@ ghost use Rattle.srp_core.specs.Quotient.{group_of};
 ghost use Rattle.srp_core.specs.Routes.{path_of};
 ghost use Rattle.srp_core.specs.Stability.{label};
 
-/// No labels are a part of what lifting asks for. The next router has its initial route, or takes its
-/// route over an edge from the group that is first on its group's path: such an edge is there, and labels
-/// with that route are a part too. Where all are there, it is what lifting asks for.
+/// Labels in which no router has a route are a part of what lifting asks for. The next router has its
+/// initial route, or takes its route over an edge from the group that is first on its group's path: such
+/// an edge is there, and labels with that route are a part too. If all routes are there, the labels are
+/// what lifting asks for.
 pub fn lift_steps()
     ensures empty { (problem small : Problem) (groups : List ℕ) (lower : List (Option Route)) → IsLiftedPart problem small groups lower (replicate (count problem) None) }
     ensures started { (problem small : Problem) (groups : List ℕ) (lower labels : List (Option Route)) → CanBeLifted problem small groups lower → (u : ℕ) (m i : Route) → IsNextToLift problem small groups lower labels u m → initial problem u ≡ Some i → IsLiftedPart problem small groups lower (slice_set labels u (Some i)) }

@@ -13,7 +13,7 @@ pub fn order()
     ensures equal { (a b : Key) → (compare_keys a b ≡ Equal) ↔ (a ≡ b) }
 {}
 
-/// Routes of two problems have equal keys exactly where they have one preference, one size, the same
+/// Routes of two problems have equal keys exactly if they have one preference, one size, the same
 /// communities, and the same lone numbers on their paths.
 pub fn across_problems()
     ensures same { (first second : Problem) (r s : Route) → preference_of r ≡ preference_of s → size_of r ≡ size_of s → comms_of r ≡ comms_of s
