@@ -60,9 +60,11 @@ impl From<AllocError> for CutRefusal {
 }
 
 /// Why a line cannot follow those before it.
-#[derive(Debug, Drop)]
+#[derive(Debug, Drop, Error)]
 pub(crate) enum Stop {
+    #[error("{0:?}")]
     Fault(CutKind),
+    #[error("out of memory")]
     Memory,
 }
 
