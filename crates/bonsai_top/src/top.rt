@@ -1,15 +1,12 @@
 //! The one public call of the program.
 
-ghost use Rattle.std.specs.Prelude.{◌≡◌, ◌≤◌, ◌⊎◌, ℕ, List, Some, None, IsSome, false};
+ghost use Rattle.std.specs.Prelude.{◌≡◌, ◌≤◌, ◌⊎◌, ℕ, List, [], ◌∷◌, codes, Some, None, IsSome, false};
 ghost use Rattle.io_kit.specs.Ends.{Rose};
-ghost use Rattle.bonsai_top.specs.Words.{bytes_of_words, file_of, second_of};
+ghost use Rattle.bonsai_top.specs.Words.{bytes_of_words, file_of, second_of, short_number_of};
 ghost use Rattle.bonsai_top.specs.Commands.{command_of, is_read, reads_first, FirstRose, SecondRose};
 ghost use Rattle.bonsai_top.specs.Outcomes.{IsOutcome};
 ghost use Rattle.bonsai_top.specs.Meets.{RunMeets};
 ghost use Rattle.bonsai_top.specs.Headline.{IsHeadline, IsCarriedDown, IsCarriedUp};
-ghost use Rattle.bonsai_top.specs.declared.command.ClassCommand.TheVariants as on_class;
-ghost use Rattle.bonsai_top.specs.declared.command.SecondCommand.TheVariants as on_second;
-ghost use Rattle.bonsai_top.specs.declared.command.Command.TheVariants as command;
 
 use crate::command::{file_word, read_words, second_word};
 use crate::tell::tell;
@@ -42,20 +39,20 @@ pub fn run<S: Source, O: Sink, E: Sink>(
 
     // The headline: if `compress` is done over a file that is told, what was written is read as the
     // compressed network.
-    ensures headline { result ≡ Status.Done → (number : ℕ) → command_of (bytes_of_words words.now) ≡ Some (command.OnClass on_class.Compress number) → (text before : List ℕ)
-        → S.contents files.old (file_of (bytes_of_words words.now)) ≡ Some text → O.taken out.old ≡ Some before → IsHeadline text number before (O.taken out.new) }
+    ensures headline { result ≡ Status.Done → (file class : List ℕ) (number : ℕ) → bytes_of_words words.now ≡ codes "compress" ∷ file ∷ class ∷ [] → short_number_of class ≡ Some number
+        → (text before : List ℕ) → S.contents files.old file ≡ Some text → O.taken out.old ≡ Some before → IsHeadline text number before (O.taken out.new) }
 
     // The same holds if `canon` is done.
-    ensures canonical { result ≡ Status.Done → (number : ℕ) → command_of (bytes_of_words words.now) ≡ Some (command.OnClass on_class.Canon number) → (text before : List ℕ)
-        → S.contents files.old (file_of (bytes_of_words words.now)) ≡ Some text → O.taken out.old ≡ Some before → IsHeadline text number before (O.taken out.new) }
+    ensures canonical { result ≡ Status.Done → (file class : List ℕ) (number : ℕ) → bytes_of_words words.now ≡ codes "canon" ∷ file ∷ class ∷ [] → short_number_of class ≡ Some number
+        → (text before : List ℕ) → S.contents files.old file ≡ Some text → O.taken out.old ≡ Some before → IsHeadline text number before (O.taken out.new) }
 
     // If `fold` or `lift` is done over files that are told, what was written is read as stable labels of
     // the other problem that correspond to the solution.
-    ensures folded { result ≡ Status.Done → (number : ℕ) → command_of (bytes_of_words words.now) ≡ Some (command.OnSecond on_second.Fold number) → (text solution before : List ℕ)
-        → S.contents files.old (file_of (bytes_of_words words.now)) ≡ Some text → S.contents files.old (second_of (bytes_of_words words.now)) ≡ Some solution → O.taken out.old ≡ Some before
+    ensures folded { result ≡ Status.Done → (file class second : List ℕ) (number : ℕ) → bytes_of_words words.now ≡ codes "fold" ∷ file ∷ class ∷ second ∷ [] → short_number_of class ≡ Some number
+        → (text solution before : List ℕ) → S.contents files.old file ≡ Some text → S.contents files.old second ≡ Some solution → O.taken out.old ≡ Some before
         → IsCarriedDown text solution number before (O.taken out.new) }
-    ensures lifted { result ≡ Status.Done → (number : ℕ) → command_of (bytes_of_words words.now) ≡ Some (command.OnSecond on_second.Lift number) → (text solution before : List ℕ)
-        → S.contents files.old (file_of (bytes_of_words words.now)) ≡ Some text → S.contents files.old (second_of (bytes_of_words words.now)) ≡ Some solution → O.taken out.old ≡ Some before
+    ensures lifted { result ≡ Status.Done → (file class second : List ℕ) (number : ℕ) → bytes_of_words words.now ≡ codes "lift" ∷ file ∷ class ∷ second ∷ [] → short_number_of class ≡ Some number
+        → (text solution before : List ℕ) → S.contents files.old file ≡ Some text → S.contents files.old second ≡ Some solution → O.taken out.old ≡ Some before
         → IsCarriedUp text solution number before (O.taken out.new) }
 
     // The files are as they were, and no count of faults falls.

@@ -6,6 +6,7 @@ ghost use Rattle.canon_policy.specs.declared.lists.CanonRefusal.TheVariants as c
 use base_kit::NoMemory;
 use route_maps::Plain;
 use std::alloc::AllocError;
+use thiserror::Error;
 
 /// The canonical lists of a function of a session. Communities are sent.
 #[derive(Drop)]
@@ -17,12 +18,14 @@ pub struct CanonEdge {
 }
 
 /// Why there are no canonical lists to give.
-#[derive(Clone, Copy, Debug, PartialEq, Eq)]
+#[derive(Clone, Copy, Debug, PartialEq, Eq, Error)]
 pub enum CanonRefusal {
     /// The function has none: it depends on communities that no line names, or an entry would name more
     /// than 32 communities, or a list would have more than 65,535 entries.
+    #[error("the function has no canonical lists")]
     NoCanon,
     /// Memory ran out.
+    #[error("out of memory")]
     Memory,
 }
 

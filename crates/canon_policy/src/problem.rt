@@ -17,13 +17,16 @@ use policy_dd::edge_fn;
 use route_maps::map_copy;
 use srp_core::{Act, Route, Srp};
 use std::alloc::{AllocError, Global};
+use thiserror::Error;
 
 /// Why there is no problem with canonical acts to give.
-#[derive(Clone, Copy, Debug, PartialEq, Eq)]
+#[derive(Clone, Copy, Debug, PartialEq, Eq, Error)]
 pub enum CanonSrpRefusal {
     /// The edge at this place is the first whose act has no canonical lists.
+    #[error("edge {0}: its act has no canonical lists")]
     NoCanon(u32),
     /// Memory ran out.
+    #[error("out of memory")]
     Memory,
 }
 
