@@ -39,15 +39,15 @@ out_of bytes other same = ap (λ (o : Outcome). o.out) same
 
 certified_class : (n : Network) → ∥ IsGiven n ∥₁ → IsFaultless n → FewLinks → GivenIsWellFormed → PrintedCertificateIsReadBack → PrintedCertificateIsShort
     → (class : DestClass) → Contains (classes_of n) class → (bytes : List ℕ) → IsCertifyOf n class (done bytes)
-        → IsVerifyOf n (Some bytes) class (done (codes "yes\n"))
+    → IsVerifyOf n (Some bytes) class (done (codes "yes\n"))
 certified_class n given faultless links formed back short class has bytes x =
     let is = out_of bytes (certificate_text x.graph.edges x.problem.names x.certificate) x.told in
     let can = can_be_named n (formed n given) faultless links class has x.problem x.graph x.are in
     let few_routers = few n (formed n given) faultless links class has x.problem x.graph x.are in
     let small : length bytes ≤ certificate_limit = subst (λ (t : List ℕ). length t ≤ certificate_limit) (sym is)
-        (short x.graph x.problem.names x.certificate can x.accepted x.few few_routers) in
+    (short x.graph x.problem.names x.certificate can x.accepted x.few few_routers) in
     let read : certificate_of_text x.graph x.problem.names bytes ≡ Ok x.certificate = ap (certificate_of_text x.graph x.problem.names) is
-        ∙ back x.graph x.problem.names x.certificate can x.accepted in
+    ∙ back x.graph x.problem.names x.certificate can x.accepted in
     record {
       problem = x.problem;
       graph = x.graph;
@@ -93,8 +93,11 @@ verified_class n number class at text x = by x.verdict
           class_is = at;
           problem = x.problem;
           groups = coarsest.numbers;
-          coarsest = record { of_class = x.are.built.of; coarsest =
-              coarsest_from x.problem problem_of.rules x.graph x.are.of_problem coarsest.numbers coarsest.coarsest };
+          coarsest = record {
+            of_class = x.are.built.of;
+            coarsest =
+                coarsest_from x.problem problem_of.rules x.graph x.are.of_problem coarsest.numbers coarsest.coarsest;
+          };
           graph = x.graph;
           are = x.are;
           certificate = c;

@@ -50,4 +50,4 @@ pub one_text : (n : Network) (class : DestClass) → Contains (classes_of n) cla
 one_text n class c bs cs x y =
     let p = some_prefix n class c in
     one_text_of x.problem y.problem (one_problem n p.0 x.problem y.problem (x.are.of_class p.0 p.1) (y.are.of_class p.0 p.1)) x.groups y.groups bs cs
-        x.are.coarsest y.are.coarsest x.lines y.lines
+    x.are.coarsest y.are.coarsest x.lines y.lines

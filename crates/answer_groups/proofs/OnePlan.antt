@@ -23,8 +23,15 @@ use Rattle.answer_kit.proofs.OneClass.{some_prefix, one_list_of_groups}
 use Rattle.class_laws.proofs.OneProblem.{one_problem}
 
 abbrev pub plan_with : Network → DestClass → Problem → List ℕ → ℕ → List QLink → Plan
-plan_with network class problem groups count links = record { network = network; class = class; problem = problem; groups = groups; count = count; links =
-    links }
+plan_with network class problem groups count links = record {
+  network = network;
+  class = class;
+  problem = problem;
+  groups = groups;
+  count = count;
+  links =
+      links;
+}
 
 -- the problem that is built for a class is one
 pub built_is_one : (n : Network) (class : DestClass) → Contains (classes_of n) class

@@ -24,7 +24,7 @@ some_prefix n class c =
     let p = m.0 in
     let inside : In (originated n) p = (filter_in (is_least n) (originated n) p m.1).0 in
     let own : Contains (class_of n p).prefixes p = contains_in _ p
-        (in_filter (is_same_class n p) (originated n) p inside (is_one_class n p p (record { origins = refl; answers = refl }))) in
+    (in_filter (is_same_class n p) (originated n) p inside (is_one_class n p p (record { origins = refl; answers = refl }))) in
     (p, subst (λ (k : DestClass). Contains k.prefixes p) m.2 own)
 
 -- the class of a number is one of the network

@@ -57,4 +57,4 @@ module _ (P Q : Problem) (protocols : P.protocol ≡ Q.protocol) (names : P.name
   one_of_solution second told o p x y =
       one_of_second solution_limit long_solution (IsOfLabelsIn P A) (IsOfLabelsIn Q B) second told o p
       (λ text a b. one_of_labels (labels_of_text P.protocol P.names text) o p a
-          (subst (λ (r : Result (List (Option Route)) SolRefusal). IsOfLabels B r p) (one_reading text) b)) x y
+      (subst (λ (r : Result (List (Option Route)) SolRefusal). IsOfLabels B r p) (one_reading text) b)) x y

@@ -51,14 +51,16 @@ pub answers_unread : (reply : Reply) (problem : Problem) (A : List (Option Route
 answers_unread reply problem A second rose answers =
     answers_as reply (IsOfSolution problem second AllowsNoLabels) (IsOfSolution problem second A) ⊥ ⊥ rose rose
     (λ o is. of_second solution_limit long_solution (IsOfLabelsIn problem AllowsNoLabels) (IsOfLabelsIn problem A) second o
-        (λ text. of_labels A (labels_of_text problem.protocol problem.names text) o) is)
+    (λ text. of_labels A (labels_of_text problem.protocol problem.names text) o) is)
     (λ e. e) (λ r. r) answers
 
 of_given : (problem : Problem) (A : List (Option Route) → Outcome → Type 0) (labels : List (Option Route)) (second : Option (List ℕ)) (o : Outcome)
     → IfSome second (GivesLabels problem labels) → A labels o → IsOfSolution problem second A o
 of_given problem A labels None o gives is = tt
-of_given problem A labels (Some text) o gives is = inr (gives.short,
-    subst (λ (r : Result (List (Option Route)) SolRefusal). IsOfLabels A r o) (sym gives.read) is)
+of_given problem A labels (Some text) o gives is = inr (
+  gives.short,
+  subst (λ (r : Result (List (Option Route)) SolRefusal). IsOfLabels A r o) (sym gives.read) is,
+)
 
 -- labels were read
 pub answers_given : (reply : Reply) (problem : Problem) (A : List (Option Route) → Outcome → Type 0) (labels : List (Option Route)) (second : Option (List ℕ))
@@ -66,7 +68,7 @@ pub answers_given : (reply : Reply) (problem : Problem) (A : List (Option Route)
     → IfSome second (GivesLabels problem labels) → Answers reply (A labels) ⊥ ⊥ → Answers reply (IsOfSolution problem second A) ⊥ rose
 answers_given reply problem A labels second rose gives answers =
     answers_as reply (A labels) (IsOfSolution problem second A) ⊥ ⊥ ⊥ rose (λ o is. of_given problem A labels second o gives is) (λ e. e) (λ e. absurd e)
-        answers
+    answers
 
 -- a line of the text is at fault
 pub answers_fault : (reply : Reply) (problem : Problem) (text : List ℕ) (line : ℕ) (kind : SolKind)
@@ -90,7 +92,7 @@ pub answers_no_text : (reply : Reply) (problem : Problem) (second : Option (List
 answers_no_text reply problem second rose answers =
     answers_as reply (IsOfSecond solution_limit long_solution second AllowsNoText) (IsOfSolution problem second AllowsNoLabels) ⊥ ⊥ rose rose
     (λ o is. of_second solution_limit long_solution AllowsNoText (IsOfLabelsIn problem AllowsNoLabels) second o (λ text e. absurd e) is) (λ e. e) (λ r. r)
-        answers
+    answers
 
 -- what was read gives labels
 pub given_labels : (problem : Problem) (labels : List (Option Route)) (bytes : List ℕ) (second : Option (List ℕ)) → IfSome second (λ text. bytes ≡ text)

@@ -31,19 +31,27 @@ pub reported : (text : Report → List ℕ) (network : Network) (number : ℕ) (
     (before : ℕ) (neighbors : List Unmatched) (bytes : List ℕ)
     → IsBuiltFor network class problem → IsGroupingOf problem g
     → before ≡ length (links_of network) → neighbors ≡ unmatched_of network
-        → HasReport (λ r. bytes ≡ text r) number g.problem before g.groups g.quotient.links neighbors → IsReported text network number class (done bytes)
+    → HasReport (λ r. bytes ≡ text r) number g.problem before g.groups g.quotient.links neighbors → IsReported text network number class (done bytes)
 reported text network number class problem g before neighbors bytes built is links those has = record {
   plan = plan_by network class g has.group_count;
   is = is_plan network class problem g has.group_count built is has.numbered;
-  written = ap done (has.said ∙ (λ j. text (record { class_number = number; problem = g.problem; links_before = links j; groups = g.groups; group_count =
-      has.group_count; links = g.quotient.links; unmatched = those j })));
+  written = ap done (has.said ∙ (λ j. text (record {
+    class_number = number;
+    problem = g.problem;
+    links_before = links j;
+    groups = g.groups;
+    group_count =
+        has.group_count;
+    links = g.quotient.links;
+    unmatched = those j;
+  })));
 }
 
 -- the line of the counts of a grouping is that of the plan of its class
 pub counted : (network : Network) (number : ℕ) (class : DestClass) (problem : Problem) (g : Grouping) (routers before groups after : ℕ) (old new : List ℕ)
     → IsBuiltFor network class problem → IsGroupingOf problem g → IsNumbered g.groups groups
     → routers ≡ count g.problem → before ≡ length (links_of network) → after ≡ length g.quotient.links
-        → new ≡ old ++ count_line number routers before groups after → HasLineOf network number class old new
+    → new ≡ old ++ count_line number routers before groups after → HasLineOf network number class old new
 counted network number class problem g routers before groups after old new built is numbered same_routers same_before same_after line = record {
   plan = plan_by network class g groups;
   is = is_plan network class problem g groups built is numbered;

@@ -16,8 +16,15 @@ use Rattle.answer_kit.proofs.NumberedOnce.{one_count_of_groups}
 use Rattle.answer_kit.proofs.OneClass.{some_prefix, one_list_of_groups}
 
 abbrev plan_with : Network → DestClass → Problem → List ℕ → ℕ → List QLink → Plan
-plan_with network class problem groups count links = record { network = network; class = class; problem = problem; groups = groups; count = count; links =
-    links }
+plan_with network class problem groups count links = record {
+  network = network;
+  class = class;
+  problem = problem;
+  groups = groups;
+  count = count;
+  links =
+      links;
+}
 
 pub one_plan : BuiltProblemIsOne → (n : Network) (class : DestClass) → Contains (classes_of n) class → (e f : Plan) → IsPlanOf n class e → IsPlanOf n class f
     → e ≡ f

@@ -36,14 +36,14 @@ module _ (P Q : Problem) (same : ProblemsAlike P Q) (rules : IsProblem P) where
   one_told : (labels : List (Option Route)) (a : Answer) (o p : Outcome) → IsToldOf P labels a o → IsToldOf Q labels a p → o ≡ p
   one_told labels Stable o p x y =
       x.told ∙ ap (λ (run : List ℕ). done (name_lines P run)) (one_order labels P x.run y.run x.is (order_too labels y.run y.is)) ∙ ap done (lines_same y.run)
-          ∙ sym y.told
+      ∙ sym y.told
   one_told labels (Not router why) o p x y = x ∙ ap (λ (names : List (List ℕ)). not_stable (slice_index_or names router [] ++ codes " " ++ name_of_break why))
       same.names ∙ sym y
 
   one_reach_of : (labels : List (Option Route)) (o p : Outcome) → IsReach P labels o → IsReach Q labels p → o ≡ p
   one_reach_of labels o p x y =
       one_told labels x.answer o p x.told (subst (λ (a : Answer). IsToldOf Q labels a p)
-          (sym (one_answer P Q labels rules same x.fitting x.answer y.answer x.judged y.judged)) y.told)
+      (sym (one_answer P Q labels rules same x.fitting x.answer y.answer x.judged y.judged)) y.told)
 
 pub one_reach : (n : Network) (class : DestClass) → Contains (classes_of n) class → (second : Option (List ℕ)) → IsSome second → (o p : Outcome)
     → IsReachOf n second class o → IsReachOf n second class p → o ≡ p
@@ -52,4 +52,4 @@ one_reach n class c second told o p x y =
     let first = x.of_class prefix.0 prefix.1 in
     let same = one_problem n prefix.0 x.problem y.problem first (y.of_class prefix.0 prefix.1) in
     one_of_solution x.problem y.problem same.protocol same.names (IsReach x.problem) (IsReach y.problem) (one_reach_of x.problem y.problem same first.rules)
-        second told o p x.reach y.reach
+    second told o p x.reach y.reach

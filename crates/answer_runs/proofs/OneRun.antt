@@ -57,7 +57,7 @@ module _ (P Q : Problem) (same : ProblemsAlike P Q) (rules : IsProblem P) (other
   one_schedule : (text : List ℕ) (o p : Outcome) → IsOfSchedule P text o → IsOfSchedule Q text p → o ≡ p
   one_schedule text o p x y =
       one_activations (schedule_of_text P.names text) o p x (subst (λ (r : Result (List Activation) ScheduleRefusal). IsOfActivations Q r p)
-          (ap (λ (names : List (List ℕ)). schedule_of_text names text) (sym same.names)) y)
+      (ap (λ (names : List (List ℕ)). schedule_of_text names text) (sym same.names)) y)
 
 pub one_run : (n : Network) (class : DestClass) → Contains (classes_of n) class → (second : Option (List ℕ)) → IsSome second → (o p : Outcome)
     → IsRunOf n second class o → IsRunOf n second class p → o ≡ p
@@ -67,4 +67,4 @@ one_run n class c second told o p x y =
     let other = y.of_class prefix.0 prefix.1 in
     let same = one_problem n prefix.0 x.problem y.problem first other in
     one_of_second schedule_limit long_schedule (IsOfSchedule x.problem) (IsOfSchedule y.problem) second told o p
-        (λ text a b. one_schedule x.problem y.problem same first.rules other.rules text o p a b) x.ran y.ran
+    (λ text a b. one_schedule x.problem y.problem same first.rules other.rules text o p a b) x.ran y.ran

@@ -34,7 +34,7 @@ pub answers_stable : (reply : Reply) (P : Problem) (labels : List (Option Route)
     → Answers reply A ⊥ ⊥ → Answers reply (IsOfStable P labels A) ⊥ ⊥
 answers_stable reply P labels A fitting stable answers =
     answers_as reply A (IsOfStable P labels A) ⊥ ⊥ ⊥ ⊥ (λ o is. record { fitting = fitting; answer = Stable; judged = stable; told = is }) (λ e. e) (λ e. e)
-        answers
+    answers
 
 -- a router breaks stability
 pub answers_broken : (reply : Reply) (P : Problem) (labels : List (Option Route)) (A : Outcome → Type 0) (router why : ℕ) → AreLabels P labels
@@ -42,7 +42,7 @@ pub answers_broken : (reply : Reply) (P : Problem) (labels : List (Option Route)
     → Answers reply (Only (not_stable (break_reason P router why))) ⊥ ⊥ → Answers reply (IsOfStable P labels A) ⊥ ⊥
 answers_broken reply P labels A router why fitting breaks answers =
     answers_only reply (not_stable (break_reason P router why)) (IsOfStable P labels A) ⊥ ⊥
-        (record { fitting = fitting; answer = Not router why; judged = breaks; told = refl }) answers
+    (record { fitting = fitting; answer = Not router why; judged = breaks; told = refl }) answers
 
 -- ---- a class
 

@@ -74,8 +74,10 @@ any_none name (x ∷ xs) each =
 
 all_apart : (xs : List (List ℕ)) → ((i j : ℕ) → i < j → j < length xs → bytes_eq (slice_index_or xs i []) (slice_index_or xs j []) ≡ false) → AreApart xs
 all_apart [] each = tt
-all_apart (x ∷ xs) each = (any_none x xs (λ j h. each 0 (suc j) (omega arith) (omega arith)),
-    all_apart xs (λ i j less h. each (suc i) (suc j) (omega arith) (omega arith)))
+all_apart (x ∷ xs) each = (
+  any_none x xs (λ j h. each 0 (suc j) (omega arith) (omega arith)),
+  all_apart xs (λ i j less h. each (suc i) (suc j) (omega arith) (omega arith)),
+)
 
 -- the names of so many groups
 abbrev names_with : Problem → List ℕ → ℕ → List (List ℕ)

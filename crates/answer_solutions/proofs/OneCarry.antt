@@ -43,7 +43,7 @@ one_sides n class has built s t x y =
     let p = some_prefix n class has in
     let problems = built n class has s.problem t.problem x.built y.built in
     let groups = one_list_of_groups s.problem t.problem (problems_alike n p.0 s.problem t.problem (x.built.of p.0 p.1) (y.built.of p.0 p.1)) s.groups t.groups
-        x.count y.count x.coarsest y.coarsest x.numbered y.numbered in
+    x.count y.count x.coarsest y.coarsest x.numbered y.numbered in
     let counts = one_count_of_groups t.groups x.count y.count (subst (λ (g : List ℕ). IsNumbered g x.count) groups x.numbered) y.numbered in
     let smalls = x.small_is ∙ (λ j. small_of (problems j) (groups j) (counts j)) ∙ sym y.small_is in
     λ j. sides_with (problems j) (groups j) (smalls j)
@@ -91,21 +91,21 @@ module _ (n : Network) (class : DestClass) (has : Contains (classes_of n) class)
         let same = one_sides n class has built x.sides y.sides x.are y.are in
         let other = subst (λ (t : Sides). IsOfSolution (carried_from way t) second (IsCarryOfLabels way t (carried_from way t)) p) (sym same) y.solution in
         one_of_solution P P refl refl (IsCarryOfLabels way s P) (IsCarryOfLabels way s P)
-            (λ labels. one_of_stable P labels (IsCarriedBy way s labels) (one s x.are labels) (carried_rules way s x.are)) second told o p x.solution other
+        (λ labels. one_of_stable P labels (IsCarriedBy way s labels) (one s x.are labels) (carried_rules way s x.are)) second told o p x.solution other
 
   one_folded : FoldingIsOne → (s : Sides) → AreSides n class s → (labels : List (Option Route)) → IsStable s.problem labels → (o p : Outcome)
       → IsFolded s labels o → IsFolded s labels p → o ≡ p
   one_folded one s are labels stable o p x y =
       x.written ∙ ap (λ (ls : List (Option Route)). done (labels_text s.small.names ls))
-          (one s.problem s.small s.groups labels (rules_of s are) are.small_rules are.coarsest.admissible (quotient_of s are) stable x.lower y.lower x.is y.is)
-              ∙ sym y.written
+      (one s.problem s.small s.groups labels (rules_of s are) are.small_rules are.coarsest.admissible (quotient_of s are) stable x.lower y.lower x.is y.is)
+      ∙ sym y.written
 
   one_lifted : LiftingIsOne → (s : Sides) → AreSides n class s → (lower : List (Option Route)) → IsStable s.small lower → (o p : Outcome) → IsLifted s lower o
       → IsLifted s lower p → o ≡ p
   one_lifted one s are lower stable o p x y =
       x.written ∙ ap (λ (ls : List (Option Route)). done (labels_text s.problem.names ls))
-          (one s.problem s.small s.groups lower (rules_of s are) are.small_rules are.coarsest.admissible (quotient_of s are) stable x.labels y.labels x.is y.is)
-              ∙ sym y.written
+      (one s.problem s.small s.groups lower (rules_of s are) are.small_rules are.coarsest.admissible (quotient_of s are) stable x.labels y.labels x.is y.is)
+      ∙ sym y.written
 
   pub one_fold : BuiltProblemIsOne → FoldingIsOne → (second : Option (List ℕ)) → IsSome second → (o p : Outcome) → IsFoldOf n second class o
       → IsFoldOf n second class p → o ≡ p

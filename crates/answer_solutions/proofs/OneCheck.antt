@@ -32,4 +32,4 @@ one_check n class c second told o p x y =
     let first = x.of_class prefix.0 prefix.1 in
     let same = one_problem n prefix.0 x.problem y.problem first (y.of_class prefix.0 prefix.1) in
     one_of_solution x.problem y.problem same.protocol same.names (IsJudgement x.problem) (IsJudgement y.problem)
-        (one_judgement x.problem y.problem same first.rules) second told o p x.judgement y.judgement
+    (one_judgement x.problem y.problem same first.rules) second told o p x.judgement y.judgement

@@ -123,7 +123,7 @@ module _ (n : Network) (given : ∥ IsGiven n ∥₁) (faultless : IsFaultless n
         read = by.read;
         reads = read_again s.small lower bytes printed are.small_rules names_of_groups below
             (range n given prefix.0 s.problem s.small s.groups lower problem_of are.small_rules is_quotient below)
-                (out_of bytes (labels_text s.small.names lower) z.1.written);
+            (out_of bytes (labels_text s.small.names lower) z.1.written);
         stable = z.0;
         stable_below = below;
         correspond = z.1.is.corresponds;
@@ -158,11 +158,11 @@ module _ (n : Network) (given : ∥ IsGiven n ∥₁) (faultless : IsFaultless n
   fold_read range None at is = absurd (not_refused bytes (no_class number) is)
   fold_read range (Some class) at is =
       fold_of_labels n given faultless quotient formed printed class (found_in (classes_of n) (number - 1) class (nat_eq number 0) at) is.sides is.are range
-          number at text bytes (given_text is.sides.problem text bytes (IsFoldOfLabels is.sides) is.solution)
+      number at text bytes (given_text is.sides.problem text bytes (IsFoldOfLabels is.sides) is.solution)
 
   pub lift_read : StableIsInRange → (class : Option DestClass) → class_at (classes_of n) number ≡ class
       → IsOfClass class number (IsLiftOf n (Some text)) (done bytes) → IsReadAsLift n number text bytes
   lift_read range None at is = absurd (not_refused bytes (no_class number) is)
   lift_read range (Some class) at is =
       lift_of_labels n given faultless quotient formed printed class (found_in (classes_of n) (number - 1) class (nat_eq number 0) at) is.sides is.are range
-          number at text bytes (given_text is.sides.small text bytes (IsLiftOfLabels is.sides) is.solution)
+      number at text bytes (given_text is.sides.small text bytes (IsLiftOfLabels is.sides) is.solution)

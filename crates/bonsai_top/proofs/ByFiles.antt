@@ -19,10 +19,10 @@ reads_unless_trial (Trial size) other = absurd (other size refl)
 -- it reads one
 pub answers_by_files : (reply : Reply) (command : Command) (first second : Option (List ℕ)) (before now : ℕ) (rose : Type 0) → reads_first command ≡ true
     → Answers reply (IsOutcomeOfFiles command first second) (Rose before now) rose
-        → Answers reply (IsOutcomeOf command first second) (FirstRose (Some command) before now) rose
+    → Answers reply (IsOutcomeOf command first second) (FirstRose (Some command) before now) rose
 answers_by_files reply command first second before now rose reads answers =
     answers_as reply (IsOutcomeOfFiles command first second) (IsOutcomeOf command first second) (Rose before now) (FirstRose (Some command) before now) rose
-        rose
+    rose
     (λ o is. subst (λ (b : Bool). IsOutcomeBy b command first second o) (sym reads) is) (λ r. (reads, r)) (λ r. r) answers
 
 -- it reads none

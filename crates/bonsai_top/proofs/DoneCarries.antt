@@ -53,11 +53,11 @@ of_class (Some class) number A well o status is = well class o status is
 pub fold_is_done : (n : Network) (number : ℕ) (text : List ℕ) → IsDone (IsFoldAnswer n number (Some text))
 fold_is_done n number text = of_class (class_at (classes_of n) number) number (IsFoldOf n (Some text)) (λ class o status is.
     of_solution (IsFoldOfLabels is.sides) (λ labels p done_status x.
-        of_stable is.sides.problem (IsFolded is.sides labels) (λ q q_status y. of_bytes (labels_text is.sides.small.names y.lower) q y.written) x.answer p
-            done_status x.told) is.sides.problem text o status is.solution)
+    of_stable is.sides.problem (IsFolded is.sides labels) (λ q q_status y. of_bytes (labels_text is.sides.small.names y.lower) q y.written) x.answer p
+    done_status x.told) is.sides.problem text o status is.solution)
 
 pub lift_is_done : (n : Network) (number : ℕ) (text : List ℕ) → IsDone (IsLiftAnswer n number (Some text))
 lift_is_done n number text = of_class (class_at (classes_of n) number) number (IsLiftOf n (Some text)) (λ class o status is.
     of_solution (IsLiftOfLabels is.sides) (λ lower p done_status x.
-        of_stable is.sides.small (IsLifted is.sides lower) (λ q q_status y. of_bytes (labels_text is.sides.problem.names y.labels) q y.written) x.answer p
-            done_status x.told) is.sides.small text o status is.solution)
+    of_stable is.sides.small (IsLifted is.sides lower) (λ q q_status y. of_bytes (labels_text is.sides.problem.names y.labels) q y.written) x.answer p
+    done_status x.told) is.sides.small text o status is.solution)

@@ -60,18 +60,18 @@ module _ (text : List ℕ) (n : Network) (read : IsRead text n) (number : ℕ) (
   -- the text of a plan, where texts of such plans compress the network
   module _ (IsAllowed : Plan → Type 0) (class : DestClass)
       (compresses : (e : Plan) → IsAllowed e → pool_line n class ≡ None → is_too_long (compressed_text e) ≡ false → Compresses n class (compressed_text e))
-          where
-    emitted : pool_line n class ≡ None → IsTextOfPlan IsAllowed o → Compresses n class o.out
-    emitted apart is = step (is_too_long (compressed_text is.plan)) refl is.written
-      where
-        step : (b : Bool) → is_too_long (compressed_text is.plan) ≡ b → IsTextOr b (compressed_text is.plan) o → Compresses n class o.out
-        step true long written = absurd (no_refusal (codes "OutputTooLong") written)
-        step false short written = subst (λ (bytes : List ℕ). Compresses n class bytes) (sym (ap (λ (x : Outcome). x.out) written))
-            (compresses is.plan is.is apart short)
+    where
+      emitted : pool_line n class ≡ None → IsTextOfPlan IsAllowed o → Compresses n class o.out
+      emitted apart is = step (is_too_long (compressed_text is.plan)) refl is.written
+        where
+          step : (b : Bool) → is_too_long (compressed_text is.plan) ≡ b → IsTextOr b (compressed_text is.plan) o → Compresses n class o.out
+          step true long written = absurd (no_refusal (codes "OutputTooLong") written)
+          step false short written = subst (λ (bytes : List ℕ). Compresses n class bytes) (sym (ap (λ (x : Outcome). x.out) written))
+              (compresses is.plan is.is apart short)
 
-    unless_pool : (pool : Option ℕ) → pool_line n class ≡ pool → IsUnlessPool pool (IsTextOfPlan IsAllowed) o → Compresses n class o.out
-    unless_pool (Some line) pool is = absurd (no_refusal (pool_overlap line) is)
-    unless_pool None apart is = emitted apart is
+      unless_pool : (pool : Option ℕ) → pool_line n class ≡ pool → IsUnlessPool pool (IsTextOfPlan IsAllowed) o → Compresses n class o.out
+      unless_pool (Some line) pool is = absurd (no_refusal (pool_overlap line) is)
+      unless_pool None apart is = emitted apart is
 
   compress_compresses : PlanCompresses → (class : DestClass) → Contains (classes_of n) class → IsCompressOf n class o → Compresses n class o.out
   compress_compresses law class has is =
@@ -118,11 +118,11 @@ module _ (words : List (List ℕ)) (contents : List ℕ → Option (List ℕ)) (
   unfolding IsOutcome
   of_outcome reads names told is =
       let at : IsOutcomeAt (Some named) (contents (file_of words)) (contents (second_of words)) o =
-          subst (λ (c : Option Command). IsOutcomeAt c (contents (file_of words)) (contents (second_of words)) o) names is in
+      subst (λ (c : Option Command). IsOutcomeAt c (contents (file_of words)) (contents (second_of words)) o) names is in
       let files : IsOutcomeOfFiles named (contents (file_of words)) (contents (second_of words)) o =
-          subst (λ (b : Bool). IsOutcomeBy b named (contents (file_of words)) (contents (second_of words)) o) reads at in
+      subst (λ (b : Bool). IsOutcomeBy b named (contents (file_of words)) (contents (second_of words)) o) reads at in
       of_text named (contents (second_of words)) text o status
-          (subst (λ (c : Option (List ℕ)). IsOutcomeOfFiles named c (contents (second_of words)) o) told files)
+      (subst (λ (c : Option (List ℕ)). IsOutcomeOfFiles named c (contents (second_of words)) o) told files)
 
 -- a run that is done told an answer to its command, and all of its bytes
 record HasTold (named : Command) (text : List ℕ) (second : Option (List ℕ)) (before : List ℕ) (after : Option (List ℕ)) : Type 0 where
@@ -134,7 +134,7 @@ record HasTold (named : Command) (text : List ℕ) (second : Option (List ℕ)) 
 module _ (words : List (List ℕ)) (contents : List ℕ → Option (List ℕ)) (first second : List ℕ) (first_rose second_rose : Type 0) (result : Status)
     (out_old out_new : Option (List ℕ)) (out_before out_now : ℕ) (err_old err_new : Option (List ℕ)) (err_before err_now : ℕ)
     (meets : RunMeets (IsOutcome words contents) first second first_rose second_rose result out_old out_new out_before out_now err_old err_new err_before
-        err_now) (is : result ≡ Done) where
+    err_now) (is : result ≡ Done) where
   no_fault_of_writing : result ≢ WriteFault
   no_fault_of_writing w = (let s : Done ≡ WriteFault = sym is ∙ w in cc)
 
@@ -160,7 +160,7 @@ module _ (words : List (List ℕ)) (contents : List ℕ → Option (List ℕ)) (
 
   headline_of : (of : ClassCommand) (number : ℕ)
       → ((text : List ℕ) (n : Network) → IsRead text n → (o : Outcome) → o.status ≡ Done
-          → IsAnswerTo (command.OnClass of number) n (contents (second_of words)) o → HasBytes n number o)
+      → IsAnswerTo (command.OnClass of number) n (contents (second_of words)) o → HasBytes n number o)
       → command_of words ≡ Some (command.OnClass of number) → (text before : List ℕ) → contents (file_of words) ≡ Some text → out_old ≡ Some before
       → IsHeadline text number before out_new
   headline_of of number bytes names text before told taken =
@@ -188,9 +188,15 @@ module _ (words : List (List ℕ)) (contents : List ℕ → Option (List ℕ)) (
       let h = has_told (command.OnSecond on_second.Fold number) refl names text before told taken in
       let n = h.answer.network in
       let answer = subst (λ (c : Option (List ℕ)). IsFoldAnswer n number c h.outcome) also h.answer.answer in
-      record { network = n; reads = h.answer.reads; bytes = h.outcome.out; took = h.took; carried =
-          reads n ∣ (text, h.answer.read.given) ∣₁ h.answer.read.faultless number solution h.outcome.out
-              (subst (IsFoldAnswer n number (Some solution)) (fold_is_done n number solution h.outcome h.status answer) answer) }
+      record {
+        network = n;
+        reads = h.answer.reads;
+        bytes = h.outcome.out;
+        took = h.took;
+        carried =
+            reads n ∣ (text, h.answer.read.given) ∣₁ h.answer.read.faultless number solution h.outcome.out
+            (subst (IsFoldAnswer n number (Some solution)) (fold_is_done n number solution h.outcome h.status answer) answer);
+      }
 
   pub lifted : LiftIsReadBack → (number : ℕ) → command_of words ≡ Some (command.OnSecond on_second.Lift number) → (text solution before : List ℕ)
       → contents (file_of words) ≡ Some text → contents (second_of words) ≡ Some solution → out_old ≡ Some before
@@ -199,6 +205,12 @@ module _ (words : List (List ℕ)) (contents : List ℕ → Option (List ℕ)) (
       let h = has_told (command.OnSecond on_second.Lift number) refl names text before told taken in
       let n = h.answer.network in
       let answer = subst (λ (c : Option (List ℕ)). IsLiftAnswer n number c h.outcome) also h.answer.answer in
-      record { network = n; reads = h.answer.reads; bytes = h.outcome.out; took = h.took; carried =
-          reads n ∣ (text, h.answer.read.given) ∣₁ h.answer.read.faultless number solution h.outcome.out
-              (subst (IsLiftAnswer n number (Some solution)) (lift_is_done n number solution h.outcome h.status answer) answer) }
+      record {
+        network = n;
+        reads = h.answer.reads;
+        bytes = h.outcome.out;
+        took = h.took;
+        carried =
+            reads n ∣ (text, h.answer.read.given) ∣₁ h.answer.read.faultless number solution h.outcome.out
+            (subst (IsLiftAnswer n number (Some solution)) (lift_is_done n number solution h.outcome h.status answer) answer);
+      }

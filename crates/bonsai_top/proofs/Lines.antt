@@ -8,7 +8,7 @@ use Rattle.bonsai_top.specs.Meets.{Tells}
 
 pub tells_line : (status result : Status) (line : List ℕ) (out err_old err_new : Option (List ℕ)) (count before now : ℕ)
     → (result ≡ status) ⊎ (result ≡ WriteFault) → (result ≢ WriteFault → Took err_old err_new line) → TookPart err_old err_new line
-        → (result ≡ WriteFault → Rose before now)
+    → (result ≡ WriteFault → Rose before now)
     → Tells (record { status = status; out = []; err = line }) result out out count count err_old err_new before now
 tells_line status result line out err_old err_new count before now is all part cause = record {
   status = is;

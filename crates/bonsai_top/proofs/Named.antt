@@ -26,11 +26,11 @@ pub answers_words : (reply : Reply) (words : List (List ℕ)) (contents : List �
 unfolding IsOutcome
 answers_words reply words contents command first second before now before' now' named file other answers =
     let at_file = subst (λ (n : List ℕ). Answers reply (IsOutcomeOf command (contents n) (contents second)) (FirstRose (Some command) before now)
-        (SecondRose (Some command) before' now')) file answers in
+    (SecondRose (Some command) before' now')) file answers in
     let at_both = subst (λ (n : List ℕ). Answers reply (IsOutcomeOf command (contents (file_of words)) (contents n)) (FirstRose (Some command) before now)
-        (SecondRose (Some command) before' now')) other at_file in
+    (SecondRose (Some command) before' now')) other at_file in
     subst (λ (n : Option Command). Answers reply (IsOutcomeAt n (contents (file_of words)) (contents (second_of words))) (FirstRose n before now)
-        (SecondRose n before' now')) (sym named) at_both
+    (SecondRose n before' now')) (sym named) at_both
 
 -- ---- a command and its files, word by word
 

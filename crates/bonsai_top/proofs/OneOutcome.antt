@@ -29,7 +29,7 @@ IsToldTo command second = reads_second command ≡ true → IsSome second
 -- the laws of the commands
 module _ (groups : GroupsAnswerIsOne) (compress : CompressAnswerIsOne) (canon : CanonAnswerIsOne) (check : CheckAnswerIsOne) (fold : FoldAnswerIsOne)
     (lift : LiftAnswerIsOne) (verify : VerifyAnswerIsOne) (run : RunAnswerIsOne) (reach : ReachAnswerIsOne) (report : ReportAnswerIsOne)
-        (json : JsonAnswerIsOne) (summary : SummaryAnswerIsOne) (trial : TrialAnswerIsOne) where
+    (json : JsonAnswerIsOne) (summary : SummaryAnswerIsOne) (trial : TrialAnswerIsOne) where
   one_on_network : (of : NetworkCommand) (n : Network) (o p : Outcome) → IsOnNetwork of n o → IsOnNetwork of n p → o ≡ p
   one_on_network on_network.Classes n o p x y = x ∙ sym y
   one_on_network on_network.Summary n o p x y = summary n o p x y
@@ -76,13 +76,13 @@ module _ (groups : GroupsAnswerIsOne) (compress : CompressAnswerIsOne) (canon : 
 
   one_by : (reads : Bool) (command : Command) → is_free command ≡ false → reads_first command ≡ reads → (first second : Option (List ℕ))
       → (reads ≡ true → IsSome first) → IsToldTo command second → (o p : Outcome) → IsOutcomeBy reads command first second o
-          → IsOutcomeBy reads command first second p → o ≡ p
+      → IsOutcomeBy reads command first second p → o ≡ p
   one_by true command fixed is first second told_first told o p x y = one_of_files command fixed first second (told_first refl) told o p x y
   one_by false command fixed is first second told_first told o p x y = one_without_files command o p x y
 
   one_at : (command : Option Command) → leaves_free command ≡ false → (first second : Option (List ℕ)) → (is_read reads_first command ≡ true → IsSome first)
       → (is_read reads_second command ≡ true → IsSome second) → (o p : Outcome) → IsOutcomeAt command first second o → IsOutcomeAt command first second p
-          → o ≡ p
+      → o ≡ p
   one_at None fixed first second told_first told o p x y = x ∙ sym y
   one_at (Some command) fixed first second told_first told o p x y = one_by (reads_first command) command fixed refl first second told_first told o p x y
 

@@ -21,13 +21,13 @@ outcome_long command (Some c) second long o is = inl (long, is)
 -- the file was read to its end
 pub answers_text : (reply : Reply) (command : Command) (text : List ℕ) (told second : Option (List ℕ)) (first_rose rose rose' : Type 0)
     → length text ≤ text_limit → IfSome told (λ c. text ≡ c) → (rose → rose') → Answers reply (IsOutcomeOfReading command second (reading_of text)) ⊥ rose
-        → Answers reply (IsOutcomeOfFiles command told second) first_rose rose'
+    → Answers reply (IsOutcomeOfFiles command told second) first_rose rose'
 answers_text reply command text told second first_rose rose rose' short same weaker answers =
     answers_as reply _ _ ⊥ first_rose rose rose' (outcome_text command text told second short same) (λ e. absurd e) weaker answers
 
 -- the file was too long
 pub answers_long : (reply : Reply) (command : Command) (told second : Option (List ℕ)) (first_rose second_rose : Type 0)
     → IfSome told (λ c. text_limit < length c) → Answers reply (Only (refused (codes "FileTooLong"))) ⊥ ⊥
-        → Answers reply (IsOutcomeOfFiles command told second) first_rose second_rose
+    → Answers reply (IsOutcomeOfFiles command told second) first_rose second_rose
 answers_long reply command told second first_rose second_rose long answers =
     answers_as reply _ _ ⊥ first_rose ⊥ second_rose (outcome_long command told second long) (λ e. absurd e) (λ e. absurd e) answers

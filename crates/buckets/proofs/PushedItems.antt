@@ -89,7 +89,7 @@ index_turn {T} pair_of old new xs i x below here adds so_far = record {
 pub bucket_turn : {T : Type 0} (pair_of : T → ℕ × ℕ) (first old new : Index T) (xs : List T) (i : ℕ) (x : T) (q : ℕ × ℕ) → i < length xs → x ≡ get_or xs i x →
     PushesAt old new (pair_of x) x
     → bucket old q ≡ bucket first q ++ filter (is_at_pair pair_of q) (take i xs)
-        → bucket new q ≡ bucket first q ++ filter (is_at_pair pair_of q) (take (i + 1) xs)
+    → bucket new q ≡ bucket first q ++ filter (is_at_pair pair_of q) (take (i + 1) xs)
 bucket_turn {T} pair_of first old new xs i x q below here adds so_far =
     let test = is_at_pair pair_of q in
     at_pair pair_of old new x q adds

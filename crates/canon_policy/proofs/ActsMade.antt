@@ -73,7 +73,7 @@ into_puts universe f lists e = by (depends_on_others universe (on_sets f)) e
     by true e = absurd cc
     by false e =
         limited_puts (numbered_from 1 (in_entry universe (on_sets f))
-            (settled (length universe) (split universe (in_asked universe (on_sets f))) nothing_fixed)) lists.into
+        (settled (length universe) (split universe (in_asked universe (on_sets f))) nothing_fixed)) lists.into
         (entries_put universe (on_sets f) 1 (settled (length universe) (split universe (in_asked universe (on_sets f))) nothing_fixed))
         (into_of (out_list universe (on_sets f)) (in_list universe (on_sets f)) lists e)
 

@@ -51,7 +51,7 @@ module _ (universe : List ℕ) (f : List ℕ → Option Imported) (plain : IsPla
   -- where keeping is settled, so is a community without a key
   settled_by : (fixing : Fixing) (c : ℕ) → has keys c ≡ false
       → ((set : List ℕ) → keeps f universe (agreeing fixing set) ≡ keeps f universe (agreeing fixing [])) → (b : Bool)
-          → keeps f universe (agreeing fixing []) ≡ b
+      → keeps f universe (agreeing fixing []) ≡ b
       → (if b && follows universe fixing c (carries f c) then None else least universe (λ set. yes (carries f c (agreeing fixing set)))) ≡ None
   unfolding follows
   settled_by fixing c none one true e =
@@ -65,7 +65,7 @@ module _ (universe : List ℕ) (f : List ℕ → Option Imported) (plain : IsPla
   settled_by fixing c none one false e =
       least_constant universe (λ set. yes (carries f c (agreeing fixing set))) 0 (λ set.
       let zero : carries f c (agreeing fixing set) ≡ false = others c none (agreeing fixing set) ∙ ap (λ k. has (agreeing fixing set) c && k) (one set ∙ e)
-          ∙ nothing (has (agreeing fixing set) c) in
+      ∙ nothing (has (agreeing fixing set) c) in
       ap yes zero)
     where
       nothing : (b : Bool) → b && false ≡ false
@@ -78,7 +78,7 @@ module _ (universe : List ℕ) (f : List ℕ → Option Imported) (plain : IsPla
       settled_by fixing c none
       (λ set. yes_one (keeps f universe (agreeing fixing set)) (keeps f universe (agreeing fixing []))
       (least_none universe (λ set. yes (keeps f universe (agreeing fixing set)))
-          (under_hangs universe (λ set. yes (keeps f universe set)) fixing (yes_hangs universe (keeps f universe) plain.kept)) settled set))
+      (under_hangs universe (λ set. yes (keeps f universe set)) fixing (yes_hangs universe (keeps f universe) plain.kept)) settled set))
       (keeps f universe (agreeing fixing [])) refl
 
   few_parts : (ask : Part → Option ℕ) (cs : List ℕ) → ((c : ℕ) → has keys c ≡ false → ask (community c (carries f c)) ≡ None)
@@ -88,7 +88,7 @@ module _ (universe : List ℕ) (f : List ℕ → Option Imported) (plain : IsPla
     where
       by : (b : Bool) → has keys c ≡ b → first_unsettled ask (in_parts universe f (filter (has keys) cs)) ≡ first_unsettled ask (in_parts universe f cs)
           → first_unsettled ask (in_parts universe f (cond b (c ∷ filter (has keys) cs) (filter (has keys) cs)))
-              ≡ option_or (ask (community c (carries f c))) (first_unsettled ask (in_parts universe f cs))
+          ≡ option_or (ask (community c (carries f c))) (first_unsettled ask (in_parts universe f cs))
       by true e rest = ap (λ (o : Option ℕ). option_or (ask (community c (carries f c))) o) rest
       by false e rest = rest ∙ ap (λ (o : Option ℕ). option_or o (first_unsettled ask (in_parts universe f cs))) (sym (none c e))
 
@@ -110,10 +110,10 @@ module _ (universe : List ℕ) (f : List ℕ → Option Imported) (plain : IsPla
   split_same up keys_up fixing =
       ap (λ (o : Option ℕ). option_or (least universe (λ set. yes (accepts f (agreeing fixing set)))) (if accepts f (agreeing fixing []) then o else None))
       (either_same (least universe (λ set. yes (keeps f universe (agreeing fixing set))))
-          (option_or (least universe (λ set. preference f (agreeing fixing set)))
-              (first_unsettled (unsettled universe (keeps f universe) fixing) (in_parts universe f keys)))
       (option_or (least universe (λ set. preference f (agreeing fixing set)))
-          (first_unsettled (unsettled universe (keeps f universe) fixing) (in_parts universe f universe)))
+      (first_unsettled (unsettled universe (keeps f universe) fixing) (in_parts universe f keys)))
+      (option_or (least universe (λ set. preference f (agreeing fixing set)))
+      (first_unsettled (unsettled universe (keeps f universe) fixing) (in_parts universe f universe)))
       (λ settled. ap (λ (o : Option ℕ). option_or (least universe (λ set. preference f (agreeing fixing set))) o)
       (ap (λ (cs : List ℕ). first_unsettled (unsettled universe (keeps f universe) fixing) (in_parts universe f cs)) (sym (keys_are up keys_up))
       ∙ few_parts (unsettled universe (keeps f universe) fixing) universe (never_splits fixing settled))))
@@ -157,8 +157,13 @@ module _ (shown : Shown) (is : IsShown shown) where
     outs_inside : (cases : List (Community × ℕ)) → AreInside shown (nodes_of (by_number cases))
         → ((c : ℕ) → has (keys_of (by_number cases)) c ≡ true → has shown.universe c ≡ true) → AllByRecursion (IsPartInside shown) (carried_nodes cases)
     outs_inside [] all known = tt
-    outs_inside (case ∷ cases) all known = ((known case.0.0 (or_left (nat_eq case.0.0 case.0.0) (has (keys_of (by_number cases)) case.0.0) (itself case.0.0)),
-        all.0), outs_inside cases all.1 (λ c h. known c (or_right (nat_eq case.0.0 c) (has (keys_of (by_number cases)) c) h)))
+    outs_inside (case ∷ cases) all known = (
+      (
+        known case.0.0 (or_left (nat_eq case.0.0 case.0.0) (has (keys_of (by_number cases)) case.0.0) (itself case.0.0)),
+        all.0,
+      ),
+      outs_inside cases all.1 (λ c h. known c (or_right (nat_eq case.0.0 c) (has (keys_of (by_number cases)) c) h)),
+    )
       where
         or_left : (a b : Bool) → a ≡ true → a || b ≡ true
         or_left true b e = refl
@@ -215,8 +220,10 @@ module _ (shown : Shown) (is : IsShown shown) where
         → ((case : ℕ × ℕ) → In (by_number cases) case → (set : List ℕ) → carries (on_sets f) case.0 set ≡ value_of shown set case.1)
         → ArePartsTold shown nothing_fixed (carried_nodes cases) (in_parts shown.universe (on_sets f) (keys_of (by_number cases)))
     outs_told [] all says = tt
-    outs_told (case ∷ cases) all says = ((refl, means_free case.1 (carries (on_sets f) case.0.0) all.0 (says (case.0.0, case.1) (inl refl))),
-        outs_told cases all.1 (λ c h. says c (inr h)))
+    outs_told (case ∷ cases) all says = (
+      (refl, means_free case.1 (carries (on_sets f) case.0.0) all.0 (says (case.0.0, case.1) (inl refl))),
+      outs_told cases all.1 (λ c h. says c (inr h)),
+    )
 
     pub in_told : AreNodesOf shown nothing_fixed (in_nodes edge) (asked_of shown.universe (on_sets f) (keys_of (by_number edge.outs)))
     in_told = record {
@@ -236,6 +243,9 @@ module _ (shown : Shown) (is : IsShown shown) where
     out_told = record {
       permit = means_free edge.permit (accepts (on_sets f)) of.permit_inside (accepts_is shown is edge f of);
       rest = means_free edge.rest (keeps (on_sets f) shown.universe) of.rest_inside kept_is;
-      parts = (free_tells (nodes_of edge.adds) (added_count (on_sets f)) (adds_inside edge f of)
-          (table_tells shown edge.permit edge.adds (added_count (on_sets f)) (adds_table shown is edge f of)), tt);
+      parts = (
+        free_tells (nodes_of edge.adds) (added_count (on_sets f)) (adds_inside edge f of)
+            (table_tells shown edge.permit edge.adds (added_count (on_sets f)) (adds_table shown is edge f of)),
+        tt,
+      );
     }

@@ -20,8 +20,10 @@ use Rattle.canon_policy.proofs.Follows.{follow_true, follow_idle}
 
 pub test_under : (universe : List ℕ) (test : List ℕ → Bool) (fixing : Fixing) → TestHangsOn universe test
     → TestHangsOn universe (λ set. test (agreeing fixing set))
-test_under universe test fixing hangs = record { same = λ a b same.
-    hangs.same (agreeing fixing a) (agreeing fixing b) (agreeing_same_on universe a b fixing same) }
+test_under universe test fixing hangs = record {
+  same = λ a b same.
+      hangs.same (agreeing fixing a) (agreeing fixing b) (agreeing_same_on universe a b fixing same);
+}
 
 pub means_hangs : (shown : Shown) (node : ℕ) (test : List ℕ → Bool) → TestHangsOn shown.universe test → Means shown node test
     → TestHangsOn shown.universe (λ set. value_of shown set node)
@@ -30,7 +32,7 @@ means_hangs shown node test hangs means = record { same = λ a b same. means.val
 -- the first of a node that tells a test
 pub first_of_test : (shown : Shown) → IsShown shown → (node : ℕ) (test : List ℕ → Bool) → TestHangsOn shown.universe test → Means shown node test
     → (r : Option Community) → MatchOption r (DependsOnNone shown node) (λ c. IsFirstOf shown node c.0)
-        → option_map community_number r ≡ least shown.universe (λ set. yes (test set))
+    → option_map community_number r ≡ least shown.universe (λ set. yes (test set))
 first_of_test shown is node test hangs means r first =
     first_is_least shown is node (means_hangs shown node test hangs means) r first
     ∙ ap (λ (v : List ℕ → ℕ). least shown.universe v) (fun_ext (λ set. ap yes (means.value set)))
@@ -38,7 +40,7 @@ first_of_test shown is node test hangs means r first =
 module _ (old mid : Shown) (is : IsShown mid) (grows : Grows old mid) (rest node : ℕ) (c : Community) (known : has old.universe c.0 ≡ true)
     (kept test : List ℕ → Bool) (fixing : Fixing)
     (kept_hangs : TestHangsOn old.universe kept) (hangs : TestHangsOn old.universe test) (of_rest : Means old rest (λ set. kept (agreeing fixing set)))
-        (of_node : Means old node (λ set. test (agreeing fixing set))) where
+    (of_node : Means old node (λ set. test (agreeing fixing set))) where
   kept_value : (none : List ℕ) → none ≡ [] → value_of mid none rest ≡ kept (agreeing fixing [])
   kept_value none e = ap (λ (s : List ℕ). value_of mid s rest) e ∙ (means_kept old mid rest (λ set. kept (agreeing fixing set)) grows of_rest).value []
 
@@ -47,8 +49,8 @@ module _ (old mid : Shown) (is : IsShown mid) (grows : Grows old mid) (rest node
 
   pub follows_none : (fol : ℕ) → Means mid fol (λ set. has set c.0) → (none : List ℕ) → none ≡ [] → value_of mid none rest ≡ true
       → ((set : List ℕ) → value_of mid set node ≡ value_of mid set fol)
-          → None ≡ (if kept (agreeing fixing []) && follows old.universe fixing c.0 test then None else least old.universe
-              (λ set. yes (test (agreeing fixing set))))
+      → None ≡ (if kept (agreeing fixing []) && follows old.universe fixing c.0 test then None else least old.universe
+      (λ set. yes (test (agreeing fixing set))))
   follows_none fol of_fol none e yes_kept same =
       let e1 : kept (agreeing fixing []) ≡ true = sym (kept_value none e) ∙ yes_kept in
       let e2 = follow_true old.universe fixing c.0 test hangs known (λ set. sym (mid_means.value set) ∙ same set ∙ of_fol.value set) in
@@ -59,24 +61,24 @@ module _ (old mid : Shown) (is : IsShown mid) (grows : Grows old mid) (rest node
   first_here r first =
       let under : TestHangsOn mid.universe (λ set. test (agreeing fixing set)) = rw grows.universe (test_under old.universe test fixing hangs) in
       first_of_test mid is node (λ set. test (agreeing fixing set)) under mid_means r first
-          ∙ ap (λ (u : List ℕ). least u (λ set. yes (test (agreeing fixing set)))) grows.universe
+      ∙ ap (λ (u : List ℕ). least u (λ set. yes (test (agreeing fixing set)))) grows.universe
 
   pub not_kept : (none : List ℕ) → none ≡ [] → value_of mid none rest ≡ false → (r : Option Community)
       → MatchOption r (DependsOnNone mid node) (λ d. IsFirstOf mid node d.0)
-          → option_map community_number r ≡ (if kept (agreeing fixing [])
-              && follows old.universe fixing c.0 test then None else least old.universe (λ set. yes (test (agreeing fixing set))))
+      → option_map community_number r ≡ (if kept (agreeing fixing [])
+      && follows old.universe fixing c.0 test then None else least old.universe (λ set. yes (test (agreeing fixing set))))
   not_kept none e out r first =
       let e1 : kept (agreeing fixing []) ≡ false = sym (kept_value none e) ∙ out in
       rw e1 (first_here r first)
 
   pub not_following : (fol : ℕ) → Means mid fol (λ set. has set c.0) → (none : List ℕ) → none ≡ [] → value_of mid none rest ≡ true → DifferOnSet mid node fol
       → (r : Option Community) → MatchOption r (DependsOnNone mid node) (λ d. IsFirstOf mid node d.0)
-          → option_map community_number r ≡ (if kept (agreeing fixing [])
-              && follows old.universe fixing c.0 test then None else least old.universe (λ set. yes (test (agreeing fixing set))))
+      → option_map community_number r ≡ (if kept (agreeing fixing [])
+      && follows old.universe fixing c.0 test then None else least old.universe (λ set. yes (test (agreeing fixing set))))
   not_following fol of_fol none e yes_kept differ r first =
       let e1 : kept (agreeing fixing []) ≡ true = sym (kept_value none e) ∙ yes_kept in
       rw e1 (first_here r first ∙ sym (follow_idle old.universe fixing c.0 test hangs known differ.set
-          (λ same. differ.differ (mid_means.value differ.set ∙ same ∙ sym (of_fol.value differ.set))) (follows old.universe fixing c.0 test) refl))
+      (λ same. differ.differ (mid_means.value differ.set ∙ same ∙ sym (of_fol.value differ.set))) (follows old.universe fixing c.0 test) refl))
 
 pub index_in : (xs : List ℕ) (i : ℕ) → i < length xs → In xs (get_or xs i 0)
 index_in [] i h = absurd (omega arith)
@@ -101,8 +103,8 @@ first_known shown node (Some c) first = first.known
 
 pub more_least : (shown : Shown) → IsShown shown → (nodes : List ℕ) (k node : ℕ) → k < length nodes → node ≡ get_or nodes k 0 → (a r : Option ℕ)
     → (NodesHang shown nodes → a ≡ least_among shown (take k nodes)) → (first : Option Community)
-        → MatchOption first (DependsOnNone shown node) (λ c. IsFirstOf shown node c.0) → r ≡ lesser a (option_map community_number first)
-            → NodesHang shown nodes → r ≡ least_among shown (take (k + 1) nodes)
+    → MatchOption first (DependsOnNone shown node) (λ c. IsFirstOf shown node c.0) → r ≡ lesser a (option_map community_number first)
+    → NodesHang shown nodes → r ≡ least_among shown (take (k + 1) nodes)
 more_least shown is nodes k node lt at a r before first is_first e hang =
     let there : In nodes node = rw at (index_in nodes k lt) in
     e

@@ -243,7 +243,7 @@ module _ (universe : List ℕ) (up : IsAscending universe) (communities : AreCom
                 act_for (act_at_place problem.acts place) (act_at_place acts place) old_printable old_within e)
             | inr unused ↦ subst (IsActFor universe (act_at_place problem.acts place))
                 (sym (at_acts place inside ∙ picked (is_used problem.edges place) (canonical_act universe (act_at_place problem.acts place))
-                    (act_at_place problem.acts place) unused))
+                (act_at_place problem.acts place) unused))
                 (same_act universe (act_at_place problem.acts place) old_printable old_within)
           ]
 

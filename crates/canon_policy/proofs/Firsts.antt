@@ -91,7 +91,7 @@ module _ (shown : Shown) (is : IsShown shown) (node : ℕ) (hangs : TestHangsOn 
       let set : List ℕ = as_set (without_number x d.set) in
       let first : value (with_number x set) ≡ value (with_number x d.set) = value_hangs.same (with_number x set) (with_number x d.set) (with_both x d.set) in
       let second : value set ≡ value (without_number x d.set) =
-          value_hangs.same set (without_number x d.set) (same_sets shown.universe set (without_number x d.set) (has-as_set (without_number x d.set))) in
+      value_hangs.same set (without_number x d.set) (same_sets shown.universe set (without_number x d.set) (has-as_set (without_number x d.set))) in
       record {
         set = set;
         ascending = ascending-as_set (without_number x d.set);
@@ -99,8 +99,10 @@ module _ (shown : Shown) (is : IsShown shown) (node : ℕ) (hangs : TestHangsOn 
       }
     where
       with_both : (x : ℕ) (s : List ℕ) → SameOn shown.universe (with_number x (as_set (without_number x s))) (with_number x s)
-      with_both x s = record { same = λ c known. has-with_number x (as_set (without_number x s)) c
-          ∙ ap (λ b. nat_eq x c || b) (has-as_set (without_number x s) c ∙ has-without_number x s c) ∙ by (nat_eq x c) (has s c) ∙ sym (has-with_number x s c) }
+      with_both x s = record {
+        same = λ c known. has-with_number x (as_set (without_number x s)) c
+            ∙ ap (λ b. nat_eq x c || b) (has-as_set (without_number x s) c ∙ has-without_number x s c) ∙ by (nat_eq x c) (has s c) ∙ sym (has-with_number x s c);
+      }
         where
           by : (n b : Bool) → n || (not n && b) ≡ n || b
           by true b = refl
@@ -120,7 +122,7 @@ module _ (shown : Shown) (is : IsShown shown) (node : ℕ) (hangs : TestHangsOn 
           (same_sets shown.universe (with_number x d.set) d.set (with_there x d.set there))))
       by false there = differ_depends shown.universe value x d.set value_hangs
           (λ e. d.differ (yes_one (value_of shown (with_number x d.set) node) (value_of shown d.set node)
-              (e ∙ value_hangs.same (without_number x d.set) d.set (same_sets shown.universe (without_number x d.set) d.set (without_absent x d.set there)))))
+          (e ∙ value_hangs.same (without_number x d.set) d.set (same_sets shown.universe (without_number x d.set) d.set (without_absent x d.set there)))))
 
   not_true : (b : Bool) → (b ≡ true → ⊥) → b ≡ false
   not_true true f = absurd (f refl)
@@ -131,7 +133,7 @@ module _ (shown : Shown) (is : IsShown shown) (node : ℕ) (hangs : TestHangsOn 
   unfolding least
   first_is_least None none = sym (nothing_found (depends shown.universe value) shown.universe
       (λ x h. not_true (depends shown.universe value x) (λ e.
-          none.none x (in_has shown.universe x h) (differing_depends x (depends_differ shown.universe value x e)))))
+      none.none x (in_has shown.universe x h) (differing_depends x (depends_differ shown.universe value x e)))))
   first_is_least (Some c) first = sym (found_least (depends shown.universe value) shown.universe c.0 is.ascending (has_in shown.universe c.0 first.known)
       (depends_differing c.0 first.needed)
       (λ d h e. first.least d (in_has shown.universe d h) (differing_depends d (depends_differ shown.universe value d e))))
@@ -168,7 +170,7 @@ unfolding least_among least
 least_of_more shown is nodes node =
     find_either (λ x. list_any (node_depends shown x) nodes) (λ x. node_depends shown x node) shown.universe is.ascending
     ∙ find_same (λ x. list_any (node_depends shown x) nodes || node_depends shown x node) (λ x. list_any (node_depends shown x) (nodes ++ node ∷ []))
-        shown.universe (λ x. sym (any-append (node_depends shown x) nodes node))
+    shown.universe (λ x. sym (any-append (node_depends shown x) nodes node))
 
 -- nodes that tell a part depend on what it depends on
 both_true : (a b : Bool) → (a ≡ true → b ≡ true) → (b ≡ true → a ≡ true) → a ≡ b
@@ -199,8 +201,8 @@ none_differ shown [] x set hang none = tt
 none_differ shown (n ∷ ns) x set hang none = (
   unless (value_of shown (with_number x set) n) (value_of shown (without_number x set) n)
       (λ ne. none (any_in (node_depends shown x) (n ∷ ns) n (inl refl)
-          (differ_depends shown.universe (λ s. yes (value_of shown s n)) x set (yes_hangs shown.universe (λ s. value_of shown s n) (hang n (inl refl)))
-              (λ e. ne (one (value_of shown (with_number x set) n) (value_of shown (without_number x set) n) e))))),
+      (differ_depends shown.universe (λ s. yes (value_of shown s n)) x set (yes_hangs shown.universe (λ s. value_of shown s n) (hang n (inl refl)))
+      (λ e. ne (one (value_of shown (with_number x set) n) (value_of shown (without_number x set) n) e))))),
   none_differ shown ns x set (λ m h. hang m (inr h)) (λ e. none (later (node_depends shown x n) (list_any (node_depends shown x) ns) e)),
 )
   where
@@ -222,13 +224,13 @@ told_depends shown nodes part hangs tells x =
     (λ e.
     let d = depends_differ shown.universe part x e in
     by (list_any (node_depends shown x) nodes) (λ none. d.differ
-        (tells.same (with_number x d.set) (without_number x d.set) (none_differ shown nodes x d.set hang.each none))))
+    (tells.same (with_number x d.set) (without_number x d.set) (none_differ shown nodes x d.set hang.each none))))
     (λ e.
     let f = in_any (node_depends shown x) nodes e in
     let d = depends_differ shown.universe (λ s. yes (value_of shown s f.item)) x f.passes in
     differ_depends shown.universe part x d.set hangs (λ same.
-        d.differ (ap yes (agree_at shown nodes (with_number x d.set) (without_number x d.set) f.item
-            (tells.apart (with_number x d.set) (without_number x d.set) same) f.there))))
+    d.differ (ap yes (agree_at shown nodes (with_number x d.set) (without_number x d.set) f.item
+    (tells.apart (with_number x d.set) (without_number x d.set) same) f.there))))
   where
     by : (b : Bool) → ((b ≡ true → ⊥) → ⊥) → b ≡ true
     by true f = refl

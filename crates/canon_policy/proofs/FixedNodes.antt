@@ -21,8 +21,11 @@ all_later old mid new alone (n ∷ ns) (m ∷ ms) grows are = (later old mid new
 
 -- a node of a store that had grown before
 pub of_grown : (old mid new : Shown) (alone : Fixing) (n m : ℕ) → Grows old mid → n < length old.nodes → IsFixed mid new alone n m → IsFixed old new alone n m
-of_grown old mid new alone n m grows inside is = record { inside = is.inside; value = λ set. is.value set
-    ∙ value_of_kept old mid (agreeing alone set) n grows inside }
+of_grown old mid new alone n m grows inside is = record {
+  inside = is.inside;
+  value = λ set. is.value set
+      ∙ value_of_kept old mid (agreeing alone set) n grows inside;
+}
 
 all_of_grown : (old mid new : Shown) (alone : Fixing) (ns ms : List ℕ) → Grows old mid → AreInside old ns → AreFixed mid new alone ns ms
     → AreFixed old new alone ns ms
@@ -50,7 +53,7 @@ node_more old mid new alone ns ms k n m first grows lt at inside are is =
     let there : n < length old.nodes = subst (λ (x : ℕ). x < length old.nodes) (sym at) (node_inside old ns k lt inside) in
     let e : take k ns ++ n ∷ [] ≡ take (k + 1) ns = ap (λ (x : ℕ). take k ns ++ x ∷ []) at ∙ sym (take_more ns k 0 lt) in
     subst (λ (l : List ℕ). AreFixed old new alone l (ms ++ m ∷ [])) e
-        (push_fixed old new alone (take k ns) ms n m (all_later old mid new alone (take k ns) ms grows are) (of_grown old mid new alone n m first there is))
+    (push_fixed old new alone (take k ns) ms n m (all_later old mid new alone (take k ns) ms grows are) (of_grown old mid new alone n m first there is))
 
 -- parts
 part_later : (old mid new : Shown) (alone : Fixing) (n m : PartNodes) → Grows mid new → IsPartFixed old mid alone n m → IsPartFixed old new alone n m
@@ -99,8 +102,8 @@ part_inside shown (x ∷ xs) (suc k) n lt at all = part_inside shown xs k n (ome
 
 pub part_more : (old mid new : Shown) (alone : Fixing) (ns ms : List PartNodes) (k : ℕ) (n m : PartNodes) → Grows old mid → Grows mid new → k < length ns
     → n ≡ get_or ns k n → AllByRecursion (IsPartInside old) ns → ArePartsFixed old mid alone (take k ns) ms → IsPartFixed mid new alone n m
-        → ArePartsFixed old new alone (take (k + 1) ns) (ms ++ m ∷ [])
+    → ArePartsFixed old new alone (take (k + 1) ns) (ms ++ m ∷ [])
 part_more old mid new alone ns ms k n m first grows lt at inside are is =
     subst (λ (l : List PartNodes). ArePartsFixed old new alone l (ms ++ m ∷ [])) (take_item ns k n lt at)
     (push_part old new alone (take k ns) ms n m (parts_later old mid new alone (take k ns) ms grows are)
-        (part_of_grown old mid new alone n m first (part_inside old ns k n lt at inside) is))
+    (part_of_grown old mid new alone n m first (part_inside old ns k n lt at inside) is))

@@ -29,7 +29,7 @@ module _ (universe : List ℕ) (fixing : Fixing) (c : ℕ) (test : List ℕ → 
   not_fixed : ((set : List ℕ) → test (agreeing fixing set) ≡ has set c) → (has fixing.present c ≡ true) ⊎ (has fixing.absent c ≡ true) → ⊥
   not_fixed is fixed =
       let same = hangs.same (agreeing fixing (with_number c [])) (agreeing fixing (without_number c []))
-          (same_sets universe (agreeing fixing (with_number c [])) (agreeing fixing (without_number c [])) (fixed_same fixing c [] fixed)) in
+      (same_sets universe (agreeing fixing (with_number c [])) (agreeing fixing (without_number c [])) (fixed_same fixing c [] fixed)) in
       let first = is (with_number c []) in
       let second = is (without_number c []) in
       let there : has (with_number c []) c ≡ true = has-with_number c [] c ∙ rw (same_number c c refl) refl in
@@ -40,8 +40,8 @@ module _ (universe : List ℕ) (fixing : Fixing) (c : ℕ) (test : List ℕ → 
   unfolding follows
   follow_true is = all_are (λ set. beq (test (agreeing fixing set)) (has (agreeing fixing set) c)) (sets_of universe)
       (λ set h. bits_same (test (agreeing fixing set)) (has (agreeing fixing set) c)
-          (is set ∙ sym (free_has fixing set c (not_true (has fixing.present c) (λ e. not_fixed is (inl e)))
-              (not_true (has fixing.absent c) (λ e. not_fixed is (inr e))))))
+      (is set ∙ sym (free_has fixing set c (not_true (has fixing.present c) (λ e. not_fixed is (inl e)))
+      (not_true (has fixing.absent c) (λ e. not_fixed is (inr e))))))
 
   pub follows_at : follows universe fixing c test ≡ true → (a : List ℕ) → test (agreeing fixing a) ≡ has (agreeing fixing a) c
   unfolding follows
@@ -49,7 +49,7 @@ module _ (universe : List ℕ) (fixing : Fixing) (c : ℕ) (test : List ℕ → 
       let inner = named universe a in
       let there = agreeing_same_on universe inner a fixing (named_same universe a) in
       let here = same_bits (test (agreeing fixing inner)) (has (agreeing fixing inner) c)
-          (all_in (λ set. beq (test (agreeing fixing set)) (has (agreeing fixing set) c)) (sets_of universe) inner e (filtered_in (has a) universe)) in
+      (all_in (λ set. beq (test (agreeing fixing set)) (has (agreeing fixing set) c)) (sets_of universe) inner e (filtered_in (has a) universe)) in
       sym (hangs.same (agreeing fixing inner) (agreeing fixing a) there) ∙ here ∙ there.same c known
 
   fixed_has : (a b : List ℕ) → (has fixing.present c ≡ true) ⊎ (has fixing.absent c ≡ true) → has (agreeing fixing a) c ≡ has (agreeing fixing b) c
@@ -68,7 +68,7 @@ module _ (universe : List ℕ) (fixing : Fixing) (c : ℕ) (test : List ℕ → 
       (λ x h. not_true (depends universe (λ set. yes (test (agreeing fixing set))) x) (λ on.
       let d = depends_differ universe (λ set. yes (test (agreeing fixing set))) x on in
       d.differ (ap yes (follows_at e (with_number x d.set) ∙ fixed_has (with_number x d.set) (without_number x d.set) fixed
-          ∙ sym (follows_at e (without_number x d.set))))))
+      ∙ sym (follows_at e (without_number x d.set))))))
 
   -- where it differs from the community somewhere, following makes no difference
   pub follow_idle : (set : List ℕ) → test (agreeing fixing set) ≢ has set c → (b : Bool) → follows universe fixing c test ≡ b

@@ -61,113 +61,113 @@ list_says universe asked hang entry are list e set =
     }
 
 module _ (universe : List ℕ) (f : List ℕ → Option Imported) (plain : IsPlain universe f) (up : IsAscending universe) (set : List ℕ) (set_up : IsAscending set)
-    where
-  in_leaf : (adds : ℕ) (fixing : Fixing) → split universe (in_asked universe f) fixing ≡ None → Agrees fixing set → (b : Bool) → accepts f fixing.present ≡ b
-      → (o : Option Imported) → f set ≡ o → accepted adds (entry_verdict (in_by universe f b 0 fixing) set) ≡ option_map (given adds) o
-  in_leaf adds fixing none agrees true yes' None e =
-      let same = in_accepted universe f fixing fixing.present set plain none (present_agrees fixing set agrees) agrees in
-      let here : accepts f set ≡ false = ap (λ (o : Option Imported). is_some o) e in
-      absurd cc
-  in_leaf adds fixing none agrees false no' None e = refl
-  in_leaf adds fixing none agrees false no' (Some import) e =
-      let same = in_accepted universe f fixing fixing.present set plain none (present_agrees fixing set agrees) agrees in
-      let here : accepts f set ≡ true = ap (λ (o : Option Imported). is_some o) e in
-      absurd cc
-  in_leaf adds fixing none agrees true yes' (Some import) e =
-      let least_agrees = present_agrees fixing set agrees in
-      let all = in_settled universe f fixing plain none least_agrees yes' in
-      let here : preference f set ≡ import.lp + 1 = ap (λ (o : Option Imported). option_map_or (λ (i : Imported). i.lp + 1) o 0) e in
-      let lp : preference f fixing.present ≡ import.lp + 1 = all.lp fixing.present set least_agrees agrees ∙ here in
-      let one : preference f fixing.present - 1 ≡ import.lp = omega arith in
-      let comms : comms_after (in_by universe f true 0 fixing) set ≡ import.comms = left_is universe f plain up fixing all set agrees set_up import e in
-      let first : unwrap_or (lp_of (preference f fixing.present - 1)) 100 ≡ import.lp = lp_is (preference f fixing.present - 1) ∙ one in
-      ap Some (ap (λ n. made n (comms_after (in_by universe f true 0 fixing) set) adds) first ∙ ap (λ (l : List ℕ). made import.lp l adds) comms)
+  where
+    in_leaf : (adds : ℕ) (fixing : Fixing) → split universe (in_asked universe f) fixing ≡ None → Agrees fixing set → (b : Bool) → accepts f fixing.present ≡ b
+        → (o : Option Imported) → f set ≡ o → accepted adds (entry_verdict (in_by universe f b 0 fixing) set) ≡ option_map (given adds) o
+    in_leaf adds fixing none agrees true yes' None e =
+        let same = in_accepted universe f fixing fixing.present set plain none (present_agrees fixing set agrees) agrees in
+        let here : accepts f set ≡ false = ap (λ (o : Option Imported). is_some o) e in
+        absurd cc
+    in_leaf adds fixing none agrees false no' None e = refl
+    in_leaf adds fixing none agrees false no' (Some import) e =
+        let same = in_accepted universe f fixing fixing.present set plain none (present_agrees fixing set agrees) agrees in
+        let here : accepts f set ≡ true = ap (λ (o : Option Imported). is_some o) e in
+        absurd cc
+    in_leaf adds fixing none agrees true yes' (Some import) e =
+        let least_agrees = present_agrees fixing set agrees in
+        let all = in_settled universe f fixing plain none least_agrees yes' in
+        let here : preference f set ≡ import.lp + 1 = ap (λ (o : Option Imported). option_map_or (λ (i : Imported). i.lp + 1) o 0) e in
+        let lp : preference f fixing.present ≡ import.lp + 1 = all.lp fixing.present set least_agrees agrees ∙ here in
+        let one : preference f fixing.present - 1 ≡ import.lp = omega arith in
+        let comms : comms_after (in_by universe f true 0 fixing) set ≡ import.comms = left_is universe f plain up fixing all set agrees set_up import e in
+        let first : unwrap_or (lp_of (preference f fixing.present - 1)) 100 ≡ import.lp = lp_is (preference f fixing.present - 1) ∙ one in
+        ap Some (ap (λ n. made n (comms_after (in_by universe f true 0 fixing) set) adds) first ∙ ap (λ (l : List ℕ). made import.lp l adds) comms)
 
-  pub in_list_says : (adds : ℕ) (into : Plain) → in_list universe f ≡ Some into → accepted adds (verdict into.entries set) ≡ option_map (given adds) (f set)
-  in_list_says adds into e =
-      let d = list_says universe (in_asked universe f) (in_asked_hangs universe f plain) (in_entry universe f) (in_entries universe f) into e set in
-      ap (accepted adds) d.says ∙ in_leaf adds d.fixing d.settled d.agrees (accepts f d.fixing.present) refl (f set) refl
+    pub in_list_says : (adds : ℕ) (into : Plain) → in_list universe f ≡ Some into → accepted adds (verdict into.entries set) ≡ option_map (given adds) (f set)
+    in_list_says adds into e =
+        let d = list_says universe (in_asked universe f) (in_asked_hangs universe f plain) (in_entry universe f) (in_entries universe f) into e set in
+        ap (accepted adds) d.says ∙ in_leaf adds d.fixing d.settled d.agrees (accepts f d.fixing.present) refl (f set) refl
 
-  abbrev out_verdict : Option Imported → Verdict
-  out_verdict None = Deny
-  out_verdict (Some import) = Permit None set import.adds
+    abbrev out_verdict : Option Imported → Verdict
+    out_verdict None = Deny
+    out_verdict (Some import) = Permit None set import.adds
 
-  out_leaf : (fixing : Fixing) → split universe (out_asked universe f) fixing ≡ None → Agrees fixing set → (b : Bool) → accepts f fixing.present ≡ b
-      → (o : Option Imported) → f set ≡ o → entry_verdict (out_by f b 0 fixing) set ≡ out_verdict o
-  out_leaf fixing none agrees true yes' None e =
-      let same = one_answer universe (accepts f) fixing fixing.present set plain.accepted (no_split universe (out_asked universe f) fixing none).accepted
-          (present_agrees fixing set agrees) agrees in
-      let here : accepts f set ≡ false = ap (λ (o : Option Imported). is_some o) e in
-      absurd cc
-  out_leaf fixing none agrees false no' None e = refl
-  out_leaf fixing none agrees false no' (Some import) e =
-      let same = one_answer universe (accepts f) fixing fixing.present set plain.accepted (no_split universe (out_asked universe f) fixing none).accepted
-          (present_agrees fixing set agrees) agrees in
-      let here : accepts f set ≡ true = ap (λ (o : Option Imported). is_some o) e in
-      absurd cc
-  out_leaf fixing none agrees true yes' (Some import) e =
-      let least_agrees = present_agrees fixing set agrees in
-      let parts = no_split universe (out_asked universe f) fixing none in
-      let start : accepts f (agreeing fixing []) ≡ true = at_least_set universe (accepts f) fixing fixing.present plain.accepted parts.accepted least_agrees
-          ∙ yes' in
-      let settled = (or_none (least universe (λ set. added_count f (agreeing fixing set))) None (parts.parts start)).0 in
-      let here : added_count f set ≡ import.adds + 1 = ap (λ (o : Option Imported). option_map_or (λ (i : Imported). i.adds + 1) o 0) e in
-      let same = one_value universe (added_count f) fixing fixing.present set plain.adds settled least_agrees agrees in
-      let adds : added_count f fixing.present - 1 ≡ import.adds = omega arith in
-      ap (λ n. Permit None set n) adds
+    out_leaf : (fixing : Fixing) → split universe (out_asked universe f) fixing ≡ None → Agrees fixing set → (b : Bool) → accepts f fixing.present ≡ b
+        → (o : Option Imported) → f set ≡ o → entry_verdict (out_by f b 0 fixing) set ≡ out_verdict o
+    out_leaf fixing none agrees true yes' None e =
+        let same = one_answer universe (accepts f) fixing fixing.present set plain.accepted (no_split universe (out_asked universe f) fixing none).accepted
+        (present_agrees fixing set agrees) agrees in
+        let here : accepts f set ≡ false = ap (λ (o : Option Imported). is_some o) e in
+        absurd cc
+    out_leaf fixing none agrees false no' None e = refl
+    out_leaf fixing none agrees false no' (Some import) e =
+        let same = one_answer universe (accepts f) fixing fixing.present set plain.accepted (no_split universe (out_asked universe f) fixing none).accepted
+        (present_agrees fixing set agrees) agrees in
+        let here : accepts f set ≡ true = ap (λ (o : Option Imported). is_some o) e in
+        absurd cc
+    out_leaf fixing none agrees true yes' (Some import) e =
+        let least_agrees = present_agrees fixing set agrees in
+        let parts = no_split universe (out_asked universe f) fixing none in
+        let start : accepts f (agreeing fixing []) ≡ true = at_least_set universe (accepts f) fixing fixing.present plain.accepted parts.accepted least_agrees
+        ∙ yes' in
+        let settled = (or_none (least universe (λ set. added_count f (agreeing fixing set))) None (parts.parts start)).0 in
+        let here : added_count f set ≡ import.adds + 1 = ap (λ (o : Option Imported). option_map_or (λ (i : Imported). i.adds + 1) o 0) e in
+        let same = one_value universe (added_count f) fixing fixing.present set plain.adds settled least_agrees agrees in
+        let adds : added_count f fixing.present - 1 ≡ import.adds = omega arith in
+        ap (λ n. Permit None set n) adds
 
-  out_list_says : (out : Plain) → limited (canonical_entries universe (out_asked universe f) (out_entry f)) ≡ Some out
-      → verdict out.entries set ≡ out_verdict (f set)
-  out_list_says out e =
-      let d = list_says universe (out_asked universe f) (out_asked_hangs universe f plain) (out_entry f) (out_entries f) out e set in
-      d.says ∙ out_leaf d.fixing d.settled d.agrees (accepts f d.fixing.present) refl (f set) refl
+    out_list_says : (out : Plain) → limited (canonical_entries universe (out_asked universe f) (out_entry f)) ≡ Some out
+        → verdict out.entries set ≡ out_verdict (f set)
+    out_list_says out e =
+        let d = list_says universe (out_asked universe f) (out_asked_hangs universe f plain) (out_entry f) (out_entries f) out e set in
+        d.says ∙ out_leaf d.fixing d.settled d.agrees (accepts f d.fixing.present) refl (f set) refl
 
-  -- where nothing is put before the path
-  nothing_added : adds_nothing universe f ≡ true → (o : Option Imported) → f set ≡ o → option_map (given 0) o ≡ o
-  unfolding adds_nothing
-  nothing_added none None e = refl
-  nothing_added none (Some import) e =
-      let few = all_in (λ (s : List ℕ). nat_lt (added_count f s) 2) (sets_of universe) (named universe set) none (filtered_in (has set) universe) in
-      let same = plain.adds.same (named universe set) set (named_same universe set) in
-      let here : added_count f set ≡ import.adds + 1 = ap (λ (o : Option Imported). option_map_or (λ (i : Imported). i.adds + 1) o 0) e in
-      let lt : added_count f (named universe set) < 2 = less (added_count f (named universe set)) few in
-      let zero_adds : 0 ≡ import.adds = omega arith in
-      ap (λ n. Some (made import.lp import.comms n)) zero_adds
-    where
-      less : (n : ℕ) → nat_lt n 2 ≡ true → n < 2
-      less n e = grind (arith, nat_tests)
+    -- where nothing is put before the path
+    nothing_added : adds_nothing universe f ≡ true → (o : Option Imported) → f set ≡ o → option_map (given 0) o ≡ o
+    unfolding adds_nothing
+    nothing_added none None e = refl
+    nothing_added none (Some import) e =
+        let few = all_in (λ (s : List ℕ). nat_lt (added_count f s) 2) (sets_of universe) (named universe set) none (filtered_in (has set) universe) in
+        let same = plain.adds.same (named universe set) set (named_same universe set) in
+        let here : added_count f set ≡ import.adds + 1 = ap (λ (o : Option Imported). option_map_or (λ (i : Imported). i.adds + 1) o 0) e in
+        let lt : added_count f (named universe set) < 2 = less (added_count f (named universe set)) few in
+        let zero_adds : 0 ≡ import.adds = omega arith in
+        ap (λ n. Some (made import.lp import.comms n)) zero_adds
+      where
+        less : (n : ℕ) → nat_lt n 2 ≡ true → n < 2
+        less n e = grind (arith, nat_tests)
 
-  out_given : (o : Option Imported) (into : Plain) → ((adds : ℕ) → accepted adds (verdict into.entries set) ≡ option_map (given adds) o)
-      → received true into.entries (out_verdict o) ≡ o
-  out_given None into says = refl
-  out_given (Some import) into says = says import.adds
+    out_given : (o : Option Imported) (into : Plain) → ((adds : ℕ) → accepted adds (verdict into.entries set) ≡ option_map (given adds) o)
+        → received true into.entries (out_verdict o) ≡ o
+    out_given None into says = refl
+    out_given (Some import) into says = says import.adds
 
-  by_out : (b : Bool) → adds_nothing universe f ≡ b → (out into : Plain)
-      → (if b then Some passing else limited (canonical_entries universe (out_asked universe f) (out_entry f))) ≡ Some out → in_list universe f ≡ Some into
-          → import_of out true into set ≡ f set
-  by_out true none out into e e' =
-      let is : passing ≡ out = cc in
-      ap (λ (p : Plain). received true into.entries (verdict p.entries set)) (sym is)
-      ∙ in_list_says 0 into e'
-      ∙ nothing_added none (f set) refl
-  by_out false some out into e e' =
-      ap (received true into.entries) (out_list_says out e)
-      ∙ out_given (f set) into (λ adds. in_list_says adds into e')
+    by_out : (b : Bool) → adds_nothing universe f ≡ b → (out into : Plain)
+        → (if b then Some passing else limited (canonical_entries universe (out_asked universe f) (out_entry f))) ≡ Some out → in_list universe f ≡ Some into
+        → import_of out true into set ≡ f set
+    by_out true none out into e e' =
+        let is : passing ≡ out = cc in
+        ap (λ (p : Plain). received true into.entries (verdict p.entries set)) (sym is)
+        ∙ in_list_says 0 into e'
+        ∙ nothing_added none (f set) refl
+    by_out false some out into e e' =
+        ap (received true into.entries) (out_list_says out e)
+        ∙ out_given (f set) into (λ adds. in_list_says adds into e')
 
-  both_lists : (out into : Option Plain) (lists : CanonEdge) → lists_of out into ≡ Some lists → (out ≡ Some lists.out) × (into ≡ Some lists.into)
-  both_lists None into lists e = absurd cc
-  both_lists (Some out) None lists e = absurd cc
-  both_lists (Some out) (Some into) lists e =
-      let same : record { out = out; into = into } ≡ lists = cc in
-      (ap (λ (l : CanonEdge). Some l.out) same, ap (λ (l : CanonEdge). Some l.into) same)
+    both_lists : (out into : Option Plain) (lists : CanonEdge) → lists_of out into ≡ Some lists → (out ≡ Some lists.out) × (into ≡ Some lists.into)
+    both_lists None into lists e = absurd cc
+    both_lists (Some out) None lists e = absurd cc
+    both_lists (Some out) (Some into) lists e =
+        let same : record { out = out; into = into } ≡ lists = cc in
+        (ap (λ (l : CanonEdge). Some l.out) same, ap (λ (l : CanonEdge). Some l.into) same)
 
-  canonical_by : (b : Bool) (lists : CanonEdge) → (if b then None else lists_of (out_list universe f) (in_list universe f)) ≡ Some lists
-      → (out_list universe f ≡ Some lists.out) × (in_list universe f ≡ Some lists.into)
-  canonical_by true lists e = absurd cc
-  canonical_by false lists e = both_lists (out_list universe f) (in_list universe f) lists e
+    canonical_by : (b : Bool) (lists : CanonEdge) → (if b then None else lists_of (out_list universe f) (in_list universe f)) ≡ Some lists
+        → (out_list universe f ≡ Some lists.out) × (in_list universe f ≡ Some lists.into)
+    canonical_by true lists e = absurd cc
+    canonical_by false lists e = both_lists (out_list universe f) (in_list universe f) lists e
 
-  pub imports_as : (lists : CanonEdge) → canonical_of universe f ≡ Some lists → import_of lists.out true lists.into set ≡ f set
-  unfolding canonical_of
-  imports_as lists e =
-      let both = canonical_by (depends_on_others universe f) lists e in
-      by_out (adds_nothing universe f) refl lists.out lists.into both.0 both.1
+    pub imports_as : (lists : CanonEdge) → canonical_of universe f ≡ Some lists → import_of lists.out true lists.into set ≡ f set
+    unfolding canonical_of
+    imports_as lists e =
+        let both = canonical_by (depends_on_others universe f) lists e in
+        by_out (adds_nothing universe f) refl lists.out lists.into both.0 both.1

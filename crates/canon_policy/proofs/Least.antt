@@ -81,7 +81,7 @@ not_depends universe part x set hangs e =
     let inner = named universe set in
     let same = named_same universe set in
     let here = not_apart (part (with_number x inner)) (part (without_number x inner))
-        (none_in (differs part x) (sets_of universe) inner e (filtered_in (has set) universe)) in
+    (none_in (differs part x) (sets_of universe) inner e (filtered_in (has set) universe)) in
     hangs.same (with_number x set) (with_number x inner) (with_same_on universe set inner x (same_back universe inner set same))
     ∙ here
     ∙ hangs.same (without_number x inner) (without_number x set) (without_same_on universe inner set x same)
@@ -125,7 +125,7 @@ unfolding least
 least_none universe part hangs e a =
     hangs.same a (named universe a) (same_back universe (named universe a) a (named_same universe a))
     ∙ walk universe part (has a) universe hangs (λ x set h. put_same universe part x set hangs
-        (not_depends universe part x set hangs (none_found (depends universe part) universe x e h)))
+    (not_depends universe part x set hangs (none_found (depends universe part) universe x e h)))
 
 pub least_some : (universe : List ℕ) (part : List ℕ → ℕ) (x : ℕ) → least universe part ≡ Some x → (has universe x ≡ true) × Differing part x
 unfolding least
@@ -174,8 +174,8 @@ least_free universe part fixing x hangs e =
     let found = least_some universe (λ set. part (agreeing fixing set)) x e in
     let set = found.1.set in
     let no : ((has fixing.present x ≡ true) ⊎ (has fixing.absent x ≡ true)) → ⊥ = λ fixed.
-        found.1.differ (hangs.same (agreeing fixing (with_number x set)) (agreeing fixing (without_number x set))
-            (same_sets universe (agreeing fixing (with_number x set)) (agreeing fixing (without_number x set)) (fixed_same fixing x set fixed))) in
+    found.1.differ (hangs.same (agreeing fixing (with_number x set)) (agreeing fixing (without_number x set))
+    (same_sets universe (agreeing fixing (with_number x set)) (agreeing fixing (without_number x set)) (fixed_same fixing x set fixed))) in
     record {
       known = found.0;
       not_present = not_true (has fixing.present x) (λ h. no (inl h));

@@ -162,7 +162,7 @@ module _ (universe : List ℕ) (f : List ℕ → Option Imported) (plain : IsPla
 
   one_case : (c : ℕ) → has universe c ≡ true → ((a b : List ℕ) → Agrees fixing a → Agrees fixing b → carries f c a ≡ carries f c b)
       → left (has fixing.present c) (has fixing.absent c) (carries f c fixing.present) (carries f c (with_number c fixing.present)) (has set c)
-          ≡ carries f c fixing.present
+      ≡ carries f c fixing.present
   one_case c known same = by (has fixing.present c) (has fixing.absent c) (carries f c fixing.present) (carries f c (with_number c fixing.present)) (has set c)
       refl (agrees.present c) (agrees.absent c) (not_deleted_present c known)
       (λ free. same (with_number c fixing.present) fixing.present (more_agrees fixing c least_agrees free) least_agrees)
@@ -185,7 +185,7 @@ module _ (universe : List ℕ) (f : List ℕ → Option Imported) (plain : IsPla
   follow_case c follows = by (has fixing.present c) (has fixing.absent c) (carries f c fixing.present) (carries f c (with_number c fixing.present)) (has set c)
       (follows fixing.present least_agrees)
       (λ free. follows (with_number c fixing.present) (more_agrees fixing c least_agrees free) ∙ has-with_number c fixing.present c
-          ∙ rw (same_number c c refl) refl)
+      ∙ rw (same_number c c refl) refl)
     where
       by : (p n v w s : Bool) → v ≡ p → (n ≡ false → w ≡ true) → left p n v w s ≡ s
       by true true v w s e k = rw e refl
@@ -205,7 +205,7 @@ module _ (universe : List ℕ) (f : List ℕ → Option Imported) (plain : IsPla
 
   kept_known : (c : ℕ) → has universe c ≡ true → IsSettled f fixing c (keeps f universe fixing.present)
       → left (has fixing.present c) (has fixing.absent c) (carries f c fixing.present) (carries f c (with_number c fixing.present)) (has set c)
-          ≡ carries f c set
+      ≡ carries f c set
   kept_known c known (one same) = one_case c known same ∙ same fixing.present set least_agrees agrees
   kept_known c known (following kept follows) = follow_case c follows ∙ sym (follows set agrees)
 

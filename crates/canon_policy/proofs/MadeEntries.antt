@@ -240,8 +240,17 @@ module _ (shown : Shown) (is : IsShown shown) (edge : EdgeFn) (f : List ℕ → 
       rw (e, kept) refl
 
   permitting : ℕ → Option ℕ → Option Change → Option CommunityList → ℕ → PlainEntry
-  permitting seq lp change delete adds = record { seq = seq; permit = true; lists = match_of fixing.present; lp = lp; change = change; delete = delete; adds =
-      adds; exact = false }
+  permitting seq lp change delete adds = record {
+    seq = seq;
+    permit = true;
+    lists = match_of fixing.present;
+    lp = lp;
+    change = change;
+    delete = delete;
+    adds =
+        adds;
+    exact = false;
+  }
 
   pub in_is : (seq : ℕ) → IsSettledBy shown.universe (in_asked shown.universe (on_sets f)) fixing
       → in_made shown edge seq fixing ≡ in_entry shown.universe (on_sets f) seq fixing

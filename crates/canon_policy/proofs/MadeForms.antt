@@ -14,8 +14,17 @@ use Rattle.canon_policy.specs.Made.{carried_in, deleted_in, is_not_present, lp_i
 use Rattle.canon_policy.proofs.MadeLists.{ascending_carried}
 
 abbrev pub permitting : ℕ → Option (List CommunityList) → Option ℕ → Option Change → Option CommunityList → ℕ → PlainEntry
-permitting seq lists lp change delete adds = record { seq = seq; permit = true; lists = lists; lp = lp; change = change; delete = delete; adds = adds; exact =
-    false }
+permitting seq lists lp change delete adds = record {
+  seq = seq;
+  permit = true;
+  lists = lists;
+  lp = lp;
+  change = change;
+  delete = delete;
+  adds = adds;
+  exact =
+      false;
+}
 
 module _ (shown : Shown) (edge : EdgeFn) (seq : ℕ) (fixing : Fixing) where
   pub in_denied : value_of shown fixing.present edge.permit ≡ false → in_made shown edge seq fixing ≡ denying seq fixing
@@ -33,13 +42,13 @@ module _ (shown : Shown) (edge : EdgeFn) (seq : ℕ) (fixing : Fixing) where
 
   pub in_adds : value_of shown fixing.present edge.permit ≡ true → value_of shown fixing.present edge.rest ≡ true
       → in_made shown edge seq fixing ≡ permitting seq (match_of fixing.present) (lp_in shown fixing.present edge.lps)
-          (addition_of (filter (is_not_present fixing) (carried_in shown fixing.present edge.outs))) (deletion_of (deleted_in shown fixing edge.outs)) 0
+      (addition_of (filter (is_not_present fixing) (carried_in shown fixing.present edge.outs))) (deletion_of (deleted_in shown fixing edge.outs)) 0
   unfolding in_made
   in_adds e kept = rw (e, kept) refl
 
   pub in_replaces : value_of shown fixing.present edge.permit ≡ true → value_of shown fixing.present edge.rest ≡ false
       → in_made shown edge seq fixing ≡ permitting seq (match_of fixing.present) (lp_in shown fixing.present edge.lps)
-          (replacement_by (carried_in shown fixing.present edge.outs)) None 0
+      (replacement_by (carried_in shown fixing.present edge.outs)) None 0
   unfolding in_made
   in_replaces e replaced = rw (e, replaced) refl
 

@@ -65,7 +65,7 @@ pub carried_more : (shown : Shown) (set : List ℕ) (xs : List (Community × ℕ
 carried_more shown set [] x = refl
 carried_more shown set (y ∷ ys) x =
     cons_cond (value_of shown set y.1) y.0.0 (carried_in shown set (ys ++ x ∷ []))
-        (carried_in shown set ys ++ (if value_of shown set x.1 then x.0.0 ∷ [] else [])) (carried_more shown set ys x)
+    (carried_in shown set ys ++ (if value_of shown set x.1 then x.0.0 ∷ [] else [])) (carried_more shown set ys x)
     ∙ cond_push (value_of shown set y.1) y.0.0 (carried_in shown set ys) (if value_of shown set x.1 then x.0.0 ∷ [] else [])
 
 pub deleted_more : (shown : Shown) (fixing : Fixing) (xs : List (Community × ℕ)) (x : Community × ℕ)
@@ -73,7 +73,7 @@ pub deleted_more : (shown : Shown) (fixing : Fixing) (xs : List (Community × �
 deleted_more shown fixing [] x = refl
 deleted_more shown fixing (y ∷ ys) x =
     cons_cond (is_out shown fixing y) y.0.0 (deleted_in shown fixing (ys ++ x ∷ []))
-        (deleted_in shown fixing ys ++ (if is_out shown fixing x then x.0.0 ∷ [] else [])) (deleted_more shown fixing ys x)
+    (deleted_in shown fixing ys ++ (if is_out shown fixing x then x.0.0 ∷ [] else [])) (deleted_more shown fixing ys x)
     ∙ cond_push (is_out shown fixing y) y.0.0 (deleted_in shown fixing ys) (if is_out shown fixing x then x.0.0 ∷ [] else [])
 
 pub filter_more : (p : ℕ → Bool) (xs : List ℕ) (x : ℕ) → filter p (xs ++ x ∷ []) ≡ filter p xs ++ (if p x then x ∷ [] else [])
@@ -141,14 +141,14 @@ pub more_carried : (shown : Shown) (set : List ℕ) (xs : List (Community × ℕ
 more_carried shown set xs i x old new lt e is holds made =
     made ∙ ap (λ (l : List ℕ). l ++ x.0.0 ∷ []) is
     ∙ sym (ap (λ (l : List (Community × ℕ)). carried_in shown set l) (taken xs i x lt e) ∙ carried_more shown set (take i xs) x
-        ∙ ap (λ (b : Bool). carried_in shown set (take i xs) ++ (if b then x.0.0 ∷ [] else [])) holds)
+    ∙ ap (λ (b : Bool). carried_in shown set (take i xs) ++ (if b then x.0.0 ∷ [] else [])) holds)
 
 pub none_carried : (shown : Shown) (set : List ℕ) (xs : List (Community × ℕ)) (i : ℕ) (x : Community × ℕ) (old : List ℕ) → i < length xs → x ≡ get_or xs i x
     → old ≡ carried_in shown set (take i xs) → value_of shown set x.1 ≡ false → old ≡ carried_in shown set (take (i + 1) xs)
 none_carried shown set xs i x old lt e is holds =
     is ∙ sym (append_none (carried_in shown set (take i xs)))
     ∙ sym (ap (λ (l : List (Community × ℕ)). carried_in shown set l) (taken xs i x lt e) ∙ carried_more shown set (take i xs) x
-        ∙ ap (λ (b : Bool). carried_in shown set (take i xs) ++ (if b then x.0.0 ∷ [] else [])) holds)
+    ∙ ap (λ (b : Bool). carried_in shown set (take i xs) ++ (if b then x.0.0 ∷ [] else [])) holds)
   where
     append_none : (l : List ℕ) → l ++ [] ≡ l
     append_none [] = refl
@@ -156,18 +156,18 @@ none_carried shown set xs i x old lt e is holds =
 
 pub more_deleted : (shown : Shown) (fixing : Fixing) (xs : List (Community × ℕ)) (i : ℕ) (x : Community × ℕ) (old new : List ℕ) → i < length xs
     → x ≡ get_or xs i x → old ≡ deleted_in shown fixing (take i xs) → is_out shown fixing x ≡ true → new ≡ old ++ x.0.0 ∷ []
-        → new ≡ deleted_in shown fixing (take (i + 1) xs)
+    → new ≡ deleted_in shown fixing (take (i + 1) xs)
 more_deleted shown fixing xs i x old new lt e is holds made =
     made ∙ ap (λ (l : List ℕ). l ++ x.0.0 ∷ []) is
     ∙ sym (ap (λ (l : List (Community × ℕ)). deleted_in shown fixing l) (taken xs i x lt e) ∙ deleted_more shown fixing (take i xs) x
-        ∙ ap (λ (b : Bool). deleted_in shown fixing (take i xs) ++ (if b then x.0.0 ∷ [] else [])) holds)
+    ∙ ap (λ (b : Bool). deleted_in shown fixing (take i xs) ++ (if b then x.0.0 ∷ [] else [])) holds)
 
 pub none_deleted : (shown : Shown) (fixing : Fixing) (xs : List (Community × ℕ)) (i : ℕ) (x : Community × ℕ) (old : List ℕ) → i < length xs → x ≡ get_or xs i x
     → old ≡ deleted_in shown fixing (take i xs) → is_out shown fixing x ≡ false → old ≡ deleted_in shown fixing (take (i + 1) xs)
 none_deleted shown fixing xs i x old lt e is holds =
     is ∙ sym (append_none (deleted_in shown fixing (take i xs)))
     ∙ sym (ap (λ (l : List (Community × ℕ)). deleted_in shown fixing l) (taken xs i x lt e) ∙ deleted_more shown fixing (take i xs) x
-        ∙ ap (λ (b : Bool). deleted_in shown fixing (take i xs) ++ (if b then x.0.0 ∷ [] else [])) holds)
+    ∙ ap (λ (b : Bool). deleted_in shown fixing (take i xs) ++ (if b then x.0.0 ∷ [] else [])) holds)
   where
     append_none : (l : List ℕ) → l ++ [] ≡ l
     append_none [] = refl

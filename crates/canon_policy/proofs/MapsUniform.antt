@@ -246,7 +246,7 @@ module _ (universe : List ℕ) where
         carried = λ c known a b trace.
             carried_by (first (as_set a)) (second (as_set a)) (has (as_set a)) (has (as_set b)) c c (f a) (f b) (given a) (moved a b trace)
             (ap (λ h. decided (puts c) (second (as_set a)) ||
-                ((sends && (decided (puts c) (first (as_set a)) || (h && decided (leaves_it c) (first (as_set a)))))
+            ((sends && (decided (puts c) (first (as_set a)) || (h && decided (leaves_it c) (first (as_set a)))))
             && decided (leaves_it c) (second (as_set a)))) (has-as_set a c ∙ trace.named.same c known ∙ sym (has-as_set b c)));
         kept = record {
           same = λ a b same.
@@ -268,20 +268,20 @@ module _ (universe : List ℕ) (out : Plain) (sends : Bool) (into : Plain) (prin
   import_given : (set : List ℕ) → GivenBy sends (first universe out.entries sends into.entries (map_fits universe out printable within)
       (map_fits universe into printable' within') (as_set set))
       (second universe out.entries sends into.entries (map_fits universe out printable within) (map_fits universe into printable' within') (as_set set))
-          (has (as_set set))
+      (has (as_set set))
       (on_sets (import_of out sends into) set)
   import_given set =
       import_seen universe (as_set set) out.entries sends into.entries (ascending-as_set set) (map_fits universe out printable within)
-          (map_fits universe into printable' within')
+      (map_fits universe into printable' within')
 
   import_ascends : (set : List ℕ) (import : Imported) → on_sets (import_of out sends into) set ≡ Some import → IsAscending import.comms
   import_ascends set import e = by (on_sets (import_of out sends into) set) e (import_given set)
     where
       by : (o : Option Imported) → o ≡ Some import
           → GivenBy sends (first universe out.entries sends into.entries (map_fits universe out printable within) (map_fits universe into printable' within')
-              (as_set set))
+          (as_set set))
           (second universe out.entries sends into.entries (map_fits universe out printable within) (map_fits universe into printable' within') (as_set set))
-              (has (as_set set)) o
+          (has (as_set set)) o
           → IsAscending import.comms
       by None e g = absurd cc
       by (Some i) e g = let same : i ≡ import = cc in rw (← same) g.ascending

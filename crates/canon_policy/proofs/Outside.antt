@@ -85,7 +85,7 @@ others_put universe c none set = any-with_number (λ d. not (has universe d)) c 
 -- a node that depends on one changes where it is put into a set of communities of the universe
 differ_named : (shown : Shown) → IsShown shown → (node : ℕ) → node < length shown.nodes → (d : DependsOnOthers shown node)
     → value_of shown (named shown.universe d.depends.set) node
-        ≡ value_of shown (with_number (outside_of shown.universe) (named shown.universe d.depends.set)) node → ⊥
+    ≡ value_of shown (with_number (outside_of shown.universe) (named shown.universe d.depends.set)) node → ⊥
 differ_named shown is node inside d same = by (has_others shown.universe d.depends.set) refl
   where
     set : List ℕ
@@ -97,18 +97,18 @@ differ_named shown is node inside d same = by (has_others shown.universe d.depen
     by false e =
         let back = same_back shown.universe (named shown.universe d.depends.set) d.depends.set (named_same shown.universe d.depends.set) in
         let inner = value_trace shown is node inside d.depends.set (named shown.universe d.depends.set) back
-            (e ∙ sym (none_others shown.universe d.depends.set)) in
+        (e ∙ sym (none_others shown.universe d.depends.set)) in
         let put = value_trace shown is node inside (with_number d.community d.depends.set)
-            (with_number (outside_of shown.universe) (named shown.universe d.depends.set))
+        (with_number (outside_of shown.universe) (named shown.universe d.depends.set))
         (same_on shown.universe (with_number d.community d.depends.set) d.depends.set
-            (with_number (outside_of shown.universe) (named shown.universe d.depends.set))
+        (with_number (outside_of shown.universe) (named shown.universe d.depends.set))
         (outside_same shown.universe d.community d.outside d.depends.set)
         (same_on shown.universe d.depends.set (named shown.universe d.depends.set)
-            (with_number (outside_of shown.universe) (named shown.universe d.depends.set)) back
+        (with_number (outside_of shown.universe) (named shown.universe d.depends.set)) back
         (same_back shown.universe (with_number (outside_of shown.universe) (named shown.universe d.depends.set)) (named shown.universe d.depends.set)
-            (outside_same shown.universe (outside_of shown.universe) (outside_not shown.universe) (named shown.universe d.depends.set)))))
+        (outside_same shown.universe (outside_of shown.universe) (outside_not shown.universe) (named shown.universe d.depends.set)))))
         (others_put shown.universe d.community d.outside d.depends.set
-            ∙ sym (others_put shown.universe (outside_of shown.universe) (outside_not shown.universe) (named shown.universe d.depends.set))) in
+        ∙ sym (others_put shown.universe (outside_of shown.universe) (outside_not shown.universe) (named shown.universe d.depends.set))) in
         d.depends.differ (put ∙ sym same ∙ sym inner)
 
 -- tests of numbers and answers
@@ -157,8 +157,11 @@ module _ (shown : Shown) (is : IsShown shown) (edge : EdgeFn) (f : List ℕ → 
   adds_inside = nodes_inside shown never edge.adds of.adds.each
 
   pub told_inside : AreInside shown (told_nodes edge)
-  told_inside = (of.permit_inside, inside_append shown (nodes_of edge.lps) (nodes_of edge.adds ++ nodes_of (by_number edge.outs)) lps_inside
-      (inside_append shown (nodes_of edge.adds) (nodes_of (by_number edge.outs)) adds_inside outs_inside))
+  told_inside = (
+    of.permit_inside,
+    inside_append shown (nodes_of edge.lps) (nodes_of edge.adds ++ nodes_of (by_number edge.outs)) lps_inside
+        (inside_append shown (nodes_of edge.adds) (nodes_of (by_number edge.outs)) adds_inside outs_inside),
+  )
 
   pub plain_of_none : NoneNeedsOthers shown (told_nodes edge) → IsPlain shown.universe (on_sets f)
   plain_of_none none =
@@ -176,25 +179,25 @@ module _ (shown : Shown) (is : IsShown shown) (edge : EdgeFn) (f : List ℕ → 
       let more : List ℕ = with_number (outside_of shown.universe) set in
       let first = or_none (not (nat_eq (preference (on_sets f) set) (preference (on_sets f) (with_number (outside_of shown.universe) set))))
       (not (nat_eq (added_count (on_sets f) set) (added_count (on_sets f) (with_number (outside_of shown.universe) set))) || list_any
-          (λ c. not (beq (carries (on_sets f) c set) (carries (on_sets f) c (with_number (outside_of shown.universe) set)))) shown.universe) e in
+      (λ c. not (beq (carries (on_sets f) c set) (carries (on_sets f) c (with_number (outside_of shown.universe) set)))) shown.universe) e in
       let second = or_none (not (nat_eq (added_count (on_sets f) set) (added_count (on_sets f) (with_number (outside_of shown.universe) set))))
-          (list_any (λ c. not (beq (carries (on_sets f) c set) (carries (on_sets f) c (with_number (outside_of shown.universe) set)))) shown.universe) first.1
-              in
+      (list_any (λ c. not (beq (carries (on_sets f) c set) (carries (on_sets f) c (with_number (outside_of shown.universe) set)))) shown.universe) first.1
+      in
       let lp = numbers_equal (preference (on_sets f) set) (preference (on_sets f) (with_number (outside_of shown.universe) set)) first.0 in
       let adds = numbers_equal (added_count (on_sets f) set) (added_count (on_sets f) (with_number (outside_of shown.universe) set)) second.0 in (
         sym (accepts_is shown is edge f of set) ∙ accepted_alike (on_sets f set) (on_sets f (with_number (outside_of shown.universe) set)) lp
             ∙ accepts_is shown is edge f of (with_number (outside_of shown.universe) set),
         agree_append shown (nodes_of edge.lps) (nodes_of edge.adds ++ nodes_of (by_number edge.outs)) set (with_number (outside_of shown.universe) set)
             ((table_tells shown edge.permit edge.lps (preference (on_sets f)) (lps_table shown is edge f of)).apart set
-                (with_number (outside_of shown.universe) set) lp)
+            (with_number (outside_of shown.universe) set) lp)
             (agree_append shown (nodes_of edge.adds) (nodes_of (by_number edge.outs)) set (with_number (outside_of shown.universe) set)
             ((table_tells shown edge.permit edge.adds (added_count (on_sets f)) (adds_table shown is edge f of)).apart set
-                (with_number (outside_of shown.universe) set) adds)
+            (with_number (outside_of shown.universe) set) adds)
             (agree_each shown (by_number edge.outs) set (with_number (outside_of shown.universe) set) (λ case h.
             sym (by_node shown is edge f of set case h)
             ∙ bits_equal (carries (on_sets f) case.0 set) (carries (on_sets f) case.0 (with_number (outside_of shown.universe) set))
             (none_in (λ c. not (beq (carries (on_sets f) c set) (carries (on_sets f) c (with_number (outside_of shown.universe) set)))) shown.universe case.0
-                second.1 (has_in shown.universe case.0 (of.outs_known case.0 (key_in (by_number edge.outs) case h))))
+            second.1 (has_in shown.universe case.0 (of.outs_known case.0 (key_in (by_number edge.outs) case h))))
             ∙ by_node shown is edge f of (with_number (outside_of shown.universe) set) case h))),
       )
 
@@ -203,7 +206,7 @@ module _ (shown : Shown) (is : IsShown shown) (edge : EdgeFn) (f : List ℕ → 
   some_depends s =
       let there = has_in (told_nodes edge) s.node s.there in
       any_in (differs_with_outside shown.universe (on_sets f)) (sets_of shown.universe) (named shown.universe s.depends.depends.set)
-          (filtered_in (has s.depends.depends.set) shown.universe)
+      (filtered_in (has s.depends.depends.set) shown.universe)
       (by (differs_with_outside shown.universe (on_sets f) (named shown.universe s.depends.depends.set)) refl)
     where
       by : (b : Bool) → differs_with_outside shown.universe (on_sets f) (named shown.universe s.depends.depends.set) ≡ b → b ≡ true
@@ -211,7 +214,7 @@ module _ (shown : Shown) (is : IsShown shown) (edge : EdgeFn) (f : List ℕ → 
       by false e = absurd (differ_named shown is s.node (inside_pick shown (told_nodes edge) s.node told_inside (has_in (told_nodes edge) s.node s.there))
           s.depends
           (agree_pick shown (told_nodes edge) (named shown.universe s.depends.depends.set)
-              (with_number (outside_of shown.universe) (named shown.universe s.depends.depends.set)) s.node
+          (with_number (outside_of shown.universe) (named shown.universe s.depends.depends.set)) s.node
           (agree_all (named shown.universe s.depends.depends.set) e) (has_in (told_nodes edge) s.node s.there)))
 
 -- a plain function does not depend on them
@@ -219,13 +222,13 @@ same_all : (universe : List ℕ) (f : List ℕ → Option Imported) → IsPlain 
 same_all universe f plain set =
     let s = same_back universe (with_number (outside_of universe) set) set (outside_same universe (outside_of universe) (outside_not universe) set) in
     neither (nat_eq (preference f set) (preference f (with_number (outside_of universe) set)))
-        (nat_eq (added_count f set) (added_count f (with_number (outside_of universe) set)))
+    (nat_eq (added_count f set) (added_count f (with_number (outside_of universe) set)))
     (list_any (λ c. not (beq (carries f c set) (carries f c (with_number (outside_of universe) set)))) universe)
     (same_number (preference f set) (preference f (with_number (outside_of universe) set)) (plain.lp.same set (with_number (outside_of universe) set) s))
     (same_number (added_count f set) (added_count f (with_number (outside_of universe) set)) (plain.adds.same set (with_number (outside_of universe) set) s))
     (any_none (λ c. not (beq (carries f c set) (carries f c (with_number (outside_of universe) set)))) universe (λ c h.
     differs_not (carries f c set) (carries f c (with_number (outside_of universe) set))
-        ((plain.carried c (in_has universe c h)).same set (with_number (outside_of universe) set) s)))
+    ((plain.carried c (in_has universe c h)).same set (with_number (outside_of universe) set) s)))
   where
     neither : (a b c : Bool) → a ≡ true → b ≡ true → c ≡ false → not a || (not b || c) ≡ false
     neither true true c e e' e'' = e''

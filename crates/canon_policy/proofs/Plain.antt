@@ -39,7 +39,7 @@ pub one_value : (universe : List ℕ) (part : List ℕ → ℕ) (fixing : Fixing
     → least universe (λ set. part (agreeing fixing set)) ≡ None → Agrees fixing a → Agrees fixing b → part a ≡ part b
 one_value universe part fixing a b hangs none of_a of_b =
     let one : (set : List ℕ) → part (agreeing fixing set) ≡ part (agreeing fixing []) =
-        least_none universe (λ set. part (agreeing fixing set)) (under_hangs universe part fixing hangs) none in
+    least_none universe (λ set. part (agreeing fixing set)) (under_hangs universe part fixing hangs) none in
     sym (hangs.same (agreeing fixing a) a (same_sets universe (agreeing fixing a) a (agreeing_stays fixing a of_a)))
     ∙ one a ∙ sym (one b)
     ∙ hangs.same (agreeing fixing b) b (same_sets universe (agreeing fixing b) b (agreeing_stays fixing b of_b))
@@ -60,7 +60,7 @@ pub at_least_set : (universe : List ℕ) (test : List ℕ → Bool) (fixing : Fi
     → least universe (λ set. yes (test (agreeing fixing set))) ≡ None → Agrees fixing a → test (agreeing fixing []) ≡ test a
 at_least_set universe test fixing a hangs none of_a =
     let one = least_none universe (λ set. yes (test (agreeing fixing set)))
-        (under_hangs universe (λ set. yes (test set)) fixing (yes_hangs universe test hangs)) none in
+    (under_hangs universe (λ set. yes (test set)) fixing (yes_hangs universe test hangs)) none in
     sym (yes_one (test (agreeing fixing a)) (test (agreeing fixing [])) (one a))
     ∙ hangs.same (agreeing fixing a) a (same_sets universe (agreeing fixing a) a (agreeing_stays fixing a of_a))
 
@@ -108,7 +108,7 @@ follows_all universe fixing c test hangs known e a agrees =
     let inner = named universe a in
     let same = named_same universe a in
     let here = same_bits (test (agreeing fixing inner)) (has (agreeing fixing inner) c)
-        (all_in (λ set. beq (test (agreeing fixing set)) (has (agreeing fixing set) c)) (sets_of universe) inner e (filtered_in (has a) universe)) in
+    (all_in (λ set. beq (test (agreeing fixing set)) (has (agreeing fixing set) c)) (sets_of universe) inner e (filtered_in (has a) universe)) in
     let there = agreeing_same_on universe inner a fixing same in
     sym (hangs.same (agreeing fixing a) a (same_sets universe (agreeing fixing a) a (agreeing_stays fixing a agrees)))
     ∙ sym (hangs.same (agreeing fixing inner) (agreeing fixing a) there)
@@ -116,7 +116,7 @@ follows_all universe fixing c test hangs known e a agrees =
 
 community_settled : (universe : List ℕ) (f : List ℕ → Option Imported) (fixing : Fixing) (c : ℕ) (kept fit : Bool) → TestHangsOn universe (carries f c)
     → has universe c ≡ true → follows universe fixing c (carries f c) ≡ fit
-        → (if kept && fit then None else least universe (λ set. yes (carries f c (agreeing fixing set)))) ≡ None → IsSettled f fixing c kept
+    → (if kept && fit then None else least universe (λ set. yes (carries f c (agreeing fixing set)))) ≡ None → IsSettled f fixing c kept
 community_settled universe f fixing c true true hangs known e none = following refl (follows_all universe fixing c (carries f c) hangs known e)
 community_settled universe f fixing c true false hangs known e none = one (λ a b of_a of_b. one_answer universe (carries f c) fixing a b hangs none of_a of_b)
 community_settled universe f fixing c false fit hangs known e none = one (λ a b of_a of_b. one_answer universe (carries f c) fixing a b hangs none of_a of_b)
@@ -144,14 +144,14 @@ pub in_settled : (universe : List ℕ) (f : List ℕ → Option Imported) (fixin
 in_settled universe f fixing plain none agrees accepted =
     let split_none = no_split universe (in_asked universe f) fixing none in
     let start : accepts f (agreeing fixing []) ≡ true = at_least_set universe (accepts f) fixing fixing.present plain.accepted split_none.accepted agrees
-        ∙ accepted in
+    ∙ accepted in
     let parts = split_none.parts start in
     let ask = unsettled universe (keeps f universe) fixing in
     let first = or_none (least universe (λ set. yes (keeps f universe (agreeing fixing set))))
-        (option_or (least universe (λ set. preference f (agreeing fixing set))) (first_unsettled ask (in_parts universe f universe))) parts in
+    (option_or (least universe (λ set. preference f (agreeing fixing set))) (first_unsettled ask (in_parts universe f universe))) parts in
     let second = or_none (least universe (λ set. preference f (agreeing fixing set))) (first_unsettled ask (in_parts universe f universe)) first.1 in
     let kept_start : keeps f universe (agreeing fixing []) ≡ keeps f universe fixing.present =
-        at_least_set universe (keeps f universe) fixing fixing.present plain.kept first.0 agrees in
+    at_least_set universe (keeps f universe) fixing fixing.present plain.kept first.0 agrees in
     record {
       kept = λ a b of_a of_b. one_answer universe (keeps f universe) fixing a b plain.kept first.0 of_a of_b;
       lp = λ a b of_a of_b. one_value universe (preference f) fixing a b plain.lp second.0 of_a of_b;
@@ -159,5 +159,5 @@ in_settled universe f fixing plain none agrees accepted =
           let here = parts_none universe f ask universe c second.1 (has_in universe c known) in
           community_settled universe f fixing c (keeps f universe fixing.present) (follows universe fixing c (carries f c)) (plain.carried c known) known refl
           (ap (λ (b : Bool). if b && follows universe fixing c (carries f c) then None else least universe (λ set. yes (carries f c (agreeing fixing set))))
-              (sym kept_start) ∙ here);
+          (sym kept_start) ∙ here);
     }

@@ -72,7 +72,7 @@ module _ (universe : List ℕ) (asked : Asked) (hang : AskedHangsOn universe ask
   within_by depth rest fixing is None e = (is, tt)
   within_by depth rest fixing is (Some x) e =
       all_append (IsFixedWithin universe) (settled depth (split universe asked) (with_present x fixing))
-          (settled depth (split universe asked) (with_absent x fixing))
+      (settled depth (split universe asked) (with_absent x fixing))
       (rest (with_present x fixing) (one_more fixing x is (split_free universe asked fixing x hang e).known))
       (rest (with_absent x fixing) (record { ascending = is.ascending; known = is.known }))
 
@@ -330,7 +330,7 @@ module _ (universe : List ℕ) (up : IsAscending universe) (communities : AreCom
 
     limited_good : (entry : ℕ → Fixing → PlainEntry) → AreGoodEntries entry → ((seq : ℕ) (fixing : Fixing) → (entry seq fixing).seq ≡ seq)
         → (fixings : List Fixing) → AllByRecursion (IsFixedWithin universe) fixings → (list : Plain) → limited (numbered_from 1 entry fixings) ≡ Some list
-            → IsGoodList list
+        → IsGoodList list
     unfolding limited
     limited_good entry good seqs fixings all list e = by (nat_lt 65535 (length (numbered_from 1 entry fixings)) || list_any is_wide
         (numbered_from 1 entry fixings)) refl e

@@ -121,7 +121,7 @@ module _ (universe : List ℕ) (old : Problem) (acts : List Act) (made : AreCano
         rules.acts.differ i j (in_old i lt) (in_old j lt')
         (alike_trans (act_at_place old.acts i) (act_at_place acts i) (act_at_place old.acts j) (each_alike i (in_old i lt))
         (alike_trans (act_at_place acts i) (act_at_place acts j) (act_at_place old.acts j) same
-            (alike_sym (act_at_place old.acts j) (act_at_place acts j) (each_alike j (in_old j lt')))))
+        (alike_sym (act_at_place old.acts j) (act_at_place acts j) (each_alike j (in_old j lt')))))
 
     acts_fit : All (IsActOf old.protocol) acts
     acts_fit =

@@ -147,12 +147,16 @@ pub with_same_on : (universe a b : List ℕ) (n : ℕ) → SameOn universe a b �
 with_same_on universe a b n s = record { same = λ c known. has-with_number n a c ∙ ap (λ x. nat_eq n c || x) (s.same c known) ∙ sym (has-with_number n b c) }
 
 pub without_same_on : (universe a b : List ℕ) (n : ℕ) → SameOn universe a b → SameOn universe (without_number n a) (without_number n b)
-without_same_on universe a b n s = record { same = λ c known. has-without_number n a c ∙ ap (λ x. not (nat_eq n c) && x) (s.same c known)
-    ∙ sym (has-without_number n b c) }
+without_same_on universe a b n s = record {
+  same = λ c known. has-without_number n a c ∙ ap (λ x. not (nat_eq n c) && x) (s.same c known)
+      ∙ sym (has-without_number n b c);
+}
 
 pub agreeing_same_on : (universe a b : List ℕ) (fixing : Fixing) → SameOn universe a b → SameOn universe (agreeing fixing a) (agreeing fixing b)
-agreeing_same_on universe a b fixing s = record { same = λ c known. has-agreeing fixing a c
-    ∙ ap (λ x. not (has fixing.absent c) && (has fixing.present c || x)) (s.same c known) ∙ sym (has-agreeing fixing b c) }
+agreeing_same_on universe a b fixing s = record {
+  same = λ c known. has-agreeing fixing a c
+      ∙ ap (λ x. not (has fixing.absent c) && (has fixing.present c || x)) (s.same c known) ∙ sym (has-agreeing fixing b c);
+}
 
 -- putting in what a set has, and taking out what it has not
 pub with_there : (n : ℕ) (set : List ℕ) → has set n ≡ true → (c : ℕ) → has (with_number n set) c ≡ has set c

@@ -72,7 +72,7 @@ module _ (shown : Shown) (is : IsShown shown) (edge : EdgeFn) (f : List ℕ → 
       by_rest (with_number (outside_of shown.universe) set) (outside_of shown.universe) (no_key (outside_of shown.universe) (outside_not shown.universe))
       ∙ ap (λ b. b && value_of shown (with_number (outside_of shown.universe) set) edge.rest)
       (has-with_number (outside_of shown.universe) set (outside_of shown.universe)
-          ∙ ap (λ b. b || has set (outside_of shown.universe)) (same_number (outside_of shown.universe) (outside_of shown.universe) refl))
+      ∙ ap (λ b. b || has set (outside_of shown.universe)) (same_number (outside_of shown.universe) (outside_of shown.universe) refl))
 
   pub rest_is : (set : List ℕ) → value_of shown set edge.rest ≡ value_of shown set edge.permit
       && value_of shown (with_number (outside_of shown.universe) set) edge.rest
@@ -83,7 +83,7 @@ module _ (shown : Shown) (is : IsShown shown) (edge : EdgeFn) (f : List ℕ → 
       ∙ ap (λ b. value_of shown set edge.permit && b)
       (value_same shown is edge.rest of.rest_inside (with_number (outside_of shown.universe) (as_set set)) (with_number (outside_of shown.universe) set)
       (λ c. has-with_number (outside_of shown.universe) (as_set set) c ∙ ap (λ b. nat_eq (outside_of shown.universe) c || b) (has-as_set set c)
-          ∙ sym (has-with_number (outside_of shown.universe) set c)))
+      ∙ sym (has-with_number (outside_of shown.universe) set c)))
 
   pub rest_permits : (set : List ℕ) → value_of shown set edge.rest ≡ true → value_of shown set edge.permit ≡ true
   rest_permits set e = (and_both (value_of shown set edge.permit) (value_of shown (with_number (outside_of shown.universe) set) edge.rest)
@@ -140,9 +140,11 @@ module _ (shown : Shown) (is : IsShown shown) (edge : EdgeFn) (f : List ℕ → 
       keeps_more set ∙ by (value_of shown (with_number (outside_of shown.universe) set) edge.rest) refl ∙ sym (rest_is set)
     where
       outside_same : SameOn shown.universe (with_number (outside_of shown.universe) set) set
-      outside_same = record { same = λ c known. has-with_number (outside_of shown.universe) set c
-          ∙ ap (λ b. b || has set c) (other_number (outside_of shown.universe) c
-              (λ e. let wrong = outside_not shown.universe in let h = ap (has shown.universe) e in absurd cc)) }
+      outside_same = record {
+        same = λ c known. has-with_number (outside_of shown.universe) set c
+            ∙ ap (λ b. b || has set c) (other_number (outside_of shown.universe) c
+            (λ e. let wrong = outside_not shown.universe in let h = ap (has shown.universe) e in absurd cc));
+      }
 
       by : (b : Bool) → value_of shown (with_number (outside_of shown.universe) set) edge.rest ≡ b → b ≡ value_of shown set edge.permit && b
       by true e = rw (sym (hangs.same (with_number (outside_of shown.universe) set) set outside_same)

@@ -28,16 +28,16 @@ module _ (universe : List ℕ) (asked : Asked) (hang : AskedHangsOn universe ask
   settle_by : (depth : ℕ) → Settles depth → (fixing : Fixing) → count_free universe fixing ≤ suc depth → Agrees fixing fixing.present → (o : Option ℕ)
       → split universe asked fixing ≡ o
       → AllByRecursion (IsSettledBy universe asked) (option_map_or
-          (λ c. settled depth (split universe asked) (with_present c fixing) ++ settled depth (split universe asked) (with_absent c fixing)) o (fixing ∷ []))
+      (λ c. settled depth (split universe asked) (with_present c fixing) ++ settled depth (split universe asked) (with_absent c fixing)) o (fixing ∷ []))
   settle_by depth rest fixing enough agrees None e = (record { settled = e; agrees = agrees }, tt)
   settle_by depth rest fixing enough agrees (Some x) e =
       let free = split_free universe asked fixing x hang e in
       let less = fewer_present universe fixing x free in
       let fewer = fewer_absent universe fixing x free in
       all_append (IsSettledBy universe asked) (settled depth (split universe asked) (with_present x fixing))
-          (settled depth (split universe asked) (with_absent x fixing))
+      (settled depth (split universe asked) (with_absent x fixing))
       (rest (with_present x fixing) (omega arith) (agrees_present fixing x (with_number x fixing.present) (more_agrees fixing x agrees free.not_absent)
-          (now_present fixing x)))
+      (now_present fixing x)))
       (rest (with_absent x fixing) (omega arith) (agrees_absent fixing x fixing.present agrees free.not_present))
 
   settles : (depth : ℕ) → Settles depth

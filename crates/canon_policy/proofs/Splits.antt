@@ -39,9 +39,9 @@ parts_free : (universe : List ℕ) (kept : List ℕ → Bool) (fixing : Fixing) 
 parts_free universe kept fixing x [] hang e = absurd cc
 parts_free universe kept fixing x (part ∷ parts) hang e = elim
     (or_some (unsettled universe kept fixing part) (first_unsettled (unsettled universe kept fixing) parts) x e) [
-  | inl here ↦ part_free universe kept fixing x part hang.0 here
-  | inr later ↦ parts_free universe kept fixing x parts hang.1 later
-]
+      | inl here ↦ part_free universe kept fixing x part hang.0 here
+      | inr later ↦ parts_free universe kept fixing x parts hang.1 later
+    ]
 
 where_accepted : (b : Bool) (o : Option ℕ) (x : ℕ) → (if b then o else None) ≡ Some x → o ≡ Some x
 where_accepted true o x e = e
@@ -52,10 +52,10 @@ pub split_free : (universe : List ℕ) (asked : Asked) (fixing : Fixing) (x : �
 unfolding split
 split_free universe asked fixing x hang e = elim (or_some (least universe (λ set. yes (asked.accepted (agreeing fixing set))))
     (if asked.accepted (agreeing fixing []) then first_unsettled (unsettled universe asked.kept fixing) asked.parts else None) x e) [
-  | inl here ↦ least_free universe (λ set. yes (asked.accepted set)) fixing x (yes_hangs universe asked.accepted hang.accepted) here
-  | inr later ↦ parts_free universe asked.kept fixing x asked.parts hang.parts
-      (where_accepted (asked.accepted (agreeing fixing [])) (first_unsettled (unsettled universe asked.kept fixing) asked.parts) x later)
-]
+      | inl here ↦ least_free universe (λ set. yes (asked.accepted set)) fixing x (yes_hangs universe asked.accepted hang.accepted) here
+      | inr later ↦ parts_free universe asked.kept fixing x asked.parts hang.parts
+          (where_accepted (asked.accepted (agreeing fixing [])) (first_unsettled (unsettled universe asked.kept fixing) asked.parts) x later)
+    ]
 
 -- what no split leaves: acceptance is settled, and where it is given, each part
 pub record NoSplit (universe : List ℕ) (asked : Asked) (fixing : Fixing) : Type 0 where
@@ -70,9 +70,11 @@ pub no_split : (universe : List ℕ) (asked : Asked) (fixing : Fixing) → split
 unfolding split
 no_split universe asked fixing e =
     let both = or_none (least universe (λ set. yes (asked.accepted (agreeing fixing set))))
-        (if asked.accepted (agreeing fixing []) then first_unsettled (unsettled universe asked.kept fixing) asked.parts else None) e in
-    record { accepted = both.0; parts = given (asked.accepted (agreeing fixing [])) (first_unsettled (unsettled universe asked.kept fixing) asked.parts) both.1
-        }
+    (if asked.accepted (agreeing fixing []) then first_unsettled (unsettled universe asked.kept fixing) asked.parts else None) e in
+    record {
+      accepted = both.0;
+      parts = given (asked.accepted (agreeing fixing [])) (first_unsettled (unsettled universe asked.kept fixing) asked.parts) both.1;
+    }
 
 -- how many communities are free
 abbrev pub is_free : Fixing → ℕ → Bool

@@ -40,13 +40,17 @@ nodes_inside_kept old new grows nodes all = record {
 
 agree_kept : (old new : Shown) → Grows old new → (nodes a b : List ℕ) → AreInside old nodes → AgreeAt old nodes a b → AgreeAt new nodes a b
 agree_kept old new grows [] a b all agree = tt
-agree_kept old new grows (n ∷ ns) a b all agree = (value_of_kept old new a n grows all.0 ∙ agree.0 ∙ sym (value_of_kept old new b n grows all.0),
-    agree_kept old new grows ns a b all.1 agree.1)
+agree_kept old new grows (n ∷ ns) a b all agree = (
+  value_of_kept old new a n grows all.0 ∙ agree.0 ∙ sym (value_of_kept old new b n grows all.0),
+  agree_kept old new grows ns a b all.1 agree.1,
+)
 
 agree_before : (old new : Shown) → Grows old new → (nodes a b : List ℕ) → AreInside old nodes → AgreeAt new nodes a b → AgreeAt old nodes a b
 agree_before old new grows [] a b all agree = tt
-agree_before old new grows (n ∷ ns) a b all agree = (sym (value_of_kept old new a n grows all.0) ∙ agree.0 ∙ value_of_kept old new b n grows all.0,
-    agree_before old new grows ns a b all.1 agree.1)
+agree_before old new grows (n ∷ ns) a b all agree = (
+  sym (value_of_kept old new a n grows all.0) ∙ agree.0 ∙ value_of_kept old new b n grows all.0,
+  agree_before old new grows ns a b all.1 agree.1,
+)
 
 pub tells_kept : (old new : Shown) → Grows old new → (nodes : List ℕ) (part : List ℕ → ℕ) → AreInside old nodes → NodesTellPart old nodes part
     → NodesTellPart new nodes part
@@ -96,7 +100,7 @@ later shown fixing universe item p ps k at = record {
 
 pub told_at : (shown : Shown) (fixing : Fixing) (universe : List ℕ) (nodes : List PartNodes) (parts : List Part) (k : ℕ) (item : PartNodes)
     → item ≡ get_or nodes k item → k < length nodes → PartsHangOn universe parts → ArePartsTold shown fixing nodes parts
-        → ToldAt shown fixing universe item parts k
+    → ToldAt shown fixing universe item parts k
 told_at shown fixing universe [] parts k item e lt hang told = absurd (omega arith)
 told_at shown fixing universe (n ∷ ns) [] k item e lt hang told = absurd told
 told_at shown fixing universe (n ∷ ns) (p ∷ ps) zero item e lt hang told = record {
@@ -126,16 +130,16 @@ none_left shown fixing (n ∷ ns) (p ∷ ps) (suc k) e told = none_left shown fi
 pub told_number : (shown : Shown) (fixing : Fixing) (universe : List ℕ) (nodes : List ℕ) (kept : List ℕ → Bool) (r : Option ℕ) (asked : Part)
     → shown.universe ≡ universe → PartHangsOn universe asked → IsTold shown fixing (Told nodes) asked
     → ((part : List ℕ → ℕ) → NumberHangsOn shown.universe part → NodesTellPart shown nodes part → r ≡ least shown.universe part)
-        → r ≡ unsettled universe kept fixing asked
+    → r ≡ unsettled universe kept fixing asked
 told_number shown fixing universe nodes kept r (number part) e hangs told found =
     found (λ set. part (agreeing fixing set)) (rw e (under_hangs universe part fixing hangs)) told
-        ∙ ap (λ (u : List ℕ). least u (λ set. part (agreeing fixing set))) e
+    ∙ ap (λ (u : List ℕ). least u (λ set. part (agreeing fixing set))) e
 told_number shown fixing universe nodes kept r (community d test) e hangs told found = absurd told
 
 pub told_community : (shown : Shown) (fixing : Fixing) (universe : List ℕ) (c : Community) (node : ℕ) (kept : List ℕ → Bool) (r : Option ℕ) (asked : Part)
     → PartHangsOn universe asked → IsTold shown fixing (Carried c node) asked
     → ((test : List ℕ → Bool) → TestHangsOn universe test → Means shown node (λ set. test (agreeing fixing set))
-        → r ≡ unsettled universe kept fixing (community c.0 test)) → r ≡ unsettled universe kept fixing asked
+    → r ≡ unsettled universe kept fixing (community c.0 test)) → r ≡ unsettled universe kept fixing asked
 told_community shown fixing universe c node kept r (number part) hangs told found = absurd told
 told_community shown fixing universe c node kept r (community d test) hangs told found = found test hangs told.1
     ∙ ap (λ (n : ℕ). unsettled universe kept fixing (community n test)) told.0
@@ -158,11 +162,11 @@ found_later ask part rest (Some c) e none = absurd cc
 -- a call over a store that has grown
 pub part_found : (old mid : Shown) → Grows old mid → (rest : ℕ) (item : PartNodes) (r : Option Community)
     → ((kept : List ℕ → Bool) (fixing : Fixing) (asked : Part) → TestHangsOn mid.universe kept → PartHangsOn mid.universe asked
-        → Means mid rest (λ set. kept (agreeing fixing set)) → IsTold mid fixing item asked
-            → option_map community_number r ≡ unsettled mid.universe kept fixing asked)
+    → Means mid rest (λ set. kept (agreeing fixing set)) → IsTold mid fixing item asked
+    → option_map community_number r ≡ unsettled mid.universe kept fixing asked)
     → (kept : List ℕ → Bool) (fixing : Fixing) (asked : Part) → TestHangsOn old.universe kept → PartHangsOn old.universe asked
-        → Means old rest (λ set. kept (agreeing fixing set)) → IsPartInside old item → IsTold old fixing item asked
-            → option_map community_number r ≡ unsettled old.universe kept fixing asked
+    → Means old rest (λ set. kept (agreeing fixing set)) → IsPartInside old item → IsTold old fixing item asked
+    → option_map community_number r ≡ unsettled old.universe kept fixing asked
 part_found old mid grows rest item r call kept fixing asked kept_hangs hangs of_rest inside told =
     call kept fixing asked
     (subst (λ (u : List ℕ). TestHangsOn u kept) (sym grows.universe) kept_hangs)
@@ -183,19 +187,19 @@ first_none l (Some c) e none = absurd cc
 
 pub split_some : (universe : List ℕ) (asked : Asked) (fixing : Fixing) (r : Option Community)
     → option_map community_number r ≡ least universe (λ set. yes (asked.accepted (agreeing fixing set))) → is_some r ≡ true
-        → option_map community_number r ≡ split universe asked fixing
+    → option_map community_number r ≡ split universe asked fixing
 unfolding split
 split_some universe asked fixing r e some = first_some (least universe (λ set. yes (asked.accepted (agreeing fixing set))))
     (if asked.accepted (agreeing fixing []) then first_unsettled (unsettled universe asked.kept fixing) asked.parts else None) r e some
 
 pub split_denied : (universe : List ℕ) (asked : Asked) (fixing : Fixing) (r : Option Community)
     → option_map community_number r ≡ least universe (λ set. yes (asked.accepted (agreeing fixing set))) → is_some r ≡ false
-        → asked.accepted (agreeing fixing []) ≡ false → None ≡ split universe asked fixing
+    → asked.accepted (agreeing fixing []) ≡ false → None ≡ split universe asked fixing
 unfolding split
 split_denied universe asked fixing r e none denied = rw (first_none (least universe (λ set. yes (asked.accepted (agreeing fixing set)))) r e none, denied) refl
 
 pub split_rest : (universe : List ℕ) (asked : Asked) (fixing : Fixing) (r : Option Community)
     → option_map community_number r ≡ least universe (λ set. yes (asked.accepted (agreeing fixing set))) → is_some r ≡ false
-        → asked.accepted (agreeing fixing []) ≡ true → first_unsettled (unsettled universe asked.kept fixing) asked.parts ≡ split universe asked fixing
+    → asked.accepted (agreeing fixing []) ≡ true → first_unsettled (unsettled universe asked.kept fixing) asked.parts ≡ split universe asked fixing
 unfolding split
 split_rest universe asked fixing r e none given = rw (first_none (least universe (λ set. yes (asked.accepted (agreeing fixing set)))) r e none, given) refl

@@ -236,7 +236,7 @@ module _ (universe other : List ℕ) (up : IsAscending universe) (other_up : IsA
 
   one_parts : (fixing : Fixing) (cs : List ℕ) → ((c : ℕ) → In cs c → has keys c ≡ true)
       → first_unsettled (unsettled universe (keeps f universe) fixing) (in_parts universe f cs)
-          ≡ first_unsettled (unsettled other (keeps f other) fixing) (in_parts other f cs)
+      ≡ first_unsettled (unsettled other (keeps f other) fixing) (in_parts other f cs)
   one_parts fixing [] known = refl
   one_parts fixing (c ∷ cs) known =
       let first = one_community fixing c (known c (inl refl)) in

@@ -154,7 +154,7 @@ module _ (universe other : List ℕ) (f : List ℕ → Option Imported) (plain :
   nothing_differs : (set : List ℕ) → differs_with_outside other f set ≡ false
   nothing_differs set =
       neither (nat_eq (preference f set) (preference f (with_number (outside_of other) set)))
-          (nat_eq (added_count f set) (added_count f (with_number (outside_of other) set)))
+      (nat_eq (added_count f set) (added_count f (with_number (outside_of other) set)))
       (list_any (λ c. not (beq (carries f c set) (carries f c (with_number (outside_of other) set)))) other)
       (same_number (preference f set) (preference f (with_number (outside_of other) set))
       (sym (uniform.lp (with_number (outside_of other) set) (with_number beyond set) (moved set) ∙ plain.lp.same (with_number beyond set) set (gone set))))

@@ -35,7 +35,7 @@ value_same shown is node inside a b same =
       | inl lt ↦ (let e : nat_lt v (length shown.universe) ≡ true = grind (arith, nat_tests) in rw e (same (get_or shown.universe v 0)))
       | inr ge ↦ (let e : nat_lt v (length shown.universe) ≡ false = grind (arith, nat_tests) in
           rw e (same_truth (has_others shown.universe a) (has_others shown.universe b) (any_same (λ c. not (has shown.universe c)) a b same)
-              (any_same (λ c. not (has shown.universe c)) b a (λ c. sym (same c)))))
+          (any_same (λ c. not (has shown.universe c)) b a (λ c. sym (same c)))))
     ]) inside inside
 
 -- what depends on no community outside the universe depends only on the universe
@@ -80,7 +80,7 @@ tests_named universe set outside v le none others = elim (cases_lt v (length uni
       let known = has-index universe v lt in
       let ne : nat_eq outside (get_or universe v 0) ≡ false = other_number outside (get_or universe v 0) (λ same. let h = ap (has universe) same in cc) in
       rw e (sym ((named_same universe set).same (get_or universe v 0) known)
-          ∙ sym (has-with_number outside (named universe set) (get_or universe v 0) ∙ rw ne refl))
+      ∙ sym (has-with_number outside (named universe set) (get_or universe v 0) ∙ rw ne refl))
   | inr ge ↦
       let e : nat_lt v (length universe) ≡ false = grind (arith, nat_tests) in
       rw e (others ∙ sym (any-with_number (λ c. not (has universe c)) outside (named universe set) ∙ rw none refl))
@@ -115,17 +115,17 @@ value_named shown is node inside none set = by (has_others shown.universe set) r
     by : (b : Bool) → has_others shown.universe set ≡ b → value_of shown set node ≡ value_of shown (named shown.universe set) node
     by true others =
         value_agrees shown.nodes (length shown.universe) (test_of shown.universe set)
-            (test_of shown.universe (with_number (outside_of shown.universe) (named shown.universe set))) (length shown.nodes) node is.store is.within
+        (test_of shown.universe (with_number (outside_of shown.universe) (named shown.universe set))) (length shown.nodes) node is.store is.within
         (λ v le. tests_named shown.universe set (outside_of shown.universe) v le (outside_not shown.universe) others) inside inside
         ∙ unless (value_of shown (with_number (outside_of shown.universe) (named shown.universe set)) node) (value_of shown (named shown.universe set) node)
-            (λ ne. none (record {
+        (λ ne. none (record {
           community = outside_of shown.universe;
           outside = outside_not shown.universe;
           depends = record { set = named shown.universe set; ascending = ascending_filter (has set) shown.universe is.ascending; differ = ne };
         }))
     by false others =
         value_agrees shown.nodes (length shown.universe) (test_of shown.universe set) (test_of shown.universe (named shown.universe set)) (length shown.nodes)
-            node is.store is.within
+        node is.store is.within
         (λ v le. tests_bare shown.universe set v le others) inside inside
 
 pub named_equal : (universe a b : List ℕ) → SameOn universe a b → (c : ℕ) → has (named universe a) c ≡ has (named universe b) c

@@ -29,7 +29,7 @@ pub numbered-append : (entry : ℕ → Fixing → PlainEntry) (k : ℕ) (xs ys :
 numbered-append entry k [] ys = ap (λ n. numbered_from n entry ys) (omega arith)
 numbered-append entry k (x ∷ xs) ys =
     ap (λ (l : List PlainEntry). entry k x ∷ l) (numbered-append entry (k + 1) xs ys
-        ∙ ap (λ n. numbered_from (k + 1) entry xs ++ numbered_from n entry ys) (omega arith))
+    ∙ ap (λ n. numbered_from (k + 1) entry xs ++ numbered_from n entry ys) (omega arith))
 
 all_agree : (fixing : Fixing) (set : List ℕ) → Agrees fixing set → list_all (has set) fixing.present ≡ true
 all_agree fixing set agrees = all_are (has set) fixing.present (λ x h. agrees.present x (in_has fixing.present x h))
@@ -71,7 +71,7 @@ module _ (entry : ℕ → Fixing → PlainEntry) (are : AreEntries entry) (by : 
 
   skip_both : (depth : ℕ) → Skips depth → (o : Option ℕ) (k : ℕ) (fixing : Fixing) (set : List ℕ) (x : ℕ) (more : List PlainEntry) → has fixing.present x ≡ true
       → has set x ≡ false → verdict (numbered_from k entry (option_map_or
-          (λ c. settled depth by (with_present c fixing) ++ settled depth by (with_absent c fixing)) o (fixing ∷ [])) ++ more) set ≡ verdict more set
+      (λ c. settled depth by (with_present c fixing) ++ settled depth by (with_absent c fixing)) o (fixing ∷ [])) ++ more) set ≡ verdict more set
   skip_both depth skips None k fixing set x more there none = skip_one k fixing set x more there none
   skip_both depth skips (Some y) k fixing set x more there none =
       let xs = settled depth by (with_present y fixing) in
@@ -143,31 +143,31 @@ module _ (universe : List ℕ) (asked : Asked) (hang : AskedHangsOn universe ask
   decide_both : (depth : ℕ) → Decides depth → (k : ℕ) (fixing : Fixing) (set : List ℕ) (more : List PlainEntry) (x : ℕ) → split universe asked fixing ≡ Some x
       → count_free universe fixing ≤ suc depth → Agrees fixing set → (b : Bool) → has set x ≡ b
       → Decided entry (split universe asked) set (verdict (numbered_from k entry (settled depth (split universe asked) (with_present x fixing))
-          ++ (numbered_from (k + length (settled depth (split universe asked) (with_present x fixing))) entry
-              (settled depth (split universe asked) (with_absent x fixing)) ++ more)) set)
+      ++ (numbered_from (k + length (settled depth (split universe asked) (with_present x fixing))) entry
+      (settled depth (split universe asked) (with_absent x fixing)) ++ more)) set)
   decide_both depth decides k fixing set more x e enough agrees true there =
       let less = fewer_present universe fixing x (split_free universe asked fixing x hang e) in
       decides k (with_present x fixing) set (numbered_from (k + length (settled depth (split universe asked) (with_present x fixing))) entry
-          (settled depth (split universe asked) (with_absent x fixing)) ++ more) (omega arith) (agrees_present fixing x set agrees there)
+      (settled depth (split universe asked) (with_absent x fixing)) ++ more) (omega arith) (agrees_present fixing x set agrees there)
   decide_both depth decides k fixing set more x e enough agrees false none =
       let less = fewer_absent universe fixing x (split_free universe asked fixing x hang e) in
       let k' = k + length (settled depth (split universe asked) (with_present x fixing)) in
       rw (skipped entry are (split universe asked) depth k (with_present x fixing) set x
-          (numbered_from k' entry (settled depth (split universe asked) (with_absent x fixing)) ++ more) (now_present fixing x) none)
+      (numbered_from k' entry (settled depth (split universe asked) (with_absent x fixing)) ++ more) (now_present fixing x) none)
       (decides k' (with_absent x fixing) set more (omega arith) (agrees_absent fixing x set agrees none))
 
   decide_step : (depth : ℕ) → Decides depth → (o : Option ℕ) (k : ℕ) (fixing : Fixing) (set : List ℕ) (more : List PlainEntry) → split universe asked fixing ≡ o
       → count_free universe fixing ≤ suc depth → Agrees fixing set
       → Decided entry (split universe asked) set (verdict (numbered_from k entry
-          (option_map_or (λ c. settled depth (split universe asked) (with_present c fixing) ++ settled depth (split universe asked) (with_absent c fixing)) o
-              (fixing ∷ [])) ++ more) set)
+      (option_map_or (λ c. settled depth (split universe asked) (with_present c fixing) ++ settled depth (split universe asked) (with_absent c fixing)) o
+      (fixing ∷ [])) ++ more) set)
   decide_step depth decides None k fixing set more e enough agrees = here k fixing set more e agrees
   decide_step depth decides (Some x) k fixing set more e enough agrees =
       let xs = settled depth (split universe asked) (with_present x fixing) in
       let ys = settled depth (split universe asked) (with_absent x fixing) in
       let parts : numbered_from k entry (xs ++ ys) ++ more ≡ numbered_from k entry xs ++ (numbered_from (k + length xs) entry ys ++ more) =
       ap (λ (l : List PlainEntry). l ++ more) (numbered-append entry k xs ys)
-          ∙ append_assoc (numbered_from k entry xs) (numbered_from (k + length xs) entry ys) more in
+      ∙ append_assoc (numbered_from k entry xs) (numbered_from (k + length xs) entry ys) more in
       rw parts (decide_both depth decides k fixing set more x e enough agrees (has set x) refl)
 
   pub decided : (depth : ℕ) → Decides depth

@@ -36,7 +36,7 @@ pub join_present : (fixing : Fixing) (x : ℕ) → has fixing.absent x ≡ false
 join_present fixing x free = record {
   same = λ set c.
       agreeing_same fixing (agreeing (with_present x nothing_fixed) set) (with_number x set) c
-          (present_first nothing_fixed x set refl c ∙ has-agreeing nothing_fixed (with_number x set) c)
+      (present_first nothing_fixed x set refl c ∙ has-agreeing nothing_fixed (with_number x set) c)
       ∙ sym (present_first fixing x set free c);
 }
 
@@ -44,7 +44,7 @@ pub join_absent : (fixing : Fixing) (x : ℕ) → has fixing.present x ≡ false
 join_absent fixing x free = record {
   same = λ set c.
       agreeing_same fixing (agreeing (with_absent x nothing_fixed) set) (without_number x set) c
-          (absent_first nothing_fixed x set refl c ∙ has-agreeing nothing_fixed (without_number x set) c)
+      (absent_first nothing_fixed x set refl c ∙ has-agreeing nothing_fixed (without_number x set) c)
       ∙ sym (absent_first fixing x set free c);
 }
 
@@ -80,7 +80,7 @@ module _ (old new : Shown) (universe : List ℕ) (fixing alone both : Fixing) (j
         ∙ hangs.same (agreeing fixing (agreeing alone b)) (agreeing both b) (joined b);
     apart = λ a b e. agree_on ns ms a b are (tells.apart (agreeing alone a) (agreeing alone b)
         (hangs.same (agreeing fixing (agreeing alone a)) (agreeing both a) (joined a) ∙ e
-            ∙ sym (hangs.same (agreeing fixing (agreeing alone b)) (agreeing both b) (joined b))));
+        ∙ sym (hangs.same (agreeing fixing (agreeing alone b)) (agreeing both b) (joined b))));
   }
 
   part_fixed : (n m : PartNodes) (part : Part) → PartHangsOn universe part → IsTold old fixing n part → IsPartFixed old new alone n m → IsTold new both m part
@@ -206,7 +206,7 @@ broad_one fixing lt = let broad : nat_lt 32 (length fixing.present) ≡ true = g
 
 broad_step : (depth : ℕ) (by : Fixing → Option ℕ) → ((fixing : Fixing) → 32 < length fixing.present → list_any is_broad (settled depth by fixing) ≡ true)
     → (fixing : Fixing) → 32 < length fixing.present → (o : Option ℕ)
-        → list_any is_broad (option_map_or (λ c. settled depth by (with_present c fixing) ++ settled depth by (with_absent c fixing)) o (fixing ∷ [])) ≡ true
+    → list_any is_broad (option_map_or (λ c. settled depth by (with_present c fixing) ++ settled depth by (with_absent c fixing)) o (fixing ∷ [])) ≡ true
 broad_step depth by rest fixing lt None = broad_one fixing lt
 broad_step depth by rest fixing lt (Some c) =
     let le = longer c fixing.present in
@@ -256,8 +256,8 @@ pub wide_split : (old : List Fixing) (depth less : ℕ) (by : Fixing → Option 
 wide_split old depth less by fixing x e split free le =
     let size = one_longer x fixing.present free in
     broad_over (old ++ settled depth by fixing) (any_later old (settled depth by fixing)
-        (rw (settled_split depth less by fixing x e split) (any_more (settled less by (with_present x fixing)) (settled less by (with_absent x fixing))
-            (broad_settled less by (with_present x fixing) (omega arith)))))
+    (rw (settled_split depth less by fixing x e split) (any_more (settled less by (with_present x fixing)) (settled less by (with_absent x fixing))
+    (broad_settled less by (with_present x fixing) (omega arith)))))
 
 -- what the branch with the community present comes to, for both
 pub first_over : (old xs ys : List Fixing) → are_over (old ++ xs) ≡ true → are_over (old ++ (xs ++ ys)) ≡ true
@@ -266,11 +266,11 @@ first_over old xs ys e = rw (← append_assoc old xs ys) (over_more (old ++ xs) 
 -- a branch
 pub branch_walked : (old mid new : Shown) → Grows old mid → Grows mid new → (nodes made : Nodes) (fixing alone alone' both both' : Fixing) → alone ≡ alone'
     → both ≡ both' → Join fixing alone' both' → (asked : Asked) → AskedHangsOn old.universe asked → AreFunctionNodesInside old nodes
-        → AreNodesOf old fixing nodes asked
-        → AreNodesFixed mid new alone nodes made
+    → AreNodesOf old fixing nodes asked
+    → AreNodesFixed mid new alone nodes made
     → (less : ℕ) (found more : List Fixing) (r : Result (Unit {0}) CanonRefusal)
-        → ((a : Asked) → AskedHangsOn new.universe a → AreNodesOf new both made a → IsWalked found more r (settled less (split new.universe a) both))
-            → IsWalked found more r (settled less (split old.universe asked) both')
+    → ((a : Asked) → AskedHangsOn new.universe a → AreNodesOf new both made a → IsWalked found more r (settled less (split new.universe a) both))
+    → IsWalked found more r (settled less (split old.universe asked) both')
 branch_walked old mid new first second nodes made fixing alone alone' both both' e e' join asked hang inside of are less found more r walked =
     let same : new.universe ≡ old.universe = second.universe ∙ first.universe in
     let hang' = subst (λ (u : List ℕ). AskedHangsOn u asked) (sym same) hang in
@@ -279,7 +279,7 @@ branch_walked old mid new first second nodes made fixing alone alone' both both'
     let there = nodes_fixed mid new old.universe fixing alone' both' join nodes made asked hang of' are' in
     let done = walked asked hang' (subst (λ (b : Fixing). AreNodesOf new b made asked) (sym e') there) in
     subst (λ (u : List ℕ). IsWalked found more r (settled less (split u asked) both')) same
-        (subst (λ (b : Fixing). IsWalked found more r (settled less (split new.universe asked) b)) e' done)
+    (subst (λ (b : Fixing). IsWalked found more r (settled less (split new.universe asked) b)) e' done)
 
 pub failed_first : (old mid xs ys : List Fixing) (r : Result (Unit {0}) CanonRefusal) → IsWalked old mid r xs → is_err r ≡ true → IsWalked old mid r (xs ++ ys)
 failed_first old mid xs ys (Ok done) walked e = absurd cc

@@ -89,25 +89,37 @@ module _ (has_problem : TextHasProblemOfGroups) (built : BuiltProblemIsOne) (n :
       let r = has_problem n class t.plan given faultless has t.is t.apart t.short in
       let one = one_small n class has built t.plan t.is s are in
       let own : (p : Prefix) → Contains class.prefixes p → IsProblemOf r.read p s.small = λ p i.
-          subst (IsProblemOf r.read p) (sym one) (r.problem p (subst (λ (c : DestClass). Contains c.prefixes p) (sym t.is.class_is) i)) in
+      subst (IsProblemOf r.read p) (sym one) (r.problem p (subst (λ (c : DestClass). Contains c.prefixes p) (sym t.is.class_is) i)) in
       record {
         read = r.read;
         reads = subst (λ (bytes : List ℕ). reading_of bytes ≡ Ok r.read) (sym t.text) r.reads;
         problem = λ p i. (s.small, own p i);
         stable = λ p i problem of. (
             let alike = problems_alike r.read p s.small problem (own p i) of in
-            record { labels = labels; reads = sym (same_reading s.small problem alike.protocol alike.names solution) ∙ reads; stable =
-                same_stable s.small problem alike labels stable });
+            record {
+              labels = labels;
+              reads = sym (same_reading s.small problem alike.protocol alike.names solution) ∙ reads;
+              stable =
+                  same_stable s.small problem alike labels stable;
+            });
       }
 
 pub fold_solves : FoldIsReadBack → BuiltProblemIsOne → TextHasProblemOfGroups → FoldSolvesCompressed
 fold_solves back built has_problem n given faultless number solution written configurations compressed folded =
     let f = back n given faultless number solution written folded in
-    record { class = f.class; class_is = f.class_is; solves =
-        solves has_problem built n given faultless number f.class f.class_is f.sides f.are written configurations f.lower compressed f.reads f.stable_below }
+    record {
+      class = f.class;
+      class_is = f.class_is;
+      solves =
+          solves has_problem built n given faultless number f.class f.class_is f.sides f.are written configurations f.lower compressed f.reads f.stable_below;
+    }
 
 pub lift_takes : LiftIsReadBack → BuiltProblemIsOne → TextHasProblemOfGroups → LiftTakesCompressed
 lift_takes back built has_problem n given faultless number solution written configurations compressed lifted =
     let l = back n given faultless number solution written lifted in
-    record { class = l.class; class_is = l.class_is; solves =
-        solves has_problem built n given faultless number l.class l.class_is l.sides l.are solution configurations l.lower compressed l.read l.stable }
+    record {
+      class = l.class;
+      class_is = l.class_is;
+      solves =
+          solves has_problem built n given faultless number l.class l.class_is l.sides l.are solution configurations l.lower compressed l.read l.stable;
+    }

@@ -130,7 +130,7 @@ edge_place (edge ∷ edges) n (suc k) links h =
     let link = edge_link edges k in
     let next : n + 1 + k ≡ n + suc k = omega arith in
     position_first (is_edge_over importer link) edge edges n
-        ∙ rw (other edge edges k (links.0) (omega arith)) (edge_place edges (n + 1) k links.1 (omega arith) ∙ ap (λ (j : ℕ). Some j) next)
+    ∙ rw (other edge edges k (links.0) (omega arith)) (edge_place edges (n + 1) k links.1 (omega arith) ∙ ap (λ (j : ℕ). Some j) next)
   where
     turned : (a b : ℕ) → nat_eq a b ≡ nat_eq b a
     turned a b = grind arith
@@ -207,9 +207,9 @@ module _ (graph : ActGraph) (names : List (List ℕ)) (can : CanBeNamed graph na
       let link = edge_link edges split.edge in
       let none : Edge = record { importer = 0; exporter = 0; act = 0; link = 0 } in
       let known : importer < length names = (let h = graph.importers_in_range split.edge none inside in let e = importer_is edges split.edge none inside in
-          let t = can.one_each in omega arith) in
+      let t = can.one_each in omega arith) in
       ap (with_saying edges routers s) (split_says split.block split.by link (printed_name names importer) block by
-          (link_known edges split.edge can.links inside) (name_is names importer can.each known))
+      (link_known edges split.edge can.links inside) (name_is names importer can.each known))
       ∙ ap (with_split edges routers s split.block split.by (printed_name names importer) link) stage
       ∙ ap (with_router edges s split.block split.by link) (router_back names importer can.apart known)
       ∙ ap (with_edge edges s split.block split.by) (edge_back edges split.edge can.one_of_link inside)
@@ -231,21 +231,23 @@ module _ (graph : ActGraph) (names : List (List ℕ)) (can : CanBeNamed graph na
   used_next blocks split next used is =
       let m = made edges blocks split next is in
       subst (λ (b : Blocks). AreInUse b.numbers b.count) (sym m.is)
-          (split_used edges blocks.numbers blocks.count split.block split.by (edge_act edges split.edge) used (and_first _ _ m.parts) (and_second _ _ m.parts))
+      (split_used edges blocks.numbers blocks.count split.block split.by (edge_act edges split.edge) used (and_first _ _ m.parts) (and_second _ _ m.parts))
 
   splits_run : (splits : List Split) (s : Standing) (last : Blocks) → s.stage ≡ Splitting → AreInUse s.blocks.numbers s.blocks.count
       → length s.blocks.numbers ≡ graph.count → AreAfter graph s.blocks splits last
       → Runs edges routers s (words_of (map (split_line edges names) splits)) (record s { splits = s.splits ++ splits; blocks = last })
   splits_run [] s last stage used total after =
       ap (λ (ss : List Split). record s { splits = ss }) (sym (append-nil s.splits))
-          ∙ ap (λ (b : Blocks). record s { splits = s.splits ++ []; blocks = b }) after
+      ∙ ap (λ (b : Blocks). record s { splits = s.splits ++ []; blocks = b }) after
   splits_run (split ∷ splits) s last stage used total (next, inside, is, rest) =
       let small = small_block s.blocks split next used total is in
       let s1 : Standing = record s { splits = s.splits ++ split ∷ []; blocks = next } in
-      let later = splits_run splits s1 last stage (used_next s.blocks split next used is) (split_total edges s.blocks split next is ∙ total) rest in
-      (s1, split_goes_on s split next stage inside small.0 small.1 is,
-          subst (λ (ss : List Split). Runs edges routers s1 (words_of (map (split_line edges names) splits)) (record s { splits = ss; blocks = last }))
-              (append_assoc s.splits (split ∷ []) splits) later)
+      let later = splits_run splits s1 last stage (used_next s.blocks split next used is) (split_total edges s.blocks split next is ∙ total) rest in (
+        s1,
+        split_goes_on s split next stage inside small.0 small.1 is,
+        subst (λ (ss : List Split). Runs edges routers s1 (words_of (map (split_line edges names) splits)) (record s { splits = ss; blocks = last }))
+            (append_assoc s.splits (split ∷ []) splits) later,
+      )
 
   -- ---- the groups
 
@@ -283,21 +285,28 @@ module _ (graph : ActGraph) (names : List (List ℕ)) (can : CanBeNamed graph na
 
   groups_run : (groups : List (List ℕ)) (s : Standing) → IsOpen s.stage → AreGroups groups
       → ((j : ℕ) → slice_get (groups_of s.blocks.numbers) (s.named + j) ≡ slice_get groups j) → Named s groups
-  groups_run [] s may known same = record { stage = s.stage; opens = may; runs =
-      (let e : s.named ≡ s.named + 0 = omega arith in ap (λ (n : ℕ). record s { named = n }) e) }
+  groups_run [] s may known same = record {
+    stage = s.stage;
+    opens = may;
+    runs =
+        (let e : s.named ≡ s.named + 0 = omega arith in ap (λ (n : ℕ). record s { named = n }) e);
+  }
   groups_run (group ∷ groups) s may known same =
       let s1 : Standing = record s { stage = Naming; named = s.named + 1 } in
       let found : slice_get (groups_of s.blocks.numbers) s.named ≡ Some group =
-          (let e : s.named ≡ s.named + 0 = omega arith in ap (slice_get (groups_of s.blocks.numbers)) e ∙ same 0) in
+      (let e : s.named ≡ s.named + 0 = omega arith in ap (slice_get (groups_of s.blocks.numbers)) e ∙ same 0) in
       let later = groups_run groups s1 (inr refl) known.1 (λ j.
-          (let e : s.named + 1 + j ≡ s.named + suc j = omega arith in ap (slice_get (groups_of s.blocks.numbers)) e ∙ same (suc j))) in
+      (let e : s.named + 1 + j ≡ s.named + suc j = omega arith in ap (slice_get (groups_of s.blocks.numbers)) e ∙ same (suc j))) in
       let count : s.named + 1 + length groups ≡ s.named + suc (length groups) = omega arith in
       record {
         stage = later.stage;
         opens = later.opens;
-        runs = (s1, group_goes_on s s.stage group refl may known.0.0 known.0.1 found,
-            subst (λ (n : ℕ). Runs edges routers s1 (words_of (map (named_group_line names) groups)) (record s1 { stage = later.stage; named = n })) count
-                later.runs);
+        runs = (
+          s1,
+          group_goes_on s s.stage group refl may known.0.0 known.0.1 found,
+          subst (λ (n : ℕ). Runs edges routers s1 (words_of (map (named_group_line names) groups)) (record s1 { stage = later.stage; named = n })) count
+              later.runs,
+        );
       }
 
   -- ---- the end
@@ -314,14 +323,14 @@ module _ (graph : ActGraph) (names : List (List ℕ)) (can : CanBeNamed graph na
 
   lines_run : (c : Certificate) (accepted : IsAccepted graph c) → AreGroups c.groups
       → (last : Standing) × Runs edges routers (opening graph) (words_of (certificate_lines edges names c)) last × (last.stage ≡ Closed)
-          × (certificate_of last ≡ c)
+      × (certificate_of last ≡ c)
   lines_run c accepted known =
       let blocks = accepted.blocks in
       let s0 : Standing = record (opening graph) { stage = Splitting } in
       let s1 : Standing = record s0 { splits = [] ++ c.splits; blocks = blocks } in
       let splits = splits_run c.splits s0 blocks refl first_in_use (first_reached graph).total accepted.split in
       let named = groups_run c.groups s1 (inl refl) known (λ j. ap (slice_get (groups_of blocks.numbers)) (let e : 0 + j ≡ j = omega arith in e)
-          ∙ ap (λ (gs : List (List ℕ)). slice_get gs j) (sym accepted.groups)) in
+      ∙ ap (λ (gs : List (List ℕ)). slice_get gs j) (sym accepted.groups)) in
       let s2 : Standing = record s1 { stage = named.stage; named = 0 + length c.groups } in
       let s3 : Standing = record s2 { stage = Closed } in
       let even = admissible_even graph blocks.numbers accepted.admissible in
@@ -329,9 +338,12 @@ module _ (graph : ActGraph) (names : List (List ℕ)) (can : CanBeNamed graph na
       let tail : Runs edges routers s2 (end_line.words ∷ []) s3 = (s3, ends, refl) in
       let from_groups = runs_on edges routers s1 s2 s3 (words_of (map (named_group_line names) c.groups)) (end_line.words ∷ []) named.runs tail in
       let from_splits = runs_on edges routers s0 s1 s3 (words_of (map (split_line edges names) c.splits))
-          (words_of (map (named_group_line names) c.groups) ++ (end_line.words ∷ [])) splits from_groups in
-      (s3, subst (λ ws. Runs edges routers (opening graph) ws s3) (sym words_are) (s0, head_says edges routers (opening graph) refl, from_splits), refl,
-          ap (λ gs. record { splits = c.splits; groups = gs }) (sym accepted.groups))
+      (words_of (map (named_group_line names) c.groups) ++ (end_line.words ∷ [])) splits from_groups in (
+        s3,
+        subst (λ ws. Runs edges routers (opening graph) ws s3) (sym words_are) (s0, head_says edges routers (opening graph) refl, from_splits),
+        refl,
+        ap (λ gs. record { splits = c.splits; groups = gs }) (sym accepted.groups),
+      )
     where
       first_in_use : AreInUse (first_blocks graph).numbers (first_blocks graph).count
       first_in_use = first_blocks_used graph
@@ -341,9 +353,9 @@ module _ (graph : ActGraph) (names : List (List ℕ)) (can : CanBeNamed graph na
       words_are =
           map-append (λ (l : TextLine). l.words) ((head_line ∷ map (split_line edges names) c.splits) ++ map (named_group_line names) c.groups) (end_line ∷ [])
           ∙ ap (λ ws. ws ++ (end_line.words ∷ [])) (map-append (λ (l : TextLine). l.words) (head_line ∷ map (split_line edges names) c.splits)
-              (map (named_group_line names) c.groups))
+          (map (named_group_line names) c.groups))
           ∙ append_assoc (head_line.words ∷ words_of (map (split_line edges names) c.splits)) (words_of (map (named_group_line names) c.groups))
-              (end_line.words ∷ [])
+          (end_line.words ∷ [])
 
   -- ---- the lines print
 
@@ -353,8 +365,10 @@ module _ (graph : ActGraph) (names : List (List ℕ)) (can : CanBeNamed graph na
 
   groups_print : (groups : List (List ℕ)) → AreGroups groups → AllByRecursion IsPrintedLine (map (named_group_line names) groups)
   groups_print [] known = tt
-  groups_print (group ∷ groups) known = (record { some = omega arith; words = (word_as_tested (codes "group") refl, names_print group known.0.1) },
-      groups_print groups known.1)
+  groups_print (group ∷ groups) known = (
+    record { some = omega arith; words = (word_as_tested (codes "group") refl, names_print group known.0.1) },
+    groups_print groups known.1,
+  )
 
   splits_print : (splits : List Split) (blocks last : Blocks) → AreInUse blocks.numbers blocks.count → length blocks.numbers ≡ graph.count
       → AreAfter graph blocks splits last → AllByRecursion IsPrintedLine (map (split_line edges names) splits)
@@ -363,15 +377,22 @@ module _ (graph : ActGraph) (names : List (List ℕ)) (can : CanBeNamed graph na
       let small = small_block blocks split next used total is in
       let none : Edge = record { importer = 0; exporter = 0; act = 0; link = 0 } in
       let known : edge_importer edges split.edge < length names =
-          (let h = graph.importers_in_range split.edge none inside in let e = importer_is edges split.edge none inside in let t = can.one_each in omega arith)
-              in (
+      (let h = graph.importers_in_range split.edge none inside in let e = importer_is edges split.edge none inside in let t = can.one_each in omega arith)
+      in (
         record {
           some = omega arith;
           words = (
             word_as_tested (codes "split") refl,
-            (decimal_prints split.block small.0, (decimal_prints split.by small.1,
-                (router_name_prints (printed_name names (edge_importer edges split.edge)) (name_is names (edge_importer edges split.edge) can.each known),
-                    (decimal_prints (edge_link edges split.edge) (link_known edges split.edge can.links inside), tt)))),
+            (
+              decimal_prints split.block small.0,
+              (
+                decimal_prints split.by small.1,
+                (
+                  router_name_prints (printed_name names (edge_importer edges split.edge)) (name_is names (edge_importer edges split.edge) can.each known),
+                  (decimal_prints (edge_link edges split.edge) (link_known edges split.edge can.links inside), tt),
+                ),
+              ),
+            ),
           );
         },
         splits_print splits next last (used_next blocks split next used is) (split_total edges blocks split next is ∙ total) rest,
@@ -385,10 +406,16 @@ module _ (graph : ActGraph) (names : List (List ℕ)) (can : CanBeNamed graph na
   lines_print : (c : Certificate) → IsAccepted graph c → AreGroups c.groups → AllByRecursion IsPrintedLine (certificate_lines edges names c)
   lines_print c accepted known =
       both_print ((head_line ∷ map (split_line edges names) c.splits) ++ map (named_group_line names) c.groups) (end_line ∷ [])
-      (both_print (head_line ∷ map (split_line edges names) c.splits) (map (named_group_line names) c.groups)
-      (record { some = omega arith; words = (word_as_tested (codes "bonsai") refl,
-          (word_as_tested (codes "certificate") refl, (word_as_tested (codes "1") refl, tt))) },
-              splits_print c.splits (first_blocks graph) accepted.blocks (first_blocks_used graph) (first_reached graph).total accepted.split)
+      (both_print (head_line ∷ map (split_line edges names) c.splits) (map (named_group_line names) c.groups) (
+        record {
+          some = omega arith;
+          words = (
+            word_as_tested (codes "bonsai") refl,
+            (word_as_tested (codes "certificate") refl, (word_as_tested (codes "1") refl, tt)),
+          );
+        },
+        splits_print c.splits (first_blocks graph) accepted.blocks (first_blocks_used graph) (first_reached graph).total accepted.split,
+      )
       (groups_print c.groups known))
       (record { some = omega arith; words = (word_as_tested (codes "end") refl, tt) }, tt)
 
@@ -417,8 +444,10 @@ group_fine numbers count n total given = (
 groups_fine : (numbers : List ℕ) (count : ℕ) (ns : List ℕ) → length numbers ≡ count → ((n : ℕ) → In ns n → has numbers n ≡ true)
     → AllByRecursion (λ (group : List ℕ). (0 < length group) × AllByRecursion (λ u. u < count) group) (map (members_of numbers) ns)
 groups_fine numbers count [] total each = tt
-groups_fine numbers count (n ∷ ns) total each = (group_fine numbers count n total (each n (inl refl)),
-    groups_fine numbers count ns total (λ m h. each m (inr h)))
+groups_fine numbers count (n ∷ ns) total each = (
+  group_fine numbers count n total (each n (inl refl)),
+  groups_fine numbers count ns total (λ m h. each m (inr h)),
+)
 
 pub all_groups : (numbers : List ℕ) (count : ℕ) → length numbers ≡ count
     → AllByRecursion (λ (group : List ℕ). (0 < length group) × AllByRecursion (λ u. u < count) group) (groups_of numbers)
@@ -440,12 +469,12 @@ printed_is_read_back graph names c can accepted =
     let reached = all_reached graph c.splits (first_blocks graph) accepted.blocks (first_reached graph) accepted.split in
     let known : AllByRecursion (λ (group : List ℕ). (0 < length group) × AllByRecursion (λ u. u < length names) group) c.groups =
     subst (λ (gs : List (List ℕ)). AllByRecursion (λ (group : List ℕ). (0 < length group) × AllByRecursion (λ u. u < length names) group) gs)
-        (sym accepted.groups) (all_groups accepted.blocks.numbers (length names) (reached.total ∙ sym can.one_each)) in
+    (sym accepted.groups) (all_groups accepted.blocks.numbers (length names) (reached.total ∙ sym can.one_each)) in
     let lines = certificate_lines graph.edges names c in
     let bs = lines_text lines in
     let ls = map (text_line bs) (all_lines_of bs) in
     let same = words_same ls lines (all_lines_back lines (lines_print graph names can c accepted known)) in
     let (last, runs, closes, is) = lines_run graph names can c accepted known in
     run_ends graph.edges (router_named names) (length (all_lines_of bs) + 1) ls (opening graph) last
-        (subst (λ (ws : List (List (List ℕ))). Runs graph.edges (router_named names) (opening graph) ws last) (sym same) runs) closes
-            ∙ ap (λ (x : Certificate). Ok x) is
+    (subst (λ (ws : List (List (List ℕ))). Runs graph.edges (router_named names) (opening graph) ws last) (sym same) runs) closes
+    ∙ ap (λ (x : Certificate). Ok x) is

@@ -108,7 +108,7 @@ parted_more f r rs (n ∷ ns) = by (nat_eq (f r) n) refl (parted_more f r rs ns)
   where
     by : (b : Bool) → nat_eq (f r) n ≡ b → total (parted f (r ∷ rs) ns) ≡ hits (f r) ns + total (parted f rs ns)
         → length (cond b (r ∷ filter (λ k. nat_eq (f k) n) rs) (filter (λ k. nat_eq (f k) n) rs)) + total (parted f (r ∷ rs) ns)
-            ≡ cond b 1 0 + hits (f r) ns + (length (filter (λ k. nat_eq (f k) n) rs) + total (parted f rs ns))
+        ≡ cond b 1 0 + hits (f r) ns + (length (filter (λ k. nat_eq (f k) n) rs) + total (parted f rs ns))
     by true e more = omega (arith, more)
     by false e more = omega (arith, more)
 
@@ -119,8 +119,11 @@ parted_few f (r ∷ rs) ns once = omega (arith, parted_more f r rs ns, hits_few 
 groups_few : (numbers : List ℕ) → (total (groups_of numbers) ≤ length numbers) × (length (groups_of numbers) ≤ length numbers)
 unfolding groups_of
 groups_few numbers = (
-  omega (arith, parted_few (slice_index numbers) (range_with_len 0 (length numbers)) (distinct numbers) (distinct_once numbers),
-      length-range_with_len 0 (length numbers)),
+  omega (
+    arith,
+    parted_few (slice_index numbers) (range_with_len 0 (length numbers)) (distinct numbers) (distinct_once numbers),
+    length-range_with_len 0 (length numbers),
+  ),
   omega (arith, map_long (members_of numbers) (distinct numbers), distinct_few numbers),
 )
   where
@@ -162,8 +165,8 @@ module _ (graph : ActGraph) (names : List (List ℕ)) (can : CanBeNamed graph na
       let small = small_block graph names can blocks split next used long is in
       let none : Edge = record { importer = 0; exporter = 0; act = 0; link = 0 } in
       let known : edge_importer graph.edges split.edge < length names =
-          (let h = graph.importers_in_range split.edge none inside in let e = importer_is graph.edges split.edge none inside in let t = can.one_each in
-              omega arith) in
+      (let h = graph.importers_in_range split.edge none inside in let e = importer_is graph.edges split.edge none inside in let t = can.one_each in
+      omega arith) in
       omega (
         arith,
         number_short split.block small.0,
@@ -181,7 +184,7 @@ module _ (graph : ActGraph) (names : List (List ℕ)) (can : CanBeNamed graph na
       let numbers = accepted.blocks.numbers in
       let known : AllByRecursion (λ (group : List ℕ). (0 < length group) × AllByRecursion (λ u. u < length names) group) c.groups =
       subst (λ (gs : List (List ℕ)). AllByRecursion (λ (group : List ℕ). (0 < length group) × AllByRecursion (λ u. u < length names) group) gs)
-          (sym accepted.groups) (all_groups numbers (length names) (reached.total ∙ sym can.one_each)) in
+      (sym accepted.groups) (all_groups numbers (length names) (reached.total ∙ sym can.one_each)) in
       let fit = groups_few numbers in
       let first = head_line ∷ map (split_line graph.edges names) c.splits in
       let middle = map (named_group_line names) c.groups in

@@ -218,7 +218,7 @@ pub kept_turn : (blocks : Blocks) (subnets around : Pairs) (lens : List ℕ) (xs
 kept_turn blocks subnets around lens xs i x below here kept adds_subnet adds_around = record {
   subnets = λ len number. adds_subnet.each len number ∙ ap (λ (t : Bool). subnet_is_block len number x || t) (kept.subnets len number)
       ∙ sym (cond_or (subnet_is_block len number x) (list_any (subnet_is_block len number) (take i xs)))
-          ∙ any_more (subnet_is_block len number) xs i x below here;
+      ∙ any_more (subnet_is_block len number) xs i x below here;
   around = λ len number.
       adds_around.each len number
       ∙ ap (λ (t : Bool). (has lens len && is_around len number x) || t) (kept.around len number)

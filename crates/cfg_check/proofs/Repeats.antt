@@ -48,7 +48,7 @@ least_if line false x = refl
 
 pub least_repeat-push : {X : Type 0} (alike : X → X → Bool) (line : X → ℕ) (xs : List X) (x : X) →
     least_line (map line (repeats alike (xs ++ x ∷ []))) ≡ lesser_line (least_line (map line (repeats alike xs)))
-        (fault_line_if (list_any (alike x) xs) (line x))
+    (fault_line_if (list_any (alike x) xs) (line x))
 least_repeat-push alike line xs x =
     let last = cond (list_any (alike x) xs) (x ∷ []) [] in
     ap (λ l. least_line (map line l)) (repeats-push alike xs x)

@@ -35,7 +35,7 @@ unfolding match_comms_line
 match_comms_text exact l =
     let mark : List (List ℕ) = if exact then codes "exact-match" ∷ [] else [] in
     ap (λ (xs : List ℕ). codes " match " ++ xs ++ 10 ∷ []) (joined (codes "community") (l.names ++ mark))
-        ∙ ap (λ (xs : List ℕ). codes " match community" ++ xs ++ 10 ∷ []) (spaced_both l.names mark)
+    ∙ ap (λ (xs : List ℕ). codes " match community" ++ xs ++ 10 ∷ []) (spaced_both l.names mark)
     ∙ ap (λ (xs : List ℕ). xs ++ 10 ∷ []) (sym (append_assoc (codes " match community") (spaced_words l.names) (spaced_words mark)))
 
 pub clear_text : line_text (change_line Clear) ≡ codes " set community none\n"
@@ -53,7 +53,7 @@ append_text comms =
     let words = map community_text comms in
     let mark : List (List ℕ) = codes "additive" ∷ [] in
     ap (λ (xs : List ℕ). codes " set " ++ xs ++ 10 ∷ []) (joined (codes "community") (words ++ mark))
-        ∙ ap (λ (xs : List ℕ). codes " set community" ++ xs ++ 10 ∷ []) (spaced_both words mark)
+    ∙ ap (λ (xs : List ℕ). codes " set community" ++ xs ++ 10 ∷ []) (spaced_both words mark)
     ∙ ap (λ (xs : List ℕ). codes " set community" ++ xs) (append_assoc (spaced_words words) (codes " additive") (10 ∷ []))
 
 pub prepend_text : (p : Prepend) → line_text (prepend_line p) ≡ codes " set as-path prepend" ++ spaced_words (map decimal p.numbers) ++ 10 ∷ []
@@ -62,20 +62,20 @@ prepend_text p = ap (λ (xs : List ℕ). codes " set as-path " ++ xs ++ 10 ∷ [
 
 pub community_line_text : (name : List ℕ) (c : CommunityLine)
     → line_text (community_list_line name c) ≡ codes "ip community-list" ++ spaced_words (community_list_name name) ++ spaced (act_text c.permit)
-        ++ spaced_words (map community_text c.comms) ++ 10 ∷ []
+    ++ spaced_words (map community_text c.comms) ++ 10 ∷ []
 unfolding community_list_line
 community_line_text name c =
     let words = map community_text c.comms in
     let names = community_list_name name in
     ap (λ (xs : List ℕ). codes "ip " ++ xs ++ 10 ∷ []) (joined (codes "community-list") (names ++ act_text c.permit ∷ words))
-        ∙ ap (λ (xs : List ℕ). codes "ip community-list" ++ xs ++ 10 ∷ []) (spaced_both names (act_text c.permit ∷ words))
+    ∙ ap (λ (xs : List ℕ). codes "ip community-list" ++ xs ++ 10 ∷ []) (spaced_both names (act_text c.permit ∷ words))
     ∙ ap (λ (xs : List ℕ). xs ++ 10 ∷ []) (sym (append_assoc (codes "ip community-list") (spaced_words names)
-        (spaced (act_text c.permit) ++ spaced_words words)) ∙ sym
-            (append_assoc (codes "ip community-list" ++ spaced_words names) (spaced (act_text c.permit)) (spaced_words words)))
+    (spaced (act_text c.permit) ++ spaced_words words)) ∙ sym
+    (append_assoc (codes "ip community-list" ++ spaced_words names) (spaced (act_text c.permit)) (spaced_words words)))
 
 regroup : (n d a p g l : List ℕ)
     → codes "ip prefix-list " ++ (n ++ 32 ∷ (codes "seq" ++ 32 ∷ (d ++ 32 ∷ (a ++ 32 ∷ (p ++ (g ++ l)))))) ++ 10 ∷ [] ≡ codes "ip prefix-list" ++ spaced n
-        ++ codes " seq" ++ spaced d ++ spaced a ++ codes " " ++ p ++ g ++ l ++ 10 ∷ []
+    ++ codes " seq" ++ spaced d ++ spaced a ++ codes " " ++ p ++ g ++ l ++ 10 ∷ []
 regroup n d a p g l = simp append_assoc
 
 pub prefix_entry_text : (name : List ℕ) (e : PrefixEntry) → line_text (prefix_entry_line name e) ≡ prefix_entry_head name e
@@ -85,7 +85,7 @@ prefix_entry_text name e =
     let ge = bound_words (codes "ge") e.ge in
     let le = bound_words (codes "le") e.le in
     ap (λ (xs : List ℕ). codes "ip prefix-list " ++ (name ++ 32 ∷ (codes "seq" ++ 32 ∷ (decimal e.seq ++ 32 ∷ (act_text e.permit ++ 32 ∷ xs)))) ++ 10 ∷ [])
-        (joined (prefix_text e.prefix) (ge ++ le) ∙ ap (λ (ys : List ℕ). prefix_text e.prefix ++ ys) (spaced_both ge le))
+    (joined (prefix_text e.prefix) (ge ++ le) ∙ ap (λ (ys : List ℕ). prefix_text e.prefix ++ ys) (spaced_both ge le))
     ∙ regroup name (decimal e.seq) (act_text e.permit) (prefix_text e.prefix) (spaced_words ge) (spaced_words le)
 
 pub map_head_text : (name : List ℕ) (e : MapEntry) → lines_text (map_head_line name e ∷ []) ≡ codes "route-map" ++ spaced name ++ spaced (act_text e.permit)

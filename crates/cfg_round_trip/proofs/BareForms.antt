@@ -81,7 +81,7 @@ network_same line (_ ∷ address ∷ []) = given_same bare_item (address_word ad
     (λ addr. given_same bare_item (classful_len_of addr) _ _ (λ len. net_same line addr len))
 network_same line (_ ∷ address ∷ word ∷ mask ∷ []) =
     fits_same bare_item (bytes_eq word (codes "mask")) _ _ (given_same bare_item (address_word address) _ _
-        (λ addr. given_same bare_item (mask_len_of mask) _ _ (λ len. net_same line addr len)))
+    (λ addr. given_same bare_item (mask_len_of mask) _ _ (λ len. net_same line addr len)))
 network_same line _ = refl
 
 remote_as_same : (words : List (List ℕ)) → remote_as_form words ≡ on_ok bare_item (remote_as_form words)
@@ -121,7 +121,7 @@ area_same : (line : ℕ) (words : List (List ℕ)) → area_form 0 words ≡ on_
 unfolding area_form
 area_same line (_ ∷ address ∷ wildcard ∷ word ∷ number ∷ []) =
     fits_same bare_item (bytes_eq word (codes "area")) _ _ (given_same bare_item (address_word address) _ _
-        (λ addr. given_same bare_item (address_word wildcard) _ _ (λ wild. given_same bare_item (area_word number) _ _ (λ area. refl))))
+    (λ addr. given_same bare_item (address_word wildcard) _ _ (λ wild. given_same bare_item (area_word number) _ _ (λ area. refl))))
 area_same line _ = refl
 
 passive_same : (words : List (List ℕ)) → passive_form words ≡ on_ok bare_item (passive_form words)
@@ -197,7 +197,7 @@ list_line_same line (_ ∷ _ ∷ word ∷ []) = refl
 list_line_same line (_ ∷ _ ∷ word ∷ next ∷ []) = refl
 list_line_same line (_ ∷ _ ∷ word ∷ next ∷ third ∷ words) =
     either_same bare_policy (bytes_eq word (codes "standard")) _ _ _ _ (community_line_same line next third words)
-        (numbered_same line word next (third ∷ words))
+    (numbered_same line word next (third ∷ words))
 list_line_same line _ = refl
 
 map_head_same : (line : ℕ) (words : List (List ℕ)) → map_head_form 0 words ≡ on_ok bare_policy (map_head_form line words)

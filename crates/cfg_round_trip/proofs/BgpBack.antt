@@ -126,42 +126,42 @@ sends_stage b done addr remote shut true is new =
 list_in_stage : (b : BgpProcess) (done : List Neighbor) (addr remote : ℕ) (shut sends : Bool) (o : Option Named) → IsNumber addr → IsNewTo done addr →
     IfSome o IsWellFormedNamed
     → Lasts b done (line_of_given (applied_line addr (codes "prefix-list") (codes "in")) o) (neighbor_with addr remote shut sends None None None None)
-        (neighbor_with addr remote shut sends (option_map bare_named o) None None None)
+    (neighbor_with addr remote shut sends (option_map bare_named o) None None None)
 unfolding applied_line set_neighbor
 list_in_stage b done addr remote shut sends None is new named = inner_none _
 list_in_stage b done addr remote shut sends (Some list) is new named =
     inner_line (applied_line addr (codes "prefix-list") (codes "in") list) _ _ refl refl
-        (peer_taken (applied_line addr (codes "prefix-list") (codes "in") list) b done _ _ _ (peer_list_item addr true list is named) refl refl new refl)
+    (peer_taken (applied_line addr (codes "prefix-list") (codes "in") list) b done _ _ _ (peer_list_item addr true list is named) refl refl new refl)
 
 list_out_stage : (b : BgpProcess) (done : List Neighbor) (addr remote : ℕ) (shut sends : Bool) (li o : Option Named) → IsNumber addr → IsNewTo done addr →
     IfSome o IsWellFormedNamed
     → Lasts b done (line_of_given (applied_line addr (codes "prefix-list") (codes "out")) o) (neighbor_with addr remote shut sends li None None None)
-        (neighbor_with addr remote shut sends li (option_map bare_named o) None None)
+    (neighbor_with addr remote shut sends li (option_map bare_named o) None None)
 unfolding applied_line set_neighbor
 list_out_stage b done addr remote shut sends li None is new named = inner_none _
 list_out_stage b done addr remote shut sends li (Some list) is new named =
     inner_line (applied_line addr (codes "prefix-list") (codes "out") list) _ _ refl refl
-        (peer_taken (applied_line addr (codes "prefix-list") (codes "out") list) b done _ _ _ (peer_list_item addr false list is named) refl refl new refl)
+    (peer_taken (applied_line addr (codes "prefix-list") (codes "out") list) b done _ _ _ (peer_list_item addr false list is named) refl refl new refl)
 
 map_in_stage : (b : BgpProcess) (done : List Neighbor) (addr remote : ℕ) (shut sends : Bool) (li lo o : Option Named) → IsNumber addr → IsNewTo done addr →
     IfSome o IsWellFormedNamed
     → Lasts b done (line_of_given (applied_line addr (codes "route-map") (codes "in")) o) (neighbor_with addr remote shut sends li lo None None)
-        (neighbor_with addr remote shut sends li lo (option_map bare_named o) None)
+    (neighbor_with addr remote shut sends li lo (option_map bare_named o) None)
 unfolding applied_line set_neighbor
 map_in_stage b done addr remote shut sends li lo None is new named = inner_none _
 map_in_stage b done addr remote shut sends li lo (Some m) is new named =
     inner_line (applied_line addr (codes "route-map") (codes "in") m) _ _ refl refl
-        (peer_taken (applied_line addr (codes "route-map") (codes "in") m) b done _ _ _ (peer_map_item addr true m is named) refl refl new refl)
+    (peer_taken (applied_line addr (codes "route-map") (codes "in") m) b done _ _ _ (peer_map_item addr true m is named) refl refl new refl)
 
 map_out_stage : (b : BgpProcess) (done : List Neighbor) (addr remote : ℕ) (shut sends : Bool) (li lo mi o : Option Named) → IsNumber addr → IsNewTo done addr →
     IfSome o IsWellFormedNamed
     → Lasts b done (line_of_given (applied_line addr (codes "route-map") (codes "out")) o) (neighbor_with addr remote shut sends li lo mi None)
-        (neighbor_with addr remote shut sends li lo mi (option_map bare_named o))
+    (neighbor_with addr remote shut sends li lo mi (option_map bare_named o))
 unfolding applied_line set_neighbor
 map_out_stage b done addr remote shut sends li lo mi None is new named = inner_none _
 map_out_stage b done addr remote shut sends li lo mi (Some m) is new named =
     inner_line (applied_line addr (codes "route-map") (codes "out") m) _ _ refl refl
-        (peer_taken (applied_line addr (codes "route-map") (codes "out") m) b done _ _ _ (peer_map_item addr false m is named) refl refl new refl)
+    (peer_taken (applied_line addr (codes "route-map") (codes "out") m) b done _ _ _ (peer_map_item addr false m is named) refl refl new refl)
 
 neighbor_inner : (b : BgpProcess) (p : Neighbor) → IsWellFormedNeighbor p → IsNewTo b.neighbors p.addr →
     Inner (neighbor_lines p) (in_bgp b) (in_bgp (ends_with b b.neighbors (bare_neighbor p)))

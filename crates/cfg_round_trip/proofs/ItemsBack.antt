@@ -138,7 +138,7 @@ pub area_item : (area : AreaLine) → IsWellFormedArea area → router_item_of s
 unfolding network_area_line router_form area_form
 area_item area is =
     of_head scope.Ospf form.Area _ _ (area_head (address_text area.addr ∷ address_text area.wild ∷ codes "area" ∷ decimal area.area ∷ []))
-        (rw (address_back area.addr is.addr, address_back area.wild is.wild, area_back area.area is.area) refl)
+    (rw (address_back area.addr is.addr, address_back area.wild is.wild, area_back area.area is.area) refl)
 
 pub passive_default_item : router_item_of scope.Ospf 0 passive_default_line.words ≡ Ok item.PassiveDefault
 unfolding router_form passive_form

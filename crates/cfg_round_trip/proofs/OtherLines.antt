@@ -143,13 +143,15 @@ neighbor_others p =
     let f = line_of_given (applied_line p.addr (codes "route-map") (codes "out")) p.map_out in
     let two = more a b (chosen_other p.shut (peer_shut_line p.addr) (shut_other p.addr)) (chosen_other p.sends (peer_sends_line p.addr) (sends_other p.addr)) in
     let three = more (a ++ b) c two (some_other (applied_line p.addr (codes "prefix-list") (codes "in"))
-        (applied_other p.addr (codes "prefix-list") (codes "in")) p.list_in) in
+    (applied_other p.addr (codes "prefix-list") (codes "in")) p.list_in) in
     let four = more (a ++ b ++ c) d three (some_other (applied_line p.addr (codes "prefix-list") (codes "out"))
-        (applied_other p.addr (codes "prefix-list") (codes "out")) p.list_out) in
+    (applied_other p.addr (codes "prefix-list") (codes "out")) p.list_out) in
     let five = more (a ++ b ++ c ++ d) e four (some_other (applied_line p.addr (codes "route-map") (codes "in"))
-        (applied_other p.addr (codes "route-map") (codes "in")) p.map_in) in
-    (remote_other p.addr p.remote, more (a ++ b ++ c ++ d ++ e) f five
-        (some_other (applied_line p.addr (codes "route-map") (codes "out")) (applied_other p.addr (codes "route-map") (codes "out")) p.map_out))
+    (applied_other p.addr (codes "route-map") (codes "in")) p.map_in) in (
+      remote_other p.addr p.remote,
+      more (a ++ b ++ c ++ d ++ e) f five
+          (some_other (applied_line p.addr (codes "route-map") (codes "out")) (applied_other p.addr (codes "route-map") (codes "out")) p.map_out),
+    )
 
 pub bgp_others : (b : BgpProcess) → AreOthers (bgp_lines b)
 unfolding bgp_lines
@@ -157,9 +159,10 @@ bgp_others b =
     let x = line_of_given base_line b.base in
     let y = map network_line b.networks in
     let z = flat_map neighbor_lines b.neighbors in
-    let two = more x y (some_other base_line base_other b.base) (all_map network_line network_other b.networks) in
-    (top_other (codes "router") (codes "bgp") (decimal b.number ∷ []) refl,
-        more (x ++ y ++ z) (closing ∷ []) (more (x ++ y) z two (all_flat_map neighbor_lines neighbor_others b.neighbors)) last)
+    let two = more x y (some_other base_line base_other b.base) (all_map network_line network_other b.networks) in (
+      top_other (codes "router") (codes "bgp") (decimal b.number ∷ []) refl,
+      more (x ++ y ++ z) (closing ∷ []) (more (x ++ y) z two (all_flat_map neighbor_lines neighbor_others b.neighbors)) last,
+    )
 
 -- ---- OSPF
 
@@ -181,10 +184,11 @@ ospf_others o =
     let y = map not_passive_line o.not_passive in
     let z = map network_area_line o.areas in
     let two = more w x (chosen_other o.passive_default passive_default_line (inner_other (codes "passive-interface") (codes "default" ∷ []) refl))
-        (all_map passive_line passive_other o.passive) in
-    let three = more (w ++ x) y two (all_map not_passive_line not_passive_other o.not_passive) in
-    (top_other (codes "router") (codes "ospf") (decimal o.number ∷ []) refl,
-        more (w ++ x ++ y ++ z) (closing ∷ []) (more (w ++ x ++ y) z three (all_map network_area_line area_other o.areas)) last)
+    (all_map passive_line passive_other o.passive) in
+    let three = more (w ++ x) y two (all_map not_passive_line not_passive_other o.not_passive) in (
+      top_other (codes "router") (codes "ospf") (decimal o.number ∷ []) refl,
+      more (w ++ x ++ y ++ z) (closing ∷ []) (more (w ++ x ++ y) z three (all_map network_area_line area_other o.areas)) last,
+    )
 
 -- ---- lists
 

@@ -205,7 +205,7 @@ pub prefix_entry_item : (name : List ℕ) (e : PrefixEntry) → IsListName name 
 unfolding prefix_entry_line policy_form prefix_entry_form
 prefix_entry_item name e named is =
     of_head scope.Top form.PrefixEntry _ _ (prefix_list_head name
-        (decimal e.seq ∷ act_text e.permit ∷ prefix_text e.prefix ∷ bound_words (codes "ge") e.ge ++ bound_words (codes "le") e.le))
+    (decimal e.seq ∷ act_text e.permit ∷ prefix_text e.prefix ∷ bound_words (codes "ge") e.ge ++ bound_words (codes "le") e.le))
     (rw (
       between_back 1 4294967295 e.seq is.seq.1 is.seq,
       permit_back e.permit,
@@ -259,19 +259,19 @@ other_swap word name digit letter = elim (cases_Bool (bytes_eq name word)) [
 numbered_item : (name : List ℕ) (c : CommunityLine) → IsListName name → IsCommunitySet c.comms → is_some (number_between 1 99 name) ≡ true →
     (d : ℕ) (comms : List ℕ) → c.comms ≡ d ∷ comms
     → policy_item_of scope.Top 0 (codes "ip" ∷ codes "community-list" ∷ name ∷ act_text c.permit ∷ texts c.comms)
-        ≡ Ok (item.CommunityLine name (bare_community_line c))
+    ≡ Ok (item.CommunityLine name (bare_community_line c))
 unfolding policy_form community_line_form numbered_line
 numbered_item name c named is number d comms some =
     let first = number_first name number in
     of_head scope.Top form.CommunityLine _ _ (numbered_head name (act_text c.permit ∷ texts c.comms) (other_swap name (codes "expanded") first (omega arith))
-        (small_number name number))
+    (small_number name number))
     (ap (λ (cs : List ℕ). community_line_form 0 (codes "ip" ∷ codes "community-list" ∷ name ∷ act_text c.permit ∷ texts cs)) some
     ∙ rw (other_word name (codes "standard") first (omega arith), number)
-        (ap (λ (cs : List ℕ). community_line 0 name (act_text c.permit) (texts cs)) (sym some) ∙ community_line_back name c named is))
+    (ap (λ (cs : List ℕ). community_line 0 name (act_text c.permit) (texts cs)) (sym some) ∙ community_line_back name c named is))
 
 standard_item : (name : List ℕ) (c : CommunityLine) → IsListName name → IsCommunitySet c.comms
     → policy_item_of scope.Top 0 (codes "ip" ∷ codes "community-list" ∷ codes "standard" ∷ name ∷ act_text c.permit ∷ texts c.comms)
-        ≡ Ok (item.CommunityLine name (bare_community_line c))
+    ≡ Ok (item.CommunityLine name (bare_community_line c))
 unfolding policy_form community_line_form
 standard_item name c named is = of_head scope.Top form.CommunityLine _ _ (standard_head (name ∷ act_text c.permit ∷ texts c.comms))
     (community_line_back name c named is)
@@ -279,7 +279,7 @@ standard_item name c named is = of_head scope.Top form.CommunityLine _ _ (standa
 some_community : (name : List ℕ) (c : CommunityLine) → IsListName name → IsCommunitySet c.comms → is_some (number_between 1 99 name) ≡ true → (comms : List ℕ) →
     c.comms ≡ comms
     → policy_item_of scope.Top 0 (codes "ip" ∷ codes "community-list" ∷ name ∷ act_text c.permit ∷ texts c.comms)
-        ≡ Ok (item.CommunityLine name (bare_community_line c))
+    ≡ Ok (item.CommunityLine name (bare_community_line c))
 some_community name c named is number [] none = let low = is.count.0 in absurd (omega (arith, ap (λ (cs : List ℕ). length cs) none))
 some_community name c named is number (d ∷ comms) some = numbered_item name c named is number d comms some
 
@@ -290,7 +290,7 @@ community_item name c named is = by (is_some (number_between 1 99 name)) refl
   where
     by : (b : Bool) → is_some (number_between 1 99 name) ≡ b
         → policy_item_of scope.Top 0 (codes "ip" ∷ codes "community-list" ∷ (if b then name ∷ [] else codes "standard" ∷ name ∷ []) ++ act_text c.permit
-            ∷ texts c.comms) ≡ Ok (item.CommunityLine name (bare_community_line c))
+        ∷ texts c.comms) ≡ Ok (item.CommunityLine name (bare_community_line c))
     by true number = some_community name c named is number c.comms refl
     by false other = standard_item name c named is
 
@@ -365,8 +365,12 @@ replace_back comms is = rw (no_none comms is.each, no_mark comms is.each, commun
 
 append_back : (comms : List ℕ) → IsCommunitySet comms → change_of (texts comms ++ codes "additive" ∷ []) ≡ Ok (Append comms)
 unfolding change_of
-append_back comms is = rw (no_none_marked comms is.count.0, marked_back (codes "additive") (texts comms), but_last_back (texts comms) (codes "additive"),
-    communities_back comms is) refl
+append_back comms is = rw (
+  no_none_marked comms is.count.0,
+  marked_back (codes "additive") (texts comms),
+  but_last_back (texts comms) (codes "additive"),
+  communities_back comms is,
+) refl
 
 pub change_item : (change : Change) → IsWellFormedChange change → policy_item_of scope.Entry 0 (change_line change).words ≡ Ok (item.Comms change)
 unfolding change_line policy_form set_comms_form change_of is_none_alone

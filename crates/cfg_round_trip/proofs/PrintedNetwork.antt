@@ -92,7 +92,7 @@ unfolding cost_line
 cost_is cost is =
     let small = is.1 in
     words_line 1 (codes "ip") (codes "ospf" ∷ codes "cost" ∷ decimal cost ∷ []) (word_as_tested (codes "ip") refl)
-        (word_as_tested (codes "ospf") refl, (word_as_tested (codes "cost") refl, (decimal_prints cost (omega arith), tt)))
+    (word_as_tested (codes "ospf") refl, (word_as_tested (codes "cost") refl, (decimal_prints cost (omega arith), tt)))
 
 shutdown_is : IsPrintedLine shutdown_line
 shutdown_is = words_line 1 (codes "shutdown") [] (word_as_tested (codes "shutdown") refl) tt
@@ -118,14 +118,16 @@ base_is : (base : Base) → IsWellFormedBase base → IsPrintedLine (base_line b
 unfolding base_line
 base_is base is =
     words_line 1 (codes "bgp") (codes "default" ∷ codes "local-preference" ∷ decimal base.value ∷ []) (word_as_tested (codes "bgp") refl)
-        (word_as_tested (codes "default") refl, (word_as_tested (codes "local-preference") refl, (decimal_prints base.value is, tt)))
+    (word_as_tested (codes "default") refl, (word_as_tested (codes "local-preference") refl, (decimal_prints base.value is, tt)))
 
 network_is : (n : NetLine) → IsWellFormedNetLine n → IsPrintedLine (network_line n)
 unfolding network_line
 network_is n is =
     words_line 1 (codes "network") (address_text n.prefix.addr ∷ codes "mask" ∷ address_text (mask_of n.prefix.len) ∷ [])
-        (word_as_tested (codes "network") refl) (address_prints n.prefix.addr is.prefix.addr,
-            (word_as_tested (codes "mask") refl, (mask_prints n.prefix.len, tt)))
+    (word_as_tested (codes "network") refl) (
+      address_prints n.prefix.addr is.prefix.addr,
+      (word_as_tested (codes "mask") refl, (mask_prints n.prefix.len, tt)),
+    )
 
 neighbor_is : (addr : ℕ) (ws : List (List ℕ)) → IsNumber addr → AreWords ws → IsPrintedLine (peer_line addr ws)
 neighbor_is addr ws is more = words_line 1 (codes "neighbor") (address_text addr ∷ ws) (word_as_tested (codes "neighbor") refl) (address_prints addr is, more)
@@ -162,13 +164,13 @@ peer_is p is =
     let e = line_of_given (applied_line p.addr (codes "route-map") (codes "in")) p.map_in in
     let f = line_of_given (applied_line p.addr (codes "route-map") (codes "out")) p.map_out in
     let is_c = some_line IsWellFormedNamed (applied_line p.addr (codes "prefix-list") (codes "in"))
-        (applied_is p.addr (codes "prefix-list") (codes "in") is.addr list inward) p.list_in is.list_in in
+    (applied_is p.addr (codes "prefix-list") (codes "in") is.addr list inward) p.list_in is.list_in in
     let is_d = some_line IsWellFormedNamed (applied_line p.addr (codes "prefix-list") (codes "out"))
-        (applied_is p.addr (codes "prefix-list") (codes "out") is.addr list outward) p.list_out is.list_out in
+    (applied_is p.addr (codes "prefix-list") (codes "out") is.addr list outward) p.list_out is.list_out in
     let is_e = some_line IsWellFormedNamed (applied_line p.addr (codes "route-map") (codes "in"))
-        (applied_is p.addr (codes "route-map") (codes "in") is.addr map inward) p.map_in is.map_in in
+    (applied_is p.addr (codes "route-map") (codes "in") is.addr map inward) p.map_in is.map_in in
     let is_f = some_line IsWellFormedNamed (applied_line p.addr (codes "route-map") (codes "out"))
-        (applied_is p.addr (codes "route-map") (codes "out") is.addr map outward) p.map_out is.map_out in
+    (applied_is p.addr (codes "route-map") (codes "out") is.addr map outward) p.map_out is.map_out in
     let two = each_append IsPrintedLine a b (chosen_line p.shut (peer_shut_line p.addr) (peer_shut_is p.addr is.addr))
     (chosen_line p.sends (peer_sends_line p.addr) (peer_sends_is p.addr is.addr)) in
     let three = each_append IsPrintedLine (a ++ b) c two is_c in
@@ -180,7 +182,7 @@ bgp_is : (b : BgpProcess) → IsWellFormedBgp b → AreLines (bgp_lines b)
 unfolding bgp_lines
 bgp_is b is =
     let head = words_line 0 (codes "router") (codes "bgp" ∷ decimal b.number ∷ []) (word_as_tested (codes "router") refl)
-        (word_as_tested (codes "bgp") refl, (decimal_prints b.number is.number.1, tt)) in
+    (word_as_tested (codes "bgp") refl, (decimal_prints b.number is.number.1, tt)) in
     let x = line_of_given base_line b.base in
     let y = map network_line b.networks in
     let z = flat_map neighbor_lines b.neighbors in
@@ -209,14 +211,14 @@ area_is : (a : AreaLine) → IsWellFormedArea a → IsPrintedLine (network_area_
 unfolding network_area_line
 area_is a is =
     words_line 1 (codes "network") (address_text a.addr ∷ address_text a.wild ∷ codes "area" ∷ decimal a.area ∷ []) (word_as_tested (codes "network") refl)
-        (address_prints a.addr is.addr, (address_prints a.wild is.wild, (word_as_tested (codes "area") refl, (decimal_prints a.area is.area, tt))))
+    (address_prints a.addr is.addr, (address_prints a.wild is.wild, (word_as_tested (codes "area") refl, (decimal_prints a.area is.area, tt))))
 
 ospf_is : (o : OspfProcess) → IsWellFormedOspf o → AreLines (ospf_lines o)
 unfolding ospf_lines
 ospf_is o is =
     let small = is.number.1 in
     let head = words_line 0 (codes "router") (codes "ospf" ∷ decimal o.number ∷ []) (word_as_tested (codes "router") refl)
-        (word_as_tested (codes "ospf") refl, (decimal_prints o.number (omega arith), tt)) in
+    (word_as_tested (codes "ospf") refl, (decimal_prints o.number (omega arith), tt)) in
     let w = line_if o.passive_default passive_default_line in
     let x = map passive_line o.passive in
     let y = map not_passive_line o.not_passive in
@@ -246,12 +248,21 @@ unfolding prefix_entry_line
 prefix_entry_is name named e is =
     let small = bounds_are e.prefix.len e.ge e.le is.bounds in
     let bounds = each_append IsPrintedWord (bound_words (codes "ge") e.ge) (bound_words (codes "le") e.le)
-        (bound_is (codes "ge") (word_as_tested (codes "ge") refl) e.ge small.0) (bound_is (codes "le") (word_as_tested (codes "le") refl) e.le small.1) in
+    (bound_is (codes "ge") (word_as_tested (codes "ge") refl) e.ge small.0) (bound_is (codes "le") (word_as_tested (codes "le") refl) e.le small.1) in
     words_line 0 (codes "ip") (codes "prefix-list" ∷ name ∷ codes "seq" ∷ decimal e.seq ∷ act_text e.permit ∷ prefix_text e.prefix
-        ∷ (bound_words (codes "ge") e.ge ++ bound_words (codes "le") e.le)) (word_as_tested (codes "ip") refl)
-    (word_as_tested (codes "prefix-list") refl, (list_name_prints name named,
-        (word_as_tested (codes "seq") refl, (decimal_prints e.seq is.seq.1,
-            (act_prints e.permit, (prefix_prints e.prefix is.prefix.addr is.prefix.len, bounds))))))
+    ∷ (bound_words (codes "ge") e.ge ++ bound_words (codes "le") e.le)) (word_as_tested (codes "ip") refl) (
+      word_as_tested (codes "prefix-list") refl,
+      (
+        list_name_prints name named,
+        (
+          word_as_tested (codes "seq") refl,
+          (
+            decimal_prints e.seq is.seq.1,
+            (act_prints e.permit, (prefix_prints e.prefix is.prefix.addr is.prefix.len, bounds)),
+          ),
+        ),
+      ),
+    )
 
 prefix_list_is : (l : PrefixList) → IsWellFormedPrefixList l → AreLines (map (prefix_entry_line l.name) l.entries)
 prefix_list_is l is = each_map IsWellFormedPrefixEntry IsPrintedLine (prefix_entry_line l.name) (prefix_entry_is l.name is.name) l.entries is.entries
@@ -266,9 +277,11 @@ community_line_is name named c is =
     let comms = each_map (IsBetween 1 4294901759) IsPrintedWord community_text community_prints c.comms is.each in
     let names = list_name_is (is_some (number_between 1 99 name)) name (list_name_prints name named) in
     words_line 0 (codes "ip") (codes "community-list" ∷ (community_list_name name ++ act_text c.permit ∷ map community_text c.comms))
-        (word_as_tested (codes "ip") refl)
-    (word_as_tested (codes "community-list") refl, each_append IsPrintedWord (community_list_name name) (act_text c.permit ∷ map community_text c.comms) names
-        (act_prints c.permit, comms))
+    (word_as_tested (codes "ip") refl) (
+      word_as_tested (codes "community-list") refl,
+      each_append IsPrintedWord (community_list_name name) (act_text c.permit ∷ map community_text c.comms) names
+          (act_prints c.permit, comms),
+    )
 
 community_list_is : (l : CommunityList) → IsWellFormedCommunityList l → AreLines (map (community_list_line l.name) l.lines)
 community_list_is l is = each_map IsWellFormedCommunityLine IsPrintedLine (community_list_line l.name) (community_line_is l.name is.name) l.lines is.lines
@@ -291,7 +304,7 @@ match_prefixes_is : (l : NameLine) → IsWellFormedNameLine l → IsPrintedLine 
 unfolding match_prefixes_line
 match_prefixes_is l is =
     words_line 1 (codes "match") (codes "ip" ∷ codes "address" ∷ codes "prefix-list" ∷ l.names) (word_as_tested (codes "match") refl)
-        (word_as_tested (codes "ip") refl, (word_as_tested (codes "address") refl, (word_as_tested (codes "prefix-list") refl, names_are l is)))
+    (word_as_tested (codes "ip") refl, (word_as_tested (codes "address") refl, (word_as_tested (codes "prefix-list") refl, names_are l is)))
 
 mark_is : (exact : Bool) → AreWords (if exact then codes "exact-match" ∷ [] else [])
 mark_is true = (word_as_tested (codes "exact-match") refl, tt)
@@ -300,9 +313,11 @@ mark_is false = tt
 match_comms_is : (exact : Bool) (l : NameLine) → IsWellFormedNameLine l → IsPrintedLine (match_comms_line exact l)
 unfolding match_comms_line
 match_comms_is exact l is =
-    words_line 1 (codes "match") (codes "community" ∷ (l.names ++ (if exact then codes "exact-match" ∷ [] else []))) (word_as_tested (codes "match") refl)
-    (word_as_tested (codes "community") refl, each_append IsPrintedWord l.names (if exact then codes "exact-match" ∷ [] else []) (names_are l is)
-        (mark_is exact))
+    words_line 1 (codes "match") (codes "community" ∷ (l.names ++ (if exact then codes "exact-match" ∷ [] else []))) (word_as_tested (codes "match") refl) (
+      word_as_tested (codes "community") refl,
+      each_append IsPrintedWord l.names (if exact then codes "exact-match" ∷ [] else []) (names_are l is)
+          (mark_is exact),
+    )
 
 lp_is : (lp : ℕ) → IsNumber lp → IsPrintedLine (lp_line lp)
 unfolding lp_line
@@ -319,9 +334,11 @@ change_is Clear is = words_line 1 (codes "set") (codes "community" ∷ codes "no
 change_is (Replace comms) is = words_line 1 (codes "set") (codes "community" ∷ map community_text comms) (word_as_tested (codes "set") refl)
     (word_as_tested (codes "community") refl, comms_are comms is)
 change_is (Append comms) is =
-    words_line 1 (codes "set") (codes "community" ∷ (map community_text comms ++ codes "additive" ∷ [])) (word_as_tested (codes "set") refl)
-    (word_as_tested (codes "community") refl, each_append IsPrintedWord (map community_text comms) (codes "additive" ∷ []) (comms_are comms is)
-        (word_as_tested (codes "additive") refl, tt))
+    words_line 1 (codes "set") (codes "community" ∷ (map community_text comms ++ codes "additive" ∷ [])) (word_as_tested (codes "set") refl) (
+      word_as_tested (codes "community") refl,
+      each_append IsPrintedWord (map community_text comms) (codes "additive" ∷ []) (comms_are comms is)
+          (word_as_tested (codes "additive") refl, tt),
+    )
 
 delete_is : (list : Named) → IsWellFormedNamed list → IsPrintedLine (delete_line list)
 unfolding delete_line
@@ -334,9 +351,13 @@ as_number_prints n is = decimal_prints n is.1
 prepend_is : (p : Prepend) → IsWellFormedPrepend p → IsPrintedLine (prepend_line p)
 unfolding prepend_line
 prepend_is p is =
-    words_line 1 (codes "set") (codes "as-path" ∷ codes "prepend" ∷ map decimal p.numbers) (word_as_tested (codes "set") refl)
-    (word_as_tested (codes "as-path") refl, (word_as_tested (codes "prepend") refl,
-        each_map (IsBetween 1 4294967295) IsPrintedWord decimal as_number_prints p.numbers is.each))
+    words_line 1 (codes "set") (codes "as-path" ∷ codes "prepend" ∷ map decimal p.numbers) (word_as_tested (codes "set") refl) (
+      word_as_tested (codes "as-path") refl,
+      (
+        word_as_tested (codes "prepend") refl,
+        each_map (IsBetween 1 4294967295) IsPrintedWord decimal as_number_prints p.numbers is.each,
+      ),
+    )
 
 entry_is : (name : List ℕ) → IsListName name → (e : MapEntry) → IsWellFormedMapEntry e → AreLines (map_entry_lines name e)
 unfolding map_entry_lines

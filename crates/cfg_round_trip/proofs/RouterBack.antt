@@ -38,7 +38,7 @@ unfolding take_top take_line is_policy_line
 hostname_back name is =
     reads_line (line 0 (codes "hostname" ∷ name ∷ [])) no_draft (draft_of (host name) [] None None [] [] []) refl
     (router_top (line 0 (codes "hostname" ∷ name ∷ [])) (item.Hostname name) no_draft (draft_of (host name) [] None None [] [] []) refl refl
-        (hostname_item name is) (λ rs. refl))
+    (hostname_item name is) (λ rs. refl))
     (closed_draft (host name) [] None None [] [] [])
 
 members_skipped : (names : List (List ℕ)) → AllByRecursion (λ (l : TextLine). is_read l ≡ false) (map member_line names)
@@ -57,9 +57,9 @@ interface_block : (name : List ℕ) (done : List Interface) (i : Interface) → 
 unfolding interface_lines take_top take_line is_policy_line with_closed has_interface
 interface_block name done i is new =
     reads_stanza (line 0 (codes "interface" ∷ i.name ∷ [])) (interface_rest i) (with_interfaces name done) (in_interface (new_interface 0 i.name))
-        (in_interface (bare_interface i)) refl
+    (in_interface (bare_interface i)) refl
     (router_top (line 0 (codes "interface" ∷ i.name ∷ [])) (item.Interface i.name) (with_interfaces name done)
-        (record (with_interfaces name done) { stanza = in_interface (new_interface 0 i.name) }) refl refl (interface_item i.name is.name) (λ rs. rw new refl))
+    (record (with_interfaces name done) { stanza = in_interface (new_interface 0 i.name) }) refl refl (interface_item i.name is.name) (λ rs. rw new refl))
     (interface_inner i is)
 
 interfaces_stage : (name : List ℕ) (done is : List Interface) → AllByRecursion IsWellFormedInterface is → IsDistinct same_interface is →
@@ -85,7 +85,7 @@ bgp_back name interfaces (Some b) is =
     let d = draft_of (host name) interfaces None None [] [] [] in
     reads_stanza (line 0 (codes "router" ∷ codes "bgp" ∷ decimal b.number ∷ [])) (bgp_rest b) d (in_bgp (new_bgp 0 b.number)) (in_bgp (bare_bgp b)) refl
     (router_top (line 0 (codes "router" ∷ codes "bgp" ∷ decimal b.number ∷ [])) (item.Bgp b.number) d (record d { stanza = in_bgp (new_bgp 0 b.number) }) refl
-        refl (bgp_item b.number is.number) (λ rs. refl))
+    refl (bgp_item b.number is.number) (λ rs. refl))
     (bgp_inner b is)
 
 ospf_back : (name : List ℕ) (interfaces : List Interface) (bgp : Option BgpProcess) (o : Option OspfProcess) → IfSome o IsWellFormedOspf →
@@ -97,7 +97,7 @@ ospf_back name interfaces bgp (Some o) is =
     let d = draft_of (host name) interfaces bgp None [] [] [] in
     reads_stanza (line 0 (codes "router" ∷ codes "ospf" ∷ decimal o.number ∷ [])) (ospf_rest o) d (in_ospf (new_ospf 0 o.number)) (in_ospf (bare_ospf o)) refl
     (router_top (line 0 (codes "router" ∷ codes "ospf" ∷ decimal o.number ∷ [])) (item.Ospf o.number) d (record d { stanza = in_ospf (new_ospf 0 o.number) })
-        refl refl (ospf_item o.number is.number) (λ rs. refl))
+    refl refl (ospf_item o.number is.number) (λ rs. refl))
     (ospf_inner o is)
 
 -- ---- the router
@@ -146,7 +146,7 @@ front_back r names is =
     (reads_then (zero ++ one) two _ _ _
     (reads_then zero one _ (draft_of (host r.name) [] None None [] [] []) _
     (reads_then (line 0 (codes "hostname" ∷ r.name ∷ []) ∷ []) (map member_line names) _ _ _ (hostname_back r.name is.name)
-        (reads_skipped (map member_line names) (draft_of (host r.name) [] None None [] [] []) (members_skipped names)))
+    (reads_skipped (map member_line names) (draft_of (host r.name) [] None None [] [] []) (members_skipped names)))
     (reads_then (closing ∷ []) (flat_map interface_lines r.interfaces) _ _ _
     (reads_skipped (closing ∷ []) (draft_of (host r.name) [] None None [] [] []) (refl, tt))
     (interfaces_stage r.name [] r.interfaces is.interfaces is.interfaces_once (new_to_none same_interface r.interfaces))))

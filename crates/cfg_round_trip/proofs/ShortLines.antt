@@ -87,8 +87,8 @@ interface_short i is =
       light_line 0 (codes "interface" ∷ i.name ∷ []) (omega (arith, interface_name_short i.name is.name)),
       pieces (a ++ b ++ c) (closing ∷ []) (pieces (a ++ b) c
           (pieces a b (some_line IsWellFormedAddress ip_address_line address_line_short i.address is.address)
-              (some_line (IsBetween 1 65535) cost_line cost_line_short i.cost is.cost))
-                  (line_when i.shut shutdown_line (light_line 1 (codes "shutdown" ∷ []) (omega arith)))) (closing_short, tt),
+          (some_line (IsBetween 1 65535) cost_line cost_line_short i.cost is.cost))
+          (line_when i.shut shutdown_line (light_line 1 (codes "shutdown" ∷ []) (omega arith)))) (closing_short, tt),
     )
 
 -- ---- BGP
@@ -102,7 +102,7 @@ network_line_short : (net : NetLine) → IsWellFormedNetLine net → IsShortLine
 unfolding network_line
 network_line_short net is =
     light_line 1 (codes "network" ∷ address_text net.prefix.addr ∷ codes "mask" ∷ address_text (mask_of net.prefix.len) ∷ [])
-        (omega (arith, address_short net.prefix.addr is.prefix.addr, mask_short net.prefix.len))
+    (omega (arith, address_short net.prefix.addr is.prefix.addr, mask_short net.prefix.len))
 
 remote_line_short : (addr remote : ℕ) → IsNumber addr → IsNumber remote → IsShortLine (remote_line addr remote)
 unfolding remote_line
@@ -142,13 +142,13 @@ neighbor_short p is =
     (pieces one two (remote_line_short p.addr p.remote is.addr high, tt) (line_when p.shut (peer_shut_line p.addr) (peer_shut_short p.addr is.addr)))
     (line_when p.sends (peer_sends_line p.addr) (peer_sends_short p.addr is.addr)))
     (some_line IsWellFormedNamed (applied_line p.addr (codes "prefix-list") (codes "in"))
-        (applied_short p.addr (codes "prefix-list") (codes "in") is.addr (omega arith) (omega arith)) p.list_in is.list_in))
+    (applied_short p.addr (codes "prefix-list") (codes "in") is.addr (omega arith) (omega arith)) p.list_in is.list_in))
     (some_line IsWellFormedNamed (applied_line p.addr (codes "prefix-list") (codes "out"))
-        (applied_short p.addr (codes "prefix-list") (codes "out") is.addr (omega arith) (omega arith)) p.list_out is.list_out))
+    (applied_short p.addr (codes "prefix-list") (codes "out") is.addr (omega arith) (omega arith)) p.list_out is.list_out))
     (some_line IsWellFormedNamed (applied_line p.addr (codes "route-map") (codes "in"))
-        (applied_short p.addr (codes "route-map") (codes "in") is.addr (omega arith) (omega arith)) p.map_in is.map_in))
+    (applied_short p.addr (codes "route-map") (codes "in") is.addr (omega arith) (omega arith)) p.map_in is.map_in))
     (some_line IsWellFormedNamed (applied_line p.addr (codes "route-map") (codes "out"))
-        (applied_short p.addr (codes "route-map") (codes "out") is.addr (omega arith) (omega arith)) p.map_out is.map_out)
+    (applied_short p.addr (codes "route-map") (codes "out") is.addr (omega arith) (omega arith)) p.map_out is.map_out)
 
 bgp_short : (b : BgpProcess) → IsWellFormedBgp b → AreShort (bgp_lines b)
 unfolding bgp_lines
@@ -188,10 +188,10 @@ ospf_short o is =
       light_line 0 (codes "router" ∷ codes "ospf" ∷ decimal o.number ∷ []) (omega (arith, number_short o.number (omega arith))),
       pieces (one ++ two ++ three ++ four) (closing ∷ []) (pieces (one ++ two ++ three) four
           (pieces (one ++ two) three (pieces one two (line_when o.passive_default passive_default_line
-              (light_line 1 (codes "passive-interface" ∷ codes "default" ∷ []) (omega arith)))
-                  (each_map IsInterfaceName IsShortLine passive_line passive_short o.passive is.passive))
-                      (each_map IsInterfaceName IsShortLine not_passive_line not_passive_short o.not_passive is.not_passive))
-                          (each_map IsWellFormedArea IsShortLine network_area_line area_short o.areas is.areas)) (closing_short, tt),
+          (light_line 1 (codes "passive-interface" ∷ codes "default" ∷ []) (omega arith)))
+          (each_map IsInterfaceName IsShortLine passive_line passive_short o.passive is.passive))
+          (each_map IsInterfaceName IsShortLine not_passive_line not_passive_short o.not_passive is.not_passive))
+          (each_map IsWellFormedArea IsShortLine network_area_line area_short o.areas is.areas)) (closing_short, tt),
     )
 
 -- ---- lists
@@ -224,9 +224,16 @@ prefix_entry_short name named e is =
     let low = bound_words (codes "ge") e.ge in
     let top = bound_words (codes "le") e.le in
     light_line 0 (codes "ip" ∷ codes "prefix-list" ∷ name ∷ codes "seq" ∷ decimal e.seq ∷ act_text e.permit ∷ prefix_text e.prefix ∷ low ++ top)
-    (omega (arith, list_name_short name named, number_short e.seq high, act_short e.permit, prefix_short e.prefix is.prefix, weight_append low top,
-        bound_weight (codes "ge") e.ge (omega arith) (lower_bound e.prefix.len e.ge e.le is.bounds),
-            bound_weight (codes "le") e.le (omega arith) (upper_bound e.prefix.len e.ge e.le is.bounds)))
+    (omega (
+      arith,
+      list_name_short name named,
+      number_short e.seq high,
+      act_short e.permit,
+      prefix_short e.prefix is.prefix,
+      weight_append low top,
+      bound_weight (codes "ge") e.ge (omega arith) (lower_bound e.prefix.len e.ge e.le is.bounds),
+      bound_weight (codes "le") e.le (omega arith) (upper_bound e.prefix.len e.ge e.le is.bounds),
+    ))
 
 prefix_list_short : (l : PrefixList) → IsWellFormedPrefixList l → AreShort (map (prefix_entry_line l.name) l.entries)
 prefix_list_short l is = each_map IsWellFormedPrefixEntry IsShortLine (prefix_entry_line l.name) (prefix_entry_short l.name is.name) l.entries is.entries
@@ -251,7 +258,7 @@ community_line_short name named c is =
     let names = community_list_name name in
     let rest = act_text c.permit ∷ map community_text c.comms in
     light_line 0 (codes "ip" ∷ codes "community-list" ∷ names ++ rest)
-        (omega (arith, weight_append names rest, name_weight name (list_name_short name named), act_short c.permit, set_weight c.comms is))
+    (omega (arith, weight_append names rest, name_weight name (list_name_short name named), act_short c.permit, set_weight c.comms is))
 
 community_list_short : (l : CommunityList) → IsWellFormedCommunityList l → AreShort (map (community_list_line l.name) l.lines)
 community_list_short l is = each_map IsWellFormedCommunityLine IsShortLine (community_list_line l.name) (community_line_short l.name is.name) l.lines is.lines
@@ -273,7 +280,7 @@ change_short Clear is = light_line 1 (codes "set" ∷ codes "community" ∷ code
 change_short (Replace comms) is = light_line 1 (codes "set" ∷ codes "community" ∷ map community_text comms) (omega (arith, set_weight comms is))
 change_short (Append comms) is =
     light_line 1 (codes "set" ∷ codes "community" ∷ map community_text comms ++ codes "additive" ∷ [])
-        (omega (arith, set_weight comms is, weight_append (map community_text comms) (codes "additive" ∷ [])))
+    (omega (arith, set_weight comms is, weight_append (map community_text comms) (codes "additive" ∷ [])))
 
 delete_short : (list : Named) → IsWellFormedNamed list → IsShortLine (delete_line list)
 unfolding delete_line
@@ -349,9 +356,10 @@ router_short r names is maps are =
     (pieces (zero ++ one ++ two ++ three) four
     (pieces (zero ++ one ++ two) three
     (pieces (zero ++ one) two
-    (pieces zero one
-    (light_line 0 (codes "hostname" ∷ r.name ∷ []) (omega (arith, router_name_short r.name is.name)),
-        each_map IsRouterName IsShortLine member_line member_short names are)
+    (pieces zero one (
+      light_line 0 (codes "hostname" ∷ r.name ∷ []) (omega (arith, router_name_short r.name is.name)),
+      each_map IsRouterName IsShortLine member_line member_short names are,
+    )
     (closing_short, each_flat_map IsWellFormedInterface IsShortLine interface_lines interface_short r.interfaces is.interfaces))
     (some_lines IsWellFormedBgp bgp_lines bgp_short r.bgp is.bgp))
     (some_lines IsWellFormedOspf ospf_lines ospf_short r.ospf is.ospf))

@@ -147,12 +147,15 @@ prefixes_short line (a ∷ b ∷ c ∷ d ∷ words) head short =
     let four = and_parts (bytes_eq (codes "prefix-list") d) true three.1 in
     let same : joined (codes "match" ∷ codes "ip" ∷ codes "address" ∷ codes "prefix-list" ∷ words) ≡ joined (a ∷ b ∷ c ∷ d ∷ words) =
     ap joined (two_words a b (codes "match") (codes "ip") (codes "address" ∷ codes "prefix-list" ∷ words) (same_word (codes "match") a one.0)
-        (same_word (codes "ip") b two.0)
+    (same_word (codes "ip") b two.0)
     ∙ ap (λ (ws : List (List ℕ)). a ∷ b ∷ ws) (two_words c d (codes "address") (codes "prefix-list") words (same_word (codes "address") c three.0)
-        (same_word (codes "prefix-list") d four.0))) in
+    (same_word (codes "prefix-list") d four.0))) in
     after (AreThe words) (IsShortItem true) _ _ (names_are words) (λ names are.
-    rw are (omega (arith, line_length (record { number = 0; indent = 1; words = codes "match" ∷ codes "ip" ∷ codes "address" ∷ codes "prefix-list" ∷ words }),
-        same)))
+    rw are (omega (
+      arith,
+      line_length (record { number = 0; indent = 1; words = codes "match" ∷ codes "ip" ∷ codes "address" ∷ codes "prefix-list" ∷ words }),
+      same,
+    )))
 prefixes_short line _ head short = tt
 
 marked_is : (mark : List ℕ) (words : List (List ℕ)) → has_mark mark words ≡ true → but_last words ++ mark ∷ [] ≡ words
@@ -173,7 +176,7 @@ comms_short line (a ∷ b ∷ words) head short =
     either (IsShortItem true) (has_mark (codes "exact-match") words) _ _
     (λ marked. after (AreThe (but_last words)) (IsShortItem true) _ _ (names_are (but_last words)) (λ names are.
     rw (are, marked_is (codes "exact-match") words marked) (omega
-        (arith, line_length (record { number = 0; indent = 1; words = codes "match" ∷ codes "community" ∷ words }), same))))
+    (arith, line_length (record { number = 0; indent = 1; words = codes "match" ∷ codes "community" ∷ words }), same))))
     (λ other. after (AreThe words) (IsShortItem true) _ _ (names_are words) (λ names are.
     rw (are, append-nil words) (omega (arith, line_length (record { number = 0; indent = 1; words = codes "match" ∷ codes "community" ∷ words }), same))))
 comms_short line _ head short = tt

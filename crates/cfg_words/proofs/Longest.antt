@@ -40,7 +40,7 @@ unfit (b ∷ head_word) [] none = no_word (nat_eq b 0) (bytes_eq (b ∷ head_wor
     (is_some (number_between 100 500 [])) none
 unfit (b ∷ head_word) (c ∷ word) none =
     other_word (nat_eq b c) (bytes_eq (b ∷ head_word) (codes "A")) (bytes_eq (b ∷ head_word) (codes "100-500")) (is_some (number_between 100 500 (c ∷ word)))
-        (bytes_eq head_word word) none
+    (bytes_eq head_word word) none
 
 begins_none : (head words : List (List ℕ)) → can_begin (first_byte words) head ≡ false → begins head words ≡ false
 begins_none [] words none = absurd cc

@@ -57,14 +57,26 @@ record FirstAt (edges : List Edge) (act : ℕ) : Type 0 where
 
 find_first : (edges : List Edge) (act k : ℕ) (edge : Edge) → slice_get edges k ≡ Some edge → edge.act ≡ act → FirstAt edges act
 find_first [] act k edge at same = absurd cc
-find_first (x ∷ xs) act zero edge at same = record { place = zero; edge = edge; at = at; same = same; first =
-    record { first = λ earlier other less found. absurd (omega arith) } }
+find_first (x ∷ xs) act zero edge at same = record {
+  place = zero;
+  edge = edge;
+  at = at;
+  same = same;
+  first =
+      record { first = λ earlier other less found. absurd (omega arith) };
+}
 find_first (x ∷ xs) act (suc k) edge at same = elim (cases_eq x.act act) [
   | inl here ↦ record { place = zero; edge = x; at = refl; same = here; first = record { first = λ earlier other less found. absurd (omega arith) } }
   | inr not_here ↦ (
       let later = find_first xs act k edge at same in
-      record { place = suc later.place; edge = later.edge; at = later.at; same = later.same; first =
-          record { first = before x xs act later.place not_here later.first } })
+      record {
+        place = suc later.place;
+        edge = later.edge;
+        at = later.at;
+        same = later.same;
+        first =
+            record { first = before x xs act later.place not_here later.first };
+      })
 ]
   where
     before : (x : Edge) (xs : List Edge) (act place : ℕ) → x.act ≢ act → IsFirstWith xs place act → (earlier : ℕ) (other : Edge) → earlier < suc place
@@ -159,7 +171,7 @@ module _ (P Q : Problem) (x : IsProblem P) (y : IsProblem Q) (same : ProblemsAli
       let e_alike : ActsAlike (act_of Q g.0) (act_of P e.0) = alike_sym (act_of P e.0) (act_of Q g.0) g.2.acts in
       let f_alike : ActsAlike (act_of P e.0) (act_of Q h.0) = subst (λ (k : ℕ). ActsAlike (slice_index_or P.acts k (Cost 0)) (act_of Q h.0)) one h.2.acts in
       let acts = y.acts.differ g.0.act h.0.act (y.edges.inside g.0 g_in).act_in (y.edges.inside h.0 h_in).act_in
-          (alike_trans (act_of Q g.0) (act_of P e.0) (act_of Q h.0) e_alike f_alike) in
+      (alike_trans (act_of Q g.0) (act_of P e.0) (act_of Q h.0) e_alike f_alike) in
       read_acts Q.edges u 0 g.0 g.1 ∙ acts ∙ sym (read_acts Q.edges v 0 h.0 h.1)
 
 module _ (n : Network) (p : Prefix) (P Q : Problem) (a : IsProblemOf n p P) (b : IsProblemOf n p Q) (x : AreActsByFirstUse P) (y : AreActsByFirstUse Q)
@@ -179,7 +191,7 @@ module _ (n : Network) (p : Prefix) (P Q : Problem) (a : IsProblemOf n p P) (b :
       let p_length = length-map P.edges edge_act in
       let q_length = length-map Q.edges edge_act in
       one_numbering (map edge_act P.edges) (map edge_act Q.edges) (length P.acts) (length Q.acts) (omega arith) numbered_p numbered_q
-          (refined P Q a.rules b.rules same) (refined Q P b.rules a.rules (turned P Q same))
+      (refined P Q a.rules b.rules same) (refined Q P b.rules a.rules (turned P Q same))
 
   pub one_edges : P.edges ≡ Q.edges
   one_edges = one_list P Q P.edges Q.edges same.edges same_acts_of_edges
@@ -202,12 +214,12 @@ module _ (n : Network) (p : Prefix) (P Q : Problem) (a : IsProblemOf n p P) (b :
       let also = contains_in Q.edges e (get_in Q.edges first.place e at) in
       let apart = (a.rules.edges.inside e inside).differ in
       let one : w.d ≡ z.d = one_direction n w.d z.d w.stands.is_direction z.stands.is_direction (sym w.stands.link ∙ z.stands.link)
-          (sym w.stands.importer ∙ z.stands.importer) (sym w.stands.exporter ∙ z.stands.exporter)
-              (λ equal. apart (w.stands.importer ∙ equal ∙ sym w.stands.exporter)) in
+      (sym w.stands.importer ∙ z.stands.importer) (sym w.stands.exporter ∙ z.stands.exporter)
+      (λ equal. apart (w.stands.importer ∙ equal ∙ sym w.stands.exporter)) in
       let acts = one_written n p P.protocol w.d (act_of P e) (act_of Q e) (edge_fits P a.rules e inside)
-          (subst (λ (q : Protocol). IsActOf q (act_of Q e)) (sym same.protocol) (edge_fits Q b.rules e also))
+      (subst (λ (q : Protocol). IsActOf q (act_of Q e)) (sym same.protocol) (edge_fits Q b.rules e also))
       w.act (subst (λ (d : Direction). IsActOfLines n p d (act_of Q e)) (sym one) z.act) w.stands.means
-          (subst (λ (d : Direction). MeansLink n p d (act_of Q e)) (sym one) z.stands.means) in
+      (subst (λ (d : Direction). MeansLink n p d (act_of Q e)) (sym one) z.stands.means) in
       ap (λ (m : ℕ). slice_index_or P.acts m (Cost 0)) (sym first.same) ∙ acts ∙ ap (λ (m : ℕ). slice_index_or Q.acts m (Cost 0)) first.same
 
   one_acts : P.acts ≡ Q.acts

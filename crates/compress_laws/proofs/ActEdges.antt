@@ -78,11 +78,11 @@ module _ (P Q : Problem) (rules : IsProblem P) (same : ProblemsAlike P Q) (group
       let x = both_at k goes_k in
       let y = both_at j goes_j in
       let far = alike_trans (act_of P x.edge) (act_of Q (edge_at Q.edges k)) (act_of P y.edge) x.alike
-          (alike_trans (act_of Q (edge_at Q.edges k)) (act_of Q (edge_at Q.edges j)) (act_of P y.edge) alike
-              (alike_sym (act_of P y.edge) (act_of Q (edge_at Q.edges j)) y.alike)) in
+      (alike_trans (act_of Q (edge_at Q.edges k)) (act_of Q (edge_at Q.edges j)) (act_of P y.edge) alike
+      (alike_sym (act_of P y.edge) (act_of Q (edge_at Q.edges j)) y.alike)) in
       let inside = λ (m : ℕ) (e : Edge) (at : slice_get P.edges m ≡ Some e). (rules.edges.inside e (contains_in P.edges e (get_in P.edges m e at))).act_in in
       (at_place P.edges groups k x.edge x.at).does ∙ rules.acts.differ x.edge.act y.edge.act (inside k x.edge x.at) (inside j y.edge y.at) far
-          ∙ sym (at_place P.edges groups j y.edge y.at).does
+      ∙ sym (at_place P.edges groups j y.edge y.at).does
 
   own_acts : (ks : List ℕ) → ((k : ℕ) → In ks k → GoesAt P.edges groups g h k) → HaveOwnActs P.edges ks → ActDifferently Q (edges_at Q.edges ks)
   unfolding edges_at
@@ -91,7 +91,7 @@ module _ (P Q : Problem) (rules : IsProblem P) (same : ProblemsAlike P Q) (group
     (λ other has alike. (
         let j = map_in (edge_at Q.edges) ks other (in_contains _ other has) in
         own.0 j.0 j.1 (one_act k j.0 (into k (inl refl)) (into j.0 (inr j.1))
-            (subst (λ (x : Edge). ActsAlike (act_of Q (edge_at Q.edges k)) (act_of Q x)) (sym j.2) alike)))),
+        (subst (λ (x : Edge). ActsAlike (act_of Q (edge_at Q.edges k)) (act_of Q x)) (sym j.2) alike)))),
     own_acts ks (λ j at. into j (inr at)) own.1,
   )
 
@@ -107,8 +107,13 @@ module _ (P Q : Problem) (rules : IsProblem P) (same : ProblemsAlike P Q) (group
   some_of_each edge is =
       let k = in_get Q.edges edge (in_contains Q.edges edge is.has) in
       let back = beside Q P Q.edges P.edges (turned P Q same).edges k.0 edge k.1 in
-      let goes : GoesAt P.edges groups g h k.0 = record { edge = back.other; at = back.at; importer = ap (slice_index groups) (sym back.alike.importer)
-          ∙ is.importer; exporter = ap (slice_index groups) (sym back.alike.exporter) ∙ is.exporter } in
+      let goes : GoesAt P.edges groups g h k.0 = record {
+        edge = back.other;
+        at = back.at;
+        importer = ap (slice_index groups) (sym back.alike.importer)
+            ∙ is.importer;
+        exporter = ap (slice_index groups) (sym back.alike.exporter) ∙ is.exporter;
+      } in
       let are = acts_of_edges P.edges groups g h in
       let j = are.all k.0 goes in
       let y = both_at j.0 (are.into j.0 j.1) in

@@ -69,14 +69,14 @@ module _ (g : Given) (e : Plan) (plan : IsPlan e) (coarse : IsCoarsest e.problem
   -- links join two routers of the network read as they join two groups of the plan
   links_for : (read : Network) → bare read ≡ bare (emitted e) → (p : Prefix) → Contains e.class.prefixes p → length read.routers ≡ e.count
       → (other : Problem) → IsProblemOf e.network p other → (low high : ℕ) → low < high → high < length read.routers
-          → HasLinksForActs other e.groups read low high
+      → HasLinksForActs other e.groups read low high
   links_for read same p i many other o low high ordered inside =
       let below : high < e.count = subst (λ (n : ℕ). high < n) many inside in
       let first = plan.problem p i in
       let alike = g.alike e.network p e.problem other first o in
       let planned = ap (λ (ls : List Link). length (filter (joins low high) ls)) (g.planned_links e plan read same) ∙ as_many_as_planned e low high 0 e.links in
       let joined = ap (λ (ls : List QLink). length (filter (joins_groups low high) ls)) plan.links
-          ∙ as_many_as_acts e.problem.edges e.groups e.count low high ordered below in
+      ∙ as_many_as_acts e.problem.edges e.groups e.count low high ordered below in
       let into_low = acts_into e.problem.edges e.groups low high in
       let into_high = acts_into e.problem.edges e.groups high low in
       record {
@@ -93,10 +93,10 @@ module _ (g : Given) (e : Plan) (plan : IsPlan e) (coarse : IsCoarsest e.problem
       let of = plan.problem p i in
       let of_read = stands.problem p i in
       let coarsest : (other : Problem) → IsProblemOf e.network p other → IsCoarsest other e.groups = λ other o.
-          g.coarsest e.problem other e.groups (g.alike e.network p e.problem other of o) coarse in
+      g.coarsest e.problem other e.groups (g.alike e.network p e.problem other of o) coarse in
       let quotient : (other lower : Problem) → IsProblemOf e.network p other → IsProblemOf read p lower → IsQuotient other e.groups lower =
       λ other lower o l. g.quotients e.problem other (small e) lower e.groups (g.alike e.network p e.problem other of o)
-          (g.alike read p (small e) lower of_read l) (is_small p i) in
+      (g.alike read p (small e) lower of_read l) (is_small p i) in
       record {
         problem = e.problem;
         small = small e;
@@ -146,5 +146,9 @@ has_problem printed stands_for back accepted e plan few =
     let can = printed e plan in
     let again = back (emitted e) (notes_of e) can.well_formed can.notes few can.short in
     let stands = stands_for e plan again.read again.same in
-    record { read = again.read; reads = accepted_text again.read (compressed_text e) again.reads (accepted again.read stands.faultless); problem =
-        stands.problem }
+    record {
+      read = again.read;
+      reads = accepted_text again.read (compressed_text e) again.reads (accepted again.read stands.faultless);
+      problem =
+          stands.problem;
+    }

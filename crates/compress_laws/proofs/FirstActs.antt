@@ -64,7 +64,7 @@ module _ (es : List Edge) (seen : List ℕ) (k : ℕ) (ks : List ℕ) where
   taken : is_seen es seen k ≡ false → (firsts : List ℕ) → AreFirst es (act_at es k ∷ seen) ks firsts → AreFirst es seen (k ∷ ks) (k ∷ firsts)
   taken fresh firsts are =
       let parts : (m : ℕ) → In firsts m → (nat_eq (act_at es m) (act_at es k) ≡ false) × (is_seen es seen m ≡ false) = λ m at.
-          neither (nat_eq (act_at es m) (act_at es k)) (is_seen es seen m) (are.new m at) in
+      neither (nat_eq (act_at es m) (act_at es k)) (is_seen es seen m) (are.new m at) in
       record {
         of = λ m at. elim at [ inl here ↦ inl here | inr there ↦ inr (are.of m there) ];
         new = λ m at. elim at [ inl here ↦ sym (ap (is_seen es seen) here) ∙ fresh | inr there ↦ (parts m there).1 ];
@@ -104,7 +104,7 @@ stands es k edge at =
     in_flat_map (on_link es) (range_with_len 0 (link_bound es)) edge.link k
     (from_zero (link_bound es) edge.link (link_below es 0 edge (get_in es k edge at)))
     (in_filter (λ j. nat_eq (link_at es j) edge.link) (range_with_len 0 (length es)) k (from_zero (length es) k (slice_get_within es k edge at))
-        (eq-eqb _ _ (at_place es [] k edge at).link))
+    (eq-eqb _ _ (at_place es [] k edge at).link))
 
 both_tests : (a b : Bool) → a ≡ true → b ≡ true → (a && b) ≡ true
 both_tests true b e f = f
@@ -141,6 +141,6 @@ acts_of_edges es groups g h =
       all = λ k goes_at. (
           let place = at_place es groups k goes_at.edge goes_at.at in
           let test = both_tests _ _ (eq-eqb (importer_at es groups k) g (place.importer ∙ goes_at.importer))
-              (eq-eqb (exporter_at es groups k) h (place.exporter ∙ goes_at.exporter)) in
+          (eq-eqb (exporter_at es groups k) h (place.exporter ∙ goes_at.exporter)) in
           first.all k (in_filter (goes es groups g h) (by_link es) k (stands es k goes_at.edge goes_at.at) test) refl);
     }

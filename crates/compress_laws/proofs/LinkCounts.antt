@@ -82,7 +82,7 @@ module _ (es : List Edge) (groups : List ℕ) (count g h : ℕ) (ordered : g < h
   links_joining =
       one_of_range (joins_groups g h) (group_links_from es groups count) 0 count g (omega arith) (omega arith) none_from
       ∙ one_of_range (joins_groups g h) (links_of_pair es groups g) (g + 1) (count - (g + 1)) h (omega arith) (omega arith)
-          (λ k apart. none_of_pair g k (other_high g k h apart))
+      (λ k apart. none_of_pair g k (other_high g k h apart))
       ∙ pair_kept
 
   -- as many as there are acts in the direction that has more of them
@@ -91,7 +91,7 @@ module _ (es : List Edge) (groups : List ℕ) (count g h : ℕ) (ordered : g < h
   as_many_as_acts =
       ap (λ (ls : List QLink). length ls) links_joining
       ∙ length-map-range_with_len (group_link g h (acts_into es groups g h) (acts_into es groups h g)) 0
-          (max (length (acts_into es groups g h)) (length (acts_into es groups h g)))
+      (max (length (acts_into es groups g h)) (length (acts_into es groups h g)))
 
 -- ---- the links of the network that is written
 

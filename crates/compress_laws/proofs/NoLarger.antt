@@ -29,6 +29,6 @@ no_larger groups few links e plan n same =
     let many = same_count n (emitted e) same ∙ router_count e in
     let most = groups e plan in
     let same_links = ap (λ (ls : List Link). length ls) (links e plan n same) ∙ length-map (enumerate_from 0 e.links) (emitted_link e)
-        ∙ numbered_length 0 e.links in
+    ∙ numbered_length 0 e.links in
     let less = few e plan in
     record { routers = omega arith; links = omega arith }

@@ -107,8 +107,14 @@ act_same e g t l at = by_place e (edge_into e.problem.protocol e.links g l) ∙ 
   step false other = ap side (sym (same_numbers l.high g (ap (λ b. b || nat_eq l.high g) (sym other) ∙ at)))
 
 linked : ℕ → ℕ → ℕ → QLink → Option Act → Interface
-linked g k t l act = record { name = codes "GigabitEthernet0/" ++ decimal k; line = 0; address = Some (link_address t (side_number g l)); cost =
-    option_and_then cost_by act; shut = false }
+linked g k t l act = record {
+  name = codes "GigabitEthernet0/" ++ decimal k;
+  line = 0;
+  address = Some (link_address t (side_number g l));
+  cost =
+      option_and_then cost_by act;
+  shut = false;
+}
 
 one_linked : (e : Plan) (g k : ℕ) (x : ℕ × QLink) → is_at g x ≡ true →
     interface_of_link e.problem.acts g (k, act_link e.problem.protocol e.problem.edges e.links x) ≡ link_interface e g (k, x)

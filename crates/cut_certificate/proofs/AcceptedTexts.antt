@@ -63,7 +63,7 @@ lines_sound graph routers line (l ∷ ls) s c sound e = by (λ (next : Standing)
   where
     by : ((next : Standing) → IsSound graph next → certificate_from graph.edges routers line ls next ≡ Ok c → IsAccepted graph c)
         → (r : Result Standing CutKind) → with_line graph.edges routers s l.words ≡ r → go_on l.number r (certificate_from graph.edges routers line ls) ≡ Ok c
-            → IsAccepted graph c
+        → IsAccepted graph c
     by rest (Err kind) is e = absurd cc
     by rest (Ok next) is e = rest next (step_sound graph s next sound (line_step graph.edges routers s next l.words is)) e
 
@@ -72,4 +72,4 @@ pub text_is_accepted : (graph : ActGraph) (names : List (List ℕ)) (bs : List �
 unfolding certificate_of_text
 text_is_accepted graph names bs c e =
     lines_sound graph (router_named names) (length (all_lines_of bs) + 1) (map (text_line bs) (all_lines_of bs)) (opening graph) c
-        (record { after = refl; even = λ c. absurd cc }) e
+    (record { after = refl; even = λ c. absurd cc }) e

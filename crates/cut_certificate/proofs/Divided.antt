@@ -28,8 +28,12 @@ pub held_set : (numbers : List ℕ) (count : ℕ) (lists : List (Vec ℕ Global)
     → block < length lists → list ≡ slice_index_or lists block list → AreStillMembersListed numbers block list.items list'.items
     → AreHeld numbers count (slice_set lists block list')
 held_set numbers count lists block list list' held known read still =
-    record { in_use = held.in_use; listed = listed_set numbers lists block list list' held.listed known read still; size = length-set lists block list'
-        ∙ held.size }
+    record {
+      in_use = held.in_use;
+      listed = listed_set numbers lists block list list' held.listed known read still;
+      size = length-set lists block list'
+          ∙ held.size;
+    }
 
 -- all members of the block in its list move
 pub all_go : (edges : List Edge) (numbers : List ℕ) (lists : List (Vec ℕ Global)) (block by act : ℕ) (list : Vec ℕ Global) → AreMembersListed numbers lists
@@ -49,17 +53,17 @@ module _ (edges : List Edge) (blocks : Blocks) (split : Split) (act : ℕ) (list
   pub none_goes : movers ≡ [] → split_by edges blocks split ≡ Err kinds.NothingSplit
   none_goes empty =
       nothing_split edges blocks split act (blocks.count + 1) (numbers_after edges blocks.numbers split.block split.by act (blocks.count + 1)) known apart acts
-          refl refl
+      refl refl
       (parts_none edges blocks.numbers split.block split.by act (blocks.count + 1) (λ k d h. (let (some, few) = held.in_use.known k d h in omega arith))
-          (λ u. no_mover edges blocks.numbers movers split.block split.by act u are empty))
+      (λ u. no_mover edges blocks.numbers movers split.block split.by act u are empty))
 
   pub none_stays : (list : Vec ℕ Global) → list ≡ slice_index_or lists split.block list → AllMove edges blocks.numbers split.block split.by act list.items
       → split_by edges blocks split ≡ Err kinds.NothingSplit
   none_stays list read all =
       nothing_split edges blocks split act (blocks.count + 1) (numbers_after edges blocks.numbers split.block split.by act (blocks.count + 1)) known apart acts
-          refl refl
+      refl refl
       (parts_all edges blocks.numbers split.block split.by act (blocks.count + 1) (λ e. absurd (omega (arith, inside, held.size)))
-          (all_go edges blocks.numbers lists split.block split.by act list held.listed read all))
+      (all_go edges blocks.numbers lists split.block split.by act list held.listed read all))
 
   module _ (new : List ℕ) (done : AreRenumbered blocks.numbers movers (blocks.count + 1) new) (some : 0 < length movers)
       (stayer : HasStayer edges blocks.numbers split.block split.by act) where
@@ -80,6 +84,6 @@ module _ (edges : List Edge) (blocks : Blocks) (split : Split) (act : ℕ) (list
       listed = listed_moved blocks.numbers new lists lists' list (blocks.count + 1) held.listed (sym held.size)
           (subst (λ (ms : List ℕ). AreRenumbered blocks.numbers ms (blocks.count + 1) new) (sym items) done)
           (subst (All (λ u. u < length blocks.numbers)) (sym items)
-              (λ k d h. mover_below edges blocks.numbers split.block split.by act (slice_index_or movers k d) (are.only k d h))) pushed;
+          (λ k d h. mover_below edges blocks.numbers split.block split.by act (slice_index_or movers k d) (are.only k d h))) pushed;
       size = (let long : length lists' ≡ length lists + 1 = ap length pushed ∙ length_push lists list in omega (arith, held.size));
     }

@@ -42,7 +42,7 @@ matched_if edges numbers u v edge has = elim (cases_eq edge.importer u) [
         let r = reaches_if edges numbers (slice_index numbers edge.exporter) edge.act v (k, twin, inside, at, facts) in
         ap (λ b. not (nat_eq edge.importer u) || (nat_eq (slice_index numbers edge.exporter) (slice_index numbers u) || b)) r
         ∙ ap (λ b. not (nat_eq edge.importer u) || b) (or_true (nat_eq (slice_index numbers edge.exporter) (slice_index numbers u)))
-            ∙ or_true (not (nat_eq edge.importer u))
+        ∙ or_true (not (nat_eq edge.importer u))
   ]
   | inr other ↦ ap (λ a. not a || is_matched edges numbers u v edge) (other_test _ _ other)
 ]
@@ -90,10 +90,10 @@ unfolding groups_of
 own_group numbers u hu =
     let has = distinct_has numbers u hu in
     in_map (members_of numbers) (distinct numbers) (slice_index numbers u)
-        (in_at (distinct numbers) (slice_index numbers u) (place_among (distinct numbers) (slice_index numbers u))
-            (place_below (distinct numbers) (slice_index numbers u) has)
+    (in_at (distinct numbers) (slice_index numbers u) (place_among (distinct numbers) (slice_index numbers u))
+    (place_below (distinct numbers) (slice_index numbers u) has)
     (any_default (distinct numbers) (place_among (distinct numbers) (slice_index numbers u)) (slice_index numbers u) 0
-        (place_below (distinct numbers) (slice_index numbers u) has) ∙ at_place (distinct numbers) (slice_index numbers u) has))
+    (place_below (distinct numbers) (slice_index numbers u) has) ∙ at_place (distinct numbers) (slice_index numbers u) has))
   where
     any_default : (xs : List ℕ) (j d e : ℕ) → j < length xs → get_or xs j d ≡ get_or xs j e
     any_default [] j d e lt = absurd (omega arith)

@@ -23,7 +23,7 @@ members_next : (numbers : List ℕ) (count block : ℕ) → members_among (count
 members_next numbers count block =
     let p : ℕ → Bool = λ router. slice_index numbers router == block in
     ap (λ n. filter p (range_with_len 0 n)) (add-one count) ∙ ap (filter p) (range_more 0 count count (omega arith))
-        ∙ filter-append p (range_with_len 0 count) (count ∷ [])
+    ∙ filter-append p (range_with_len 0 count) (count ∷ [])
 
 pub members_none : (numbers : List ℕ) (groups : List (List ℕ)) → All (λ l. l ≡ []) groups → AreGroupsAmong 0 numbers groups
 members_none numbers groups empty = record { each = λ k d inside. empty k d inside }
@@ -38,18 +38,18 @@ members_more numbers groups router number old new before is some few read pushed
       elim (cases_eq k (number - 1)) [
         | inl e ↦
             let here : slice_index_or (slice_set groups (number - 1) new) k d ≡ new = ap (λ b. slice_index_or (slice_set groups (number - 1) new) b d) e
-                ∙ get_or-set_same groups (number - 1) new d inside in
+            ∙ get_or-set_same groups (number - 1) new d inside in
             let block : number - 1 + 1 ≡ k + 1 = omega arith in
             let was : old ≡ members_among router numbers (k + 1) = read ∙ before.each (number - 1) old inside ∙ ap (members_among router numbers) block in
             let test : nat_eq (slice_index numbers router) (k + 1) ≡ true = same_test _ _ (is ∙ omega arith) in
             here ∙ pushed ∙ ap (λ (xs : List ℕ). xs ++ router ∷ []) was
-                ∙ sym (members_next numbers router (k + 1) ∙ ap (λ t. members_among router numbers (k + 1) ++ cond t (router ∷ []) []) test)
+            ∙ sym (members_next numbers router (k + 1) ∙ ap (λ t. members_among router numbers (k + 1) ++ cond t (router ∷ []) []) test)
         | inr ne ↦
             let there : slice_index_or (slice_set groups (number - 1) new) k d ≡ slice_index_or groups k d = get_or-set_other groups (number - 1) k new d ne in
             let test : nat_eq (slice_index numbers router) (k + 1) ≡ false =
-                other_test _ _ (λ same. ne (let e : number ≡ k + 1 = sym is ∙ same in omega arith)) in
+            other_test _ _ (λ same. ne (let e : number ≡ k + 1 = sym is ∙ same in omega arith)) in
             there ∙ before.each k d within' ∙ sym (members_next numbers router (k + 1)
-                ∙ ap (λ t. members_among router numbers (k + 1) ++ cond t (router ∷ []) []) test ∙ append-nil _)
+            ∙ ap (λ t. members_among router numbers (k + 1) ++ cond t (router ∷ []) []) test ∙ append-nil _)
       ];
 }
 
@@ -88,8 +88,8 @@ groups_are numbers groups are total = ext_get_or [] groups (map (members_of numb
               same_test _ _ (at ∙ ap (λ p. p + 1) place) ∙ sym (same_test _ _ e)
           | inr ne ↦
               let apart : slice_index places u ≢ k + 1 = λ e.
-                  ne (sym (at_place (distinct numbers) n (distinct_has numbers u inside))
-                      ∙ ap (λ j. get_or (distinct numbers) j 0) (let place : place_among (distinct numbers) n ≡ k = omega arith in place)) in
+              ne (sym (at_place (distinct numbers) n (distinct_has numbers u inside))
+              ∙ ap (λ j. get_or (distinct numbers) j 0) (let place : place_among (distinct numbers) n ≡ k = omega arith in place)) in
               other_test _ _ apart ∙ sym (other_test _ _ ne)
         ])
 

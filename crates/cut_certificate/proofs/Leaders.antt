@@ -32,7 +32,7 @@ leaders_none numbers leaders = record { member = λ u h. absurd (omega arith); t
 pub leaders_more : (numbers leaders : List ℕ) (router : ℕ) → router < length numbers → 0 < slice_index numbers router
     → slice_index numbers router ≤ length leaders
     → All (λ number. (0 < number) × (number ≤ length leaders)) numbers → AreLeadersSoFar router numbers leaders
-        → AreLeadersSoFar (router + 1) numbers (slice_set leaders (slice_index numbers router - 1) router)
+    → AreLeadersSoFar (router + 1) numbers (slice_set leaders (slice_index numbers router - 1) router)
 leaders_more numbers leaders router h some few known are = record {
   member = λ u lt. (elim (cases_eq (slice_index numbers u - 1) (slice_index numbers router - 1)) [
     | inl same ↦ subst (λ (k : ℕ). k < length numbers) (sym (here u same)) h
@@ -71,7 +71,7 @@ leaders_all numbers leaders count le are = record { member = λ u h. are.member 
 pub leaders_split : (edges : List Edge) (blocks next : Blocks) (p : Parting) (split : Split) (old new : List ℕ) → AreInUse blocks.numbers blocks.count
     → AreLeaders blocks.numbers old → length old ≡ blocks.count
     → IsParting edges blocks.numbers p → IsSplitBy blocks.numbers p split → split_by edges blocks split ≡ Ok next
-        → new ≡ slice_set old (split.block - 1) p.stays ++ p.goes ∷ [] → AreLeaders next.numbers new
+    → new ≡ slice_set old (split.block - 1) p.stays ++ p.goes ∷ [] → AreLeaders next.numbers new
 leaders_split edges blocks next p split old new used are long parting by is pushed =
     let m = (made edges blocks split next is).is in
     subst (λ (b : Blocks). AreLeaders b.numbers new) (sym m) (record {
@@ -145,29 +145,29 @@ leaders_split edges blocks next p split old new used are long parting by is push
     led u h = elim (cases_eq (slice_index numbers u) block) [
       | inr ne ↦
           let same : slice_index after u ≡ slice_index numbers u = after_at edges numbers block split.by act last u h
-              ∙ stays_put edges numbers block split.by act last u ne in
+          ∙ stays_put edges numbers block split.by act last u ne in
           let k = known u h in
           let s = split_known in
           let apart : slice_index numbers u - 1 ≢ block - 1 = λ e. ne (omega arith) in
           let at : slice_index new (slice_index after u - 1) ≡ slice_index old (slice_index numbers u - 1) = ap (λ (n : ℕ). slice_index new (n - 1)) same
-              ∙ new_other (slice_index numbers u - 1) (omega arith) apart in
+          ∙ new_other (slice_index numbers u - 1) (omega arith) apart in
           let leader = slice_index old (slice_index numbers u - 1) in
           let one = are.together u h in
           let put : slice_index after leader ≡ slice_index numbers leader = after_at edges numbers block split.by act last leader (are.member u h)
-              ∙ stays_put edges numbers block split.by act last leader (λ e. ne (sym one ∙ e)) in
+          ∙ stays_put edges numbers block split.by act last leader (λ e. ne (sym one ∙ e)) in
           led_by u leader at (are.member u h) (put ∙ one ∙ sym same)
       | inl here ↦ here_by u h here (reaches edges numbers split.by act u) refl
     ]
       where
         here_by : (u : ℕ) → u < length numbers → slice_index numbers u ≡ block → (b : Bool) → reaches edges numbers split.by act u ≡ b
             → (slice_index new (slice_index after u - 1) < length numbers)
-                × (slice_index after (slice_index new (slice_index after u - 1)) ≡ slice_index after u)
+            × (slice_index after (slice_index new (slice_index after u - 1)) ≡ slice_index after u)
         here_by u h here true e =
             let is : slice_index after u ≡ last = after_at edges numbers block split.by act last u h ∙ goes edges numbers block split.by act last u here e in
             led_by u p.goes (ap (λ (n : ℕ). slice_index new (n - 1)) is ∙ new_last) parting.goes (goer ∙ sym is)
         here_by u h here false e =
             let is : slice_index after u ≡ block = after_at edges numbers block split.by act last u h ∙ stays_here edges numbers block split.by act last u e
-                ∙ here in
+            ∙ here in
             led_by u p.stays (ap (λ (n : ℕ). slice_index new (n - 1)) is ∙ new_block) parting.stays (stayer ∙ sym is)
 
 pub leaders_longer : (old new : List ℕ) (place stays goes : ℕ) → new ≡ slice_set old place stays ++ goes ∷ [] → length new ≡ length old + 1
@@ -183,8 +183,8 @@ even_with_leaders edges numbers leaders are even = record {
       let one : slice_index leaders (slice_index numbers v - 1) ≡ leader = ap (λ (k : ℕ). slice_index leaders (k - 1)) (sym same) in
       let to = mirrored_by edges numbers u leader (and_second (is_mirrored edges numbers leader u) (is_mirrored edges numbers u leader) mu) in
       let from = mirrored_by edges numbers leader v (ap (λ (k : ℕ). is_mirrored edges numbers k v) (sym one)
-          ∙ and_first (is_mirrored edges numbers (slice_index leaders (slice_index numbers v - 1)) v)
-              (is_mirrored edges numbers v (slice_index leaders (slice_index numbers v - 1))) mv) in
+      ∙ and_first (is_mirrored edges numbers (slice_index leaders (slice_index numbers v - 1)) v)
+      (is_mirrored edges numbers v (slice_index leaders (slice_index numbers v - 1))) mv) in
       mirrored_trans edges numbers u leader v (sym (are.together u hu)) to from;
 }
 
@@ -232,7 +232,7 @@ pub record IsGrown (graph : ActGraph) (first next : Blocks) (more : List Split) 
 pub grown : (graph : ActGraph) (first blocks next : Blocks) (splits more : List Split) (split : Split) (count later : ℕ) → AreAfter graph first splits blocks
     → length blocks.numbers ≡ graph.count → count ≡ blocks.count → length splits + first.count ≡ count
     → split_by graph.edges blocks split ≡ Ok next → split.edge < length graph.edges → more ≡ splits ++ split ∷ [] → later ≡ next.count
-        → IsGrown graph first next more later × (later ≡ count + 1)
+    → IsGrown graph first next more later × (later ≡ count + 1)
 grown graph first blocks next splits more split count later after total counted few is inside pushed value =
     let longer : next.count ≡ blocks.count + 1 = ap (λ (b : Blocks). b.count) (made graph.edges blocks split next is).is in (
       record {

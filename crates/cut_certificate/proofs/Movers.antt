@@ -53,13 +53,13 @@ mover_below edges numbers block by act u e =
 pub mover_member : (edges : List Edge) (numbers : List ℕ) (block by act u : ℕ) → is_mover edges numbers block by act u ≡ true → slice_index numbers u ≡ block
 mover_member edges numbers block by act u e =
     test_same _ _ (and_first (nat_eq (slice_index numbers u) block) (reaches edges numbers by act u)
-        (and_second (nat_lt u (length numbers)) (nat_eq (slice_index numbers u) block && reaches edges numbers by act u) e))
+    (and_second (nat_lt u (length numbers)) (nat_eq (slice_index numbers u) block && reaches edges numbers by act u) e))
 
 pub mover_reaches : (edges : List Edge) (numbers : List ℕ) (block by act u : ℕ) → is_mover edges numbers block by act u ≡ true
     → reaches edges numbers by act u ≡ true
 mover_reaches edges numbers block by act u e =
     and_second (nat_eq (slice_index numbers u) block) (reaches edges numbers by act u)
-        (and_second (nat_lt u (length numbers)) (nat_eq (slice_index numbers u) block && reaches edges numbers by act u) e)
+    (and_second (nat_lt u (length numbers)) (nat_eq (slice_index numbers u) block && reaches edges numbers by act u) e)
 
 -- ---- all movers are candidates
 
@@ -69,7 +69,7 @@ movers_in_block edges numbers lists block by act list listed read = record {
   all = λ u e.
       let h = mover_below edges numbers block by act u e in
       subst (λ (v : Vec ℕ Global). Contains v.items u) (ap (λ i. slice_index_or lists i list) (mover_member edges numbers block by act u e) ∙ sym read)
-          (listed.members u list h);
+      (listed.members u list h);
 }
 
 an_item : {X : Type 0} (xs : List X) (k : ℕ) → k < length xs → X
@@ -78,7 +78,7 @@ an_item (x ∷ xs) k h = x
 
 pub movers_import : (graph : ActGraph) (numbers : List ℕ) (lists : List (Vec ℕ Global)) (incoming : List (Vec Placed Global)) (block by act : ℕ)
     (list : Vec ℕ Global) (found : List ℕ) → AreIncoming graph incoming → length numbers ≡ graph.count → AreMembersListed numbers lists
-        → list ≡ slice_index_or lists by list
+    → list ≡ slice_index_or lists by list
     → HasImporters incoming list.items act found → HasMovers graph.edges numbers block by act found
 movers_import graph numbers lists incoming block by act list found are total listed read importers = record {
   all = λ u e.
@@ -88,9 +88,9 @@ movers_import graph numbers lists incoming block by act list found are total lis
       let d = an_item incoming l.edge.exporter inside in
       let (p, within, is) = are.each.each l.edge d (l.place, l.inside, l.at) inside in
       let there : Contains list.items l.edge.exporter = subst (λ (v : Vec ℕ Global). Contains v.items l.edge.exporter)
-          (ap (λ i. slice_index_or lists i list) l.into ∙ sym read) (listed.members l.edge.exporter list (omega (arith, total))) in
+      (ap (λ i. slice_index_or lists i list) l.into ∙ sym read) (listed.members l.edge.exporter list (omega (arith, total))) in
       subst (Contains found) (ap (λ (x : Edge). x.importer) is ∙ l.importer)
-          (importers.each l.edge.exporter d p there within (ap (λ (x : Edge). x.act) is ∙ l.acts));
+      (importers.each l.edge.exporter d p there within (ap (λ (x : Edge). x.act) is ∙ l.acts));
 }
 
 filter_contains : (p : ℕ → Bool) (xs : List ℕ) (x : ℕ) → p x ≡ true → Contains xs x → Contains (filter p xs) x
@@ -108,7 +108,7 @@ pub movers_kept : (edges : List Edge) (numbers : List ℕ) (block by act : ℕ) 
 movers_kept edges numbers block by act found kept sorted has is moved = record {
   only = All-dedup nat_eq (λ u. is_mover edges numbers block by act u ≡ true) sorted
       (All-permutation (λ u. is_mover edges numbers block by act u ≡ true) kept sorted moved
-          (subst (All (λ u. is_mover edges numbers block by act u ≡ true)) (sym is) (filter_passes (is_mover edges numbers block by act) found)));
+      (subst (All (λ u. is_mover edges numbers block by act u ≡ true)) (sym is) (filter_passes (is_mover edges numbers block by act) found)));
   all = λ u e. Contains-dedup_nat sorted u (Contains-permutation kept sorted u moved
       (subst (λ (us : List ℕ). Contains us u) (sym is) (filter_contains (is_mover edges numbers block by act) found u e (has.all u e))));
 }
@@ -119,7 +119,7 @@ after_mover : (edges : List Edge) (numbers : List ℕ) (block by act next u : �
     → number_after edges numbers block by act next u ≡ cond b next (slice_index numbers u)
 after_mover edges numbers block by act next u b h e =
     let own : (nat_eq (slice_index numbers u) block && reaches edges numbers by act u) ≡ b =
-        ap (λ t. t && (nat_eq (slice_index numbers u) block && reaches edges numbers by act u)) (sym (lt-ltb u (length numbers) h)) ∙ e in
+    ap (λ t. t && (nat_eq (slice_index numbers u) block && reaches edges numbers by act u)) (sym (lt-ltb u (length numbers) h)) ∙ e in
     ap (λ t. cond t next (slice_index numbers u)) own
 
 true_or_false : (b : Bool) → (b ≡ true) ⊎ (b ≡ false)
@@ -156,10 +156,10 @@ parts_some edges numbers block by act next mover moves stayer =
     let long = after_long edges numbers block by act next in
     let h = mover_below edges numbers block by act mover moves in
     let left = has_value (numbers_after edges numbers block by act next) stayer.router block (let s = stayer.below in omega arith)
-        (after_at edges numbers block by act next stayer.router stayer.below
-            ∙ after_mover edges numbers block by act next stayer.router false stayer.below stayer.stays ∙ stayer.member) in
+    (after_at edges numbers block by act next stayer.router stayer.below
+    ∙ after_mover edges numbers block by act next stayer.router false stayer.below stayer.stays ∙ stayer.member) in
     let right = has_value (numbers_after edges numbers block by act next) mover next (omega arith)
-        (after_at edges numbers block by act next mover h ∙ after_mover edges numbers block by act next mover true h moves) in
+    (after_at edges numbers block by act next mover h ∙ after_mover edges numbers block by act next mover true h moves) in
     both _ _ left right
 
 -- all go
@@ -236,9 +236,9 @@ pub listed_moved : (numbers new : List ℕ) (lists lists' : List (Vec ℕ Global
 listed_moved numbers new lists lists' movers next are count done below pushed =
     let long : length lists' ≡ length lists + 1 = ap length pushed ∙ length_push lists movers in
     let old_list : (block : ℕ) (d : Vec ℕ Global) → block < length lists → slice_index_or lists' block d ≡ slice_index_or lists block d = λ block d h.
-        ap (λ (ls : List (Vec ℕ Global)). slice_index_or ls block d) pushed ∙ get_or_append_left lists (movers ∷ []) d block h in
+    ap (λ (ls : List (Vec ℕ Global)). slice_index_or ls block d) pushed ∙ get_or_append_left lists (movers ∷ []) d block h in
     let new_list : (d : Vec ℕ Global) → slice_index_or lists' next d ≡ movers = λ d. ap (λ (ls : List (Vec ℕ Global)). slice_index_or ls next d) pushed
-        ∙ get_or_push lists movers d next (sym count) in
+    ∙ get_or_push lists movers d next (sym count) in
     record {
       below = All-from_get_or (λ number. number < length lists') new 0 (λ u inside.
           let h : u < length numbers = omega (arith, done.total) in
@@ -277,7 +277,7 @@ listed_moved numbers new lists lists' movers next are count done below pushed =
 -- the list of one block is another, which still has its members
 pub listed_set : (numbers : List ℕ) (lists : List (Vec ℕ Global)) (block : ℕ) (list list' : Vec ℕ Global) → AreMembersListed numbers lists
     → block < length lists → list ≡ slice_index_or lists block list → AreStillMembersListed numbers block list.items list'.items
-        → AreMembersListed numbers (slice_set lists block list')
+    → AreMembersListed numbers (slice_set lists block list')
 listed_set numbers lists block list list' listed known read still =
     let size = length-set lists block list' in
     record {
@@ -285,16 +285,16 @@ listed_set numbers lists block list list' listed known read still =
       routers = λ b d inside. elim (cases_eq b block) [
         | inl e ↦
             let here : slice_index_or (slice_set lists block list') b d ≡ list' = ap (λ i. slice_index_or (slice_set lists block list') i d) e
-                ∙ get_or-set_same lists block list' d known in
+            ∙ get_or-set_same lists block list' d known in
             rw here still.routers
         | inr ne ↦ rw (get_or-set_other lists block b list' d ne) (listed.routers b d (omega arith))
       ];
       members = λ u d hu. elim (cases_eq (slice_index numbers u) block) [
         | inl e ↦
             let here : slice_index_or (slice_set lists block list') (slice_index numbers u) d ≡ list' =
-                ap (λ i. slice_index_or (slice_set lists block list') i d) e ∙ get_or-set_same lists block list' d known in
+            ap (λ i. slice_index_or (slice_set lists block list') i d) e ∙ get_or-set_same lists block list' d known in
             let was : Contains list.items u = subst (λ (v : Vec ℕ Global). Contains v.items u) (ap (λ i. slice_index_or lists i list) e ∙ sym read)
-                (listed.members u list hu) in
+            (listed.members u list hu) in
             rw here (still.members u was e)
         | inr ne ↦ rw (get_or-set_other lists block (slice_index numbers u) list' d ne) (listed.members u d hu)
       ];
@@ -331,8 +331,11 @@ act_at (x ∷ xs) (suc k) e h at = act_at xs k e (omega arith) at
 -- ---- splits and the blocks to which they lead
 
 pub course_first : (graph : ActGraph) (blocks : Blocks) → blocks ≡ first_blocks graph → IsCourse graph blocks []
-course_first graph blocks is = record { after = sym is; few =
-    (let count : blocks.count ≡ (first_blocks graph).count = ap (λ (b : Blocks). b.count) is in omega arith) }
+course_first graph blocks is = record {
+  after = sym is;
+  few =
+      (let count : blocks.count ≡ (first_blocks graph).count = ap (λ (b : Blocks). b.count) is in omega arith);
+}
 
 pub course_total : (graph : ActGraph) (blocks : Blocks) (splits : List Split) → IsCourse graph blocks splits → length blocks.numbers ≡ graph.count
 course_total graph blocks splits are = after_total graph (first_blocks graph) blocks splits refl are.after
@@ -340,10 +343,10 @@ course_total graph blocks splits are = after_total graph (first_blocks graph) bl
 -- one split more, where it can be made
 pub course_more : (graph : ActGraph) (blocks next : Blocks) (splits more : List Split) (split : Split) (fault : Option CutKind) → IsCourse graph blocks splits
     → split.edge < length graph.edges → IsSplitOrFault (split_by graph.edges blocks split) blocks next fault → fault ≡ None → more ≡ splits ++ split ∷ []
-        → IsCourse graph next more
+    → IsCourse graph next more
 course_more graph blocks next splits more split fault are inside is none pushed =
     let g = grown graph (first_blocks graph) blocks next splits more split blocks.count next.count are.after (course_total graph blocks splits are) refl are.few
-        (outcome_made (split_by graph.edges blocks split) blocks next fault is none) inside pushed refl in
+    (outcome_made (split_by graph.edges blocks split) blocks next fault is none) inside pushed refl in
     record { after = g.0.after; few = g.0.few }
 
 pub course_same : (graph : ActGraph) (blocks next : Blocks) (splits : List Split) (split : Split) (fault : Option CutKind) → IsCourse graph blocks splits

@@ -151,8 +151,8 @@ module _ (graph : ActGraph) (routers : List ℕ → Option ℕ) (end line : ℕ)
       by : ((next : Standing) → IsSound graph next → certificate_from graph.edges routers end ls next ≡ Err (refusal.At line kinds.NotAdmissible)
           → StopsUneven graph routers ls next line)
           → (r : Result Standing CutKind) → with_line graph.edges routers s l.words ≡ r
-              → go_on l.number r (certificate_from graph.edges routers end ls) ≡ Err (refusal.At line kinds.NotAdmissible)
-                  → StopsUneven graph routers (l ∷ ls) s line
+          → go_on l.number r (certificate_from graph.edges routers end ls) ≡ Err (refusal.At line kinds.NotAdmissible)
+          → StopsUneven graph routers (l ∷ ls) s line
       by rest (Ok next) is e = later l ls s next is (rest next (step_sound graph s next sound (line_step graph.edges routers s next l.words is)) e)
       by rest (Err kind) is e =
           let number : l.number ≡ line = cc in

@@ -38,27 +38,27 @@ length_take (suc k) (e ∷ es) h = ap suc (length_take k es (omega arith))
 pub index_more : (edges : List Edge) (lists : List (Vec Placed Global)) (k : ℕ) (e d' : Edge) (old new : Vec Placed Global) → AreByImporter (take k edges) lists
     → k < length edges → e ≡ get_or edges k d' → e.importer < length lists
     → old ≡ slice_index_or lists e.importer old → new.items ≡ old.items ++ record { place = k; edge = e } ∷ []
-        → AreByImporter (take (k + 1) edges) (slice_set lists e.importer new)
+    → AreByImporter (take (k + 1) edges) (slice_set lists e.importer new)
 index_more edges lists k e d' old new before more is inside read pushed = record {
   each = λ router d within.
       let within' : router < length lists = omega (arith, length-set lists e.importer new) in
       let longer : edges_of (take (k + 1) edges) router ≡ edges_of (take k edges) router ++ filter (is_of router) (at_place k e ∷ []) =
       ap (λ es. edges_of es router) (take_more edges k d' more) ∙ ap (filter (is_of router)) (placed_append 0 (take k edges) (get_or edges k d' ∷ []))
-          ∙ filter-append (is_of router) (placed 0 (take k edges)) (placed (0 + length (take k edges)) (get_or edges k d' ∷ []))
+      ∙ filter-append (is_of router) (placed 0 (take k edges)) (placed (0 + length (take k edges)) (get_or edges k d' ∷ []))
       ∙ ap (λ n. edges_of (take k edges) router ++ filter (is_of router) (at_place n (get_or edges k d') ∷ []))
-          (let l = length_take k edges more in let z : 0 + length (take k edges) ≡ k = omega arith in z)
+      (let l = length_take k edges more in let z : 0 + length (take k edges) ≡ k = omega arith in z)
       ∙ ap (λ (x : Edge). edges_of (take k edges) router ++ filter (is_of router) (at_place k x ∷ [])) (sym is) in
       elim (cases_eq router e.importer) [
         | inl same ↦
             let here : slice_index_or (slice_set lists e.importer new) router d ≡ new = ap (λ b. slice_index_or (slice_set lists e.importer new) b d) same
-                ∙ get_or-set_same lists e.importer new d inside in
+            ∙ get_or-set_same lists e.importer new d inside in
             let was : old.items ≡ edges_of (take k edges) e.importer = ap (λ (v : Vec Placed Global). v.items) read ∙ before.each e.importer old inside in
             let test : nat_eq e.importer router ≡ true = same_test _ _ (sym same) in
             ap (λ (v : Vec Placed Global). v.items) here ∙ pushed
-                ∙ ap (λ (xs : List Placed). xs ++ at_place k e ∷ []) (was ∙ ap (edges_of (take k edges)) (sym same)) ∙ sym (longer ∙ rw test refl)
+            ∙ ap (λ (xs : List Placed). xs ++ at_place k e ∷ []) (was ∙ ap (edges_of (take k edges)) (sym same)) ∙ sym (longer ∙ rw test refl)
         | inr ne ↦
             let there : slice_index_or (slice_set lists e.importer new) router d ≡ slice_index_or lists router d =
-                get_or-set_other lists e.importer router new d ne in
+            get_or-set_other lists e.importer router new d ne in
             let test : nat_eq e.importer router ≡ false = other_test _ _ (λ same. ne (sym same)) in
             ap (λ (v : Vec Placed Global). v.items) there ∙ before.each router d within' ∙ sym (longer ∙ rw test (append-nil _))
       ];
@@ -73,8 +73,8 @@ any_of is router n (e ∷ es) = by (nat_eq e.importer router) refl (any_of is ro
   where
     by : (b : Bool) → nat_eq e.importer router ≡ b → list_any (λ (p : Placed). is p.edge) (filter (is_of router) (placed (n + 1) es))
         ≡ list_any (λ (x : Edge). nat_eq x.importer router && is x) es
-            → list_any (λ (p : Placed). is p.edge) (cond b (at_place n e ∷ filter (is_of router) (placed (n + 1) es))
-                (filter (is_of router) (placed (n + 1) es)))
+        → list_any (λ (p : Placed). is p.edge) (cond b (at_place n e ∷ filter (is_of router) (placed (n + 1) es))
+        (filter (is_of router) (placed (n + 1) es)))
         ≡ (nat_eq e.importer router && is e || list_any (λ (x : Edge). nat_eq x.importer router && is x) es)
     by true f rest = rw f (ap (λ b. is e || b) rest)
     by false f rest = rw f rest
@@ -86,8 +86,8 @@ all_of is router n (e ∷ es) = by (nat_eq e.importer router) refl (all_of is ro
   where
     by : (b : Bool) → nat_eq e.importer router ≡ b → list_all (λ (p : Placed). is p.edge) (filter (is_of router) (placed (n + 1) es))
         ≡ list_all (λ (x : Edge). not (nat_eq x.importer router) || is x) es
-            → list_all (λ (p : Placed). is p.edge) (cond b (at_place n e ∷ filter (is_of router) (placed (n + 1) es))
-                (filter (is_of router) (placed (n + 1) es)))
+        → list_all (λ (p : Placed). is p.edge) (cond b (at_place n e ∷ filter (is_of router) (placed (n + 1) es))
+        (filter (is_of router) (placed (n + 1) es)))
         ≡ ((not (nat_eq e.importer router) || is e) && list_all (λ (x : Edge). not (nat_eq x.importer router) || is x) es)
     by true f rest = rw f (ap (λ b. is e && b) rest)
     by false f rest = rw f rest
@@ -106,7 +106,7 @@ edge_place router link n (e ∷ es) = by (edge_place router link (n + 1) es) (na
     by : option_map (λ (p : Placed). p.place) (find (over link) (filter (is_of router) (placed (n + 1) es)))
         ≡ moved (n + 1) (position (is_edge_over router link) es) → (b : Bool) → nat_eq e.importer router ≡ b → (c : Bool) → nat_eq e.link link ≡ c
         → option_map (λ (p : Placed). p.place) (find (over link) (filter (is_of router) (placed n (e ∷ es))))
-            ≡ cond (is_edge_over router link e) (Some n) (moved (n + 1) (position (is_edge_over router link) es))
+        ≡ cond (is_edge_over router link e) (Some n) (moved (n + 1) (position (is_edge_over router link) es))
     by rest true f true g = rw (f, g) refl
     by rest true f false g = rw (f, g) rest
     by rest false f c g = rw f rest
@@ -142,7 +142,7 @@ exporters_by n count router (e ∷ es) known = by (nat_eq e.importer router) ref
   where
     by : (b : Bool) → nat_eq e.importer router ≡ b → All (λ (p : Placed). p.edge.exporter < count) (filter (is_of router) (placed (n + 1) es))
         → All (λ (p : Placed). p.edge.exporter < count) (cond b (at_place n e ∷ filter (is_of router) (placed (n + 1) es))
-            (filter (is_of router) (placed (n + 1) es)))
+        (filter (is_of router) (placed (n + 1) es)))
     by true f rest = All-cons (λ (p : Placed). p.edge.exporter < count) (at_place n e) (filter (is_of router) (placed (n + 1) es)) (known 0 e (omega arith))
         rest
     by false f rest = rest
@@ -151,7 +151,7 @@ pub list_known : (graph : ActGraph) (numbers : List ℕ) (router : ℕ) (list : 
     → All (λ (p : Placed). p.edge.exporter < length numbers) list
 list_known graph numbers router list is total =
     subst (λ n. All (λ (p : Placed). p.edge.exporter < n) list) (sym total)
-        (subst (All (λ (p : Placed). p.edge.exporter < graph.count)) (sym is) (exporters_by 0 graph.count router graph.edges graph.exporters_in_range))
+    (subst (All (λ (p : Placed). p.edge.exporter < graph.count)) (sym is) (exporters_by 0 graph.count router graph.edges graph.exporters_in_range))
 
 -- ---- what the list of a router says of all edges
 
@@ -192,8 +192,12 @@ listed_by n router (e ∷ es) = by (nat_eq e.importer router) refl
     by : (b : Bool) → nat_eq e.importer router ≡ b → All (IsListed n router (e ∷ es)) (filter (is_of router) (placed (n + 1) es))
         → All (IsListed n router (e ∷ es)) (cond b (at_place n e ∷ filter (is_of router) (placed (n + 1) es)) (filter (is_of router) (placed (n + 1) es)))
     by true f rest = All-cons (IsListed n router (e ∷ es)) (at_place n e) (filter (is_of router) (placed (n + 1) es))
-        (record { found = record { at = 0; place = omega arith; inside = omega arith; act = refl }; importer = test_same _ _ f; contains =
-            (0, omega arith, refl) }) rest
+        (record {
+          found = record { at = 0; place = omega arith; inside = omega arith; act = refl };
+          importer = test_same _ _ f;
+          contains =
+              (0, omega arith, refl);
+        }) rest
     by false f rest = rest
 
 pub listed : (graph : ActGraph) (router : ℕ) (list : List Placed) → list ≡ edges_of graph.edges router → All (IsListed 0 router graph.edges) list
@@ -207,27 +211,32 @@ matched_inside edges numbers router other e same = ap (λ b. b || reaches edges 
 
 pub matched_there : (graph : ActGraph) (numbers : List ℕ) (router other : ℕ) (e : Edge) (others : List Placed) → others ≡ edges_of graph.edges other
     → list_any (λ (p : Placed). leads_into numbers (slice_index numbers e.exporter) e.act p.edge) others ≡ true
-        → is_matched graph.edges numbers router other e ≡ true
+    → is_matched graph.edges numbers router other e ≡ true
 matched_there graph numbers router other e others is found =
     ap (λ b. nat_eq (slice_index numbers e.exporter) (slice_index numbers router) || b)
-        (sym (reaches_is graph numbers (slice_index numbers e.exporter) e.act other others is) ∙ found)
-            ∙ or_true (nat_eq (slice_index numbers e.exporter) (slice_index numbers router))
+    (sym (reaches_is graph numbers (slice_index numbers e.exporter) e.act other others is) ∙ found)
+    ∙ or_true (nat_eq (slice_index numbers e.exporter) (slice_index numbers router))
 
 pub matched_nowhere : (graph : ActGraph) (numbers : List ℕ) (router other : ℕ) (e : Edge) (others : List Placed) → others ≡ edges_of graph.edges other
     → slice_index numbers e.exporter ≢ slice_index numbers router
     → list_any (λ (p : Placed). leads_into numbers (slice_index numbers e.exporter) e.act p.edge) others ≡ false
-        → is_matched graph.edges numbers router other e ≡ false
+    → is_matched graph.edges numbers router other e ≡ false
 matched_nowhere graph numbers router other e others is leaves none =
     ap (λ b. b || reaches graph.edges numbers (slice_index numbers e.exporter) e.act other) (other_test _ _ leaves)
-        ∙ sym (reaches_is graph numbers (slice_index numbers e.exporter) e.act other others is) ∙ none
+    ∙ sym (reaches_is graph numbers (slice_index numbers e.exporter) e.act other others is) ∙ none
 
 reached_by : (edges : List Edge) (numbers : List ℕ) (router : ℕ) (e : Edge) → e.importer ≡ router → Contains edges e
     → reaches edges numbers (slice_index numbers e.exporter) e.act router ≡ true
 unfolding reaches
 reached_by edges numbers router e importer (k, inside, at) =
-    list_any-from_Any (leads_from numbers (slice_index numbers e.exporter) e.act router) edges
-        (k, e, inside, at, both_of _ _ (same_test _ _ importer)
-            (both_of _ _ (same_test e.act e.act refl) (same_test (slice_index numbers e.exporter) (slice_index numbers e.exporter) refl)))
+    list_any-from_Any (leads_from numbers (slice_index numbers e.exporter) e.act router) edges (
+      k,
+      e,
+      inside,
+      at,
+      both_of _ _ (same_test _ _ importer)
+          (both_of _ _ (same_test e.act e.act refl) (same_test (slice_index numbers e.exporter) (slice_index numbers e.exporter) refl)),
+    )
   where
     both_of : (a b : Bool) → a ≡ true → b ≡ true → (a && b) ≡ true
     both_of true b f g = g
@@ -236,8 +245,8 @@ reached_by edges numbers router e importer (k, inside, at) =
 pub unmatched_is : (graph : ActGraph) (numbers : List ℕ) (router other : ℕ) (p : Placed) (others : List Placed) → others ≡ edges_of graph.edges other
     → IsListed 0 router graph.edges p → p.edge.exporter < length numbers
     → slice_index numbers p.edge.exporter ≢ slice_index numbers router
-        → list_any (λ (q : Placed). leads_into numbers (slice_index numbers p.edge.exporter) p.edge.act q.edge) others ≡ false
-            → IsUnmatched graph.edges numbers p router other
+    → list_any (λ (q : Placed). leads_into numbers (slice_index numbers p.edge.exporter) p.edge.act q.edge) others ≡ false
+    → IsUnmatched graph.edges numbers p router other
 unmatched_is graph numbers router other p others is l known leaves none =
     let place : p.place ≡ l.found.at = l.found.place ∙ omega arith in
     record {
@@ -261,13 +270,13 @@ pub named_there : (edges : List Edge) (router link : ℕ) (list : List Placed) (
     → find (λ (q : Placed). nat_eq q.edge.link link) list ≡ Some p → edge_named edges router link ≡ Some p.place
 named_there edges router link list p is found =
     moved_back (edge_named edges router link) p.place (sym (edge_place router link 0 edges)
-        ∙ ap (λ (ps : List Placed). option_map (λ (q : Placed). q.place) (find (over link) ps)) (sym is) ∙ ap (option_map (λ (q : Placed). q.place)) found)
+    ∙ ap (λ (ps : List Placed). option_map (λ (q : Placed). q.place) (find (over link) ps)) (sym is) ∙ ap (option_map (λ (q : Placed). q.place)) found)
 
 pub named_nowhere : (edges : List Edge) (router link : ℕ) (list : List Placed) → list ≡ edges_of edges router
     → find (λ (q : Placed). nat_eq q.edge.link link) list ≡ None → edge_named edges router link ≡ None
 named_nowhere edges router link list is none =
     moved_none (edge_named edges router link) (sym (edge_place router link 0 edges)
-        ∙ ap (λ (ps : List Placed). option_map (λ (q : Placed). q.place) (find (over link) ps)) (sym is) ∙ ap (option_map (λ (q : Placed). q.place)) none)
+    ∙ ap (λ (ps : List Placed). option_map (λ (q : Placed). q.place) (find (over link) ps)) (sym is) ∙ ap (option_map (λ (q : Placed). q.place)) none)
 
 pub named_act : (edges : List Edge) (router link : ℕ) (list : List Placed) (p : Placed) → list ≡ edges_of edges router
     → find (λ (q : Placed). nat_eq q.edge.link link) list ≡ Some p → p.edge.act ≡ edge_act edges p.place

@@ -27,7 +27,7 @@ number_apart : (keys : List ℕ) (u v : ℕ) → u < length keys → v < length 
 number_apart keys u v hu hv same =
     let place : place_among (distinct keys) (get_or keys u 0) ≡ place_among (distinct keys) (get_or keys v 0) = omega arith in
     sym (at_place (distinct keys) (get_or keys u 0) (distinct_has keys u hu)) ∙ ap (λ k. get_or (distinct keys) k 0) place
-        ∙ at_place (distinct keys) (get_or keys v 0) (distinct_has keys v hv)
+    ∙ at_place (distinct keys) (get_or keys v 0) (distinct_has keys v hv)
 
 pub first_reached : (graph : ActGraph) → IsReached graph (first_blocks graph)
 unfolding first_blocks
@@ -91,11 +91,11 @@ reaches_by edges numbers block act router e =
 
 pub reaches_if : (edges : List Edge) (numbers : List ℕ) (block act router : ℕ)
     → Any (λ edge. (edge.importer ≡ router) × (edge.act ≡ act) × (slice_index numbers edge.exporter ≡ block)) edges
-        → reaches edges numbers block act router ≡ true
+    → reaches edges numbers block act router ≡ true
 unfolding reaches
 reaches_if edges numbers block act router (k, edge, inside, at, (importer, acts, into)) =
     list_any-from_Any (leads_from numbers block act router) edges
-        (k, edge, inside, at, both _ _ (same_test _ _ importer) (both _ _ (same_test _ _ acts) (same_test _ _ into)))
+    (k, edge, inside, at, both _ _ (same_test _ _ importer) (both _ _ (same_test _ _ acts) (same_test _ _ into)))
 
 -- a router that is together with one that reaches the block reaches it too
 reaches_too : (graph : ActGraph) (numbers others : List ℕ) (block by act u v : ℕ) → Refines graph.count others numbers → IsAdmissibleOn graph others
@@ -107,11 +107,16 @@ reaches_too graph numbers others block by act u v refines admissible hu hv same 
     let exporter = rw (l.at) at (graph.exporters_in_range l.place l.edge l.inside) in
     let mirrored = rw (l.at) at (admissible.edges u v hu hv same l.place l.edge l.inside) in
     let leaves : slice_index others l.edge.exporter ≢ slice_index others u = λ together.
-        apart (sym member ∙ sym (refines l.edge.exporter u exporter hu together) ∙ l.into) in
+    apart (sym member ∙ sym (refines l.edge.exporter u exporter hu together) ∙ l.into) in
     let (k, twin, inside, at, (importer, acts, into)) = mirrored.twin l.importer leaves in
     let exporter' = rw at at (graph.exporters_in_range k twin inside) in
-    reaches_if graph.edges numbers by act v (k, twin, inside, at,
-        (importer, acts ∙ l.acts, refines twin.exporter l.edge.exporter exporter' exporter into ∙ l.into))
+    reaches_if graph.edges numbers by act v (
+      k,
+      twin,
+      inside,
+      at,
+      (importer, acts ∙ l.acts, refines twin.exporter l.edge.exporter exporter' exporter into ∙ l.into),
+    )
 
 -- two routers of the block that both reach, or both do not
 after_same : (edges : List Edge) (numbers : List ℕ) (block by act next u v : ℕ) → slice_index numbers u ≡ slice_index numbers v
@@ -127,7 +132,7 @@ equal_tests false false there back = refl
 -- where it goes
 moved_to : (edges : List Edge) (numbers : List ℕ) (block by act next u : ℕ) → (b : Bool)
     → (nat_eq (slice_index numbers u) block && reaches edges numbers by act u) ≡ b
-        → number_after edges numbers block by act next u ≡ cond b next (slice_index numbers u)
+    → number_after edges numbers block by act next u ≡ cond b next (slice_index numbers u)
 moved_to edges numbers block by act next u b e = ap (λ t. cond t next (slice_index numbers u)) e
 
 pub next_reached : (graph : ActGraph) (blocks next : Blocks) (split : Split) → IsReached graph blocks → split_by graph.edges blocks split ≡ Ok next
@@ -178,11 +183,11 @@ next_reached graph blocks next split are e =
     together u v hu hv true f true g same = member u f ∙ sym (member v g)
     together u v hu hv true f false g same =
         let is : more ≡ slice_index numbers v = sym (moved_to edges numbers block by act more u true f) ∙ same
-            ∙ moved_to edges numbers block by act more v false g in
+        ∙ moved_to edges numbers block by act more v false g in
         let low = are.below v hv in absurd (omega arith)
     together u v hu hv false f true g same =
         let is : slice_index numbers u ≡ more = sym (moved_to edges numbers block by act more u false f) ∙ same
-            ∙ moved_to edges numbers block by act more v true g in
+        ∙ moved_to edges numbers block by act more v true g in
         let low = are.below u hu in absurd (omega arith)
     together u v hu hv false f false g same = sym (moved_to edges numbers block by act more u false f) ∙ same
         ∙ moved_to edges numbers block by act more v false g
@@ -198,7 +203,7 @@ next_reached graph blocks next split are e =
         let equal = refines u v hu hv same in
         after_same edges numbers block by act more u v equal
         (equal_tests (reaches edges numbers by act u) (reaches edges numbers by act v)
-            (reaches_too graph numbers others block by act u v refines admissible hu hv same here apart)
+        (reaches_too graph numbers others block by act u v refines admissible hu hv same here apart)
         (reaches_too graph numbers others block by act v u refines admissible hv hu (sym same) (sym equal ∙ here) apart))
     kept others admissible u v hu hv same apart (inr there) =
         let equal = are.above others admissible u v hu hv same in

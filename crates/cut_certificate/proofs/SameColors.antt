@@ -97,8 +97,8 @@ module _ (cs ds : List ℕ) (n : ℕ) (tests : (u v : ℕ) → u < n → v < n �
             let hn : u < n = omega arith in
             let hd : u < length ds = omega arith in
             map_at (number_among cs) cs u hc ∙ ap (λ k. k + 1)
-                (ap (λ seen. place_among seen (at cs u)) first ∙ place_same s.places u s.below hn ∙ sym (ap (λ seen. place_among seen (at ds u)) second))
-                    ∙ sym (map_at (number_among ds) ds u hd)),
+            (ap (λ seen. place_among seen (at cs u)) first ∙ place_same s.places u s.below hn ∙ sym (ap (λ seen. place_among seen (at ds u)) second))
+            ∙ sym (map_at (number_among ds) ds u hd)),
         ap length first ∙ map_long (at cs) s.places ∙ sym (ap length second ∙ map_long (at ds) s.places),
       )
 
@@ -108,7 +108,7 @@ first_same first second same =
     let n = first.count in
     let tests : (u v : ℕ) → u < n → v < n → nat_eq (at first.colors u) (at first.colors v) ≡ nat_eq (at second.colors u) (at second.colors v) = λ u v hu hv.
     equal_tests (nat_eq (at first.colors u) (at first.colors v)) (nat_eq (at second.colors u) (at second.colors v))
-        (λ e. same_test _ _ (same.there u v hu hv (test_same _ _ e)))
+    (λ e. same_test _ _ (same.there u v hu hv (test_same _ _ e)))
     (λ e. same_test _ _ (same.back u v (omega (arith, same.count)) (omega (arith, same.count)) (test_same _ _ e))) in
     let are = numbers_same first.colors second.colors n tests first.one_color_each (second.one_color_each ∙ sym same.count) in
     cc (are.0, are.1)
@@ -118,4 +118,4 @@ unfolding certificate_of_text
 colors_are_aside first second same names bs =
     ap (λ edges. certificate_from edges (router_named names) (length (all_lines_of bs) + 1) (map (text_line bs) (all_lines_of bs)) (opening first)) same.edges
     ∙ ap (λ (b : Blocks). certificate_from second.edges (router_named names) (length (all_lines_of bs) + 1) (map (text_line bs) (all_lines_of bs))
-        (record (opening first) { blocks = b })) (first_same first second same)
+    (record (opening first) { blocks = b })) (first_same first second same)

@@ -35,7 +35,7 @@ pub unmatched_splits : (edges : List Edge) (blocks : Blocks) (p : Placed) (one o
     → one < length blocks.numbers → other < length blocks.numbers
     → slice_index blocks.numbers other ≡ slice_index blocks.numbers one → IsUnmatched edges blocks.numbers p one other
     → split.block ≡ slice_index blocks.numbers one → split.by ≡ slice_index blocks.numbers p.edge.exporter → split.edge ≡ p.place
-        → split_by edges blocks split ≡ Ok (blocks_after edges blocks split)
+    → split_by edges blocks split ≡ Ok (blocks_after edges blocks split)
 unmatched_splits edges blocks p one other split are h1 h2 together un block by edge =
     let numbers = blocks.numbers in
     let act : edge_act edges split.edge ≡ p.edge.act = ap (edge_act edges) edge ∙ un.act in
@@ -43,18 +43,18 @@ unmatched_splits edges blocks p one other split are h1 h2 together un block by e
     let after = numbers_after edges numbers split.block split.by (edge_act edges split.edge) next in
     let long = after_long edges numbers split.block split.by (edge_act edges split.edge) next in
     let reach = ap (λ (b : ℕ). reaches edges numbers b (edge_act edges split.edge) one) by
-        ∙ ap (λ (a : ℕ). reaches edges numbers (slice_index numbers p.edge.exporter) a one) act ∙ un.reached in
+    ∙ ap (λ (a : ℕ). reaches edges numbers (slice_index numbers p.edge.exporter) a one) act ∙ un.reached in
     let none = ap (λ (b : ℕ). reaches edges numbers b (edge_act edges split.edge) other) by
-        ∙ ap (λ (a : ℕ). reaches edges numbers (slice_index numbers p.edge.exporter) a other) act ∙ un.unreached in
+    ∙ ap (λ (a : ℕ). reaches edges numbers (slice_index numbers p.edge.exporter) a other) act ∙ un.unreached in
     let left : has after split.block ≡ true = has_value after other split.block (omega arith)
-        (after_at edges numbers split.block split.by (edge_act edges split.edge) next other h2
-            ∙ stays_here edges numbers split.block split.by (edge_act edges split.edge) next other none ∙ together ∙ sym block) in
+    (after_at edges numbers split.block split.by (edge_act edges split.edge) next other h2
+    ∙ stays_here edges numbers split.block split.by (edge_act edges split.edge) next other none ∙ together ∙ sym block) in
     let right : has after next ≡ true = has_value after one next (omega arith)
-        (after_at edges numbers split.block split.by (edge_act edges split.edge) next one h1
-            ∙ goes edges numbers split.block split.by (edge_act edges split.edge) next one (sym block) reach) in
+    (after_at edges numbers split.block split.by (edge_act edges split.edge) next one h1
+    ∙ goes edges numbers split.block split.by (edge_act edges split.edge) next one (sym block) reach) in
     made_if edges blocks split
     (both _ _ (ap (is_block blocks) block ∙ block_known blocks one are.known h1)
-        (ap (is_block blocks) by ∙ block_known blocks p.edge.exporter are.known un.exporter))
+    (ap (is_block blocks) by ∙ block_known blocks p.edge.exporter are.known un.exporter))
     (other_test split.block split.by (λ e. un.leaves (sym by ∙ sym e ∙ block)))
     (both _ _ left right)
 

@@ -42,12 +42,12 @@ pub looking_dropped : (edges : List Edge) (numbers old list list' : List ℕ) (b
 looking_dropped edges numbers old list list' block by act place gone looking inside read items left =
     let last : ℕ = slice_index_or list (length list - 1) gone in
     let size : length list' + 1 ≡ length list = let taken = ap length items ∙ length-take (length list - 1) (slice_set list place last) in let set =
-        length-set list place last in omega arith in
+    length-set list place last in omega arith in
     let same : (k : ℕ) → k ≢ place → k + 1 < length list → slice_index list' k ≡ slice_index list k = λ k ne less.
     ap (λ (xs : List ℕ). slice_index xs k) items ∙ get_or-take (length list - 1) (slice_set list place last) k 0 (omega arith)
-        ∙ get_or-set_other list place k last 0 ne in
+    ∙ get_or-set_other list place k last 0 ne in
     let moved : IsPermutation list (gone ∷ list') = subst (λ (xs : List ℕ). IsPermutation list (gone ∷ xs)) (sym items)
-        (IsPermutation-swap_remove list place gone inside read) in
+    (IsPermutation-swap_remove list place gone inside read) in
     let all : All (λ u. u < length numbers) (gone ∷ list') = All-permutation (λ u. u < length numbers) list (gone ∷ list') moved looking.routers in
     record {
       within = omega arith;
@@ -60,7 +60,7 @@ looking_dropped edges numbers old list list' block by act place gone looking ins
 -- a member that moves stays in the list
 pub looking_more : (edges : List Edge) (numbers old list : List ℕ) (block by act place router : ℕ) → Looking edges numbers old list block by act place
     → place < length list → slice_index list place ≡ router → is_mover edges numbers block by act router ≡ true
-        → Looking edges numbers old list block by act (place + 1)
+    → Looking edges numbers old list block by act (place + 1)
 looking_more edges numbers old list block by act place router looking inside at moves = record {
   within = omega arith;
   routers = looking.routers;
@@ -101,14 +101,14 @@ pub listed_more : (numbers : List ℕ) (lists : List (Vec ℕ Global)) (router n
 listed_more numbers lists router number old new before is known read pushed =
     let size = length-set lists number new in
     let here : (b : ℕ) (d : Vec ℕ Global) → b ≡ number → slice_index_or (slice_set lists number new) b d ≡ new = λ b d e.
-        ap (λ i. slice_index_or (slice_set lists number new) i d) e ∙ get_or-set_same lists number new d known in
+    ap (λ i. slice_index_or (slice_set lists number new) i d) e ∙ get_or-set_same lists number new d known in
     record {
       routers = λ b d inside. elim (cases_eq b number) [
         | inl e ↦
             let was : All (λ u. u < router) old.items = subst (λ (v : Vec ℕ Global). All (λ u. u < router) v.items) (sym read) (before.routers number old known)
-                in
+            in
             rw (here b d e, pushed) (All-push (λ u. u < router + 1) old.items router
-                (All-weaker (λ u. u < router) (λ u. u < router + 1) (λ u lt. omega arith) old.items was) (omega arith))
+            (All-weaker (λ u. u < router) (λ u. u < router + 1) (λ u lt. omega arith) old.items was) (omega arith))
         | inr ne ↦ rw (get_or-set_other lists number b new d ne)
             (All-weaker (λ u. u < router) (λ u. u < router + 1) (λ u lt. omega arith) _ (before.routers b d (omega arith)))
       ];
@@ -118,7 +118,7 @@ listed_more numbers lists router number old new before is known read pushed =
         | inr other ↦ elim (cases_eq (slice_index numbers u) number) [
           | inl e ↦
               let was : Contains old.items u = subst (λ (v : Vec ℕ Global). Contains v.items u) (ap (λ i. slice_index_or lists i old) e ∙ sym read)
-                  (before.members u old (omega arith) hu) in
+              (before.members u old (omega arith) hu) in
               rw (here (slice_index numbers u) d e, pushed) (Contains-append_left old.items (router ∷ []) u was)
           | inr ne ↦ rw (get_or-set_other lists number (slice_index numbers u) new d ne) (before.members u d (omega arith) hu)
         ]
@@ -141,22 +141,22 @@ incoming_start edges lists = record { each = λ e d (k, inside, at) known. absur
 pub incoming_more : (edges : List Edge) (lists : List (Vec Placed Global)) (k : ℕ) (e d' : Edge) (p : Placed) (old new : Vec Placed Global)
     → HasIncoming (take k edges) lists → k < length edges → e ≡ get_or edges k d' → e.exporter < length lists
     → old ≡ slice_index_or lists e.exporter old → p.edge ≡ e → new.items ≡ old.items ++ p ∷ []
-        → HasIncoming (take (k + 1) edges) (slice_set lists e.exporter new)
+    → HasIncoming (take (k + 1) edges) (slice_set lists e.exporter new)
 incoming_more edges lists k e d' p old new before more is inside read own pushed = record {
   each = λ x d found known.
       let size = length-set lists e.exporter new in
       let last = subst (λ (es : List Edge). Contains es x) (take_more edges k d' more) found in
       let same_list : x.exporter ≡ e.exporter → slice_index_or (slice_set lists e.exporter new) x.exporter d ≡ new = λ same.
-          ap (λ b. slice_index_or (slice_set lists e.exporter new) b d) same ∙ get_or-set_same lists e.exporter new d inside in
+      ap (λ b. slice_index_or (slice_set lists e.exporter new) b d) same ∙ get_or-set_same lists e.exporter new d inside in
       let in_new : (q : Placed) → slice_index_or (slice_set lists e.exporter new) x.exporter d ≡ new → Contains (old.items ++ p ∷ []) q
-          → Contains (slice_index_or (slice_set lists e.exporter new) x.exporter d).items q = λ q same within.
+      → Contains (slice_index_or (slice_set lists e.exporter new) x.exporter d).items q = λ q same within.
       subst (λ (v : Vec Placed Global). Contains v.items q) (sym same) (subst (λ (ps : List Placed). Contains ps q) (sym pushed) within) in
       elim (Contains-push_cases (take k edges) (get_or edges k d') x last) [
         | inl there ↦ elim (cases_eq x.exporter e.exporter) [
           | inl same ↦
               let (q, within, is') = before.each x old there (omega arith) in
               let was : Contains old.items q = subst (λ (v : Vec Placed Global). Contains v.items q) (ap (λ i. slice_index_or lists i old) same ∙ sym read)
-                  within in
+              within in
               (q, in_new q (same_list same) (Contains-append_left old.items (p ∷ []) q was), is')
           | inr ne ↦
               let (q, within, is') = before.each x d there (omega arith) in

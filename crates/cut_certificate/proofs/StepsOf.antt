@@ -44,7 +44,7 @@ module _ (edges : List Edge) (routers : List ℕ → Option ℕ) (s next : Stand
       let none : Edge = record { importer = 0; exporter = 0; act = 0; link = 0 } in
       let known = position-Some (is_edge_over router link) edges place none is in
       blocks_step (record { block = block; by = by; edge = place }) (split_by edges s.blocks (record { block = block; by = by; edge = place })) stage known.0
-          refl e
+      refl e
 
   router_step : (block by link : ℕ) (found : Option ℕ) → s.stage ≡ Splitting → with_router edges s block by link found ≡ Ok next → IsStep edges s next
   router_step block by link None stage e = absurd cc
@@ -125,7 +125,7 @@ made edges blocks split next e = by (is_block blocks split.block && is_block blo
     by : (a : Bool) → (is_block blocks split.block && is_block blocks split.by) ≡ a → (b : Bool) → nat_eq split.block split.by ≡ b → (c : Bool)
         → are_parts split.block (blocks_after edges blocks split) ≡ c
         → cond (not a) (Err kinds.NoBlock) (cond b (Err kinds.SameBlock) (cond c (Ok (blocks_after edges blocks split)) (Err kinds.NothingSplit))) ≡ Ok next
-            → IsMade edges blocks split next
+        → IsMade edges blocks split next
     by false f b g c h e = absurd cc
     by true f true g c h e = absurd cc
     by true f false g false h e = absurd cc

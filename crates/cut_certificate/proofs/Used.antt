@@ -87,7 +87,7 @@ after_long edges numbers block by act next = map_long (number_after edges number
 pub split_used : (edges : List Edge) (numbers : List ℕ) (count block by act : ℕ) → AreInUse numbers count
     → has (numbers_after edges numbers block by act (count + 1)) block ≡ true
     → has (numbers_after edges numbers block by act (count + 1)) (count + 1) ≡ true
-        → AreInUse (numbers_after edges numbers block by act (count + 1)) (count + 1)
+    → AreInUse (numbers_after edges numbers block by act (count + 1)) (count + 1)
 split_used edges numbers count block by act are left right = record { known = known; used = used; few = few_blocks after (count + 1) used }
   where
     either : (u : ℕ) → u < length numbers → (b : Bool) → (nat_eq (get_or numbers u 0) block && reaches edges numbers by act u) ≡ b
@@ -118,7 +118,7 @@ split_used edges numbers count block by act are left right = record { known = kn
             let h = place_below numbers b was in
             let at = at_place numbers b was in
             ap (has after) (sym (after_at edges numbers block by act (count + 1) u h
-                ∙ stays_put edges numbers block by act (count + 1) u (λ e. other (sym at ∙ e)) ∙ at))
+            ∙ stays_put edges numbers block by act (count + 1) u (λ e. other (sym at ∙ e)) ∙ at))
             ∙ has_at after u (let long = after_long edges numbers block by act (count + 1) in omega arith)
       ]
     ]
@@ -137,5 +137,8 @@ stays_here edges numbers block by act next u reach = elim (cases_eq (get_or numb
 pub first_is : (graph : ActGraph) (numbers : List ℕ) (count : ℕ) (colors : List ℕ) → colors ≡ graph.colors → numbers ≡ map (number_among colors) colors
     → count ≡ length (distinct colors) → record { numbers = numbers; count = count } ≡ first_blocks graph
 unfolding first_blocks
-first_is graph numbers count colors same are long = cc (are ∙ ap (λ (cs : List ℕ). map (number_among cs) cs) same, long
-    ∙ ap (λ (cs : List ℕ). length (distinct cs)) same)
+first_is graph numbers count colors same are long = cc (
+  are ∙ ap (λ (cs : List ℕ). map (number_among cs) cs) same,
+  long
+      ∙ ap (λ (cs : List ℕ). length (distinct cs)) same,
+)

@@ -28,7 +28,7 @@ verifies_same (Err (refusal.At line why)) defined e = e
 pub text_by : (graph : ActGraph) (names : List (List ℕ)) (bs : List ℕ) (places : List ℕ → Option ℕ)
     → ((wanted : List ℕ) → places wanted ≡ position (bytes_eq wanted) names)
     → certificate_from graph.edges places (length (all_lines_of bs) + 1) (map (text_line bs) (all_lines_of bs)) (opening graph)
-        ≡ certificate_of_text graph names bs
+    ≡ certificate_of_text graph names bs
 unfolding certificate_of_text
 text_by graph names bs places same = ap (λ (f : List ℕ → Option ℕ).
     certificate_from graph.edges f (length (all_lines_of bs) + 1) (map (text_line bs) (all_lines_of bs)) (opening graph)) (fun_ext same)
@@ -46,6 +46,6 @@ verified_coarsest graph names bs (Err why) e = tt
 -- a stop at a line is the refusal of the text
 pub stopped : (line : ℕ) (why : Stop) (step : Result Standing CutKind) (whole : Result Certificate CutRefusal)
     → ((kind : CutKind) → step ≡ Err kind → whole ≡ Err (refusal.At line kind)) → Steps {X = Standing} (Err why) step
-        → Verifies {X = Certificate} (Err (refused_at line why)) whole
+    → Verifies {X = Certificate} (Err (refused_at line why)) whole
 stopped line (stop.Fault kind) step whole same e = same kind e
 stopped line stop.Memory step whole same e = tt

@@ -29,7 +29,7 @@ pub line_more : {X : Type 0} (write : X → TextLine) (xs : List X) (k : ℕ) (d
     → new ≡ old ++ line_text (write (get_or xs k d)) → old ++ lines_text (map write (drop k xs)) ≡ all → new ++ lines_text (map write (drop (k + 1) xs)) ≡ all
 line_more write xs k d old new all h grown before =
     ap (λ (t : List ℕ). t ++ lines_text (map write (drop (k + 1) xs))) grown
-        ∙ append_assoc old (line_text (write (get_or xs k d))) (lines_text (map write (drop (k + 1) xs)))
+    ∙ append_assoc old (line_text (write (get_or xs k d))) (lines_text (map write (drop (k + 1) xs)))
     ∙ sym (ap (λ ys. old ++ lines_text (map write ys)) (first_left xs k d h)) ∙ before
 
 pub lines_done : {X : Type 0} (write : X → TextLine) (xs : List X) (k : ℕ) (text all : List ℕ) → length xs ≤ k
@@ -40,7 +40,7 @@ lines_done write xs k text all le before = sym (ap (λ ys. text ++ lines_text (m
 
 pub member_more : (names : List (List ℕ)) (members : List ℕ) (k : ℕ) (old mid new all : List ℕ) → k < length members → mid ≡ old ++ 32 ∷ []
     → new ≡ mid ++ printed_name names (get_or members k 0) → old ++ spaced (map (printed_name names) (drop k members)) ≡ all
-        → new ++ spaced (map (printed_name names) (drop (k + 1) members)) ≡ all
+    → new ++ spaced (map (printed_name names) (drop (k + 1) members)) ≡ all
 member_more names members k old mid new all h first second before =
     let name = printed_name names (get_or members k 0) in
     let rest = spaced (map (printed_name names) (drop (k + 1) members)) in
@@ -52,13 +52,13 @@ member_more names members k old mid new all h first second before =
 
 pub group_written : (names : List (List ℕ)) (members : List ℕ) (k : ℕ) (old text all : List ℕ) → length members ≤ k
     → text ++ spaced (map (printed_name names) (drop k members)) ≡ old ++ codes "group" ++ spaced (map (printed_name names) members) → all ≡ text ++ 10 ∷ []
-        → all ≡ old ++ line_text (named_group_line names members)
+    → all ≡ old ++ line_text (named_group_line names members)
 group_written names members k old text all le before last =
     let words = map (printed_name names) members in
     let whole : text ≡ old ++ codes "group" ++ spaced words =
-        sym (ap (λ ys. text ++ spaced (map (printed_name names) ys)) (drop_all k members le) ∙ append-nil text) ∙ before in
+    sym (ap (λ ys. text ++ spaced (map (printed_name names) ys)) (drop_all k members le) ∙ append-nil text) ∙ before in
     last ∙ ap (λ (t : List ℕ). t ++ 10 ∷ []) whole ∙ regrouped old (codes "group") (spaced words) (10 ∷ [])
-        ∙ ap (λ (t : List ℕ). old ++ (t ++ 10 ∷ [])) (sym (joined (codes "group") words))
+    ∙ ap (λ (t : List ℕ). old ++ (t ++ 10 ∷ [])) (sym (joined (codes "group") words))
   where
     regrouped : (a b c d : List ℕ) → ((a ++ b) ++ c) ++ d ≡ a ++ ((b ++ c) ++ d)
     regrouped a b c d = simp append_assoc
@@ -91,7 +91,7 @@ groups_known graph c names total accepted =
     let numbers = accepted.blocks.numbers in
     let reached = all_reached graph c.splits (first_blocks graph) accepted.blocks (first_reached graph) accepted.split in
     subst (λ (gs : List (List ℕ)). All (All (λ router. router < length names)) gs) (sym accepted.groups)
-        (subst (λ (n : ℕ). All (All (λ router. router < n)) (groups_of numbers)) (reached.total ∙ sym total) (groups_in_range numbers))
+    (subst (λ (n : ℕ). All (All (λ router. router < n)) (groups_of numbers)) (reached.total ∙ sym total) (groups_in_range numbers))
 
 -- ---- the text
 
@@ -109,7 +109,7 @@ text_written edges names c none first second third all e0 e1 e2 e3 e4 =
     let splits = map (split_line edges names) c.splits in
     let groups = map (named_group_line names) c.groups in
     e4 ∙ ap (λ (t : List ℕ). t ++ codes "end\n") (e3 ∙ ap (λ (t : List ℕ). t ++ lines_text groups)
-        (e2 ∙ ap (λ (t : List ℕ). t ++ lines_text splits) (e1 ∙ ap (λ (t : List ℕ). t ++ codes "bonsai certificate 1\n") e0)))
+    (e2 ∙ ap (λ (t : List ℕ). t ++ lines_text splits) (e1 ∙ ap (λ (t : List ℕ). t ++ codes "bonsai certificate 1\n") e0)))
     ∙ ap (λ (t : List ℕ). ((t ++ lines_text splits) ++ lines_text groups) ++ codes "end\n") (sym head_text)
     ∙ ap (λ (t : List ℕ). ((line_text head_line ++ lines_text splits) ++ lines_text groups) ++ t) (sym end_text ∙ sym (append-nil (line_text end_line)))
     ∙ ap (λ (t : List ℕ). t ++ lines_text (end_line ∷ [])) (sym (flat_map-append line_text (head_line ∷ splits) groups))

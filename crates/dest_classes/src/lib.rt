@@ -8,8 +8,8 @@
 //! pairs of prefixes.
 #![tactic(auto)]
 
-mod groups;
 mod cells;
+mod groups;
 mod laws;
 mod lists;
 mod network_classes;

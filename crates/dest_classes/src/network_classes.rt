@@ -3,8 +3,8 @@
 ghost use Rattle.std.specs.Prelude.{◌≡◌, ◌<◌, ◌^◌, IfOk, length};
 ghost use Rattle.cfg_ast.specs.meaning.Classes.{classes_of};
 
-use crate::groups;
 use crate::cells::members_of;
+use crate::groups;
 use crate::routes::originators;
 use base_kit::{List, NoMemory};
 use cfg_ast::{DestClass, Network};

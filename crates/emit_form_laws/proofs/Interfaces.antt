@@ -257,7 +257,7 @@ class_names e plan g = step (first_router_of e g) refl
         let m = map_some (class_interface e.problem.protocol j) (interface_in e.problem.protocol r p) x c.1 in
         let n = map_some (class_interface e.problem.protocol k) (interface_in e.problem.protocol r q) y d.1 in
         ap (λ (z : Interface). bytes_eq z.name y.name) (sym m.2) ∙ ap (λ (z : Interface). bytes_eq (codes "Vlan" ++ decimal j) z.name) (sym n.2)
-            ∙ numbers_apart (codes "Vlan") j k (few j p h) (few k q i) (λ same. absurd (omega arith))
+        ∙ numbers_apart (codes "Vlan") j k (few j p h) (few k q i) (λ same. absurd (omega arith))
 
     step : (o : Option Router) → first_router_of e g ≡ o →
         IsPairwise HaveOtherNames (option_map_or (class_interfaces_on e.problem.protocol e.class.prefixes) o [])
@@ -284,4 +284,4 @@ interface_names e plan few g =
     let c = class_at e g x h in
     let d = link_at e g y k in
     ap (λ (z : Interface). bytes_eq z.name y.name) (sym c.is) ∙ ap (λ (z : Interface). bytes_eq (codes "Vlan" ++ decimal c.number) z.name) (sym d.is)
-        ∙ fronts_apart c.number d.number)
+    ∙ fronts_apart c.number d.number)

@@ -114,7 +114,7 @@ match_unmarked : (k : ℕ) (x : PlainEntry) → has_mark (codes "exact-match") (
 match_unmarked k x =
     unmarked (map name_of_list (match_lists k x))
     (λ name h. let m = match_name_of k x name h in ap (λ (n : List ℕ). bytes_eq n (codes "exact-match")) (sym (ap name_of_list m.1.is ∙ m.2))
-        ∙ no_mark k x.seq (decimal m.1.number))
+    ∙ no_mark k x.seq (decimal m.1.number))
 
 mark_form : (k : ℕ) (x : PlainEntry) → IsMarkRight (option_map (λ (ls : List CommunityList). names_line (match_lists k x)) x.lists) (is_some x.lists && x.exact)
 mark_form k x = step x.lists x.exact
@@ -255,7 +255,7 @@ match_short k x ls exact few prints is =
     let mark = mark_few exact in
     let both = length-append names marks in
     short_line (codes "match" ∷ codes "community" ∷ names ++ marks) (omega arith)
-        (word_short names marks (λ name h. name_short k x few prints name h) (mark_short exact))
+    (word_short names marks (λ name h. name_short k x few prints name h) (mark_short exact))
   where
     mark_few : (b : Bool) → length (cond b (codes "exact-match" ∷ []) []) ≤ 1
     mark_few true = omega arith

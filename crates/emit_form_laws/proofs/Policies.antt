@@ -284,7 +284,7 @@ entry_apart k x few prints =
     let n = deletion_of k x d l in
     let low = match_number k x c prints m in
     ends_apart k x.seq k x.seq c d few prints.seq few prints.seq (record { end = decimal m.number; name = ap (λ (z : CommunityList). z.name) (sym m.is) })
-        (record { end = codes "D"; name = ap (λ (z : CommunityList). z.name) (sym n.is) })
+    (record { end = codes "D"; name = ap (λ (z : CommunityList). z.name) (sym n.is) })
     (λ same. no_letter m.number (omega arith) same.2))
 
 pub lists_apart : (e : Plan) → IsPlan e → length e.links ≤ 1048576 → (g : ℕ) →

@@ -83,7 +83,7 @@ one_of_entry k x c d small is at at' e = elim (append_in (match_lists k x) (dele
         → (l : CommunityList) × (x.delete ≡ Some l) × (written_list (list_name k x.seq (codes "D")) l ≡ d) → c.name ≡ d.name → ⊥
     no_both m w f =
         let g = one_list k x.seq k x.seq (decimal m.2) (codes "D") small seq small seq
-            (ap (λ (z : CommunityList). z.name) m.5 ∙ f ∙ sym (ap (λ (z : CommunityList). z.name) w.2)) in
+        (ap (λ (z : CommunityList). z.name) m.5 ∙ f ∙ sym (ap (λ (z : CommunityList). z.name) w.2)) in
         no_letter m.2 (number m.0 m.2 m.3 m.1 m.4) g.2
 
     both_delete : (l : CommunityList) × (x.delete ≡ Some l) × (written_list (list_name k x.seq (codes "D")) l ≡ c) → (l : CommunityList) × (x.delete ≡ Some l)

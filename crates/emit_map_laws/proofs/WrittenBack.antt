@@ -115,7 +115,7 @@ module _ (r : Router) (maps : List Plain) (number : ℕ) (lists_are : r.communit
     delete_back x x_in (Some l) e =
         let c : CommunityList = written_list (list_name k x.seq (codes "D")) l in
         let here : In (deletion_lists k x) c = subst (λ (o : Option CommunityList).
-            In (option_map_or (λ list. written_list (list_name k x.seq (codes "D")) list ∷ []) o []) c) (sym e) (inl refl) in
+        In (option_map_or (λ list. written_list (list_name k x.seq (codes "D")) list ∷ []) o []) c) (sym e) (inl refl) in
         let found = named_back c (record { k = k; m = m; at = at; x = x; x_in = x_in; c_in = in_right (match_lists k x) (deletion_lists k x) c here }) in
         ap (λ (o : Option CommunityList). option_eq same_list o (Some l)) found ∙ list_same (list_name k x.seq (codes "D")) l
 

@@ -79,9 +79,9 @@ module _ (graph : ActGraph) (blocks : Blocks) (total : length blocks.numbers ≡
       let inside = within edges f.place f.item f.at in
       let first = neither (not (nat_eq f.item.importer u)) (is_matched edges numbers u v f.item) f.fails in
       let second = neither (nat_eq (slice_index numbers f.item.exporter) (slice_index numbers u))
-          (reaches edges numbers (slice_index numbers f.item.exporter) f.item.act v) first.1 in
+      (reaches edges numbers (slice_index numbers f.item.exporter) f.item.act v) first.1 in
       let exporter = subst (λ (e : Edge). e.exporter < graph.count) (read_or edges f.place f.item f.item f.at) (graph.exporters_in_range f.place f.item inside)
-          in record {
+      in record {
         goes = u;
         stays = v;
         place = f.place;
@@ -93,9 +93,13 @@ module _ (graph : ActGraph) (blocks : Blocks) (total : length blocks.numbers ≡
         act = read_act edges f.place f.item f.at;
         exporter = subst (λ (n : ℕ). f.item.exporter < n) (sym total) exporter;
         leaves = apart (slice_index numbers f.item.exporter) (slice_index numbers u) second.0;
-        reached = reaches_if edges numbers (slice_index numbers f.item.exporter) f.item.act u
-            (f.place, f.item, inside, read_or edges f.place f.item f.item f.at,
-                (test_same f.item.importer u (not_false (nat_eq f.item.importer u) first.0), refl, refl));
+        reached = reaches_if edges numbers (slice_index numbers f.item.exporter) f.item.act u (
+          f.place,
+          f.item,
+          inside,
+          read_or edges f.place f.item f.item f.at,
+          (test_same f.item.importer u (not_false (nat_eq f.item.importer u) first.0), refl, refl),
+        );
         unreached = second.1;
       }
 
@@ -124,9 +128,9 @@ module _ (graph : ActGraph) (blocks : Blocks) (total : length blocks.numbers ≡
       row : (u : ℕ) → u < length numbers → MirrorsAll u ⊎ IsParted
       row u hu = elim (below (length numbers) (λ v. slice_index numbers u ≡ slice_index numbers v → IsMirroredAt edges numbers u v) (λ v. IsParted)
           (λ v hv. pair u v hu hv)) [
-        | inl all ↦ inl all
-        | inr some ↦ inr some.2
-      ]
+            | inl all ↦ inl all
+            | inr some ↦ inr some.2
+          ]
 
   -- the blocks after the split by that edge
   record IsNext : Type 0 where

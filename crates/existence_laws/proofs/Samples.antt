@@ -61,7 +61,7 @@ module _ (universe : List ℕ) where
           named = same_on universe set (named universe set) (with_other (named universe set))
               (same_back universe (named universe set) set (named_same universe set))
               (same_back universe (with_other (named universe set)) (named universe set)
-                  (outside_same universe (outside_of universe) (outside_not universe) (named universe set)));
+              (outside_same universe (outside_of universe) (outside_not universe) (named universe set)));
           others = e ∙ sym (others_put universe (outside_of universe) (outside_not universe) (named universe set));
         };
       }
@@ -90,7 +90,7 @@ module _ (universe : List ℕ) where
           let there = same_back universe (named universe set) set (named_same universe set) in
           u.kept.same set (named universe set) there
           ∙ ap (λ (o : Option Imported). option_map_or (λ (i : Imported). has i.comms (outside_of universe)) o false)
-              (same (with_other (named universe set)) (other_in set))
+          (same (with_other (named universe set)) (other_in set))
           ∙ sym (v.kept.same set (named universe set) there)
 
       carried : (set : List ℕ) (c : ℕ) → carries (on_sets f) c set ≡ carries (on_sets g) c set
@@ -109,9 +109,9 @@ module _ (universe : List ℕ) where
           let s = stands set in
           joined (on_sets f set) (on_sets g set) (λ i is. u.ascending set i is) (λ i is. v.ascending set i is)
           (u.lp set s.rep s.trace ∙ ap (λ (o : Option Imported). option_map_or (λ (i : Imported). i.lp + 1) o 0) (same s.rep s.inside)
-              ∙ sym (v.lp set s.rep s.trace))
+          ∙ sym (v.lp set s.rep s.trace))
           (u.adds set s.rep s.trace ∙ ap (λ (o : Option Imported). option_map_or (λ (i : Imported). i.adds + 1) o 0) (same s.rep s.inside)
-              ∙ sym (v.adds set s.rep s.trace))
+          ∙ sym (v.adds set s.rep s.trace))
           (carried set)
 
     one_import : ((set : List ℕ) → In reps set → on_sets f set ≡ on_sets g set) → AreOneImport f g
@@ -139,7 +139,7 @@ module _ (universe : List ℕ) where
     ascending = λ set inside. (let m = map_in as_set reps set (in_contains samples set inside) in subst IsAscending m.2 (ascending-as_set m.0));
     one = λ out into other_out other_into sends other_sends first second same.
         one_import (import_of out sends into) (import_of other_out other_sends other_into) (uniform out into sends first)
-            (uniform other_out other_into other_sends second)
+        (uniform other_out other_into other_sends second)
         (λ set at. same (as_set set) (contains_in samples (as_set set) (in_map as_set reps set at)));
     like = λ out into sends maps set up. (
         let f = import_of out sends into in

@@ -75,8 +75,8 @@ network_at line (_ ∷ address ∷ []) = given IsAny (IsAddressAt line) _ _ (any
     (λ addr any. given IsAny (IsAddressAt line) _ _ (anything (classful_len_of addr)) (λ len any. net_at line addr len))
 network_at line (_ ∷ address ∷ word ∷ mask ∷ []) =
     fits (IsAddressAt line) (bytes_eq word (codes "mask")) _
-        (λ e. given IsAny (IsAddressAt line) _ _ (anything (address_word address))
-            (λ addr any. given IsAny (IsAddressAt line) _ _ (anything (mask_len_of mask)) (λ len any. net_at line addr len)))
+    (λ e. given IsAny (IsAddressAt line) _ _ (anything (address_word address))
+    (λ addr any. given IsAny (IsAddressAt line) _ _ (anything (mask_len_of mask)) (λ len any. net_at line addr len)))
 network_at line _ = tt
 
 remote_as_at : (line : ℕ) (words : List (List ℕ)) → IfOk (remote_as_form words) (IsAddressAt line)

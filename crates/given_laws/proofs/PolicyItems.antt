@@ -80,7 +80,7 @@ list_line_case line (_ ∷ _ ∷ word ∷ []) are = tt
 list_line_case line (_ ∷ _ ∷ word ∷ next ∷ []) are = tt
 list_line_case line (_ ∷ _ ∷ word ∷ next ∷ third ∷ words) are =
     either IsPolicyItem (bytes_eq word (codes "standard")) _ _ (λ e. community_line_case line next third words are.1.1.1.0)
-        (λ e. numbered_case line word next (third ∷ words) are.1.1.0)
+    (λ e. numbered_case line word next (third ∷ words) are.1.1.0)
 list_line_case line _ are = tt
 
 map_head_case : (line : ℕ) (words : List (List ℕ)) → AreWords words → IfOk (map_head_form line words) IsPolicyItem
@@ -115,7 +115,7 @@ marked_case : (line : ℕ) (words : List (List ℕ)) → AreWords words → IfOk
 unfolding marked_match
 marked_case line words are =
     either IsPolicyItem (has_mark (codes "exact-match") words) _ _ (λ e. exact_case line (but_last words) (all_take IsWord (length words - 1) words are))
-        (λ other. inexact_case line words are other)
+    (λ other. inexact_case line words are other)
 
 match_comms_case : (line : ℕ) (words : List (List ℕ)) → AreWords words → IfOk (match_comms_form line words) IsPolicyItem
 unfolding match_comms_form

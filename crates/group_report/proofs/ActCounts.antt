@@ -32,7 +32,7 @@ sum_more f g (suc n) v less off on same = by (λ under. sum_more f g n v under o
     by earlier true t =
         let last : n ≡ v = grind (arith, nat_tests) in
         let before = sum_same (λ a. one_where (f a)) (λ a. one_where (g a)) n (λ a under. ap one_where (same a (λ e. absurd (omega (arith, e, last, under)))))
-            in
+        in
         let none : one_where (f n) ≡ 0 = ap (λ (k : ℕ). one_where (f k)) last ∙ ap one_where off in
         let one : one_where (g n) ≡ 1 = ap (λ (k : ℕ). one_where (g k)) last ∙ ap one_where on in
         omega (arith, before, none, one)
@@ -107,7 +107,7 @@ first_counted es seen (k ∷ ks) n few =
   where
     by : length (first_acts es seen ks) ≡ sum_below (λ a. one_where (is_new es seen ks a)) n →
         length (first_acts es (act_at es k ∷ seen) ks) ≡ sum_below (λ a. one_where (is_new es (act_at es k ∷ seen) ks a)) n → (b : Bool)
-            → list_any (nat_eq (act_at es k)) seen ≡ b →
+        → list_any (nat_eq (act_at es k)) seen ≡ b →
         length (cond b (first_acts es seen ks) (k ∷ first_acts es (act_at es k ∷ seen) ks)) ≡ sum_below (λ a. one_where (is_new es seen (k ∷ ks) a)) n
     by old new true t = old ∙ sum_same _ _ n (λ a less. ap one_where (old_act es seen ks k a t))
     by old new false t =

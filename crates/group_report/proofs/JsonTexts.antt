@@ -73,9 +73,9 @@ unmatched_shape address router = simp append_assoc
 
 report_shape : (class groups links routers unmatched : List ℕ)
     → object_text ((codes "class", class) ∷ (codes "groups", groups) ∷ (codes "links", links) ∷ (codes "routers", routers) ∷ (codes "unmatched", unmatched)
-        ∷ [])
+    ∷ [])
     ≡ codes "{\"class\":" ++ class ++ codes ",\"groups\":" ++ groups ++ codes ",\"links\":" ++ links ++ codes ",\"routers\":" ++ routers
-        ++ codes ",\"unmatched\":" ++ unmatched ++ codes "}"
+    ++ codes ",\"unmatched\":" ++ unmatched ++ codes "}"
 unfolding escape_byte
 report_shape class groups links routers unmatched = simp append_assoc
 
@@ -83,13 +83,13 @@ group_text : (problem : Problem) (members : List ℕ) → compact_text (group_da
 group_text problem members =
     let first = member_that_names members in
     let texts : object_text ((codes "lone", compact_text (boolean (is_lone problem first)))
-        ∷ (codes "members", compact_text (list_data (map (name_data problem) members))) ∷ (codes "name", name_string problem first)
-            ∷ (codes "origin", compact_text (boolean (originates problem first))) ∷ [])
+    ∷ (codes "members", compact_text (list_data (map (name_data problem) members))) ∷ (codes "name", name_string problem first)
+    ∷ (codes "origin", compact_text (boolean (originates problem first))) ∷ [])
     ≡ object_text ((codes "lone", boolean_text (is_lone problem first)) ∷ (codes "members", json_list (map (name_string problem) members))
-        ∷ (codes "name", name_string problem first) ∷ (codes "origin", boolean_text (originates problem first)) ∷ []) =
+    ∷ (codes "name", name_string problem first) ∷ (codes "origin", boolean_text (originates problem first)) ∷ []) =
     λ j. object_text ((codes "lone", boolean_is (is_lone problem first) j)
-        ∷ (codes "members", list_of (name_data problem) (name_string problem) members (λ x. refl) j) ∷ (codes "name", name_string problem first)
-            ∷ (codes "origin", boolean_is (originates problem first) j) ∷ []) in
+    ∷ (codes "members", list_of (name_data problem) (name_string problem) members (λ x. refl) j) ∷ (codes "name", name_string problem first)
+    ∷ (codes "origin", boolean_is (originates problem first) j) ∷ []) in
     texts ∙ group_shape (boolean_text (is_lone problem first)) (json_list (map (name_string problem) members)) (name_string problem first)
     (boolean_text (originates problem first))
 
@@ -107,10 +107,10 @@ groups_text problem groups count = list_of (data_of_group problem groups) (objec
 module _ (r : Report) where
   texts : compact_text (report_data r) ≡ object_text ((codes "class", decimal r.class_number) ∷ (codes "groups", group_objects r.problem r.groups r.group_count)
       ∷ (codes "links", counts_object (length r.links) r.links_before) ∷ (codes "routers", counts_object r.group_count (count r.problem))
-          ∷ (codes "unmatched", json_list (map (unmatched_object r.problem) r.unmatched)) ∷ [])
+      ∷ (codes "unmatched", json_list (map (unmatched_object r.problem) r.unmatched)) ∷ [])
   texts = λ j. object_text ((codes "class", decimal r.class_number) ∷ (codes "groups", groups_text r.problem r.groups r.group_count j)
       ∷ (codes "links", counts_text (length r.links) r.links_before j) ∷ (codes "routers", counts_text r.group_count (count r.problem) j)
-          ∷ (codes "unmatched", list_of (unmatched_data r.problem) (unmatched_object r.problem) r.unmatched (unmatched_text r.problem) j) ∷ [])
+      ∷ (codes "unmatched", list_of (unmatched_data r.problem) (unmatched_object r.problem) r.unmatched (unmatched_text r.problem) j) ∷ [])
 
   pub report_object : compact_text (report_data r) ≡ json_object r
   report_object = texts ∙ report_shape (decimal r.class_number) (group_objects r.problem r.groups r.group_count) (counts_object (length r.links) r.links_before)

@@ -36,7 +36,7 @@ module _ (es : List Edge) (groups : List ℕ) (table : List Bool) (is : IsLinkTa
   pair : (g h : ℕ) → g < 64 → h < 64 → length (links_of_pair es groups g h) ≡ links_between table g h
   pair g h gs hs =
       length-map-range_with_len (group_link g h (acts_into es groups g h) (acts_into es groups h g)) 0
-          (max (length (acts_into es groups g h)) (length (acts_into es groups h g)))
+      (max (length (acts_into es groups g h)) (length (acts_into es groups h g)))
       ∙ (λ i. max (acts_are g h gs hs i) (acts_are h g hs gs i))
 
   above : (count g : ℕ) → count ≤ 64 → g < count → length (group_links_from es groups count g) ≡ links_above table g (count - (g + 1))
@@ -49,4 +49,4 @@ module _ (es : List Edge) (groups : List ℕ) (table : List Bool) (is : IsLinkTa
   counted count few =
       sym (total (group_links_from es groups count) 0 count
       ∙ sum_same _ _ count (λ g inside. ap (λ (k : ℕ). length (group_links_from es groups count k)) (let z : 0 + g ≡ g = omega arith in z)
-          ∙ above count g few inside))
+      ∙ above count g few inside))

@@ -90,13 +90,13 @@ module _ (es : List Edge) (groups : List ℕ) (table : List Bool) (e : Edge) (fe
       ap (λ (k : ℕ). get_or (set table from true) k false) (sym same)
       ∙ get_or-set_same table from true false room
       ∙ sym (any_last (leads groups g h a) es e ∙ ap (λ b. has_act es groups g h a || b) (leads_there g h a (same_cell g h a hs acts same))
-          ∙ or_true (has_act es groups g h a))
+      ∙ or_true (has_act es groups g h a))
   one_cell g h a gs hs acts false t =
       let apart = differ_from_test _ _ t in
       get_or-set_other table from (cell g h a) true false (λ s. apart (sym s))
       ∙ is.cells g h a gs hs acts
       ∙ sym (any_last (leads groups g h a) es e ∙ ap (λ b. has_act es groups g h a || b) (leads_nowhere g h a apart (leads groups g h a e) refl)
-          ∙ or_false (has_act es groups g h a))
+      ∙ or_false (has_act es groups g h a))
 
   more : IsLinkTable (es ++ e ∷ []) groups (set table from true)
   more = record {
@@ -112,12 +112,12 @@ pub next_table : (es : List Edge) (groups : List ℕ) (table : List Bool) (i : �
 next_table es groups table i e none importer exporter less at few is_importer is_exporter importer_few exporter_few is =
     let front : take i es ++ e ∷ [] ≡ take (i + 1) es = ap (λ (d : Edge). take i es ++ d ∷ []) at ∙ sym (take_more es i none less) in
     let grown = more (take i es) groups table e few (subst (λ (k : ℕ). k < 64) is_importer importer_few) (subst (λ (k : ℕ). k < 64) is_exporter exporter_few) is
-        in
+    in
     let P : ℕ → ℕ → Type 0 = λ m n. IsLinkTable (take (i + 1) es) groups (set table (cell m n e.act) true) in
     subst (λ (m : ℕ). P m exporter) (sym is_importer)
     (subst (λ (n : ℕ). P (slice_index groups e.importer) n) (sym is_exporter)
     (subst (λ (xs : List Edge). IsLinkTable xs groups (set table (cell (slice_index groups e.importer) (slice_index groups e.exporter) e.act) true)) front
-        grown))
+    grown))
 
 pub empty_table : (groups : List ℕ) (table : List Bool) → table ≡ replicate 65536 false → IsLinkTable [] groups table
 empty_table groups table is = record {

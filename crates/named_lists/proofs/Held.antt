@@ -89,7 +89,7 @@ module _ {E : Type 0} (number : E → ℕ) where
   abbrev pub AddsRest : sorted.BTreeSet (ℕ × ℕ) → sorted.BTreeSet (ℕ × ℕ) → ℕ → List E → List E → Type 0
   AddsRest old now place xs rest = (p wanted : ℕ) →
       ((nat_eq place p && has_entry_numbered number rest wanted) || sorted.contains pair_order now (p, wanted))
-          ≡ ((nat_eq place p && has_entry_numbered number xs wanted)
+      ≡ ((nat_eq place p && has_entry_numbered number xs wanted)
       || sorted.contains pair_order old (p, wanted))
 
   pub next_added : (old now new : sorted.BTreeSet (ℕ × ℕ)) (place : ℕ) (xs : List E) (i : ℕ) (x : E) → i < length xs → x ≡ get_or xs i x →
@@ -216,7 +216,7 @@ module _ {E : Type 0} (number : E → ℕ) where
   has_at held ls name wanted place is found =
       let here : NamedList E → Bool = λ l. has_entry_numbered number (in_number_order number l.entries) wanted in
       sym (has_by_number number (entries_at ls place) wanted)
-          ∙ sym (has_with named_list_name name here ls place (record { name = []; entries = [] }) is.apart found)
+      ∙ sym (has_with named_list_name name here ls place (record { name = []; entries = [] }) is.apart found)
       ∙ sym (any_map (λ (l : NamedList E). bytes_eq l.name name && has_entry_numbered number l.entries wanted) (in_order number) ls)
 
   pub has_nowhere : (ls : List (NamedList E)) (name : List ℕ) (wanted : ℕ) → position (λ l. bytes_eq l.name name) ls ≡ None →

@@ -78,7 +78,7 @@ one_more routers p q s (Some t) qs ss apart g h e f ih =
 
 any_peer : (routers : List Router) (p : Place Neighbor) (s : Peer) (qs : List (Place Neighbor)) → AreApart (ups_of routers) → IsPlace routers p →
     AreGood (IsPlace routers) qs → peer_at_place p ≡ Some s → list_any (are_peers p) qs
-        ≡ list_any (faces s) (filter (is_reached routers s) (filter_map peer_at_place qs))
+    ≡ list_any (faces s) (filter (is_reached routers s) (filter_map peer_at_place qs))
 any_peer routers p s [] apart g all e = refl
 any_peer routers p s (q ∷ qs) apart g all e =
     one_more routers p q s (peer_at_place q) qs (filter_map peer_at_place qs) apart g all.0 e refl (any_peer routers p s qs apart g all.1 e)

@@ -250,7 +250,7 @@ module _ (shown : Shown) (edge : EdgeFn) (out : Plain) (sends : Bool) (into : Pl
   to_import set None given = built.permit set ∙ given
   to_import set (Some i) given =
       let ok : both_permit shown.universe out.entries sends into.entries (has set) (has_others shown.universe set) ≡ true =
-          rw (given.first, given.second) refl in
+      rw (given.first, given.second) refl in
       record {
         permit = built.permit set ∙ ok;
         lp = built.lps set i.lp ∙ rw (given.first, given.lp) refl;

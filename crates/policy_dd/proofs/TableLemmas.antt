@@ -150,7 +150,7 @@ put_new key node (case ∷ cases) other = elim (cases_order case.0 key) [
       let count = below_less key case cases l in
       ap (λ (i : ℕ). insert (case ∷ cases) i (key, node)) count
       ∙ ap (λ (t : List (ℕ × ℕ)). case ∷ t) (put_new key node cases
-          (λ inside here. other (omega arith) (ap (λ (i : ℕ). key_of_case (case ∷ cases) i) count ∙ here)))
+      (λ inside here. other (omega arith) (ap (λ (i : ℕ). key_of_case (case ∷ cases) i) count ∙ here)))
       ∙ sym (put_less key node case cases l)
   | inr (inr g) ↦ ap (λ (i : ℕ). insert (case ∷ cases) i (key, node)) (below_more key case cases (omega arith)) ∙ sym (put_more key node case cases g)
 ]

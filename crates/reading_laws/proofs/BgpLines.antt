@@ -105,7 +105,7 @@ peer_case : (past : List TextLine) (l : TextLine) (s : State) (b : BgpProcess) (
     (λ (ps : List Neighbor). Ok (record b { neighbors = ps }))) >>= (λ (d : BgpProcess). Ok (in_bgp d)))
     → Changes l.number (set_neighbor l.number said) test put
     → (has_neighbor b.neighbors addr ≡ true → (p : StanzaPart)
-        → bgp_has (record b { neighbors = put_at addr put b.neighbors }) p ≡ (adds_part o p || bgp_has b p))
+    → bgp_has (record b { neighbors = put_at addr put b.neighbors }) p ≡ (adds_part o p || bgp_has b p))
     → repeated past l.number (of bgp o) ≡ when (peer_has test b.neighbors addr) (refusal.At l.number kind.Repeated)
     → (c : Bool) → has_neighbor b.neighbors addr ≡ c → Outcome past l s
 peer_case past l s b addr o said test put w told takes changes adds again false has =

@@ -383,7 +383,7 @@ moving_next numbers classes touched done arrival before next next' origins origi
     origin_is piece moved = elim piece [
       | inl (found, same_names, same_lists, same_origins) ↦
           rw (same_names, same_origins) (moving_known numbers classes touched done arrival before next next' origins (λ c. get nat_eq names c) number so_far
-              inside
+          inside
           (ap (λ c. get nat_eq names c) class_is ∙ found) moved)
       | inr new ↦
           moving_new numbers classes touched done arrival before next next' origins origins' (λ c. get nat_eq names c) (λ c. get nat_eq names' c) number origin

@@ -296,8 +296,12 @@ pinned_split graph taken old new origins before after total parted used numbers 
             in_order = λ v q hv le less.
                 let (i, inside, at) = place_of routers v (in_queue v hv) in
                 let (j, earlier, is) = so_far.in_order i q inside le (subst (λ w. q < slice_index next w) (sym at) less) in
-                let hj : slice_index routers j < length numbers = ordered.below j 0 (omega arith) in
-                (slice_index routers j, omega arith, subst (λ w. StandsBeforeByBlock numbers (slice_index routers j) w) at
-                    (ordered.in_order j i earlier inside), is);
+                let hj : slice_index routers j < length numbers = ordered.below j 0 (omega arith) in (
+                  slice_index routers j,
+                  omega arith,
+                  subst (λ w. StandsBeforeByBlock numbers (slice_index routers j) w) at
+                      (ordered.in_order j i earlier inside),
+                  is,
+                );
           };
     }

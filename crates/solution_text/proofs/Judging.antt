@@ -378,7 +378,7 @@ module _ (protocol : Protocol) (names : List (List ℕ)) (apart : AreApart names
   agrees_said : (l : TextLine) (ls : List TextLine) → Agrees ls → (says : List NamedLabel) (earlier : List (List ℕ)) (st : LabelsSoFar) → IsOf says names st →
       AreEarlier says earlier → (o : Option NamedLabel) → named_label_of l.words ≡ o
       → continue_with (with_named_label protocol place_of l.number st o) (answer_from protocol place_of end ls)
-          ≡ judged_from says earlier (l ∷ filter has_words ls)
+      ≡ judged_from says earlier (l ∷ filter has_words ls)
   agrees_said l ls rest says earlier st is are None e = sym (fault_first says earlier l (filter has_words ls) BadForm (ap (kind_of protocol names earlier) e))
   agrees_said l ls rest says earlier st is are (Some s) e =
       ap (λ (p : Option ℕ). continue_with (with_place protocol l.number st s.label p) (answer_from protocol place_of end ls)) (is_place s.name)

@@ -323,7 +323,7 @@ module _ (n : Network) (bgp : IsBgp n) (faultless : IsFaultless n) (few : length
   over_edge u edge act importer at lp is =
       subst (λ (b : Bool). In (preferences_if b (slice_get acts edge.act)) lp) (sym (same_number edge.importer u importer))
       (subst (λ (o : Option Hop). In (preferences_at o) lp) (sym at)
-          (prefers (communities_of n) samples (out_at act) (into_at act) (sends_over act) (act_maps edge.act act at) lp is))
+      (prefers (communities_of n) samples (out_at act) (into_at act) (sends_over act) (act_maps edge.act act at) lp is))
 
   record Over (u : ℕ) (edge : Edge) (lp : ℕ) : Type 0 where
     importer : edge.importer ≡ u
@@ -336,8 +336,13 @@ module _ (n : Network) (bgp : IsBgp n) (faultless : IsFaultless n) (few : length
   over_by u edge lp false e o is at = absurd at
   over_by u edge lp true e None is at = absurd at
   over_by u edge lp true e (Some act) is at =
-      record { importer = (let same : edge.importer ≡ u = grind (arith, nat_tests) in same); act = act; at = is; prefers =
-          preferred (communities_of n) samples (importing act) lp at }
+      record {
+        importer = (let same : edge.importer ≡ u = grind (arith, nat_tests) in same);
+        act = act;
+        at = is;
+        prefers =
+            preferred (communities_of n) samples (importing act) lp at;
+      }
 
   edge_over : (u : ℕ) (edge : Edge) (lp : ℕ) → In (preferences_over u edge) lp → Over u edge lp
   edge_over u edge lp at = over_by u edge lp (nat_eq edge.importer u) refl (slice_get acts edge.act) refl at
@@ -364,14 +369,20 @@ module _ (n : Network) (bgp : IsBgp n) (faultless : IsFaultless n) (few : length
       let act = edge_act a.edge a.edge_in in
       in_flat_map (preferences_over u) edges a.edge lp (in_contains edges a.edge a.edge_in)
       (over_edge u a.edge act.act a.importer act.at lp
-      (record { set = a.comms; ascending = a.is_set; import = a.imported; is = sym (edge_import a.edge act.act act.at a.comms) ∙ a.accepted; preferred =
-          a.preferred }))
+      (record {
+        set = a.comms;
+        ascending = a.is_set;
+        import = a.imported;
+        is = sym (edge_import a.edge act.act act.at a.comms) ∙ a.accepted;
+        preferred =
+            a.preferred;
+      }))
 
   lone_is : (u : ℕ) → u < length n.routers → is_lone problem u ≡ differ_in (preferences_of u)
   unfolding lone
   lone_is u inside =
       read_map (λ v. differ_in (preferences_of v)) (range_with_len 0 (length n.routers)) u u false
-          (range_get 0 (length n.routers) u inside ∙ ap (λ (k : ℕ). Some k) (zero-add u))
+      (range_get 0 (length n.routers) u inside ∙ ap (λ (k : ℕ). Some k) (zero-add u))
 
   closed_to : (place : ℕ) → has_initial init place ≡ false → slice_index_or init place None ≡ None
   closed_to place open_to = none_is (slice_index_or init place None) open_to
@@ -420,7 +431,7 @@ module _ (n : Network) (bgp : IsBgp n) (faultless : IsFaultless n) (few : length
       subst AddsNothing (sym (in_at_ends n p hop ends))
       (in_maps_add_nothing n ends.importer ends.importer_line bgp.nothing_added (router_in hop.importer ends.importer ends.importer_at)
       (contains_in (neighbors_of ends.importer) ends.importer_line
-          (get_in (neighbors_of ends.importer) hop.importer_item ends.importer_line ends.importer_line_at)) p)
+      (get_in (neighbors_of ends.importer) hop.importer_item ends.importer_line ends.importer_line_at)) p)
 
   act_fits : (act : Act) → In (map written acts) act → IsActOf OverBgp act
   act_fits act at =
@@ -598,8 +609,12 @@ module _ (n : Network) (bgp : IsBgp n) (faultless : IsFaultless n) (few : length
         ordered = ordered n HasEdge IsClosed same_ends edges each;
         one_of_link = one_of_link n HasEdge IsClosed same_ends edges each;
       };
-      acts = record { fit = all_from (IsActOf OverBgp) (map written acts) act_fits; keep = all_from KeepsSets (map written acts) act_keeps; differ =
-          acts_differ };
+      acts = record {
+        fit = all_from (IsActOf OverBgp) (map written acts) act_fits;
+        keep = all_from KeepsSets (map written acts) act_keeps;
+        differ =
+            acts_differ;
+      };
       starts = record {
         routes = λ u r h. (let s = start_at u r h in let is = (start_is_bgp n bgp s.router (get_in n.routers u s.router s.at) q r s.is).is in
             subst (λ (x : Route). IsRouteOf OverBgp x) (sym is) tt);

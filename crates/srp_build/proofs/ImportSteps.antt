@@ -134,7 +134,7 @@ module _ (shown : Shown) (maps : List Plain) (old : List BgpAct) (are : AreActs 
 pub right_next : (shown : Shown) (maps : List Plain) (old new : Acts) (imports more : MetImports) (met : Met) → AreRight shown maps old imports →
     AreFoundByNodes new.by_nodes new.acts.items → AreActs shown maps new.acts.items
     → ((k : ℕ) (a : BgpAct) → slice_get old.acts.items k ≡ Some a → slice_get new.acts.items k ≡ Some a)
-        → IsActOfImport maps new.acts.items met.import met.act →
+    → IsActOfImport maps new.acts.items met.import met.act →
     more.met.items ≡ imports.met.items ++ met ∷ [] → AreRight shown maps new more
 right_next shown maps old new imports more met right listed acts kept is last = record {
   acts = acts;

@@ -185,8 +185,12 @@ policies_next : (routers : List Router) (router : Router) (inbound : Bool) (poli
     IsPolicyOf routers policies router inbound line number → ArePoliciesOf routers router inbound policies lines (numbers ++ number ∷ [])
 policies_next routers router inbound policies lines numbers line number are there is place other at = elim (front_or_last numbers number place other at) [
   | inl before ↦ are place other before
-  | inr last ↦ record { line = line; at = ap (slice_get lines) last.0 ∙ there; is =
-      subst (λ (k : ℕ). IsPolicyOf routers policies router inbound line k) last.1 is }
+  | inr last ↦ record {
+    line = line;
+    at = ap (slice_get lines) last.0 ∙ there;
+    is =
+        subst (λ (k : ℕ). IsPolicyOf routers policies router inbound line k) last.1 is;
+  }
 ]
 
 -- what one more line of a router brings
@@ -211,7 +215,7 @@ line_step routers old new place router numbers line number there at fixed are (i
   fixed = came.fixed routers there fixed;
   each = policies_next routers router place.inbound new.firsts.items (neighbors_of router) numbers line number
       (policies_kept routers router place.inbound old.firsts.items new.firsts.items (neighbors_of router) numbers came.kept are) at
-          (came.is routers there fixed);
+      (came.is routers there fixed);
 }
 
 -- ---- one more router

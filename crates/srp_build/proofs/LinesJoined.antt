@@ -82,6 +82,6 @@ pub import_missing : (routers : List Router) (policies : LinePolicies) (outs ins
 import_missing routers policies outs ins hop outs_are ins_are are joins none =
     let there = has_import routers policies hop are joins in
     let same : import_by_policies routers outs ins hop ≡ import_by_policies routers policies.outs policies.ins hop = λ j.
-        import_by_policies routers (outs_are j) (ins_are j) hop in
+    import_by_policies routers (outs_are j) (ins_are j) hop in
     let e : Some there.0 ≡ None = sym there.1 ∙ sym same ∙ none in
     cc

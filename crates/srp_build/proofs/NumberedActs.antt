@@ -37,8 +37,14 @@ last_or (z ∷ zs) x (suc k) y at = elim (last_or zs x k y at) [
 
 -- one more edge in front
 shift : (edge : Edge) (edges : List Edge) (place act : ℕ) → HasEarlier edges place act → HasEarlier (edge ∷ edges) (suc place) act
-shift edge edges place act has = record { earlier = suc has.earlier; before = (let b = has.before in omega arith); edge = has.edge; at = has.at; same =
-    has.same }
+shift edge edges place act has = record {
+  earlier = suc has.earlier;
+  before = (let b = has.before in omega arith);
+  edge = has.edge;
+  at = has.at;
+  same =
+      has.same;
+}
 
 in_front : (edge : Edge) (edges : List Edge) (place : ℕ) → HasEarlier (edge ∷ edges) (suc place) edge.act
 in_front edge edges place = record { earlier = zero; before = omega arith; edge = edge; at = refl; same = refl }
@@ -262,7 +268,7 @@ module _ (R : Hop → Hop → Type 0) (own : (h : Hop) → R h h) (turn : (a b :
           | inl found ↦ again acts hops hop carries found.0 found.1.0 found.1.1 found.1.2 (numbered hops rest acts all apart carry)
           | inr none ↦ anew acts hops hop carries
               (numbered hops rest (acts ++ hop ∷ []) (each_more Good hop acts mine all) (apart_more hop acts apart none)
-                  (each_more Open hop acts carries carry))
+              (each_more Open hop acts carries carry))
         ]
       ]
 

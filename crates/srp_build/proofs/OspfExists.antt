@@ -107,7 +107,7 @@ module _ (n : Network) (ospf : IsOspf n) (few : length (directions_of n) < 2 ^ 3
     some_problem first inside =
         let problem : Problem = made n first (starts_from 0 class.origins n.routers) costs numbered.edges (parts first inside) in
         let of : (p : Prefix) → Contains class.prefixes p → IsProblemOf n p problem = λ p i.
-            problem_is n p (starts_from 0 class.origins n.routers) costs numbered.edges (parts p i) in
+        problem_is n p (starts_from 0 class.origins n.routers) costs numbered.edges (parts p i) in
         record {
           problem = problem;
           built = record {

@@ -62,7 +62,7 @@ import_parts f sends (Some o) (Some i) import e =
 -- the import of a direction has the numbers of the maps of its policies
 pub import_numbered : (routers : List Router) (policies : LinePolicies) (maps : PolicyMaps) (hop : Hop) (import : ImportByPolicies) →
     import_by_policies routers policies.outs policies.ins hop ≡ Some import
-        → import_at routers (line_maps policies maps) hop ≡ Some (with_maps maps.numbers.items import)
+    → import_at routers (line_maps policies maps) hop ≡ Some (with_maps maps.numbers.items import)
 import_numbered routers policies maps hop import e =
     let f = map_number_at maps.numbers.items in
     let sends = sends_at routers hop.exporter hop.exporter_item in
@@ -74,7 +74,7 @@ import_numbered routers policies maps hop import e =
 pub imports_next : (routers : List Router) (policies : LinePolicies) (outs ins : List (List ℕ)) (hops : List Hop) (i : ℕ) (hop d : Hop)
     (imports : List ImportByPolicies)
     (import : ImportByPolicies) → outs ≡ policies.outs → ins ≡ policies.ins → i < length hops → get_or hops i d ≡ hop
-        → AreImportsOf routers policies (take i hops) imports →
+    → AreImportsOf routers policies (take i hops) imports →
     import_by_policies routers outs ins hop ≡ Some import → AreImportsOf routers policies (take (i + 1) hops) (imports ++ import ∷ [])
 imports_next routers policies outs ins hops i hop d imports import outs_are ins_are inside at so_far is =
     subst (λ (h : List Hop). AreImportsOf routers policies h (imports ++ import ∷ [])) (sym (take_more hops i hop d inside at)) (record {

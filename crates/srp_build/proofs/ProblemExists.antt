@@ -56,11 +56,11 @@ module _ (few_links : FewLinks) (formed : GivenIsWellFormed) (samples : (univers
       let first = first_of class.prefixes (has_prefix n class has) in
       let form = formed n given in
       bgp.some_problem n (is_bgp n form faultless (few_routers n faultless) is) faultless (few_directions n (few_links n form faultless))
-          (samples (communities_of n)) class has first.0 first.1
+      (samples (communities_of n)) class has first.0 first.1
   by (Some protocol.Ospf) is =
       let first = first_of class.prefixes (has_prefix n class has) in
       ospf.some_problem n (is_ospf n given faultless (few_routers n faultless) is) (few_directions n (few_links n (formed n given) faultless)) class has first.0
-          first.1
+      first.1
 
 pub samples_give_problems : FewLinks → GivenIsWellFormed → SamplesGiveProblems
 samples_give_problems few_links formed samples n given faultless class has = by few_links formed samples n given faultless class has (protocol_of n) refl

@@ -136,8 +136,13 @@ module _ (universe : List ℕ) (has : HasSamples universe) where
     where
       by : (set : List ℕ) → In has.samples set → (o : Option Imported) → f set ≡ o → In (preference_of o) lp → Prefers f lp
       by set inside None e at = absurd at
-      by set inside (Some i) e (inl same) = record { set = set; ascending = has.ascending set (contains_in has.samples set inside); import = i; is = e;
-          preferred = same }
+      by set inside (Some i) e (inl same) = record {
+        set = set;
+        ascending = has.ascending set (contains_in has.samples set inside);
+        import = i;
+        is = e;
+        preferred = same;
+      }
       by set inside (Some i) e (inr at) = absurd at
 
   module _ (out into : Plain) (sends : Bool) (maps : AreSessionMaps universe out into) where

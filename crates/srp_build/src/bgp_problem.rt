@@ -9,8 +9,8 @@ ghost use Rattle.srp_build.specs.Built.{IsBuiltFor};
 ghost use Rattle.srp_build.specs.Directions.{AreOfSessions};
 
 use crate::bgp_edges::{bgp_edges, written_acts};
-use crate::policy_maps::policy_maps;
 use crate::lone::lone_of;
+use crate::policy_maps::policy_maps;
 use crate::routers::{names_of, numbers_of, starts_of};
 use crate::session_hops::SessionHops;
 use base_kit::{NoMemory, Prefix, Protocol};

@@ -196,7 +196,11 @@ fn policies_by_router(
 }
 
 /// The policies of all neighbour lines of the routers, by the places of their lists and maps.
-pub fn policies_of(alloc: Global, routers: &[Router], places: &[Places]) -> Result<LinePolicies, NoMemory>
+pub fn policies_of(
+    alloc: Global,
+    routers: &[Router],
+    places: &[Places],
+) -> Result<LinePolicies, NoMemory>
     requires { HavePlaces routers.now places.now }
     ensures { IfOk result (AreLinePolicies routers.now) }
 {

@@ -4,7 +4,7 @@ ghost use Rattle.std.specs.Prelude.{◌≡◌, IfOk};
 ghost use Rattle.srp_build.specs.LineMaps.{AreMapsOfPolicies, map_number_at, with_maps};
 ghost use Rattle.srp_build.specs.ListPlaces.{HavePlaces};
 
-use crate::imports::{ImportByPolicies, ImportByMaps};
+use crate::imports::{ImportByMaps, ImportByPolicies};
 use crate::lines::{LinePlace, map_at};
 use crate::plains::Plains;
 use base_kit::{NoMemory, Prefix};

@@ -104,7 +104,7 @@ module _ (S : Problem) (good : IsProblem S) (groups : List ℕ) (adm : IsAdmissi
           λ w hw x. before w over.from hw g (ap (label M) x ∙ over.labelled) in
           let a : label L k.edge.exporter ≡ label L' k.edge.exporter = agree k.edge.exporter (good.edges.inside k.edge k.edge_in).exporter_in k.exporter in
           let b : label L k'.edge.exporter ≡ label L' k'.edge.exporter =
-              agree k'.edge.exporter (good.edges.inside k'.edge k'.edge_in).exporter_in k'.exporter in
+          agree k'.edge.exporter (good.edges.inside k'.edge k'.edge_in).exporter_in k'.exporter in
           let le : k.edge.exporter ≤ k'.edge.exporter =
           k.least k'.edge t'.0 k'.edge_in k'.importer k'.exporter (moved L' L k'.edge t'.0 (sym b) k'.over) k'.keyed in
           let ge : k'.edge.exporter ≤ k.edge.exporter = k'.least k.edge t.0 k.edge_in k.importer k.exporter (moved L L' k.edge t.0 a k.over) k.keyed in

@@ -58,7 +58,7 @@ module _ (S : Problem) (good : IsProblem S) (groups : List ℕ) (adm : IsAdmissi
           let na : number S a.router ≡ number Q g = a.numbered ∙ sym (q.numbers g ig ug) in
           let nb : number S b.router ≡ number Q h = b.numbered ∙ sym (q.numbers h ih uh) in
           let routers : a.router ≡ b.router = (good.numbers (from_bgp p)).distinct a.router b.router a.inside b.inside (na ∙ same ∙ sym nb)
-              (λ z. n (sym na ∙ z))
+          (λ z. n (sym na ∙ z))
           in
           differ (sym a.of_group ∙ ap (group_of groups) routers ∙ b.of_group))))))
     ]

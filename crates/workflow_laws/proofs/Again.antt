@@ -92,7 +92,7 @@ again is_quotient smallest n m class lower bytes has s prefixes o x =
     let R = a.problem in
     let alike = problems_alike m p.0 R (small e) (a.are.of_class p.0 (prefixes p.0 p.1)) low in
     let q : IsQuotient e.problem e.groups (small e) = subst (IsQuotient e.problem e.groups) (sym (ap (quotient_problem e.problem e.groups e.count) s.is.links))
-        (is_quotient e.problem e.groups e.count own.rules s.is.coarsest.admissible s.is.numbered) in
+    (is_quotient e.problem e.groups e.count own.rules s.is.coarsest.admissible s.is.numbered) in
     let c = same_coarsest R (small e) alike a.groups a.are.coarsest in
     let single = smallest e.problem (small e) e.groups a.groups own.rules low.rules s.is.coarsest q c.admissible in
     let counts : count (small e) ≡ count R = ap (λ (numbers : List ℕ). length numbers) (sym alike.numbers) in
@@ -108,6 +108,6 @@ compressed_again well built has_problem is_quotient smallest contents F G N K c 
     let m = c.of_small.network in
     let s = small_network well built has_problem contents F G N K c in
     let answer = answer_of (groups G K) contents (command.Groups K) refl (names_groups G K (short_small well contents F G N K c)) c.small c.kept o m
-        c.of_small.reads s.short x in
+    c.of_small.reads s.short x in
     again is_quotient smallest n m c.of_large.class c.of_small.class c.small (has_class n N c.of_large.class c.of_large.class_is) s c.prefixes o
     (subst (λ (found : Option DestClass). IsOfClass found K (IsGroupsOf m) o) c.of_small.class_is answer)

@@ -19,9 +19,9 @@ module _ (words : List (List ℕ)) (contents : Contents) (named : Command) (read
   unfolding IsOutcome
   of_text is =
       let at : IsOutcomeAt (Some named) (contents (file_of words)) (contents (second_of words)) o =
-          subst (λ (c : Option Command). IsOutcomeAt c (contents (file_of words)) (contents (second_of words)) o) names is in
+      subst (λ (c : Option Command). IsOutcomeAt c (contents (file_of words)) (contents (second_of words)) o) names is in
       let files : IsOutcomeOfFiles named (contents (file_of words)) (contents (second_of words)) o =
-          subst (λ (b : Bool). IsOutcomeBy b named (contents (file_of words)) (contents (second_of words)) o) reads at in
+      subst (λ (b : Bool). IsOutcomeBy b named (contents (file_of words)) (contents (second_of words)) o) reads at in
       subst (λ (c : Option (List ℕ)). IsOutcomeOfFiles named c (contents (second_of words)) o) told files
 
   pub answer_of : (n : Network) → reading_of text ≡ Ok n → length text ≤ text_limit → IsOutcome words contents o
@@ -45,8 +45,11 @@ module _ (words : List (List ℕ)) (contents : Contents) (named : Command) (read
     where
       by_length : IsOutcomeOfText named (contents (second_of words)) text (done written) → IsDoneOver named n text (contents (second_of words)) written
       by_length (inl long) = absurd (not_refused written (codes "FileTooLong") long.1)
-      by_length (inr read) = record { short = read.0; answer =
-          subst (λ (r : Result Network ReadRefusal). IsOutcomeOfReading named (contents (second_of words)) r (done written)) reads_text read.1 }
+      by_length (inr read) = record {
+        short = read.0;
+        answer =
+            subst (λ (r : Result Network ReadRefusal). IsOutcomeOfReading named (contents (second_of words)) r (done written)) reads_text read.1;
+      }
 
   -- so its text is read
   pub record IsDoneReading : Type 0 where

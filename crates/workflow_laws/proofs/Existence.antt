@@ -148,7 +148,7 @@ outcomes_come_together sound complete has_order rest contents F S text N small h
       groups = has_outcome (groups F N) contents (command.Groups N) refl (names_groups F N small) text holds
           (of_texts (command.ReportOn N) (command.Groups N) second second r
           (λ n is. of_number n N (IsReported report_text n N) (IsGroupsOf n) (λ class has q x. groups_of_plan n N class q x) (class_at (classes_of n) N) refl r
-              is) text own);
+          is) text own);
       compress = has_outcome (compress F N) contents (command.Compress N) refl (names_compress F N small) text holds
           (of_texts (command.ReportOn N) (command.Compress N) second second r
           (λ n is. of_number n N (IsReported report_text n N) (IsCompressOf n) (λ class has q x. compress_of_plan n N class q x)
@@ -160,7 +160,7 @@ outcomes_come_together sound complete has_order rest contents F S text N small h
       check = has_outcome (check F N S) contents (command.Check N) refl (names_check F S N small) text holds
           (of_texts (command.ReportOn N) (command.Check N) second (contents S) r
           (λ n is. of_number n N (IsReported report_text n N) (IsCheckOf n (contents S))
-              (λ class has q x. check_of_plan n N class q x has sound complete (contents S) told)
+          (λ class has q x. check_of_plan n N class q x has sound complete (contents S) told)
           (class_at (classes_of n) N) refl r is) text own);
       run = has_outcome (run F N S) contents (command.Run N) refl (names_run F S N small) text holds
           (of_texts (command.ReportOn N) (command.Run N) second (contents S) r
@@ -169,6 +169,6 @@ outcomes_come_together sound complete has_order rest contents F S text N small h
       reach = has_outcome (reach F N S) contents (command.Reach N) refl (names_reach F S N small) text holds
           (of_texts (command.ReportOn N) (command.Reach N) second (contents S) r
           (λ n is. of_number n N (IsReported report_text n N) (IsReachOf n (contents S))
-              (λ class has q x. reach_of_plan n N class q x has sound complete (contents S) told has_order)
+          (λ class has q x. reach_of_plan n N class q x has sound complete (contents S) told has_order)
           (class_at (classes_of n) N) refl r is) text own);
     }

@@ -74,5 +74,5 @@ module _ (well : WhatIsReadIsWell) (built : BuiltProblemIsOne) (has_problem : Te
             (r.problem p (subst (λ (d : DestClass). Contains d.prefixes p) (sym t.is.class_is) i));
         of_groups = λ s are p i. subst (λ (k : Network). IsProblemOf k p s.small) same
             (subst (IsProblemOf r.read p) (sym (one_small n class has built t.plan t.is s are))
-                (r.problem p (subst (λ (d : DestClass). Contains d.prefixes p) (sym t.is.class_is) i)));
+            (r.problem p (subst (λ (d : DestClass). Contains d.prefixes p) (sym t.is.class_is) i)));
       }

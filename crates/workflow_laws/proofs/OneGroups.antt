@@ -155,7 +155,7 @@ module _ (gs : List ℕ) (count : ℕ) (numbered : IsNumbered gs count) where
   all_met v m over first = elim (cases_lt m count) [
     | inl less ↦ absurd (let c = numbered.used m less in let inside = c.1 in
         let low = first.low c.0 (omega (arith, inside, over)) in let is : slice_index gs c.0 ≡ m = any_default gs c.0 0 m inside ∙ c.2 in
-            omega (arith, low, is))
+        omega (arith, low, is))
     | inr ge ↦ elim (cases_lt count m) [
       | inl more ↦ absurd (let u = first.met count more in let inside = u.1 in
           let below : slice_index gs u.0 < count = numbered.below u.0 0 (omega (arith, inside, over)) in let is = u.2 in omega (arith, below, is))

@@ -77,8 +77,15 @@ pub record IsReached (P : Problem) (solution order : List ℕ) : Type 0 where
 module _ (P : Problem) (solution order : List ℕ) where
   of_answer : (labels : List (Option Route)) → labels_of_text P.protocol P.names solution ≡ Ok labels → (a : Answer) → Judges P labels a
       → IsToldOf P labels a (done order) → IsReached P solution order
-  of_answer labels reads Stable stable told = record { labels = labels; read = reads; stable = stable; run = told.run; is = told.is; text =
-      ap (λ (o : Outcome). o.out) told.told }
+  of_answer labels reads Stable stable told = record {
+    labels = labels;
+    read = reads;
+    stable = stable;
+    run = told.run;
+    is = told.is;
+    text =
+        ap (λ (o : Outcome). o.out) told.told;
+  }
   of_answer labels reads (Not router why) judged told = absurd (not_broken order (break_reason P router why) told)
 
   of_labels : (r : Result (List (Option Route)) SolRefusal) → labels_of_text P.protocol P.names solution ≡ r → IsOfLabels (IsReach P) r (done order)
@@ -127,7 +134,7 @@ runs_to_rest P Q same rules other apart names solution order r few from number h
     let ordered = order_too Q P (turned P Q same) other r.labels r.run r.is in
     let text : order ≡ name_lines Q r.run = r.text ∙ ap (λ (ns : List (List ℕ)). flat_map (λ u. slice_index_or ns u [] ++ codes "\n") r.run) same.names in
     let short : length order ≤ schedule_limit = subst (λ (bs : List ℕ). length bs ≤ schedule_limit) (sym text)
-        (order_short Q r.labels r.run ordered (from_all (λ u. u < count Q) r.run ordered.only) few names) in
+    (order_short Q r.labels r.run ordered (from_all (λ u. u < count Q) r.run ordered.only) few names) in
     absurd (omega (arith, long.0, short))
 runs_to_rest P Q same rules other apart names solution order r few from number has of_class o (inr is) =
     let counts : count P ≡ count Q = ap (λ (numbers : List ℕ). length numbers) same.numbers in
@@ -137,9 +144,9 @@ runs_to_rest P Q same rules other apart names solution order r few from number h
     let text : order ≡ name_lines Q r.run = r.text ∙ ap (λ (ns : List (List ℕ)). flat_map (λ u. slice_index_or ns u [] ++ codes "\n") r.run) same.names in
     let reads = ap (schedule_of_text Q.names) text ∙ names_are_read Q r.run apart names inside in
     let ran : IsRest Q (labels_after Q (no_labels Q) (run_of (count Q) (map One r.run))) o =
-        subst (λ (x : Result (List Activation) ScheduleRefusal). IsOfActivations Q x o) reads is.1 in
+    subst (λ (x : Result (List Activation) ScheduleRefusal). IsOfActivations Q x o) reads is.1 in
     let ran_run : IsRest Q (labels_after Q (no_labels Q) r.run) o =
-        subst (λ (xs : List ℕ). IsRest Q (labels_after Q (no_labels Q) xs) o) (run_is (count Q) r.run) ran in
+    subst (λ (xs : List ℕ). IsRest Q (labels_after Q (no_labels Q) xs) o) (run_is (count Q) r.run) ran in
     let like = order_reaches Q other r.labels stable r.run ordered in
     record {
       of_text = has;
@@ -158,20 +165,20 @@ what_is_reached_rests well formed contents F S T text solution order N small hol
     let n = d.network in
     let read = well text n d.read in
     let r = some_class n N (IsReachOf n (Some solution)) order (class_at (classes_of n) N) refl
-        (subst (λ (s : Option (List ℕ)). IsReachAnswer n N s (done order)) told d.over.answer) in
+    (subst (λ (s : Option (List ℕ)). IsReachAnswer n N s (done order)) told d.over.answer) in
     let answer = answer_of (run F N T) contents (command.Run N) refl (names_run F T N small) text holds ran n d.read d.over.short y in
     let k : IsRunOf n (Some order) r.class ran = subst (λ (found : Option DestClass). IsOfClass found N (IsRunOf n (Some order)) ran) r.class_is
-        (subst (λ (s : Option (List ℕ)). IsRunAnswer n N s ran) kept answer) in
+    (subst (λ (s : Option (List ℕ)). IsRunAnswer n N s ran) kept answer) in
     let has = has_class n N r.class r.class_is in
     let p = some_prefix n r.class has in
     let first = r.allowed.of_class p.0 p.1 in
     let second = k.of_class p.0 p.1 in
     let same = problems_alike n p.0 r.allowed.problem k.problem first second in
     let names = subst (AllByRecursion (λ (name : List ℕ). is_router_name name ≡ true)) (sym second.names)
-        (router_names n.routers (formed n ∣ (text, read.given) ∣₁).routers) in
+    (router_names n.routers (formed n ∣ (text, read.given) ∣₁).routers) in
     let few : count k.problem ≤ 4096 = (let long = ap (λ (ns : List (List ℕ)). length ns) second.names
-        ∙ length-map n.routers (λ (router : Router). router.name) in omega (arith, second.rules.tables.names, long, few_routers n read.faultless)) in
+    ∙ length-map n.routers (λ (router : Router). router.name) in omega (arith, second.rules.tables.names, long, few_routers n read.faultless)) in
     runs_to_rest r.allowed.problem k.problem same first.rules second.rules (problem_apart n read.faultless r.class has k.problem k.of_class) names solution
-        order
+    order
     (reached r.allowed.problem solution order r.allowed.reach) few text N
     (record { network = n; reads = d.read; class = r.class; class_is = r.class_is }) k.of_class ran k.ran

@@ -47,7 +47,7 @@ what_is_lifted_is_stable well back few contents F S T text solution written N sm
     let own = l.are.built.of p.0 p.1 in
     let alike = problems_alike n p.0 l.sides.problem k.problem own (k.of_class p.0 p.1) in
     text_told_stable l.sides.problem k.problem alike own.rules l.labels l.stable_above written checked
-        ((few contents F S text solution N small holds told).lifted written x) l.reads k.judgement
+    ((few contents F S text solution N small holds told).lifted written x) l.reads k.judgement
 
 -- ---- what `fold` writes is stable below
 
@@ -58,19 +58,19 @@ what_is_folded_is_stable_below well built has_problem back few contents F G S T 
     let read = well c.large n c.of_large.reads in
     let low = small_network well built has_problem contents F G N K c in
     let d = done_over (fold F N S) contents (command.Fold N) refl (names_fold F S N (short_large well contents F G N K c)) c.large c.holds written n
-        c.of_large.reads x in
+    c.of_large.reads x in
     let f = back n ∣ (c.large, read.given) ∣₁ read.faultless N solution written
-        (subst (λ (s : Option (List ℕ)). IsFoldAnswer n N s (done written)) told d.answer) in
+    (subst (λ (s : Option (List ℕ)). IsFoldAnswer n N s (done written)) told d.answer) in
     let same : f.class ≡ c.of_large.class = one_found f.class c.of_large.class (sym f.class_is ∙ c.of_large.class_is) in
     let answer = answer_of (check G K T) contents (command.Check K) refl (names_check G T K (short_small well contents F G N K c)) c.small c.kept checked m
-        c.of_small.reads low.short y in
+    c.of_small.reads low.short y in
     let k = check_of m K c.of_small.class (Some written) checked c.of_small.class_is (subst (λ (s : Option (List ℕ)). IsCheckAnswer m K s checked) kept answer)
-        in
+    in
     let p = some_prefix n c.of_large.class (has_class n N c.of_large.class c.of_large.class_is) in
     let own = low.of_groups f.sides (subst (λ (class : DestClass). AreSides n class f.sides) same f.are) p.0 p.1 in
     let alike = problems_alike m p.0 f.sides.small k.problem own (k.of_class p.0 (c.prefixes p.0 p.1)) in
     text_told_stable f.sides.small k.problem alike own.rules f.lower f.stable_below written checked
-        ((few contents F S c.large solution N (short_large well contents F G N K c) c.holds told).folded written x) f.reads k.judgement
+    ((few contents F S c.large solution N (short_large well contents F G N K c) c.holds told).folded written x) f.reads k.judgement
 
 -- ---- `lift` takes what `fold` writes
 
@@ -80,12 +80,12 @@ what_is_folded_is_lifted well built back few contents F S T text solution writte
     let n = d.network in
     let read = well text n d.read in
     let f = back n ∣ (text, read.given) ∣₁ read.faultless N solution written
-        (subst (λ (s : Option (List ℕ)). IsFoldAnswer n N s (done written)) told d.over.answer) in
+    (subst (λ (s : Option (List ℕ)). IsFoldAnswer n N s (done written)) told d.over.answer) in
     let answer = answer_of (lift F N T) contents (command.Lift N) refl (names_lift F T N small) text holds lifted n d.read d.over.short y in
     let l = lift_of n N f.class (Some written) lifted f.class_is (subst (λ (s : Option (List ℕ)). IsLiftAnswer n N s lifted) kept answer) in
     let same : l.sides ≡ f.sides = one_sides n f.class (has_class n N f.class f.class_is) built l.sides f.sides l.are f.are in
     taken f.sides f.lower f.stable_below written lifted ((few contents F S text solution N small holds told).folded written x) f.reads f.are.small_rules
-        (subst (λ (s : Sides). IsOfSolution s.small (Some written) (IsLiftOfLabels s) lifted) same l.solution)
+    (subst (λ (s : Sides). IsOfSolution s.small (Some written) (IsLiftOfLabels s) lifted) same l.solution)
   where
     taken : (s : Sides) (lower : List (Option Route)) → IsStable s.small lower → (written : List ℕ) (o : Outcome) → length written ≤ solution_limit
         → labels_of_text s.small.protocol s.small.names written ≡ Ok lower

@@ -46,8 +46,10 @@ AllInside count run = AllByRecursion (λ u. u < count) run
 lines_print : (names : List (List ℕ)) (run : List ℕ) → AllByRecursion IsName names → AllInside (length names) run
     → AllByRecursion IsPrintedLine (lines_of_run names run)
 lines_print names [] all inside = tt
-lines_print names (u ∷ run) all inside = (record { some = omega arith; words = (router_name_prints (name_at names u) (name_is names u all inside.0), tt) },
-    lines_print names run all inside.1)
+lines_print names (u ∷ run) all inside = (
+  record { some = omega arith; words = (router_name_prints (name_at names u) (name_is names u all inside.0), tt) },
+  lines_print names run all inside.1,
+)
 
 abbrev words_of : List TextLine → List (List (List ℕ))
 words_of ls = map (λ (l : TextLine). l.words) ls
@@ -97,10 +99,10 @@ module _ (names : List (List ℕ)) (apart : AreApart names) (all : AllByRecursio
   schedule_is (u ∷ run) (l ∷ ls) inside same =
       let here : l.words ≡ name_at names u ∷ [] = first_words (name_at names u ∷ []) l ls (words_of (lines_of_run names run)) same in
       let later : schedule_of_words names (flat_map words_on ls) ≡ Ok (map One run) =
-          schedule_is run ls inside.1 (later_words (name_at names u ∷ []) l ls (words_of (lines_of_run names run)) same) in
+      schedule_is run ls inside.1 (later_words (name_at names u ∷ []) l ls (words_of (lines_of_run names run)) same) in
       ap (λ (words : List (List ℕ)). schedule_of_words names (words_at l.number words ++ flat_map words_on ls)) here
       ∙ ap (λ (found : Option Activation). or_unknown l.number found (schedule_of_words names (flat_map words_on ls)))
-          (activation_is names u apart all inside.0)
+      (activation_is names u apart all inside.0)
       ∙ ap (before (One u)) later
 
 -- the text of a run is read as its activations

@@ -58,8 +58,10 @@ kept_below n (u ∷ us) apart below = by (kept_below n us apart.1 below.1) (nat_
   where
     others : (us : List ℕ) → AreBelow (suc n) us → ((v : ℕ) → In us v → n ≢ v) → AreBelow n us
     others [] below apart = tt
-    others (v ∷ us) below apart = (let other = apart v (inl refl) in let less = below.0 in omega (arith, other, less),
-        others us below.1 (λ w at. apart w (inr at)))
+    others (v ∷ us) below apart = (
+      let other = apart v (inl refl) in let less = below.0 in omega (arith, other, less),
+      others us below.1 (λ w at. apart w (inr at)),
+    )
 
     by : AreBelow n (without n us) → (b : Bool) → nat_eq u n ≡ b → AreBelow n (cond b us (u ∷ without n us))
     by kept true e = (let same : u ≡ n = grind arith in others us below.1 (λ v at. subst (λ k. k ≢ v) same (apart.0 v at)))
@@ -72,8 +74,10 @@ few_apart (suc n) us apart below = omega (arith, kept_long n us, few_apart n (wi
 
 sorted_apart : (labels : List (Option Route)) (run : List ℕ) → Sorted labels run → AreApartNumbers run
 sorted_apart labels [] sorted = tt
-sorted_apart labels (u ∷ run) sorted = ((λ v at same. not_first (label labels u) u (subst (λ w. StandsBefore labels u w) (sym same) (sorted.0 v at))),
-    sorted_apart labels run sorted.1)
+sorted_apart labels (u ∷ run) sorted = (
+  (λ v at same. not_first (label labels u) u (subst (λ w. StandsBefore labels u w) (sym same) (sorted.0 v at))),
+  sorted_apart labels run sorted.1,
+)
 
 -- ---- the text
 

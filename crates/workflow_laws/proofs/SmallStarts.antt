@@ -186,7 +186,7 @@ class_is_kept well has_problem fits printed back is_quotient contents F large by
     let below : (p : Prefix) → Contains class.prefixes p → IsProblemOf h.read p (small e) =
     λ p i. h.problem p (subst (λ (c : DestClass). Contains c.prefixes p) (sym t.is.class_is) i) in
     let kept : HasClassOf class bytes = keeps well n h.read class e.problem (small e) e.groups bytes has (ap reading_of t.text ∙ h.reads) none t.is.built.of
-        below quotient in
+    below quotient in
     let other : h.read ≡ kept.of_text.network = one_network h.read kept.of_text.network (sym (ap reading_of t.text ∙ h.reads) ∙ kept.of_text.reads) in
     record {
       of_large = record { network = n; reads = d.read; class = class; class_is = r.class_is };

@@ -35,13 +35,13 @@ lift_of n number class second o at is = subst (λ (found : Option DestClass). Is
 pub below_is_lift : (n m : Network) (class lower : DestClass) (bytes : List ℕ) → Contains (classes_of n) class → IsSmall n class bytes m
     → ((p : _) → Contains class.prefixes p → Contains lower.prefixes p)
     → (second : Option (List ℕ)) → IsSome second → (lifted checked : Outcome) → IsLiftOf n second class lifted → IsCheckOf m second lower checked
-        → checked ≡ verdict_told lifted
+    → checked ≡ verdict_told lifted
 below_is_lift n m class lower bytes has small prefixes second told lifted checked x y =
     let p = some_prefix n class has in
     let own = small.of_groups x.sides x.are p.0 p.1 in
     let alike = problems_alike m p.0 x.sides.small y.problem own (y.of_class p.0 (prefixes p.0 p.1)) in
     says_so x.sides.small (IsLifted x.sides) (λ labels o is. ap (λ (q : Outcome). q.status) is.written) y.problem alike x.are.small_rules second told lifted
-        checked x.solution y.judgement
+    checked x.solution y.judgement
 
 pub check_below_is_lift : WhatIsReadIsWell → BuiltProblemIsOne → TextHasProblemOfGroups → CheckBelowIsLift
 check_below_is_lift well built has_problem contents F G S N K c told lifted checked x y =
@@ -50,9 +50,9 @@ check_below_is_lift well built has_problem contents F G S N K c told lifted chec
     let small = small_network well built has_problem contents F G N K c in
     let first = done_compress well contents F G N K c in
     let lifts = answer_of (lift F N S) contents (command.Lift N) refl (names_lift F S N (short_large well contents F G N K c)) c.large c.holds lifted n
-        c.of_large.reads first.short x in
+    c.of_large.reads first.short x in
     let checks = answer_of (check G K S) contents (command.Check K) refl (names_check G S K (short_small well contents F G N K c)) c.small c.kept checked m
-        c.of_small.reads small.short y in
+    c.of_small.reads small.short y in
     below_is_lift n m c.of_large.class c.of_small.class c.small (has_class n N c.of_large.class c.of_large.class_is) small c.prefixes (contents S) told lifted
-        checked
+    checked
     (lift_of n N c.of_large.class (contents S) lifted c.of_large.class_is lifts) (check_of m K c.of_small.class (contents S) checked c.of_small.class_is checks)

@@ -51,4 +51,4 @@ module _ (P : Problem) (A : List (Option Route) → Outcome → Type 0) (work : 
       → IsOfSolution P second (λ labels. IsOfStable P labels (A labels)) o → IsOfSolution Q second (IsJudgement Q) p → p ≡ verdict_told o
   says_so Q same rules second is_told o p x y =
       sym (one_of_solution P Q same.protocol same.names (IsJudgement P) (IsJudgement Q) (one_judgement P Q same rules) second is_told (verdict_told o) p
-          (of_solution second o x) y)
+      (of_solution second o x) y)

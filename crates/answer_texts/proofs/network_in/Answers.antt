@@ -11,7 +11,7 @@ pub returns-in-Err-clause-none : goal.returns-in-Err-clause-none
 returns-in-Err-clause-none c =
     let text = c.args.text.now in
     answers_refused c.text_refusal.result text c.in-Err.refusal (network_of_text text) (reading_refused text c.in-Err.refusal) c.in-Err.ensures
-        c.text_refusal.ensures
+    c.text_refusal.ensures
 
 abbrev accepted_as : Network → Result Network ReadRefusal
 accepted_as n = Ok n
@@ -27,5 +27,5 @@ pub returns-in-Err-check_network-clause-none : goal.returns-in-Err-check_network
 returns-in-Err-check_network-clause-none c =
     let text = c.args.text.now in
     answers_refused c.text_refusal-in-Err-check_network.result text c.in-Err-check_network.refusal (judged c.in-Ok.network)
-        (λ e. reading_judged text c.in-Ok.network _ c.in-Ok.ensures e)
+    (λ e. reading_judged text c.in-Ok.network _ c.in-Ok.ensures e)
     c.in-Err-check_network.ensures.refused c.text_refusal-in-Err-check_network.ensures

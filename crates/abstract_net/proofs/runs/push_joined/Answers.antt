@@ -15,4 +15,4 @@ one_more f old links new n l before now is =
 pub loop-place-preserved : goal.loop-place-preserved
 loop-place-preserved c =
     one_more (group_link c.args.low c.args.high c.args.to_low.now c.args.to_high.now) _ _ _ c.loop-place.place _ c.loop-place.invariant c.in_ok-push.ensures.ok
-        (cc)
+    (cc)

@@ -15,12 +15,12 @@ bounds-edges-place c = place_inside c.args.edges.now c.deref-place-items.result.
 pub step_of-step-requires-clause-importer : goal.step_of-step-requires-clause-importer
 step_of-step-requires-clause-importer c = c.requires.importers _ _
     (place_inside c.args.edges.now c.deref-place-items.result.now c.loop-place.place-index (c.deref-place-items.ensures.value ∙ c.in_ok-places.ensures)
-        c.loop-place-test.true)
+    c.loop-place-test.true)
 
 pub step_of-step-requires-clause-exporter : goal.step_of-step-requires-clause-exporter
 step_of-step-requires-clause-exporter c = c.requires.exporters _ _
     (place_inside c.args.edges.now c.deref-place-items.result.now c.loop-place.place-index (c.deref-place-items.ensures.value ∙ c.in_ok-places.ensures)
-        c.loop-place-test.true)
+    c.loop-place-test.true)
 
 pub loop-place-preserved : goal.loop-place-preserved
 loop-place-preserved c =
@@ -29,10 +29,10 @@ loop-place-preserved c =
     let places : List ℕ = c.deref-place-items.result.now in
     let k : ℕ = c.loop-place.place-index in
     let inside : slice_index places k < length es = place_inside es places k (c.deref-place-items.ensures.value ∙ c.in_ok-places.ensures) c.loop-place-test.true
-        in
+    in
     let step = c.step_of-step.ensures ∙ step_is es groups (slice_index places k) _
-        (get_any es (slice_index places k) (record { importer = 0; exporter = 0; act = 0; link = 0 }) inside) in
+    (get_any es (slice_index places k) (record { importer = 0; exporter = 0; act = 0; link = 0 }) inside) in
     c.in_ok-push_first.ensures (filter_map (step_at es groups) (drop (k + 1) places))
     ∙ ap (λ (xs : List Step). c.loop-place.steps.items ++ first_kinds (is_met c.loop-place.met) xs)
-        (left_more es groups places k (slice_index places k) _ c.loop-place-test.true refl step)
+    (left_more es groups places k (slice_index places k) _ c.loop-place-test.true refl step)
     ∙ c.loop-place.invariant

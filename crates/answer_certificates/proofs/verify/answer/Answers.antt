@@ -15,6 +15,11 @@ returns-in-Ok-graph-clause-answers g c =
     let B : Outcome → Type 0 = IsVerifyOf c.args.checked.now.network (g.S.Source.contents files second) c.args.class.now in
     let rose = Rose (g.S.Source.faults files second) (g.S.Source.faults c.answer_of_graph.new.files second) in
     answers_as c.answer_of_graph.result A B ⊥ ⊥ rose rose
-    (λ o verdict. record { problem = problem; graph = graph; are = record { built = c.in-Ok.ensures; of_problem = c.in-Ok-graph.ensures.graph }; verdict =
-        verdict })
+    (λ o verdict. record {
+      problem = problem;
+      graph = graph;
+      are = record { built = c.in-Ok.ensures; of_problem = c.in-Ok-graph.ensures.graph };
+      verdict =
+          verdict;
+    })
     (λ e. e) (λ r. r) c.answer_of_graph.ensures.answers

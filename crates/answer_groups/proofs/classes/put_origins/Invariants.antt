@@ -5,4 +5,4 @@ use Rattle.answer_groups.proofs.classes.put_origins.Given as goal
 abbrev pub invariant-loop-origin : goal.invariant-loop-origin
 invariant-loop-origin l =
     string_bytes l.text ++ flat_map (origin_word l.network) (drop l.origin-index l.origins) ≡ string_bytes l.fn.text
-        ++ flat_map (origin_word l.network) l.origins
+    ++ flat_map (origin_word l.network) l.origins

@@ -15,4 +15,4 @@ pub returns : goal.returns
 returns c =
     let past : length c.args.classes.now ≤ c.loop-i.i = omega (arith, c.loop-i-test.false) in
     all_lines c.args.checked.now.network c.args.classes.now c.loop-i.i (string_bytes c.loop-i.text) c.into_bytes.result.items past
-        (ap (λ (v : Vec ℕ Global). v.items) c.into_bytes.ensures.value) c.loop-i.invariant.lines
+    (ap (λ (v : Vec ℕ Global). v.items) c.into_bytes.ensures.value) c.loop-i.invariant.lines

@@ -7,7 +7,7 @@ use Rattle.answer_reports.proofs.trial.answer.Goals as goal
 pub returns-in-Ok : goal.returns-in-Ok
 returns-in-Ok c =
     answers_as c.summary_of_text.result _ _ ⊥ ⊥ ⊥ ⊥ (λ o is.
-        of_size c.args.size c.deref.result.now o c.in-Ok.ensures.0 (c.deref.ensures.value ∙ c.in-Ok.ensures.1) is) (λ e. e) (λ e. e) c.summary_of_text.ensures
+    of_size c.args.size c.deref.result.now o c.in-Ok.ensures.0 (c.deref.ensures.value ∙ c.in-Ok.ensures.1) is) (λ e. e) (λ e. e) c.summary_of_text.ensures
 
 pub returns-in-Err-BadSize : goal.returns-in-Err-BadSize
 returns-in-Err-BadSize c =

@@ -13,4 +13,4 @@ loop-activation-preserved c =
     let i = c.loop-activation.activation-index in
     let a : Activation = get_or schedule i (One 0) in
     lines_more P (count P) schedule i a (string_bytes c.loop-activation.text) (string_bytes c.put_name.new.text) c.loop-activation-test.true
-        (get_or_default schedule i (One 0) a c.loop-activation-test.true) c.loop-activation.invariant c.in_ok-put_name.ensures
+    (get_or_default schedule i (One 0) a c.loop-activation-test.true) c.loop-activation.invariant c.in_ok-put_name.ensures

@@ -21,4 +21,4 @@ answer_of_sides-requires-clause-quotient g c =
 pub returns-in-Ok-clause-answers : goal.returns-in-Ok-clause-answers
 returns-in-Ok-clause-answers g c =
     answers_carry_of c.args.way c.args.checked.now.network c.args.class.now c.in-Ok.sides c.in-Ok.ensures _ c.carried_from-problem.ensures _
-        c.answer_of_sides.result _ c.answer_of_sides.ensures.answers
+    c.answer_of_sides.result _ c.answer_of_sides.ensures.answers

@@ -9,4 +9,4 @@ use Rattle.answer_solutions.proofs.laws.fold_answer_is_one.Goals as goal
 pub returns : goal.returns
 returns c = λ n number second told o p x y.
     one_of_class n (IsFoldOf n second) (λ class has. one_fold n class has c.quotient_is_quotient.ensures c.built_problem_is_one.ensures c.folding_is_one.ensures
-        second told) number (class_at (classes_of n) number) refl o p x y
+    second told) number (class_at (classes_of n) number) refl o p x y

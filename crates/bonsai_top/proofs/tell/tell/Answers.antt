@@ -6,13 +6,13 @@ pub returns-in-Refusal-clause-tells : goal.returns-in-Refusal-clause-tells
 returns-in-Refusal-clause-tells g c =
     let e = c.tell_line.ensures in
     rw (c.in-Refusal.is, ← c.deref-in-Refusal.ensures.value)
-        (tells_line _ _ (refused c.deref-in-Refusal.result.now).err _ _ _ _ _ _ e.status e.all e.part e.cause)
+    (tells_line _ _ (refused c.deref-in-Refusal.result.now).err _ _ _ _ _ _ e.status e.all e.part e.cause)
 
 pub returns-in-NotStable-clause-tells : goal.returns-in-NotStable-clause-tells
 returns-in-NotStable-clause-tells g c =
     let e = c.tell_line-in-NotStable.ensures in
     rw (c.in-NotStable.is, ← c.deref-in-NotStable.ensures.value)
-        (tells_line _ _ (not_stable c.deref-in-NotStable.result.now).err _ _ _ _ _ _ e.status e.all e.part e.cause)
+    (tells_line _ _ (not_stable c.deref-in-NotStable.result.now).err _ _ _ _ _ _ e.status e.all e.part e.cause)
 
 pub returns-in-Misuse-clause-tells : goal.returns-in-Misuse-clause-tells
 returns-in-Misuse-clause-tells g c = let e = c.tell_line-in-Misuse.ensures in
@@ -31,4 +31,4 @@ pub returns-in-SecondFailed-clause-tells : goal.returns-in-SecondFailed-clause-t
 returns-in-SecondFailed-clause-tells g c =
     let e = c.tell_line-in-SecondFailed.ensures in
     rw (c.in-SecondFailed.is, ← c.as_bytes-in-SecondFailed.ensures.value)
-        (tells_line _ _ (read_fault c.as_bytes-in-SecondFailed.result.now).err _ _ _ _ _ _ e.status e.all e.part e.cause)
+    (tells_line _ _ (read_fault c.as_bytes-in-SecondFailed.result.now).err _ _ _ _ _ _ e.status e.all e.part e.cause)

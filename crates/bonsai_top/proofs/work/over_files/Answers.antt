@@ -18,13 +18,13 @@ returns-in-Ok-clause-answers g c =
     let mid = g.S.Source.faults c.read_all.new.s in
     let new = g.S.Source.faults c.over_text.new.files in
     let told = subst (λ (held : List ℕ → Option (List ℕ)). Answers c.over_text.result
-        (IsOutcomeOfReading c.args.command (held second) (reading_of c.deref.result.now)) ⊥ (SecondRose (Some c.args.command) (mid second) (new second)))
-            read.contents c.over_text.ensures.answers in
+    (IsOutcomeOfReading c.args.command (held second) (reading_of c.deref.result.now)) ⊥ (SecondRose (Some c.args.command) (mid second) (new second)))
+    read.contents c.over_text.ensures.answers in
     let answers = subst (λ (t : List ℕ). Answers c.over_text.result (IsOutcomeOfReading c.args.command (contents second) (reading_of t)) ⊥
-        (SecondRose (Some c.args.command) (mid second) (new second))) c.deref.ensures.value told in
+    (SecondRose (Some c.args.command) (mid second) (new second))) c.deref.ensures.value told in
     answers_text c.over_text.result c.args.command c.in-Ok.text.items (contents first) (contents second) (Rose (old first) (new first))
     (SecondRose (Some c.args.command) (mid second) (new second)) (SecondRose (Some c.args.command) (old second) (new second)) read.short read.whole
-        (λ p. (p.0, rose_earlier (old second) (mid second) (new second) (read.later second) p.1)) answers
+    (λ p. (p.0, rose_earlier (old second) (mid second) (new second) (read.later second) p.1)) answers
 
 pub returns-in-Err-TooLong-clause-answers : goal.returns-in-Err-TooLong-clause-answers
 returns-in-Err-TooLong-clause-answers g c =

@@ -12,4 +12,4 @@ returns g c =
     ∙ unwrapped c.remove.result c.new.result c.new.ensures.items
     ∙ ap (λ (o : Option (Vec g.row.T.Denot Global)). option_map_or (λ (v : Vec g.row.T.Denot Global). v.items) o []) c.remove.ensures.value in
     pushed c.args.index.now c.remove.new.self c.insert.new.self c.args.pair c.push.new.self c.unwrap_or-same.result.items c.args.item c.remove.ensures.updates.0
-        c.in_ok-insert.ensures.updates.0 same c.in_ok-push.ensures.items
+    c.in_ok-insert.ensures.updates.0 same c.in_ok-push.ensures.items

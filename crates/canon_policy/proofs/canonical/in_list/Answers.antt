@@ -32,7 +32,7 @@ returns-in-Err-clause-list c = λ f of plain.
 pub returns-in-None-clause-list : goal.returns-in-None-clause-list
 returns-in-None-clause-list c = λ f of plain.
     in_back c.args.store.now c.settled_fixings.new.store c.settled_fixings.ensures.grows c.args.edge.now f of plain c.as_slice.result.now
-        c.in_ok-in_list_of-in-Ok.field-0
+    c.in_ok-in_list_of-in-Ok.field-0
     (c.in_ok-in_list_of-in-Ok.ensures f)
     (c.as_slice.ensures ∙ c.in-Ok.ensures.walked
     (asked_of c.args.store.now.universe (on_sets f) (keys_of (by_number c.args.edge.now.outs)))
@@ -46,7 +46,7 @@ returns-in-None-clause-list c = λ f of plain.
 pub returns-clause-list : goal.returns-clause-list
 returns-clause-list c = λ f of plain.
     in_back c.args.store.now c.settled_fixings.new.store c.settled_fixings.ensures.grows c.args.edge.now f of plain c.as_slice.result.now
-        c.in_ok-in_list_of-in-Ok.field-0
+    c.in_ok-in_list_of-in-Ok.field-0
     (c.in_ok-in_list_of-in-Ok.ensures f)
     (c.as_slice.ensures ∙ c.in-Ok.ensures.walked
     (asked_of c.args.store.now.universe (on_sets f) (keys_of (by_number c.args.edge.now.outs)))

@@ -39,7 +39,7 @@ returns-in-Err-clause-list c = λ f of plain.
 pub returns-in-None-clause-list : goal.returns-in-None-clause-list
 returns-in-None-clause-list c = λ f of plain.
     out_back c.args.store.now c.settled_fixings.new.store c.settled_fixings.ensures.grows c.args.edge.now f of plain c.as_slice.result.now
-        c.in_ok-out_list_of-in-Ok.field-0
+    c.in_ok-out_list_of-in-Ok.field-0
     (λ of_new plain_new e. c.in_ok-out_list_of-in-Ok.ensures f of_new plain_new
     (ap (λ (l : List (ℕ × ℕ)). has_no_count l) (sym c.as_slice-counts.ensures) ∙ sym c.adds_nothing.ensures ∙ c.if-adds_nothing.false) e)
     (c.as_slice.ensures ∙ c.in-Ok.ensures.walked
@@ -52,7 +52,7 @@ returns-in-None-clause-list c = λ f of plain.
 pub returns-clause-list : goal.returns-clause-list
 returns-clause-list c = λ f of plain.
     out_back c.args.store.now c.settled_fixings.new.store c.settled_fixings.ensures.grows c.args.edge.now f of plain c.as_slice.result.now
-        c.in_ok-out_list_of-in-Ok.field-0
+    c.in_ok-out_list_of-in-Ok.field-0
     (λ of_new plain_new e. c.in_ok-out_list_of-in-Ok.ensures f of_new plain_new
     (ap (λ (l : List (ℕ × ℕ)). has_no_count l) (sym c.as_slice-counts.ensures) ∙ sym c.adds_nothing.ensures ∙ c.if-adds_nothing.false) e)
     (c.as_slice.ensures ∙ c.in-Ok.ensures.walked

@@ -11,10 +11,10 @@ loop-case-preserved c = elim c.if-out.branch [
   | then-out+in_ok-push w ↦
       ap (λ v. v.items) w.deleted-is
       ∙ more_deleted c.args.store.now c.args.fixing.now c.args.outs.now c.loop-case.case-index c.case-item.result c.loop-case.deleted.items
-          w.push.new.self.items c.loop-case-test.true c.case-item.is c.loop-case.invariant
+      w.push.new.self.items c.loop-case-test.true c.case-item.is c.loop-case.invariant
       (sym c.in_ok-out.ensures ∙ w.if-out.true) w.in_ok-push.ensures.items
   | else-out w ↦
       ap (λ v. v.items) w.deleted-is
       ∙ none_deleted c.args.store.now c.args.fixing.now c.args.outs.now c.loop-case.case-index c.case-item.result c.loop-case.deleted.items
-          c.loop-case-test.true c.case-item.is c.loop-case.invariant (sym c.in_ok-out.ensures ∙ w.if-out.false)
+      c.loop-case-test.true c.case-item.is c.loop-case.invariant (sym c.in_ok-out.ensures ∙ w.if-out.false)
 ]

@@ -18,11 +18,11 @@ returns-then-not-eval c =
 pub count_of-requires : goal.count_of-requires
 count_of-requires c =
     subst (λ (l : List (ℕ × ℕ)). AreInside c.args.store.now (nodes_of l)) (sym c.as_slice.ensures)
-        (nodes_inside c.args.store.now never c.args.edge.now.adds c.requires.means.adds.each)
+    (nodes_inside c.args.store.now never c.args.edge.now.adds c.requires.means.adds.each)
 
 pub returns : goal.returns
 returns c =
     ap (λ (lists : Option (List CommunityList)). permitting c.args.seq lists None None None c.count_of.result) c.in_ok-lists.ensures
     ∙ ap (λ (n : ℕ). permitting c.args.seq (match_of c.args.fixing.now.present) None None None n)
-        (c.count_of.ensures ∙ ap (λ (l : List (ℕ × ℕ)). count_in c.args.store.now c.args.fixing.now.present l) c.as_slice.ensures)
+    (c.count_of.ensures ∙ ap (λ (l : List (ℕ × ℕ)). count_in c.args.store.now c.args.fixing.now.present l) c.as_slice.ensures)
     ∙ sym (out_permits c.args.store.now c.args.edge.now c.args.seq c.args.fixing.now (sym c.eval.ensures ∙ c.if-not-eval.false))

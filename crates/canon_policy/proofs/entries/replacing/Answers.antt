@@ -14,12 +14,12 @@ use Rattle.canon_policy.proofs.entries.replacing.Goals as goal
 pub preference_of-requires : goal.preference_of-requires
 preference_of-requires c =
     subst (λ (l : List (ℕ × ℕ)). AreInside c.args.store.now (nodes_of l)) (sym c.as_slice.ensures)
-        (nodes_inside c.args.store.now never c.args.edge.now.lps c.requires.edge.means.lps.each)
+    (nodes_inside c.args.store.now never c.args.edge.now.lps c.requires.edge.means.lps.each)
 
 pub replacement_by-requires : goal.replacement_by-requires
 replacement_by-requires c =
     subst (λ (l : List ℕ). IsAscending l) (sym c.requires.carried)
-        (ascending_carried c.args.store.now c.args.fixing.now.present c.args.edge.now.outs c.requires.edge.means.outs.ascending)
+    (ascending_carried c.args.store.now c.args.fixing.now.present c.args.edge.now.outs c.requires.edge.means.outs.ascending)
 
 pub returns : goal.returns
 returns c =
@@ -29,5 +29,5 @@ returns c =
     ap (λ (x : Option (List CommunityList)). permitting c.args.seq x c.preference_of.result c.replacement_by.result None 0) lists
     ∙ ap (λ (x : Option ℕ). permitting c.args.seq (match_of c.args.fixing.now.present) x c.replacement_by.result None 0) lp
     ∙ ap (λ (x : Option Change). permitting c.args.seq (match_of c.args.fixing.now.present)
-        (lp_in c.args.store.now c.args.fixing.now.present c.args.edge.now.lps) x None 0) change
+    (lp_in c.args.store.now c.args.fixing.now.present c.args.edge.now.lps) x None 0) change
     ∙ sym (in_replaces c.args.store.now c.args.edge.now c.args.seq c.args.fixing.now c.requires.permit c.requires.replaced)

@@ -12,13 +12,13 @@ returns-clause-fixed c =
     record {
       permit = later c.args.store.now c.fixed_node.new.store c.fixed_parts.new.store c.args.alone.now c.args.nodes.now.permit c.in_ok-permit.permit
           (grows_trans c.fixed_node.new.store c.fixed_node-2.new.store c.fixed_parts.new.store c.in_ok-rest.ensures.grows c.in_ok-parts.ensures.grows)
-              c.in_ok-permit.ensures.fixed;
+          c.in_ok-permit.ensures.fixed;
       rest = later c.args.store.now c.fixed_node-2.new.store c.fixed_parts.new.store c.args.alone.now c.args.nodes.now.rest c.in_ok-rest.rest
           c.in_ok-parts.ensures.grows
           (of_grown c.args.store.now c.fixed_node.new.store c.fixed_node-2.new.store c.args.alone.now c.args.nodes.now.rest c.in_ok-rest.rest first
-              c.requires.nodes.rest c.in_ok-rest.ensures.fixed);
+          c.requires.nodes.rest c.in_ok-rest.ensures.fixed);
       parts = parts_of_grown c.args.store.now c.fixed_node-2.new.store c.fixed_parts.new.store c.args.alone.now c.args.nodes.now.parts c.in_ok-parts.parts both
           c.requires.nodes.parts
           (subst (λ (l : List PartNodes). ArePartsFixed c.fixed_node-2.new.store c.fixed_parts.new.store c.args.alone.now l c.in_ok-parts.parts)
-              c.as_slice.ensures c.in_ok-parts.ensures.fixed);
+          c.as_slice.ensures c.in_ok-parts.ensures.fixed);
     }

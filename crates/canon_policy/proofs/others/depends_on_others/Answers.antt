@@ -9,7 +9,7 @@ use Rattle.canon_policy.proofs.others.depends_on_others.Goals as goal
 pub any_needs_others-requires : goal.any_needs_others-requires
 any_needs_others-requires c =
     subst (λ (l : List ℕ). AreInside c.args.store.now l) (sym (c.as_slice.ensures ∙ c.in_ok-nodes.ensures))
-        (told_inside c.args.store.now c.len-known.ensures.shown c.args.edge.now c.requires.import c.requires.means)
+    (told_inside c.args.store.now c.len-known.ensures.shown c.args.edge.now c.requires.import c.requires.means)
 
 pub returns-clause-plain : goal.returns-clause-plain
 returns-clause-plain c = λ f of e.
@@ -24,5 +24,5 @@ pub returns-clause-depends : goal.returns-clause-depends
 returns-clause-depends c = λ f of.
     told c.in_ok-depends.depends (depends_on_others c.args.store.now.universe (on_sets f))
     (λ e. some_depends c.args.store.now c.len-known.ensures.shown c.args.edge.now f of
-        (subst (λ (l : List ℕ). SomeNeedsOthers c.args.store.now l) (c.as_slice.ensures ∙ c.in_ok-nodes.ensures) (c.in_ok-depends.ensures.some e)))
+    (subst (λ (l : List ℕ). SomeNeedsOthers c.args.store.now l) (c.as_slice.ensures ∙ c.in_ok-nodes.ensures) (c.in_ok-depends.ensures.some e)))
     (λ e. plain_not_depends c.args.store.now.universe (on_sets f) (returns-clause-plain c f of e))

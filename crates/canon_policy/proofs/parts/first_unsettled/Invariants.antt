@@ -12,5 +12,5 @@ invariant-loop-part l = record {
   settled : (kept : List ℕ → Bool) (fixing : Fixing) (asked : List Part) → TestHangsOn l.fn.store.universe kept → PartsHangOn l.fn.store.universe asked
       → Means l.fn.store l.rest (λ set. kept (agreeing fixing set)) → ArePartsTold l.fn.store fixing l.parts asked
       → first_unsettled (unsettled l.fn.store.universe kept fixing) (drop l.part-index asked)
-          ≡ first_unsettled (unsettled l.fn.store.universe kept fixing) asked;
+      ≡ first_unsettled (unsettled l.fn.store.universe kept fixing) asked;
 }

@@ -10,7 +10,7 @@ loop-node-init c = record { known = tt; least = λ hang. least_of_none c.args.st
 pub loop-node-preserved : goal.loop-node-preserved
 loop-node-preserved c =
     let node : c.node-item.result ≡ get_or c.args.nodes.now c.loop-node.node-index 0 =
-        read_at c.args.nodes.now c.loop-node.node-index c.node-item.result 0 c.loop-node-test.true c.node-item.is in
+    read_at c.args.nodes.now c.loop-node.node-index c.node-item.result 0 c.loop-node-test.true c.node-item.is in
     record {
       known = either_known c.args.store.now.universe c.loop-node.least c.first.result c.lesser-least.result c.lesser-least.ensures.either
           c.loop-node.invariant.known (first_known c.args.store.now _ c.first.result c.first.ensures);

@@ -19,7 +19,7 @@ loop-address-preserved c =
     let again : not c.in_ok-is_new.is_new ≡ list_any (same_address x) (take i all) =
     ap not c.in_ok-is_new.ensures.added ∙ not-not _ ∙ ap (λ a. contains nat_eq c.loop-address.seen a) c.addr.ensures ∙ c.loop-address.invariant.1 x.addr in
     let kept = least_repeat_turn same_address address_line all i x c.loop-address.least (not c.in_ok-is_new.is_new) below c.address-item.is
-        c.loop-address.invariant.0 again in
+    c.loop-address.invariant.0 again in
     let at = ap (λ n. lesser_line c.loop-address.least (fault_line_if (not c.in_ok-is_new.is_new) n)) c.line.ensures in
     let updates = subst (λ a. Updates nat_eq c.loop-address.seen c.insert.new.self a true) c.addr.ensures c.in_ok-is_new.ensures.updates in (
       c.with_line_if-least.ensures ∙ at ∙ kept,

@@ -8,7 +8,7 @@ use Rattle.cfg_check.proofs.area.area_faults_of.Goals as goal
 -- what the index and the slice have is what the router has
 least_of : (has_fault : Interface → Bool) (indexed router : Router) (interfaces : List Interface) → indexed ≡ router → interfaces ≡ router.interfaces
     → least_line (map address_line (filter_map (area_address_with has_fault indexed) interfaces))
-        ≡ least_line (map address_line (area_addresses_with has_fault router))
+    ≡ least_line (map address_line (area_addresses_with has_fault router))
 least_of has_fault indexed router interfaces same all =
     ap (λ (r : Router). least_line (map address_line (filter_map (area_address_with has_fault r) interfaces))) same
     ∙ ap (λ (xs : List Interface). least_line (map address_line (filter_map (area_address_with has_fault router) xs))) all

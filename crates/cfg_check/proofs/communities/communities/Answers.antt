@@ -17,7 +17,7 @@ loop-mention-preserved c =
     let past = communities_in (take i ms) in
     let is_new = c.in_ok-is_new.is_new in
     let new : is_new ≡ not (has past m.community) = c.in_ok-is_new.ensures.added
-        ∙ ap not (c.loop-mention.invariant.seen m.community ∙ sym (has_communities (take i ms) m.community)) in
+    ∙ ap not (c.loop-mention.invariant.seen m.community ∙ sym (has_communities (take i ms) m.community)) in
     record {
       all = c.in_ok-add_if.ensures ∙ ap (λ (set : List ℕ). cond is_new (with_number m.community set) set) c.loop-mention.invariant.all
           ∙ added_if_new m.community past is_new (ascending_communities (take i ms)) new ∙ sym (communities_turn ms i m c.loop-mention-test.true here);

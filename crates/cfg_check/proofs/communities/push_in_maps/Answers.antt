@@ -7,4 +7,4 @@ use Rattle.cfg_check.proofs.communities.push_in_maps.Goals as goal
 pub loop-map-preserved : goal.loop-map-preserved
 loop-map-preserved c = flat_onto mentions_in_map c.args.found.now.items c.args.maps.now c.loop-map.map-index c.map-item.result c.loop-map.found.items
     c.push_in_entries.new.found.items (flat_map mentions_in c.as_slice.result.now) c.loop-map-test.true c.map-item.is c.loop-map.invariant
-        (ap (λ (entries : List MapEntry). flat_map mentions_in entries) c.as_slice.ensures) c.in_ok-push_in_entries.ensures
+    (ap (λ (entries : List MapEntry). flat_map mentions_in entries) c.as_slice.ensures) c.in_ok-push_in_entries.ensures

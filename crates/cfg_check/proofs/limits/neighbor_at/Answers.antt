@@ -13,9 +13,9 @@ pub loop-router-preserved : goal.loop-router-preserved
 loop-router-preserved c =
     let same = c.neighbors-neighbors.ensures in
     ap (λ (ns : List Neighbor). slice_get (flat_map neighbors_of (drop (c.loop-router.router-index + 1) c.args.routers.now)) (c.loop-router.left - length ns))
-        same
+    same
     ∙ sym (get_behind neighbors_of c.args.routers.now c.loop-router.router-index c.router-item.result c.loop-router.left c.loop-router-test.true
-        c.router-item.is (subst (λ (ns : List Neighbor). length ns ≤ c.loop-router.left) same c.if-left-neighbors.false))
+    c.router-item.is (subst (λ (ns : List Neighbor). length ns ≤ c.loop-router.left) same c.if-left-neighbors.false))
     ∙ c.loop-router.invariant
 
 pub returns-then-left-neighbors : goal.returns-then-left-neighbors
@@ -24,9 +24,9 @@ returns-then-left-neighbors c =
     let left = c.loop-router.left in
     let x = c.index-neighbors-left.result in
     let found : slice_get c.neighbors-neighbors.result.now left ≡ Some (get_or c.neighbors-neighbors.result.now left x) =
-        slice_get-get_or c.neighbors-neighbors.result.now left x c.if-left-neighbors.true in
+    slice_get-get_or c.neighbors-neighbors.result.now left x c.if-left-neighbors.true in
     ap (option_map neighbor_line)
     (sym found ∙ ap (λ (ns : List Neighbor). slice_get ns left) same
     ∙ sym (get_within neighbors_of c.args.routers.now c.loop-router.router-index c.router-item.result left c.loop-router-test.true c.router-item.is
-        (subst (λ (ns : List Neighbor). left < length ns) same c.if-left-neighbors.true))
+    (subst (λ (ns : List Neighbor). left < length ns) same c.if-left-neighbors.true))
     ∙ c.loop-router.invariant)

@@ -10,5 +10,7 @@ use Rattle.cfg_check.proofs.name_sets.deleted_names.Goals as goal
 pub loop-map-preserved : goal.loop-map-preserved
 loop-map-preserved c = has_turn (λ (map : RouteMap) q. is_deleted_in q map) c.args.maps.now c.loop-map.map-index c.map-item.result c.loop-map.names
     c.keep_deletions.new.names c.loop-map-test.true c.map-item.is c.loop-map.invariant
-    (record { each = λ q. c.in_ok-keep_deletions.ensures.each q
-        ∙ ap (λ (entries : List MapEntry). list_any (λ (entry : MapEntry). is_name q entry.delete) entries || has_name c.loop-map.names q) c.as_slice.ensures })
+    (record {
+      each = λ q. c.in_ok-keep_deletions.ensures.each q
+          ∙ ap (λ (entries : List MapEntry). list_any (λ (entry : MapEntry). is_name q entry.delete) entries || has_name c.loop-map.names q) c.as_slice.ensures;
+    })

@@ -14,7 +14,7 @@ loop-router-preserved c =
     let name = c.router-item.result.name in
     let again : not c.in_ok-is_new.is_new ≡ list_any (same_name c.router-item.result) (take c.loop-router.router-index c.args.routers.now) =
     ap not c.in_ok-is_new.ensures.added ∙ not-not _ ∙ ap (λ (n : List ℕ). contains_by (λ k. bytes_eq n k.now) c.loop-router.seen) c.as_str.ensures
-        ∙ c.loop-router.invariant.1 name in (
+    ∙ c.loop-router.invariant.1 name in (
       c.with_line_if-least.ensures ∙ least_repeat_turn same_name router_line c.args.routers.now c.loop-router.router-index c.router-item.result
           c.loop-router.least (not c.in_ok-is_new.is_new) c.loop-router-test.true c.router-item.is c.loop-router.invariant.0 again,
       text_turn (λ (r : Router). r.name) c.args.routers.now c.loop-router.router-index c.router-item.result c.loop-router.seen c.insert.new.self c.as_str.result

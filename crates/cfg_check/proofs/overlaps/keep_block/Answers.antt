@@ -8,4 +8,4 @@ pub returns : goal.returns
 returns c =
     let within : c.args.len ≤ c.args.address.len = omega (arith, c.if-len-from.false, c.from.ensures, c.len.ensures.value) in
     block_added c.args.around.now c.insert.new.self c.args.len c.args.address within
-        (subst (λ b. Updates same_pair c.args.around.now c.insert.new.self (c.args.len, b) true) c.block.ensures c.in_ok-insert.ensures.updates)
+    (subst (λ b. Updates same_pair c.args.around.now c.insert.new.self (c.args.len, b) true) c.block.ensures c.in_ok-insert.ensures.updates)

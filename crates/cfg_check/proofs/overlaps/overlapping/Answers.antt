@@ -17,7 +17,7 @@ loop-address-preserved c =
     let kept = c.loop-address.invariant.kept in
     let own = has_own_len c.args.lens.now all i x below here lens in
     let again : c.meets-overlaps.result ≡ list_any (overlap x) (take i all) = c.meets-overlaps.ensures
-        ∙ meets_past c.loop-address.seen c.args.lens.now (take i all) x kept own (has_past_lens c.args.lens.now all i lens) in
+    ∙ meets_past c.loop-address.seen c.args.lens.now (take i all) x kept own (has_past_lens c.args.lens.now all i lens) in
     let at = ap (λ n. lesser_line c.loop-address.least (fault_line_if c.meets-overlaps.result n)) c.line.ensures in
     record {
       least = c.with_line_if-least.ensures ∙ at ∙ least_repeat_turn overlap address_line all i x c.loop-address.least c.meets-overlaps.result below here

@@ -14,4 +14,4 @@ loop-place-preserved c =
     let again : overlaps ≡ list_any (overlap x) (take i all) = c.overlaps_one-overlaps.ensures in
     let at = ap (λ n. lesser_line c.loop-place.least (fault_line_if overlaps n)) c.line.ensures in
     c.with_line_if-least.ensures ∙ at ∙ least_repeat_turn overlap address_line all i x c.loop-place.least overlaps c.loop-place-test.true
-        c.index-addresses-place.is c.loop-place.invariant again
+    c.index-addresses-place.is c.loop-place.invariant again

@@ -15,7 +15,7 @@ returns c =
     let names = c.in_ok-names.names in
     let prepending = λ (maps : List RouteMap) (q : List ℕ). list_any (λ (map : RouteMap). prepends_in_map map && bytes_eq q map.name) maps in
     let are : has_name names ≡ has_prepending_map router = has_is names (prepending c.as_slice.result.now) c.in_ok-names.ensures
-        ∙ ap prepending c.as_slice.ensures in
+    ∙ ap prepending c.as_slice.ensures in
     c.prepending_maps_in.ensures
     ∙ ap (λ (test : List ℕ → Bool). least_line (flat_map (map_in_naming test) c.neighbors.result.now)) are
     ∙ ap (λ (ns : List Neighbor). least_line (flat_map (map_in_naming (has_prepending_map router)) ns)) c.neighbors.ensures

@@ -9,4 +9,4 @@ use Rattle.cfg_check.proofs.processes.any_other_area.Goals as goal
 pub loop-router-preserved : goal.loop-router-preserved
 loop-router-preserved c = c.lesser_line-least.ensures ∙ filter_flat_step area_line (has_other_area c.args.area) areas_of c.args.routers.now
     c.loop-router.router-index c.router-item.result c.loop-router.least c.other_area_of.result c.loop-router-test.true c.router-item.is c.loop-router.invariant
-        (c.other_area_of.ensures ∙ ap (λ (ls : List AreaLine). least_line (map area_line (filter (has_other_area c.args.area) ls))) c.areas.ensures)
+    (c.other_area_of.ensures ∙ ap (λ (ls : List AreaLine). least_line (map area_line (filter (has_other_area c.args.area) ls))) c.areas.ensures)

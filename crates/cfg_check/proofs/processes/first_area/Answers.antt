@@ -10,7 +10,7 @@ use Rattle.cfg_check.proofs.processes.first_area.Goals as goal
 pub returns-in-Some : goal.returns-in-Some
 returns-in-Some c =
     let here : slice_get (areas_of c.router-item.result) 0 ≡ Some c.in-Some.line.now = ap (λ (ls : List AreaLine). slice_get ls 0) (sym c.areas.ensures)
-        ∙ sym c.in-Some.ensures.value in
+    ∙ sym c.in-Some.ensures.value in
     let area : Option AreaLine → Option ℕ = option_map (λ (l : AreaLine). l.area) in
     sym (first_found (λ (l : AreaLine). l.area) areas_of c.args.routers.now c.loop-router.router-index c.router-item.result c.loop-router-test.true
-        c.router-item.is c.loop-router.invariant (ap (λ o. is_some (area o)) here) ∙ ap area here)
+    c.router-item.is c.loop-router.invariant (ap (λ o. is_some (area o)) here) ∙ ap area here)

@@ -9,4 +9,4 @@ pub returns-then-is_some : goal.returns-then-is_some
 returns-then-is_some c =
     let is = c.first_protocol_of-protocol.ensures in
     is ∙ sym (first_found (λ (l : ProtocolLine). l.protocol) protocol_lines_of c.args.routers.now c.loop-router.router-index c.router-item.result
-        c.loop-router-test.true c.router-item.is c.loop-router.invariant (ap is_some (sym is) ∙ sym c.is_some.ensures ∙ c.if-is_some.true))
+    c.loop-router-test.true c.router-item.is c.loop-router.invariant (ap is_some (sym is) ∙ sym c.is_some.ensures ∙ c.if-is_some.true))

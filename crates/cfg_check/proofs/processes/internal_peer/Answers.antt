@@ -6,4 +6,4 @@ use Rattle.cfg_check.proofs.processes.internal_peer.Goals as goal
 pub loop-router-preserved : goal.loop-router-preserved
 loop-router-preserved c = c.lesser_line-least.ensures ∙ flat_step neighbor_line internal_peers_of c.args.routers.now c.loop-router.router-index
     c.router-item.result c.loop-router.least c.internal_peer_of.result c.loop-router-test.true c.router-item.is c.loop-router.invariant
-        c.internal_peer_of.ensures
+    c.internal_peer_of.ensures

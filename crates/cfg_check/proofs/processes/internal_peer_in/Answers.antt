@@ -7,4 +7,4 @@ use Rattle.cfg_check.proofs.processes.internal_peer_in.Goals as goal
 pub loop-neighbor-preserved : goal.loop-neighbor-preserved
 loop-neighbor-preserved c = c.with_line_if-least.ensures ∙ filter_step neighbor_line (λ (neighbor : Neighbor). nat_eq neighbor.remote c.args.process.now.number)
     c.as_slice-neighbor-items.result.now c.loop-neighbor.neighbor-index c.neighbor-item.result c.loop-neighbor.least _ c.loop-neighbor-test.true
-        c.neighbor-item.is c.loop-neighbor.invariant refl
+    c.neighbor-item.is c.loop-neighbor.invariant refl

@@ -14,4 +14,4 @@ loop-line-preserved c =
     let line = get_or lines c.loop-line.line-index none in
     c.with_line_if-least.ensures
     ∙ filter_step area_line (has_other_area c.args.area) lines c.loop-line.line-index line c.loop-line.least _ c.loop-line-test.true
-        (get_or_default lines c.loop-line.line-index none line c.loop-line-test.true) c.loop-line.invariant (ap not (same_either_way c.args.area line.area))
+    (get_or_default lines c.loop-line.line-index none line c.loop-line-test.true) c.loop-line.invariant (ap not (same_either_way c.args.area line.area))

@@ -17,7 +17,7 @@ loop-process-preserved c =
     let below = c.loop-process-test.true in
     let here = get_or_default all i none x below in
     let again : not c.in_ok-is_new.is_new ≡ list_any (same_numbered x) (take i all) = ap not c.in_ok-is_new.ensures.added ∙ not-not _
-        ∙ c.loop-process.invariant.1 x.number in (
+    ∙ c.loop-process.invariant.1 x.number in (
       c.with_line_if-least.ensures ∙ least_repeat_turn same_numbered line_of_numbered all i x c.loop-process.least (not c.in_ok-is_new.is_new) below here
           c.loop-process.invariant.0 again,
       number_turn (λ (y : Numbered). y.number) all i x c.loop-process.seen c.insert.new.self below here c.in_ok-is_new.ensures.updates

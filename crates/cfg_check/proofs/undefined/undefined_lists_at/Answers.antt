@@ -9,4 +9,4 @@ returns c =
     let test = lacks_name c.args.names.now in
     let neighbor = c.args.neighbor.now in
     c.lesser_line.ensures ∙ both_lines (line_naming test neighbor.list_in) (line_naming test neighbor.list_out) _ _ c.line_lacking-line_in.ensures
-        c.line_lacking-line_out.ensures
+    c.line_lacking-line_out.ensures

@@ -11,5 +11,5 @@ returns c =
     let entry = c.args.entry.now in
     let matched = match_line_naming prefixes entry.prefixes ++ match_line_naming comms entry.comms in
     let both = c.lesser_line.ensures ∙ both_lines (match_line_naming prefixes entry.prefixes) (match_line_naming comms entry.comms) _ _
-        c.match_line_lacking-by_prefixes.ensures c.match_line_lacking-by_comms.ensures in
+    c.match_line_lacking-by_prefixes.ensures c.match_line_lacking-by_comms.ensures in
     c.lesser_line-2.ensures ∙ both_lines matched (line_naming comms entry.delete) _ _ both c.line_lacking-by_delete.ensures

@@ -33,7 +33,7 @@ returns c =
     ∙ ap (λ (test : List ℕ → Bool). least_line (flat_map (lines_in_map_naming test (lacks_name c.in_ok-comms.comms)) c.as_slice-3.result.now)) no_prefix_list
     ∙ ap (λ (test : List ℕ → Bool). least_line (flat_map (lines_in_map_naming (lacks_prefix_list router) test) c.as_slice-3.result.now)) no_comms_list
     ∙ ap (λ (maps : List RouteMap). least_line (flat_map (lines_in_map_naming (lacks_prefix_list router) (lacks_community_list router)) maps))
-        c.as_slice-3.ensures in
+    c.as_slice-3.ensures in
     c.lesser_line.ensures
     ∙ both_lines (flat_map (list_lines_naming (lacks_prefix_list router)) (neighbors_of router))
-        (flat_map (lines_in_map_naming (lacks_prefix_list router) (lacks_community_list router)) router.route_maps) _ _ by_neighbors by_maps
+    (flat_map (lines_in_map_naming (lacks_prefix_list router) (lacks_community_list router)) router.route_maps) _ _ by_neighbors by_maps

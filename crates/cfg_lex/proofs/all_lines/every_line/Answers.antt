@@ -14,11 +14,11 @@ loop-from-preserved c =
           ∙ begins_next bs c.loop-from.from c.loop-from-test.true (omega (arith, h, c.newline_from-end.ensures.place));
       found = every_line_read bs (c.loop-from.number + 1) c.loop-from.from c.newline_from-end.result c.without_return-upto.result _ _ _ _ _
           c.loop-from-test.true (c.loop-from.invariant.begins c.loop-from-test.true) c.newline_from-end.ensures.place c.without_return-upto.ensures.place
-              c.in_ok-words_between.ensures c.indent_between.ensures.value c.in_ok-push.ensures.ok c.loop-from.invariant.found;
+          c.in_ok-words_between.ensures c.indent_between.ensures.value c.in_ok-push.ensures.ok c.loop-from.invariant.found;
     }
 
 pub returns : goal.returns
 returns c =
     let all = every_line_done c.args.bytes.now (c.loop-from.number + 1) c.loop-from.from c.loop-from.found _ c.loop-from-test.false c.loop-from.invariant.found
-        in
+    in
     record { exact = all; within = rw all (all_lines_lie c.args.bytes.now) }

@@ -11,7 +11,7 @@ returns-in-Some-clause-exact c =
     let from = c.loop-from.from in
     let end = newline_from bs from in
     line_faulty bs (c.loop-from.number + 1) from end (without_return bs from end) c.in-Some.kind c.loop-from.found _ c.loop-from-test.true
-        (c.loop-from.invariant.begins c.loop-from-test.true) refl refl (sym c.kind_from.ensures ∙ c.in-Some.is) c.loop-from.invariant.found
+    (c.loop-from.invariant.begins c.loop-from-test.true) refl refl (sym c.kind_from.ensures ∙ c.in-Some.is) c.loop-from.invariant.found
 
 pub loop-from-preserved : goal.loop-from-preserved
 loop-from-preserved c =

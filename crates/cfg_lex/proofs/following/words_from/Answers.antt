@@ -37,8 +37,13 @@ loop-i-smaller c =
     let plain : is_plain (slice_index bs i) ≡ true = search rules in
     let full : blank_at bs i ≡ false = search rules in
     let lt : i < odd_end bs from = still_plain bs from i c.requires.front c.loop-i.invariant.below c.loop-i-test.true plain in
-    omega (arith, word_past bs i (odd_end bs from) lt full, word_ends bs from i c.requires.front c.loop-i.invariant.front lt, c.letters_end-end.ensures.place,
-        c.letters_end-end.ensures.bounds)
+    omega (
+      arith,
+      word_past bs i (odd_end bs from) lt full,
+      word_ends bs from i c.requires.front c.loop-i.invariant.front lt,
+      c.letters_end-end.ensures.place,
+      c.letters_end-end.ensures.bounds,
+    )
 
 pub loop-i-preserved : goal.loop-i-preserved
 loop-i-preserved c =
@@ -51,7 +56,7 @@ loop-i-preserved c =
     let lt : i < p = still_plain bs from i c.requires.front c.loop-i.invariant.below c.loop-i-test.true plain in
     let next = words_word bs i p lt full in
     let end : c.letters_end-end.result ≡ word_end bs i p = c.letters_end-end.ensures.place
-        ∙ sym (word_ends bs from i c.requires.front c.loop-i.invariant.front lt) in
+    ∙ sym (word_ends bs from i c.requires.front c.loop-i.invariant.front lt) in
     record {
       front = omega arith;
       below = omega (arith, end, first_below (blank_at bs) i p (omega arith));

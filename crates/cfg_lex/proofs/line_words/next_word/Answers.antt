@@ -8,9 +8,9 @@ returns-then-from-line-clause-words c = only_blanks c.args.line.now (sym c.blank
 pub returns-clause-words : goal.returns-clause-words
 returns-clause-words c =
     words_at c.args.line.now c.blanks_before-from.result c.word_length-upto.result c.blanks_before-from.ensures.value (omega arith)
-        c.word_length-upto.ensures.value c.word_length-upto.ensures.bound
+    c.word_length-upto.ensures.value c.word_length-upto.ensures.bound
 
 pub returns-clause-shorter : goal.returns-clause-shorter
 returns-clause-shorter c =
     shorter c.args.line.now c.blanks_before-from.result c.word_length-upto.result c.blanks_before-from.ensures.value (omega arith)
-        c.word_length-upto.ensures.value c.word_length-upto.ensures.bound
+    c.word_length-upto.ensures.value c.word_length-upto.ensures.bound

@@ -7,5 +7,5 @@ pub returns-then-has_entry : goal.returns-then-has_entry
 returns-then-has_entry c =
     let v = c.draft.view_is in
     let stands : has_map_entry c.draft.inside.route_maps c.args.name c.args.entry.seq ≡ true = sym (rw c.as_str.ensures at c.has_entry.ensures)
-        ∙ c.if-has_entry.true in
+    ∙ c.if-has_entry.true in
     rw (c.repeated.ensures, ← ap (λ (d : Draft). d.route_maps) v, stands) refl

@@ -19,8 +19,8 @@ returns-in_err-step c =
     let first : IsFirst bs place c.in-Some.next c.in-Some.line = subst (IsNext bs place) c.in-Some.is c.in_ok-line.ensures in
     let p = err_from_is_err_and c.from_residual-in_err-step.result c.from_residual-in_err-step.ensures.1 in
     rw (p.1, p.2) (subst (RefusesAs c.in_err-step.field-0.0) c.loop-state.invariant.same
-        (line_gives bs place c.in-Some.next c.loop-state.state (answer_of c.loop-state.last) c.in-Some.line c.in_err-step.field-0.0 first
-            c.in_err-step.ensures))
+    (line_gives bs place c.in-Some.next c.loop-state.state (answer_of c.loop-state.last) c.in-Some.line c.in_err-step.field-0.0 first
+    c.in_err-step.ensures))
 
 pub loop-state-preserved : goal.loop-state-preserved
 loop-state-preserved c =
@@ -32,7 +32,7 @@ loop-state-preserved c =
       sound = first.sound;
       same = ap (λ said. state_after bs c.step.new.state said (lines_from bs c.in-Some.next)) c.unended-last.ensures
           ∙ sym (line_ok bs place c.in-Some.next c.loop-state.state c.step.new.state (answer_of c.loop-state.last) c.in-Some.line first c.in_ok-step.ensures)
-              ∙ c.loop-state.invariant.same;
+          ∙ c.loop-state.invariant.same;
     }
 
 pub returns-in_err-ended : goal.returns-in_err-ended
@@ -42,8 +42,8 @@ returns-in_err-ended c =
     let none : lines_from bs place ≡ Ok [] = subst (IsNext bs place) c.in_default.is c.in_ok-line.ensures in
     let p = err_from_is_err_and c.from_residual-in_err-ended.result c.from_residual-in_err-ended.ensures.1 in
     rw (p.1, p.2) (refuses c.in_err-ended.field-0.0 _ (sym c.loop-state.invariant.same
-        ∙ lines_end bs place c.loop-state.state (answer_of c.loop-state.last) none
-            ∙ ap (λ said. said >>= (λ _. Ok c.loop-state.state)) (sym c.ended.ensures ∙ c.in_err-ended.was)))
+    ∙ lines_end bs place c.loop-state.state (answer_of c.loop-state.last) none
+    ∙ ap (λ said. said >>= (λ _. Ok c.loop-state.state)) (sym c.ended.ensures ∙ c.in_err-ended.was)))
 
 pub returns : goal.returns
 returns c =
@@ -51,4 +51,4 @@ returns c =
     let place = c.loop-state.place in
     let none : lines_from bs place ≡ Ok [] = subst (IsNext bs place) c.in_default.is c.in_ok-line.ensures in
     sym c.loop-state.invariant.same ∙ lines_end bs place c.loop-state.state (answer_of c.loop-state.last) none
-        ∙ ap (λ said. said >>= (λ _. Ok c.loop-state.state)) (sym c.ended.ensures ∙ c.in_ok-ended.was)
+    ∙ ap (λ said. said >>= (λ _. Ok c.loop-state.state)) (sym c.ended.ensures ∙ c.in_ok-ended.was)

@@ -11,12 +11,12 @@ returns c =
     let head = line 0 (codes "router" ∷ codes "bgp" ∷ decimal c.args.process.now.number ∷ []) ∷ [] in
     let base = line_of_given base_line c.args.process.now.base in
     let with_base = lines_grown old head (string_bytes c.put_head.new.text) base (string_bytes c.put_some_base.new.text) c.in_ok-put_head.ensures
-        c.in_ok-put_some_base.ensures in
+    c.in_ok-put_some_base.ensures in
     let nets = map network_line c.args.process.now.networks in
     let with_nets = lines_grown old (head ++ base) (string_bytes c.put_some_base.new.text) nets (string_bytes c.put_networks.new.text) with_base
-        c.in_ok-put_networks.ensures in
+    c.in_ok-put_networks.ensures in
     let peers = flat_map neighbor_lines c.args.process.now.neighbors in
     let with_peers = lines_grown old ((head ++ base) ++ nets) (string_bytes c.put_networks.new.text) peers (string_bytes c.put_neighbors.new.text) with_nets
-        c.in_ok-put_neighbors.ensures in
+    c.in_ok-put_neighbors.ensures in
     lines_end c.put_closing.result old (((head ++ base) ++ nets) ++ peers) (string_bytes c.put_neighbors.new.text) (closing ∷ [])
-        (string_bytes c.put_closing.new.text) with_peers c.put_closing.ensures
+    (string_bytes c.put_closing.new.text) with_peers c.put_closing.ensures

@@ -10,5 +10,5 @@ returns c =
     let first = string_bytes c.put.new.text in
     let second = string_bytes c.put_name.new.text in
     ends c.put-2.result old (codes " passive-interface" ++ spaced c.args.name.now) second (codes "\n") (string_bytes c.put-2.new.text)
-        (line_text (passive_line c.args.name.now)) (grown old (codes " passive-interface") first (spaced c.args.name.now) second c.in_ok-put.ensures
-            c.in_ok-put_name.ensures) c.put-2.ensures (refl)
+    (line_text (passive_line c.args.name.now)) (grown old (codes " passive-interface") first (spaced c.args.name.now) second c.in_ok-put.ensures
+    c.in_ok-put_name.ensures) c.put-2.ensures (refl)

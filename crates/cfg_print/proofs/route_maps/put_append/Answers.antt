@@ -12,6 +12,6 @@ returns c =
     let first = string_bytes c.put.new.text in
     let second = string_bytes c.put_communities.new.text in
     ends c.put-2.result old (codes " set community" ++ spaced_words (map community_text c.args.comms.now)) second (codes " additive\n")
-        (string_bytes c.put-2.new.text) (line_text (change_line (Append c.args.comms.now)))
-            (grown old (codes " set community") first (spaced_words (map community_text c.args.comms.now)) second c.in_ok-put.ensures
-                c.in_ok-put_communities.ensures) c.put-2.ensures (append_text c.args.comms.now)
+    (string_bytes c.put-2.new.text) (line_text (change_line (Append c.args.comms.now)))
+    (grown old (codes " set community") first (spaced_words (map community_text c.args.comms.now)) second c.in_ok-put.ensures
+    c.in_ok-put_communities.ensures) c.put-2.ensures (append_text c.args.comms.now)

@@ -17,4 +17,4 @@ returns c =
     let three = grown old (head ++ name) (string_bytes c.put_word.new.text) act (string_bytes c.put_act.new.text) two c.in_ok-put_act.ensures in
     let four = grown old (head ++ name ++ act) (string_bytes c.put_act.new.text) seq (string_bytes c.put_number.new.text) three c.in_ok-put_number.ensures in
     ends c.put-2.result old (head ++ name ++ act ++ seq) (string_bytes c.put_number.new.text) (codes "\n") (string_bytes c.put-2.new.text)
-        (lines_text (map_head_line c.args.name.now c.args.entry.now ∷ [])) four c.put-2.ensures (map_head_text c.args.name.now c.args.entry.now)
+    (lines_text (map_head_line c.args.name.now c.args.entry.now ∷ [])) four c.put-2.ensures (map_head_text c.args.name.now c.args.entry.now)

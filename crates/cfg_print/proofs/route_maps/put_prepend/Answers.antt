@@ -12,6 +12,6 @@ returns c =
     let first = string_bytes c.put.new.text in
     let second = string_bytes c.put_numbers.new.text in
     ends c.put-2.result old (codes " set as-path prepend" ++ spaced_words (map decimal c.args.prepend.now.numbers)) second (codes "\n")
-        (string_bytes c.put-2.new.text) (line_text (prepend_line c.args.prepend.now))
-            (grown old (codes " set as-path prepend") first (spaced_words (map decimal c.args.prepend.now.numbers)) second c.in_ok-put.ensures
-                c.in_ok-put_numbers.ensures) c.put-2.ensures (prepend_text c.args.prepend.now)
+    (string_bytes c.put-2.new.text) (line_text (prepend_line c.args.prepend.now))
+    (grown old (codes " set as-path prepend") first (spaced_words (map decimal c.args.prepend.now.numbers)) second c.in_ok-put.ensures
+    c.in_ok-put_numbers.ensures) c.put-2.ensures (prepend_text c.args.prepend.now)

@@ -12,6 +12,6 @@ returns c =
     let first = string_bytes c.put.new.text in
     let second = string_bytes c.put_communities.new.text in
     ends c.put-2.result old (codes " set community" ++ spaced_words (map community_text c.args.comms.now)) second (codes "\n") (string_bytes c.put-2.new.text)
-        (line_text (change_line (Replace c.args.comms.now)))
-            (grown old (codes " set community") first (spaced_words (map community_text c.args.comms.now)) second c.in_ok-put.ensures
-                c.in_ok-put_communities.ensures) c.put-2.ensures (replace_text c.args.comms.now)
+    (line_text (change_line (Replace c.args.comms.now)))
+    (grown old (codes " set community") first (spaced_words (map community_text c.args.comms.now)) second c.in_ok-put.ensures
+    c.in_ok-put_communities.ensures) c.put-2.ensures (replace_text c.args.comms.now)

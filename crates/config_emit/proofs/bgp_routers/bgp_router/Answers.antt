@@ -18,25 +18,29 @@ use Rattle.config_emit.proofs.OspfRouters.{links_are, link_interfaces_are, name_
 use Rattle.config_emit.proofs.bgp_routers.bgp_router.Goals as goal
 
 pub maps_of_group-requires-clause-links : goal.maps_of_group-requires-clause-links
-maps_of_group-requires-clause-links c = record { are = c.links_of-links.ensures
-    ∙ links_are (plan_of c.args.source.now) c.args.group c.args.index.now c.requires.links }
+maps_of_group-requires-clause-links c = record {
+  are = c.links_of-links.ensures
+      ∙ links_are (plan_of c.args.source.now) c.args.group c.args.index.now c.requires.links;
+}
 
 pub process-requires-clause-links : goal.process-requires-clause-links
-process-requires-clause-links c = record { are = c.links_of-links.ensures
-    ∙ links_are (plan_of c.args.source.now) c.args.group c.args.index.now c.requires.links }
+process-requires-clause-links c = record {
+  are = c.links_of-links.ensures
+      ∙ links_are (plan_of c.args.source.now) c.args.group c.args.index.now c.requires.links;
+}
 
 pub push_link_interfaces-requires : goal.push_link_interfaces-requires
 push_link_interfaces-requires c =
     let e = plan_of c.args.source.now in
     numbers_below e c.args.group c.links_of-links.result.now c.requires.source.few
-        (c.links_of-links.ensures ∙ links_are e c.args.group c.args.index.now c.requires.links)
+    (c.links_of-links.ensures ∙ links_are e c.args.group c.args.index.now c.requires.links)
 
 pub returns : goal.returns
 returns c =
     let e = plan_of c.args.source.now in
     let g = c.args.group in
     let named = c.in_ok-name_at.ensures ∙ ap (λ (names : List (List ℕ)). slice_index_or names c.first_member-first.result [])
-        (c.as_slice.ensures ∙ c.names.ensures) ∙ ap (λ u. slice_index_or e.problem.names u []) c.first_member-first.ensures ∙ name_is e g c.requires.inside in
+    (c.as_slice.ensures ∙ c.names.ensures) ∙ ap (λ u. slice_index_or e.problem.names u []) c.first_member-first.ensures ∙ name_is e g c.requires.inside in
     let are = c.in_ok-push_link_interfaces.ensures
     ∙ ap (λ xs. xs ++ map (interface_of_link c.acts.result.now g) (enumerate_from 1 c.links_of-links.result.now)) c.in_ok-interfaces.ensures
     ∙ ap (λ (acts : List Act). class_interfaces e g ++ map (interface_of_link acts g) (enumerate_from 1 c.links_of-links.result.now)) c.acts.ensures
@@ -49,4 +53,4 @@ returns c =
     ∙ ap (λ n. map (written_map n) (enumerate_from 1 (plains_now c.in_ok-maps.maps.uses.items))) numbered
     ∙ ap (λ (ms : List Plain). map (written_map (number (small e) g)) (enumerate_from 1 ms)) maps in
     router_is e g c.in_ok-name_at.field-0 c.push_link_interfaces.new.found c.in_ok-bgp.bgp c.new.result c.in_ok-community_lists.community_lists
-        c.in_ok-route_maps.route_maps c.requires.bgp named are c.in_ok-bgp.ensures c.new.ensures lists written
+    c.in_ok-route_maps.route_maps c.requires.bgp named are c.in_ok-bgp.ensures c.new.ensures lists written

@@ -21,5 +21,5 @@ returns c =
           ∙ ap (λ (acts : List Act). with_uses (flat_map (uses_on known acts g) c.args.links.now) []) c.requires.policies.acts
           ∙ ap (λ (ls : List ActLink). with_uses (flat_map (uses_on known e.problem.acts g) ls) []) c.requires.links.are
           ∙ group_uses e known p.numbers.items p.closed_number g c.requires.bgp
-              (subst (λ (acts : List Act). AreKnown known acts p.numbers.items) c.requires.policies.acts of.acts) of.closed_known;
+          (subst (λ (acts : List Act). AreKnown known acts p.numbers.items) c.requires.policies.acts of.acts) of.closed_known;
     }

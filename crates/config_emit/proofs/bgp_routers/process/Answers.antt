@@ -35,10 +35,10 @@ returns c =
     let uses = map (use_of known) (maps_of e g) in
     let neighbors = c.in_ok-neighbors.ensures
     ∙ ap (λ (acts : List Act). map (neighbor_of known acts (map use_now c.args.maps.now.uses.items) c.args.numbers.now g) c.args.links.now)
-        c.requires.policies.acts
+    c.requires.policies.acts
     ∙ ap (λ (us : List (ℕ × Plain)). map (neighbor_of known e.problem.acts us c.args.numbers.now g) c.args.links.now) c.requires.maps.uses
     ∙ ap (λ (ns : List ℕ). map (neighbor_of known e.problem.acts uses ns g) c.args.links.now) numbers
     ∙ ap (λ (ls : List ActLink). map (neighbor_of known e.problem.acts uses (small e).numbers g) ls) c.requires.links.are
     ∙ neighbors_are e known p.numbers.items p.closed_number g c.requires.bgp are of.closed_known in
     process_is e g c.number_at-number.result c.base_line-base.result c.in_ok-networks.networks c.in_ok-neighbors.neighbors
-        (λ z. c.if-number-eq0.false (numbered ∙ z)) numbered c.base_line-base.ensures c.in_ok-networks.ensures neighbors
+    (λ z. c.if-number-eq0.false (numbered ∙ z)) numbered c.base_line-base.ensures c.in_ok-networks.ensures neighbors

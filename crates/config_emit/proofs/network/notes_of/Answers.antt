@@ -13,4 +13,4 @@ returns c =
     let count = c.args.source.now.count in
     let noted : List (List (List ℕ)) → Notes = λ ms. record { members = ms } in
     ap noted (c.in_ok-members.ensures ∙ ap (λ (names : List (List ℕ)).
-        map (λ g. map (λ u. slice_index_or names u []) (members_of groups g)) (range_with_len 0 count)) (c.as_slice-names.ensures ∙ c.names.ensures))
+    map (λ g. map (λ u. slice_index_or names u []) (members_of groups g)) (range_with_len 0 count)) (c.as_slice-names.ensures ∙ c.names.ensures))

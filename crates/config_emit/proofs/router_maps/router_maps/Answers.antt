@@ -12,6 +12,6 @@ loop-link-preserved c =
       places = c.in_ok-put_uses_on.ensures.places;
       uses = uses_turn (uses_on (maps_now c.args.policies.now.maps.items) c.args.policies.now.acts.now c.args.group) c.args.links.now c.loop-link.link-index
           none (map use_now c.loop-link.found.uses.items) (map use_now c.put_uses_on.new.found.uses.items) c.loop-link-test.true
-              c.in_ok-put_uses_on.ensures.uses
+          c.in_ok-put_uses_on.ensures.uses
           ∙ c.loop-link.invariant.uses;
     }

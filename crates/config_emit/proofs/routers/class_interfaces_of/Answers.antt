@@ -12,7 +12,7 @@ pub returns-then-not-originates : goal.returns-then-not-originates
 returns-then-not-originates c =
     c.new.ensures
     ∙ not_originating (plan_of c.args.source.now) c.args.group c.requires.source
-        (ap (λ u. is_some (initial c.args.source.now.srp.now u)) (sym c.first_member-first.ensures) ∙ sym c.originates.ensures ∙ c.if-not-originates.true)
+    (ap (λ u. is_some (initial c.args.source.now.srp.now u)) (sym c.first_member-first.ensures) ∙ sym c.originates.ensures ∙ c.if-not-originates.true)
 
 pub class_interfaces-requires : goal.class_interfaces-requires
 class_interfaces-requires c =
@@ -20,7 +20,7 @@ class_interfaces-requires c =
     let router = c.in-Some.router.now in
     let at = ap (λ (rs : List Router). slice_get rs first) (sym c.as_slice.ensures) ∙ sym c.in-Some.ensures in
     subst (OriginatesEach router) (sym c.as_slice-prefixes.ensures)
-        (originates_each (plan_of c.args.source.now) first router c.requires.source at (sym c.originates.ensures ∙ c.if-not-originates.false))
+    (originates_each (plan_of c.args.source.now) first router c.requires.source at (sym c.originates.ensures ∙ c.if-not-originates.false))
 
 pub returns-in_ok-found-in-Some : goal.returns-in_ok-found-in-Some
 returns-in_ok-found-in-Some c =
@@ -31,12 +31,12 @@ returns-in_ok-found-in-Some c =
     ∙ ap (λ q. class_interfaces_on q c.as_slice-prefixes.result.now router) c.protocol.ensures
     ∙ ap (λ ps. class_interfaces_on e.problem.protocol ps router) c.as_slice-prefixes.ensures
     ∙ interfaces_of_router e c.args.group router (ap (slice_get e.network.routers) (sym c.first_member-first.ensures)
-        ∙ ap (λ (rs : List Router). slice_get rs first) (sym c.as_slice.ensures) ∙ sym c.in-Some.ensures)
+    ∙ ap (λ (rs : List Router). slice_get rs first) (sym c.as_slice.ensures) ∙ sym c.in-Some.ensures)
 
 pub returns-in-None : goal.returns-in-None
 returns-in-None c =
     let first = c.first_member-first.result in
     c.new-in-None.ensures
     ∙ no_interfaces (plan_of c.args.source.now) c.args.group
-        (ap (slice_get c.args.source.now.network.now.routers) (sym c.first_member-first.ensures)
-            ∙ ap (λ (rs : List Router). slice_get rs first) (sym c.as_slice.ensures) ∙ sym c.in-None.ensures)
+    (ap (slice_get c.args.source.now.network.now.routers) (sym c.first_member-first.ensures)
+    ∙ ap (λ (rs : List Router). slice_get rs first) (sym c.as_slice.ensures) ∙ sym c.in-None.ensures)

@@ -17,14 +17,14 @@ pub push_link_interfaces-requires : goal.push_link_interfaces-requires
 push_link_interfaces-requires c =
     let e = plan_of c.args.source.now in
     numbers_below e c.args.group c.links_of-links.result.now c.requires.source.few
-        (c.links_of-links.ensures ∙ links_are e c.args.group c.args.index.now c.requires.links)
+    (c.links_of-links.ensures ∙ links_are e c.args.group c.args.index.now c.requires.links)
 
 pub returns : goal.returns
 returns c =
     let e = plan_of c.args.source.now in
     let g = c.args.group in
     let named = c.in_ok-name_at.ensures ∙ ap (λ (names : List (List ℕ)). slice_index_or names c.first_member-first.result [])
-        (c.as_slice.ensures ∙ c.names.ensures) ∙ ap (λ u. slice_index_or e.problem.names u []) c.first_member-first.ensures ∙ name_is e g c.requires.inside in
+    (c.as_slice.ensures ∙ c.names.ensures) ∙ ap (λ u. slice_index_or e.problem.names u []) c.first_member-first.ensures ∙ name_is e g c.requires.inside in
     let are = c.in_ok-push_link_interfaces.ensures
     ∙ ap (λ xs. xs ++ map (interface_of_link c.acts.result.now g) (enumerate_from 1 c.links_of-links.result.now)) c.in_ok-interfaces.ensures
     ∙ ap (λ (acts : List Act). class_interfaces e g ++ map (interface_of_link acts g) (enumerate_from 1 c.links_of-links.result.now)) c.acts.ensures
@@ -38,4 +38,4 @@ returns c =
     ∙ ap (λ xs. ospf_on c.args.area xs all) (take-append_seam (class_interfaces e g) links)
     ∙ ap (λ a. ospf_on a (class_interfaces e g) all) c.requires.area in
     router_is e g c.in_ok-name_at.field-0 c.push_link_interfaces.new.found c.in_ok-ospf.ospf c.new.result c.new-2.result c.new-3.result c.requires.ospf named
-        are process c.new.ensures c.new-2.ensures c.new-3.ensures
+    are process c.new.ensures c.new-2.ensures c.new-3.ensures

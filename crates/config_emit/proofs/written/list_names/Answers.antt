@@ -16,5 +16,5 @@ loop-i-preserved c =
     ap (λ ns. ns ++ rest) (c.in_ok-push.ensures.ok ∙ ap (λ n. names ++ n ∷ []) c.in_ok-match_name.ensures)
     ∙ append_assoc names (match_name k seq (i + 1) ∷ []) rest
     ∙ ap (λ (xs : List CommunityList). names ++ map name_of_list (map (match_list k seq) (enumerate_from (i + 1) xs)))
-        (sym (drop_turn c.args.lists.now i none c.loop-i-test.true))
+    (sym (drop_turn c.args.lists.now i none c.loop-i-test.true))
     ∙ c.loop-i.invariant

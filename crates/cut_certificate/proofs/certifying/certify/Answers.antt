@@ -6,8 +6,12 @@ use Rattle.cut_certificate.proofs.certifying.certify.Goals as goal
 
 pub groups_of-requires : goal.groups_of-requires
 groups_of-requires c =
-    omega (arith, ap length c.numbers.ensures, after_total c.args.graph.now (first_blocks c.args.graph.now) c.in_ok-blocks.blocks c.in_ok-blocks.splits refl
-        c.in_ok-blocks.ensures.after)
+    omega (
+      arith,
+      ap length c.numbers.ensures,
+      after_total c.args.graph.now (first_blocks c.args.graph.now) c.in_ok-blocks.blocks c.in_ok-blocks.splits refl
+          c.in_ok-blocks.ensures.after,
+    )
 
 pub returns-clause-accepted : goal.returns-clause-accepted
 returns-clause-accepted c =

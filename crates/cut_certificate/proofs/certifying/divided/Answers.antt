@@ -11,6 +11,6 @@ unreachable-requires c =
     let blocks = c.args.blocks in
     let split : Split = record { block = c.number_of-block.result; by = c.number_of-by.result; edge = c.args.p.by.place } in
     no_outcome (split_by edges blocks split) blocks c.in_ok-next.next (blocks_after edges blocks split) c.in_ok-next.fault c.in-Some.field-0
-        c.in_ok-next.ensures c.in-Some.is
+    c.in_ok-next.ensures c.in-Some.is
     (parting_splits edges blocks c.args.p split c.count-known.ensures.in_use c.requires.parting
-        (record { block = c.number_of-block.ensures; by = c.number_of-by.ensures; edge = refl }))
+    (record { block = c.number_of-block.ensures; by = c.number_of-by.ensures; edge = refl }))

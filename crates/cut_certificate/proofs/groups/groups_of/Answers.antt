@@ -20,6 +20,6 @@ returns c =
     let places : c.deref.result.now ≡ map (number_among c.args.numbers.now) c.args.numbers.now = c.deref.ensures.value ∙ c.in_ok-places.ensures.numbers in
     let long : length c.deref.result.now ≡ length c.args.numbers.now = ap length places ∙ map_long (number_among c.args.numbers.now) c.args.numbers.now in
     let members : AreGroupsAmong (length c.args.numbers.now) (map (number_among c.args.numbers.now) c.args.numbers.now) c.in_ok-groups.groups.items =
-        subst (λ (n : ℕ). AreGroupsAmong n (map (number_among c.args.numbers.now) c.args.numbers.now) c.in_ok-groups.groups.items) long
-            (subst (λ (ns : List ℕ). AreGroupsAmong (length c.deref.result.now) ns c.in_ok-groups.groups.items) places c.in_ok-groups.ensures.members) in
+    subst (λ (n : ℕ). AreGroupsAmong n (map (number_among c.args.numbers.now) c.args.numbers.now) c.in_ok-groups.groups.items) long
+    (subst (λ (ns : List ℕ). AreGroupsAmong (length c.deref.result.now) ns c.in_ok-groups.groups.items) places c.in_ok-groups.ensures.members) in
     c.from_vec.ensures ∙ groups_are c.args.numbers.now c.in_ok-groups.groups.items members (c.in_ok-groups.ensures.total ∙ c.in_ok-places.ensures.count)

@@ -17,7 +17,7 @@ returns-then-eq-3 c =
     let P : Result Standing CutKind → Type 0 = λ r. Steps c.with_group.result r in
     subst P
     (sym (group_line c.args.graph.now.edges (place_in c.args.places.now) c.args.standing (words_of c.args.line.now) word (words_of c.in-Some.rest.now)
-        c.in-Some.ensures.words
+    c.in-Some.ensures.words
     (ap (bytes_eq word) (sym c.as_slice.ensures) ∙ sym c.if-eq.ensures)
     (ap (bytes_eq word) (sym c.as_slice-2.ensures) ∙ sym c.if-eq-2.ensures)
     (ap (bytes_eq word) (sym c.as_slice-3.ensures) ∙ sym c.if-eq-3.ensures)))

@@ -10,5 +10,5 @@ returns-then-len c = movers_import _ _ _ _ _ _ _ _ _ c.requires.incoming c.requi
 pub returns : goal.returns
 returns c =
     subst (HasMovers c.args.graph.now.edges c.args.numbers.now c.args.split.block c.args.split.by c.args.act)
-        (sym (c.in_ok-all.ensures.items ∙ c.deref-2.ensures.value))
+    (sym (c.in_ok-all.ensures.items ∙ c.deref-2.ensures.value))
     (movers_in_block _ _ _ _ _ _ _ c.requires.listed c.index-lists-split.is)

@@ -12,6 +12,6 @@ loop-exporter-preserved c =
     let known : exporter < length c.args.incoming.now = c.requires.known c.loop-exporter.exporter-index 0 c.loop-exporter-test.true in
     let edges : Vec Placed Global = c.index-incoming-exporter.result in
     let added = subst (λ (ps : List Placed). AreAdded c.loop-exporter.found.items c.add_importers.new.found.items ps c.args.act) c.deref.ensures.value
-        c.in_ok-add_importers.ensures in
+    c.in_ok-add_importers.ensures in
     rw (take_more c.args.list.now c.loop-exporter.exporter-index 0 c.loop-exporter-test.true)
-        (importers_more _ _ exporter _ _ _ edges c.loop-exporter.invariant known c.index-incoming-exporter.is added)
+    (importers_more _ _ exporter _ _ _ edges c.loop-exporter.invariant known c.index-incoming-exporter.is added)

@@ -8,4 +8,4 @@ pub returns : goal.returns
 returns c =
     rw (dedup_is nat_eq _ _ c.dedup.ensures.filtered)
     (movers_kept _ _ _ _ _ _ _ _ c.in_ok-movers.ensures (filter_same _ _ _ (λ x b f' k. search rules) _ _ c.retain.ensures.filtered)
-        c.in_ok-sort.ensures.permutation)
+    c.in_ok-sort.ensures.permutation)

@@ -7,4 +7,4 @@ pub loop-router-preserved : goal.loop-router-preserved
 loop-router-preserved c =
     let k = c.loop-router.router-index in
     rw (take_more c.args.movers.now k 0 c.loop-router-test.true)
-        (renumbered_more _ _ _ (get_or c.args.movers.now k 0) _ c.loop-router.invariant (c.requires.known k 0 c.loop-router-test.true))
+    (renumbered_more _ _ _ (get_or c.args.movers.now k 0) _ c.loop-router.invariant (c.requires.known k 0 c.loop-router-test.true))

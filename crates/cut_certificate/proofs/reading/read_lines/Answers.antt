@@ -69,20 +69,23 @@ returns-in-Err c =
     let edges = c.args.graph.now.edges in
     let routers = place_in c.args.places.now in
     let P : CutRefusal → Type 0 = λ e. Verifies {X = Certificate} (Err e)
-        (certificate_from edges routers (length (all_lines_of bs) + 1) (map (text_line bs) (all_lines_of bs)) (opening c.args.graph.now)) in
+    (certificate_from edges routers (length (all_lines_of bs) + 1) (map (text_line bs) (all_lines_of bs)) (opening c.args.graph.now)) in
     subst P (sym c.refused_at.ensures)
     (stopped n c.in-Err.stop _ _
     (λ kind e. sym c.loop-from.invariant.answer ∙ left_fault edges routers (length (all_lines_of bs) + 1) bs n c.loop-from.from c.newline_from-end.result
-        c.without_return-upto.result cut c.loop-from.standing kind e)
+    c.without_return-upto.result cut c.loop-from.standing kind e)
     c.in-Err.ensures)
 
 pub returns : goal.returns
 returns c =
     let bs = c.args.bytes.now in
     let last = length (all_lines_of bs) + 1 in
-    let at : last ≡ c.loop-from.line + 1 = omega (arith, c.loop-from.invariant.left,
-        none_counted bs (c.loop-from.line + 1) c.loop-from.from c.loop-from-test.false) in
+    let at : last ≡ c.loop-from.line + 1 = omega (
+      arith,
+      c.loop-from.invariant.left,
+      none_counted bs (c.loop-from.line + 1) c.loop-from.from c.loop-from-test.false,
+    ) in
     let s = c.loop-from.standing in
     verifies_same c.ended.result _
     (sym c.loop-from.invariant.answer ∙ none_left c.args.graph.now.edges (place_in c.args.places.now) last bs (c.loop-from.line + 1) c.loop-from.from s
-        c.loop-from-test.false ∙ ap (λ (n : ℕ). ended n s s.stage) at ∙ sym c.ended.ensures)
+    c.loop-from-test.false ∙ ap (λ (n : ℕ). ended n s s.stage) at ∙ sym c.ended.ensures)

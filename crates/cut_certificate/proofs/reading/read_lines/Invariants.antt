@@ -17,7 +17,7 @@ invariant-loop-from l = record {
   answer : certificate_from l.graph.edges (place_in l.places) (length (all_lines_of l.bytes) + 1)
       (map (text_line l.bytes) (map (line_of l.bytes) (pieces_from l.bytes (l.line + 1) l.from))) l.standing
       ≡ certificate_from l.graph.edges (place_in l.places) (length (all_lines_of l.bytes) + 1) (map (text_line l.bytes) (all_lines_of l.bytes))
-          (opening l.graph);
+      (opening l.graph);
 }
 
 abbrev pub decreases-loop-from : goal.decreases-loop-from

@@ -35,15 +35,15 @@ pub ite-choice-requires-clause-high_above :
 ite-choice-requires-clause-high_above t c =
     let three = first_of_three _ _ _ _ _ _ _ _ _ c.in-Choice.ensures c.first_variable.ensures c.first_variable-first.ensures in
     ite_high_above _ _ _ c.args.table.now _ _ _ _ _ _ _ _ _ _ _ _ 0 c.in_ok-high-in-Choice.ensures.extends c.in_ok-low-in-Choice.ensures.extends
-        c.requires.a_inside c.requires.b_inside c.requires.c_inside three c.sons-a_high.ensures c.sons-b_high.ensures c.sons-c_high.ensures
-            c.in_ok-high-in-Choice.ensures.ite c.in_ok-low-in-Choice.ensures.ite
+    c.requires.a_inside c.requires.b_inside c.requires.c_inside three c.sons-a_high.ensures c.sons-b_high.ensures c.sons-c_high.ensures
+    c.in_ok-high-in-Choice.ensures.ite c.in_ok-low-in-Choice.ensures.ite
 
 pub ite-choice-requires-clause-low_above : goal.ite-choice-requires-clause-low_above
 ite-choice-requires-clause-low_above t c =
     let three = first_of_three _ _ _ _ _ _ _ _ _ c.in-Choice.ensures c.first_variable.ensures c.first_variable-first.ensures in
     ite_low_above _ _ _ c.args.table.now _ _ _ _ _ _ _ _ _ _ _ _ 0 c.in_ok-high-in-Choice.ensures.extends c.in_ok-low-in-Choice.ensures.extends
-        c.requires.a_inside c.requires.b_inside c.requires.c_inside three c.sons-a_high.ensures c.sons-b_high.ensures c.sons-c_high.ensures
-            c.in_ok-high-in-Choice.ensures.ite c.in_ok-low-in-Choice.ensures.ite
+    c.requires.a_inside c.requires.b_inside c.requires.c_inside three c.sons-a_high.ensures c.sons-b_high.ensures c.sons-c_high.ensures
+    c.in_ok-high-in-Choice.ensures.ite c.in_ok-low-in-Choice.ensures.ite
 
 pub ite-returns-in_err-place-in-Choice-clause-memory :
     goal.ite-returns-in_err-place-in-Choice-clause-memory
@@ -66,22 +66,22 @@ pub ite-returns-in_ok-place-in-Choice-clause-ite :
 ite-returns-in_ok-place-in-Choice-clause-ite t c =
     let three = first_of_three _ _ _ _ _ _ _ _ _ c.in-Choice.ensures c.first_variable.ensures c.first_variable-first.ensures in
     ite_step _ _ _ _ _ _ _ _ _ _ _ _ _ _ _ _ _ c.in_ok-high-in-Choice.ensures.extends c.in_ok-low-in-Choice.ensures.extends c.requires.a_inside
-        c.requires.b_inside c.requires.c_inside three c.sons-a_high.ensures c.sons-b_high.ensures c.sons-c_high.ensures c.in_ok-high-in-Choice.ensures.ite
-            c.in_ok-low-in-Choice.ensures.ite c.in_ok-place-in-Choice.ensures.choice
+    c.requires.b_inside c.requires.c_inside three c.sons-a_high.ensures c.sons-b_high.ensures c.sons-c_high.ensures c.in_ok-high-in-Choice.ensures.ite
+    c.in_ok-low-in-Choice.ensures.ite c.in_ok-place-in-Choice.ensures.choice
 
 pub ite-returns-in_err-place-in-Choice-clause-within :
     goal.ite-returns-in_err-place-in-Choice-clause-within
 ite-returns-in_err-place-in-Choice-clause-within t c = λ bound within.
     let three = first_of_three _ _ _ _ _ _ _ _ _ c.in-Choice.ensures c.first_variable.ensures c.first_variable-first.ensures in
     c.in_err-place-in-Choice.ensures.within bound (first_within _ _ _ _ _ bound three within)
-        (c.in_ok-low-in-Choice.ensures.within bound (c.in_ok-high-in-Choice.ensures.within bound within))
+    (c.in_ok-low-in-Choice.ensures.within bound (c.in_ok-high-in-Choice.ensures.within bound within))
 
 pub ite-returns-in_ok-place-in-Choice-clause-within :
     goal.ite-returns-in_ok-place-in-Choice-clause-within
 ite-returns-in_ok-place-in-Choice-clause-within t c = λ bound within.
     let three = first_of_three _ _ _ _ _ _ _ _ _ c.in-Choice.ensures c.first_variable.ensures c.first_variable-first.ensures in
     c.in_ok-place-in-Choice.ensures.within bound (first_within _ _ _ _ _ bound three within)
-        (c.in_ok-low-in-Choice.ensures.within bound (c.in_ok-high-in-Choice.ensures.within bound within))
+    (c.in_ok-low-in-Choice.ensures.within bound (c.in_ok-high-in-Choice.ensures.within bound within))
 
 pub remembered_ite-returns-in-Some-clause-memory :
     goal.remembered_ite-returns-in-Some-clause-memory
@@ -105,7 +105,7 @@ remembered_ite-ite-requires t c =
 pub remembered_ite-returns-clause-memory : goal.remembered_ite-returns-clause-memory
 remembered_ite-returns-clause-memory t c =
     rw c.in_ok-keep.ensures.ok (memory_keep _ _ _ _ _ c.in_ok-place.ensures.memory
-        (remembered_result _ _ _ _ c.in_ok-place.ensures.extends c.requires.a_inside c.requires.b_inside c.requires.c_inside c.in_ok-place.ensures.ite))
+    (remembered_result _ _ _ _ c.in_ok-place.ensures.extends c.requires.a_inside c.requires.b_inside c.requires.c_inside c.in_ok-place.ensures.ite))
 
 pub remembered_ite-returns-clause-kept : goal.remembered_ite-returns-clause-kept
 remembered_ite-returns-clause-kept t c =

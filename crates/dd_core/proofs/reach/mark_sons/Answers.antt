@@ -19,4 +19,4 @@ pub returns-in-Choice : goal.returns-in-Choice
 returns-in-Choice c =
     let r = c.requires.store.reduced c.args.place c.in-Choice.variable c.in-Choice.high c.in-Choice.low c.in-Choice.ensures in
     marked_sons c.args.table.now c.args.marks.now c.args.place c.in-Choice.variable c.in-Choice.high c.in-Choice.low c.requires.inside
-        c.if-not-marks-place.false c.in-Choice.ensures r.high_before r.low_before
+    c.if-not-marks-place.false c.in-Choice.ensures r.high_before r.low_before

@@ -16,14 +16,14 @@ loop-place-preserved c =
     let below = c.loop-place.invariant.below in
     let some = c.loop-place-test.true in
     let size : length c.mark_sons.new.marks ≡ length c.loop-place.marks.items = c.mark_sons.ensures.total
-        ∙ ap (λ (l : List Bool). length l) c.deref_mut.ensures.value in
+    ∙ ap (λ (l : List Bool). length l) c.deref_mut.ensures.value in
     let before : IsMarking c.args.table.now c.args.from c.deref_mut.result.now (c.loop-place.place - 1 + 1) =
-        (let e : c.loop-place.place - 1 + 1 ≡ c.loop-place.place = omega arith in rw (e, c.deref_mut.ensures.value) c.loop-place.invariant.marking) in
+    (let e : c.loop-place.place - 1 + 1 ≡ c.loop-place.place = omega arith in rw (e, c.deref_mut.ensures.value) c.loop-place.invariant.marking) in
     record {
       below = omega arith;
       marking = rw (lent_back c.loop-place.marks.len c.loop-place.marks.items c.mark_sons.new.marks (size ∙ sym c.loop-place.marks.ok.0)
           (sym c.loop-place.marks.ok.0)) (marking_step c.args.table.now c.deref_mut.result.now (c.loop-place.place - 1) c.mark_sons.new.marks c.args.from
-              c.mark_sons.ensures before);
+          c.mark_sons.ensures before);
     }
 
 pub returns : goal.returns

@@ -23,7 +23,7 @@ restricted_place-requires-clause-sons c = λ marked.
     let below = c.requires.inside in
     let test = c.loop-place-test.true in
     rw c.deref.ensures.value (sons_restricted c.args.table.now c.loop-place.table _ c.deref-marked-items.result.now c.loop-place.made.items c.args.from
-        c.loop-place.place c.requires.store c.loop-place.invariant.extends (omega arith) are c.loop-place.invariant.done c.loop-place.invariant.size marked)
+    c.loop-place.place c.requires.store c.loop-place.invariant.extends (omega arith) are c.loop-place.invariant.done c.loop-place.invariant.size marked)
 
 pub loop-place-preserved : goal.loop-place-preserved
 loop-place-preserved c =
@@ -41,7 +41,7 @@ loop-place-preserved c =
       size = rw c.in_ok-push.ensures.items (omega arith);
       done = rw c.in_ok-push.ensures.items (one_restricted c.loop-place.table c.restricted_place.new.table _ c.deref-marked-items.result.now
           c.loop-place.made.items c.loop-place.place c.in_ok-node.node c.in_ok-node.ensures.extends size (omega arith) c.loop-place.invariant.done
-              c.in_ok-node.ensures.made);
+          c.in_ok-node.ensures.made);
     }
 
 pub returns-clause-restricted : goal.returns-clause-restricted

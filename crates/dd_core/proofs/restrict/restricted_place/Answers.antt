@@ -27,5 +27,5 @@ pub returns-in_ok-node-in-None-clause-made :
     goal.returns-in_ok-node-in-None-clause-made
 returns-in_ok-node-in-None-clause-made c = λ marked.
     choice_restricted _ c.requires.store _ _ _ _ _ c.in-Choice.ensures _ _ _ _ c.in_ok-node-in-None.ensures.extends (sym c.in-None.ensures)
-        ((c.requires.sons marked).high_is _ _ _ c.in-Choice.ensures) ((c.requires.sons marked).low_is _ _ _ c.in-Choice.ensures)
-            c.in_ok-node-in-None.ensures.choice
+    ((c.requires.sons marked).high_is _ _ _ c.in-Choice.ensures) ((c.requires.sons marked).low_is _ _ _ c.in-Choice.ensures)
+    c.in_ok-node-in-None.ensures.choice

@@ -10,6 +10,6 @@ loop-member-preserved c =
     let rest = c.next.new.self.rest.items in
     let next : left ≡ m ∷ rest = search rules in
     asked_step (map at_now c.args.lists.now) m c.word_of-word.result left rest c.loop-member.asked.items c.push.new.self.items c.loop-member.keys.keys
-        c.insert_full.new.self.keys c.in_ok-cell.cell next c.word_of-word.ensures c.in_ok-cell.ensures.index c.in_ok-cell.ensures.keys
-            c.in_ok-push.ensures.items
+    c.insert_full.new.self.keys c.in_ok-cell.cell next c.word_of-word.ensures c.in_ok-cell.ensures.index c.in_ok-cell.ensures.keys
+    c.in_ok-push.ensures.items
     ∙ c.loop-member.invariant

@@ -16,5 +16,5 @@ returns c =
     let originators = c.in_ok-originators.originators in
     let entries = entries_are network originators c.in_ok-members.ensures.ordered (λ p. c.in_ok-originators.ensures p ∙ noted_is network p) in
     c.in_ok-classes.ensures ∙ ap (map class_from) c.in_ok-groups.ensures
-        ∙ cells_do lists originators.entries c.in_ok-members.members.items c.in_ok-members.ensures.members
+    ∙ cells_do lists originators.entries c.in_ok-members.members.items c.in_ok-members.ensures.members
     ∙ ap (λ es. map class_of_likes (with_likes lists es [])) entries ∙ classes_are network lists (asked_alike network)

@@ -18,4 +18,4 @@ returns c = λ e plan bgp p g t l has touched comms. (
     let imports = session e plan law (c.few_links.ensures e plan) bgp p g end.0 l at touched end.1 (c.session_imports.ensures p)
     (well_formed_router e well end.0 end.1.there) (well_formed_router e well g end.1.here) t comms in
     subst (λ (h : ℕ). session_import p (emitted_router e h) (neighbor_at e h (t, l)) (emitted_router e g) (neighbor_at e g (t, l)) comms
-        ≡ imported_by (act_into e g l) comms) (sym end.1.other) imports)
+    ≡ imported_by (act_into e g l) comms) (sym end.1.other) imports)

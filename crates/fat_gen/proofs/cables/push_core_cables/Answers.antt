@@ -10,4 +10,4 @@ loop-core-preserved c =
     let made : c.push.new.self.items ≡ c.loop-core.cables.items ++ core_cable c.args.half c.args.pod c.args.number core ∷ [] =
     c.in_ok-push.ensures.items ∙ ap (λ (even : ℕ). c.loop-core.cables.items ++ record { even = even; odd = core } ∷ []) c.aggregation_place-even.ensures in
     one_more_to (core_cable c.args.half c.args.pod c.args.number) c.args.cables.now.items c.loop-core.cables.items c.push.new.self.items first core
-        c.loop-core.auto.core made c.loop-core.invariant
+    c.loop-core.auto.core made c.loop-core.invariant

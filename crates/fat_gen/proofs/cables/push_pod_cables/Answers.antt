@@ -7,5 +7,5 @@ pub loop-number-preserved : goal.loop-number-preserved
 loop-number-preserved c =
     let half = c.args.half in
     one_less (switch_cables half c.args.pod) c.loop-number.cables.items c.push_switch_cables.new.cables.items
-        (c.args.cables.now.items ++ pod_cables half c.args.pod) c.loop-number.number half c.loop-number-test.true c.in_ok-push_switch_cables.ensures
-            c.loop-number.invariant
+    (c.args.cables.now.items ++ pod_cables half c.args.pod) c.loop-number.number half c.loop-number-test.true c.in_ok-push_switch_cables.ensures
+    c.loop-number.invariant

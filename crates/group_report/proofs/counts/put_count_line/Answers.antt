@@ -9,6 +9,6 @@ returns c =
     let class = class_words c.args.class_number in
     let network = network_words c.args.routers c.args.links_before in
     let two = grown old class (string_bytes c.put_class_words.new.text) network (string_bytes c.put_network_words.new.text) c.in_ok-put_class_words.ensures
-        c.in_ok-put_network_words.ensures in
+    c.in_ok-put_network_words.ensures in
     ended c.put_group_words.result old (class ++ network) (string_bytes c.put_network_words.new.text) (group_words c.args.groups c.args.links_after)
-        (string_bytes c.put_group_words.new.text) two c.put_group_words.ensures
+    (string_bytes c.put_group_words.new.text) two c.put_group_words.ensures

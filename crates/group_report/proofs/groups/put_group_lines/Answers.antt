@@ -9,4 +9,4 @@ loop-group-preserved c =
     let groups = c.args.partition.now in
     let written = ap (λ (members : List ℕ). string_bytes c.loop-group.text ++ group_line problem (c.loop-group.group + 1) members) c.members-members.ensures in
     line_step (line_of_group problem groups) (string_bytes c.loop-group.text) (string_bytes c.put_group.new.text) _ c.loop-group.group c.args.count
-        c.loop-group-test.true (c.in_ok-put_group.ensures ∙ written) c.loop-group.invariant
+    c.loop-group-test.true (c.in_ok-put_group.ensures ∙ written) c.loop-group.invariant

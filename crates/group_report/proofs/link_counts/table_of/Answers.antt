@@ -17,7 +17,7 @@ loop-edge-preserved c =
     let few : e.act < 16 = omega (arith, c.if-act-ge16.false) in
     subst (λ (k : ℕ). IsLinkTable (take (i + 1) c.args.edges.now) c.args.groups.now (set c.loop-edge.table.items k true)) (sym c.cell-place.ensures.is)
     (next_table c.args.edges.now c.args.groups.now c.loop-edge.table.items i e none c.group_of-importer.result c.group_of-exporter.result c.loop-edge-test.true
-        refl few
+    refl few
     c.group_of-importer.ensures c.group_of-exporter.ensures
     (group_below c.args.groups.now c.args.count e.importer c.group_of-importer.result c.requires.few c.requires.numbered importer c.group_of-importer.ensures)
     (group_below c.args.groups.now c.args.count e.exporter c.group_of-exporter.result c.requires.few c.requires.numbered exporter c.group_of-exporter.ensures)

@@ -17,15 +17,15 @@ loop-list-preserved g c =
     let there = get_or xs i item in
     let inside : i < length xs = omega (arith, c.loop-list.auto.list-items, c.loop-list-test.true) in
     let sorted : c.in_ok-list.field-0 ≡ in_number_order g.E.Numbered.number there.entries = c.in_ok-list.ensures
-        ∙ ap (in_number_order g.E.Numbered.number) c.replace-entries.ensures.value in
+    ∙ ap (in_number_order g.E.Numbered.number) c.replace-entries.ensures.value in
     ap (λ es. changed_from (in_order g.E.Numbered.number) (i + 1)
-        (set xs i (let changed : NamedList g.row.E.Denot = record { name = there.name; entries = es } in changed))) sorted
-            ∙ one_changed (in_order g.E.Numbered.number) xs i item inside ∙ c.loop-list.invariant
+    (set xs i (let changed : NamedList g.row.E.Denot = record { name = there.name; entries = es } in changed))) sorted
+    ∙ one_changed (in_order g.E.Numbered.number) xs i item inside ∙ c.loop-list.invariant
 
 pub returns : goal.returns
 returns g c =
     let xs = c.loop-list.list-items in
     let whole : length xs ≤ c.loop-list.list-index = omega (arith, c.loop-list.auto.list-items, c.loop-list-test.false) in
     c.from_vec.ensures ∙ written_whole c.into_vec-lists.result.len xs _
-        (c.into_vec-lists.result.ok.0 ∙ sym (ap length c.deref_mut-list-items.ensures.value) ∙ sym c.loop-list.auto.list-items)
-            ∙ sym (all_changed (in_order g.E.Numbered.number) c.loop-list.list-index xs whole) ∙ c.loop-list.invariant
+    (c.into_vec-lists.result.ok.0 ∙ sym (ap length c.deref_mut-list-items.ensures.value) ∙ sym c.loop-list.auto.list-items)
+    ∙ sym (all_changed (in_order g.E.Numbered.number) c.loop-list.list-index xs whole) ∙ c.loop-list.invariant

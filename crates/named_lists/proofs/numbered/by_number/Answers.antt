@@ -20,8 +20,8 @@ returns g c =
           (w.in_ok-sort_by_key.ensures.stable g.E.Numbered.number (answers_always _ _ _ (λ f a r q k. search rules))))
       | else-not-is_sorted_by_key w ↦
           let pairs = rw c.deref.ensures.value at w.if-not-is_sorted_by_key.ensures.cases g.E.Numbered.number (answers_always _ _ _ (λ f a r q k. search rules))
-              in
+          in
           rw w.entries-is (sorted_by_number g.E.Numbered.number xs xs
-              (IsNonDecreasingBy-from_all_adjacent g.E.Numbered.number xs
-                  (λ k d lt. le_of (g.E.Numbered.number (get_or xs k d)) (g.E.Numbered.number (get_or xs (k + 1) d)) (pairs k d lt))) (λ x. refl))
+          (IsNonDecreasingBy-from_all_adjacent g.E.Numbered.number xs
+          (λ k d lt. le_of (g.E.Numbered.number (get_or xs k d)) (g.E.Numbered.number (get_or xs (k + 1) d)) (pairs k d lt))) (λ x. refl))
     ] ∙ ap (in_number_order g.E.Numbered.number) c.into_vec-entries.ensures

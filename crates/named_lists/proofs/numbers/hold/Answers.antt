@@ -18,9 +18,9 @@ returns g c =
       | then-not-is_held+else-is_past+in_ok-hold_all w ↦
           let up : ascends g.E.Numbered.number c.args.entries.now ≡ true = not_false _ (sym w.if-not-is_held.ensures) in
           adds_fallen g.E.Numbered.number c.args.numbers.now c.insert.new.self c.args.place c.args.entries.now c.args.number up
-              (sym w.is_past.ensures ∙ w.if-is_past.false)
+          (sym w.is_past.ensures ∙ w.if-is_past.false)
           (adds_more c.args.numbers.now w.hold_all.new.numbers c.insert.new.self c.args.place c.args.number _ w.in_ok-hold_all.ensures
-              (rw w.numbers-is at c.in_ok-insert.ensures.updates))
+          (rw w.numbers-is at c.in_ok-insert.ensures.updates))
       | else-not-is_held w ↦
           let down : ascends g.E.Numbered.number c.args.entries.now ≡ false = not_true _ (sym w.if-not-is_held.ensures) in
           adds_known g.E.Numbered.number c.args.numbers.now c.insert.new.self c.args.place c.args.entries.now c.args.number c.requires down

@@ -12,5 +12,5 @@ returns-in-len1-up g c =
     let first = has_first g.E.Numbered.number c.args.entries.now c.first-item.result (omega (arith, c.in-len1-up.len_at_least)) in
     c.contains.ensures ∙ c.requires c.number.result
     ∙ ap (λ b. not (ascends g.E.Numbered.number c.args.entries.now) && b)
-        (ap (has_entry_numbered g.E.Numbered.number c.args.entries.now) (c.number.ensures ∙ ap g.E.Numbered.number c.first-item.is) ∙ first)
+    (ap (has_entry_numbered g.E.Numbered.number c.args.entries.now) (c.number.ensures ∙ ap g.E.Numbered.number c.first-item.is) ∙ first)
     ∙ and_true (not (ascends g.E.Numbered.number c.args.entries.now))

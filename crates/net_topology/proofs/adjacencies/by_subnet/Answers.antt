@@ -10,4 +10,4 @@ loop-spot-preserved c =
     let none : Spot = record { router = 0; item = 0; len = 0; first = 0 } in
     let x = get_or c.args.spots.now c.loop-spot.spot-index none in
     index_turn pair_of c.loop-spot.index c.push_at.new.index c.args.spots.now c.loop-spot.spot-index x c.loop-spot-test.true
-        (get_or_default c.args.spots.now c.loop-spot.spot-index none x c.loop-spot-test.true) c.in_ok-push_at.ensures c.loop-spot.invariant
+    (get_or_default c.args.spots.now c.loop-spot.spot-index none x c.loop-spot-test.true) c.in_ok-push_at.ensures c.loop-spot.invariant

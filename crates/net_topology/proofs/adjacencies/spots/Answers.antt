@@ -16,6 +16,6 @@ pub loop-r-preserved : goal.loop-r-preserved
 loop-r-preserved c =
     let x = c.index-routers-r.result in
     let pushed = c.in_ok-push_spots.ensures ∙ ap (λ r. c.loop-r.found.items ++ filter_map spot_of (map (place_on r x) (enumerate_from 0 (interfaces_of x))))
-        c.place-router.ensures in
+    c.place-router.ensures in
     router_turn interfaces_of spot_of c.loop-r.found.items c.push_spots.new.found.items _ c.as_slice-routers.result.now c.loop-r.r x c.loop-r-test.true
-        c.index-routers-r.is pushed c.loop-r.invariant
+    c.index-routers-r.is pushed c.loop-r.invariant

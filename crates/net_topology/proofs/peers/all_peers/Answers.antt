@@ -16,7 +16,7 @@ pub loop-r-preserved : goal.loop-r-preserved
 loop-r-preserved c =
     let x = c.index-routers-r.result in
     let pushed = c.in_ok-push_peers.ensures ∙ ap (λ r. c.loop-r.found.items
-        ++ filter_map peer_at_place (map (place_on r x) (enumerate_from 0 (neighbors_of x))))
-        c.place-router.ensures in
+    ++ filter_map peer_at_place (map (place_on r x) (enumerate_from 0 (neighbors_of x))))
+    c.place-router.ensures in
     router_turn neighbors_of peer_at_place c.loop-r.found.items c.push_peers.new.found.items _ c.as_slice-routers.result.now c.loop-r.r x c.loop-r-test.true
-        c.index-routers-r.is pushed c.loop-r.invariant
+    c.index-routers-r.is pushed c.loop-r.invariant

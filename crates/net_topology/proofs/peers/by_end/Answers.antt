@@ -10,4 +10,4 @@ loop-peer-preserved c =
     let none : Peer = record { router = 0; item = 0; number = 0; remote = 0; addr = 0 } in
     let x = get_or c.args.peers.now c.loop-peer.peer-index none in
     index_turn own_end c.loop-peer.index c.push_at.new.index c.args.peers.now c.loop-peer.peer-index x c.loop-peer-test.true
-        (get_or_default c.args.peers.now c.loop-peer.peer-index none x c.loop-peer-test.true) c.in_ok-push_at.ensures c.loop-peer.invariant
+    (get_or_default c.args.peers.now c.loop-peer.peer-index none x c.loop-peer-test.true) c.in_ok-push_at.ensures c.loop-peer.invariant

@@ -24,9 +24,9 @@ and-requires-2-clause-b_inside c = grows_inside _ _ _ (grows_trans _ _ _ c.in_ok
 pub returns-clause-after : goal.returns-clause-after
 returns-clause-after c =
     let tabled : IsTabled c.carried_outs.new.store (λ k set. carries_on c.args.store.now c.args.carried.now c.args.m.now set k) c.in_ok-keys.keys
-        c.in_ok-outs.outs =
+    c.in_ok-outs.outs =
     subst (λ (l : List ℕ). IsTabled c.carried_outs.new.store (λ k set. carries_on c.args.store.now c.args.carried.now c.args.m.now set k) l c.in_ok-outs.outs)
-        c.as_slice.ensures.all c.in_ok-outs.ensures.outs in
+    c.as_slice.ensures.all c.in_ok-outs.ensures.outs in
     after_is c.args.store.now c.carried_outs.new.store c.and.new.self c.and-2.new.self c.args.carried.now c.args.m.now c.in_ok-keys.keys c.in_ok-outs.outs
-        c.in_ok-rest.rest c.in_ok-others.others c.in_ok-outs.ensures.grows c.in_ok-rest.ensures.grows c.in_ok-others.ensures.grows c.requires.inside
-            c.requires.map_inside c.in_ok-keys.ensures tabled c.in_ok-rest.ensures.and c.in_ok-others.ensures.and
+    c.in_ok-rest.rest c.in_ok-others.others c.in_ok-outs.ensures.grows c.in_ok-rest.ensures.grows c.in_ok-others.ensures.grows c.requires.inside
+    c.requires.map_inside c.in_ok-keys.ensures tabled c.in_ok-rest.ensures.and c.in_ok-others.ensures.and

@@ -13,17 +13,17 @@ pub or-requires-clause-a_inside : goal.or-requires-clause-a_inside
 or-requires-clause-a_inside c =
     let at : node_at c.args.m.now.present c.args.community ≡ Some c.in-Some.put = rw (← c.as_slice.ensures) (sym c.in-Some.ensures) in
     grows_inside _ _ _ (grows_trans _ _ _ (grows_trans _ _ _ c.in_ok-there.ensures.grows c.in_ok-stays.ensures.grows) c.in_ok-kept.ensures.grows)
-        (case_inside c.args.store.now c.args.m.now.present c.args.community c.in-Some.put c.requires.map_inside.present at)
+    (case_inside c.args.store.now c.args.m.now.present c.args.community c.in-Some.put c.requires.map_inside.present at)
 
 pub returns-in_ok-node-in-Some-clause-carries : goal.returns-in_ok-node-in-Some-clause-carries
 returns-in_ok-node-in-Some-clause-carries c =
     let at : node_at c.args.m.now.present c.args.community ≡ Some c.in-Some.put = rw (← c.as_slice.ensures) (sym c.in-Some.ensures) in
     carried_put _ _ _ _ _ c.args.carried.now c.args.m.now _ _ _ _ _ _ c.in_ok-there.ensures.grows c.in_ok-stays.ensures.grows c.in_ok-kept.ensures.grows
-        c.requires.map_inside (case_inside c.args.store.now c.args.m.now.present c.args.community c.in-Some.put c.requires.map_inside.present at) at
-            c.in_ok-there.ensures.condition c.in_ok-stays.ensures.stays c.in_ok-kept.ensures.and c.in_ok-node-in-Some.ensures.or
+    c.requires.map_inside (case_inside c.args.store.now c.args.m.now.present c.args.community c.in-Some.put c.requires.map_inside.present at) at
+    c.in_ok-there.ensures.condition c.in_ok-stays.ensures.stays c.in_ok-kept.ensures.and c.in_ok-node-in-Some.ensures.or
 
 pub returns-in-None-clause-carries : goal.returns-in-None-clause-carries
 returns-in-None-clause-carries c =
     let at : node_at c.args.m.now.present c.args.community ≡ None = rw (← c.as_slice.ensures) (sym c.in-None.ensures) in
     carried_kept _ _ _ _ c.args.carried.now c.args.m.now _ _ _ _ c.in_ok-there.ensures.grows c.in_ok-stays.ensures.grows c.requires.map_inside at
-        c.in_ok-there.ensures.condition c.in_ok-stays.ensures.stays c.in_ok-kept.ensures.and
+    c.in_ok-there.ensures.condition c.in_ok-stays.ensures.stays c.in_ok-kept.ensures.and

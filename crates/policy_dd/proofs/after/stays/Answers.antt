@@ -17,8 +17,8 @@ pub returns-in_ok-node-in-Some-clause-stays : goal.returns-in_ok-node-in-Some-cl
 returns-in_ok-node-in-Some-clause-stays c =
     let at : node_at c.args.m.now.odd c.args.community ≡ Some c.in-Some.odd = rw (← c.as_slice.ensures) (sym c.in-Some.ensures) in
     stays_odd _ _ _ _ _ _ _ _ c.in_ok-gone-in-Some.ensures.grows c.requires
-        (case_inside c.args.store.now c.args.m.now.odd c.args.community c.in-Some.odd c.requires.odd at) at c.in_ok-gone-in-Some.ensures.not
-            c.in_ok-node-in-Some.ensures.ite
+    (case_inside c.args.store.now c.args.m.now.odd c.args.community c.in-Some.odd c.requires.odd at) at c.in_ok-gone-in-Some.ensures.not
+    c.in_ok-node-in-Some.ensures.ite
 
 pub returns-in-None-clause-stays : goal.returns-in-None-clause-stays
 returns-in-None-clause-stays c =

@@ -88,15 +88,15 @@ returns-clause-either c =
     let f = c.args.first in
     let l = c.args.last.now in
     let lps = subst (λ (t : List (ℕ × ℕ)). IsTableOfEither c.ite-2.new.self c.or_unless.new.store c.args.first.before c.args.first.lps t c.in_ok-lps.lps)
-        c.as_slice.ensures c.in_ok-lps.ensures.more in
+    c.as_slice.ensures c.in_ok-lps.ensures.more in
     let adds = subst (λ (t : List (ℕ × ℕ)). IsTableOfEither c.or_unless.new.store c.or_unless-2.new.store c.args.first.before c.args.first.adds t
-        c.in_ok-adds.adds) c.as_slice-2.ensures c.in_ok-adds.ensures.more in
+    c.in_ok-adds.adds) c.as_slice-2.ensures c.in_ok-adds.ensures.more in
     let present = subst (λ (t : List (ℕ × ℕ)). IsTableOfEither c.or_unless-2.new.store c.or_unless-3.new.store c.args.first.before c.args.first.present t
-        c.in_ok-present.present) c.as_slice-3.ensures c.in_ok-present.ensures.more in
+    c.in_ok-present.present) c.as_slice-3.ensures c.in_ok-present.ensures.more in
     let odd = subst (λ (t : List (ℕ × ℕ)). IsTableOfEither c.or_unless-3.new.store c.or_unless-4.new.store c.args.first.before c.args.first.odd t
-        c.in_ok-odd.odd) c.as_slice-4.ensures c.in_ok-odd.ensures.more in
+    c.in_ok-odd.odd) c.as_slice-4.ensures c.in_ok-odd.ensures.more in
     either_is c.args.store.now c.or.new.self c.ite.new.self c.ite-2.new.self c.or_unless.new.store c.or_unless-2.new.store c.or_unless-3.new.store
-        c.or_unless-4.new.store c.in_ok-before.ensures.grows c.in_ok-permit.ensures.grows c.in_ok-rest.ensures.grows c.in_ok-lps.ensures.grows
-            c.in_ok-adds.ensures.grows c.in_ok-present.ensures.grows c.in_ok-odd.ensures.grows f l c.in_ok-before.before c.in_ok-permit.permit c.in_ok-rest.rest
-                c.in_ok-lps.lps c.in_ok-adds.adds c.in_ok-present.present c.in_ok-odd.odd c.requires.first_inside c.requires.last_inside
-                    c.in_ok-before.ensures.or c.in_ok-permit.ensures.ite c.in_ok-rest.ensures.ite lps adds present odd
+    c.or_unless-4.new.store c.in_ok-before.ensures.grows c.in_ok-permit.ensures.grows c.in_ok-rest.ensures.grows c.in_ok-lps.ensures.grows
+    c.in_ok-adds.ensures.grows c.in_ok-present.ensures.grows c.in_ok-odd.ensures.grows f l c.in_ok-before.before c.in_ok-permit.permit c.in_ok-rest.rest
+    c.in_ok-lps.lps c.in_ok-adds.adds c.in_ok-present.present c.in_ok-odd.odd c.requires.first_inside c.requires.last_inside
+    c.in_ok-before.ensures.or c.in_ok-permit.ensures.ite c.in_ok-rest.ensures.ite lps adds present odd

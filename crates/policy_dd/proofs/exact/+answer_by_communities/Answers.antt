@@ -16,15 +16,16 @@ pub answer_by_communities-requires-in-len1-up :
 answer_by_communities-requires-in-len1-up t c =
     let some = c.in-len1-up.len_at_least in
     let front = front_rest c.args.conditions.now c.case-item.result some c.case-item.is in
-    let inside = subst (λ (l : List (ℕ × ℕ)). AllInside c.args.store.now l) front c.requires.inside in
-    (omega (arith, rest_shorter c.args.conditions.now some),
-        (cases_inside_kept _ _ _ c.in_ok-high-in-len1-up.ensures.grows inside.1, grows_inside _ _ _ c.in_ok-high-in-len1-up.ensures.grows c.requires.none))
+    let inside = subst (λ (l : List (ℕ × ℕ)). AllInside c.args.store.now l) front c.requires.inside in (
+      omega (arith, rest_shorter c.args.conditions.now some),
+      (cases_inside_kept _ _ _ c.in_ok-high-in-len1-up.ensures.grows inside.1, grows_inside _ _ _ c.in_ok-high-in-len1-up.ensures.grows c.requires.none),
+    )
 
 pub returns-in-empty-clause-answer : goal.returns-in-empty-clause-answer
 returns-in-empty-clause-answer t c =
     rw (no_items c.args.conditions.now c.in-empty.len_below)
-        (answer_at_end c.args.store.now c.args.none c.args.lines.now c.index-lines-0.result c.where_permitted.result
-            (sym c.is_empty.ensures ∙ c.if-is_empty.false) c.index-lines-0.is c.where_permitted.ensures)
+    (answer_at_end c.args.store.now c.args.none c.args.lines.now c.index-lines-0.result c.where_permitted.result
+    (sym c.is_empty.ensures ∙ c.if-is_empty.false) c.index-lines-0.is c.where_permitted.ensures)
 
 pub returns-in_ok-node-in-len1-up-clause-answer :
     goal.returns-in_ok-node-in-len1-up-clause-answer
@@ -33,15 +34,15 @@ returns-in_ok-node-in-len1-up-clause-answer t c =
     let inside = subst (λ (l : List (ℕ × ℕ)). AllInside c.args.store.now l) front c.requires.inside in
     let named : lines_now c.as_slice.result.now ≡ filter (λ line. has line.comms c.case-item.result.0) (lines_now c.args.lines.now) =
     ap lines_now c.as_slice.ensures.value ∙ c.in_ok-parted-in-len1-up.ensures.named
-        ∙ ap (λ (k : ℕ). filter (λ line. has line.comms k) (lines_now c.args.lines.now)) c.key_in.ensures in
+    ∙ ap (λ (k : ℕ). filter (λ line. has line.comms k) (lines_now c.args.lines.now)) c.key_in.ensures in
     let unnamed : lines_now c.as_slice-in-len1-up.result.now ≡ filter (λ line. not (has line.comms c.case-item.result.0)) (lines_now c.args.lines.now) =
     ap lines_now c.as_slice-in-len1-up.ensures.value ∙ c.in_ok-parted-in-len1-up.ensures.unnamed
-        ∙ ap (λ (k : ℕ). filter (λ line. not (has line.comms k)) (lines_now c.args.lines.now)) c.key_in.ensures in
+    ∙ ap (λ (k : ℕ). filter (λ line. not (has line.comms k)) (lines_now c.args.lines.now)) c.key_in.ensures in
     let ite = subst (λ (n : ℕ). IsIteOfSets c.answer_by_communities-in-len1-up.new.store c.ite.new.self n c.in_ok-high-in-len1-up.high
-        c.in_ok-low-in-len1-up.low c.in_ok-node-in-len1-up.node) c.node_in.ensures c.in_ok-node-in-len1-up.ensures.ite in
+    c.in_ok-low-in-len1-up.low c.in_ok-node-in-len1-up.node) c.node_in.ensures c.in_ok-node-in-len1-up.ensures.ite in
     subst (λ (cases : List (ℕ × ℕ)). Means c.ite.new.self c.in_ok-node-in-len1-up.node
-        (λ set. first_line_decides (λ line. just_wanted c.args.store.now set c.args.none cases line.comms) (lines_now c.args.lines.now))) (sym front)
+    (λ set. first_line_decides (λ line. just_wanted c.args.store.now set c.args.none cases line.comms) (lines_now c.args.lines.now))) (sym front)
     (answer_parts c.args.store.now c.answer_by_communities.new.store c.answer_by_communities-in-len1-up.new.store c.ite.new.self c.args.none c.case-item.result
-        _ (lines_now c.args.lines.now) (lines_now c.as_slice.result.now) (lines_now c.as_slice-in-len1-up.result.now) c.in_ok-high-in-len1-up.high
-            c.in_ok-low-in-len1-up.low c.in_ok-node-in-len1-up.node inside c.requires.none c.in_ok-high-in-len1-up.ensures.grows
-                c.in_ok-low-in-len1-up.ensures.grows named unnamed c.in_ok-high-in-len1-up.ensures.answer c.in_ok-low-in-len1-up.ensures.answer ite)
+    _ (lines_now c.args.lines.now) (lines_now c.as_slice.result.now) (lines_now c.as_slice-in-len1-up.result.now) c.in_ok-high-in-len1-up.high
+    c.in_ok-low-in-len1-up.low c.in_ok-node-in-len1-up.node inside c.requires.none c.in_ok-high-in-len1-up.ensures.grows
+    c.in_ok-low-in-len1-up.ensures.grows named unnamed c.in_ok-high-in-len1-up.ensures.answer c.in_ok-low-in-len1-up.ensures.answer ite)

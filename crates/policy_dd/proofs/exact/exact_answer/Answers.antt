@@ -21,14 +21,14 @@ pub answer_by_communities-requires-clause-inside :
     goal.answer_by_communities-requires-clause-inside
 answer_by_communities-requires-clause-inside c =
     rw c.as_slice-2.ensures (told_inside c.args.store.now c.not.new.self c.args.carried.now c.in_ok-conditions.conditions
-        (tell_kept c.args.store.now _ _ c.args.carried.now c.in_ok-conditions.conditions c.in_ok-none.ensures.grows c.in_ok-conditions.ensures.conditions.each))
+    (tell_kept c.args.store.now _ _ c.args.carried.now c.in_ok-conditions.conditions c.in_ok-none.ensures.grows c.in_ok-conditions.ensures.conditions.each))
 
 pub returns-clause-answer : goal.returns-clause-answer
 returns-clause-answer c =
     let e : c.as_slice.result.now ≡ c.args.store.now.universe = c.as_slice.ensures.all ∙ c.in_ok-universe.ensures ∙ c.universe.ensures.universe in
     let conditions = subst (λ (cases : List (ℕ × ℕ)). AreConditions c.args.store.now c.conditions.new.store c.args.carried.now c.as_slice.result.now cases)
-        (sym c.as_slice-2.ensures) c.in_ok-conditions.ensures.conditions in
+    (sym c.as_slice-2.ensures) c.in_ok-conditions.ensures.conditions in
     exact_answer_is c.args.store.now c.conditions.new.store c.not.new.self c.answer_by_communities.new.store c.args.carried.now c.as_slice.result.now
-        c.as_slice-2.result.now (lines_now c.as_slice-3.result.now) c.args.lines.now c.in_ok-none.none c.in_ok-node.node c.requires.inside
-            c.in_ok-conditions.ensures.grows c.in_ok-none.ensures.grows conditions e c.in_ok-none.ensures.not
-                (ap lines_now c.as_slice-3.ensures.value ∙ c.in_ok-lines.ensures) c.in_ok-node.ensures.answer
+    c.as_slice-2.result.now (lines_now c.as_slice-3.result.now) c.args.lines.now c.in_ok-none.none c.in_ok-node.node c.requires.inside
+    c.in_ok-conditions.ensures.grows c.in_ok-none.ensures.grows conditions e c.in_ok-none.ensures.not
+    (ap lines_now c.as_slice-3.ensures.value ∙ c.in_ok-lines.ensures) c.in_ok-node.ensures.answer

@@ -16,4 +16,4 @@ loop-case-preserved c =
     let same : made ≡ item = pair_is made item (c.key_in.ensures ∙ ap (λ (p : ℕ × ℕ). p.0) e) (c.node_in.ensures ∙ ap (λ (p : ℕ × ℕ). p.1) e) in
     ap (λ (l : List (Community × ℕ)). by_number l) c.in_ok-push.ensures.ok ∙ numbers_more c.loop-case.named (community, c.node_in.result)
     ∙ ap (λ (l : List (ℕ × ℕ)). l ++ made ∷ []) c.loop-case.invariant ∙ ap (λ (p : ℕ × ℕ). take c.loop-case.case-index c.args.cases.now ++ p ∷ []) same
-        ∙ sym (take_more c.args.cases.now c.loop-case.case-index (0, 0) c.loop-case-test.true)
+    ∙ sym (take_more c.args.cases.now c.loop-case.case-index (0, 0) c.loop-case-test.true)

@@ -19,30 +19,30 @@ limit-requires-2-clause-inside c = rw c.as_slice-2.ensures (cases_inside_kept _ 
 pub outs_of-requires-clause-inside : goal.outs_of-requires-clause-inside
 outs_of-requires-clause-inside c = inside_kept _ _ _ (grows_trans _ _ _
     (grows_trans _ _ _ (grows_trans _ _ _ c.in_ok-permit.ensures.grows c.in_ok-lps.ensures.grows) c.in_ok-adds.ensures.grows) c.in_ok-rest.ensures.grows)
-        c.requires.end
+    c.requires.end
 
 pub returns-clause-joined : goal.returns-clause-joined
 returns-clause-joined c =
     let lps : IsSelection c.limit.new.store never (λ k set. case_or c.and.new.self set c.args.seen.now.second.lps k false
-        && value_of c.and.new.self set c.args.seen.now.first.permit) (keys_of c.args.seen.now.second.lps) c.in_ok-lps.lps =
+    && value_of c.and.new.self set c.args.seen.now.first.permit) (keys_of c.args.seen.now.second.lps) c.in_ok-lps.lps =
     subst (λ (l : List (ℕ × ℕ)). IsSelection c.limit.new.store never
-        (λ k set. case_or c.and.new.self set l k false && value_of c.and.new.self set c.args.seen.now.first.permit) (keys_of l) c.in_ok-lps.lps)
-            c.as_slice.ensures c.in_ok-lps.ensures.limited in
+    (λ k set. case_or c.and.new.self set l k false && value_of c.and.new.self set c.args.seen.now.first.permit) (keys_of l) c.in_ok-lps.lps)
+    c.as_slice.ensures c.in_ok-lps.ensures.limited in
     let adds : IsSelection c.limit-2.new.store never (λ k set.
-        case_or c.limit.new.store set c.args.seen.now.first.adds k false && value_of c.limit.new.store set c.args.seen.now.second.permit)
-            (keys_of c.args.seen.now.first.adds) c.in_ok-adds.adds =
+    case_or c.limit.new.store set c.args.seen.now.first.adds k false && value_of c.limit.new.store set c.args.seen.now.second.permit)
+    (keys_of c.args.seen.now.first.adds) c.in_ok-adds.adds =
     subst (λ (l : List (ℕ × ℕ)). IsSelection c.limit-2.new.store never
-        (λ k set. case_or c.limit.new.store set l k false && value_of c.limit.new.store set c.args.seen.now.second.permit) (keys_of l) c.in_ok-adds.adds)
-            c.as_slice-2.ensures c.in_ok-adds.ensures.limited in
+    (λ k set. case_or c.limit.new.store set l k false && value_of c.limit.new.store set c.args.seen.now.second.permit) (keys_of l) c.in_ok-adds.adds)
+    c.as_slice-2.ensures c.in_ok-adds.ensures.limited in
     joined_is c.args.store.now c.and.new.self c.limit.new.store c.limit-2.new.store c.and-2.new.self c.outs_of.new.store c.args.seen.now c.args.beyond
-        c.in_ok-permit.permit c.in_ok-rest.rest c.in_ok-lps.lps c.in_ok-adds.adds c.in_ok-outs.outs c.in_ok-counts.counts c.in_ok-communities.communities
-            c.in_ok-permit.ensures.grows c.in_ok-lps.ensures.grows c.in_ok-adds.ensures.grows c.in_ok-rest.ensures.grows c.in_ok-outs.ensures.grows
-                c.requires.first c.requires.second c.requires.end c.requires.beyond c.in_ok-permit.ensures.and lps adds c.in_ok-rest.ensures.and
-                    c.in_ok-outs.ensures.outs (c.in_ok-counts.ensures ∙ c.as_slice-3.ensures) (c.in_ok-communities.ensures ∙ c.as_slice-4.ensures)
+    c.in_ok-permit.permit c.in_ok-rest.rest c.in_ok-lps.lps c.in_ok-adds.adds c.in_ok-outs.outs c.in_ok-counts.counts c.in_ok-communities.communities
+    c.in_ok-permit.ensures.grows c.in_ok-lps.ensures.grows c.in_ok-adds.ensures.grows c.in_ok-rest.ensures.grows c.in_ok-outs.ensures.grows
+    c.requires.first c.requires.second c.requires.end c.requires.beyond c.in_ok-permit.ensures.and lps adds c.in_ok-rest.ensures.and
+    c.in_ok-outs.ensures.outs (c.in_ok-counts.ensures ∙ c.as_slice-3.ensures) (c.in_ok-communities.ensures ∙ c.as_slice-4.ensures)
 
 pub counts-requires : goal.counts-requires
 counts-requires c = λ k there.
     let in_adds : has (keys_of c.in_ok-adds.adds) k ≡ true = ap (λ (l : List (ℕ × ℕ)). has (keys_of l) k) (sym c.as_slice-3.ensures) ∙ there in
     let in_first : has (keys_of c.args.seen.now.first.adds) k ≡ true = ap (λ (l : List (ℕ × ℕ)). has (keys_of l) k) (sym c.as_slice-2.ensures)
-        ∙ c.in_ok-adds.ensures.limited.keys_are k in_adds in
+    ∙ c.in_ok-adds.ensures.limited.keys_are k in_adds in
     c.requires.first.adds_small k in_first

@@ -37,29 +37,29 @@ pub push_out-requires-clause-known : goal.push_out-requires-clause-known
 push_out-requires-clause-known c =
     let key : ℕ = get_or c.as_slice-keys.result.now c.loop-key.key-index 0 in
     let there : has c.in_ok-looked_at.looked_at key ≡ true = ap (λ (l : List ℕ). has l key) (sym c.as_slice-keys.ensures.all)
-        ∙ has_index c.as_slice-keys.result.now c.loop-key.key-index c.loop-key-test.true in
+    ∙ has_index c.as_slice-keys.result.now c.loop-key.key-index c.loop-key-test.true in
     ap (λ (u : List ℕ). has u key) (c.loop-key.invariant.grows.universe ∙ sym c.in_ok-kept.ensures.grows.universe) ∙ c.in_ok-looked_at.ensures.known key there
 
 pub loop-key-preserved : goal.loop-key-preserved
 loop-key-preserved c =
     let up : IsAscending c.as_slice-keys.result.now = rw c.as_slice-keys.ensures.all c.as_slice-keys.ensures.ascending in
     let e : take (c.loop-key.key-index + 1) c.as_slice-keys.result.now ≡ take c.loop-key.key-index c.as_slice-keys.result.now
-        ++ get_or c.as_slice-keys.result.now c.loop-key.key-index 0 ∷ [] = take_more c.as_slice-keys.result.now c.loop-key.key-index 0 c.loop-key-test.true in
+    ++ get_or c.as_slice-keys.result.now c.loop-key.key-index 0 ∷ [] = take_more c.as_slice-keys.result.now c.loop-key.key-index 0 c.loop-key-test.true in
     record {
       grows = grows_trans _ _ _ c.loop-key.invariant.grows c.in_ok-outs.ensures.grows;
       outs = rw e (out_step c.args.store.now c.loop-key.store c.push_out.new.store c.loop-key.outs c.in_ok-outs.outs c.args.permit c.args.carried.now
           c.args.rest (get_or c.as_slice-keys.result.now c.loop-key.key-index 0) (take c.loop-key.key-index c.as_slice-keys.result.now)
-              c.loop-key.invariant.grows c.in_ok-outs.ensures.grows c.requires.permit_inside c.requires.inside c.requires.rest_inside c.loop-key.invariant.outs
-                  (below_number c.as_slice-keys.result.now c.loop-key.key-index up c.loop-key-test.true) c.in_ok-outs.ensures.pushed);
+          c.loop-key.invariant.grows c.in_ok-outs.ensures.grows c.requires.permit_inside c.requires.inside c.requires.rest_inside c.loop-key.invariant.outs
+          (below_number c.as_slice-keys.result.now c.loop-key.key-index up c.loop-key-test.true) c.in_ok-outs.ensures.pushed);
     }
 
 pub returns-clause-outs : goal.returns-clause-outs
 returns-clause-outs c =
     let e : take c.loop-key.key-index c.as_slice-keys.result.now ≡ c.in_ok-looked_at.looked_at =
-        take_all c.loop-key.key-index c.as_slice-keys.result.now (omega arith) ∙ c.as_slice-keys.ensures.all in
+    take_all c.loop-key.key-index c.as_slice-keys.result.now (omega arith) ∙ c.as_slice-keys.ensures.all in
     outs_are c.args.store.now c.and.new.self c.loop-key.store c.args.permit c.args.carried.now c.args.rest c.in_ok-kept.kept c.is_same-few.result
-        c.in_ok-looked_at.looked_at c.loop-key.outs c.in_ok-kept.ensures.grows c.requires.permit_inside c.requires.inside c.requires.rest_inside
-            c.in_ok-kept.ensures.and c.is_same-few.ensures.same c.in_ok-looked_at.ensures
+    c.in_ok-looked_at.looked_at c.loop-key.outs c.in_ok-kept.ensures.grows c.requires.permit_inside c.requires.inside c.requires.rest_inside
+    c.in_ok-kept.ensures.and c.is_same-few.ensures.same c.in_ok-looked_at.ensures
     (subst (λ (l : List ℕ). IsSelection c.loop-key.store (carried_by_rest c.args.store.now c.args.rest)
-        (λ k set. value_of c.args.store.now set c.args.permit && has_in c.args.store.now c.args.carried.now set k) l c.loop-key.outs) e
-            c.loop-key.invariant.outs)
+    (λ k set. value_of c.args.store.now set c.args.permit && has_in c.args.store.now c.args.carried.now set k) l c.loop-key.outs) e
+    c.loop-key.invariant.outs)

@@ -27,6 +27,6 @@ push_unless_plain-requires-clause-plain_inside c = grows_inside _ _ _ (grows_tra
 pub returns-clause-pushed : goal.returns-clause-pushed
 returns-clause-pushed c =
     out_pushed c.args.store.now c.var.new.self c.and.new.self c.condition.new.store c.and-2.new.self c.args.outs c.in_ok-more.more c.args.permit
-        c.args.carried.now c.args.rest c.args.community c.in_ok-there.there c.in_ok-plain.plain c.in_ok-here.here c.in_ok-node.node c.in_ok-there.ensures.grows
-            c.in_ok-plain.ensures.grows c.in_ok-here.ensures.grows c.in_ok-node.ensures.grows c.requires.permit_inside c.requires.inside c.requires.rest_inside
-                c.in_ok-there.ensures.var c.in_ok-plain.ensures.and c.in_ok-here.ensures.condition c.in_ok-node.ensures.and c.in_ok-more.ensures
+    c.args.carried.now c.args.rest c.args.community c.in_ok-there.there c.in_ok-plain.plain c.in_ok-here.here c.in_ok-node.node c.in_ok-there.ensures.grows
+    c.in_ok-plain.ensures.grows c.in_ok-here.ensures.grows c.in_ok-node.ensures.grows c.requires.permit_inside c.requires.inside c.requires.rest_inside
+    c.in_ok-there.ensures.var c.in_ok-plain.ensures.and c.in_ok-here.ensures.condition c.in_ok-node.ensures.and c.in_ok-more.ensures

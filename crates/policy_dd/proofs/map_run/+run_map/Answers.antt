@@ -17,9 +17,13 @@ push_entry-requires-clause-inside t c = (c.no_entries-none.ensures c.args.carrie
 pub run_map-requires-in_default : goal.run_map-requires-in_default
 run_map-requires-in_default t c =
     let known = subst (λ (l : List PlainEntry). AllByRecursion (IsEntryWithin c.args.store.now.universe) l) (sym c.split_at.ensures.back)
-        (all_drop (IsEntryWithin c.args.store.now.universe) c.args.entries.now _ c.requires.known) in
-    (search rules, (inside_kept _ _ _ c.in_ok-first-in_default.ensures.grows c.requires.inside,
-        subst (λ (u : List ℕ). AllByRecursion (IsEntryWithin u) c.split_at.result.1.now) (sym c.in_ok-first-in_default.ensures.grows.universe) known))
+    (all_drop (IsEntryWithin c.args.store.now.universe) c.args.entries.now _ c.requires.known) in (
+      search rules,
+      (
+        inside_kept _ _ _ c.in_ok-first-in_default.ensures.grows c.requires.inside,
+        subst (λ (u : List ℕ). AllByRecursion (IsEntryWithin u) c.split_at.result.1.now) (sym c.in_ok-first-in_default.ensures.grows.universe) known,
+      ),
+    )
 
 pub either-requires-clause-first_inside : goal.either-requires-clause-first_inside
 either-requires-clause-first_inside t c = map_inside_kept _ _ _ c.in_ok-last-in_default.ensures.grows c.in_ok-first-in_default.ensures.run.inside
@@ -31,14 +35,14 @@ pub returns-in_ok-m-in-len1-clause-run : goal.returns-in_ok-m-in-len1-clause-run
 returns-in_ok-m-in-len1-clause-run t c =
     rw (one_item c.args.entries.now c.entry-item.result c.in-len1.len_at_least c.in-len1.len_below c.entry-item.is)
     (run_pushed c.args.store.now c.args.store.now c.push_entry.new.store c.args.carried.now [] c.entry-item.result c.no_entries-none.result c.in_ok-m-in-len1.m
-        (grows_refl c.args.store.now) c.requires.inside (c.no_entries-none.ensures c.args.carried.now) c.in_ok-m-in-len1.ensures.pushed)
+    (grows_refl c.args.store.now) c.requires.inside (c.no_entries-none.ensures c.args.carried.now) c.in_ok-m-in-len1.ensures.pushed)
 
 pub returns-in_ok-m-in_default-clause-run : goal.returns-in_ok-m-in_default-clause-run
 returns-in_ok-m-in_default-clause-run t c =
     let e : c.split_at.result.0.now ++ c.split_at.result.1.now ≡ c.args.entries.now =
-        rw (c.split_at.ensures.front, c.split_at.ensures.back) (take-append-drop _ c.args.entries.now) in
+    rw (c.split_at.ensures.front, c.split_at.ensures.back) (take-append-drop _ c.args.entries.now) in
     subst (λ (l : List PlainEntry). IsMapFn c.args.store.now c.either.new.store c.args.carried.now l c.in_ok-m-in_default.m) e
     (run_append c.args.store.now _ _ c.either.new.store c.args.carried.now c.split_at.result.0.now c.split_at.result.1.now c.in_ok-first-in_default.first
-        c.in_ok-last-in_default.last c.in_ok-m-in_default.m c.in_ok-first-in_default.ensures.grows c.in_ok-last-in_default.ensures.grows
-            c.in_ok-m-in_default.ensures.grows c.requires.inside c.in_ok-first-in_default.ensures.run c.in_ok-last-in_default.ensures.run
-                c.in_ok-m-in_default.ensures.either)
+    c.in_ok-last-in_default.last c.in_ok-m-in_default.m c.in_ok-first-in_default.ensures.grows c.in_ok-last-in_default.ensures.grows
+    c.in_ok-m-in_default.ensures.grows c.requires.inside c.in_ok-first-in_default.ensures.run c.in_ok-last-in_default.ensures.run
+    c.in_ok-m-in_default.ensures.either)

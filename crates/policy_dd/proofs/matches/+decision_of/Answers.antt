@@ -11,17 +11,21 @@ use Rattle.policy_dd.proofs.matches.+decision_of.Goals as goal
 pub decision_of-requires-in_default : goal.decision_of-requires-in_default
 decision_of-requires-in_default t c =
     let known = subst (λ (l : List CommunityLine). AllByRecursion (IsLineWithin c.args.store.now.universe) l) (sym c.split_at.ensures.back)
-        (all_drop (IsLineWithin c.args.store.now.universe) c.args.lines.now _ c.requires.known) in
-    (search rules, (inside_kept _ _ _ c.in_ok-first-in_default.ensures.grows c.requires.inside,
-        subst (λ (u : List ℕ). AllByRecursion (IsLineWithin u) c.split_at.result.1.now) (sym c.in_ok-first-in_default.ensures.grows.universe) known))
+    (all_drop (IsLineWithin c.args.store.now.universe) c.args.lines.now _ c.requires.known) in (
+      search rules,
+      (
+        inside_kept _ _ _ c.in_ok-first-in_default.ensures.grows c.requires.inside,
+        subst (λ (u : List ℕ). AllByRecursion (IsLineWithin u) c.split_at.result.1.now) (sym c.in_ok-first-in_default.ensures.grows.universe) known,
+      ),
+    )
 
 pub returns-in_ok-decision-in_default-clause-decision :
     goal.returns-in_ok-decision-in_default-clause-decision
 returns-in_ok-decision-in_default-clause-decision t c =
     let e : c.split_at.result.0.now ++ c.split_at.result.1.now ≡ c.args.lines.now =
-        rw (c.split_at.ensures.front, c.split_at.ensures.back) (take-append-drop _ c.args.lines.now) in
+    rw (c.split_at.ensures.front, c.split_at.ensures.back) (take-append-drop _ c.args.lines.now) in
     subst (λ (l : List CommunityLine). IsDecision c.args.store.now c.first_decides.new.store c.args.carried.now l c.in_ok-decision-in_default.decision) e
     (decision_append c.args.store.now _ _ c.first_decides.new.store c.args.carried.now c.split_at.result.0.now c.split_at.result.1.now
-        c.in_ok-first-in_default.first c.in_ok-last-in_default.last c.in_ok-decision-in_default.decision c.requires.inside
-            c.in_ok-first-in_default.ensures.grows c.in_ok-last-in_default.ensures.grows c.in_ok-first-in_default.ensures.decision
-                c.in_ok-last-in_default.ensures.decision c.in_ok-decision-in_default.ensures.joined)
+    c.in_ok-first-in_default.first c.in_ok-last-in_default.last c.in_ok-decision-in_default.decision c.requires.inside
+    c.in_ok-first-in_default.ensures.grows c.in_ok-last-in_default.ensures.grows c.in_ok-first-in_default.ensures.decision
+    c.in_ok-last-in_default.ensures.decision c.in_ok-decision-in_default.ensures.joined)

@@ -19,7 +19,7 @@ condition-requires-clause-known c =
     let some = c.loop-place-test.true in
     let below = c.loop-place.invariant.below in
     ap (λ (u : List ℕ). has u (get_or c.args.communities.now (c.loop-place.place - 1) 0)) c.loop-place.invariant.grows.universe
-        ∙ within_at c.args.store.now.universe c.args.communities.now (c.loop-place.place - 1) c.requires.known (omega arith)
+    ∙ within_at c.args.store.now.universe c.args.communities.now (c.loop-place.place - 1) c.requires.known (omega arith)
 
 pub and-requires-clause-b_inside : goal.and-requires-clause-b_inside
 and-requires-clause-b_inside c = grows_inside _ _ _ c.in_ok-here.ensures.grows c.loop-place.invariant.all.inside
@@ -33,8 +33,8 @@ loop-place-preserved c =
       grows = grows_trans _ _ _ (grows_trans _ _ _ c.loop-place.invariant.grows c.in_ok-here.ensures.grows) c.in_ok-all.ensures.grows;
       all = rw (drop_before c.args.communities.now c.loop-place.place 0 some below)
           (all_step c.args.store.now c.loop-place.store c.condition.new.store c.and.new.self c.args.carried.now _ _ c.loop-place.all c.in_ok-here.here
-              c.in_ok-all.all c.requires.inside c.loop-place.invariant.grows c.in_ok-here.ensures.grows c.loop-place.invariant.all
-                  c.in_ok-here.ensures.condition c.in_ok-all.ensures.and);
+          c.in_ok-all.all c.requires.inside c.loop-place.invariant.grows c.in_ok-here.ensures.grows c.loop-place.invariant.all
+          c.in_ok-here.ensures.condition c.in_ok-all.ensures.and);
     }
 
 pub returns-clause-all : goal.returns-clause-all

@@ -19,8 +19,8 @@ answer_node-requires-clause-known c =
     let some = c.loop-place-test.true in
     let below = c.loop-place.invariant.below in
     rw (c.as_slice.ensures, c.loop-place.invariant.grows.universe)
-        (all_at (IsListWithin c.args.store.now.universe) c.args.lists.now (c.loop-place.place - 1) c.index-lists-place.result c.requires.known (omega arith)
-            c.index-lists-place.is)
+    (all_at (IsListWithin c.args.store.now.universe) c.args.lists.now (c.loop-place.place - 1) c.index-lists-place.result c.requires.known (omega arith)
+    c.index-lists-place.is)
 
 pub loop-place-preserved : goal.loop-place-preserved
 loop-place-preserved c =
@@ -31,8 +31,8 @@ loop-place-preserved c =
       grows = grows_trans _ _ _ (grows_trans _ _ _ c.loop-place.invariant.grows c.in_ok-here.ensures.grows) c.in_ok-any.ensures.grows;
       any = lists_step c.args.store.now c.loop-place.store c.answer_node.new.store c.or.new.self c.args.carried.now c.args.exact _ _ c.index-lists-place.result
           c.as_slice.result.now c.loop-place.any c.in_ok-here.here c.in_ok-any.any c.as_slice.ensures c.requires.inside
-              (drop_item c.args.lists.now c.loop-place.place c.index-lists-place.result some below c.index-lists-place.is) c.loop-place.invariant.grows
-                  c.in_ok-here.ensures.grows c.loop-place.invariant.any c.in_ok-here.ensures.answer c.in_ok-any.ensures.or;
+          (drop_item c.args.lists.now c.loop-place.place c.index-lists-place.result some below c.index-lists-place.is) c.loop-place.invariant.grows
+          c.in_ok-here.ensures.grows c.loop-place.invariant.any c.in_ok-here.ensures.answer c.in_ok-any.ensures.or;
     }
 
 pub returns-clause-lists : goal.returns-clause-lists

@@ -29,7 +29,7 @@ after-requires-clause-map_inside c = c.in_ok-second.ensures.run.inside
 pub returns-clause-crossed : goal.returns-clause-crossed
 returns-clause-crossed c =
     crossed_is c.args.store.now c.run_map.new.store c.sent.new.store c.run_map-2.new.store c.after.new.store c.constant-always.result c.args.others
-        c.args.out.now c.args.sends c.args.into.now c.in_ok-first.first c.in_ok-second.second c.in_ok-arrived.arrived c.in_ok-end.end
-            c.in_ok-first.ensures.grows c.in_ok-arrived.ensures.grows c.in_ok-second.ensures.grows c.in_ok-end.ensures.grows _ (rw c.new.ensures refl)
-                (rw c.new.ensures (start_inside _ _ _ c.requires.others c.constant-always.ensures.constant)) c.constant-always.ensures.constant
-                    c.in_ok-first.ensures.run c.in_ok-arrived.ensures.sent c.in_ok-second.ensures.run c.in_ok-end.ensures.after
+    c.args.out.now c.args.sends c.args.into.now c.in_ok-first.first c.in_ok-second.second c.in_ok-arrived.arrived c.in_ok-end.end
+    c.in_ok-first.ensures.grows c.in_ok-arrived.ensures.grows c.in_ok-second.ensures.grows c.in_ok-end.ensures.grows _ (rw c.new.ensures refl)
+    (rw c.new.ensures (start_inside _ _ _ c.requires.others c.constant-always.ensures.constant)) c.constant-always.ensures.constant
+    c.in_ok-first.ensures.run c.in_ok-arrived.ensures.sent c.in_ok-second.ensures.run c.in_ok-end.ensures.after

@@ -44,24 +44,24 @@ joined-requires-clause-adds c = c.in_ok-seen.ensures.crossed.first_adds.ascendin
 pub returns-clause-edge : goal.returns-clause-edge
 returns-clause-edge c =
     let fit : AreFit c.args.store.now.universe c.args.out.now.entries =
-        all_fit c.args.store.now.universe c.args.out.now.entries c.requires.out
-            (subst (λ (l : List PlainEntry). AllByRecursion HasAscendingChange l) c.as_slice-outgoing.ensures c.read_changes.ensures) in
+    all_fit c.args.store.now.universe c.args.out.now.entries c.requires.out
+    (subst (λ (l : List PlainEntry). AllByRecursion HasAscendingChange l) c.as_slice-outgoing.ensures c.read_changes.ensures) in
     let fit' : AreFit c.args.store.now.universe c.args.into.now.entries =
-        all_fit c.args.store.now.universe c.args.into.now.entries c.requires.into
-            (subst (λ (l : List PlainEntry). AllByRecursion HasAscendingChange l) c.as_slice-incoming.ensures c.read_changes-2.ensures) in
+    all_fit c.args.store.now.universe c.args.into.now.entries c.requires.into
+    (subst (λ (l : List PlainEntry). AllByRecursion HasAscendingChange l) c.as_slice-incoming.ensures c.read_changes-2.ensures) in
     let seen : IsCrossed c.cross.new.store c.others.new.self.universe (λ set. value_of c.others.new.self set c.in_ok-others.others) c.args.out.now.entries
-        c.args.sends c.args.into.now.entries c.in_ok-seen.seen =
+    c.args.sends c.args.into.now.entries c.in_ok-seen.seen =
     subst (λ (l : List PlainEntry). IsCrossed c.cross.new.store c.others.new.self.universe (λ set. value_of c.others.new.self set c.in_ok-others.others) l
-        c.args.sends c.args.into.now.entries c.in_ok-seen.seen) c.as_slice-outgoing.ensures
+    c.args.sends c.args.into.now.entries c.in_ok-seen.seen) c.as_slice-outgoing.ensures
     (subst (λ (l : List PlainEntry). IsCrossed c.cross.new.store c.others.new.self.universe (λ set. value_of c.others.new.self set c.in_ok-others.others)
-        c.as_slice-outgoing.result.now c.args.sends l c.in_ok-seen.seen) c.as_slice-incoming.ensures c.in_ok-seen.ensures.crossed) in
+    c.as_slice-outgoing.result.now c.args.sends l c.in_ok-seen.seen) c.as_slice-incoming.ensures c.in_ok-seen.ensures.crossed) in
     let beyond : Means c.kept_beyond.new.store c.in_ok-beyond.beyond
-        (λ set. others_kept c.cross.new.store.universe c.args.out.now.entries c.args.sends c.args.into.now.entries (has set) true) =
+    (λ set. others_kept c.cross.new.store.universe c.args.out.now.entries c.args.sends c.args.into.now.entries (has set) true) =
     subst (λ (l : List PlainEntry). Means c.kept_beyond.new.store c.in_ok-beyond.beyond
-        (λ set. others_kept c.cross.new.store.universe l c.args.sends c.args.into.now.entries (has set) true)) c.as_slice-outgoing.ensures
+    (λ set. others_kept c.cross.new.store.universe l c.args.sends c.args.into.now.entries (has set) true)) c.as_slice-outgoing.ensures
     (subst (λ (l : List PlainEntry). Means c.kept_beyond.new.store c.in_ok-beyond.beyond
-        (λ set. others_kept c.cross.new.store.universe c.as_slice-outgoing.result.now c.args.sends l (has set) true)) c.as_slice-incoming.ensures
-            c.in_ok-beyond.ensures.kept) in
+    (λ set. others_kept c.cross.new.store.universe c.as_slice-outgoing.result.now c.args.sends l (has set) true)) c.as_slice-incoming.ensures
+    c.in_ok-beyond.ensures.kept) in
     edge_is c.args.store.now c.others.new.self c.cross.new.store c.kept_beyond.new.store c.joined.new.store c.in_ok-others.others c.in_ok-beyond.beyond
-        c.args.out.now c.args.sends c.args.into.now c.in_ok-seen.seen c.in_ok-edge.edge c.in_ok-others.ensures.grows c.in_ok-seen.ensures.grows
-            c.in_ok-beyond.ensures.grows c.in_ok-edge.ensures.grows fit fit' c.in_ok-others.ensures.others seen beyond c.in_ok-edge.ensures.joined
+    c.args.out.now c.args.sends c.args.into.now c.in_ok-seen.seen c.in_ok-edge.edge c.in_ok-others.ensures.grows c.in_ok-seen.ensures.grows
+    c.in_ok-beyond.ensures.grows c.in_ok-edge.ensures.grows fit fit' c.in_ok-others.ensures.others seen beyond c.in_ok-edge.ensures.joined

@@ -10,7 +10,7 @@ pub loop-entry-preserved : goal.loop-entry-preserved
 loop-entry-preserved c =
     let e : take (c.loop-entry.entry-index + 1) c.args.entries.now ≡ take c.loop-entry.entry-index c.args.entries.now ++ c.entry-item.result ∷ [] =
     take_more c.args.entries.now c.loop-entry.entry-index c.entry-item.result c.loop-entry-test.true
-        ∙ ap (λ (x : PlainEntry). take c.loop-entry.entry-index c.args.entries.now ++ x ∷ []) (sym c.entry-item.is) in
+    ∙ ap (λ (x : PlainEntry). take c.loop-entry.entry-index c.args.entries.now ++ x ∷ []) (sym c.entry-item.is) in
     rw e (all_push HasAscendingChange (take c.loop-entry.entry-index c.args.entries.now) c.entry-item.result c.loop-entry.invariant c.read_change.ensures)
 
 pub returns : goal.returns

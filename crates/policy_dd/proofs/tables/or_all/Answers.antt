@@ -16,12 +16,12 @@ loop-key-init c = record {
 pub loop-key-preserved : goal.loop-key-preserved
 loop-key-preserved c =
     let e : take (c.loop-key.key-index + 1) c.args.keys.now ≡ take c.loop-key.key-index c.args.keys.now ++ get_or c.args.keys.now c.loop-key.key-index 0 ∷ [] =
-        take_more c.args.keys.now c.loop-key.key-index 0 c.loop-key-test.true in
+    take_more c.args.keys.now c.loop-key.key-index 0 c.loop-key-test.true in
     record {
       grows = grows_trans _ _ _ c.loop-key.invariant.grows c.in_ok-all.ensures.grows;
       more = rw e (all_keys c.args.store.now c.loop-key.store c.or_into.new.store c.args.cases c.loop-key.all c.in_ok-all.all
           (take c.loop-key.key-index c.args.keys.now) (get_or c.args.keys.now c.loop-key.key-index 0) c.args.node c.loop-key.invariant.grows
-              c.requires.node_inside c.loop-key.invariant.more c.in_ok-all.ensures.more);
+          c.requires.node_inside c.loop-key.invariant.more c.in_ok-all.ensures.more);
     }
 
 pub or_into-requires-clause-node_inside : goal.or_into-requires-clause-node_inside
@@ -31,4 +31,4 @@ pub returns-clause-more : goal.returns-clause-more
 returns-clause-more c =
     let e : take c.loop-key.key-index c.args.keys.now ≡ c.args.keys.now = take_all c.loop-key.key-index c.args.keys.now (omega arith) in
     subst (λ (l : List ℕ). IsTableGrown c.args.store.now c.loop-key.store c.args.cases c.loop-key.all l
-        (λ k set. has l k && value_of c.args.store.now set c.args.node)) e c.loop-key.invariant.more
+    (λ k set. has l k && value_of c.args.store.now set c.args.node)) e c.loop-key.invariant.more

@@ -12,7 +12,7 @@ pub returns-in_ok-more-in-Some-clause-more : goal.returns-in_ok-more-in-Some-cla
 returns-in_ok-more-in-Some-clause-more c =
     let at : node_at c.args.cases c.args.key ≡ Some c.in-Some.old = rw (← c.as_slice.ensures) (sym c.in-Some.ensures) in
     rw c.in_ok-more-in-Some.ensures (more_joined c.args.store.now c.or.new.self c.args.cases c.args.key c.in-Some.old c.args.node c.in_ok-both-in-Some.both
-        c.in_ok-both-in-Some.ensures.grows c.requires.inside at c.in_ok-both-in-Some.ensures.or)
+    c.in_ok-both-in-Some.ensures.grows c.requires.inside at c.in_ok-both-in-Some.ensures.or)
 
 pub returns-in_ok-more-in-None-clause-more : goal.returns-in_ok-more-in-None-clause-more
 returns-in_ok-more-in-None-clause-more c =

@@ -21,7 +21,7 @@ last_first false false n = refl
 
 step : (set old : List ℕ) (cases : List (ℕ × ℕ)) (i key : ℕ) (case : ℕ × ℕ) → take (i + 1) cases ≡ take i cases ++ case ∷ [] → key ≡ case.0
     → ((k : ℕ) → has old k ≡ has set k || has (keys_of (take i cases)) k) → (k : ℕ)
-        → has (with_number key old) k ≡ has set k || has (keys_of (take (i + 1) cases)) k
+    → has (with_number key old) k ≡ has set k || has (keys_of (take (i + 1) cases)) k
 step set old cases i key case e is before k =
     has-with_number key old k ∙ ap (λ b. nat_eq key k || b) (before k)
     ∙ last_first (has set k) (has (keys_of (take i cases)) k) (nat_eq key k)
@@ -38,8 +38,8 @@ loop-case-preserved c =
     let item = at_item c.args.cases.now c.loop-case.case-index c.case-item.result c.loop-case-test.true c.case-item.is in
     let key : c.key_in.result ≡ (get_or c.args.cases.now c.loop-case.case-index (0, 0)).0 = c.key_in.ensures ∙ ap (λ (p : ℕ × ℕ). p.0) item in
     rw c.in_ok-add.ensures.ok (step c.args.set c.loop-case.set c.args.cases.now c.loop-case.case-index c.key_in.result
-        (get_or c.args.cases.now c.loop-case.case-index (0, 0)) (take_more c.args.cases.now c.loop-case.case-index (0, 0) c.loop-case-test.true) key
-            c.loop-case.invariant)
+    (get_or c.args.cases.now c.loop-case.case-index (0, 0)) (take_more c.args.cases.now c.loop-case.case-index (0, 0) c.loop-case-test.true) key
+    c.loop-case.invariant)
 
 pub returns : goal.returns
 returns c =

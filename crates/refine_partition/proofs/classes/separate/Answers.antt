@@ -13,7 +13,7 @@ loop-mover-preserved c =
     let inside : mover.importer < length c.args.classes.now.items = c.requires.in_range c.loop-mover.mover-index none c.loop-mover-test.true in
     let inside' : mover.importer < length c.loop-mover.classes.items = omega arith in
     let class : get_or c.loop-mover.classes.items mover.importer 0 ≡ c.index-class.result.now =
-        sym (c.index-class.ensures ∙ get_or_default c.loop-mover.classes.items mover.importer _ 0 inside') in
+    sym (c.index-class.ensures ∙ get_or_default c.loop-mover.classes.items mover.importer _ 0 inside') in
     elim c.if-class-fresh.branch [
       | then-class-fresh+in_ok-name w ↦
           let named = w.in_ok-name.ensures in
@@ -24,7 +24,7 @@ loop-mover-preserved c =
           ] in
           rw (take_more c.args.movers.now c.loop-mover.mover-index none c.loop-mover-test.true, w.classes-is, w.names-is, w.next-is)
           (separating_more _ _ _ mover _ _ _ _ _ _ _ c.loop-mover.invariant inside' class w.if-class-fresh.true w.in_ok-name.ensures.named
-              w.in_ok-name.ensures.others w.in_ok-name.ensures.was (omega arith) (omega arith) (omega arith))
+          w.in_ok-name.ensures.others w.in_ok-name.ensures.was (omega arith) (omega arith) (omega arith))
       | else-class-fresh w ↦
           rw (take_more c.args.movers.now c.loop-mover.mover-index none c.loop-mover-test.true, w.classes-is, w.names-is, w.next-is)
           (separating_again _ _ _ mover _ _ _ c.loop-mover.invariant (let high = w.if-class-fresh.false in omega arith))

@@ -13,7 +13,7 @@ loop-edge-preserved c =
     let inside : c.loop-edge.edge-index < length c.args.graph.now.edges = subst (λ xs. c.loop-edge.edge-index < length xs) same c.loop-edge-test.true in
     let is : e ≡ get_or c.args.graph.now.edges c.loop-edge.edge-index none = ap (λ xs. get_or xs c.loop-edge.edge-index none) same in
     let known : e.exporter < c.args.graph.now.count = subst (λ (x : Edge). x.exporter < c.args.graph.now.count) (sym is)
-        (c.args.graph.now.exporters_in_range c.loop-edge.edge-index none inside) in
+    (c.args.graph.now.exporters_in_range c.loop-edge.edge-index none inside) in
     record {
       total = length-set _ _ _ ∙ total;
       index = index_more c.args.graph.now.edges c.loop-edge.imports.items c.loop-edge.edge-index e none _ _ c.loop-edge.invariant.index inside is (omega arith)

@@ -27,7 +27,7 @@ piece_of-requires c =
     let kept = c.in_ok-names.ensures.total in
     let fits = c.requires.fits in
     let used = moving_used _ _ _ _ _ _ _ _ before.moving (rw kept c.requires.used)
-        (All-take (λ a. Contains c.args.touched.now (slice_index c.args.numbers.now.items a.importer)) c.loop-arrival.arrival-index _ c.requires.touched.all) in
+    (All-take (λ a. Contains c.args.touched.now (slice_index c.args.numbers.now.items a.importer)) c.loop-arrival.arrival-index _ c.requires.touched.all) in
     let few = used_few _ _ used in
     let total = before.total in
     let size = before.moving.total in
@@ -53,7 +53,7 @@ loop-arrival-preserved c =
     let size = before.moving.total in
     let inside' : arrival.importer < length c.loop-arrival.numbers.items = omega arith in
     let origin : slice_index c.loop-arrival.numbers.items arrival.importer ≡ c.index-origin.result.now =
-        sym (c.index-origin.ensures ∙ get_or_default c.loop-arrival.numbers.items arrival.importer _ 0 inside') in
+    sym (c.index-origin.ensures ∙ get_or_default c.loop-arrival.numbers.items arrival.importer _ 0 inside') in
     record {
       total = moved.total ∙ piece_size _ _ _ _ _ _ _ _ _ _ before.total piece;
       listed = moved.listed;

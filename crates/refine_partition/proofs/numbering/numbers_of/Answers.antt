@@ -8,7 +8,7 @@ pub loop-key-preserved : goal.loop-key-preserved
 loop-key-preserved c =
     let total = c.loop-key.invariant.total in
     let at : slice_index c.args.keys.now c.loop-key.key-index ≡ slice_index c.args.keys.now (length c.loop-key.numbers.items) =
-        ap (slice_index c.args.keys.now) (sym total) in
+    ap (slice_index c.args.keys.now) (sym total) in
     let named = rw at at c.in_ok-number.ensures in
     let more = length_push c.loop-key.numbers.items c.in_ok-number.number in
     record {

@@ -62,7 +62,7 @@ pub returns-clause-coarsest : goal.returns-clause-coarsest
 returns-clause-coarsest g c =
     let none : c.loop-block.queue.items ≡ [] = search rules in
     refining_end _ _ _ (subst (IsRefining c.args.graph.now c.loop-block.blocks.numbers.items (length c.loop-block.blocks.lists.items)) none
-        c.loop-block.invariant.refining)
+    c.loop-block.invariant.refining)
 
 pub returns-clause-splits : goal.returns-clause-splits
 returns-clause-splits g c = let (splits, turns, so_far) = c.loop-block.invariant.splits in (splits, length c.loop-block.blocks.lists.items, turns, so_far)

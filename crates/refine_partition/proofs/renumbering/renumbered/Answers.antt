@@ -9,14 +9,14 @@ pub overflow_cast-before : goal.overflow_cast-before
 overflow_cast-before c =
     let given = c.requires.given in
     let few = few_numbers _ _ (take 0 c.args.queue.now) _ _ c.args.numbers.now [] (λ class. None) given (λ k d inside. absurd (omega arith))
-        (renumbered_none c.args.numbers.now c.args.classes.now c.args.queue.now _ (λ class. None) (λ class. refl) given.below) in
+    (renumbered_none c.args.numbers.now c.args.classes.now c.args.queue.now _ (λ class. None) (λ class. refl) given.below) in
     let fits = c.requires.fits in
     omega arith
 
 pub next_number-requires-clause-fits : goal.next_number-requires-clause-fits
 next_number-requires-clause-fits c =
     let few = few_numbers _ _ _ _ _ _ _ _ c.requires.given (All-take (λ u. u < length c.args.numbers.now) c.loop-router.router-index c.args.queue.now
-        c.requires.queue.below) c.loop-router.invariant.so_far in
+    c.requires.queue.below) c.loop-router.invariant.so_far in
     let fits = c.requires.fits in
     omega arith
 

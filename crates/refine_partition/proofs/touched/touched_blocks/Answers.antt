@@ -22,4 +22,4 @@ returns-clause-touched c =
     let whole = rw (take_all c.loop-arrival.arrival-index c.args.arrivals.now c.loop-arrival-test.false) at c.loop-arrival.invariant in
     let sorted = c.in_ok-sort.ensures.permutation in
     rw (dedup_is nat_eq _ _ c.dedup.ensures.filtered) (touched_kept _ _ _ _ whole (λ P all. All-dedup _ P _ (All-permutation P _ _ sorted all))
-        (λ x there. Contains-dedup_nat _ x (Contains-permutation _ _ x sorted there)))
+    (λ x there. Contains-dedup_nat _ x (Contains-permutation _ _ x sorted there)))

@@ -18,4 +18,4 @@ returns-clause-members c =
     let moved = c.sort_unstable.ensures.permutation in
     λ n. ap (λ (xs : List ℕ). has xs n) c.from_ascending.ensures
     ∙ same_members _ _ (λ x h. Contains-permutation _ _ x (IsPermutation-sym _ _ moved) (Contains-from_dedup _ _ x (rw is at h)))
-        (λ x h. rw is (Contains-dedup_nat _ x (Contains-permutation _ _ x moved h))) n
+    (λ x h. rw is (Contains-dedup_nat _ x (Contains-permutation _ _ x moved h))) n

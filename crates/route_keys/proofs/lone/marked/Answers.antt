@@ -28,5 +28,5 @@ loop-place-preserved c =
           c.in_ok-set.ensures n ∙ ap (λ (b : Bool). (mark && nat_eq number n) || b) (c.loop-place.invariant.members n)
           ∙ ap (λ (k : ℕ). (mark && nat_eq number n) || has_marked_number (drop k marks) (drop k numbers) n) (sym next)
           ∙ sym (marked_first n marks numbers place number mark here c.requires (get_or_default marks place false mark here)
-              (get_or_default numbers place 0 number there));
+          (get_or_default numbers place 0 number there));
     }

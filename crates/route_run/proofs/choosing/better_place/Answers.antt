@@ -13,9 +13,9 @@ returns-then-branch c =
     let x = c.index-candidates-place.result in
     let y = c.index-candidates-best.result in
     let over : is_better test x y ≡ true = ap (λ (z : Candidate). is_better test z y) c.index-candidates-place.is
-        ∙ ap (λ (z : Candidate). is_better test (get_or all c.args.place x) z) c.index-candidates-best.is ∙ sym c.in_ok-beats.ensures ∙ c.if-branch.true in
+    ∙ ap (λ (z : Candidate). is_better test (get_or all c.args.place x) z) c.index-candidates-best.is ∙ sym c.in_ok-beats.ensures ∙ c.if-branch.true in
     IsFirstBest-takes (candidates_rank test) all c.args.place c.args.best x y c.requires.best c.requires.place c.index-candidates-place.is
-        c.index-candidates-best.is over
+    c.index-candidates-best.is over
 
 pub returns-else-branch : goal.returns-else-branch
 returns-else-branch c =
@@ -24,6 +24,6 @@ returns-else-branch c =
     let x = c.index-candidates-place.result in
     let y = c.index-candidates-best.result in
     let below : is_better test x y ≡ false = ap (λ (z : Candidate). is_better test z y) c.index-candidates-place.is
-        ∙ ap (λ (z : Candidate). is_better test (get_or all c.args.place x) z) c.index-candidates-best.is ∙ sym c.in_ok-beats.ensures ∙ c.if-branch.false in
+    ∙ ap (λ (z : Candidate). is_better test (get_or all c.args.place x) z) c.index-candidates-best.is ∙ sym c.in_ok-beats.ensures ∙ c.if-branch.false in
     IsFirstBest-keeps (candidates_rank test) all c.args.place c.args.best x y c.requires.best c.requires.place c.index-candidates-place.is
-        c.index-candidates-best.is below
+    c.index-candidates-best.is below

@@ -11,15 +11,16 @@ pub returns-in-Some-label : goal.returns-in-Some-label
 returns-in-Some-label c =
     let all = c.as_slice.result.now in
     let none : length all ≡ 0 = subst (λ (o : Option ℕ). MatchOption o (length all ≡ 0) (IsBestUpto (contains nat_eq c.args.lone.now) all (length all)))
-        c.in-None.is c.in_ok-first_best.ensures in
-    (chosen_none (contains nat_eq c.args.lone.now) c.args.candidates c.args.label.now (sym (ap length c.as_slice.ensures) ∙ none),
-        (λ e. let some = c.in-Some-label.is in absurd cc))
+    c.in-None.is c.in_ok-first_best.ensures in (
+      chosen_none (contains nat_eq c.args.lone.now) c.args.candidates c.args.label.now (sym (ap length c.as_slice.ensures) ∙ none),
+      (λ e. let some = c.in-Some-label.is in absurd cc),
+    )
 
 pub returns-in-None : goal.returns-in-None
 returns-in-None c =
     let all = c.as_slice.result.now in
     let none : length all ≡ 0 = subst (λ (o : Option ℕ). MatchOption o (length all ≡ 0) (IsBestUpto (contains nat_eq c.args.lone.now) all (length all)))
-        c.in-None.is c.in_ok-first_best.ensures in
+    c.in-None.is c.in_ok-first_best.ensures in
     chosen_none (contains nat_eq c.args.lone.now) c.args.candidates c.args.label.now (sym (ap length c.as_slice.ensures) ∙ none) ∙ sym c.in-None-label.is
 
 pub returns-then-branch : goal.returns-then-branch
@@ -34,12 +35,12 @@ returns c =
     let all = c.args.candidates in
     let first = c.as_slice.result.now in
     let found : IsBestUpto test first (length first) c.in-Some.best =
-        subst (λ (o : Option ℕ). MatchOption o (length first ≡ 0) (IsBestUpto test first (length first))) c.in-Some.is c.in_ok-first_best.ensures in
+    subst (λ (o : Option ℕ). MatchOption o (length first ≡ 0) (IsBestUpto test first (length first))) c.in-Some.is c.in_ok-first_best.ensures in
     let best : IsBestUpto test all (length all) c.in-Some.best =
-        subst (λ (l : List Candidate). IsBestUpto test l (length l) c.in-Some.best) c.as_slice.ensures found in
+    subst (λ (l : List Candidate). IsBestUpto test l (length l) c.in-Some.best) c.as_slice.ensures found in
     let other = sym c.in_ok-is_kept-in-Some.ensures ∙ c.if-branch.false in
     let kept : is_still_best test c.args.candidates c.args.label.now ≡ false = (let same = c.as_slice-in-Some.ensures in cc) in
     let candidate = c.swap_remove-candidate.result in
     let is : candidate ≡ get_or all c.in-Some.best candidate = c.swap_remove-candidate.ensures.value
-        ∙ ap (λ (l : List Candidate). get_or l c.in-Some.best candidate) c.into_vec-candidates.ensures in
+    ∙ ap (λ (l : List Candidate). get_or l c.in-Some.best candidate) c.into_vec-candidates.ensures in
     best_taken test all c.in-Some.best best c.args.label.now candidate kept is

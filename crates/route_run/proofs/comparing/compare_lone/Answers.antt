@@ -11,5 +11,5 @@ returns-then-is_empty c = elim c.then-is_empty.branch [
   | then-is_empty-via-then-is_empty w ↦ none_tie c.args.lone.now (c.is_empty.ensures.0 w.if-is_empty.true) (path_of c.args.route.now) (path_of c.args.other.now)
   | then-is_empty-via-else-is_empty+then-eq w ↦ equal_tie (contains nat_eq c.args.lone.now) (path_of c.args.route.now) (path_of c.args.other.now)
       (sym w.path_of.ensures ∙ (bytes_eq-Decides w.path_of.result.now w.path_of-else-is_empty.result.now).0 (sym w.eq.ensures ∙ w.if-eq.true)
-          ∙ w.path_of-else-is_empty.ensures)
+      ∙ w.path_of-else-is_empty.ensures)
 ]

@@ -16,13 +16,13 @@ returns c =
     let read = c.as_slice-2.result.now in
     let order =
     order_is labels P (length labels) c.in_ok-ranks.ranks.items c.sort_by_size.new.ranks.items (ap length c.as_slice.ensures.all ∙ c.requires.fitting.total)
-        c.in_ok-ranks.ensures.short c.in_ok-ranks.ensures.ranks c.in_ok-sort_by_size.ensures in
+    c.in_ok-ranks.ensures.short c.in_ok-ranks.ensures.ranks c.in_ok-sort_by_size.ensures in
     record {
       order = if_ok c.activations_of.result (λ schedule is. order_by P labels c.args.labels.now c.sort_by_size.new.ranks.items read schedule
           c.as_slice.ensures.all c.as_slice-2.ensures.value is order) c.activations_of.ensures;
       single = if_ok c.activations_of.result (λ schedule is. all_single read schedule is) c.activations_of.ensures;
       reached = if_ok c.activations_of.result (λ schedule is.
           order_reaches P c.count-known.ensures.rules c.args.labels.now c.requires (run_of (count P) schedule)
-              (order_by P labels c.args.labels.now c.sort_by_size.new.ranks.items read schedule c.as_slice.ensures.all c.as_slice-2.ensures.value is order))
-                  c.activations_of.ensures;
+          (order_by P labels c.args.labels.now c.sort_by_size.new.ranks.items read schedule c.as_slice.ensures.all c.as_slice-2.ensures.value is order))
+          c.activations_of.ensures;
     }

@@ -24,7 +24,7 @@ returns-in-Err-clause-exact c =
       short = omega arith;
     } in
     let whole = sym (ap (λ (ws : List LineWord). preceded c.loop-from.schedule (schedule_of_words names ws))
-        (line_left bs n c.loop-from.from end c.without_return-upto.result cut)) ∙ c.loop-from.invariant.answer in
+    (line_left bs n c.loop-from.from end c.without_return-upto.result cut)) ∙ c.loop-from.invariant.answer in
     subst (λ (ns : List (List ℕ)). ReadsSchedule (Err c.in-Err.refusal) (schedule_of_text ns bs)) c.as_slice-names.ensures
     (refused_whole names c.loop-from.schedule n _ (words_left bs (n + 1) (end + 1)) c.in-Err.refusal (schedule_of_text names bs) whole c.in-Err.ensures.refused)
 
@@ -43,7 +43,7 @@ loop-from-preserved c =
       short = omega arith;
     } in
     let whole = sym (ap (λ (ws : List LineWord). preceded c.loop-from.schedule (schedule_of_words names ws))
-        (line_left bs n c.loop-from.from end c.without_return-upto.result cut)) ∙ c.loop-from.invariant.answer in
+    (line_left bs n c.loop-from.from end c.without_return-upto.result cut)) ∙ c.loop-from.invariant.answer in
     record {
       few = omega arith;
       inside = omega arith;
@@ -59,10 +59,10 @@ returns-clause-exact c =
     let none = none_left bs (c.loop-from.line + 1) c.loop-from.from c.loop-from-test.false in
     subst (λ (ns : List (List ℕ)). schedule_of_text ns bs ≡ Ok c.loop-from.schedule) c.as_slice-names.ensures
     (sym c.loop-from.invariant.answer ∙ ap (λ (ws : List LineWord). preceded c.loop-from.schedule (schedule_of_words names ws)) none
-        ∙ no_words names c.loop-from.schedule)
+    ∙ no_words names c.loop-from.schedule)
 
 pub returns-clause-within : goal.returns-clause-within
 returns-clause-within c =
     let names = c.args.names.now in
     all_from (λ u. u < length names) (run_of (length names) c.loop-from.schedule)
-        (λ u i. words_within names _ c.loop-from.schedule (returns-clause-exact c) u i)
+    (λ u i. words_within names _ c.loop-from.schedule (returns-clause-exact c) u i)

@@ -19,9 +19,9 @@ run_next-requires-clause-inside c =
     let a : Activation = get_or items i (One 0) in
     let less : i < length schedule = omega (arith, c.loop-activation-test.true, ap length c.as_slice-activation-items.ensures) in
     let is : a ≡ get_or schedule i a = get_or_default items i (One 0) a c.loop-activation-test.true
-        ∙ ap (λ (xs : List Activation). get_or xs i a) c.as_slice-activation-items.ensures in
+    ∙ ap (λ (xs : List Activation). get_or xs i a) c.as_slice-activation-items.ensures in
     subst (λ (P : Problem). All (λ u. u < count P) (routers_of (count P) a)) (sym c.in_ok-runner.ensures)
-        (routers_inside (count c.args.srp.now) schedule i a less is c.requires)
+    (routers_inside (count c.args.srp.now) schedule i a less is c.requires)
 
 pub returns-clause-rounds : goal.returns-clause-rounds
 returns-clause-rounds c =
@@ -30,7 +30,7 @@ returns-clause-rounds c =
     let i = c.loop-activation.activation-index in
     let all : take i schedule ≡ schedule = take_all i schedule (omega (arith, c.loop-activation-test.false, ap length c.as_slice-activation-items.ensures)) in
     rounds_enough_by P c.count-known.ensures.rules (run_of (count P) schedule) c.requires c.loop-activation.labels
-        (c.loop-activation.invariant.run ∙ ap (λ (xs : List Activation). labels_after P (no_labels P) (run_of (count P) xs)) all)
+    (c.loop-activation.invariant.run ∙ ap (λ (xs : List Activation). labels_after P (no_labels P) (run_of (count P) xs)) all)
 
 pub returns-clause-ospf_rounds : goal.returns-clause-ospf_rounds
 returns-clause-ospf_rounds c =
@@ -39,7 +39,7 @@ returns-clause-ospf_rounds c =
     let i = c.loop-activation.activation-index in
     let all : take i schedule ≡ schedule = take_all i schedule (omega (arith, c.loop-activation-test.false, ap length c.as_slice-activation-items.ensures)) in
     ospf_enough_by P c.count-known.ensures.rules (run_of (count P) schedule) c.requires c.loop-activation.labels
-        (c.loop-activation.invariant.run ∙ ap (λ (xs : List Activation). labels_after P (no_labels P) (run_of (count P) xs)) all)
+    (c.loop-activation.invariant.run ∙ ap (λ (xs : List Activation). labels_after P (no_labels P) (run_of (count P) xs)) all)
 
 pub loop-activation-preserved : goal.loop-activation-preserved
 loop-activation-preserved c =
@@ -49,11 +49,11 @@ loop-activation-preserved c =
     let a : Activation = get_or items i (One 0) in
     let less : i < length schedule = omega (arith, c.loop-activation-test.true, ap length c.as_slice-activation-items.ensures) in
     let is : a ≡ get_or schedule i a = get_or_default items i (One 0) a c.loop-activation-test.true
-        ∙ ap (λ (xs : List Activation). get_or xs i a) c.as_slice-activation-items.ensures in
+    ∙ ap (λ (xs : List Activation). get_or xs i a) c.as_slice-activation-items.ensures in
     record {
       run = schedule_next c.args.srp.now (no_labels c.args.srp.now) c.loop-activation.labels c.run_next.new.labels schedule i a less is
           c.loop-activation.invariant.run
           (subst (λ (P : Problem). c.run_next.new.labels ≡ labels_after P c.loop-activation.labels (routers_of (count P) a)) c.in_ok-runner.ensures
-              c.in_ok-run_next.ensures.ok);
+          c.in_ok-run_next.ensures.ok);
       fits = subst (λ (P : Problem). AreLabels P c.run_next.new.labels) c.in_ok-runner.ensures c.in_ok-run_next.ensures.labels;
     }

@@ -36,8 +36,8 @@ loop-router-preserved c =
       other = c.end_of-end.ensures.other;
     } in
     let here : HoldsBest P c.args.labels.now c.loop-router.router =
-        subst (λ (why : Option ℕ). MatchOption why (HoldsBest P c.args.labels.now c.loop-router.router) (BreaksBy P c.args.labels.now c.loop-router.router))
-            c.in-None.is c.in_ok-why.ensures in
+    subst (λ (why : Option ℕ). MatchOption why (HoldsBest P c.args.labels.now c.loop-router.router) (BreaksBy P c.args.labels.now c.loop-router.router))
+    c.in-None.is c.in_ok-why.ensures in
     record {
       inside = c.end_of-end.ensures.bounds.1;
       passed = passed_more edges c.loop-router.router c.loop-router.first c.end_of-end.result stand;

@@ -15,13 +15,13 @@ returns-then-is_wrong_origin c =
     let L = c.args.labels.now in
     let u = c.args.router in
     let held : label L u ≡ c.index-as_slice-router.result = read_at L c.as_slice.result.now u c.index-as_slice-router.result c.as_slice.ensures.all
-        (omega (arith, c.requires.router, c.requires.labels.total)) c.index-as_slice-router.is in
+    (omega (arith, c.requires.router, c.requires.labels.total)) c.index-as_slice-router.is in
     let starts : initial P u ≡ c.index-init-router.result = read_at P.init c.init.result.now u c.index-init-router.result c.init.ensures
-        (omega (arith, c.requires.router, c.count-known.ensures.rules.tables.init)) c.index-init-router.is in
+    (omega (arith, c.requires.router, c.count-known.ensures.rules.tables.init)) c.index-init-router.is in
     let judged : is_wrong_origin P.protocol (initial P u) (label L u) ≡ true =
-        ap (λ (q : Protocol). is_wrong_origin q (initial P u) (label L u)) (sym c.protocol.ensures)
-            ∙ ap (λ (s : Option Route). is_wrong_origin c.protocol.result s (label L u)) starts
-                ∙ ap (is_wrong_origin c.protocol.result c.index-init-router.result) held ∙ sym c.is_wrong_origin.ensures ∙ c.if-is_wrong_origin.true in
+    ap (λ (q : Protocol). is_wrong_origin q (initial P u) (label L u)) (sym c.protocol.ensures)
+    ∙ ap (λ (s : Option Route). is_wrong_origin c.protocol.result s (label L u)) starts
+    ∙ ap (is_wrong_origin c.protocol.result c.index-init-router.result) held ∙ sym c.is_wrong_origin.ensures ∙ c.if-is_wrong_origin.true in
     wrong_origin (wrong_start P L u judged)
 
 pub has_candidate-requires-clause-edges : goal.has_candidate-requires-clause-edges
@@ -36,7 +36,7 @@ weigh-requires-clause-label c =
     let L = c.args.labels.now in
     let u = c.args.router in
     let held : label L u ≡ c.index-as_slice-router.result = read_at L c.as_slice.result.now u c.index-as_slice-router.result c.as_slice.ensures.all
-        (omega (arith, c.requires.router, c.requires.labels.total)) c.index-as_slice-router.is in
+    (omega (arith, c.requires.router, c.requires.labels.total)) c.index-as_slice-router.is in
     held ∙ c.in-Some.is
 
 pub returns-then-branch : goal.returns-then-branch
@@ -45,13 +45,13 @@ returns-then-branch c =
     let L = c.args.labels.now in
     let u = c.args.router in
     let held : label L u ≡ c.index-as_slice-router.result = read_at L c.as_slice.result.now u c.index-as_slice-router.result c.as_slice.ensures.all
-        (omega (arith, c.requires.router, c.requires.labels.total)) c.index-as_slice-router.is in
+    (omega (arith, c.requires.router, c.requires.labels.total)) c.index-as_slice-router.is in
     let starts : initial P u ≡ c.index-init-router.result = read_at P.init c.init.result.now u c.index-init-router.result c.init.ensures
-        (omega (arith, c.requires.router, c.count-known.ensures.rules.tables.init)) c.index-init-router.is in
+    (omega (arith, c.requires.router, c.count-known.ensures.rules.tables.init)) c.index-init-router.is in
     let judged : is_wrong_origin P.protocol (initial P u) (label L u) ≡ false =
-        ap (λ (q : Protocol). is_wrong_origin q (initial P u) (label L u)) (sym c.protocol.ensures)
-            ∙ ap (λ (s : Option Route). is_wrong_origin c.protocol.result s (label L u)) starts
-                ∙ ap (is_wrong_origin c.protocol.result c.index-init-router.result) held ∙ sym c.is_wrong_origin.ensures ∙ c.if-is_wrong_origin.false in
+    ap (λ (q : Protocol). is_wrong_origin q (initial P u) (label L u)) (sym c.protocol.ensures)
+    ∙ ap (λ (s : Option Route). is_wrong_origin c.protocol.result s (label L u)) starts
+    ∙ ap (is_wrong_origin c.protocol.result c.index-init-router.result) held ∙ sym c.is_wrong_origin.ensures ∙ c.if-is_wrong_origin.false in
     let own = c.args.edges.now in
     let are = c.requires.own in
     none_with_candidate (right_start P L u judged) (has_one P L u own are (held ∙ c.in-None.is) (sym c.in_ok-has_candidate-in-None.ensures ∙ c.if-branch.true))
@@ -62,7 +62,7 @@ returns-else-branch c =
     let L = c.args.labels.now in
     let u = c.args.router in
     let held : label L u ≡ c.index-as_slice-router.result = read_at L c.as_slice.result.now u c.index-as_slice-router.result c.as_slice.ensures.all
-        (omega (arith, c.requires.router, c.requires.labels.total)) c.index-as_slice-router.is in
+    (omega (arith, c.requires.router, c.requires.labels.total)) c.index-as_slice-router.is in
     let own = c.args.edges.now in
     let are = c.requires.own in
     fine_without P L u own are (held ∙ c.in-None.is) (sym c.in_ok-has_candidate-in-None.ensures ∙ c.if-branch.false)
@@ -73,17 +73,17 @@ returns-then-not-weight c =
     let L = c.args.labels.now in
     let u = c.args.router in
     let held : label L u ≡ c.index-as_slice-router.result = read_at L c.as_slice.result.now u c.index-as_slice-router.result c.as_slice.ensures.all
-        (omega (arith, c.requires.router, c.requires.labels.total)) c.index-as_slice-router.is in
+    (omega (arith, c.requires.router, c.requires.labels.total)) c.index-as_slice-router.is in
     let starts : initial P u ≡ c.index-init-router.result = read_at P.init c.init.result.now u c.index-init-router.result c.init.ensures
-        (omega (arith, c.requires.router, c.count-known.ensures.rules.tables.init)) c.index-init-router.is in
+    (omega (arith, c.requires.router, c.count-known.ensures.rules.tables.init)) c.index-init-router.is in
     let judged : is_wrong_origin P.protocol (initial P u) (label L u) ≡ false =
-        ap (λ (q : Protocol). is_wrong_origin q (initial P u) (label L u)) (sym c.protocol.ensures)
-            ∙ ap (λ (s : Option Route). is_wrong_origin c.protocol.result s (label L u)) starts
-                ∙ ap (is_wrong_origin c.protocol.result c.index-init-router.result) held ∙ sym c.is_wrong_origin.ensures ∙ c.if-is_wrong_origin.false in
+    ap (λ (q : Protocol). is_wrong_origin q (initial P u) (label L u)) (sym c.protocol.ensures)
+    ∙ ap (λ (s : Option Route). is_wrong_origin c.protocol.result s (label L u)) starts
+    ∙ ap (is_wrong_origin c.protocol.result c.index-init-router.result) held ∙ sym c.is_wrong_origin.ensures ∙ c.if-is_wrong_origin.false in
     let own = c.args.edges.now in
     let are = c.requires.own in
     not_a_candidate (right_start P L u judged) (not_held P L u own are c.in-Some.route (held ∙ c.in-Some.is)
-        (sym c.in_ok-weight-in-Some.ensures.held ∙ not_true c.in_ok-weight-in-Some.weight.held c.if-not-weight.true))
+    (sym c.in_ok-weight-in-Some.ensures.held ∙ not_true c.in_ok-weight-in-Some.weight.held c.if-not-weight.true))
 
 pub returns-then-weight : goal.returns-then-weight
 returns-then-weight c =
@@ -91,18 +91,18 @@ returns-then-weight c =
     let L = c.args.labels.now in
     let u = c.args.router in
     let held : label L u ≡ c.index-as_slice-router.result = read_at L c.as_slice.result.now u c.index-as_slice-router.result c.as_slice.ensures.all
-        (omega (arith, c.requires.router, c.requires.labels.total)) c.index-as_slice-router.is in
+    (omega (arith, c.requires.router, c.requires.labels.total)) c.index-as_slice-router.is in
     let starts : initial P u ≡ c.index-init-router.result = read_at P.init c.init.result.now u c.index-init-router.result c.init.ensures
-        (omega (arith, c.requires.router, c.count-known.ensures.rules.tables.init)) c.index-init-router.is in
+    (omega (arith, c.requires.router, c.count-known.ensures.rules.tables.init)) c.index-init-router.is in
     let judged : is_wrong_origin P.protocol (initial P u) (label L u) ≡ false =
-        ap (λ (q : Protocol). is_wrong_origin q (initial P u) (label L u)) (sym c.protocol.ensures)
-            ∙ ap (λ (s : Option Route). is_wrong_origin c.protocol.result s (label L u)) starts
-                ∙ ap (is_wrong_origin c.protocol.result c.index-init-router.result) held ∙ sym c.is_wrong_origin.ensures ∙ c.if-is_wrong_origin.false in
+    ap (λ (q : Protocol). is_wrong_origin q (initial P u) (label L u)) (sym c.protocol.ensures)
+    ∙ ap (λ (s : Option Route). is_wrong_origin c.protocol.result s (label L u)) starts
+    ∙ ap (is_wrong_origin c.protocol.result c.index-init-router.result) held ∙ sym c.is_wrong_origin.ensures ∙ c.if-is_wrong_origin.false in
     let own = c.args.edges.now in
     let are = c.requires.own in
     better_candidate (right_start P L u judged) (not_lacking P L u own are c.in-Some.route
-        (sym c.in_ok-weight-in-Some.ensures.held ∙ not_false c.in_ok-weight-in-Some.weight.held c.if-not-weight.false) (held ∙ c.in-Some.is))
-            (beaten P L u own are c.in-Some.route (held ∙ c.in-Some.is) (sym c.in_ok-weight-in-Some.ensures.beaten ∙ c.if-weight.true))
+    (sym c.in_ok-weight-in-Some.ensures.held ∙ not_false c.in_ok-weight-in-Some.weight.held c.if-not-weight.false) (held ∙ c.in-Some.is))
+    (beaten P L u own are c.in-Some.route (held ∙ c.in-Some.is) (sym c.in_ok-weight-in-Some.ensures.beaten ∙ c.if-weight.true))
 
 pub returns-else-weight : goal.returns-else-weight
 returns-else-weight c =
@@ -110,9 +110,9 @@ returns-else-weight c =
     let L = c.args.labels.now in
     let u = c.args.router in
     let held : label L u ≡ c.index-as_slice-router.result = read_at L c.as_slice.result.now u c.index-as_slice-router.result c.as_slice.ensures.all
-        (omega (arith, c.requires.router, c.requires.labels.total)) c.index-as_slice-router.is in
+    (omega (arith, c.requires.router, c.requires.labels.total)) c.index-as_slice-router.is in
     let own = c.args.edges.now in
     let are = c.requires.own in
     fine_with P L u own are c.in-Some.route (held ∙ c.in-Some.is)
-        (sym c.in_ok-weight-in-Some.ensures.held ∙ not_false c.in_ok-weight-in-Some.weight.held c.if-not-weight.false)
-            (sym c.in_ok-weight-in-Some.ensures.beaten ∙ c.if-weight.false)
+    (sym c.in_ok-weight-in-Some.ensures.held ∙ not_false c.in_ok-weight-in-Some.weight.held c.if-not-weight.false)
+    (sym c.in_ok-weight-in-Some.ensures.beaten ∙ c.if-weight.false)

@@ -13,7 +13,7 @@ unfolding step_by import_by
 returns-then-loops-clause-exact c =
     let a = c.in-Import-Bgp in
     let looped : (nat_eq c.args.exporter c.args.own || is_on c.args.own a.path) ≡ true =
-        ap (λ (path : List ℕ). nat_eq c.args.exporter c.args.own || is_on c.args.own path) (sym c.as_slice.ensures) ∙ sym c.loops.ensures ∙ c.if-loops.true in
+    ap (λ (path : List ℕ). nat_eq c.args.exporter c.args.own || is_on c.args.own path) (sym c.as_slice.ensures) ∙ sym c.loops.ensures ∙ c.if-loops.true in
     rw (a.is-0, a.is-1) (sym (dropped c.args.exporter c.args.own a.path (import_of a.out a.sends a.into a.comms) looped))
 
 pub returns-in-Some-clause-exact : goal.returns-in-Some-clause-exact
@@ -21,17 +21,17 @@ unfolding step_by import_by
 returns-in-Some-clause-exact c =
     let a = c.in-Import-Bgp in
     let apart : (nat_eq c.args.exporter c.args.own || is_on c.args.own a.path) ≡ false =
-        ap (λ (path : List ℕ). nat_eq c.args.exporter c.args.own || is_on c.args.own path) (sym c.as_slice.ensures) ∙ sym c.loops.ensures ∙ c.if-loops.false in
+    ap (λ (path : List ℕ). nat_eq c.args.exporter c.args.own || is_on c.args.own path) (sym c.as_slice.ensures) ∙ sym c.loops.ensures ∙ c.if-loops.false in
     let imports : import_of a.out a.sends a.into a.comms ≡ Some c.in-Some.imported = sym c.in_ok-imported-in-Import-Bgp.ensures ∙ c.in-Some.is in
     rw (a.is-0, a.is-1) (sym (ap (λ (i : Option Imported). option_and_then (passed c.args.own) (option_map (arrived c.args.exporter a.path) i)) imports
-        ∙ kept c.args.exporter c.args.own a.path c.in-Some.imported apart))
+    ∙ kept c.args.exporter c.args.own a.path c.in-Some.imported apart))
 
 pub returns-then-loops-clause-gives : goal.returns-then-loops-clause-gives
 unfolding step_by import_by
 returns-then-loops-clause-gives c =
     let a = c.in-Import-Bgp in
     let looped : (nat_eq c.args.exporter c.args.own || is_on c.args.own a.path) ≡ true =
-        ap (λ (path : List ℕ). nat_eq c.args.exporter c.args.own || is_on c.args.own path) (sym c.as_slice.ensures) ∙ sym c.loops.ensures ∙ c.if-loops.true in
+    ap (λ (path : List ℕ). nat_eq c.args.exporter c.args.own || is_on c.args.own path) (sym c.as_slice.ensures) ∙ sym c.loops.ensures ∙ c.if-loops.true in
     rw (a.is-0, a.is-1) (sym (ap is_some (dropped c.args.exporter c.args.own a.path (import_of a.out a.sends a.into a.comms) looped)))
 
 pub returns-in-Some-clause-gives : goal.returns-in-Some-clause-gives
@@ -39,7 +39,7 @@ unfolding step_by import_by
 returns-in-Some-clause-gives c =
     let a = c.in-Import-Bgp in
     let apart : (nat_eq c.args.exporter c.args.own || is_on c.args.own a.path) ≡ false =
-        ap (λ (path : List ℕ). nat_eq c.args.exporter c.args.own || is_on c.args.own path) (sym c.as_slice.ensures) ∙ sym c.loops.ensures ∙ c.if-loops.false in
+    ap (λ (path : List ℕ). nat_eq c.args.exporter c.args.own || is_on c.args.own path) (sym c.as_slice.ensures) ∙ sym c.loops.ensures ∙ c.if-loops.false in
     let imports : import_of a.out a.sends a.into a.comms ≡ Some c.in-Some.imported = sym c.in_ok-imported-in-Import-Bgp.ensures ∙ c.in-Some.is in
     rw (a.is-0, a.is-1) (sym (ap is_some (ap (λ (i : Option Imported). option_and_then (passed c.args.own) (option_map (arrived c.args.exporter a.path) i))
-        imports ∙ kept c.args.exporter c.args.own a.path c.in-Some.imported apart)))
+    imports ∙ kept c.args.exporter c.args.own a.path c.in-Some.imported apart)))

@@ -20,13 +20,13 @@ returns-in-Bgp c =
     let path = c.as_slice-in-Bgp.result.now in
     let from = get_or c.numbers.result.now e.exporter 0 in
     let from_is : c.args.from.now ≡ Bgp c.in-Bgp.lp path c.in-Bgp.comms = c.in-Bgp.is
-        ∙ ap (λ (p : List ℕ). Bgp c.in-Bgp.lp p c.in-Bgp.comms) (sym c.as_slice-in-Bgp.ensures) in
+    ∙ ap (λ (p : List ℕ). Bgp c.in-Bgp.lp p c.in-Bgp.comms) (sym c.as_slice-in-Bgp.ensures) in
     let labelled : label L e.exporter ≡ Some (Bgp c.in-Bgp.lp path c.in-Bgp.comms) = c.requires.from ∙ ap (λ (r : Route). Some r) from_is in
     let numbered : number P e.exporter ≡ from = ap (λ (ns : List ℕ). get_or ns e.exporter 0) (sym c.numbers.ensures) in
     let found : offered (Import imported) (Some c.args.from.now) (number P e.exporter) ≡ Some (arrived from path imported) =
     ap (λ (r : Route). offered (Import imported) (Some r) (number P e.exporter)) from_is ∙ ap (λ (n : ℕ). Some (arrived n path imported)) numbered in
     let rest = c.index-as_slice-edge.result in
     let rests = lone_at P L lone.paths e.exporter rest c.in-Bgp.lp path c.in-Bgp.comms (omega (arith, c.requires.edge.exporter_in, c.requires.labels.total))
-        c.requires.lone.paths (c.index-as_slice-edge.is ∙ ap (λ (ps : List (List ℕ)). get_or ps e.exporter rest) c.as_slice.ensures) labelled in
+    c.requires.lone.paths (c.index-as_slice-edge.is ∙ ap (λ (ps : List (List ℕ)). get_or ps e.exporter rest) c.as_slice.ensures) labelled in
     if_ok c.weigh_import.result (import_weighs P c.args.route.now (offered (Import imported) (Some c.args.from.now) (number P e.exporter)) c.args.other.now from
-        path imported (contains nat_eq lone.numbers from) rest found (c.requires.lone.numbers from) rests c.requires.other) c.weigh_import.ensures
+    path imported (contains nat_eq lone.numbers from) rest found (c.requires.lone.numbers from) rests c.requires.other) c.weigh_import.ensures

@@ -13,6 +13,6 @@ returns-in-Some c =
     let inside : c.args.router < length c.init.result.now = omega (arith, rules.tables.init, same, c.requires.router) in
     let found : initial P c.args.router ≡ Some c.in-Some.candidate =
     sym (get_or_default c.init.result.now c.args.router c.index-init-router.result None inside
-        ∙ ap (λ (l : List (Option Route)). get_or l c.args.router None) c.init.ensures) ∙ sym c.index-init-router.is ∙ c.in-Some.is in
+    ∙ ap (λ (l : List (Option Route)). get_or l c.args.router None) c.init.ensures) ∙ sym c.index-init-router.is ∙ c.in-Some.is in
     if_ok c.weigh_bare.result (bare_weighs P c.args.route.now c.in-Some.candidate (initial P c.args.router) c.args.other.now found
-        (rules.starts.paths c.args.router c.in-Some.candidate found) c.requires.other) c.weigh_bare.ensures
+    (rules.starts.paths c.args.router c.in-Some.candidate found) c.requires.other) c.weigh_bare.ensures

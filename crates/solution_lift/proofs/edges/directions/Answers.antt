@@ -16,4 +16,4 @@ loop-place-preserved c =
     link_more c.args.protocol c.args.edges.now links _ _ _ _ i l _ _ inside (get_or_default links i none l inside) c.loop-place.invariant
     c.in_ok-push_direction.ensures (c.standing-to_low.ensures ∙ stands_low c.args.protocol links l _ c.requires.apart less (c.in_ok-lasts.ensures l.low l.high))
     c.in_ok-push_direction-2.ensures (c.standing-to_high.ensures
-        ∙ stands_high c.args.protocol links l _ c.requires.apart less (c.in_ok-lasts.ensures l.high l.low))
+    ∙ stands_high c.args.protocol links l _ c.requires.apart less (c.in_ok-lasts.ensures l.high l.low))

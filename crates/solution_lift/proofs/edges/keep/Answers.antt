@@ -9,4 +9,4 @@ pub returns-in_ok-insert : goal.returns-in_ok-insert
 returns-in_ok-insert c = λ g h.
     c.in_ok-insert.ensures.updates.0 (g, h)
     ∙ ap (λ (o : Option ℕ). if nat_eq c.args.into g && nat_eq c.args.from h then or_else o (map.get same_pair c.args.lasts.now (g, h))
-        else map.get same_pair c.args.lasts.now (g, h)) (sym c.in-Some.is)
+    else map.get same_pair c.args.lasts.now (g, h)) (sym c.in-Some.is)

@@ -12,4 +12,4 @@ loop-link-preserved c = λ g h.
     let l = get_or links i none in
     let inside = c.loop-link-test.true in
     last_more links i l g h _ _ _ inside (get_or_default links i none l inside) (c.requires i none inside) (c.loop-link.invariant g h)
-        (c.in_ok-keep.ensures g h) (c.in_ok-keep-2.ensures g h)
+    (c.in_ok-keep.ensures g h) (c.in_ok-keep-2.ensures g h)

@@ -11,14 +11,14 @@ pub fold_into-requires-clause-quotient : goal.fold_into-requires-clause-quotient
 fold_into-requires-clause-quotient c =
     subst (IsQuotient c.args.srp.now c.args.p.now) (sym (c.in_ok-small.ensures c.groups-also_known.result c.groups-also_known.ensures))
     (c.quotient_is_quotient.ensures c.args.srp.now c.args.p.now c.groups-also_known.result c.count-known.ensures.rules c.requires.groups
-        c.groups-also_known.ensures)
+    c.groups-also_known.ensures)
 
 pub returns : goal.returns
 returns c =
     ok_as (IsFolding c.args.srp.now c.in_ok-small.small c.args.p.now c.args.labels.now)
     (λ lower. (groups : ℕ) → IsNumbered c.args.p.now groups → IsFolding c.args.srp.now (small_of c.args.srp.now c.args.p.now groups) c.args.p.now
-        c.args.labels.now lower)
+    c.args.labels.now lower)
     c.fold_into.result
     (λ lower is groups numbered. subst (λ (P : Problem). IsFolding c.args.srp.now P c.args.p.now c.args.labels.now lower)
-        (c.in_ok-small.ensures groups numbered) is)
+    (c.in_ok-small.ensures groups numbered) is)
     c.fold_into.ensures

@@ -46,7 +46,7 @@ returns-in_ok-lower-in-Ospf c =
     let costs = member_costs S Q groups c.groups-count.result labels lower c.requires.groups c.groups-count.ensures ospf c.requires.stable
     (λ u v h k same. c.equal_keys.ensures S groups labels rules c.requires.groups c.requires.stable u v h k same) c.in_ok-lower-in-Ospf.ensures.costs in
     let total = c.in_ok-lower-in-Ospf.ensures.total ∙ sym (quotient_size S Q groups c.groups-count.result c.requires.groups c.requires.quotient
-        c.groups-count.ensures) in
+    c.groups-count.ensures) in
     folding_of_costs S Q groups labels lower ospf
     (c.ospf_folds.ensures.stable S Q groups labels lower rules small_rules c.requires.groups c.requires.quotient ospf c.requires.stable total costs)
     (c.ospf_folds.ensures.corresponds S Q groups labels lower rules small_rules c.requires.groups c.requires.quotient ospf c.requires.stable total costs)

@@ -36,8 +36,8 @@ next-requires-clause-router c =
     let can = c.requires.can in
     let tasks = c.deref-task-items.result.now in
     let order = order_of c.as_slice.result.now c.args.labels.now c.deref-2.result.now c.in_ok-firsts.firsts.items c.in_ok-firsts.firsts.items
-        c.in_ok-tasks.tasks.items c.deref-task-items.result.now c.in_ok-tasks.ensures c.as_slice.ensures.all c.deref-2.ensures.value refl
-            c.deref-task-items.ensures.value in
+    c.in_ok-tasks.tasks.items c.deref-task-items.result.now c.in_ok-tasks.ensures c.as_slice.ensures.all c.deref-2.ensures.value refl
+    c.deref-task-items.ensures.value in
     let total = c.requires.can.admissible.total in
     let firsts = c.in_ok-firsts.firsts.items in
     let long = ap (length {A = ℕ}) c.in_ok-firsts.ensures ∙ length-map-range_with_len (first_member c.args.p.now) 0 c.args.count in
@@ -57,8 +57,8 @@ next-requires-clause-place c =
     let can = c.requires.can in
     let tasks = c.deref-task-items.result.now in
     let order = order_of c.as_slice.result.now c.args.labels.now c.deref-2.result.now c.in_ok-firsts.firsts.items c.in_ok-firsts.firsts.items
-        c.in_ok-tasks.tasks.items c.deref-task-items.result.now c.in_ok-tasks.ensures c.as_slice.ensures.all c.deref-2.ensures.value refl
-            c.deref-task-items.ensures.value in
+    c.in_ok-tasks.tasks.items c.deref-task-items.result.now c.in_ok-tasks.ensures c.as_slice.ensures.all c.deref-2.ensures.value refl
+    c.deref-task-items.ensures.value in
     let total = c.requires.can.admissible.total in
     let firsts = c.in_ok-firsts.firsts.items in
     let long = ap (length {A = ℕ}) c.in_ok-firsts.ensures ∙ length-map-range_with_len (first_member c.args.p.now) 0 c.args.count in
@@ -78,8 +78,8 @@ set-requires c =
     let can = c.requires.can in
     let tasks = c.deref-task-items.result.now in
     let order = order_of c.as_slice.result.now c.args.labels.now c.deref-2.result.now c.in_ok-firsts.firsts.items c.in_ok-firsts.firsts.items
-        c.in_ok-tasks.tasks.items c.deref-task-items.result.now c.in_ok-tasks.ensures c.as_slice.ensures.all c.deref-2.ensures.value refl
-            c.deref-task-items.ensures.value in
+    c.in_ok-tasks.tasks.items c.deref-task-items.result.now c.in_ok-tasks.ensures c.as_slice.ensures.all c.deref-2.ensures.value refl
+    c.deref-task-items.ensures.value in
     let total = c.requires.can.admissible.total in
     let firsts = c.in_ok-firsts.firsts.items in
     let long = ap (length {A = ℕ}) c.in_ok-firsts.ensures ∙ length-map-range_with_len (first_member c.args.p.now) 0 c.args.count in
@@ -100,8 +100,8 @@ loop-task-preserved c =
     let can = c.requires.can in
     let tasks = c.deref-task-items.result.now in
     let order = order_of c.as_slice.result.now c.args.labels.now c.deref-2.result.now c.in_ok-firsts.firsts.items c.in_ok-firsts.firsts.items
-        c.in_ok-tasks.tasks.items c.deref-task-items.result.now c.in_ok-tasks.ensures c.as_slice.ensures.all c.deref-2.ensures.value refl
-            c.deref-task-items.ensures.value in
+    c.in_ok-tasks.tasks.items c.deref-task-items.result.now c.in_ok-tasks.ensures c.as_slice.ensures.all c.deref-2.ensures.value refl
+    c.deref-task-items.ensures.value in
     let total = c.requires.can.admissible.total in
     let firsts = c.in_ok-firsts.firsts.items in
     let long = ap (length {A = ℕ}) c.in_ok-firsts.ensures ∙ length-map-range_with_len (first_member c.args.p.now) 0 c.args.count in
@@ -112,17 +112,17 @@ loop-task-preserved c =
     let E = c.loop-task.lower in
     let u = slice_index c.in_ok-firsts.firsts.items task.place in
     let n = next_group S Q groups c.args.count labels firsts tasks order c.in_ok-firsts.ensures c.requires.numbered total
-        (λ u v h k same. c.equal_keys.ensures S groups labels can.problem_rules can.admissible can.stable u v h k same) E i task c.loop-task.invariant.part
-            c.loop-task.invariant.so_far g in
+    (λ u v h k same. c.equal_keys.ensures S groups labels can.problem_rules can.admissible can.stable u v h k same) E i task c.loop-task.invariant.part
+    c.loop-task.invariant.so_far g in
     let there = group_first S Q groups c.args.count labels firsts tasks order c.in_ok-firsts.ensures c.requires.numbered total
-        (λ u v h k same. c.equal_keys.ensures S groups labels can.problem_rules can.admissible can.stable u v h k same) task.place below in
+    (λ u v h k same. c.equal_keys.ensures S groups labels can.problem_rules can.admissible can.stable u v h k same) task.place below in
     let steps = c.fold_steps.ensures in
     let known = known_by c.numbers.result.now c.args.srp.now.numbers c.deref.result.now c.args.p.now c.in_ok-sources.sources c.numbers.ensures
-        (c.deref.ensures.value ∙ c.in_ok-groups.ensures) c.in_ok-sources.ensures in
+    (c.deref.ensures.value ∙ c.in_ok-groups.ensures) c.in_ok-sources.ensures in
     let is = next_of Q _ labels _ _ firsts _ _ (range_with_len 0 c.args.count) c.in_ok-sources.sources E task.place c.in_ok-route.route c.in_ok-route.ensures
-        c.as_slice-asked.ensures.all c.deref-in-loop-task.ensures.value refl c.deref-in-loop-task-2.ensures.value c.in_ok-own.ensures in
+    c.as_slice-asked.ensures.all c.deref-in-loop-task.ensures.value refl c.deref-in-loop-task-2.ensures.value c.in_ok-own.ensures in
     let t = next_part S Q groups c.args.count labels E firsts task.place u n.0 c.in_ok-sources.sources c.in_ok-route.route refl there
-        (can.quotient.origins u n.1.inside) can.small_rules c.requires.size n.1
+    (can.quotient.origins u n.1.inside) can.small_rules c.requires.size n.1
     (λ start init. steps.started S Q groups labels E can u n.0 start n.1 init)
     (λ none. steps.source S Q groups labels can u n.0 n.1.inside n.1.asked none)
     (λ s none on. steps.found S Q groups labels E can u s n.0 n.1 none on)
@@ -146,12 +146,12 @@ returns c =
     let can = c.requires.can in
     let tasks = c.deref-task-items.result.now in
     let order = order_of c.as_slice.result.now c.args.labels.now c.deref-2.result.now c.in_ok-firsts.firsts.items c.in_ok-firsts.firsts.items
-        c.in_ok-tasks.tasks.items c.deref-task-items.result.now c.in_ok-tasks.ensures c.as_slice.ensures.all c.deref-2.ensures.value refl
-            c.deref-task-items.ensures.value in
+    c.in_ok-tasks.tasks.items c.deref-task-items.result.now c.in_ok-tasks.ensures c.as_slice.ensures.all c.deref-2.ensures.value refl
+    c.deref-task-items.ensures.value in
     let total = c.requires.can.admissible.total in
     let firsts = c.in_ok-firsts.firsts.items in
     let long = ap (length {A = ℕ}) c.in_ok-firsts.ensures ∙ length-map-range_with_len (first_member c.args.p.now) 0 c.args.count in
     c.fold_steps.ensures.whole S Q groups labels c.loop-task.lower can c.loop-task.invariant.part
     (all_done S Q groups c.args.count labels firsts tasks order c.in_ok-firsts.ensures c.requires.numbered total
-        (λ u v h k same. c.equal_keys.ensures S groups labels can.problem_rules can.admissible can.stable u v h k same) c.loop-task.lower c.loop-task.task-index
-            c.loop-task.invariant.so_far c.loop-task-test.false)
+    (λ u v h k same. c.equal_keys.ensures S groups labels can.problem_rules can.admissible can.stable u v h k same) c.loop-task.lower c.loop-task.task-index
+    c.loop-task.invariant.so_far c.loop-task-test.false)

@@ -12,19 +12,19 @@ pub lift_from-requires-clause-quotient : goal.lift_from-requires-clause-quotient
 lift_from-requires-clause-quotient c =
     subst (IsQuotient c.args.srp.now c.args.p.now) (sym (c.in_ok-small.ensures c.groups-also_known.result c.groups-also_known.ensures))
     (c.quotient_is_quotient.ensures c.args.srp.now c.args.p.now c.groups-also_known.result c.count-known.ensures.rules c.requires.groups
-        c.groups-also_known.ensures)
+    c.groups-also_known.ensures)
 
 pub lift_from-requires-clause-stable : goal.lift_from-requires-clause-stable
 lift_from-requires-clause-stable c =
     subst (λ (P : Problem). IsStable P c.args.labels.now) (sym (c.in_ok-small.ensures c.groups-also_known.result c.groups-also_known.ensures))
-        (c.requires.stable c.groups-also_known.result c.groups-also_known.ensures)
+    (c.requires.stable c.groups-also_known.result c.groups-also_known.ensures)
 
 pub returns : goal.returns
 returns c =
     ok_as (IsLifting c.args.srp.now c.in_ok-small.small c.args.p.now c.args.labels.now)
     (λ upper. (groups : ℕ) → IsNumbered c.args.p.now groups → IsLifting c.args.srp.now (small_of c.args.srp.now c.args.p.now groups) c.args.p.now
-        c.args.labels.now upper)
+    c.args.labels.now upper)
     c.lift_from.result
     (λ upper is groups numbered. subst (λ (P : Problem). IsLifting c.args.srp.now P c.args.p.now c.args.labels.now upper)
-        (c.in_ok-small.ensures groups numbered) is)
+    (c.in_ok-small.ensures groups numbered) is)
     c.lift_from.ensures

@@ -37,8 +37,8 @@ next-requires-clause-router c =
     let can = c.requires in
     let tasks = c.deref-task-items.result.now in
     let order = order_of c.as_slice.result.now c.args.labels.now c.deref-2.result.now c.in_ok-groups.groups.items c.args.p.now c.in_ok-tasks.tasks.items
-        c.deref-task-items.result.now c.in_ok-tasks.ensures c.as_slice.ensures.all c.deref-2.ensures.value c.in_ok-groups.ensures
-            c.deref-task-items.ensures.value in
+    c.deref-task-items.result.now c.in_ok-tasks.ensures c.as_slice.ensures.all c.deref-2.ensures.value c.in_ok-groups.ensures
+    c.deref-task-items.ensures.value in
     let i = c.loop-task.task-index in
     let none : Task = record { place = 0; size = 0 } in
     let task = get_or c.deref-task-items.result.now c.loop-task.task-index (record { place = 0; size = 0 }) in
@@ -56,8 +56,8 @@ next-requires-clause-place c =
     let can = c.requires in
     let tasks = c.deref-task-items.result.now in
     let order = order_of c.as_slice.result.now c.args.labels.now c.deref-2.result.now c.in_ok-groups.groups.items c.args.p.now c.in_ok-tasks.tasks.items
-        c.deref-task-items.result.now c.in_ok-tasks.ensures c.as_slice.ensures.all c.deref-2.ensures.value c.in_ok-groups.ensures
-            c.deref-task-items.ensures.value in
+    c.deref-task-items.result.now c.in_ok-tasks.ensures c.as_slice.ensures.all c.deref-2.ensures.value c.in_ok-groups.ensures
+    c.deref-task-items.ensures.value in
     let i = c.loop-task.task-index in
     let none : Task = record { place = 0; size = 0 } in
     let task = get_or c.deref-task-items.result.now c.loop-task.task-index (record { place = 0; size = 0 }) in
@@ -75,8 +75,8 @@ set-requires c =
     let can = c.requires in
     let tasks = c.deref-task-items.result.now in
     let order = order_of c.as_slice.result.now c.args.labels.now c.deref-2.result.now c.in_ok-groups.groups.items c.args.p.now c.in_ok-tasks.tasks.items
-        c.deref-task-items.result.now c.in_ok-tasks.ensures c.as_slice.ensures.all c.deref-2.ensures.value c.in_ok-groups.ensures
-            c.deref-task-items.ensures.value in
+    c.deref-task-items.result.now c.in_ok-tasks.ensures c.as_slice.ensures.all c.deref-2.ensures.value c.in_ok-groups.ensures
+    c.deref-task-items.ensures.value in
     let i = c.loop-task.task-index in
     let none : Task = record { place = 0; size = 0 } in
     let task = get_or c.deref-task-items.result.now c.loop-task.task-index (record { place = 0; size = 0 }) in
@@ -95,8 +95,8 @@ loop-task-preserved c =
     let can = c.requires in
     let tasks = c.deref-task-items.result.now in
     let order = order_of c.as_slice.result.now c.args.labels.now c.deref-2.result.now c.in_ok-groups.groups.items c.args.p.now c.in_ok-tasks.tasks.items
-        c.deref-task-items.result.now c.in_ok-tasks.ensures c.as_slice.ensures.all c.deref-2.ensures.value c.in_ok-groups.ensures
-            c.deref-task-items.ensures.value in
+    c.deref-task-items.result.now c.in_ok-tasks.ensures c.as_slice.ensures.all c.deref-2.ensures.value c.in_ok-groups.ensures
+    c.deref-task-items.ensures.value in
     let i = c.loop-task.task-index in
     let none : Task = record { place = 0; size = 0 } in
     let task = get_or c.deref-task-items.result.now c.loop-task.task-index (record { place = 0; size = 0 }) in
@@ -107,9 +107,9 @@ loop-task-preserved c =
     let n = next_task S Q groups lower tasks order total E i task c.loop-task.invariant.part c.loop-task.invariant.so_far g in
     let steps = c.lift_steps.ensures in
     let known = known_by c.numbers.result.now c.args.small.now.numbers c.deref.result.now (range_with_len 0 c.count.result) c.in_ok-sources.sources
-        c.numbers.ensures (c.deref.ensures.value ∙ c.in_ok-own.ensures) c.in_ok-sources.ensures in
+    c.numbers.ensures (c.deref.ensures.value ∙ c.in_ok-own.ensures) c.in_ok-sources.ensures in
     let is = next_of S _ lower _ _ groups _ _ groups c.in_ok-sources.sources E u c.in_ok-route.route c.in_ok-route.ensures c.as_slice-asked.ensures.all
-        c.deref-in-loop-task.ensures.value c.in_ok-groups.ensures c.deref-in-loop-task-2.ensures.value c.in_ok-groups.ensures in
+    c.deref-in-loop-task.ensures.value c.in_ok-groups.ensures c.deref-in-loop-task-2.ensures.value c.in_ok-groups.ensures in
     let t = next_part S Q groups lower E u n.0 c.in_ok-sources.sources c.in_ok-route.route n.1
     (λ start init. steps.started S Q groups lower E can u n.0 start n.1 init)
     (λ none. steps.source S Q groups lower can u n.0 n.1.inside n.1.asked none)
@@ -117,11 +117,11 @@ loop-task-preserved c =
     (λ s r none on takes. steps.taken S Q groups lower E can u s n.0 r n.1 none on takes)
     (c.across_quotients.ensures S Q groups can.problem_rules can.small_rules can.admissible can.quotient n.0)
     (λ s on. (let at = range_at 0 c.count.result s (let few = on.inside in let size = c.count.ensures.count in omega arith) in
-        first_sourced Q (range_with_len 0 c.count.result) c.in_ok-sources.sources known n.0 s on
-            ∙ ap Some (let same : slice_index (range_with_len 0 c.count.result) s ≡ s = omega arith in same)))
+    first_sourced Q (range_with_len 0 c.count.result) c.in_ok-sources.sources known n.0 s on
+    ∙ ap Some (let same : slice_index (range_with_len 0 c.count.result) s ≡ s = omega arith in same)))
     is in
     let inside : task.place < length c.loop-task.upper = (let e = (order.each i task g).0 in let long = c.loop-task.invariant.part.fitting.total in omega arith)
-        in
+    in
     record {
       part = subst (IsLiftedPart c.args.srp.now c.args.small.now c.args.p.now c.args.labels.now)
           (sym (c.set.ensures ∙ ap (slice_set c.loop-task.upper task.place) t.1)) t.2;
@@ -137,8 +137,8 @@ returns c =
     let can = c.requires in
     let tasks = c.deref-task-items.result.now in
     let order = order_of c.as_slice.result.now c.args.labels.now c.deref-2.result.now c.in_ok-groups.groups.items c.args.p.now c.in_ok-tasks.tasks.items
-        c.deref-task-items.result.now c.in_ok-tasks.ensures c.as_slice.ensures.all c.deref-2.ensures.value c.in_ok-groups.ensures
-            c.deref-task-items.ensures.value in
+    c.deref-task-items.result.now c.in_ok-tasks.ensures c.as_slice.ensures.all c.deref-2.ensures.value c.in_ok-groups.ensures
+    c.deref-task-items.ensures.value in
     let total = c.requires.admissible.total in
     c.lift_steps.ensures.whole S Q groups lower c.loop-task.upper can c.loop-task.invariant.part
     (all_done S Q groups lower tasks order total c.loop-task.upper c.loop-task.task-index c.loop-task.invariant.so_far c.loop-task-test.false)

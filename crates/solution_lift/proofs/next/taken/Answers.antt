@@ -17,12 +17,12 @@ returns-then-is_fit c =
     let P = c.args.target.now in
     let E = c.edges-edges.result.now in
     let fit = fit_has_key (is_lone_number P) (contains nat_eq c.args.lone.now) c.requires.lone (is_from E c.args.sides.now c.args.source d) d.route
-        c.args.asked.now c.in_ok-wanted.wanted c.in_ok-wanted.ensures c.in_ok-is_fit.is_fit c.in_ok-is_fit.ensures c.if-is_fit.true in
+    c.args.asked.now c.in_ok-wanted.wanted c.in_ok-wanted.ensures c.in_ok-is_fit.is_fit c.in_ok-is_fit.ensures c.if-is_fit.true in
     takes_first P c.args.labels.now c.args.router c.args.sides.now c.args.source (key_of P c.args.asked.now) list
     (c.as_slice-candidate-items.ensures ∙ c.in_ok-candidates.ensures.list) c.count-known.ensures.rules.edges.ordered i d _
     (get_is list i d c.loop-candidate-test.true c.candidate-item.is)
-        (ap (λ (edges : List Edge). is_from edges c.args.sides.now c.args.source d) (sym c.edges-edges.ensures) ∙ fit.0) fit.1 c.in_ok-copy.ensures
-            c.loop-candidate.invariant
+    (ap (λ (edges : List Edge). is_from edges c.args.sides.now c.args.source d) (sym c.edges-edges.ensures) ∙ fit.0) fit.1 c.in_ok-copy.ensures
+    c.loop-candidate.invariant
 
 pub loop-candidate-preserved : goal.loop-candidate-preserved
 loop-candidate-preserved c =
@@ -34,17 +34,17 @@ loop-candidate-preserved c =
     let at = get_is list i d c.loop-candidate-test.true c.candidate-item.is in
     let routes = c.in_ok-candidates.ensures.routes in
     none_more (λ k (d : Candidate). is_from P.edges c.args.sides.now c.args.source d ≡ true → key_of P d.route ≢ key_of P c.args.asked.now) list i d at
-        c.loop-candidate.invariant
+    c.loop-candidate.invariant
     (λ from.
     unfit_has_other_key (is_lone_number P) (contains nat_eq c.args.lone.now) c.requires.lone (is_from E c.args.sides.now c.args.source d) d.route
-        c.args.asked.now c.in_ok-wanted.wanted c.in_ok-wanted.ensures P.protocol
+    c.args.asked.now c.in_ok-wanted.wanted c.in_ok-wanted.ensures P.protocol
     (each_of (λ (k : Candidate). IsRouteOf P.protocol k.route) c.in_ok-candidates.candidates list c.as_slice-candidate-items.ensures routes i d at)
-        c.requires.asked c.in_ok-is_fit.is_fit c.in_ok-is_fit.ensures c.if-is_fit.false
+    c.requires.asked c.in_ok-is_fit.is_fit c.in_ok-is_fit.ensures c.if-is_fit.false
     (ap (λ (edges : List Edge). is_from edges c.args.sides.now c.args.source d) c.edges-edges.ensures ∙ from))
 
 pub returns : goal.returns
 returns c =
     takes_none c.args.target.now c.args.labels.now c.args.router c.args.sides.now c.args.source (key_of c.args.target.now c.args.asked.now)
-        c.as_slice-candidate-items.result.now
+    c.as_slice-candidate-items.result.now
     (c.as_slice-candidate-items.ensures ∙ c.in_ok-candidates.ensures.list)
     (λ k d less g. c.loop-candidate.invariant k d (let past = c.loop-candidate-test.false in omega arith) g)

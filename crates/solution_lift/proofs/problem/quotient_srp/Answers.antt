@@ -13,8 +13,8 @@ numbers_of-requires-clause-below c =
     let groups : List ℕ = c.args.p.now in
     let count = c.groups-count.result in
     all_below count c.as_slice-links.result.now _ S.edges groups
-        (c.quotient_carries.ensures S.edges groups count (inside_all S groups count c.count-known.ensures.rules c.requires.groups c.groups-count.ensures))
-            (c.as_slice-links.ensures ∙ c.requires.links count c.groups-count.ensures)
+    (c.quotient_carries.ensures S.edges groups count (inside_all S groups count c.count-known.ensures.rules c.requires.groups c.groups-count.ensures))
+    (c.as_slice-links.ensures ∙ c.requires.links count c.groups-count.ensures)
 
 pub edges_of-requires-clause-apart : goal.edges_of-requires-clause-apart
 edges_of-requires-clause-apart c =
@@ -22,8 +22,8 @@ edges_of-requires-clause-apart c =
     let groups : List ℕ = c.args.p.now in
     let count = c.groups-count.result in
     all_apart count c.as_slice-links.result.now (all_below count c.as_slice-links.result.now _ S.edges groups
-        (c.quotient_carries.ensures S.edges groups count (inside_all S groups count c.count-known.ensures.rules c.requires.groups c.groups-count.ensures))
-            (c.as_slice-links.ensures ∙ c.requires.links count c.groups-count.ensures))
+    (c.quotient_carries.ensures S.edges groups count (inside_all S groups count c.count-known.ensures.rules c.requires.groups c.groups-count.ensures))
+    (c.as_slice-links.ensures ∙ c.requires.links count c.groups-count.ensures))
 
 pub new-requires : goal.new-requires
 new-requires c = λ keeps.
@@ -32,12 +32,12 @@ new-requires c = λ keeps.
     let count = c.groups-count.result in
     let links = c.as_slice-links.ensures ∙ c.requires.links count c.groups-count.ensures in
     let below = all_below count c.as_slice-links.result.now _ S.edges groups
-        (c.quotient_carries.ensures S.edges groups count (inside_all S groups count c.count-known.ensures.rules c.requires.groups c.groups-count.ensures)) links
-            in
+    (c.quotient_carries.ensures S.edges groups count (inside_all S groups count c.count-known.ensures.rules c.requires.groups c.groups-count.ensures)) links
+    in
     let few : length (quotient_links c.args.srp.now.edges c.args.p.now c.groups-count.result) < 2 ^ 31 =
-        (let long = ap length links in let most = c.if-links-gt-MOST_LINKS.false in omega arith) in
+    (let long = ap length links in let most = c.if-links-gt-MOST_LINKS.false in omega arith) in
     let parts = parts_are S groups count c.as_slice-links.result.now c.protocol-2.result c.in_ok-firsts.firsts.items c.in_ok-names.names c.in_ok-numbers.numbers
-        c.in_ok-init.init c.in_ok-lone.lone c.in_ok-acts.acts c.in_ok-edges.edges
+    c.in_ok-init.init c.in_ok-lone.lone c.in_ok-acts.acts c.in_ok-edges.edges
     links c.protocol-2.ensures c.in_ok-firsts.ensures
     (c.in_ok-names.ensures ∙ (λ i. map (λ u. slice_index_or ((c.as_slice.ensures ∙ c.names.ensures) i) u []) (c.deref.ensures.value i)))
     c.in_ok-numbers.ensures
@@ -54,10 +54,10 @@ returns c = λ other numbered.
     let count = c.groups-count.result in
     let links = c.as_slice-links.ensures ∙ c.requires.links count c.groups-count.ensures in
     let below = all_below count c.as_slice-links.result.now _ S.edges groups
-        (c.quotient_carries.ensures S.edges groups count (inside_all S groups count c.count-known.ensures.rules c.requires.groups c.groups-count.ensures)) links
-            in
+    (c.quotient_carries.ensures S.edges groups count (inside_all S groups count c.count-known.ensures.rules c.requires.groups c.groups-count.ensures)) links
+    in
     let parts = parts_are S groups count c.as_slice-links.result.now c.protocol-2.result c.in_ok-firsts.firsts.items c.in_ok-names.names c.in_ok-numbers.numbers
-        c.in_ok-init.init c.in_ok-lone.lone c.in_ok-acts.acts c.in_ok-edges.edges
+    c.in_ok-init.init c.in_ok-lone.lone c.in_ok-acts.acts c.in_ok-edges.edges
     links c.protocol-2.ensures c.in_ok-firsts.ensures
     (c.in_ok-names.ensures ∙ (λ i. map (λ u. slice_index_or ((c.as_slice.ensures ∙ c.names.ensures) i) u []) (c.deref.ensures.value i)))
     c.in_ok-numbers.ensures

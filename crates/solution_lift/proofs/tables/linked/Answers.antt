@@ -10,4 +10,4 @@ pub returns : goal.returns
 returns c =
     fill_by_all (λ group. list_any (touches group) c.args.links.now) c.loop-link.flags.items c.args.count false c.loop-link.invariant.total
     (λ k inside. c.loop-link.invariant.flagged k inside ∙ ap (λ (ls : List QLink). list_any (touches k) ls)
-        (take_all c.loop-link.link-index c.args.links.now c.loop-link-test.false))
+    (take_all c.loop-link.link-index c.args.links.now c.loop-link-test.false))

@@ -21,10 +21,10 @@ index-is_linked-requires c =
 pub loop-group-preserved : goal.loop-group-preserved
 loop-group-preserved c =
     let flag = flag_is (λ group. list_any (touches group) c.args.links.now) c.in_ok-linked.linked.items c.args.count c.loop-group.group
-        c.index-is_linked.result.now c.in_ok-linked.ensures c.loop-group-test.true c.index-is_linked.ensures in
+    c.index-is_linked.result.now c.in_ok-linked.ensures c.loop-group-test.true c.index-is_linked.ensures in
     one_more (number_of_group c.args.srp.now c.args.p.now c.args.links.now) _ _ c.loop-group.group _ c.loop-group.invariant c.in_ok-push.ensures.ok
     (c.number_of_group.ensures ∙ ap (λ (b : Bool). if is_some (initial c.args.srp.now (first_member c.args.p.now c.loop-group.group)) || b then first_number
-        c.args.srp.now.numbers c.args.p.now c.loop-group.group else 0) flag)
+    c.args.srp.now.numbers c.args.p.now c.loop-group.group else 0) flag)
 
 pub returns : goal.returns
 returns c =

@@ -9,7 +9,7 @@ pub returns-in-None : goal.returns-in-None
 returns-in-None c =
     sym (set_broken c.loop-word.comms.items c.in-Some.word.now (words_of c.in-Some.more.now) c.loop-word.bound (sym c.in-None.ensures.value))
     ∙ sym (ap (λ (words : List (List ℕ)). behind_set c.loop-word.comms.items (communities_above c.loop-word.bound words)) c.in-Some.ensures.words)
-        ∙ c.loop-word.invariant.found
+    ∙ c.loop-word.invariant.found
 
 pub loop-word-preserved : goal.loop-word-preserved
 loop-word-preserved c =
@@ -30,4 +30,4 @@ pub returns : goal.returns
 returns c =
     ap Some c.from_ascending.ensures ∙ sym (set_ended c.loop-word.comms.items c.loop-word.bound)
     ∙ sym (ap (λ (words : List (List ℕ)). behind_set c.loop-word.comms.items (communities_above c.loop-word.bound words)) c.in_default.ensures.words)
-        ∙ c.loop-word.invariant.found
+    ∙ c.loop-word.invariant.found

@@ -25,12 +25,12 @@ loop-from-smaller c =
     let count = c.run_length-count.result in
     let number = get_or path from 0 in
     let some = (run_at path from number count c.loop-from-test.true (get_or_default path from 0 number c.loop-from-test.true)
-        c.run_length-count.ensures.value).some in
+    c.run_length-count.ensures.value).some in
     omega (arith, some, c.loop-from-test.true)
 
 pub returns : goal.returns
 returns c =
     let rest = drop_all c.loop-from.from c.args.path.now c.loop-from-test.false in
     let none = ap (λ (xs : List ℕ). string_bytes c.loop-from.text ++ spaced_words (path_words xs)) rest
-        ∙ ap (λ (ws : List (List ℕ)). string_bytes c.loop-from.text ++ spaced_words ws) no_path ∙ append-nil (string_bytes c.loop-from.text) in
+    ∙ ap (λ (ws : List (List ℕ)). string_bytes c.loop-from.text ++ spaced_words ws) no_path ∙ append-nil (string_bytes c.loop-from.text) in
     sym none ∙ c.loop-from.invariant.written

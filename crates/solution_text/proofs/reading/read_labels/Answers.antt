@@ -23,7 +23,7 @@ returns-in-Ok-clause-exact c =
     let has = (subst (ArePlacesOf (λ (text : List ℕ). text) c.in_ok-places.places) c.as_slice.ensures c.in_ok-places.ensures).each in
     sym (answer_is c.args.protocol names c.requires.names (place_in c.in_ok-places.places) has bs)
     ∙ ap (λ (n : ℕ). answer_from c.args.protocol (place_in c.in_ok-places.places) (length (all_lines_of bs) + 1) (map (text_line bs) (all_lines_of bs))
-        (nothing_said n)) (sym c.len.ensures) ∙ c.in-Ok.ensures
+    (nothing_said n)) (sym c.len.ensures) ∙ c.in-Ok.ensures
 
 pub returns-in-Ok-clause-total : goal.returns-in-Ok-clause-total
 returns-in-Ok-clause-total c = labels_total c.args.protocol c.args.names.now c.args.bytes.now c.in-Ok.labels (returns-in-Ok-clause-exact c)
@@ -38,5 +38,5 @@ returns-clause-exact c =
     let names = c.args.names.now in
     let has = (subst (ArePlacesOf (λ (text : List ℕ). text) c.in_ok-places.places) c.as_slice.ensures c.in_ok-places.ensures).each in
     let same = ap (λ (n : ℕ). answer_from c.args.protocol (place_in c.in_ok-places.places) (length (all_lines_of bs) + 1) (map (text_line bs) (all_lines_of bs))
-        (nothing_said n)) c.len.ensures ∙ answer_is c.args.protocol names c.requires.names (place_in c.in_ok-places.places) has bs in
+    (nothing_said n)) c.len.ensures ∙ answer_is c.args.protocol names c.requires.names (place_in c.in_ok-places.places) has bs in
     refused_too c.in-Err.refusal _ _ (λ fault e. sym same ∙ e) c.in-Err.ensures

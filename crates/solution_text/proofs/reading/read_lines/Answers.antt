@@ -18,7 +18,7 @@ loop-from-init c =
     let bs = c.args.bytes.now in
     let nothing = c.in_ok-said.ensures in
     let count : length c.in_ok-said.said.seen ≡ c.args.count = ap (λ (s : LabelsSoFar). length s.seen) nothing
-        ∙ length-replicate {A = Bool} c.args.count false in
+    ∙ length-replicate {A = Bool} c.args.count false in
     record {
       few = omega arith;
       inside = omega arith;
@@ -67,8 +67,8 @@ returns-in-Err c =
     let place_of = place_in c.args.places.now in
     let last = length (all_lines_of bs) + 1 in
     refused_too c.in-Err.refusal _ _ (λ fault e. sym c.loop-from.invariant.answer
-        ∙ left_fault c.args.protocol place_of last bs (c.loop-from.line + 1) c.loop-from.from c.newline_from-end.result c.without_return-upto.result cut
-            c.loop-from.said fault e) c.in-Err.ensures
+    ∙ left_fault c.args.protocol place_of last bs (c.loop-from.line + 1) c.loop-from.from c.newline_from-end.result c.without_return-upto.result cut
+    c.loop-from.said fault e) c.in-Err.ensures
 
 pub returns-in-Some : goal.returns-in-Some
 returns-in-Some c =
@@ -76,14 +76,17 @@ returns-in-Some c =
     let place_of = place_in c.args.places.now in
     let last = length (all_lines_of bs) + 1 in
     sym c.loop-from.invariant.answer ∙ none_left c.args.protocol place_of last bs (c.loop-from.line + 1) c.loop-from.from c.loop-from.said
-        c.loop-from-test.false ∙ ap (labels_unless None last) (sym c.in-Some.ensures)
+    c.loop-from-test.false ∙ ap (labels_unless None last) (sym c.in-Some.ensures)
 
 pub returns-in-None : goal.returns-in-None
 returns-in-None c =
     let bs = c.args.bytes.now in
     let place_of = place_in c.args.places.now in
     let last = length (all_lines_of bs) + 1 in
-    let at : last ≡ c.loop-from.line + 1 = omega (arith, c.loop-from.invariant.left,
-        none_counted bs (c.loop-from.line + 1) c.loop-from.from c.loop-from-test.false) in
+    let at : last ≡ c.loop-from.line + 1 = omega (
+      arith,
+      c.loop-from.invariant.left,
+      none_counted bs (c.loop-from.line + 1) c.loop-from.from c.loop-from-test.false,
+    ) in
     sym c.loop-from.invariant.answer ∙ none_left c.args.protocol place_of last bs (c.loop-from.line + 1) c.loop-from.from c.loop-from.said
-        c.loop-from-test.false ∙ ap (labels_unless None last) (sym c.in-None.ensures) ∙ ap (λ (n : ℕ). Err (At n Missing)) at
+    c.loop-from-test.false ∙ ap (labels_unless None last) (sym c.in-None.ensures) ∙ ap (λ (n : ℕ). Err (At n Missing)) at

@@ -8,4 +8,4 @@ loop-number-preserved c = below_more _ _ c.loop-number.invariant (c.is_like.ensu
 pub returns-clause-none : goal.returns-clause-none
 returns-clause-none c = λ none number act inside at.
     c.loop-number.invariant inside.0 (omega (arith, inside.1)) act
-        (ap (slice_get c.args.acts.now) (read_zero c.args.numbers.now inside.0 number inside.1 inside.2) ∙ at)
+    (ap (slice_get c.args.acts.now) (read_zero c.args.numbers.now inside.0 number inside.1 inside.2) ∙ at)

@@ -25,7 +25,7 @@ take-requires-clause-inside c =
     let imports = ap (λ (l : List ImportByPolicies). length l) c.as_slice-imports.ensures.value in
     let total = c.requires.total in
     c.requires.inside c.loop-i.i _ (read_slice c.as_slice-imports.result.now c.args.directions.now.imports.items c.loop-i.i
-        (record { out = 0; sends = false; into = 0 }) c.as_slice-imports.ensures.value (omega arith))
+    (record { out = 0; sends = false; into = 0 }) c.as_slice-imports.ensures.value (omega arith))
 
 pub take-requires-clause-few : goal.take-requires-clause-few
 take-requires-clause-few c =
@@ -49,19 +49,22 @@ loop-i-preserved c =
     let total = c.requires.total in
     let inside : i < length directions.hops.items = omega arith in
     let read_hop : slice_get directions.hops.items i ≡ Some hop =
-        read_slice c.as_slice-hops.result.now directions.hops.items i none_hop c.as_slice-hops.ensures.value (omega arith) in
+    read_slice c.as_slice-hops.result.now directions.hops.items i none_hop c.as_slice-hops.ensures.value (omega arith) in
     let read_import : slice_get directions.imports.items i ≡ Some import =
-        read_slice c.as_slice-imports.result.now directions.imports.items i none_import c.as_slice-imports.ensures.value (omega arith) in
+    read_slice c.as_slice-imports.result.now directions.imports.items i none_import c.as_slice-imports.ensures.value (omega arith) in
     record {
       grows = c.growth_adds_up.ensures c.args.store.now c.loop-i.store c.take.new.store c.loop-i.invariant.grows c.take.ensures.grows;
       right = c.in_ok-take.ensures.right;
       few = (let a = c.in_ok-take.ensures.grown in let b = c.loop-i.invariant.few in omega arith);
       so_far = λ routers are.
           edges_next c.loop-i.store c.take.new.store routers c.args.init.now lines directions.hops.items i hop none_hop c.loop-i.found c.take.new.self inside
-              (get_or_from_slice_get directions.hops.items i hop none_hop read_hop)
+          (get_or_from_slice_get directions.hops.items i hop none_hop read_hop)
           (c.loop-i.invariant.so_far routers are) c.in_ok-take.ensures.right
-          (c.in_ok-take.ensures.takes routers lines (record { maps_are = refl; is =
-              import_numbered routers directions.policies maps hop import (are.each i hop import read_hop read_import) }));
+          (c.in_ok-take.ensures.takes routers lines (record {
+            maps_are = refl;
+            is =
+                import_numbered routers directions.policies maps hop import (are.each i hop import read_hop read_import);
+          }));
     }
 
 pub returns-clause-edges : goal.returns-clause-edges
@@ -69,4 +72,4 @@ returns-clause-edges c = λ routers are.
     let directions = c.args.directions.now in
     let hops_are = ap (λ (l : List Hop). length l) c.as_slice-hops.ensures.value in
     subst (λ (l : List Hop). AreEdgesOfSessions c.loop-i.store routers c.args.init.now (line_maps directions.policies c.args.maps.now) l c.loop-i.found)
-        (take_whole directions.hops.items c.loop-i.i (omega arith)) (c.loop-i.invariant.so_far routers are)
+    (take_whole directions.hops.items c.loop-i.i (omega arith)) (c.loop-i.invariant.so_far routers are)

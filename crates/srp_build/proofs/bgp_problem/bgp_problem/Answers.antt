@@ -32,7 +32,7 @@ imports_are n found are = subst (λ (h : List Hop). AreImportsOf n.routers found
 
 lines_are : (n : Network) (p : Prefix) (routers : List Router) (firsts : List LinePlace) (found : SessionHops) (maps : PolicyMaps) → routers ≡ n.routers
     → firsts ≡ found.policies.firsts.items → AreSessionHops n.routers (directions_of n) found
-        → AreMapsOfPolicies p routers firsts maps.maps.items maps.numbers.items → AreLineMaps p n.routers (line_maps found.policies maps)
+    → AreMapsOfPolicies p routers firsts maps.maps.items maps.numbers.items → AreLineMaps p n.routers (line_maps found.policies maps)
 lines_are n p routers firsts found maps routers_are firsts_are are of_policies =
     line_maps_are p n.routers found.policies maps are.policies
     (subst (λ (k : List LinePlace). AreMapsOfPolicies p n.routers k maps.maps.items maps.numbers.items) firsts_are
@@ -52,7 +52,7 @@ policy_maps-requires c =
     let same = c.network.ensures.same in
     let routers_are = c.as_slice-routers.ensures ∙ ap (λ (m : Network). m.routers) same in
     have_places n c.as_slice-routers.result.now c.as_slice-places.result.now c.args.directions.now routers_are c.as_slice-places.ensures.value
-        c.requires.directions.hops
+    c.requires.directions.hops
 
 pub written_acts-requires : goal.written_acts-requires
 written_acts-requires c =
@@ -60,7 +60,7 @@ written_acts-requires c =
     let same = c.network.ensures.same in
     let routers_are = c.as_slice-routers.ensures ∙ ap (λ (m : Network). m.routers) same in
     have_places n c.as_slice-routers.result.now c.as_slice-places.result.now c.args.directions.now routers_are c.as_slice-places.ensures.value
-        c.requires.directions.hops
+    c.requires.directions.hops
 
 pub bgp_edges-requires-clause-total : goal.bgp_edges-requires-clause-total
 bgp_edges-requires-clause-total c = (imports_are c.args.net.now.network c.args.directions.now c.requires.directions.hops).total
@@ -77,7 +77,7 @@ bgp_edges-requires-clause-inside c =
     let routers_are = c.as_slice-routers.ensures ∙ ap (λ (m : Network). m.routers) same in
     inside_are c.first_prefix-p.result n.routers found.policies c.in_ok-maps.maps found.hops.items found.imports.items
     (lines_are n c.first_prefix-p.result c.as_slice-routers.result.now c.deref.result.now found c.in_ok-maps.maps routers_are c.deref.ensures.value
-        c.requires.directions.hops c.in_ok-maps.ensures)
+    c.requires.directions.hops c.in_ok-maps.ensures)
     (imports_are n found c.requires.directions.hops)
 
 pub bgp_edges-requires-clause-within : goal.bgp_edges-requires-clause-within
@@ -88,7 +88,7 @@ bgp_edges-requires-clause-within c =
     let routers_are = c.as_slice-routers.ensures ∙ ap (λ (m : Network). m.routers) same in
     maps_within c.maps_stay_within.ensures n c.first_prefix-p.result c.args.store.now.universe (line_maps found.policies c.in_ok-maps.maps) c.requires.known
     (lines_are n c.first_prefix-p.result c.as_slice-routers.result.now c.deref.result.now found c.in_ok-maps.maps routers_are c.deref.ensures.value
-        c.requires.directions.hops c.in_ok-maps.ensures)
+    c.requires.directions.hops c.in_ok-maps.ensures)
 
 pub lone_of-requires-clause-importers : goal.lone_of-requires-clause-importers
 lone_of-requires-clause-importers c =
@@ -96,11 +96,11 @@ lone_of-requires-clause-importers c =
     let same = c.network.ensures.same in
     let routers_are = c.as_slice-routers.ensures ∙ ap (λ (m : Network). m.routers) same in
     let edges = sorted_edges n n.routers c.in_ok-init.init c.as_slice-2.result.now (line_maps c.args.directions.now.policies c.in_ok-maps.maps)
-        c.bgp_edges.new.store c.args.directions.now.hops.items c.in_ok-found.found refl c.as_slice-2.ensures c.requires.directions.hops.hops_are
-            (c.in_ok-found.ensures.edges n.routers (imports_are n c.args.directions.now c.requires.directions.hops)) in
+    c.bgp_edges.new.store c.args.directions.now.hops.items c.in_ok-found.found refl c.as_slice-2.ensures c.requires.directions.hops.hops_are
+    (c.in_ok-found.ensures.edges n.routers (imports_are n c.args.directions.now c.requires.directions.hops)) in
     subst (λ (r : List Router). All (λ (e : Edge). e.importer < length r) c.as_slice-edges.result.now) (sym routers_are)
     (subst (λ (l : List Edge). All (λ (e : Edge). e.importer < length n.routers) l) (sym c.as_slice-edges.ensures)
-        (importers_inside n c.bgp_edges.new.store c.in_ok-init.init (line_maps c.args.directions.now.policies c.in_ok-maps.maps) c.in_ok-found.found edges))
+    (importers_inside n c.bgp_edges.new.store c.in_ok-init.init (line_maps c.args.directions.now.policies c.in_ok-maps.maps) c.in_ok-found.found edges))
 
 pub lone_of-requires-clause-acts : goal.lone_of-requires-clause-acts
 lone_of-requires-clause-acts c =
@@ -108,11 +108,11 @@ lone_of-requires-clause-acts c =
     let same = c.network.ensures.same in
     let routers_are = c.as_slice-routers.ensures ∙ ap (λ (m : Network). m.routers) same in
     let edges = sorted_edges n n.routers c.in_ok-init.init c.as_slice-2.result.now (line_maps c.args.directions.now.policies c.in_ok-maps.maps)
-        c.bgp_edges.new.store c.args.directions.now.hops.items c.in_ok-found.found refl c.as_slice-2.ensures c.requires.directions.hops.hops_are
-            (c.in_ok-found.ensures.edges n.routers (imports_are n c.args.directions.now c.requires.directions.hops)) in
+    c.bgp_edges.new.store c.args.directions.now.hops.items c.in_ok-found.found refl c.as_slice-2.ensures c.requires.directions.hops.hops_are
+    (c.in_ok-found.ensures.edges n.routers (imports_are n c.args.directions.now c.requires.directions.hops)) in
     subst (λ (a : List BgpAct). All (λ (e : Edge). e.act < length a) c.as_slice-edges.result.now) (sym c.deref-2.ensures.value)
     (subst (λ (l : List Edge). All (λ (e : Edge). e.act < length c.in_ok-found.found.acts.acts.items) l) (sym c.as_slice-edges.ensures)
-        (acts_inside n c.bgp_edges.new.store c.in_ok-init.init (line_maps c.args.directions.now.policies c.in_ok-maps.maps) c.in_ok-found.found edges))
+    (acts_inside n c.bgp_edges.new.store c.in_ok-init.init (line_maps c.args.directions.now.policies c.in_ok-maps.maps) c.in_ok-found.found edges))
 
 pub new-problem-requires : goal.new-problem-requires
 new-problem-requires c =
@@ -123,11 +123,11 @@ new-problem-requires c =
     let few = subst (λ (m : Network). length m.routers ≤ 4096) same c.network.ensures.few_routers in
     let few_hops = c.requires.directions.few in
     let marks = subst (λ (a : List BgpAct). AreLone c.bgp_edges.new.store a (length c.as_slice-routers.result.now) c.as_slice-edges.result.now
-        c.in_ok-lone.lone) c.deref-2.ensures.value c.in_ok-lone.ensures in
+    c.in_ok-lone.lone) c.deref-2.ensures.value c.in_ok-lone.ensures in
     let marks_of_edges = subst (λ (l : List Edge). AreLone c.bgp_edges.new.store c.in_ok-found.found.acts.acts.items (length c.as_slice-routers.result.now) l
-        c.in_ok-lone.lone) c.as_slice-edges.ensures marks in
+    c.in_ok-lone.lone) c.as_slice-edges.ensures marks in
     let call : IsCall n c.args.class.now c.first_prefix-p.result c.in_ok-names.names c.in_ok-numbers.numbers c.in_ok-init.init c.in_ok-lone.lone
-        c.in_ok-acts.acts (line_maps c.args.directions.now.policies c.in_ok-maps.maps) c.bgp_edges.new.store c.in_ok-found.found = record {
+    c.in_ok-acts.acts (line_maps c.args.directions.now.policies c.in_ok-maps.maps) c.bgp_edges.new.store c.in_ok-found.found = record {
       bgp = is_bgp n form c.args.net.now.faultless few (bgp_is (protocol_of n) c.requires.directions.bgp);
       sessions_import = c.session_imports.ensures;
       add_nothing = c.in_maps_add_nothing.ensures;
@@ -138,7 +138,7 @@ new-problem-requires c =
           c.deref.ensures.value c.requires.directions.hops c.in_ok-maps.ensures;
       edges = sorted_edges n n.routers c.in_ok-init.init c.as_slice-2.result.now (line_maps c.args.directions.now.policies c.in_ok-maps.maps)
           c.bgp_edges.new.store c.args.directions.now.hops.items c.in_ok-found.found refl c.as_slice-2.ensures c.requires.directions.hops.hops_are
-              (c.in_ok-found.ensures.edges n.routers (imports_are n c.args.directions.now c.requires.directions.hops));
+          (c.in_ok-found.ensures.edges n.routers (imports_are n c.args.directions.now c.requires.directions.hops));
       marks = subst (λ (r : List Router). AreLone c.bgp_edges.new.store c.in_ok-found.found.acts.acts.items (length r) c.in_ok-found.found.edges
           c.in_ok-lone.lone) routers_are marks_of_edges;
       names_are = c.in_ok-names.ensures ∙ ap (λ (r : List Router). map (λ (router : Router). router.name) r) routers_are;
@@ -146,7 +146,7 @@ new-problem-requires c =
       acts_are = c.in_ok-acts.ensures ∙ (λ j. map (λ (act : BgpAct). act_of_hop c.first_prefix-p.result (routers_are j) act.first) (c.deref-3.ensures.value j));
     } in
     λ keeps. rules_kept n c.args.class.now c.first_prefix-p.result c.in_ok-names.names c.in_ok-numbers.numbers c.in_ok-init.init c.in_ok-lone.lone
-        c.in_ok-acts.acts (line_maps c.args.directions.now.policies c.in_ok-maps.maps) c.bgp_edges.new.store c.in_ok-found.found call few_hops keeps
+    c.in_ok-acts.acts (line_maps c.args.directions.now.policies c.in_ok-maps.maps) c.bgp_edges.new.store c.in_ok-found.found call few_hops keeps
 
 pub returns-clause-built : goal.returns-clause-built
 returns-clause-built c =
@@ -157,11 +157,11 @@ returns-clause-built c =
     let few = subst (λ (m : Network). length m.routers ≤ 4096) same c.network.ensures.few_routers in
     let few_hops = c.requires.directions.few in
     let marks = subst (λ (a : List BgpAct). AreLone c.bgp_edges.new.store a (length c.as_slice-routers.result.now) c.as_slice-edges.result.now
-        c.in_ok-lone.lone) c.deref-2.ensures.value c.in_ok-lone.ensures in
+    c.in_ok-lone.lone) c.deref-2.ensures.value c.in_ok-lone.ensures in
     let marks_of_edges = subst (λ (l : List Edge). AreLone c.bgp_edges.new.store c.in_ok-found.found.acts.acts.items (length c.as_slice-routers.result.now) l
-        c.in_ok-lone.lone) c.as_slice-edges.ensures marks in
+    c.in_ok-lone.lone) c.as_slice-edges.ensures marks in
     let call : IsCall n c.args.class.now c.first_prefix-p.result c.in_ok-names.names c.in_ok-numbers.numbers c.in_ok-init.init c.in_ok-lone.lone
-        c.in_ok-acts.acts (line_maps c.args.directions.now.policies c.in_ok-maps.maps) c.bgp_edges.new.store c.in_ok-found.found = record {
+    c.in_ok-acts.acts (line_maps c.args.directions.now.policies c.in_ok-maps.maps) c.bgp_edges.new.store c.in_ok-found.found = record {
       bgp = is_bgp n form c.args.net.now.faultless few (bgp_is (protocol_of n) c.requires.directions.bgp);
       sessions_import = c.session_imports.ensures;
       add_nothing = c.in_maps_add_nothing.ensures;
@@ -172,7 +172,7 @@ returns-clause-built c =
           c.deref.ensures.value c.requires.directions.hops c.in_ok-maps.ensures;
       edges = sorted_edges n n.routers c.in_ok-init.init c.as_slice-2.result.now (line_maps c.args.directions.now.policies c.in_ok-maps.maps)
           c.bgp_edges.new.store c.args.directions.now.hops.items c.in_ok-found.found refl c.as_slice-2.ensures c.requires.directions.hops.hops_are
-              (c.in_ok-found.ensures.edges n.routers (imports_are n c.args.directions.now c.requires.directions.hops));
+          (c.in_ok-found.ensures.edges n.routers (imports_are n c.args.directions.now c.requires.directions.hops));
       marks = subst (λ (r : List Router). AreLone c.bgp_edges.new.store c.in_ok-found.found.acts.acts.items (length r) c.in_ok-found.found.edges
           c.in_ok-lone.lone) routers_are marks_of_edges;
       names_are = c.in_ok-names.ensures ∙ ap (λ (r : List Router). map (λ (router : Router). router.name) r) routers_are;
@@ -180,5 +180,5 @@ returns-clause-built c =
       acts_are = c.in_ok-acts.ensures ∙ (λ j. map (λ (act : BgpAct). act_of_hop c.first_prefix-p.result (routers_are j) act.first) (c.deref-3.ensures.value j));
     } in
     is_built n c.args.class.now c.first_prefix-p.result c.in_ok-names.names c.in_ok-numbers.numbers c.in_ok-init.init c.in_ok-lone.lone c.in_ok-acts.acts
-        (line_maps c.args.directions.now.policies c.in_ok-maps.maps) c.bgp_edges.new.store c.in_ok-found.found call few_hops c.new-problem.result
-            c.new-problem.ensures c.count-known.ensures.rules
+    (line_maps c.args.directions.now.policies c.in_ok-maps.maps) c.bgp_edges.new.store c.in_ok-found.found call few_hops c.new-problem.result
+    c.new-problem.ensures c.count-known.ensures.rules

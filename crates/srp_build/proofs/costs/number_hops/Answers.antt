@@ -18,15 +18,15 @@ pub loop-number-preserved : goal.loop-number-preserved
 loop-number-preserved c =
     let f = hop_at c.args.links.now in
     let inside : c.loop-number.number-index < length (map f c.args.numbers.now) =
-        subst (λ (n : ℕ). c.loop-number.number-index < n) (sym (length-map c.args.numbers.now f)) c.loop-number-test.true in
+    subst (λ (n : ℕ). c.loop-number.number-index < n) (sym (length-map c.args.numbers.now f)) c.loop-number-test.true in
     numbers_next c.args.routers.now c.loop-number.costs c.push_edge.new.costs (map f c.args.numbers.now) c.loop-number.number-index c.loop-number.edges
-        c.push_edge.new.edges c.hop_at-hop.result c.hop_at-hop.result inside
-            (get_or-map f c.args.numbers.now c.loop-number.number-index 0 c.hop_at-hop.result c.loop-number-test.true ∙ sym c.hop_at-hop.ensures)
-                c.loop-number.invariant c.in_ok-push_edge.ensures
+    c.push_edge.new.edges c.hop_at-hop.result c.hop_at-hop.result inside
+    (get_or-map f c.args.numbers.now c.loop-number.number-index 0 c.hop_at-hop.result c.loop-number-test.true ∙ sym c.hop_at-hop.ensures)
+    c.loop-number.invariant c.in_ok-push_edge.ensures
 
 pub returns : goal.returns
 returns c =
     let hops = map (hop_at c.args.links.now) c.args.numbers.now in
     subst (λ (l : List Hop). NumbersHops c.args.routers.now c.loop-number.costs l c.loop-number.edges)
-        (take_all c.loop-number.number-index hops (subst (λ (n : ℕ). n ≤ c.loop-number.number-index)
-            (sym (length-map c.args.numbers.now (hop_at c.args.links.now))) c.loop-number-test.false)) c.loop-number.invariant
+    (take_all c.loop-number.number-index hops (subst (λ (n : ℕ). n ≤ c.loop-number.number-index)
+    (sym (length-map c.args.numbers.now (hop_at c.args.links.now))) c.loop-number-test.false)) c.loop-number.invariant

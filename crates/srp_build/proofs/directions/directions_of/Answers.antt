@@ -45,7 +45,7 @@ returns-then-runs_bgp c =
     let links_are = c.as_slice-links.ensures ∙ c.requires in
     let few_links = c.few_links.ensures n (c.given_is_well_formed.ensures n c.args.net.now.given) c.args.net.now.faultless in
     let same = sorted_are n c.as_slice-routers.result.now c.as_slice-links.result.now c.in_ok-hops.hops.items routers_are links_are c.in_ok-hops.ensures.sorted
-        in
+    in
     record {
       bgp = sym c.runs_bgp.ensures ∙ c.if-runs_bgp.true;
       hops = subst (λ (r : List Router). AreSessionHops r (directions_of n) c.in_ok-found.found) routers_are
@@ -90,7 +90,7 @@ returns c =
       not_bgp = sym c.runs_bgp.ensures ∙ c.if-runs_bgp.false;
       numbers = subst (λ (r : List Router). NumbersHops r numbered.costs (directions_of n) numbered.edges) routers_are
           (subst (λ (h : List Hop). NumbersHops c.as_slice-routers.result.now numbered.costs h numbered.edges) (ap (map f) c.deref.ensures.value ∙ same)
-              c.in_ok-numbered.ensures);
+          c.in_ok-numbered.ensures);
       few = few_directions n c.as_slice-links.result.now hops links_are same (length-map c.in_ok-numbers.numbers.items f ∙ c.in_ok-numbers.ensures.len)
           few_links;
     }

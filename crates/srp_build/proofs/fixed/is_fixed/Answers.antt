@@ -16,4 +16,4 @@ returns-in-Some c = λ free.
     is_fixed router c.args.inbound c.args.line.now
     (ap (λ (o : Option Named). is_none o) (sym c.list_named.ensures) ∙ not_some c.list_named.result.now (sym c.is_some.ensures ∙ c.if-is_some.false))
     (ap (λ (o : Option Named). option_map_or (λ (n : Named). names_no_list router n.name) o true) (sym c.map_named.ensures ∙ c.in-Some.is)
-        ∙ sym c.names_no_list.ensures ∙ free)
+    ∙ sym c.names_no_list.ensures ∙ free)

@@ -28,10 +28,10 @@ returns c =
     let read = c.in-Some.ensures.lookup in
     let line = c.in-Some-get-2.ensures.lookup in
     let there : slice_get routers c.args.line.router ≡ Some router =
-        slice_get_read routers (length routers) c.args.line.router router refl (let a = read.0 in omega arith) read.1 in
+    slice_get_read routers (length routers) c.args.line.router router refl (let a = read.0 in omega arith) read.1 in
     let stands : slice_get (neighbors_of router) item ≡ Some named =
     ap (λ (l : List Neighbor). slice_get l item) (sym c.neighbors.ensures)
-        ∙ slice_get_read lines (length lines) item named refl (let a = line.0 in omega arith) line.1 in
+    ∙ slice_get_read lines (length lines) item named refl (let a = line.0 in omega arith) line.1 in
     let map_in = map_of_line c.args.p router c.args.line.inbound in
     subst (λ (o : Option Router). IfOk c.map_of_line.result (λ plain. plain ≡ option_map_or (λ (r : Router).
     option_map_or (map_of_line c.args.p r c.args.line.inbound) (slice_get (neighbors_of r) item) deny_all) o deny_all)) (sym there)

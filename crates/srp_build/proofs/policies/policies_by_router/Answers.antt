@@ -17,7 +17,7 @@ loop-at-preserved c =
     record {
       have = subst (λ (t : List (List ℕ)). HavePolicies routers c.args.inbound new (take (i + 1) routers) t) (sym c.in_ok-push.ensures.ok)
           (have_next routers c.args.inbound old new routers i there.item c.loop-at.by_router c.in_ok-numbers.numbers c.loop-at-test.true read kept
-              c.loop-at.invariant.have (c.in_ok-numbers.ensures.policies there.item there.at));
+          c.loop-at.invariant.have (c.in_ok-numbers.ensures.policies there.item there.at));
       fixed = c.in_ok-numbers.ensures.fixed;
       kept = λ k policy at. kept k policy (c.loop-at.invariant.kept k policy at);
     }

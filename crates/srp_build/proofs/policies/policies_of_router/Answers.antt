@@ -22,18 +22,18 @@ loop-i-preserved c =
     let pushed = c.in_ok-push.ensures.ok in
     let first : LinePlace = record { router = c.args.at; item = c.loop-i.i; inbound = c.args.inbound } in
     let read_router : slice_get routers c.args.at ≡ Some router =
-        slice_get_read routers (length routers) c.args.at router refl c.requires.inside c.index-routers-at.is in
+    slice_get_read routers (length routers) c.args.at router refl c.requires.inside c.index-routers-at.is in
     let read : slice_get (neighbors_of router) c.loop-i.i ≡ Some line = ap (λ (l : List Neighbor). slice_get l c.loop-i.i) (sym c.neighbors-lines.ensures)
-        ∙ slice_get_read c.neighbors-lines.result.now (length c.neighbors-lines.result.now) c.loop-i.i line refl c.loop-i-test.true c.index-lines-i.is in
+    ∙ slice_get_read c.neighbors-lines.result.now (length c.neighbors-lines.result.now) c.loop-i.i line refl c.loop-i-test.true c.index-lines-i.is in
     let there : IsLineAt routers first router line = record {
       at = read_router;
       line_at = read;
     } in
     let seen : IsSeenOrNumbered old new first router numbers line number =
-        subst (λ (l : List ℕ). IsSeenOrNumbered old new first router l line number) c.as_slice.ensures c.in_ok-number.ensures in
+    subst (λ (l : List ℕ). IsSeenOrNumbered old new first router l line number) c.as_slice.ensures c.in_ok-number.ensures in
     let step : LineSteps routers old new router c.args.inbound numbers number =
-        line_step routers old new first router numbers line number there (ap (slice_get (neighbors_of router)) total ∙ read) c.loop-i.invariant.fixed
-            c.loop-i.invariant.each seen in
+    line_step routers old new first router numbers line number there (ap (slice_get (neighbors_of router)) total ∙ read) c.loop-i.invariant.fixed
+    c.loop-i.invariant.each seen in
     record {
       total = (let a = ap (λ (l : List ℕ). length l) pushed in let b = length_last numbers number in omega arith);
       each = subst (λ (l : List ℕ). ArePoliciesOf routers router c.args.inbound new.firsts.items (neighbors_of router) l) (sym pushed) step.each;
@@ -45,12 +45,12 @@ pub returns-clause-policies : goal.returns-clause-policies
 returns-clause-policies c = λ router at.
     let routers = c.args.routers.now in
     let read_router : slice_get routers c.args.at ≡ Some c.index-routers-at.result =
-        slice_get_read routers (length routers) c.args.at c.index-routers-at.result refl c.requires.inside c.index-routers-at.is in
+    slice_get_read routers (length routers) c.args.at c.index-routers-at.result refl c.requires.inside c.index-routers-at.is in
     let same : c.index-routers-at.result ≡ router = (let both = sym read_router ∙ at in cc) in
     let total = c.loop-i.invariant.total in
     let lines = ap (λ (l : List Neighbor). length l) c.neighbors-lines.ensures in
     subst (λ (r : Router). HasPolicies routers r c.args.inbound c.loop-i.table.firsts.items c.loop-i.numbers) same
-        (record { total = omega arith; each = c.loop-i.invariant.each })
+    (record { total = omega arith; each = c.loop-i.invariant.each })
 
 pub policy_of_line-requires : goal.policy_of_line-requires
 policy_of_line-requires c =

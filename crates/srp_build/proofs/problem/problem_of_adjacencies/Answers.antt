@@ -22,10 +22,10 @@ ospf_problem-requires-clause-ospf c =
 pub returns-clause-problem : goal.returns-clause-problem
 returns-clause-problem c =
     subst (λ (n : Network). IfOk c.ospf_problem.result (λ problem. (p : Prefix) → Contains c.args.class.now.prefixes p → IsProblemOf n p problem))
-        c.network.ensures.same c.ospf_problem.ensures.problem
+    c.network.ensures.same c.ospf_problem.ensures.problem
 
 pub returns-clause-first : goal.returns-clause-first
 returns-clause-first c =
     subst (λ (n : Network). IfOk c.ospf_problem.result (λ problem. (p : Prefix) → Contains c.args.class.now.prefixes p → HasFirstActs n p problem))
-        c.network.ensures.same
+    c.network.ensures.same
     (ospf_first c.network.result.now c.args.class.now c.ospf_problem.result c.ospf_problem.ensures.problem c.ospf_problem.ensures.protocol)

@@ -11,7 +11,7 @@ unreachable-requires c =
     let policies = c.args.policies.now in
     let joins = c.requires.lines c.loop-hop.hop-index _ c.loop-hop-test.true in
     import_missing routers policies c.as_slice-outs.result.now c.as_slice-ins.result.now _ c.as_slice-outs.ensures c.as_slice-ins.ensures c.requires.policies
-        joins
+    joins
     (sym c.import_by_policies.ensures ∙ c.in_default.is)
 
 pub loop-hop-preserved : goal.loop-hop-preserved
@@ -22,4 +22,4 @@ loop-hop-preserved c =
     let i = c.loop-hop.hop-index in
     subst (λ (l : List ImportByPolicies). AreImportsOf routers policies (take (i + 1) hops) l) (sym c.in_ok-push.ensures.items)
     (imports_next routers policies c.as_slice-outs.result.now c.as_slice-ins.result.now hops i _ _ c.loop-hop.imports.items c.in-Some.import
-        c.as_slice-outs.ensures c.as_slice-ins.ensures c.loop-hop-test.true refl c.loop-hop.invariant (sym c.import_by_policies.ensures ∙ c.in-Some.is))
+    c.as_slice-outs.ensures c.as_slice-ins.ensures c.loop-hop-test.true refl c.loop-hop.invariant (sym c.import_by_policies.ensures ∙ c.in-Some.is))

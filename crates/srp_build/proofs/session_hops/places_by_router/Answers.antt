@@ -11,4 +11,4 @@ loop-router-preserved c =
     let router = c.router-item.result in
     subst (λ (l : List Places). HavePlaces (take (i + 1) routers) l) (sym c.in_ok-push.ensures.items)
     (places_next routers i router router c.loop-router.places.items c.in_ok-places_of.field-0 c.loop-router-test.true (sym c.router-item.is)
-        c.loop-router.invariant c.in_ok-places_of.ensures)
+    c.loop-router.invariant c.in_ok-places_of.ensures)

@@ -10,8 +10,8 @@ returns c =
     let edges = c.args.edges.now in
     let u = c.args.router in
     own_from_points edges u c.partition_point-first.result c.partition_point-end.result c.partition_point-first.ensures.bound
-        c.partition_point-end.ensures.bound
+    c.partition_point-end.ensures.bound
     (IsPartitionPoint-from_clause (λ (e : Edge). nat_lt e.importer u) edges c.partition_point-first.result c.partition_point-first.ensures.partitioned
-        (below_first edges u c.requires) (λ a r f' k. search rules))
+    (below_first edges u c.requires) (λ a r f' k. search rules))
     (IsPartitionPoint-from_clause (λ (e : Edge). nat_le e.importer u) edges c.partition_point-end.result c.partition_point-end.ensures.partitioned
-        (below_end edges u c.requires) (λ a r f' k. search rules))
+    (below_end edges u c.requires) (λ a r f' k. search rules))

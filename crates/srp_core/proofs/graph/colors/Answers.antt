@@ -9,6 +9,6 @@ loop-router-preserved c = record {
   few = few_more _ _ _ _ c.in_ok-color.ensures.grown c.loop-router.invariant.few;
   placed = placed_more c.args.srp.now _ _ _ _ _ _ _ c.in_ok-color.ensures.grown c.loop-router.invariant.colored c.in_ok-push.ensures.items
       c.in_ok-color.ensures.found (c.of-start.ensures ∙ start_read c.args.srp.now c.loop-router.router c.lone.result.now c.init.result.now
-          c.index-init-router.result (let rules = c.count-router-end.ensures.rules in let t = rules.tables.init in let e = ap length c.init.ensures in
-              omega (arith, t, e)) c.lone.ensures c.init.ensures c.index-init-router.is) c.loop-router.invariant.placed;
+      c.index-init-router.result (let rules = c.count-router-end.ensures.rules in let t = rules.tables.init in let e = ap length c.init.ensures in
+      omega (arith, t, e)) c.lone.ensures c.init.ensures c.index-init-router.is) c.loop-router.invariant.placed;
 }

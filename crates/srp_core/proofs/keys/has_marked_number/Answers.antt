@@ -10,4 +10,4 @@ returns-then-numbers-i c = sym (marked_from c.args.marks.now c.args.numbers.now 
 pub returns : goal.returns
 returns c = sym (false_from_ne_true (has_marked_number c.args.marks.now c.args.numbers.now c.args.wanted)
     (λ t. let m = marked_at c.args.marks.now c.args.numbers.now c.args.wanted t in let i = m.inside in
-        c.loop-i.invariant m.router (omega arith) m.mark m.number))
+    c.loop-i.invariant m.router (omega arith) m.mark m.number))

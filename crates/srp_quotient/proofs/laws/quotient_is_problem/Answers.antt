@@ -6,4 +6,4 @@ use Rattle.srp_quotient.proofs.laws.quotient_is_problem.Goals as goal
 pub returns : goal.returns
 returns c = λ problem groups count good adm numbered few.
     c.quotient_is_problem.ensures problem (small_of problem groups count) groups good adm (quotient_is_quotient problem groups count good adm numbered)
-        (keeps_tables problem groups count good adm numbered few)
+    (keeps_tables problem groups count good adm numbered few)

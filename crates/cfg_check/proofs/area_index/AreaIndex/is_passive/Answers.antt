@@ -12,15 +12,15 @@ returns-then-process c =
     let name = c.args.name.now in
     let process = c.in-Some.process in
     let listed : c.is_listed-is_listed.result ≡ list_any (bytes_eq name) (listed_of (Some process)) = c.is_listed-is_listed.ensures
-        ∙ ap (λ (o : Option OspfProcess). list_any (bytes_eq name) (listed_of o)) c.in-Some.is in
+    ∙ ap (λ (o : Option OspfProcess). list_any (bytes_eq name) (listed_of o)) c.in-Some.is in
     sym (ap (λ (o : Option OspfProcess). is_passive_in o name) c.in-Some.is
-        ∙ passive_by process name true c.is_listed-is_listed.result c.if-process.true listed)
+    ∙ passive_by process name true c.is_listed-is_listed.result c.if-process.true listed)
 
 pub returns-else-process : goal.returns-else-process
 returns-else-process c =
     let name = c.args.name.now in
     let process = c.in-Some.process in
     let listed : c.is_listed-is_listed.result ≡ list_any (bytes_eq name) (listed_of (Some process)) = c.is_listed-is_listed.ensures
-        ∙ ap (λ (o : Option OspfProcess). list_any (bytes_eq name) (listed_of o)) c.in-Some.is in
+    ∙ ap (λ (o : Option OspfProcess). list_any (bytes_eq name) (listed_of o)) c.in-Some.is in
     sym (ap (λ (o : Option OspfProcess). is_passive_in o name) c.in-Some.is
-        ∙ passive_by process name false c.is_listed-is_listed.result c.if-process.false listed)
+    ∙ passive_by process name false c.is_listed-is_listed.result c.if-process.false listed)

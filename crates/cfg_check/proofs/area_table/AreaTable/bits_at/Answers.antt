@@ -7,5 +7,5 @@ pub returns : goal.returns
 returns c =
     let table = c.args.self.now in
     word_at table.words.items table.lines.now table.chunks c.args.place c.digit_at.result c.args.chunk c.index.result.now table.rows c.requires.place
-        c.digit_at.ensures.bound c.requires.chunk c.index.ensures
+    c.digit_at.ensures.bound c.requires.chunk c.index.ensures
     ∙ ap (λ (digit : ℕ). bits_of (agrees_at c.args.place digit) table.lines.now c.args.chunk) c.digit_at.ensures.digit

@@ -12,4 +12,4 @@ unfolding known_in_interface refused_in_interface ignored_in_interface
 returns-in_default c =
     let none : IsNone c.args.first (97 ∷ 98 ∷ 99 ∷ 100 ∷ 101 ∷ 104 ∷ 105 ∷ 107 ∷ 108 ∷ 109 ∷ 110 ∷ 112 ∷ 115 ∷ 118 ∷ []) = search rules in
     sym (none_narrowed 105 1 c.args.first c.args.second (97 ∷ 98 ∷ 99 ∷ 100 ∷ 101 ∷ 104 ∷ 105 ∷ 107 ∷ 108 ∷ 109 ∷ 110 ∷ 112 ∷ 115 ∷ 118 ∷ []) interface_heads
-        refl none)
+    refl none)

@@ -15,6 +15,6 @@ pub returns-in_default : goal.returns-in_default
 unfolding known_at_top refused_at_top ignored_services ignored_device
 returns-in_default c =
     let none : IsNone c.args.first (66 ∷ 67 ∷ 97 ∷ 98 ∷ 99 ∷ 100 ∷ 101 ∷ 102 ∷ 104 ∷ 105 ∷ 108 ∷ 109 ∷ 110 ∷ 112 ∷ 114 ∷ 115 ∷ 116 ∷ 117 ∷ 118 ∷ []) =
-        search rules in
+    search rules in
     sym (none_narrowed 105 1 c.args.first c.args.second (66 ∷ 67 ∷ 97 ∷ 98 ∷ 99 ∷ 100 ∷ 101 ∷ 102 ∷ 104 ∷ 105 ∷ 108 ∷ 109 ∷ 110 ∷ 112 ∷ 114 ∷ 115 ∷ 116 ∷ 117
-        ∷ 118 ∷ []) top_heads refl none)
+    ∷ 118 ∷ []) top_heads refl none)

@@ -22,12 +22,12 @@ invariant_of-same c =
     let lists = c.self.inside.lists.items in
     let split = c.args.split in
     let known : (is_block blocks split.block && is_block blocks split.by) ≡ true =
-        subst (λ (b : Blocks). (is_block b split.block && is_block b split.by) ≡ true) (sym c.self.view_is) (sym c.if-not-are_blocks.ensures) in
+    subst (λ (b : Blocks). (is_block b split.block && is_block b split.by) ≡ true) (sym c.self.view_is) (sym c.if-not-are_blocks.ensures) in
     let inside = block_held blocks lists split.block c.self.invariant (and_first (is_block blocks split.block) (is_block blocks split.by) known) in
     let still = subst (λ (ns : List ℕ). AreStillMembersListed ns split.block c.index_mut-list.result.now.items c.has_stayer-stays.new.list.items)
-        c.deref-3.ensures.value c.has_stayer-stays.ensures.listed in
+    c.deref-3.ensures.value c.has_stayer-stays.ensures.listed in
     held_set blocks.numbers blocks.count lists split.block c.index_mut-list.result.now c.has_stayer-stays.new.list c.self.invariant inside
-        c.index_mut-list.ensures.value still
+    c.index_mut-list.ensures.value still
 
 pub returns-then-is_empty : goal.returns-then-is_empty
 returns-then-is_empty c =
@@ -36,18 +36,18 @@ returns-then-is_empty c =
     let lists = c.self.inside.lists.items in
     let split = c.args.split in
     let known : (is_block blocks split.block && is_block blocks split.by) ≡ true =
-        subst (λ (b : Blocks). (is_block b split.block && is_block b split.by) ≡ true) (sym c.self.view_is) (sym c.if-not-are_blocks.ensures) in
+    subst (λ (b : Blocks). (is_block b split.block && is_block b split.by) ≡ true) (sym c.self.view_is) (sym c.if-not-are_blocks.ensures) in
     let movers = c.in_ok-movers.movers.items in
     let are : AreMovers edges blocks.numbers split.block split.by c.args.act movers =
-        subst (λ (ns : List ℕ). AreMovers edges ns split.block split.by c.args.act movers) c.deref.ensures.value c.in_ok-movers.ensures in
+    subst (λ (ns : List ℕ). AreMovers edges ns split.block split.by c.args.act movers) c.deref.ensures.value c.in_ok-movers.ensures in
     let fault : split_by edges blocks split ≡ Err kinds.NothingSplit = elim c.then-is_empty.branch [
       | then-is_empty-via-then-is_empty w ↦ none_goes edges blocks split c.args.act lists movers known c.if-split.false c.requires.act c.self.invariant are
           (nil_from_length movers (search rules))
       | then-is_empty-via-else-is_empty+then-not-stays w ↦
           let all = subst (λ (ns : List ℕ). AllMove edges ns split.block split.by c.args.act c.index_mut-list.result.now.items) c.deref-3.ensures.value
-              (c.has_stayer-stays.ensures.none w.if-not-stays.true) in
+          (c.has_stayer-stays.ensures.none w.if-not-stays.true) in
           none_stays edges blocks split c.args.act lists movers known c.if-split.false c.requires.act c.self.invariant are c.index_mut-list.result.now
-              c.index_mut-list.ensures.value all
+          c.index_mut-list.ensures.value all
     ] in
     (subst (λ (b : Blocks). split_by edges b split ≡ Err kinds.NothingSplit) c.self.view_is fault, c.self.view_is)
 
@@ -60,24 +60,24 @@ invariant_of-after c =
     let blocks : Blocks = record { numbers = c.self.inside.numbers.items; count = c.self.inside.count } in
     let split = c.args.split in
     let known : (is_block blocks split.block && is_block blocks split.by) ≡ true =
-        subst (λ (b : Blocks). (is_block b split.block && is_block b split.by) ≡ true) (sym c.self.view_is) (sym c.if-not-are_blocks.ensures) in
+    subst (λ (b : Blocks). (is_block b split.block && is_block b split.by) ≡ true) (sym c.self.view_is) (sym c.if-not-are_blocks.ensures) in
     let movers = c.in_ok-movers.movers.items in
     let are : AreMovers edges blocks.numbers split.block split.by c.args.act movers =
-        subst (λ (ns : List ℕ). AreMovers edges ns split.block split.by c.args.act movers) c.deref.ensures.value c.in_ok-movers.ensures in
+    subst (λ (ns : List ℕ). AreMovers edges ns split.block split.by c.args.act movers) c.deref.ensures.value c.in_ok-movers.ensures in
     let new = c.renumber.new.numbers.items in
     let done : AreRenumbered blocks.numbers movers (blocks.count + 1) new =
-        subst (λ (us : List ℕ). AreRenumbered blocks.numbers us (blocks.count + 1) new) c.deref-4.ensures.value c.renumber.ensures in
+    subst (λ (us : List ℕ). AreRenumbered blocks.numbers us (blocks.count + 1) new) c.deref-4.ensures.value c.renumber.ensures in
     let stayer : HasStayer edges blocks.numbers split.block split.by c.args.act =
-        subst (λ (ns : List ℕ). HasStayer edges ns split.block split.by c.args.act) c.deref-3.ensures.value
-            (c.has_stayer-stays.ensures.stays c.if-not-stays.false) in
+    subst (λ (ns : List ℕ). HasStayer edges ns split.block split.by c.args.act) c.deref-3.ensures.value
+    (c.has_stayer-stays.ensures.stays c.if-not-stays.false) in
     let lists = c.self.inside.lists.items in
     let inside = block_held blocks lists split.block c.self.invariant (and_first (is_block blocks split.block) (is_block blocks split.by) known) in
     let still = subst (λ (ns : List ℕ). AreStillMembersListed ns split.block c.index_mut-list.result.now.items c.has_stayer-stays.new.list.items)
-        c.deref-3.ensures.value c.has_stayer-stays.ensures.listed in
+    c.deref-3.ensures.value c.has_stayer-stays.ensures.listed in
     let held = held_set blocks.numbers blocks.count lists split.block c.index_mut-list.result.now c.has_stayer-stays.new.list c.self.invariant inside
-        c.index_mut-list.ensures.value still in
+    c.index_mut-list.ensures.value still in
     held_after edges blocks split c.args.act (slice_set lists split.block c.has_stayer-stays.new.list) movers known c.if-split.false c.requires.act held are new
-        done (some_mover c) stayer c.push.new.self.items c.in_ok-movers.movers refl c.in_ok-push.ensures.items
+    done (some_mover c) stayer c.push.new.self.items c.in_ok-movers.movers refl c.in_ok-push.ensures.items
 
 pub returns : goal.returns
 returns c =
@@ -85,16 +85,16 @@ returns c =
     let blocks : Blocks = record { numbers = c.self.inside.numbers.items; count = c.self.inside.count } in
     let split = c.args.split in
     let known : (is_block blocks split.block && is_block blocks split.by) ≡ true =
-        subst (λ (b : Blocks). (is_block b split.block && is_block b split.by) ≡ true) (sym c.self.view_is) (sym c.if-not-are_blocks.ensures) in
+    subst (λ (b : Blocks). (is_block b split.block && is_block b split.by) ≡ true) (sym c.self.view_is) (sym c.if-not-are_blocks.ensures) in
     let movers = c.in_ok-movers.movers.items in
     let are : AreMovers edges blocks.numbers split.block split.by c.args.act movers =
-        subst (λ (ns : List ℕ). AreMovers edges ns split.block split.by c.args.act movers) c.deref.ensures.value c.in_ok-movers.ensures in
+    subst (λ (ns : List ℕ). AreMovers edges ns split.block split.by c.args.act movers) c.deref.ensures.value c.in_ok-movers.ensures in
     let new = c.renumber.new.numbers.items in
     let done : AreRenumbered blocks.numbers movers (blocks.count + 1) new =
-        subst (λ (us : List ℕ). AreRenumbered blocks.numbers us (blocks.count + 1) new) c.deref-4.ensures.value c.renumber.ensures in
+    subst (λ (us : List ℕ). AreRenumbered blocks.numbers us (blocks.count + 1) new) c.deref-4.ensures.value c.renumber.ensures in
     let stayer : HasStayer edges blocks.numbers split.block split.by c.args.act =
-        subst (λ (ns : List ℕ). HasStayer edges ns split.block split.by c.args.act) c.deref-3.ensures.value
-            (c.has_stayer-stays.ensures.stays c.if-not-stays.false) in
+    subst (λ (ns : List ℕ). HasStayer edges ns split.block split.by c.args.act) c.deref-3.ensures.value
+    (c.has_stayer-stays.ensures.stays c.if-not-stays.false) in
     let made = some_go edges blocks split c.args.act c.self.inside.lists.items movers known c.if-split.false c.requires.act c.self.invariant are new done
-        (some_mover c) stayer in
+    (some_mover c) stayer in
     subst (λ (b : Blocks). split_by edges b split ≡ Ok (record { numbers = new; count = blocks.count + 1 })) c.self.view_is made

@@ -16,9 +16,9 @@ pub are_even-requires-clause-members : goal.are_even-requires-clause-members
 are_even-requires-clause-members c =
     let gs : c.as_slice.result.now ≡ groups_of c.self.inside.blocks.numbers = c.as_slice.ensures ∙ c.in_ok-groups.ensures in
     let total : length c.self.inside.blocks.numbers ≡ c.args.graph.now.count = ap (λ (s : Standing). length s.blocks.numbers) c.self.view_is
-        ∙ c.requires.total in
+    ∙ c.requires.total in
     subst (λ (n : ℕ). All (All (λ router. router < n)) c.as_slice.result.now) total
-        (subst (All (All (λ router. router < length c.self.inside.blocks.numbers))) (sym gs) (groups_in_range c.self.inside.blocks.numbers))
+    (subst (All (All (λ router. router < length c.self.inside.blocks.numbers))) (sym gs) (groups_in_range c.self.inside.blocks.numbers))
 
 pub returns-then-not-are_even : goal.returns-then-not-are_even
 returns-then-not-are_even c =
@@ -27,9 +27,9 @@ returns-then-not-are_even c =
     let s : Standing = record { stage = c.self.inside.stage; splits = c.self.inside.splits; blocks = c.self.inside.blocks; named = c.self.inside.named } in
     let named : s.named ≡ length groups = c.if-named-len.false ∙ c.len.ensures in
     let uneven : list_all (is_even edges s.blocks.numbers) groups ≡ false = ap (λ (ns : List ℕ). list_all (is_even edges ns) groups) (sym c.numbers.ensures)
-        ∙ ap (list_all (is_even edges c.numbers.result.now)) (sym c.as_slice.ensures) ∙ sym c.if-not-are_even.ensures in
+    ∙ ap (list_all (is_even edges c.numbers.result.now)) (sym c.as_slice.ensures) ∙ sym c.if-not-are_even.ensures in
     subst (λ (t : Standing). with_all_groups edges t ≡ Err kinds.NotAdmissible) c.self.view_is
-        (closed_uneven edges s groups c.in_ok-groups.ensures named uneven)
+    (closed_uneven edges s groups c.in_ok-groups.ensures named uneven)
 
 pub returns : goal.returns
 returns c =
@@ -38,6 +38,6 @@ returns c =
     let s : Standing = record { stage = c.self.inside.stage; splits = c.self.inside.splits; blocks = c.self.inside.blocks; named = c.self.inside.named } in
     let named : s.named ≡ length groups = c.if-named-len.false ∙ c.len.ensures in
     let even : list_all (is_even edges s.blocks.numbers) groups ≡ true = ap (λ (ns : List ℕ). list_all (is_even edges ns) groups) (sym c.numbers.ensures)
-        ∙ ap (list_all (is_even edges c.numbers.result.now)) (sym c.as_slice.ensures) ∙ sym c.if-not-are_even.ensures in
+    ∙ ap (list_all (is_even edges c.numbers.result.now)) (sym c.as_slice.ensures) ∙ sym c.if-not-are_even.ensures in
     subst (λ (t : Standing). with_all_groups edges t ≡ Ok (record s { stage = Closed })) c.self.view_is
-        (closed_even edges s groups c.in_ok-groups.ensures named even)
+    (closed_even edges s groups c.in_ok-groups.ensures named even)

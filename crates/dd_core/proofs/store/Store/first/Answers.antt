@@ -10,7 +10,7 @@ use Rattle.dd_core.proofs.store.Store.first.Goals as goal
 
 found : (shown : Shown) → IsShown shown → (from v high low : ℕ) → from < length shown.nodes → slice_get shown.nodes from ≡ Some (Choice v high low)
     → (r : Option Community) → MatchOption r (length shown.universe ≤ v) (λ c. StandsAs shown.universe c.0 v)
-        → MatchOption r (DependsOnNone shown from) (λ c. IsFirstOf shown from c.0)
+    → MatchOption r (DependsOnNone shown from) (λ c. IsFirstOf shown from c.0)
 found shown is from v high low inside at None past = others_needs_none shown is from inside v high low at past
 found shown is from v high low inside at (Some c) stands = first_is shown is from inside v high low c.0 at stands
 

@@ -13,9 +13,9 @@ returns-clause-needed c =
     let last = ap (λ (l : List ℕ). length l) c.as_slice-others.ensures.all in
     let size = c.in_ok-used.ensures.total in
     let read : is_marked c.in_ok-used.used.items (length c.self.inside.universe) ≡ c.index.result.now = ap (is_marked c.in_ok-used.used.items) (sym last)
-        ∙ read_mark c.in_ok-used.used.items _ c.index.result.now (omega arith) c.index.ensures in
+    ∙ read_mark c.in_ok-used.used.items _ c.index.result.now (omega arith) c.index.ensures in
     rw (← c.self.view_is, ← c.place.ensures) (λ yes. others_needed _ c.self.invariant c.place.result c.in_ok-used.used.items (omega arith) c.in_ok-used.ensures
-        (read ∙ yes))
+    (read ∙ yes))
 
 pub returns-clause-all : goal.returns-clause-all
 returns-clause-all c =
@@ -25,6 +25,6 @@ returns-clause-all c =
     let last = ap (λ (l : List ℕ). length l) c.as_slice-others.ensures.all in
     let size = c.in_ok-used.ensures.total in
     let read : is_marked c.in_ok-used.used.items (length c.self.inside.universe) ≡ c.index.result.now = ap (is_marked c.in_ok-used.used.items) (sym last)
-        ∙ read_mark c.in_ok-used.used.items _ c.index.result.now (omega arith) c.index.ensures in
+    ∙ read_mark c.in_ok-used.used.items _ c.index.result.now (omega arith) c.index.ensures in
     rw (← c.self.view_is, ← c.place.ensures) (λ d. others_all _ c.self.invariant c.place.result c.in_ok-used.used.items (omega arith) c.in_ok-used.ensures
-        c.index.result.now read d)
+    c.index.result.now read d)

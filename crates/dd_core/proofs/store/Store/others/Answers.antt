@@ -26,4 +26,4 @@ invariant_of-self-2 c =
 pub returns-clause-others : goal.returns-clause-others
 returns-clause-others c =
     rw (c.new.ensures, ← c.self.view_is) (others_means c.self.inside.universe c.self.inside.table c.choice.new.table c.self.inside.cache _ _
-        c.self.invariant.store c.in_ok-place.ensures.choice (ap (λ (l : List ℕ). length l) c.as_slice-variable.ensures.all))
+    c.self.invariant.store c.in_ok-place.ensures.choice (ap (λ (l : List ℕ). length l) c.as_slice-variable.ensures.all))

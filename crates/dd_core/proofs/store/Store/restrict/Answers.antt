@@ -29,6 +29,6 @@ returns-clause-restrict c =
     let number = c.place.ensures in
     let below = c.requires.inside in
     rw (c.new.ensures, ← c.self.view_is, ← c.place.ensures) (restricted_means old new c.args.present.now c.args.absent.now c.place.result c.in_ok-place.place
-        c.self.invariant (invariant_of-self-2 c) refl c.in_ok-place.ensures.extends
+    c.self.invariant (invariant_of-self-2 c) refl c.in_ok-place.ensures.extends
     (omega arith) (λ d there. ap (λ (s : Shown). has s.universe d) c.self.view_is ∙ c.requires.present d there)
-        (λ d there. ap (λ (s : Shown). has s.universe d) c.self.view_is ∙ c.requires.absent d there) c.in_ok-place.ensures.restricted)
+    (λ d there. ap (λ (s : Shown). has s.universe d) c.self.view_is ∙ c.requires.absent d there) c.in_ok-place.ensures.restricted)

@@ -10,4 +10,4 @@ returns c =
     let below = c.requires in
     let total = c.in_ok-marks.ensures.total in
     rw (← c.self.view_is, ← c.place.ensures, c.count_choices-size.ensures, c.deref.ensures.value)
-        (size_is c.self.inside.table c.place.result c.in_ok-marks.marks.items _ refl (omega arith) c.in_ok-marks.ensures)
+    (size_is c.self.inside.table c.place.result c.in_ok-marks.marks.items _ refl (omega arith) c.in_ok-marks.ensures)

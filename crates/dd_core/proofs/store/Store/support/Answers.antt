@@ -9,4 +9,4 @@ returns c =
     let number = c.place.ensures in
     let below = c.requires in
     rw (← c.self.view_is, ← c.place.ensures, c.in_ok-support.ensures, c.deref.ensures.value)
-        (support_is _ c.self.invariant c.place.result c.in_ok-used.used.items (omega arith) c.in_ok-used.ensures)
+    (support_is _ c.self.invariant c.place.result c.in_ok-used.used.items (omega arith) c.in_ok-used.ensures)

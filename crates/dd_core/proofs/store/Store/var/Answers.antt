@@ -26,4 +26,4 @@ invariant_of-self-2 c =
 pub returns-clause-var : goal.returns-clause-var
 returns-clause-var c =
     rw c.new.ensures (var_means c.self.inside.universe c.self.inside.table c.choice.new.table c.self.inside.cache _ c.args.community.0 _ c.self.invariant.store
-        c.in_ok-place.ensures.choice c.place_of-variable.ensures.inside c.place_of-variable.ensures.there)
+    c.in_ok-place.ensures.choice c.place_of-variable.ensures.inside c.place_of-variable.ensures.there)

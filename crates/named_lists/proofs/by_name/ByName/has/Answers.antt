@@ -9,4 +9,4 @@ pub returns : goal.returns
 returns g c =
     c.is_some.ensures ∙ ap is_some (c.place_of.ensures ∙ place_found g.T.HasName.name c.self.inside.places c.self.inside.items c.self.invariant c.args.name.now)
     ∙ sym (any_some (λ x. bytes_eq (g.T.HasName.name x) c.args.name.now) c.self.inside.items)
-        ∙ ap (list_any (λ x. bytes_eq (g.T.HasName.name x) c.args.name.now)) c.self.view_is
+    ∙ ap (list_any (λ x. bytes_eq (g.T.HasName.name x) c.args.name.now)) c.self.view_is

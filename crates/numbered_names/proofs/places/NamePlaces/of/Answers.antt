@@ -18,7 +18,7 @@ loop-place-preserved g c =
     let more : suc place ≡ c.loop-place.place = omega arith in
     let first : drop place items ≡ item ∷ drop c.loop-place.place items =
     drop-cons items place item (omega (arith, c.loop-place.invariant.inside)) ∙ ap (λ x. x ∷ drop (suc place) items) (sym c.index-items-place.is)
-        ∙ ap (λ (k : ℕ). item ∷ drop k items) more in
+    ∙ ap (λ (k : ℕ). item ∷ drop k items) more in
     let updated = hash_map_updates_text key c.loop-place.places c.insert.new.self (Some place) c.in_ok-insert.ensures.updates in
     record {
       inside = omega (arith, c.loop-place.invariant.inside);

@@ -16,7 +16,7 @@ start_of c =
     let total = rw c.as_slice.ensures at c.in_ok-numbers.ensures.total in
     let numbering = rw c.as_slice.ensures at c.in_ok-numbers.ensures.numbering in
     started c.args.graph.now _ _ _ (total ∙ c.args.graph.now.one_color_each) numbering c.in_ok-blocks.ensures.total
-        (rw c.deref.ensures.value at c.in_ok-blocks.ensures.blocks)
+    (rw c.deref.ensures.value at c.in_ok-blocks.ensures.blocks)
 
 pub returns-clause-of_graph : goal.returns-clause-of_graph
 returns-clause-of_graph c = let start = start_of c in record { numbers = start.numbers; are = start.are }

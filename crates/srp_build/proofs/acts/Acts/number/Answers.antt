@@ -21,9 +21,9 @@ returns-clause-number c =
     let nodes = c.nodes_of-nodes.ensures in
     let found = c.like_among.ensures.none c.in_default.is in
     let among = subst (λ (ns : List ℕ). AreUnlike c.args.store.now c.deref.result.now ns c.args.function)
-        (c.items_at-numbers.ensures ∙ ap (bucket c.args.self.now.by_nodes) nodes) found in
+    (c.items_at-numbers.ensures ∙ ap (bucket c.args.self.now.by_nodes) nodes) found in
     let unlike = subst (λ (l : List BgpAct). AreUnlike c.args.store.now l (bucket c.args.self.now.by_nodes (function_key c.args.function)) c.args.function)
-        c.deref.ensures.value among in
+    c.deref.ensures.value among in
     let ok = c.args.self.now.acts.ok in
     let next : c.number_of-number.result ≡ length c.args.self.now.acts.items = omega (arith, c.number_of-number.ensures ∙ c.len.ensures) in
     inr (record {

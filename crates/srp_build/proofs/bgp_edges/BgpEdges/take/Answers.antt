@@ -28,12 +28,15 @@ returns-in_default-clause-takes c = λ routers lines is.
     let import = c.with_maps-import.result in
     let acts = c.act_of_import.new.acts.acts.items in
     let same : import ≡ with_maps c.args.maps.now.numbers.items c.args.import.now = c.with_maps-import.ensures
-        ∙ ap (λ (l : List ℕ). with_maps l c.args.import.now) c.deref.ensures.value in
+    ∙ ap (λ (l : List ℕ). with_maps l c.args.import.now) c.deref.ensures.value in
     let import_is : import_at routers lines hop ≡ Some import = is.is ∙ ap (λ (s : ImportByMaps). Some s) (sym same) in
     let none = subst (λ (o : Option ℕ). IsActOfImport c.deref-2.result.now acts import o) c.in_default.is c.in_ok-act.ensures.act in
     let came = subst (λ (o : Option ℕ). IsMaybeNew c.args.self.now.acts.acts.items acts hop import o) c.in_default.is c.in_ok-act.ensures.came in
-    inl (record { left = denied import import_is (subst (λ (m : List Plain). AcceptsNone (import_over m import)) (c.deref-2.ensures.value ∙ is.maps_are) none);
-        acts = came; edges = refl })
+    inl (record {
+      left = denied import import_is (subst (λ (m : List Plain). AcceptsNone (import_over m import)) (c.deref-2.ensures.value ∙ is.maps_are) none);
+      acts = came;
+      edges = refl;
+    })
 
 pub returns-clause-takes : goal.returns-clause-takes
 returns-clause-takes c = λ routers lines is.
@@ -41,7 +44,7 @@ returns-clause-takes c = λ routers lines is.
     let import = c.with_maps-import.result in
     let acts = c.act_of_import.new.acts.acts.items in
     let same : import ≡ with_maps c.args.maps.now.numbers.items c.args.import.now = c.with_maps-import.ensures
-        ∙ ap (λ (l : List ℕ). with_maps l c.args.import.now) c.deref.ensures.value in
+    ∙ ap (λ (l : List ℕ). with_maps l c.args.import.now) c.deref.ensures.value in
     let import_is : import_at routers lines hop ≡ Some import = is.is ∙ ap (λ (s : ImportByMaps). Some s) (sym same) in
     let act = subst (λ (o : Option ℕ). IsActOfImport c.deref-2.result.now acts import o) c.in-Some.is c.in_ok-act.ensures.act in
     let came = subst (λ (o : Option ℕ). IsMaybeNew c.args.self.now.acts.acts.items acts hop import o) c.in-Some.is c.in_ok-act.ensures.came in

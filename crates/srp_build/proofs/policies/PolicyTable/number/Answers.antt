@@ -14,7 +14,7 @@ returns-then-is_fixed c =
     let first = c.args.first in
     ok_as (IsFixedPolicy old new first c.in_ok-map.map) (IsPolicyNumber old new first c.args.router.now c.args.line.now) c.number_fixed.result
     (λ number is. fixed_number old new first c.args.router.now c.args.line.now c.new-any.result c.in_ok-map.map number (c.is_fixed.ensures c.if-is_fixed.true)
-        c.in_ok-map.ensures is)
+    c.in_ok-map.ensures is)
     c.number_fixed.ensures
 
 pub returns : goal.returns

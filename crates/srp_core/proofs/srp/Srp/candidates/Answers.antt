@@ -14,7 +14,7 @@ use Rattle.srp_core.proofs.srp.Srp.candidates.Goals as goal
 pub loop-place-init : goal.loop-place-init
 loop-place-init c =
     let own = subst (λ (l : List Edge). AreOwnEdges l c.args.router c.own_edges-first.result.0 c.own_edges-first.result.1) c.edges-edges.ensures
-        c.own_edges-first.ensures in
+    c.own_edges-first.ensures in
     begun c.args.self.now c.args.labels.now c.args.router c.own_edges-first.result.0 c.own_edges-first.result.1 c.in_ok-found.found own c.in_ok-found.ensures
 
 pub over-requires-clause-edge : goal.over-requires-clause-edge
@@ -25,8 +25,8 @@ over-requires-clause-edge c =
     let less = c.loop-place-test.true in
     let here : c.loop-place.place < length edges = omega (arith, inside, less) in
     c.count-known.ensures.rules.edges.inside (slice_index_or edges c.loop-place.place none)
-        (subst (λ (l : List Edge). Contains l (slice_index_or edges c.loop-place.place none)) c.edges-edges.ensures
-            (All-contains_itself edges c.loop-place.place none here))
+    (subst (λ (l : List Edge). Contains l (slice_index_or edges c.loop-place.place none)) c.edges-edges.ensures
+    (All-contains_itself edges c.loop-place.place none here))
 
 pub loop-place-preserved : goal.loop-place-preserved
 loop-place-preserved c =
@@ -41,7 +41,7 @@ loop-place-preserved c =
     let total = ap (λ (l : List Edge). length l) c.edges-edges.ensures in
     let there : place < length P.edges = omega (arith, here, total) in
     let read : edge ≡ slice_index_or P.edges place edge = get_or_default edges place none edge here
-        ∙ ap (λ (l : List Edge). slice_index_or l place edge) c.edges-edges.ensures in
+    ∙ ap (λ (l : List Edge). slice_index_or l place edge) c.edges-edges.ensures in
     let own : edge.importer ≡ c.args.router = c.own_edges-first.ensures.own place none c.loop-place.auto.place less in
     row_step P c.args.labels.now c.args.router place c.loop-place.found c.add.new.found _ edge there read c.loop-place.invariant
     (inl (own, c.in_ok-add.ensures ∙ ap (λ (o : Option Route). c.loop-place.found ++ candidate_of (Some place) o) c.in_ok-route.ensures))
@@ -49,18 +49,18 @@ loop-place-preserved c =
 pub returns-clause-list : goal.returns-clause-list
 returns-clause-list c =
     let own = subst (λ (l : List Edge). AreOwnEdges l c.args.router c.own_edges-first.result.0 c.own_edges-first.result.1) c.edges-edges.ensures
-        c.own_edges-first.ensures in
+    c.own_edges-first.ensures in
     let forward = own.forward in
     ended c.args.self.now c.args.labels.now c.args.router c.own_edges-first.result.0 c.own_edges-first.result.1 c.loop-place.place c.loop-place.found own
-        (omega (arith, forward)) c.loop-place.invariant
+    (omega (arith, forward)) c.loop-place.invariant
 
 pub returns-clause-routes : goal.returns-clause-routes
 returns-clause-routes c =
     let P = c.args.self.now in
     let own = subst (λ (l : List Edge). AreOwnEdges l c.args.router c.own_edges-first.result.0 c.own_edges-first.result.1) c.edges-edges.ensures
-        c.own_edges-first.ensures in
+    c.own_edges-first.ensures in
     let forward = own.forward in
     let list = ended P c.args.labels.now c.args.router c.own_edges-first.result.0 c.own_edges-first.result.1 c.loop-place.place c.loop-place.found own
-        (omega (arith, forward)) c.loop-place.invariant in
+    (omega (arith, forward)) c.loop-place.invariant in
     subst (λ (l : List Candidate). All (λ (k : Candidate). IsRouteOf P.protocol k.route) l) (sym list)
-        (candidate_routes P c.count-known.ensures.rules c.args.labels.now c.args.router c.requires.labels)
+    (candidate_routes P c.count-known.ensures.rules c.args.labels.now c.args.router c.requires.labels)

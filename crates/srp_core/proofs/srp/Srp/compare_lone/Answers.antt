@@ -18,7 +18,7 @@ pub loop-x-smaller : goal.loop-x-smaller
 loop-x-smaller c =
     let la = chosen (is_lone_number c.args.self.now) c.args.a.now in
     turn_shorter c.loop-x.bound c.in-Some-Some.x la (chosen_ascending (is_lone_number c.args.self.now) c.args.a.now)
-        (sym c.in-Some-Some.is-0 ∙ c.next_lone-first.ensures)
+    (sym c.in-Some-Some.is-0 ∙ c.next_lone-first.ensures)
 
 pub loop-x-preserved : goal.loop-x-preserved
 loop-x-preserved c =
@@ -27,4 +27,4 @@ loop-x-preserved c =
     let lb = chosen (is_lone_number c.args.self.now) c.args.b.now in
     let same : c.in-Some-Some.x ≡ c.in-Some-Some.y = (let f = c.if-x-y.false in let g = c.if-y-x.false in omega arith) in
     sym (turn_equal c.loop-x.bound c.in-Some-Some.x c.in-Some-Some.y la lb (chosen_ascending test c.args.a.now) (chosen_ascending test c.args.b.now)
-        (sym c.in-Some-Some.is-0 ∙ c.next_lone-first.ensures) (sym c.in-Some-Some.is-1 ∙ c.next_lone-second.ensures) same) ∙ c.loop-x.invariant
+    (sym c.in-Some-Some.is-0 ∙ c.next_lone-first.ensures) (sym c.in-Some-Some.is-1 ∙ c.next_lone-second.ensures) same) ∙ c.loop-x.invariant

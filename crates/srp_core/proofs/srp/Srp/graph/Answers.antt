@@ -22,9 +22,9 @@ returns-clause-graph c = graph_of c.args.self.now c.count.ensures.rules c.in_ok-
 pub returns-clause-admissible : goal.returns-clause-admissible
 returns-clause-admissible c = admissible_both c.args.self.now c.count.ensures.rules _
     (graph_of c.args.self.now c.count.ensures.rules c.in_ok-colors.colors.items c.in_ok-colors.ensures _ c.count.ensures.count c.from_vec.ensures
-        (c.from_vec-2.ensures ∙ c.in_ok-edges.ensures.items ∙ c.edges.ensures))
+    (c.from_vec-2.ensures ∙ c.in_ok-edges.ensures.items ∙ c.edges.ensures))
 
 pub returns-clause-coarsest : goal.returns-clause-coarsest
 returns-clause-coarsest c = coarsest_both c.args.self.now c.count.ensures.rules _
     (graph_of c.args.self.now c.count.ensures.rules c.in_ok-colors.colors.items c.in_ok-colors.ensures _ c.count.ensures.count c.from_vec.ensures
-        (c.from_vec-2.ensures ∙ c.in_ok-edges.ensures.items ∙ c.edges.ensures))
+    (c.from_vec-2.ensures ∙ c.in_ok-edges.ensures.items ∙ c.edges.ensures))

@@ -7,5 +7,8 @@ pub loop-i-init : goal.loop-i-init
 loop-i-init c = (omega arith, next_start (is_lone_number c.args.self.now) c.args.bound c.args.path.now)
 
 pub loop-i-preserved : goal.loop-i-preserved
-loop-i-preserved c = (omega arith, next_down (is_lone_number c.args.self.now) c.args.bound c.args.path.now c.loop-i.i c.loop-i.best _ (omega arith)
-    (omega arith) c.loop-i.invariant.1 c.nearer_lone-best.ensures)
+loop-i-preserved c = (
+  omega arith,
+  next_down (is_lone_number c.args.self.now) c.args.bound c.args.path.now c.loop-i.i c.loop-i.best _ (omega arith)
+      (omega arith) c.loop-i.invariant.1 c.nearer_lone-best.ensures,
+)
