@@ -139,7 +139,8 @@ pub fn support_of(store: &Store, a: NodeId) -> Result<NumSet, NoMemory>
 /// Whether a diagram depends on communities that no line names.
 pub fn asks_for_others(store: &Store, a: NodeId) -> Result<bool, NoMemory>
     requires { a < length store.now.nodes }
-    ensures { IfOk result (λ asks. asks ≡ true → DependsOnOthers store.now a) }
+    ensures needed { IfOk result (λ asks. asks ≡ true → DependsOnOthers store.now a) }
+    ensures all { IfOk result (λ asks. DependsOnOthers store.now a → asks ≡ true) }
 {
     store.needs_others(a)
 }
@@ -201,7 +202,8 @@ pub fn function_of(
 
 /// Whether two sessions import every set of communities alike.
 pub fn are_alike(store: &Store, a: &EdgeFn, b: &EdgeFn) -> bool
-    ensures { (f g : Items ℕ → Option Imported) → IsEdgeFn store.now a.now f → IsEdgeFn store.now b.now g → result ≡ true → AreOneImport f g }
+    ensures same { (f g : Items ℕ → Option Imported) → IsEdgeFn store.now a.now f → IsEdgeFn store.now b.now g → result ≡ true → AreOneImport f g }
+    ensures different { (f g : Items ℕ → Option Imported) → IsEdgeFn store.now a.now f → IsEdgeFn store.now b.now g → AreOneImport f g → result ≡ true }
 {
     same(store, a, b)
 }
