@@ -5,9 +5,11 @@ use Rattle.cfg_ast.specs.declared.network.Network.{Network}
 use Rattle.cfg_ast.specs.declared.classes.DestClass.{DestClass}
 use Rattle.cfg_ast.specs.meaning.Topology.{links_of, unmatched_of}
 use Rattle.cfg_ast.specs.declared.topology.Unmatched.{Unmatched}
+use Rattle.abstract_net.specs.Links.{quotient_links}
 use Rattle.compress_laws.specs.Built.{IsPlanOf}
 use Rattle.srp_build.specs.Built.{IsBuiltFor}
 use Rattle.srp_core.specs.Problem.{Problem, count}
+use Rattle.srp_core.specs.Quotient.{IsCoarsest}
 use Rattle.driver.specs.declared.grouping.Grouping.{Grouping}
 use Rattle.driver.specs.Steps.{IsGroupingOf}
 use Rattle.driver.proofs.Emitting.{plan_by}
@@ -47,13 +49,13 @@ reported text network number class problem g before neighbors bytes built is lin
   })));
 }
 
--- the line of the counts of a grouping is that of the plan of its class
-pub counted : (network : Network) (number : ℕ) (class : DestClass) (problem : Problem) (g : Grouping) (routers before groups after : ℕ) (old new : List ℕ)
-    → IsBuiltFor network class problem → IsGroupingOf problem g → IsNumbered g.groups groups
-    → routers ≡ count g.problem → before ≡ length (links_of network) → after ≡ length g.quotient.links
-    → new ≡ old ++ count_line number routers before groups after → HasLineOf network number class old new
-counted network number class problem g routers before groups after old new built is numbered same_routers same_before same_after line = record {
-  plan = plan_by network class g groups;
-  is = is_plan network class problem g groups built is numbered;
-  line = line ∙ (λ j. old ++ count_line number (same_routers j) (same_before j) groups (same_after j));
+-- the line of the counts of the coarsest groups, whose links are only counted, is that of the plan of the class
+pub counted : (network : Network) (number : ℕ) (class : DestClass) (problem : Problem) (groups : List ℕ) (routers before group_count after : ℕ) (old new : List ℕ)
+    → IsBuiltFor network class problem → IsCoarsest problem groups → IsNumbered groups group_count
+    → routers ≡ count problem → before ≡ length (links_of network) → after ≡ length (quotient_links problem.edges groups group_count)
+    → new ≡ old ++ count_line number routers before group_count after → HasLineOf network number class old new
+counted network number class problem groups routers before group_count after old new built coarsest numbered same_routers same_before same_after line = record {
+  plan = record { network = network; class = class; problem = problem; groups = groups; count = group_count; links = quotient_links problem.edges groups group_count };
+  is = record { network_is = refl; class_is = refl; built = built; coarsest = coarsest; numbered = numbered; links = refl };
+  line = line ∙ (λ j. old ++ count_line number (same_routers j) (same_before j) group_count (same_after j));
 }

@@ -11,8 +11,8 @@ use base_kit::NoMemory;
 use cfg_ast::DestClass;
 use cfg_check::Checked;
 use dest_classes::classes;
-use driver::{Shared, grouped};
-use group_report::put_count_line;
+use driver::{Shared, coarsest_of};
+use group_report::{link_count, put_count_line};
 use std::alloc::Global;
 
 // Appends the line of the counts of a class.
@@ -31,10 +31,10 @@ fn put_line(
 {
     let before = shared.link_count(checked);
     let problem = shared.problem(alloc, checked, class)?;
-    let grouping = grouped(alloc, problem)?;
-    let routers = grouping.problem.count();
-    let groups = grouping.groups.groups();
-    let after = grouping.quotient.links.len();
+    let partition = coarsest_of(alloc, &problem)?;
+    let routers = problem.count();
+    let groups = partition.groups();
+    let after = link_count(alloc, &problem, &partition, groups)?;
     put_count_line(text, number, routers, before, groups, after)?;
     Ok(())
 }
