@@ -1,6 +1,6 @@
 //! Calls that make the network of the groups.
 
-ghost use Rattle.std.specs.Prelude.{◌≡◌, ℕ, Contains, IfOk, length};
+ghost use Rattle.std.specs.Prelude.{◌≡◌, ◌<◌, ◌^◌, ℕ, Contains, IfOk, length};
 ghost use Rattle.abstract_net.specs.Links.{quotient_links};
 ghost use Rattle.base_kit.specs.Partition.{IsNumbered};
 ghost use Rattle.base_kit.specs.Prefixes.{Prefix};
@@ -37,6 +37,7 @@ pub fn problem_of_groups(
 ) -> Result<Srp, NoMemory>
     requires groups { IsAdmissible srp.now p.now }
     requires links { (groups : ℕ) → IsNumbered p.now groups → q.now.links ≡ quotient_links srp.now.edges p.now groups }
+    requires few { length q.now.links < 2 ^ 31 }
     ensures { IfOk result (λ small. (groups : ℕ) → IsNumbered p.now groups → small ≡ small_of srp.now p.now groups) }
 {
     quotient_srp(alloc, srp, p, q)

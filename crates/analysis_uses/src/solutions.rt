@@ -65,6 +65,7 @@ pub fn carried_down(
     labels: &Labels,
 ) -> Result<Labels, NoMemory>
     requires groups { IsAdmissible srp.now p.now }
+    requires few { (groups : ℕ) → IsNumbered p.now groups → length (quotient_links srp.now.edges p.now groups) < 2 ^ 31 }
     requires stable { IsStable srp.now labels.now }
     ensures { IfOk result (λ lower. (groups : ℕ) → IsNumbered p.now groups → IsFolding srp.now (small_of srp.now p.now groups) p.now labels.now lower) }
 {
@@ -81,6 +82,7 @@ pub fn carried_up(
 ) -> Result<Labels, NoMemory>
     requires groups { IsAdmissible srp.now p.now }
     requires links { (groups : ℕ) → IsNumbered p.now groups → q.now.links ≡ quotient_links srp.now.edges p.now groups }
+    requires few { length q.now.links < 2 ^ 31 }
     requires stable { (groups : ℕ) → IsNumbered p.now groups → IsStable (small_of srp.now p.now groups) labels.now }
     ensures { IfOk result (λ upper. (groups : ℕ) → IsNumbered p.now groups → IsLifting srp.now (small_of srp.now p.now groups) p.now labels.now upper) }
 {

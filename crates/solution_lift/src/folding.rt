@@ -1,7 +1,8 @@
 //! Labels carried from routers to groups.
 
-ghost use Rattle.std.specs.Prelude.{◌≡◌, ℕ, ◌<◌, IfOk, length};
+ghost use Rattle.std.specs.Prelude.{◌≡◌, ℕ, ◌<◌, ◌^◌, IfOk, length};
 ghost use Rattle.base_kit.specs.Partition.{IsNumbered};
+ghost use Rattle.abstract_net.specs.Links.{quotient_links};
 ghost use Rattle.srp_core.specs.Filling.{CanBeFolded};
 ghost use Rattle.srp_core.specs.Lifts.{IsFold};
 ghost use Rattle.srp_core.specs.Problem as problem;
@@ -118,6 +119,7 @@ pub fn fold_into(
 /// Out of memory.
 pub fn fold(alloc: Global, srp: &Srp, p: &Partition, labels: &Labels) -> Result<Labels, NoMemory>
     requires groups { IsAdmissible srp.now p.now }
+    requires few { (groups : ℕ) → IsNumbered p.now groups → length (quotient_links srp.now.edges p.now groups) < 2 ^ 31 }
     requires stable { IsStable srp.now labels.now }
     ensures { IfOk result (λ lower. (groups : ℕ) → IsNumbered p.now groups → IsFolding srp.now (small_of srp.now p.now groups) p.now labels.now lower) }
 {

@@ -1,6 +1,6 @@
 //! Labels carried from groups to routers.
 
-ghost use Rattle.std.specs.Prelude.{◌≡◌, ℕ, ◌<◌, IfOk, length};
+ghost use Rattle.std.specs.Prelude.{◌≡◌, ℕ, ◌<◌, ◌^◌, IfOk, length};
 ghost use Rattle.base_kit.specs.Partition.{IsNumbered};
 ghost use Rattle.abstract_net.specs.Links.{quotient_links};
 ghost use Rattle.srp_core.specs.Filling.{CanBeLifted};
@@ -125,6 +125,7 @@ pub fn lift(
 ) -> Result<Labels, NoMemory>
     requires groups { IsAdmissible srp.now p.now }
     requires links { (groups : ℕ) → IsNumbered p.now groups → q.now.links ≡ quotient_links srp.now.edges p.now groups }
+    requires few { length q.now.links < 2 ^ 31 }
     requires stable { (groups : ℕ) → IsNumbered p.now groups → IsStable (small_of srp.now p.now groups) labels.now }
     ensures { IfOk result (λ upper. (groups : ℕ) → IsNumbered p.now groups → IsLifting srp.now (small_of srp.now p.now groups) p.now labels.now upper) }
 {

@@ -1,6 +1,6 @@
 //! The problem of the groups.
 
-ghost use Rattle.std.specs.Prelude.{◌≡◌, ℕ, IfOk};
+ghost use Rattle.std.specs.Prelude.{◌≡◌, ◌<◌, ◌^◌, ℕ, IfOk, length};
 ghost use Rattle.base_kit.specs.Partition.{IsNumbered};
 ghost use Rattle.abstract_net.specs.Links.{quotient_links};
 ghost use Rattle.srp_core.specs.Quotient.{IsAdmissible};
@@ -16,26 +16,22 @@ use srp_core::Srp;
 use srp_quotient::laws::quotient_is_problem;
 use std::alloc::Global;
 
-// A problem has fewer than 2^32 edges, and a link at most two.
-const MOST_LINKS: usize = 2147483647;
-
 /// The problem of the groups of an admissible partition, whose routers are the groups in order: each
 /// has the name of its first member, the initial route and the mark of its members and, where it is
-/// used, the first AS number among theirs. Its edges are both directions of the links between groups.
+/// used, the first AS number among theirs. Its edges are both directions of the links between groups:
+/// a problem has fewer than 2^32 edges, and a link at most two.
 ///
 /// # Errors
-/// Out of memory, also where the links are 2^31 or more.
+/// Out of memory.
 pub fn quotient_srp(alloc: Global, srp: &Srp, p: &Partition, q: &Quotient) -> Result<Srp, NoMemory>
     requires groups { IsAdmissible srp.now p.now }
     requires links { (count : ℕ) → IsNumbered p.now count → q.now.links ≡ quotient_links srp.now.edges p.now count }
+    requires few { length q.now.links < 2 ^ 31 }
     ensures { IfOk result (λ small. (count : ℕ) → IsNumbered p.now count → small ≡ small_of srp.now p.now count) }
 {
     quotient_carries();
     quotient_is_problem();
     let links = q.links.as_slice();
-    if links.len() > MOST_LINKS {
-        return Err(NoMemory);
-    }
     let _known = srp.count();
     let count = p.groups();
     let firsts = first_members(alloc, p, count)?;

@@ -1,4 +1,5 @@
-use Rattle.std.proofs.Common.{ℕ, sym, subst}
+use Rattle.std.proofs.Common.{◌<◌, ◌^◌, ℕ, List, length, sym, subst}
+use Rattle.abstract_net.specs.declared.qlink.QLink.{QLink}
 use Rattle.base_kit.specs.Partition.{IsNumbered}
 use Rattle.srp_core.specs.Problem.{Problem}
 use Rattle.srp_core.specs.Quotient.{IsQuotient}
@@ -6,6 +7,12 @@ use Rattle.srp_quotient.specs.Groups.{small_of}
 use Rattle.solution_lift.specs.Carried.{IsFolding}
 use Rattle.solution_lift.proofs.Carries.{ok_as}
 use Rattle.solution_lift.proofs.folding.fold.Goals as goal
+
+pub quotient_srp-requires-clause-few : goal.quotient_srp-requires-clause-few
+quotient_srp-requires-clause-few c =
+    let count = c.groups-also_known.result in
+    let numbered = c.groups-also_known.ensures in
+    subst (λ (l : List QLink). length l < 2 ^ 31) (sym (c.in_ok-links.ensures count numbered)) (c.requires.few count numbered)
 
 pub fold_into-requires-clause-quotient : goal.fold_into-requires-clause-quotient
 fold_into-requires-clause-quotient c =

@@ -1,6 +1,7 @@
-use Rattle.std.proofs.Common.{◌<◌, ◌^◌, ℕ, List, [], map, length, ap, ◌∙◌, sym, subst, arith}
+use Rattle.std.proofs.Common.{◌<◌, ◌^◌, ℕ, List, [], map, length, ap, ◌∙◌, sym, subst}
 use Rattle.std.specs.Prelude.{slice_index_or}
 use Rattle.srp_core.specs.Problem.{initial, is_lone, IsProblem}
+use Rattle.abstract_net.specs.declared.qlink.QLink.{QLink}
 use Rattle.abstract_net.specs.Links.{quotient_links}
 use Rattle.srp_quotient.specs.Groups.{quotient_edges, small_of}
 use Rattle.solution_lift.proofs.MemberLists.{one_count}
@@ -35,7 +36,7 @@ new-requires c = λ keeps.
     (c.quotient_carries.ensures S.edges groups count (inside_all S groups count c.count-known.ensures.rules c.requires.groups c.groups-count.ensures)) links
     in
     let few : length (quotient_links c.args.srp.now.edges c.args.p.now c.groups-count.result) < 2 ^ 31 =
-    (let long = ap length links in let most = c.if-links-gt-MOST_LINKS.false in omega arith) in
+    subst (λ (l : List QLink). length l < 2 ^ 31) (c.requires.links count c.groups-count.ensures) c.requires.few in
     let parts = parts_are S groups count c.as_slice-links.result.now c.protocol-2.result c.in_ok-firsts.firsts.items c.in_ok-names.names c.in_ok-numbers.numbers
     c.in_ok-init.init c.in_ok-lone.lone c.in_ok-acts.acts c.in_ok-edges.edges
     links c.protocol-2.ensures c.in_ok-firsts.ensures
