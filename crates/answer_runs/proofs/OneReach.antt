@@ -7,16 +7,14 @@ use Rattle.cfg_ast.specs.meaning.Classes.{classes_of}
 use Rattle.srp_core.specs.declared.route.Route.{Route}
 use Rattle.srp_core.specs.Alike.{ProblemsAlike}
 use Rattle.srp_core.specs.Problem.{Problem, count, IsProblem}
-use Rattle.srp_core.proofs.AlikeOf.{one_problem}
 use Rattle.solution_check.specs.declared.judgement.Answer.{Answer}
 use Rattle.solution_check.specs.declared.judgement.Answer.TheVariants.{Stable, Not}
 use Rattle.solution_check.proofs.OneAnswer.{one_answer}
 use Rattle.route_run.specs.Orders.{IsOrderOf}
 use Rattle.route_run.proofs.OneOrder.{one_order}
 use Rattle.answer_kit.specs.Outcome.{Outcome, done, not_stable}
-use Rattle.answer_kit.proofs.OneClass.{some_prefix}
-use Rattle.answer_kit.proofs.OneText.{one_of_solution}
 use Rattle.answer_solutions.specs.Checks.{name_of_break}
+use Rattle.answer_solutions.proofs.OneOfSolution.{one_of_class_solution}
 use Rattle.answer_runs.specs.Reaches.{name_lines, IsToldOf, IsReach, IsReachOf}
 
 module _ (P Q : Problem) (same : ProblemsAlike P Q) (rules : IsProblem P) where
@@ -47,9 +45,4 @@ module _ (P Q : Problem) (same : ProblemsAlike P Q) (rules : IsProblem P) where
 
 pub one_reach : (n : Network) (class : DestClass) → Contains (classes_of n) class → (second : Option (List ℕ)) → IsSome second → (o p : Outcome)
     → IsReachOf n second class o → IsReachOf n second class p → o ≡ p
-one_reach n class c second told o p x y =
-    let prefix = some_prefix n class c in
-    let first = x.of_class prefix.0 prefix.1 in
-    let same = one_problem n prefix.0 x.problem y.problem first (y.of_class prefix.0 prefix.1) in
-    one_of_solution x.problem y.problem same.protocol same.names (IsReach x.problem) (IsReach y.problem) (one_reach_of x.problem y.problem same first.rules)
-    second told o p x.reach y.reach
+one_reach = one_of_class_solution IsReach one_reach_of

@@ -12,9 +12,8 @@ use Rattle.solution_check.specs.Breaks.{Judges}
 use Rattle.route_run.specs.Orders.{IsOrderOf}
 use Rattle.answer_kit.specs.Outcome.{Outcome, done, not_stable}
 use Rattle.answer_kit.specs.ClassNumbers.{class_at, IsOfClass}
-use Rattle.answer_kit.specs.Groups.{IsProblemOfClass}
-use Rattle.answer_kit.specs.SecondFiles.{IsOfSolution}
 use Rattle.answer_solutions.specs.Checks.{break_reason}
+use Rattle.answer_solutions.specs.ClassSolutions.{IsOfClassSolution}
 
 -- the names of routers, a line for each
 abbrev pub name_lines : Problem → List ℕ → List ℕ
@@ -39,10 +38,8 @@ pub record IsReach (problem : Problem) (labels : List (Option Route)) (o : Outco
   pub told : IsToldOf problem labels answer o
 
 -- what `reach` is to tell of a class
-pub record IsReachOf (network : Network) (second : Option (List ℕ)) (class : DestClass) (o : Outcome) : Type 0 where
-  pub problem : Problem
-  pub of_class : IsProblemOfClass network class problem
-  pub reach : IsOfSolution problem second (IsReach problem) o
+abbrev pub IsReachOf : Network → Option (List ℕ) → DestClass → Outcome → Type 0
+IsReachOf = IsOfClassSolution IsReach
 
 -- what `reach` is to tell of a network and the number of a class
 abbrev pub IsReachAnswer : Network → ℕ → Option (List ℕ) → Outcome → Type 0

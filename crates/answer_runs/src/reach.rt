@@ -4,20 +4,18 @@ ghost use Rattle.std.specs.Prelude.{◌≡◌, ◌≤◌, ◌++◌, ℕ, All, Li
 ghost use Rattle.cfg_ast.specs.meaning.Classes.{classes_of};
 ghost use Rattle.io_kit.specs.Ends.{Rose};
 ghost use Rattle.srp_core.specs.Problem.{count};
-ghost use Rattle.srp_core.specs.Stability.{AreLabels, IsStable};
-ghost use Rattle.base_kit.specs.Names.{AreApart};
+ghost use Rattle.srp_core.specs.Stability.{IsStable};
 ghost use Rattle.route_run.specs.Schedules.{routers_of, run_of, IsSingle};
 ghost use Rattle.answer_kit.specs.Outcome.{done};
 ghost use Rattle.answer_kit.specs.Replies.{Answers};
-ghost use Rattle.answer_kit.specs.SecondFiles.{IsOfSolution};
 ghost use Rattle.answer_runs.specs.Reaches.{name_lines, IsOrderTold, IsReach, IsReachOf};
 
-use answer_kit::{Reply, router_name, solution_of};
+use answer_kit::{Reply, router_name};
 use answer_solutions::breaks::broken;
+use answer_solutions::class_solution::{TellsOfLabels, answer_of_solution};
 use base_kit::NoMemory;
 use cfg_ast::DestClass;
 use cfg_check::Checked;
-use driver::problem_of_class;
 use io_kit::Source;
 use route_run::{Activation, reach};
 use solution_check::{Answer, check};
@@ -71,28 +69,18 @@ fn ordered(alloc: Global, problem: &Srp, labels: &Labels) -> Reply
     }
 }
 
-// The order of labels of the problem, or why they have none.
-fn reached(alloc: Global, problem: &Srp, labels: &Labels) -> Reply
-    requires { AreLabels problem.now labels.now }
-    ensures { Answers result (IsReach problem.now labels.now) ⊥ ⊥ }
-{
-    match check(alloc, problem, labels) {
-        Ok(Answer::Stable) => ordered(alloc, problem, labels),
-        Ok(Answer::Not { router, why }) => broken(alloc, problem, router, why),
-        Err(NoMemory) => Reply::NoMemory,
-    }
-}
+// The order of labels of a problem, or why they have none.
+struct Order;
 
-// The order of the labels of the problem that the second file gives.
-fn answer_of_problem<S: Source>(alloc: Global, problem: &Srp, second: &str, files: &mut S) -> Reply
-    requires { AreApart problem.now.names }
-    ensures answers { Answers result (IsOfSolution problem.now (S.contents files.old second.now) (IsReach problem.now)) ⊥ (Rose (S.faults files.old second.now) (S.faults files.new second.now)) }
-    ensures contents { S.contents files.new ≡ S.contents files.old }
-    ensures later { (n : List ℕ) → S.faults files.old n ≤ S.faults files.new n }
-{
-    match solution_of(alloc, problem, second, files) {
-        Ok(labels) => reached(alloc, problem, &labels),
-        Err(reply) => reply,
+impl TellsOfLabels for Order {
+    ghost allowed = { IsReach };
+
+    fn tell(alloc: Global, problem: &Srp, labels: &Labels) -> Reply {
+        match check(alloc, problem, labels) {
+            Ok(Answer::Stable) => ordered(alloc, problem, labels),
+            Ok(Answer::Not { router, why }) => broken(alloc, problem, router, why),
+            Err(NoMemory) => Reply::NoMemory,
+        }
     }
 }
 
@@ -110,8 +98,5 @@ pub fn answer<S: Source>(
     ensures contents { S.contents files.new ≡ S.contents files.old }
     ensures later { (n : List ℕ) → S.faults files.old n ≤ S.faults files.new n }
 {
-    match problem_of_class(alloc, checked, class) {
-        Ok(problem) => answer_of_problem(alloc, &problem, second, files),
-        Err(NoMemory) => Reply::NoMemory,
-    }
+    answer_of_solution::<Order, S>(alloc, checked, class, second, files)
 }

@@ -3,5 +3,6 @@ pub mod GroupNames
 mod OneAnswer
 pub mod OneCarry
 pub mod OneCheck
+pub mod OneOfSolution
 mod ReadBack
 mod SidesApart

@@ -7,14 +7,12 @@ use Rattle.cfg_ast.specs.meaning.Classes.{classes_of}
 use Rattle.srp_core.specs.declared.route.Route.{Route}
 use Rattle.srp_core.specs.Alike.{ProblemsAlike}
 use Rattle.srp_core.specs.Problem.{Problem, IsProblem}
-use Rattle.srp_core.proofs.AlikeOf.{one_problem}
 use Rattle.solution_check.specs.declared.judgement.Answer.{Answer}
 use Rattle.solution_check.specs.declared.judgement.Answer.TheVariants.{Stable, Not}
 use Rattle.solution_check.proofs.OneAnswer.{one_answer}
 use Rattle.answer_solutions.specs.Checks.{name_of_break, told_of, IsJudgement, IsCheckOf}
 use Rattle.answer_kit.specs.Outcome.{Outcome, not_stable}
-use Rattle.answer_kit.proofs.OneClass.{some_prefix}
-use Rattle.answer_kit.proofs.OneText.{one_of_solution}
+use Rattle.answer_solutions.proofs.OneOfSolution.{one_of_class_solution}
 
 module _ (P Q : Problem) (same : ProblemsAlike P Q) (rules : IsProblem P) where
   one_told : (a : Answer) → told_of P a ≡ told_of Q a
@@ -27,9 +25,4 @@ module _ (P Q : Problem) (same : ProblemsAlike P Q) (rules : IsProblem P) where
 
 pub one_check : (n : Network) (class : DestClass) → Contains (classes_of n) class → (second : Option (List ℕ)) → IsSome second → (o p : Outcome)
     → IsCheckOf n second class o → IsCheckOf n second class p → o ≡ p
-one_check n class c second told o p x y =
-    let prefix = some_prefix n class c in
-    let first = x.of_class prefix.0 prefix.1 in
-    let same = one_problem n prefix.0 x.problem y.problem first (y.of_class prefix.0 prefix.1) in
-    one_of_solution x.problem y.problem same.protocol same.names (IsJudgement x.problem) (IsJudgement y.problem)
-    (one_judgement x.problem y.problem same first.rules) second told o p x.judgement y.judgement
+one_check = one_of_class_solution IsJudgement one_judgement

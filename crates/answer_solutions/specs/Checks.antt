@@ -11,8 +11,7 @@ use Rattle.solution_check.specs.declared.judgement.Answer.TheVariants.{Stable, N
 use Rattle.solution_check.specs.Breaks.{Judges}
 use Rattle.answer_kit.specs.Outcome.{Outcome, done, not_stable}
 use Rattle.answer_kit.specs.ClassNumbers.{class_at, IsOfClass}
-use Rattle.answer_kit.specs.Groups.{IsProblemOfClass}
-use Rattle.answer_kit.specs.SecondFiles.{IsOfSolution}
+use Rattle.answer_solutions.specs.ClassSolutions.{IsOfClassSolution}
 
 -- why a router breaks stability
 abbrev pub name_of_break : ℕ → List ℕ
@@ -37,10 +36,8 @@ pub record IsJudgement (problem : Problem) (labels : List (Option Route)) (o : O
   pub told : o ≡ told_of problem answer
 
 -- what `check` is to tell of a class
-pub record IsCheckOf (network : Network) (second : Option (List ℕ)) (class : DestClass) (o : Outcome) : Type 0 where
-  pub problem : Problem
-  pub of_class : IsProblemOfClass network class problem
-  pub judgement : IsOfSolution problem second (IsJudgement problem) o
+abbrev pub IsCheckOf : Network → Option (List ℕ) → DestClass → Outcome → Type 0
+IsCheckOf = IsOfClassSolution IsJudgement
 
 -- what `check` is to tell of a network and the number of a class
 abbrev pub IsCheckAnswer : Network → ℕ → Option (List ℕ) → Outcome → Type 0

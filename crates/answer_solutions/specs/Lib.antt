@@ -1,4 +1,5 @@
 pub mod Carries
 pub mod Checks
+pub mod ClassSolutions
 pub mod OneAnswer
 pub mod ReadBack

@@ -10,6 +10,7 @@
 pub mod breaks;
 pub mod carry;
 pub mod check;
+pub mod class_solution;
 pub mod laws;
 mod printing;
 mod sides;

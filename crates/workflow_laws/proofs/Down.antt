@@ -33,7 +33,7 @@ module _ (n : Network) (number : ℕ) (second : Option (List ℕ)) (told : IsSom
       let own = x.are.built.of p.0 p.1 in
       let alike = problems_alike n p.0 x.sides.problem y.problem own (y.of_class p.0 p.1) in
       says_so x.sides.problem (IsFolded x.sides) (λ labels o is. ap (λ (q : Outcome). q.status) is.written) y.problem alike own.rules second told folded checked
-      x.solution y.judgement
+      x.solution y.solution
 
   of_number : (found : Option DestClass) → class_at (classes_of n) number ≡ found → IsOfClass found number (IsFoldOf n second) folded
       → IsOfClass found number (IsCheckOf n second) checked → checked ≡ verdict_told folded

@@ -90,12 +90,12 @@ module _ (n : Network) (number : ℕ) (class : DestClass) (r : Outcome) (is : Is
       pub check_of_plan : SomeOf (IsCheckOf n second class)
       check_of_plan =
           let o = some_check sound complete is.plan.problem rules second told in
-          (o.0, record { problem = is.plan.problem; of_class = is.is.built.of; judgement = o.1 })
+          (o.0, record { problem = is.plan.problem; of_class = is.is.built.of; solution = o.1 })
 
       pub reach_of_plan : HasOrder → SomeOf (IsReachOf n second class)
       reach_of_plan has_order =
           let o = some_reach sound complete is.plan.problem rules has_order second told in
-          (o.0, record { problem = is.plan.problem; of_class = is.is.built.of; reach = o.1 })
+          (o.0, record { problem = is.plan.problem; of_class = is.is.built.of; solution = o.1 })
 
     pub run_of_plan : RestIsStable → (second : Option (List ℕ)) → IsSome second → SomeOf (IsRunOf n second class)
     run_of_plan rest second told =

@@ -118,7 +118,7 @@ module _ (n : Network) (given : ∥ IsGiven n ∥₁) (faultless : IsFaultless n
       let p = some_prefix n r.class (has_class n number r.class r.class_is) in
       let P = r.allowed.problem in
       let of = r.allowed.of_class p.0 p.1 in
-      let x = reached P text bytes r.allowed.reach in
+      let x = reached P text bytes r.allowed.solution in
       subst (λ (bs : List ℕ). length bs ≤ schedule_limit) (sym x.text)
       (order_short P x.labels x.run x.is (from_all (λ u. u < count P) x.run x.is.only) (few_of p.0 P of) (names_of p.0 P of))
 

@@ -104,4 +104,4 @@ what_rests_is_stable well formed printed range few contents F S T text schedule 
     let short = fits_solution written (labels_text P.names a.labels) a.is (few n ∣ (text, read.given) ∣₁ read.faultless p.0 P a.labels own a.stable) in
     let as_many = a.stable.fitting.total ∙ sym own.rules.tables.names in
     let reads = ap (labels_of_text P.protocol P.names) a.is ∙ printed P.protocol P.names a.labels names as_many in_range in
-    text_told_stable P k.problem alike own.rules a.labels a.stable written checked short reads k.judgement
+    text_told_stable P k.problem alike own.rules a.labels a.stable written checked short reads k.solution

@@ -180,5 +180,5 @@ what_is_reached_rests well formed contents F S T text solution order N small hol
     ∙ length-map n.routers (λ (router : Router). router.name) in omega (arith, second.rules.tables.names, long, few_routers n read.faultless)) in
     runs_to_rest r.allowed.problem k.problem same first.rules second.rules (problem_apart n read.faultless r.class has k.problem k.of_class) names solution
     order
-    (reached r.allowed.problem solution order r.allowed.reach) few text N
+    (reached r.allowed.problem solution order r.allowed.solution) few text N
     (record { network = n; reads = d.read; class = r.class; class_is = r.class_is }) k.of_class ran k.ran

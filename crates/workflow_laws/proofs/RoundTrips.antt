@@ -47,7 +47,7 @@ what_is_lifted_is_stable well back few contents F S T text solution written N sm
     let own = l.are.built.of p.0 p.1 in
     let alike = problems_alike n p.0 l.sides.problem k.problem own (k.of_class p.0 p.1) in
     text_told_stable l.sides.problem k.problem alike own.rules l.labels l.stable_above written checked
-    ((few contents F S text solution N small holds told).lifted written x) l.reads k.judgement
+    ((few contents F S text solution N small holds told).lifted written x) l.reads k.solution
 
 -- ---- what `fold` writes is stable below
 
@@ -70,7 +70,7 @@ what_is_folded_is_stable_below well built has_problem back few contents F G S T 
     let own = low.of_groups f.sides (subst (λ (class : DestClass). AreSides n class f.sides) same f.are) p.0 p.1 in
     let alike = problems_alike m p.0 f.sides.small k.problem own (k.of_class p.0 (c.prefixes p.0 p.1)) in
     text_told_stable f.sides.small k.problem alike own.rules f.lower f.stable_below written checked
-    ((few contents F S c.large solution N (short_large well contents F G N K c) c.holds told).folded written x) f.reads k.judgement
+    ((few contents F S c.large solution N (short_large well contents F G N K c) c.holds told).folded written x) f.reads k.solution
 
 -- ---- `lift` takes what `fold` writes
 

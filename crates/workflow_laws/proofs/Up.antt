@@ -41,7 +41,7 @@ below_is_lift n m class lower bytes has small prefixes second told lifted checke
     let own = small.of_groups x.sides x.are p.0 p.1 in
     let alike = problems_alike m p.0 x.sides.small y.problem own (y.of_class p.0 (prefixes p.0 p.1)) in
     says_so x.sides.small (IsLifted x.sides) (λ labels o is. ap (λ (q : Outcome). q.status) is.written) y.problem alike x.are.small_rules second told lifted
-    checked x.solution y.judgement
+    checked x.solution y.solution
 
 pub check_below_is_lift : WhatIsReadIsWell → BuiltProblemIsOne → TextHasProblemOfGroups → CheckBelowIsLift
 check_below_is_lift well built has_problem contents F G S N K c told lifted checked x y =
