@@ -15,6 +15,7 @@ use Rattle.cfg_ast.specs.text.Steps.{◌>>=◌}
 use Rattle.cfg_ast.specs.text.Reading.{State, at_start, step, steps, texts_of, end_at, ending, network_of_lines, network_of_text}
 use Rattle.cfg_lex.specs.declared.following.Place.{Place}
 use Rattle.cfg_lex.specs.Places.{lines_from, put_first, IsFirst}
+use Rattle.cfg_stanzas.specs.Changes.{Changes}
 use Rattle.cfg_parse.specs.Rest.{ended_by, read_on, state_after}
 
 -- ---- one line
@@ -49,14 +50,16 @@ pub line_gives : (bs : List ℕ) (place next : Place) (s : State) (said : Result
 line_gives bs place next s said line refusal.Memory first given = tt
 line_gives bs place next s said line (refusal.At n k) first given = line_err bs place next s said line (refusal.At n k) first given
 
-pub refuses : (f : ReadRefusal) (r : Result State ReadRefusal) → r ≡ Err f → RefusesAs f r
-refuses refusal.Memory r e = tt
-refuses (refusal.At n k) r e = e
-
 pub lines_end : (bs : List ℕ) (place : Place) (s : State) (said : Result (Unit {0}) ReadRefusal) → lines_from bs place ≡ Ok [] →
     state_after bs s said (lines_from bs place) ≡ (said >>= (λ _. Ok s))
 unfolding steps ended_by
 lines_end bs place s said e = ap (state_after bs s said) e
+
+-- the state stays, and the answer is what is said of the end
+pub changes_as_said : (s : State) (said : Result (Unit {0}) ReadRefusal) (r : Result State ReadRefusal) → r ≡ (said >>= (λ _. Ok s)) → Changes said s r
+changes_as_said s (Ok u) r e = e
+changes_as_said s (Err refusal.Memory) r e = tt
+changes_as_said s (Err (refusal.At n k)) r e = e
 
 -- ---- all lines
 

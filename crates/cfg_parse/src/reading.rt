@@ -111,21 +111,34 @@ fn ended(last: Option<u32>) -> Result<(), ReadRefusal>
     }
 }
 
-// The state after all lines, read one by one.
-fn read_lines(alloc: Global, bytes: &[u8]) -> Result<State, ReadRefusal>
+// Takes all lines, read one by one. The caller owns the state, so that no exit here has to drop it.
+fn read_lines(alloc: Global, bytes: &[u8], state: &mut State) -> Result<(), ReadRefusal>
+    requires short { length bytes.now ≤ 16777216 }
+    requires sound { is_ok (lines_of bytes.now) ≡ true }
+    ensures { Changes result state.new (state_after bytes.now state.old (Ok tt) (lines_of bytes.now)) }
+{
+    let mut place = Place { number: 0, from: 0 };
+    let mut last = None;
+    while let Some((line, next)) = line_from(alloc, bytes, place)? {
+        step(alloc, bytes, &line, state)?;
+        last = unended(bytes, &line);
+        place = next;
+    }
+    ended(last)
+}
+
+// The state after all lines.
+fn all_lines(alloc: Global, bytes: &[u8]) -> Result<State, ReadRefusal>
     requires short { length bytes.now ≤ 16777216 }
     requires sound { is_ok (lines_of bytes.now) ≡ true }
     ensures { Gives result (state_after bytes.now at_start (Ok tt) (lines_of bytes.now)) }
 {
-    let mut place = Place { number: 0, from: 0 };
     let mut state = at_start(alloc);
-    let mut last = None;
-    while let Some((line, next)) = line_from(alloc, bytes, place)? {
-        step(alloc, bytes, &line, &mut state)?;
-        last = unended(bytes, &line);
-        place = next;
+    if let Err(refusal) = read_lines(alloc, bytes, &mut state) {
+        // It goes whole to `drop`, so that the proof does not take it apart.
+        drop(state);
+        return Err(refusal);
     }
-    ended(last)?;
     Ok(state)
 }
 
@@ -145,6 +158,7 @@ pub fn read_network(alloc: Global, bytes: &[u8]) -> Result<Network, ReadRefusal>
     ensures { Gives result (network_of_text bytes.now) }
 {
     sound(bytes)?;
-    let State { routers, .. } = read_lines(alloc, bytes)?;
+    let State { routers, draft } = all_lines(alloc, bytes)?;
+    drop(draft);
     Ok(Network { routers })
 }
