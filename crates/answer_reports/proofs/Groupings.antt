@@ -56,8 +56,15 @@ pub counted : (network : Network) (number : ℕ) (class : DestClass) (problem : 
     → routers ≡ count problem → before ≡ length (links_of network) → after ≡ length (quotient_links problem.edges groups group_count)
     → new ≡ old ++ count_line number routers before group_count after → HasLineOf network number class old new
 counted network number class problem groups routers before group_count after old new built coarsest numbered same_routers same_before same_after line = record {
-  plan = record { network = network; class = class; problem = problem; groups = groups; count = group_count; links =
-      quotient_links problem.edges groups group_count };
+  plan = record {
+    network = network;
+    class = class;
+    problem = problem;
+    groups = groups;
+    count = group_count;
+    links =
+        quotient_links problem.edges groups group_count;
+  };
   is = record { network_is = refl; class_is = refl; built = built; coarsest = coarsest; numbered = numbered; links = refl };
   line = line ∙ (λ j. old ++ count_line number (same_routers j) (same_before j) group_count (same_after j));
 }
