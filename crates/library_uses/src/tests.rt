@@ -2,14 +2,21 @@
 
 ghost use Rattle.std.specs.Prelude.{◌≡◌, IfOk};
 
+use crate::policies::permits_set;
 use crate::refinement::group_of;
 use crate::worked::graph::groups_of;
 use crate::worked::policies::act_alike;
 use crate::worked::topology::{checked_network, degree};
-use base_kit::{ActGraph, Edge, List, Prefix, Text};
+use base_kit::{ActGraph, Edge, List, NumSet, Prefix, Text};
+use cfg_ast::{CommunityLine, CommunityList};
 use cfg_check::Checked;
+use refine_partition::start;
 use std::alloc::Global;
 use std::test::Fail;
+
+const ONE_ONE: u32 = 65537;
+
+const TWO_TWO: u32 = 131074;
 
 fn edge(importer: u32, exporter: u32, link: u32) -> Edge
     ensures importer { result.importer ≡ importer }
@@ -118,5 +125,49 @@ fn two_maps_act_alike_and_a_third_does_not(rt: HostRuntime) -> Result<(), Fail> 
         let second = Text::copy_of(alloc, name)?;
         assert_eq!(rt; act_alike(alloc, &net, router, &first, &second, p)?, alike);
     }
+    Ok(())
+}
+
+#[test]
+fn a_graph_of_ones_own_starts_with_a_block_for_each_color(rt: HostRuntime) -> Result<(), Fail> {
+    let graph = graph_of_four(rt.alloc())?;
+    let splitting = start(rt.alloc(), &graph)?;
+    let count = splitting.blocks();
+    assert_eq!(rt; count, 2);
+    if count == 2 {
+        assert!(rt; splitting.block(0) == [0].as_slice());
+        assert!(rt; splitting.block(1) == [1, 2, 3].as_slice());
+    }
+    Ok(())
+}
+
+fn set_of(alloc: Global, comms: &[u32]) -> Result<NumSet, Fail> {
+    let mut set = NumSet::new(alloc);
+    for c in comms {
+        set.add(*c)?;
+    }
+    Ok(set)
+}
+
+// The list `permit 1:1 2:2`.
+fn list_of_two(alloc: Global) -> Result<CommunityList, Fail> {
+    let mut lines = List::new(alloc);
+    lines.push(CommunityLine {
+        permit: true,
+        comms: set_of(alloc, &[ONE_ONE, TWO_TWO])?,
+        line: 1,
+    })?;
+    Ok(CommunityList {
+        name: Text::new(alloc),
+        lines,
+    })
+}
+
+#[test]
+fn a_line_of_two_communities_needs_both(rt: HostRuntime) -> Result<(), Fail> {
+    let alloc = rt.alloc();
+    let list = list_of_two(alloc)?;
+    assert!(rt; !permits_set(&list, &set_of(alloc, &[ONE_ONE])?));
+    assert!(rt; permits_set(&list, &set_of(alloc, &[ONE_ONE, TWO_TWO])?));
     Ok(())
 }
