@@ -33,8 +33,7 @@ walk-first-requires t c =
       omega arith,
       (
         fixed_inside c.split_by.new.store c.fixed.new.store c.in_ok-high-in-Some.ensures.grows c.in_ok-alone-in-Some.alone c.args.nodes.now
-            c.in_ok-high-in-Some.high (nodes_inside_kept c.args.store.now c.split_by.new.store c.in_ok-split_by.ensures.grows c.args.nodes.now
-            c.requires.inside)
+            c.in_ok-high-in-Some.high (nodes_inside_kept c.args.store.now c.split_by.new.store c.in_ok-split_by.ensures.grows c.args.nodes.now c.requires.inside)
             c.in_ok-high-in-Some.ensures.fixed,
         omega arith,
       ),
