@@ -4,7 +4,8 @@ ghost use Rattle.std.specs.Prelude.{◌≡◌};
 ghost use Rattle.std.specs.List.{AllByRecursion};
 ghost use Rattle.cfg_ast.specs.text.Answers.{Reads};
 ghost use Rattle.cfg_ast.specs.text.Lines.{IsWordIn, text_of, texts};
-ghost use Rattle.cfg_ast.specs.text.PolicyForms.{community_line, numbered_line, community_line_form};
+ghost use Rattle.cfg_ast.specs.declared.heads.PolicyForm.TheVariants as form;
+ghost use Rattle.cfg_ast.specs.text.PolicyForms.{community_line, policy_form};
 
 use crate::act::is_permit;
 use crate::communities::communities;
@@ -40,27 +41,7 @@ fn list_line(
     ))
 }
 
-#[tactic(auto, unfolding(cfg_ast::specs::text::PolicyForms::numbered_line))]
-fn numbered_line(
-    alloc: Global,
-    bytes: &[u8],
-    name: Span,
-    act: Span,
-    words: &[Span],
-    line: u32,
-) -> Result<PolicyItem, FormFault>
-    requires name { IsWordIn bytes.now name }
-    requires act { IsWordIn bytes.now act }
-    requires words { AllByRecursion (IsWordIn bytes.now) words.now }
-    ensures { Reads result (numbered_line line (text_of bytes.now name) (text_of bytes.now act) (texts bytes.now words.now)) }
-{
-    if read_between(text(bytes, name), 1, 99).is_none() {
-        return Err(BadForm);
-    }
-    list_line(alloc, bytes, name, act, words, line)
-}
-
-#[tactic(auto, unfolding(cfg_ast::specs::text::PolicyForms::community_line_form))]
+#[tactic(auto, unfolding(cfg_ast::specs::text::PolicyForms::policy_form))]
 pub(crate) fn community_line(
     alloc: Global,
     bytes: &[u8],
@@ -68,7 +49,7 @@ pub(crate) fn community_line(
     line: u32,
 ) -> Result<PolicyItem, FormFault>
     requires { AllByRecursion (IsWordIn bytes.now) words.now }
-    ensures { Reads result (community_line_form line (texts bytes.now words.now)) }
+    ensures { Reads result (policy_form form.CommunityLine line (texts bytes.now words.now)) }
 {
     let [_, _, first, second, third, rest @ ..] = words else {
         return Err(BadForm);
@@ -76,5 +57,8 @@ pub(crate) fn community_line(
     if text(bytes, *first) == b"standard".as_slice() {
         return list_line(alloc, bytes, *second, *third, rest, line);
     }
-    numbered_line(alloc, bytes, *first, *second, &words[4..], line)
+    if read_between(text(bytes, *first), 1, 99).is_none() {
+        return Err(BadForm);
+    }
+    list_line(alloc, bytes, *first, *second, &words[4..], line)
 }

@@ -1,10 +1,11 @@
 //! The lines of an entry of a route map.
 
-ghost use Rattle.std.specs.Prelude.{◌≡◌, length, nat_le, ◌&&◌, IfOk};
+ghost use Rattle.std.specs.Prelude.{ℕ, ◌≡◌, length, nat_le, ◌&&◌, IfOk};
 ghost use Rattle.std.specs.List.{AllByRecursion, list_all, filter_map};
 ghost use Rattle.cfg_ast.specs.text.Answers.{Reads};
 ghost use Rattle.cfg_ast.specs.text.Lines.{IsWordIn, texts};
-ghost use Rattle.cfg_ast.specs.text.PolicyForms.{match_prefixes_form, comms_match, marked_match, match_comms_form, lp_form, is_none_alone, change_of, set_comms_form, delete_form, is_as_number, prepend_form};
+ghost use Rattle.cfg_ast.specs.declared.heads.PolicyForm.TheVariants as form;
+ghost use Rattle.cfg_ast.specs.text.PolicyForms.{comms_match, is_none_alone, change_of, is_as_number, policy_form};
 ghost use Rattle.cfg_ast.specs.text.Words.{as_number_word};
 
 use crate::communities::communities;
@@ -16,7 +17,7 @@ use cfg_ast::{Change, FormFault, NameLine, PolicyItem, Prepend, Span};
 use cfg_words::{named, read_as_number, read_number, text};
 use std::alloc::Global;
 
-#[tactic(auto, unfolding(cfg_ast::specs::text::PolicyForms::match_prefixes_form))]
+#[tactic(auto, unfolding(cfg_ast::specs::text::PolicyForms::policy_form))]
 pub(crate) fn match_prefixes(
     alloc: Global,
     bytes: &[u8],
@@ -24,7 +25,7 @@ pub(crate) fn match_prefixes(
     line: u32,
 ) -> Result<PolicyItem, FormFault>
     requires { AllByRecursion (IsWordIn bytes.now) words.now }
-    ensures { Reads result (match_prefixes_form line (texts bytes.now words.now)) }
+    ensures { Reads result (policy_form form.MatchPrefixes line (texts bytes.now words.now)) }
 {
     let [_, _, _, _, words @ ..] = words else {
         return Err(BadForm);
@@ -48,23 +49,7 @@ fn comms_match(
     Ok(PolicyItem::MatchComms(NameLine { names, line }, exact))
 }
 
-#[tactic(auto, unfolding(cfg_ast::specs::text::PolicyForms::marked_match))]
-fn marked_match(
-    alloc: Global,
-    bytes: &[u8],
-    words: &[Span],
-    line: u32,
-) -> Result<PolicyItem, FormFault>
-    requires { AllByRecursion (IsWordIn bytes.now) words.now }
-    ensures { Reads result (marked_match line (texts bytes.now words.now)) }
-{
-    if let Some(names) = before_mark(bytes, words, b"exact-match") {
-        return comms_match(alloc, bytes, names, line, true);
-    }
-    comms_match(alloc, bytes, words, line, false)
-}
-
-#[tactic(auto, unfolding(cfg_ast::specs::text::PolicyForms::match_comms_form))]
+#[tactic(auto, unfolding(cfg_ast::specs::text::PolicyForms::policy_form))]
 pub(crate) fn match_comms(
     alloc: Global,
     bytes: &[u8],
@@ -72,18 +57,21 @@ pub(crate) fn match_comms(
     line: u32,
 ) -> Result<PolicyItem, FormFault>
     requires { AllByRecursion (IsWordIn bytes.now) words.now }
-    ensures { Reads result (match_comms_form line (texts bytes.now words.now)) }
+    ensures { Reads result (policy_form form.MatchComms line (texts bytes.now words.now)) }
 {
     let [_, _, words @ ..] = words else {
         return Err(BadForm);
     };
-    marked_match(alloc, bytes, words, line)
+    if let Some(names) = before_mark(bytes, words, b"exact-match") {
+        return comms_match(alloc, bytes, names, line, true);
+    }
+    comms_match(alloc, bytes, words, line, false)
 }
 
-#[tactic(auto, unfolding(cfg_ast::specs::text::PolicyForms::lp_form))]
+#[tactic(auto, unfolding(cfg_ast::specs::text::PolicyForms::policy_form))]
 pub(crate) fn lp(bytes: &[u8], words: &[Span]) -> Result<PolicyItem, FormFault>
     requires { AllByRecursion (IsWordIn bytes.now) words.now }
-    ensures { Reads result (lp_form (texts bytes.now words.now)) }
+    ensures { (line : ℕ) → Reads result (policy_form form.Lp line (texts bytes.now words.now)) }
 {
     let [_, _, number] = words else {
         return Err(BadForm);
@@ -117,14 +105,14 @@ fn change(alloc: Global, bytes: &[u8], words: &[Span]) -> Result<Change, FormFau
     Ok(Change::Replace(communities(alloc, bytes, words)?))
 }
 
-#[tactic(auto, unfolding(cfg_ast::specs::text::PolicyForms::set_comms_form))]
+#[tactic(auto, unfolding(cfg_ast::specs::text::PolicyForms::policy_form))]
 pub(crate) fn set_comms(
     alloc: Global,
     bytes: &[u8],
     words: &[Span],
 ) -> Result<PolicyItem, FormFault>
     requires { AllByRecursion (IsWordIn bytes.now) words.now }
-    ensures { Reads result (set_comms_form (texts bytes.now words.now)) }
+    ensures { (line : ℕ) → Reads result (policy_form form.Comms line (texts bytes.now words.now)) }
 {
     let [_, _, words @ ..] = words else {
         return Err(BadForm);
@@ -132,7 +120,7 @@ pub(crate) fn set_comms(
     Ok(PolicyItem::Comms(change(alloc, bytes, words)?))
 }
 
-#[tactic(auto, unfolding(cfg_ast::specs::text::PolicyForms::delete_form))]
+#[tactic(auto, unfolding(cfg_ast::specs::text::PolicyForms::policy_form))]
 pub(crate) fn delete(
     alloc: Global,
     bytes: &[u8],
@@ -140,7 +128,7 @@ pub(crate) fn delete(
     line: u32,
 ) -> Result<PolicyItem, FormFault>
     requires { AllByRecursion (IsWordIn bytes.now) words.now }
-    ensures { Reads result (delete_form line (texts bytes.now words.now)) }
+    ensures { Reads result (policy_form form.Delete line (texts bytes.now words.now)) }
 {
     let [_, _, name, word] = words else {
         return Err(BadForm);
@@ -183,7 +171,7 @@ fn fits_prepend(bytes: &[u8], words: &[Span]) -> bool
     1 <= words.len() && words.len() <= 10 && are_as_numbers(bytes, words)
 }
 
-#[tactic(auto, unfolding(cfg_ast::specs::text::PolicyForms::prepend_form))]
+#[tactic(auto, unfolding(cfg_ast::specs::text::PolicyForms::policy_form))]
 pub(crate) fn prepend(
     alloc: Global,
     bytes: &[u8],
@@ -191,7 +179,7 @@ pub(crate) fn prepend(
     line: u32,
 ) -> Result<PolicyItem, FormFault>
     requires { AllByRecursion (IsWordIn bytes.now) words.now }
-    ensures { Reads result (prepend_form line (texts bytes.now words.now)) }
+    ensures { Reads result (policy_form form.Prepend line (texts bytes.now words.now)) }
 {
     let [_, _, _, words @ ..] = words else {
         return Err(BadForm);

@@ -4,7 +4,8 @@ ghost use Rattle.std.specs.Prelude.{◌≡◌};
 ghost use Rattle.std.specs.List.{AllByRecursion};
 ghost use Rattle.cfg_ast.specs.text.Answers.{Reads};
 ghost use Rattle.cfg_ast.specs.text.Lines.{IsWordIn, texts};
-ghost use Rattle.cfg_ast.specs.text.PolicyForms.{empty_entry, map_head_form};
+ghost use Rattle.cfg_ast.specs.declared.heads.PolicyForm.TheVariants as form;
+ghost use Rattle.cfg_ast.specs.text.PolicyForms.{empty_entry, policy_form};
 
 use crate::act::is_permit;
 use cfg_ast::FormFault::BadForm;
@@ -30,7 +31,7 @@ fn empty_entry(seq: u32, permit: bool, line: u32) -> MapEntry
     }
 }
 
-#[tactic(auto, unfolding(cfg_ast::specs::text::PolicyForms::map_head_form))]
+#[tactic(auto, unfolding(cfg_ast::specs::text::PolicyForms::policy_form))]
 pub(crate) fn map_head(
     alloc: Global,
     bytes: &[u8],
@@ -38,7 +39,7 @@ pub(crate) fn map_head(
     line: u32,
 ) -> Result<PolicyItem, FormFault>
     requires { AllByRecursion (IsWordIn bytes.now) words.now }
-    ensures { Reads result (map_head_form line (texts bytes.now words.now)) }
+    ensures { Reads result (policy_form form.MapHead line (texts bytes.now words.now)) }
 {
     let [_, name, act, number] = words else {
         return Err(BadForm);

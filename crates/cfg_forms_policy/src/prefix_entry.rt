@@ -4,7 +4,8 @@ ghost use Rattle.std.specs.Prelude.{◌≡◌, ◌≤◌, IfSome};
 ghost use Rattle.std.specs.List.{AllByRecursion};
 ghost use Rattle.cfg_ast.specs.text.Answers.{Reads};
 ghost use Rattle.cfg_ast.specs.text.Lines.{IsWordIn, texts};
-ghost use Rattle.cfg_ast.specs.text.PolicyForms.{bounds_of, prefix_entry_form};
+ghost use Rattle.cfg_ast.specs.declared.heads.PolicyForm.TheVariants as form;
+ghost use Rattle.cfg_ast.specs.text.PolicyForms.{bounds_of, policy_form};
 ghost use Rattle.cfg_ast.specs.text.Words.{number_between, prefix_of};
 
 use crate::act::is_permit;
@@ -64,7 +65,7 @@ fn bounds(bytes: &[u8], words: &[Span], len: u8) -> Result<(Option<u8>, Option<u
     Ok((Some(ge), Some(le)))
 }
 
-#[tactic(auto, unfolding(cfg_ast::specs::text::PolicyForms::prefix_entry_form))]
+#[tactic(auto, unfolding(cfg_ast::specs::text::PolicyForms::policy_form))]
 pub(crate) fn prefix_entry(
     alloc: Global,
     bytes: &[u8],
@@ -72,7 +73,7 @@ pub(crate) fn prefix_entry(
     line: u32,
 ) -> Result<PolicyItem, FormFault>
     requires { AllByRecursion (IsWordIn bytes.now) words.now }
-    ensures { Reads result (prefix_entry_form line (texts bytes.now words.now)) }
+    ensures { Reads result (policy_form form.PrefixEntry line (texts bytes.now words.now)) }
 {
     let [_, _, name, word, number, act, prefix, options @ ..] = words else {
         return Err(BadForm);

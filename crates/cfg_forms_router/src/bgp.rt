@@ -1,10 +1,11 @@
 //! The lines of a BGP process.
 
-ghost use Rattle.std.specs.Prelude.{◌≡◌, ◌≤◌};
+ghost use Rattle.std.specs.Prelude.{ℕ, ◌≡◌, ◌≤◌};
 ghost use Rattle.std.specs.List.{AllByRecursion};
 ghost use Rattle.cfg_ast.specs.text.Answers.{Reads};
 ghost use Rattle.cfg_ast.specs.text.Lines.{IsWordIn, texts};
-ghost use Rattle.cfg_ast.specs.text.RouterForms.{base_form, net_line, network_form, remote_as_form, peer_shut_form, sends_standard, peer_sends_form, is_inward, peer_list_form, peer_map_form};
+ghost use Rattle.cfg_ast.specs.declared.heads.RouterForm.TheVariants as form;
+ghost use Rattle.cfg_ast.specs.text.RouterForms.{net_line, sends_standard, is_inward, peer_item, router_form};
 
 use crate::masks::{classful_len, read_mask};
 use cfg_ast::FormFault::BadForm;
@@ -12,10 +13,10 @@ use cfg_ast::{Base, FormFault, NetLine, RouterItem, Span};
 use cfg_words::{exact_prefix, named, read_address, read_as_number, read_number, text};
 use std::alloc::Global;
 
-#[tactic(auto, unfolding(cfg_ast::specs::text::RouterForms::base_form))]
+#[tactic(auto, unfolding(cfg_ast::specs::text::RouterForms::router_form))]
 pub(crate) fn base(bytes: &[u8], words: &[Span], line: u32) -> Result<RouterItem, FormFault>
     requires { AllByRecursion (IsWordIn bytes.now) words.now }
-    ensures { Reads result (base_form line (texts bytes.now words.now)) }
+    ensures { Reads result (router_form form.Base line (texts bytes.now words.now)) }
 {
     let [_, _, _, number] = words else {
         return Err(BadForm);
@@ -33,10 +34,10 @@ fn net_line(addr: u32, len: u8, line: u32) -> Result<RouterItem, FormFault>
     Ok(RouterItem::Network(NetLine { prefix, line }))
 }
 
-#[tactic(auto, unfolding(cfg_ast::specs::text::RouterForms::network_form))]
+#[tactic(auto, unfolding(cfg_ast::specs::text::RouterForms::router_form))]
 pub(crate) fn network(bytes: &[u8], words: &[Span], line: u32) -> Result<RouterItem, FormFault>
     requires { AllByRecursion (IsWordIn bytes.now) words.now }
-    ensures { Reads result (network_form line (texts bytes.now words.now)) }
+    ensures { Reads result (router_form form.Network line (texts bytes.now words.now)) }
 {
     if let [_, address] = words {
         let addr = read_address(text(bytes, *address)).ok_or(BadForm)?;
@@ -54,10 +55,10 @@ pub(crate) fn network(bytes: &[u8], words: &[Span], line: u32) -> Result<RouterI
     net_line(addr, len, line)
 }
 
-#[tactic(auto, unfolding(cfg_ast::specs::text::RouterForms::remote_as_form))]
+#[tactic(auto, unfolding(cfg_ast::specs::text::RouterForms::router_form))]
 pub(crate) fn remote_as(bytes: &[u8], words: &[Span]) -> Result<RouterItem, FormFault>
     requires { AllByRecursion (IsWordIn bytes.now) words.now }
-    ensures { Reads result (remote_as_form (texts bytes.now words.now)) }
+    ensures { (line : ℕ) → Reads result (router_form form.RemoteAs line (texts bytes.now words.now)) }
 {
     let [_, address, _, number] = words else {
         return Err(BadForm);
@@ -67,10 +68,10 @@ pub(crate) fn remote_as(bytes: &[u8], words: &[Span]) -> Result<RouterItem, Form
     Ok(RouterItem::RemoteAs { addr, number })
 }
 
-#[tactic(auto, unfolding(cfg_ast::specs::text::RouterForms::peer_shut_form))]
+#[tactic(auto, unfolding(cfg_ast::specs::text::RouterForms::router_form))]
 pub(crate) fn peer_shut(bytes: &[u8], words: &[Span]) -> Result<RouterItem, FormFault>
     requires { AllByRecursion (IsWordIn bytes.now) words.now }
-    ensures { Reads result (peer_shut_form (texts bytes.now words.now)) }
+    ensures { (line : ℕ) → Reads result (router_form form.PeerShut line (texts bytes.now words.now)) }
 {
     let [_, address, _] = words else {
         return Err(BadForm);
@@ -86,10 +87,10 @@ fn sends_standard(word: &[u8]) -> bool
     word == b"standard".as_slice() || word == b"both".as_slice()
 }
 
-#[tactic(auto, unfolding(cfg_ast::specs::text::RouterForms::peer_sends_form))]
+#[tactic(auto, unfolding(cfg_ast::specs::text::RouterForms::router_form))]
 pub(crate) fn peer_sends(bytes: &[u8], words: &[Span]) -> Result<RouterItem, FormFault>
     requires { AllByRecursion (IsWordIn bytes.now) words.now }
-    ensures { Reads result (peer_sends_form (texts bytes.now words.now)) }
+    ensures { (line : ℕ) → Reads result (router_form form.PeerSends line (texts bytes.now words.now)) }
 {
     if let [_, address, _] = words {
         let addr = read_address(text(bytes, *address)).ok_or(BadForm)?;
@@ -116,7 +117,7 @@ fn is_inward(word: &[u8]) -> Option<bool>
     }
 }
 
-#[tactic(auto, unfolding(cfg_ast::specs::text::RouterForms::peer_list_form))]
+#[tactic(auto, unfolding(cfg_ast::specs::text::RouterForms::router_form, cfg_ast::specs::text::RouterForms::peer_item))]
 pub(crate) fn peer_list(
     alloc: Global,
     bytes: &[u8],
@@ -124,7 +125,7 @@ pub(crate) fn peer_list(
     line: u32,
 ) -> Result<RouterItem, FormFault>
     requires { AllByRecursion (IsWordIn bytes.now) words.now }
-    ensures { Reads result (peer_list_form line (texts bytes.now words.now)) }
+    ensures { Reads result (router_form form.PeerList line (texts bytes.now words.now)) }
 {
     let [_, address, _, name, way] = words else {
         return Err(BadForm);
@@ -135,7 +136,7 @@ pub(crate) fn peer_list(
     Ok(RouterItem::PeerList { addr, list, inward })
 }
 
-#[tactic(auto, unfolding(cfg_ast::specs::text::RouterForms::peer_map_form))]
+#[tactic(auto, unfolding(cfg_ast::specs::text::RouterForms::router_form, cfg_ast::specs::text::RouterForms::peer_item))]
 pub(crate) fn peer_map(
     alloc: Global,
     bytes: &[u8],
@@ -143,7 +144,7 @@ pub(crate) fn peer_map(
     line: u32,
 ) -> Result<RouterItem, FormFault>
     requires { AllByRecursion (IsWordIn bytes.now) words.now }
-    ensures { Reads result (peer_map_form line (texts bytes.now words.now)) }
+    ensures { Reads result (router_form form.PeerMap line (texts bytes.now words.now)) }
 {
     let [_, address, _, name, way] = words else {
         return Err(BadForm);

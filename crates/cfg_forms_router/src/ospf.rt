@@ -1,10 +1,11 @@
 //! The lines of an OSPF process.
 
-ghost use Rattle.std.specs.Prelude.{◌≡◌};
+ghost use Rattle.std.specs.Prelude.{ℕ, ◌≡◌};
 ghost use Rattle.std.specs.List.{AllByRecursion};
 ghost use Rattle.cfg_ast.specs.text.Answers.{Reads};
 ghost use Rattle.cfg_ast.specs.text.Lines.{IsWordIn, texts};
-ghost use Rattle.cfg_ast.specs.text.RouterForms.{area_word, area_form, passive_form, not_passive_form};
+ghost use Rattle.cfg_ast.specs.declared.heads.RouterForm.TheVariants as form;
+ghost use Rattle.cfg_ast.specs.text.RouterForms.{area_word, router_form};
 
 use cfg_ast::FormFault::BadForm;
 use cfg_ast::{AreaLine, FormFault, RouterItem, Span};
@@ -21,10 +22,10 @@ fn read_area(word: &[u8]) -> Option<u32>
     }
 }
 
-#[tactic(auto, unfolding(cfg_ast::specs::text::RouterForms::area_form))]
+#[tactic(auto, unfolding(cfg_ast::specs::text::RouterForms::router_form))]
 pub(crate) fn area(bytes: &[u8], words: &[Span], line: u32) -> Result<RouterItem, FormFault>
     requires { AllByRecursion (IsWordIn bytes.now) words.now }
-    ensures { Reads result (area_form line (texts bytes.now words.now)) }
+    ensures { Reads result (router_form form.Area line (texts bytes.now words.now)) }
 {
     let [_, address, wildcard, word, area] = words else {
         return Err(BadForm);
@@ -43,10 +44,10 @@ pub(crate) fn area(bytes: &[u8], words: &[Span], line: u32) -> Result<RouterItem
     }))
 }
 
-#[tactic(auto, unfolding(cfg_ast::specs::text::RouterForms::passive_form))]
+#[tactic(auto, unfolding(cfg_ast::specs::text::RouterForms::router_form))]
 pub(crate) fn passive(alloc: Global, bytes: &[u8], words: &[Span]) -> Result<RouterItem, FormFault>
     requires { AllByRecursion (IsWordIn bytes.now) words.now }
-    ensures { Reads result (passive_form (texts bytes.now words.now)) }
+    ensures { (line : ℕ) → Reads result (router_form form.Passive line (texts bytes.now words.now)) }
 {
     let [_, name] = words else {
         return Err(BadForm);
@@ -61,14 +62,14 @@ pub(crate) fn passive(alloc: Global, bytes: &[u8], words: &[Span]) -> Result<Rou
     Ok(RouterItem::Passive(copy_of(alloc, name)?))
 }
 
-#[tactic(auto, unfolding(cfg_ast::specs::text::RouterForms::not_passive_form))]
+#[tactic(auto, unfolding(cfg_ast::specs::text::RouterForms::router_form))]
 pub(crate) fn not_passive(
     alloc: Global,
     bytes: &[u8],
     words: &[Span],
 ) -> Result<RouterItem, FormFault>
     requires { AllByRecursion (IsWordIn bytes.now) words.now }
-    ensures { Reads result (not_passive_form (texts bytes.now words.now)) }
+    ensures { (line : ℕ) → Reads result (router_form form.NotPassive line (texts bytes.now words.now)) }
 {
     let [_, _, name] = words else {
         return Err(BadForm);

@@ -1,20 +1,21 @@
 //! The top lines that open stanzas.
 
-ghost use Rattle.std.specs.Prelude.{◌≡◌};
+ghost use Rattle.std.specs.Prelude.{ℕ, ◌≡◌};
 ghost use Rattle.std.specs.List.{AllByRecursion};
 ghost use Rattle.cfg_ast.specs.text.Answers.{Reads};
 ghost use Rattle.cfg_ast.specs.text.Lines.{IsWordIn, texts};
-ghost use Rattle.cfg_ast.specs.text.RouterForms.{hostname_form, interface_form, bgp_form, ospf_form, end_form};
+ghost use Rattle.cfg_ast.specs.declared.heads.RouterForm.TheVariants as form;
+ghost use Rattle.cfg_ast.specs.text.RouterForms.{router_form};
 
 use cfg_ast::FormFault::BadForm;
 use cfg_ast::{FormFault, RouterItem, Span};
 use cfg_words::{copy_of, is_interface_name, is_router_name, read_as_number, read_between, text};
 use std::alloc::Global;
 
-#[tactic(auto, unfolding(cfg_ast::specs::text::RouterForms::hostname_form))]
+#[tactic(auto, unfolding(cfg_ast::specs::text::RouterForms::router_form))]
 pub(crate) fn hostname(alloc: Global, bytes: &[u8], words: &[Span]) -> Result<RouterItem, FormFault>
     requires { AllByRecursion (IsWordIn bytes.now) words.now }
-    ensures { Reads result (hostname_form (texts bytes.now words.now)) }
+    ensures { (line : ℕ) → Reads result (router_form form.Hostname line (texts bytes.now words.now)) }
 {
     let [_, name] = words else {
         return Err(BadForm);
@@ -26,14 +27,14 @@ pub(crate) fn hostname(alloc: Global, bytes: &[u8], words: &[Span]) -> Result<Ro
     Ok(RouterItem::Hostname(copy_of(alloc, name)?))
 }
 
-#[tactic(auto, unfolding(cfg_ast::specs::text::RouterForms::interface_form))]
+#[tactic(auto, unfolding(cfg_ast::specs::text::RouterForms::router_form))]
 pub(crate) fn interface(
     alloc: Global,
     bytes: &[u8],
     words: &[Span],
 ) -> Result<RouterItem, FormFault>
     requires { AllByRecursion (IsWordIn bytes.now) words.now }
-    ensures { Reads result (interface_form (texts bytes.now words.now)) }
+    ensures { (line : ℕ) → Reads result (router_form form.Interface line (texts bytes.now words.now)) }
 {
     let [_, name] = words else {
         return Err(BadForm);
@@ -45,10 +46,10 @@ pub(crate) fn interface(
     Ok(RouterItem::Interface(copy_of(alloc, name)?))
 }
 
-#[tactic(auto, unfolding(cfg_ast::specs::text::RouterForms::bgp_form))]
+#[tactic(auto, unfolding(cfg_ast::specs::text::RouterForms::router_form))]
 pub(crate) fn bgp(bytes: &[u8], words: &[Span]) -> Result<RouterItem, FormFault>
     requires { AllByRecursion (IsWordIn bytes.now) words.now }
-    ensures { Reads result (bgp_form (texts bytes.now words.now)) }
+    ensures { (line : ℕ) → Reads result (router_form form.Bgp line (texts bytes.now words.now)) }
 {
     let [_, _, number] = words else {
         return Err(BadForm);
@@ -57,10 +58,10 @@ pub(crate) fn bgp(bytes: &[u8], words: &[Span]) -> Result<RouterItem, FormFault>
     Ok(RouterItem::Bgp(number))
 }
 
-#[tactic(auto, unfolding(cfg_ast::specs::text::RouterForms::ospf_form))]
+#[tactic(auto, unfolding(cfg_ast::specs::text::RouterForms::router_form))]
 pub(crate) fn ospf(bytes: &[u8], words: &[Span]) -> Result<RouterItem, FormFault>
     requires { AllByRecursion (IsWordIn bytes.now) words.now }
-    ensures { Reads result (ospf_form (texts bytes.now words.now)) }
+    ensures { (line : ℕ) → Reads result (router_form form.Ospf line (texts bytes.now words.now)) }
 {
     let [_, _, number] = words else {
         return Err(BadForm);
@@ -69,9 +70,9 @@ pub(crate) fn ospf(bytes: &[u8], words: &[Span]) -> Result<RouterItem, FormFault
     Ok(RouterItem::Ospf(number))
 }
 
-#[tactic(auto, unfolding(cfg_ast::specs::text::RouterForms::end_form))]
+#[tactic(auto, unfolding(cfg_ast::specs::text::RouterForms::router_form))]
 pub(crate) fn end(bytes: &[u8], words: &[Span]) -> Result<RouterItem, FormFault>
-    ensures { Reads result (end_form (texts bytes.now words.now)) }
+    ensures { (line : ℕ) → Reads result (router_form form.End line (texts bytes.now words.now)) }
 {
     let [_] = words else {
         return Err(BadForm);

@@ -2,9 +2,10 @@
 
 ghost use Rattle.std.specs.Prelude.{◌≡◌, OnOk, bytes_eq, codes};
 ghost use Rattle.std.specs.List.{AllByRecursion};
+ghost use Rattle.cfg_ast.specs.declared.items.PolicyItem.TheVariants as item;
 ghost use Rattle.cfg_ast.specs.text.Lines.{IsWordIn, texts, text_of};
 ghost use Rattle.cfg_ast.specs.text.PolicyLines.{is_policy_line, is_list_word, with_community_line};
-ghost use Rattle.cfg_ast.specs.text.Reading.{add_prefix_entry, open_entry, take_policy};
+ghost use Rattle.cfg_ast.specs.text.Reading.{take_policy};
 ghost use Rattle.cfg_stanzas.specs.Changes.{Changes};
 
 use crate::draft::{Draft, Open, begin_stanza};
@@ -66,6 +67,7 @@ pub(crate) fn is_policy_line(bytes: &[u8], words: &[Span]) -> bool
     }
 }
 
+#[tactic(auto, unfolding(cfg_ast::specs::text::Reading::take_policy))]
 fn add_prefix_entry(
     alloc: Global,
     number: u32,
@@ -73,7 +75,7 @@ fn add_prefix_entry(
     entry: PrefixEntry,
     draft: &mut Draft,
 ) -> Result<(), ReadRefusal>
-    ensures { Changes result draft.new (add_prefix_entry number name entry draft.old) }
+    ensures { Changes result draft.new (take_policy number (item.PrefixEntry name entry) draft.old) }
 {
     if draft.prefix_lists.has_entry(name.as_str(), entry.seq) {
         return Err(repeated(number));
@@ -93,13 +95,14 @@ fn add_community_line(
     draft.community_lists.add(alloc, name, line)
 }
 
+#[tactic(auto, unfolding(cfg_ast::specs::text::Reading::take_policy))]
 fn open_entry(
     number: u32,
     name: Text,
     entry: MapEntry,
     draft: &mut Draft,
 ) -> Result<(), ReadRefusal>
-    ensures { Changes result draft.new (open_entry number name entry draft.old) }
+    ensures { Changes result draft.new (take_policy number (item.MapHead name entry) draft.old) }
 {
     if draft.route_maps.has_entry(name.as_str(), entry.seq) {
         return Err(repeated(number));

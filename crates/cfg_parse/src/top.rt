@@ -1,9 +1,10 @@
 //! A line at the top.
 
 ghost use Rattle.std.specs.Prelude.{◌≡◌, IfOk};
+ghost use Rattle.cfg_ast.specs.declared.items.RouterItem.TheVariants as item;
 ghost use Rattle.cfg_ast.specs.text.Answers.{Gives};
 ghost use Rattle.cfg_ast.specs.text.Stanzas.{once};
-ghost use Rattle.cfg_ast.specs.text.Reading.{new_interface, take_hostname, open_interface, open_bgp, open_ospf, ignored, router_of, end_router, ends_router, take_line, take_top};
+ghost use Rattle.cfg_ast.specs.text.Reading.{new_interface, ignored, router_of, end_router, ends_router, take_line, take_top};
 ghost use Rattle.cfg_stanzas.specs.Changes.{Changes};
 
 use crate::community_lists::CommunityLists;
@@ -29,16 +30,18 @@ fn new_interface(number: u32, name: Text) -> Interface
     }
 }
 
+#[tactic(auto, unfolding(cfg_ast::specs::text::Reading::take_line))]
 fn take_hostname(number: u32, name: Text, draft: &mut Draft) -> Result<(), ReadRefusal>
-    ensures { Changes result draft.new (take_hostname number name draft.old) }
+    ensures { Changes result draft.new (take_line number (item.Hostname name) draft.old) }
 {
     once(number, draft.name.is_some())?;
     draft.name = Some(Named { name, line: number });
     Ok(())
 }
 
+#[tactic(auto, unfolding(cfg_ast::specs::text::Reading::take_line))]
 fn open_interface(number: u32, name: Text, draft: &mut Draft) -> Result<(), ReadRefusal>
-    ensures { Changes result draft.new (open_interface number name draft.old) }
+    ensures { Changes result draft.new (take_line number (item.Interface name) draft.old) }
 {
     if draft.interfaces.has(name.as_str()) {
         return Err(repeated(number));
@@ -47,16 +50,18 @@ fn open_interface(number: u32, name: Text, draft: &mut Draft) -> Result<(), Read
     Ok(())
 }
 
+#[tactic(auto, unfolding(cfg_ast::specs::text::Reading::take_line))]
 fn open_bgp(alloc: Global, line: u32, number: u32, draft: &mut Draft) -> Result<(), ReadRefusal>
-    ensures { Changes result draft.new (open_bgp line number draft.old) }
+    ensures { Changes result draft.new (take_line line (item.Bgp number) draft.old) }
 {
     once(line, draft.bgp.is_some())?;
     begin_stanza(draft, Open::Bgp(BgpDraft::new(alloc, line, number)));
     Ok(())
 }
 
+#[tactic(auto, unfolding(cfg_ast::specs::text::Reading::take_line))]
 fn open_ospf(alloc: Global, line: u32, number: u32, draft: &mut Draft) -> Result<(), ReadRefusal>
-    ensures { Changes result draft.new (open_ospf line number draft.old) }
+    ensures { Changes result draft.new (take_line line (item.Ospf number) draft.old) }
 {
     once(line, draft.ospf.is_some())?;
     begin_stanza(draft, Open::Ospf(OspfDraft::new(alloc, line, number)));

@@ -86,6 +86,11 @@ pub given_same : {A B C : Type 0} (h : B → C) (o : Option A) (f : A → Result
 given_same h (Some x) f g same = same x
 given_same h None f g same = refl
 
+pub mapped_same : {A B C : Type 0} (h : B → C) (o : Option A) (f : A → C) (g : A → B) → ((x : A) → f x ≡ h (g x)) →
+    or_bad (option_map f o) ≡ on_ok h (or_bad (option_map g o))
+mapped_same h (Some x) f g same = ap (λ y. Ok y) (same x)
+mapped_same h None f g same = refl
+
 pub after_same : {A B C : Type 0} (h : B → C) (r : Result A FormFault) (f : A → Result C FormFault) (g : A → Result B FormFault) →
     ((x : A) → f x ≡ on_ok h (g x)) → (r >>= f) ≡ on_ok h (r >>= g)
 after_same h (Ok x) f g same = same x

@@ -29,7 +29,7 @@ use Rattle.cfg_ast.specs.declared.items.PolicyItem.TheVariants as item
 use Rattle.cfg_ast.specs.declared.refusal.FormFault.{FormFault}
 use Rattle.cfg_ast.specs.text.Words.{is_list_name, number_word, number_between, if_between, as_number_word, community_word, is_community, is_well_known_name, is_well_known, same_community}
 use Rattle.cfg_ast.specs.text.FormSteps.{list_name_of}
-use Rattle.cfg_ast.specs.text.PolicyForms.{is_permit, all_differ, is_group, list_names_of, community_words, has_mark, but_last, bounds_of, prefix_entry_form, community_line, numbered_line, community_line_form, empty_entry, map_head_form, match_prefixes_form, comms_match, marked_match, match_comms_form, lp_form, is_none_alone, change_of, set_comms_form, delete_form, is_as_number, prepend_form, policy_form, policy_item_by, policy_item_of}
+use Rattle.cfg_ast.specs.text.PolicyForms.{is_permit, all_differ, is_group, list_names_of, community_words, has_mark, but_last, bounds_of, community_line, empty_entry, comms_match, is_none_alone, change_of, is_as_number, policy_form, policy_item_by, policy_item_of}
 use Rattle.cfg_ast.specs.printing.Printed.{act_text, prefix_text, community_text, bound_words, prefix_entry_line, community_list_line as printed_community_line, map_head_line, match_prefixes_line, match_comms_line, lp_line, change_line, delete_line, prepend_line}
 use Rattle.cfg_ast.specs.printing.Bare.{bare_named, bare_prefix_entry, bare_community_line, bare_name_line, bare_prepend}
 use Rattle.cfg_ast.specs.printing.WellFormed.{IsBetween, IsNumber, IsListName, IsCommunitySet, IsWellFormedNamed, AreBounds, IsWellFormedPrefixEntry, IsWellFormedNameLine, IsMarkRight, IsWellFormedChange, IsWellFormedPrepend}
@@ -202,7 +202,7 @@ bounds_back len (Some ge) (Some le) is =
 
 pub prefix_entry_item : (name : List ℕ) (e : PrefixEntry) → IsListName name → IsWellFormedPrefixEntry e →
     policy_item_of scope.Top 0 (prefix_entry_line name e).words ≡ Ok (item.PrefixEntry name (bare_prefix_entry e))
-unfolding prefix_entry_line policy_form prefix_entry_form
+unfolding prefix_entry_line policy_form
 prefix_entry_item name e named is =
     of_head scope.Top form.PrefixEntry _ _ (prefix_list_head name
     (decimal e.seq ∷ act_text e.permit ∷ prefix_text e.prefix ∷ bound_words (codes "ge") e.ge ++ bound_words (codes "le") e.le))
@@ -260,19 +260,19 @@ numbered_item : (name : List ℕ) (c : CommunityLine) → IsListName name → Is
     (d : ℕ) (comms : List ℕ) → c.comms ≡ d ∷ comms
     → policy_item_of scope.Top 0 (codes "ip" ∷ codes "community-list" ∷ name ∷ act_text c.permit ∷ texts c.comms)
     ≡ Ok (item.CommunityLine name (bare_community_line c))
-unfolding policy_form community_line_form numbered_line
+unfolding policy_form
 numbered_item name c named is number d comms some =
     let first = number_first name number in
     of_head scope.Top form.CommunityLine _ _ (numbered_head name (act_text c.permit ∷ texts c.comms) (other_swap name (codes "expanded") first (omega arith))
     (small_number name number))
-    (ap (λ (cs : List ℕ). community_line_form 0 (codes "ip" ∷ codes "community-list" ∷ name ∷ act_text c.permit ∷ texts cs)) some
+    (ap (λ (cs : List ℕ). policy_form form.CommunityLine 0 (codes "ip" ∷ codes "community-list" ∷ name ∷ act_text c.permit ∷ texts cs)) some
     ∙ rw (other_word name (codes "standard") first (omega arith), number)
     (ap (λ (cs : List ℕ). community_line 0 name (act_text c.permit) (texts cs)) (sym some) ∙ community_line_back name c named is))
 
 standard_item : (name : List ℕ) (c : CommunityLine) → IsListName name → IsCommunitySet c.comms
     → policy_item_of scope.Top 0 (codes "ip" ∷ codes "community-list" ∷ codes "standard" ∷ name ∷ act_text c.permit ∷ texts c.comms)
     ≡ Ok (item.CommunityLine name (bare_community_line c))
-unfolding policy_form community_line_form
+unfolding policy_form
 standard_item name c named is = of_head scope.Top form.CommunityLine _ _ (standard_head (name ∷ act_text c.permit ∷ texts c.comms))
     (community_line_back name c named is)
 
@@ -298,14 +298,14 @@ community_item name c named is = by (is_some (number_between 1 99 name)) refl
 
 pub map_head_item : (name : List ℕ) (e : MapEntry) → IsListName name → e.seq ≤ 65535 →
     policy_item_of scope.Top 0 (map_head_line name e).words ≡ Ok (item.MapHead name (empty_entry e.seq e.permit 0))
-unfolding map_head_line policy_form map_head_form
+unfolding map_head_line policy_form
 map_head_item name e named short =
     of_head scope.Top form.MapHead _ _ (map_head (name ∷ act_text e.permit ∷ decimal e.seq ∷ []))
     (rw (permit_back e.permit, between_back 0 65535 e.seq (omega arith) (omega arith, short), list_name_back name named) refl)
 
 pub match_prefixes_item : (l : NameLine) → IsWellFormedNameLine l →
     policy_item_of scope.Entry 0 (match_prefixes_line l).words ≡ Ok (item.MatchPrefixes (bare_name_line l))
-unfolding match_prefixes_line policy_form match_prefixes_form
+unfolding match_prefixes_line policy_form
 match_prefixes_item l is = of_head scope.Entry form.MatchPrefixes _ _ (match_prefixes_head l.names) (rw (names_back l is) refl)
 
 marked_back : (mark : List ℕ) (words : List (List ℕ)) → has_mark mark (words ++ mark ∷ []) ≡ true
@@ -326,20 +326,22 @@ comms_match_back : (exact : Bool) (l : NameLine) → IsWellFormedNameLine l → 
 unfolding comms_match
 comms_match_back exact l is = rw (names_back l is) refl
 
-marked_match_back : (exact : Bool) (l : NameLine) → IsWellFormedNameLine l → IsMarkRight (Some l) exact
-    → marked_match 0 (l.names ++ (if exact then codes "exact-match" ∷ [] else [])) ≡ Ok (item.MatchComms (bare_name_line l) exact)
-unfolding marked_match
-marked_match_back true l is right = rw (marked_back (codes "exact-match") l.names, but_last_back l.names (codes "exact-match")) (comms_match_back true l is)
-marked_match_back false l is right = ap (marked_match 0) (append-nil l.names) ∙ rw right (comms_match_back false l is)
+match_comms_back : (exact : Bool) (l : NameLine) → IsWellFormedNameLine l → IsMarkRight (Some l) exact
+    → policy_form form.MatchComms 0 (codes "match" ∷ codes "community" ∷ l.names ++ (if exact then codes "exact-match" ∷ [] else []))
+    ≡ Ok (item.MatchComms (bare_name_line l) exact)
+unfolding policy_form
+match_comms_back true l is right = rw (marked_back (codes "exact-match") l.names, but_last_back l.names (codes "exact-match")) (comms_match_back true l is)
+match_comms_back false l is right = ap (λ (ws : List (List ℕ)). policy_form form.MatchComms 0 (codes "match" ∷ codes "community" ∷ ws)) (append-nil l.names)
+    ∙ rw right (comms_match_back false l is)
 
 pub match_comms_item : (exact : Bool) (l : NameLine) → IsWellFormedNameLine l → IsMarkRight (Some l) exact →
     policy_item_of scope.Entry 0 (match_comms_line exact l).words ≡ Ok (item.MatchComms (bare_name_line l) exact)
-unfolding match_comms_line policy_form match_comms_form
+unfolding match_comms_line
 match_comms_item exact l is right = of_head scope.Entry form.MatchComms _ _ (match_comms_head (l.names ++ (if exact then codes "exact-match" ∷ [] else [])))
-    (marked_match_back exact l is right)
+    (match_comms_back exact l is right)
 
 pub lp_item : (n : ℕ) → IsNumber n → policy_item_of scope.Entry 0 (lp_line n).words ≡ Ok (item.Lp n)
-unfolding lp_line policy_form lp_form
+unfolding lp_line policy_form
 lp_item n is = of_head scope.Entry form.Lp _ _ (lp_head (decimal n ∷ [])) (rw (number_back n is) refl)
 
 no_none : (comms : List ℕ) → AllByRecursion IsCommunity comms → is_none_alone (texts comms) ≡ false
@@ -373,13 +375,13 @@ append_back comms is = rw (
 ) refl
 
 pub change_item : (change : Change) → IsWellFormedChange change → policy_item_of scope.Entry 0 (change_line change).words ≡ Ok (item.Comms change)
-unfolding change_line policy_form set_comms_form change_of is_none_alone
+unfolding change_line policy_form change_of is_none_alone
 change_item Clear is = of_head scope.Entry form.Comms _ _ (comms_head (codes "none" ∷ [])) refl
 change_item (Replace comms) is = of_head scope.Entry form.Comms _ _ (comms_head (texts comms)) (rw (replace_back comms is) refl)
 change_item (Append comms) is = of_head scope.Entry form.Comms _ _ (comms_head (texts comms ++ codes "additive" ∷ [])) (rw (append_back comms is) refl)
 
 pub delete_item : (list : Named) → IsWellFormedNamed list → policy_item_of scope.Entry 0 (delete_line list).words ≡ Ok (item.Delete (bare_named list))
-unfolding delete_line policy_form delete_form
+unfolding delete_line policy_form
 delete_item list is = of_head scope.Entry form.Delete _ _ (delete_head (list.name ∷ codes "delete" ∷ [])) (rw (named_back list is) refl)
 
 abbrev IsAsNumber : ℕ → Type 0
@@ -394,7 +396,7 @@ as_numbers_back [] all = refl
 as_numbers_back (n ∷ ns) all = rw (as_number_back n all.0, as_numbers_back ns all.1) refl
 
 pub prepend_item : (p : Prepend) → IsWellFormedPrepend p → policy_item_of scope.Entry 0 (prepend_line p).words ≡ Ok (item.Prepend (bare_prepend p))
-unfolding prepend_line policy_form prepend_form
+unfolding prepend_line policy_form
 prepend_item p is =
     let count : IsBetween 1 10 (length (map decimal p.numbers)) = rw (length-map p.numbers decimal) is.count in
     of_head scope.Entry form.Prepend _ _ (prepend_head (map decimal p.numbers))

@@ -17,12 +17,13 @@ use Rattle.cfg_ast.specs.declared.items.PolicyItem.TheVariants as item
 use Rattle.cfg_ast.specs.declared.items.PolicyScope.{PolicyScope}
 use Rattle.cfg_ast.specs.declared.items.PolicyScope.TheVariants as scope
 use Rattle.cfg_ast.specs.text.TextLines.{TextLine}
-use Rattle.cfg_ast.specs.text.Heads.{Row, begins, longer, if_begins, longest, class_in, known_in_entry, refused_in_entry, ignored_in_entry, entry_heads, policy_heads_of}
-use Rattle.cfg_ast.specs.text.PolicyForms.{has_mark, but_last, match_prefixes_form, comms_match, marked_match, match_comms_form, policy_form, policy_item_by, policy_item_of, list_names_of, is_group, all_differ, prefix_entry_form, community_line_form, map_head_form, lp_form, set_comms_form, delete_form, prepend_form, is_permit, bounds_of, community_words, community_line, numbered_line, change_of, is_as_number}
+use Rattle.cfg_ast.specs.text.Heads.{Row, begins, longer, if_begins, longest, class_in, entry_heads, policy_heads_of}
+use Rattle.cfg_ast.specs.text.Lines.{words_of}
+use Rattle.cfg_ast.specs.text.PolicyForms.{has_mark, but_last, comms_match, policy_form, policy_item_by, policy_item_of, list_names_of, is_group, all_differ, is_permit, bounds_of, community_words, community_line, change_of, is_as_number}
 use Rattle.cfg_ast.specs.text.FormSteps.{list_name_of, named_of}
 use Rattle.cfg_ast.specs.text.Words.{is_list_name, number_word, number_between, prefix_of}
 use Rattle.cfg_ast.specs.printing.Printed.{line_text, match_prefixes_line, match_comms_line}
-use Rattle.given_laws.proofs.Given.{IsAny, given, after, fits, either, anything, any_result}
+use Rattle.given_laws.proofs.Given.{IsAny, given, mapped, after, fits, either, anything, any_result}
 use Rattle.cfg_round_trip.specs.ShortMaps.{IsShortLine, IsShortEntry}
 use Rattle.cfg_round_trip.proofs.ShortTexts.{joined}
 
@@ -102,7 +103,7 @@ abbrev comms_words : List (List ℕ)
 comms_words = codes "match" ∷ codes "community" ∷ []
 
 prefixes_rows : AllByRecursion (IsRowFor (class.Policy form.MatchPrefixes) prefixes_words) entry_heads
-unfolding known_in_entry refused_in_entry ignored_in_entry
+unfolding entry_heads words_of
 prefixes_rows = (
   λ e. refl,
   (
@@ -112,7 +113,7 @@ prefixes_rows = (
 )
 
 comms_rows : AllByRecursion (IsRowFor (class.Policy form.MatchComms) comms_words) entry_heads
-unfolding known_in_entry refused_in_entry ignored_in_entry
+unfolding entry_heads words_of
 comms_rows = (
   λ e. absurd cc,
   (
@@ -138,8 +139,8 @@ two_words : (a b x y : List ℕ) (rest : List (List ℕ)) → x ≡ a → y ≡ 
 two_words a b x y rest e f = rw (e, f) refl
 
 prefixes_short : (line : ℕ) (words : List (List ℕ)) → begins prefixes_words words ≡ true → 1 + joined words ≤ 1024 →
-    IfOk (match_prefixes_form line words) (IsShortItem true)
-unfolding match_prefixes_form match_prefixes_line
+    IfOk (policy_form form.MatchPrefixes line words) (IsShortItem true)
+unfolding policy_form match_prefixes_line
 prefixes_short line (a ∷ b ∷ c ∷ d ∷ words) head short =
     let one = and_parts (bytes_eq (codes "match") a) _ head in
     let two = and_parts (bytes_eq (codes "ip") b) _ one.1 in
@@ -166,8 +167,8 @@ marked_is mark (word ∷ next ∷ words) e =
     ap (λ k. take k (word ∷ next ∷ words) ++ mark ∷ []) n ∙ ap (λ (ws : List (List ℕ)). word ∷ ws) (marked_is mark (next ∷ words) e)
 
 comms_short : (line : ℕ) (words : List (List ℕ)) → begins comms_words words ≡ true → 1 + joined words ≤ 1024 →
-    IfOk (match_comms_form line words) (IsShortItem true)
-unfolding match_comms_form marked_match comms_match match_comms_line
+    IfOk (policy_form form.MatchComms line words) (IsShortItem true)
+unfolding policy_form comms_match match_comms_line
 comms_short line (a ∷ b ∷ words) head short =
     let one = and_parts (bytes_eq (codes "match") a) _ head in
     let two = and_parts (bytes_eq (codes "community") b) true one.1 in
@@ -183,17 +184,6 @@ comms_short line _ head short = tt
 
 -- ---- the other forms
 
-prefix_entry_quiet : (inside : Bool) (line : ℕ) (words : List (List ℕ)) → IfOk (prefix_entry_form line words) (IsShortItem inside)
-unfolding prefix_entry_form
-prefix_entry_quiet inside line (_ ∷ _ ∷ name ∷ word ∷ number ∷ act ∷ prefix ∷ options) =
-    fits (IsShortItem inside) (bytes_eq word (codes "seq")) _ (λ e.
-    given IsAny (IsShortItem inside) _ _ (anything (number_between 1 4294967295 number)) (λ seq any.
-    given IsAny (IsShortItem inside) _ _ (anything (is_permit act)) (λ permit any.
-    given IsAny (IsShortItem inside) _ _ (anything (prefix_of prefix)) (λ p any.
-    after IsAny (IsShortItem inside) _ _ (any_result (bounds_of p.len options)) (λ bounds any.
-    after IsAny (IsShortItem inside) _ _ (any_result (list_name_of name)) (λ list any. tt))))))
-prefix_entry_quiet inside line _ = tt
-
 community_line_quiet : (inside : Bool) (line : ℕ) (name act : List ℕ) (communities : List (List ℕ)) →
     IfOk (community_line line name act communities) (IsShortItem inside)
 unfolding community_line
@@ -202,53 +192,14 @@ community_line_quiet inside line name act communities =
     after IsAny (IsShortItem inside) _ _ (any_result (list_name_of name)) (λ list any.
     after IsAny (IsShortItem inside) _ _ (any_result (community_words communities)) (λ comms any. tt)))
 
-list_line_quiet : (inside : Bool) (line : ℕ) (words : List (List ℕ)) → IfOk (community_line_form line words) (IsShortItem inside)
-unfolding community_line_form numbered_line
-list_line_quiet inside line (_ ∷ _ ∷ word ∷ []) = tt
-list_line_quiet inside line (_ ∷ _ ∷ word ∷ next ∷ []) = tt
-list_line_quiet inside line (_ ∷ _ ∷ word ∷ next ∷ third ∷ words) =
-    either (IsShortItem inside) (bytes_eq word (codes "standard")) _ _ (λ e. community_line_quiet inside line next third words) (λ e.
-    fits (IsShortItem inside) (is_some (number_between 1 99 word)) _ (λ f. community_line_quiet inside line word next (third ∷ words)))
-list_line_quiet inside line _ = tt
-
-map_head_quiet : (inside : Bool) (line : ℕ) (words : List (List ℕ)) → IfOk (map_head_form line words) (IsShortItem inside)
-unfolding map_head_form
-map_head_quiet inside line (_ ∷ name ∷ act ∷ number ∷ []) =
-    given IsAny (IsShortItem inside) _ _ (anything (is_permit act)) (λ permit any.
-    given IsAny (IsShortItem inside) _ _ (anything (number_between 0 65535 number)) (λ seq any.
-    after IsAny (IsShortItem inside) _ _ (any_result (list_name_of name)) (λ map any. (tt, tt))))
-map_head_quiet inside line _ = tt
-
-lp_quiet : (inside : Bool) (words : List (List ℕ)) → IfOk (lp_form words) (IsShortItem inside)
-unfolding lp_form
-lp_quiet inside (_ ∷ _ ∷ number ∷ []) = given IsAny (IsShortItem inside) _ _ (anything (number_word number)) (λ n any. tt)
-lp_quiet inside _ = tt
-
-set_comms_quiet : (inside : Bool) (words : List (List ℕ)) → IfOk (set_comms_form words) (IsShortItem inside)
-unfolding set_comms_form
-set_comms_quiet inside (_ ∷ _ ∷ words) = after IsAny (IsShortItem inside) _ _ (any_result (change_of words)) (λ change any. tt)
-set_comms_quiet inside _ = tt
-
-delete_quiet : (inside : Bool) (line : ℕ) (words : List (List ℕ)) → IfOk (delete_form line words) (IsShortItem inside)
-unfolding delete_form
-delete_quiet inside line (_ ∷ _ ∷ name ∷ word ∷ []) = fits (IsShortItem inside) (bytes_eq word (codes "delete")) _
-    (λ e. after IsAny (IsShortItem inside) _ _ (any_result (named_of line name)) (λ list any. tt))
-delete_quiet inside line _ = tt
-
-prepend_quiet : (inside : Bool) (line : ℕ) (words : List (List ℕ)) → IfOk (prepend_form line words) (IsShortItem inside)
-unfolding prepend_form
-prepend_quiet inside line (_ ∷ _ ∷ _ ∷ words) =
-    fits (IsShortItem inside) (nat_le 1 (length words) && nat_le (length words) 10 && list_all is_as_number words) _ (λ e. tt)
-prepend_quiet inside line _ = tt
-
 -- outside an entry nothing is asked of a match line
-prefixes_outside : (line : ℕ) (words : List (List ℕ)) → IfOk (match_prefixes_form line words) (IsShortItem false)
-unfolding match_prefixes_form
+prefixes_outside : (line : ℕ) (words : List (List ℕ)) → IfOk (policy_form form.MatchPrefixes line words) (IsShortItem false)
+unfolding policy_form
 prefixes_outside line (_ ∷ _ ∷ _ ∷ _ ∷ words) = after IsAny (IsShortItem false) _ _ (any_result (list_names_of words)) (λ names any. tt)
 prefixes_outside line _ = tt
 
-comms_outside : (line : ℕ) (words : List (List ℕ)) → IfOk (match_comms_form line words) (IsShortItem false)
-unfolding match_comms_form marked_match comms_match
+comms_outside : (line : ℕ) (words : List (List ℕ)) → IfOk (policy_form form.MatchComms line words) (IsShortItem false)
+unfolding policy_form comms_match
 comms_outside line (_ ∷ _ ∷ words) =
     either (IsShortItem false) (has_mark (codes "exact-match") words) _ _
     (λ e. after IsAny (IsShortItem false) _ _ (any_result (list_names_of (but_last words))) (λ names any. tt))
@@ -257,18 +208,33 @@ comms_outside line _ = tt
 
 -- ---- a line by its head
 
-quiet_form : (inside : Bool) (f : PolicyForm) (line : ℕ) (words : List (List ℕ)) → IfOk (match_prefixes_form line words) (IsShortItem inside) →
-    IfOk (match_comms_form line words) (IsShortItem inside) → IfOk (policy_form f line words) (IsShortItem inside)
+quiet_form : (inside : Bool) (f : PolicyForm) (line : ℕ) (words : List (List ℕ)) →
+    (f ≡ form.MatchPrefixes → IfOk (policy_form form.MatchPrefixes line words) (IsShortItem inside)) →
+    (f ≡ form.MatchComms → IfOk (policy_form form.MatchComms line words) (IsShortItem inside)) → IfOk (policy_form f line words) (IsShortItem inside)
 unfolding policy_form
-quiet_form inside form.PrefixEntry line words p c = prefix_entry_quiet inside line words
-quiet_form inside form.CommunityLine line words p c = list_line_quiet inside line words
-quiet_form inside form.MapHead line words p c = map_head_quiet inside line words
-quiet_form inside form.MatchPrefixes line words p c = p
-quiet_form inside form.MatchComms line words p c = c
-quiet_form inside form.Lp line words p c = lp_quiet inside words
-quiet_form inside form.Comms line words p c = set_comms_quiet inside words
-quiet_form inside form.Delete line words p c = delete_quiet inside line words
-quiet_form inside form.Prepend line words p c = prepend_quiet inside line words
+quiet_form inside form.PrefixEntry line (_ ∷ _ ∷ name ∷ word ∷ number ∷ act ∷ prefix ∷ options) p c =
+    fits (IsShortItem inside) (bytes_eq word (codes "seq")) _ (λ e.
+    given IsAny (IsShortItem inside) _ _ (anything (number_between 1 4294967295 number)) (λ seq any.
+    given IsAny (IsShortItem inside) _ _ (anything (is_permit act)) (λ permit any.
+    given IsAny (IsShortItem inside) _ _ (anything (prefix_of prefix)) (λ p any.
+    after IsAny (IsShortItem inside) _ _ (any_result (bounds_of p.len options)) (λ bounds any.
+    after IsAny (IsShortItem inside) _ _ (any_result (list_name_of name)) (λ list any. tt))))))
+quiet_form inside form.CommunityLine line (_ ∷ _ ∷ word ∷ next ∷ third ∷ words) p c =
+    either (IsShortItem inside) (bytes_eq word (codes "standard")) _ _ (λ e. community_line_quiet inside line next third words) (λ e.
+    fits (IsShortItem inside) (is_some (number_between 1 99 word)) _ (λ f. community_line_quiet inside line word next (third ∷ words)))
+quiet_form inside form.MapHead line (_ ∷ name ∷ act ∷ number ∷ []) p c =
+    given IsAny (IsShortItem inside) _ _ (anything (is_permit act)) (λ permit any.
+    given IsAny (IsShortItem inside) _ _ (anything (number_between 0 65535 number)) (λ seq any.
+    after IsAny (IsShortItem inside) _ _ (any_result (list_name_of name)) (λ map any. (tt, tt))))
+quiet_form inside form.MatchPrefixes line words p c = p refl
+quiet_form inside form.MatchComms line words p c = c refl
+quiet_form inside form.Lp line (_ ∷ _ ∷ number ∷ []) p c = mapped IsAny (IsShortItem inside) _ _ (anything (number_word number)) (λ n any. tt)
+quiet_form inside form.Comms line (_ ∷ _ ∷ words) p c = after IsAny (IsShortItem inside) _ _ (any_result (change_of words)) (λ change any. tt)
+quiet_form inside form.Delete line (_ ∷ _ ∷ name ∷ word ∷ []) p c = fits (IsShortItem inside) (bytes_eq word (codes "delete")) _
+    (λ e. after IsAny (IsShortItem inside) _ _ (any_result (named_of line name)) (λ list any. tt))
+quiet_form inside form.Prepend line (_ ∷ _ ∷ _ ∷ words) p c =
+    fits (IsShortItem inside) (nat_le 1 (length words) && nat_le (length words) 10 && list_all is_as_number words) _ (λ e. tt)
+quiet_form inside _ line _ p c = tt
 
 outside_class : (o : Option HeadClass) (line : ℕ) (words : List (List ℕ)) → IfOk (policy_item_by o line words) (IsShortItem false)
 unfolding policy_item_by
@@ -276,30 +242,23 @@ outside_class None line words = tt
 outside_class (Some class.Refused) line words = tt
 outside_class (Some class.Ignored) line words = tt
 outside_class (Some (class.Router f)) line words = tt
-outside_class (Some (class.Policy f)) line words = quiet_form false f line words (prefixes_outside line words) (comms_outside line words)
+outside_class (Some (class.Policy f)) line words = quiet_form false f line words (λ e. prefixes_outside line words) (λ e. comms_outside line words)
 
 pub outside_item : (s : PolicyScope) (line : ℕ) (words : List (List ℕ)) → IfOk (policy_item_of s line words) (IsShortItem false)
 outside_item s line words = outside_class (class_in (policy_heads_of s) words) line words
 
 inside_class : (o : Option HeadClass) (line : ℕ) (words : List (List ℕ)) → class_in (policy_heads_of scope.Entry) words ≡ o → 1 + joined words ≤ 1024 →
     IfOk (policy_item_by o line words) (IsShortItem true)
-unfolding policy_item_by policy_form policy_heads_of
+unfolding policy_item_by policy_heads_of words_of
 inside_class None line words e short = tt
 inside_class (Some class.Refused) line words e short = tt
 inside_class (Some class.Ignored) line words e short = tt
 inside_class (Some (class.Router f)) line words e short = tt
-inside_class (Some (class.Policy form.MatchPrefixes)) line words e short =
-    prefixes_short line words (begins_head entry_heads words prefixes_words (class.Policy form.MatchPrefixes) (longest entry_heads words) refl prefixes_rows e)
-    short
-inside_class (Some (class.Policy form.MatchComms)) line words e short =
-    comms_short line words (begins_head entry_heads words comms_words (class.Policy form.MatchComms) (longest entry_heads words) refl comms_rows e) short
-inside_class (Some (class.Policy form.PrefixEntry)) line words e short = prefix_entry_quiet true line words
-inside_class (Some (class.Policy form.CommunityLine)) line words e short = list_line_quiet true line words
-inside_class (Some (class.Policy form.MapHead)) line words e short = map_head_quiet true line words
-inside_class (Some (class.Policy form.Lp)) line words e short = lp_quiet true words
-inside_class (Some (class.Policy form.Comms)) line words e short = set_comms_quiet true words
-inside_class (Some (class.Policy form.Delete)) line words e short = delete_quiet true line words
-inside_class (Some (class.Policy form.Prepend)) line words e short = prepend_quiet true line words
+inside_class (Some (class.Policy f)) line words e short = quiet_form true f line words
+    (λ same. prefixes_short line words (begins_head entry_heads words prefixes_words (class.Policy form.MatchPrefixes) (longest entry_heads words) refl
+    prefixes_rows (e ∙ ap (λ (g : PolicyForm). Some (class.Policy g)) same)) short)
+    (λ same. comms_short line words (begins_head entry_heads words comms_words (class.Policy form.MatchComms) (longest entry_heads words) refl comms_rows
+    (e ∙ ap (λ (g : PolicyForm). Some (class.Policy g)) same)) short)
 
 pub inside_item : (line : ℕ) (words : List (List ℕ)) → 1 + joined words ≤ 1024 → IfOk (policy_item_of scope.Entry line words) (IsShortItem true)
 inside_item line words short = inside_class (class_in (policy_heads_of scope.Entry) words) line words refl short

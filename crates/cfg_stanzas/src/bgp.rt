@@ -2,7 +2,8 @@
 
 ghost use Rattle.std.specs.Prelude.{◌≡◌};
 ghost use Rattle.cfg_ast.specs.text.Reading.{new_bgp};
-ghost use Rattle.cfg_ast.specs.text.Stanzas.{set_bgp, with_peer, peer_of, set_process, set_base, add_network, add_neighbor};
+ghost use Rattle.cfg_ast.specs.declared.items.RouterItem.TheVariants as item;
+ghost use Rattle.cfg_ast.specs.text.Stanzas.{set_bgp, with_peer, peer_of, set_process};
 ghost use Rattle.cfg_stanzas.specs.Changes.{Changes};
 
 use crate::faults::once;
@@ -87,19 +88,21 @@ fn peer_of(item: &RouterItem) -> Option<u32>
     }
 }
 
+#[tactic(auto, unfolding(cfg_ast::specs::text::Stanzas::set_process))]
 fn add_network(
     alloc: Global,
     number: u32,
     net: &NetLine,
     process: &mut BgpDraft,
 ) -> Result<(), ReadRefusal>
-    ensures { Changes result process.new (add_network number net.now process.old) }
+    ensures { Changes result process.new (set_process number (item.Network net.now) process.old) }
 {
     once(number, process.networks.has(net.prefix))?;
     process.networks.add(alloc, *net)?;
     Ok(())
 }
 
+#[tactic(auto, unfolding(cfg_ast::specs::text::Stanzas::set_process))]
 fn add_neighbor(
     alloc: Global,
     number: u32,
@@ -107,7 +110,7 @@ fn add_neighbor(
     remote: u32,
     process: &mut BgpDraft,
 ) -> Result<(), ReadRefusal>
-    ensures { Changes result process.new (add_neighbor number addr remote process.old) }
+    ensures { Changes result process.new (set_process number (item.RemoteAs addr remote) process.old) }
 {
     once(number, process.neighbors.has(addr))?;
     process
@@ -116,8 +119,9 @@ fn add_neighbor(
     Ok(())
 }
 
+#[tactic(auto, unfolding(cfg_ast::specs::text::Stanzas::set_process))]
 fn set_base(number: u32, base: Base, process: &mut BgpDraft) -> Result<(), ReadRefusal>
-    ensures { Changes result process.new (set_base number base process.old) }
+    ensures { Changes result process.new (set_process number (item.Base base) process.old) }
 {
     once(number, process.base.is_some())?;
     process.base = Some(base);

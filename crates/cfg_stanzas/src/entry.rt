@@ -1,26 +1,29 @@
 //! The lines of an entry of a route map, taken one by one.
 
-ghost use Rattle.cfg_ast.specs.text.PolicyLines.{set_prefixes, set_comms, set_lp, set_change, set_delete, set_prepend, set_entry};
+ghost use Rattle.cfg_ast.specs.declared.items.PolicyItem.TheVariants as item;
+ghost use Rattle.cfg_ast.specs.text.PolicyLines.{set_entry};
 ghost use Rattle.cfg_stanzas.specs.Changes.{Changes};
 
 use crate::faults::once;
 use cfg_ast::{Change, MapEntry, NameLine, Named, PolicyItem, Prepend, ReadRefusal};
 
+#[tactic(auto, unfolding(cfg_ast::specs::text::PolicyLines::set_entry))]
 fn set_prefixes(number: u32, names: NameLine, entry: &mut MapEntry) -> Result<(), ReadRefusal>
-    ensures { Changes result entry.new (set_prefixes number names entry.old) }
+    ensures { Changes result entry.new (set_entry number (item.MatchPrefixes names) entry.old) }
 {
     once(number, entry.prefixes.is_some())?;
     entry.prefixes = Some(names);
     Ok(())
 }
 
+#[tactic(auto, unfolding(cfg_ast::specs::text::PolicyLines::set_entry))]
 fn set_comms(
     number: u32,
     names: NameLine,
     exact: bool,
     entry: &mut MapEntry,
 ) -> Result<(), ReadRefusal>
-    ensures { Changes result entry.new (set_comms number names exact entry.old) }
+    ensures { Changes result entry.new (set_entry number (item.MatchComms names exact) entry.old) }
 {
     once(number, entry.comms.is_some())?;
     entry.comms = Some(names);
@@ -28,16 +31,18 @@ fn set_comms(
     Ok(())
 }
 
+#[tactic(auto, unfolding(cfg_ast::specs::text::PolicyLines::set_entry))]
 fn set_lp(number: u32, lp: u32, entry: &mut MapEntry) -> Result<(), ReadRefusal>
-    ensures { Changes result entry.new (set_lp number lp entry.old) }
+    ensures { Changes result entry.new (set_entry number (item.Lp lp) entry.old) }
 {
     once(number, entry.lp.is_some())?;
     entry.lp = Some(lp);
     Ok(())
 }
 
+#[tactic(auto, unfolding(cfg_ast::specs::text::PolicyLines::set_entry))]
 fn set_change(number: u32, change: Change, entry: &mut MapEntry) -> Result<(), ReadRefusal>
-    ensures { Changes result entry.new (set_change number change entry.old) }
+    ensures { Changes result entry.new (set_entry number (item.Comms change) entry.old) }
 {
     once(number, entry.change.is_some())?;
     entry.change = Some(change);
@@ -45,16 +50,18 @@ fn set_change(number: u32, change: Change, entry: &mut MapEntry) -> Result<(), R
     Ok(())
 }
 
+#[tactic(auto, unfolding(cfg_ast::specs::text::PolicyLines::set_entry))]
 fn set_delete(number: u32, list: Named, entry: &mut MapEntry) -> Result<(), ReadRefusal>
-    ensures { Changes result entry.new (set_delete number list entry.old) }
+    ensures { Changes result entry.new (set_entry number (item.Delete list) entry.old) }
 {
     once(number, entry.delete.is_some())?;
     entry.delete = Some(list);
     Ok(())
 }
 
+#[tactic(auto, unfolding(cfg_ast::specs::text::PolicyLines::set_entry))]
 fn set_prepend(number: u32, prepend: Prepend, entry: &mut MapEntry) -> Result<(), ReadRefusal>
-    ensures { Changes result entry.new (set_prepend number prepend entry.old) }
+    ensures { Changes result entry.new (set_entry number (item.Prepend prepend) entry.old) }
 {
     once(number, entry.prepend.is_some())?;
     entry.prepend = Some(prepend);

@@ -1,10 +1,11 @@
 //! The neighbours of a BGP process, found by their addresses.
 
-ghost use Rattle.std.specs.Prelude.{◌≡◌, ◌<◌, ◌∷◌, ◌++◌, [], IfOk, OnOk, length, false, nat_eq};
+ghost use Rattle.std.specs.Prelude.{ℕ, ◌≡◌, ◌<◌, ◌∷◌, ◌++◌, [], IfOk, OnOk, length, false, nat_eq};
 ghost use Rattle.std.specs.List.{position};
+ghost use Rattle.cfg_ast.specs.declared.items.RouterItem.TheVariants as item;
 ghost use Rattle.cfg_stanzas.specs.Neighbors.{change_at};
 ghost use Rattle.cfg_stanzas.specs.Changes.{Changes};
-ghost use Rattle.cfg_ast.specs.text.Stanzas.{has_neighbor, new_neighbor, set_neighbor, at_neighbor, set_list, set_map};
+ghost use Rattle.cfg_ast.specs.text.Stanzas.{has_neighbor, new_neighbor, set_neighbor, at_neighbor};
 
 use crate::faults::{misplaced, once};
 use base_kit::{List, NoMemory};
@@ -50,8 +51,9 @@ pub(crate) fn new_neighbor(number: u32, addr: u32, remote: u32) -> Neighbor
     }
 }
 
+#[tactic(auto, unfolding(cfg_ast::specs::text::Stanzas::set_neighbor))]
 fn set_list(number: u32, list: Named, inward: bool, peer: &mut Neighbor) -> Result<(), ReadRefusal>
-    ensures set { Changes result peer.new (set_list number list inward peer.old) }
+    ensures set { (addr : ℕ) → Changes result peer.new (set_neighbor number (item.PeerList addr list inward) peer.old) }
     ensures addr { peer.new.addr ≡ peer.old.addr }
 {
     if inward {
@@ -64,8 +66,9 @@ fn set_list(number: u32, list: Named, inward: bool, peer: &mut Neighbor) -> Resu
     Ok(())
 }
 
+#[tactic(auto, unfolding(cfg_ast::specs::text::Stanzas::set_neighbor))]
 fn set_map(number: u32, map: Named, inward: bool, peer: &mut Neighbor) -> Result<(), ReadRefusal>
-    ensures set { Changes result peer.new (set_map number map inward peer.old) }
+    ensures set { (addr : ℕ) → Changes result peer.new (set_neighbor number (item.PeerMap addr map inward) peer.old) }
     ensures addr { peer.new.addr ≡ peer.old.addr }
 {
     if inward {

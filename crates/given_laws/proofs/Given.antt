@@ -1,7 +1,7 @@
 -- What holds of the value that a part of a form or of a step gives, if it gives one.
 use Rattle.std.proofs.Common.{◌≡◌, ℕ, Bool, true, false, Option, Some, None, Result, Ok, Err, refl}
 use Rattle.std.specs.Prelude.{IfSome, IfOk, if◌then◌else◌}
-use Rattle.std.specs.Option.{option_and_then}
+use Rattle.std.specs.Option.{option_and_then, option_map}
 use Rattle.cfg_ast.specs.declared.refusal.FormFault.{FormFault}
 use Rattle.cfg_ast.specs.declared.refusal.ReadRefusal.{ReadRefusal}
 use Rattle.cfg_ast.specs.text.FormSteps.{or_bad, bad_unless}
@@ -46,6 +46,12 @@ pub given : {A B : Type 0} (Q : A → Type 0) (P : B → Type 0) (o : Option A) 
     IfOk (or_bad o >>= f) P
 given Q P (Some x) f is rest = rest x is
 given Q P None f is rest = tt
+
+-- a word that must give something, and what is made of it
+pub mapped : {A B : Type 0} (Q : A → Type 0) (P : B → Type 0) (o : Option A) (f : A → B) → IfSome o Q → ((x : A) → Q x → P (f x)) →
+    IfOk (or_bad (option_map f o)) P
+mapped Q P (Some x) f is rest = rest x is
+mapped Q P None f is rest = tt
 
 -- a form that must fit
 pub fits : {A : Type 0} (P : A → Type 0) (b : Bool) (r : Result A FormFault) → (b ≡ true → IfOk r P) → IfOk (bad_unless b r) P

@@ -13,9 +13,9 @@ use Rattle.cfg_ast.specs.declared.items.PolicyItem.{PolicyItem}
 use Rattle.cfg_ast.specs.declared.items.PolicyItem.TheVariants as item
 use Rattle.cfg_ast.specs.text.Words.{as_number_word, number_between}
 use Rattle.cfg_ast.specs.text.Heads.{class_in, policy_heads_of}
-use Rattle.cfg_ast.specs.text.PolicyForms.{is_permit, has_mark, but_last, bounds_of, prefix_entry_form, community_line, numbered_line, community_line_form, map_head_form, match_prefixes_form, comms_match, marked_match, match_comms_form, lp_form, is_none_alone, change_of, set_comms_form, delete_form, is_as_number, prepend_form, policy_form, policy_item_by, policy_item_of}
+use Rattle.cfg_ast.specs.text.PolicyForms.{is_permit, has_mark, but_last, bounds_of, community_line, comms_match, is_none_alone, change_of, is_as_number, policy_form, policy_item_by, policy_item_of}
 use Rattle.cfg_ast.specs.printing.WellFormed.{IsBetween, IsNumber, IsListName, IsPrefix, IsCommunitySet, IsWellFormedNamed, AreBounds, IsWellFormedPrefixEntry, IsWellFormedCommunityLine, IsWellFormedNameLine, IsMarkRight, IsWellFormedChange, IsWellFormedPrepend, IsWellFormedMapEntry}
-use Rattle.given_laws.proofs.Given.{given, after, fits, either, IsAny, anything}
+use Rattle.given_laws.proofs.Given.{given, mapped, after, fits, either, IsAny, anything}
 use Rattle.given_laws.proofs.Each.{all_take, all_pass, all_filter_map, length-filter_map}
 use Rattle.given_laws.proofs.Values.{a_number, between, an_as_number, a_prefix}
 use Rattle.given_laws.proofs.RouterItems.{IsWord, AreWords, a_named}
@@ -33,7 +33,7 @@ IsPolicyItem (item.Delete list) = IsWellFormedNamed list
 IsPolicyItem (item.Prepend prepend) = IsWellFormedPrepend prepend
 IsPolicyItem item.Ignored = Unit {0}
 
--- ---- top lines
+-- ---- parts of forms
 
 abbrev AreBoundsOf : ℕ → Option ℕ × Option ℕ → Type 0
 AreBoundsOf len bounds = AreBounds len bounds.0 bounds.1
@@ -50,55 +50,12 @@ some_bounds len (word ∷ low ∷ other ∷ high ∷ []) =
     given (IsBetween ge 32) (AreBoundsOf len) _ _ (between ge 32 high) (λ le second. (first, second))))
 some_bounds len _ = tt
 
-prefix_entry_case : (line : ℕ) (words : List (List ℕ)) → AreWords words → IfOk (prefix_entry_form line words) IsPolicyItem
-unfolding prefix_entry_form
-prefix_entry_case line (_ ∷ _ ∷ name ∷ word ∷ number ∷ act ∷ prefix ∷ options) are =
-    fits IsPolicyItem (bytes_eq word (codes "seq")) _ (λ e.
-    given (IsBetween 1 4294967295) IsPolicyItem _ _ (between 1 4294967295 number) (λ seq range.
-    given IsAny IsPolicyItem _ _ (anything (is_permit act)) (λ permit any.
-    given IsPrefix IsPolicyItem _ _ (a_prefix prefix) (λ p whole.
-    after (AreBoundsOf p.len) IsPolicyItem _ _ (some_bounds p.len options) (λ bounds within.
-    after IsListName IsPolicyItem _ _ (a_list_name name are.1.1.0) (λ list is.
-    (is, record { seq = range; prefix = whole; bounds = within })))))))
-prefix_entry_case line _ are = tt
-
 community_line_case : (line : ℕ) (name act : List ℕ) (communities : List (List ℕ)) → IsWord name → IfOk (community_line line name act communities) IsPolicyItem
 unfolding community_line
 community_line_case line name act communities is =
     given IsAny IsPolicyItem _ _ (anything (is_permit act)) (λ permit any.
     after IsListName IsPolicyItem _ _ (a_list_name name is) (λ list named.
     after IsCommunitySet IsPolicyItem _ _ (a_community_set communities) (λ comms set. (named, set))))
-
-numbered_case : (line : ℕ) (number act : List ℕ) (communities : List (List ℕ)) → IsWord number → IfOk (numbered_line line number act communities) IsPolicyItem
-unfolding numbered_line
-numbered_case line number act communities is =
-    fits IsPolicyItem (is_some (number_between 1 99 number)) _ (λ e. community_line_case line number act communities is)
-
-list_line_case : (line : ℕ) (words : List (List ℕ)) → AreWords words → IfOk (community_line_form line words) IsPolicyItem
-unfolding community_line_form
-list_line_case line (_ ∷ _ ∷ word ∷ []) are = tt
-list_line_case line (_ ∷ _ ∷ word ∷ next ∷ []) are = tt
-list_line_case line (_ ∷ _ ∷ word ∷ next ∷ third ∷ words) are =
-    either IsPolicyItem (bytes_eq word (codes "standard")) _ _ (λ e. community_line_case line next third words are.1.1.1.0)
-    (λ e. numbered_case line word next (third ∷ words) are.1.1.0)
-list_line_case line _ are = tt
-
-map_head_case : (line : ℕ) (words : List (List ℕ)) → AreWords words → IfOk (map_head_form line words) IsPolicyItem
-unfolding map_head_form
-map_head_case line (_ ∷ name ∷ act ∷ number ∷ []) are =
-    given IsAny IsPolicyItem _ _ (anything (is_permit act)) (λ permit any.
-    given (IsBetween 0 65535) IsPolicyItem _ _ (between 0 65535 number) (λ seq range.
-    after IsListName IsPolicyItem _ _ (a_list_name name are.1.0) (λ map named.
-    (named, record { seq = range.1; prefixes = tt; comms = tt; exact = refl; lp = tt; change = tt; delete = tt; prepend = tt }))))
-map_head_case line _ are = tt
-
--- ---- lines of an entry of a route map
-
-match_prefixes_case : (line : ℕ) (words : List (List ℕ)) → AreWords words → IfOk (match_prefixes_form line words) IsPolicyItem
-unfolding match_prefixes_form
-match_prefixes_case line (_ ∷ _ ∷ _ ∷ _ ∷ words) are =
-    after (AreNames words) IsPolicyItem _ _ (a_name_list words are.1.1.1.1) (λ names is. record { count = is.0; each = is.1; once = is.2 })
-match_prefixes_case line _ are = tt
 
 exact_case : (line : ℕ) (words : List (List ℕ)) → AreWords words → IfOk (comms_match line true words) IsPolicyItem
 unfolding comms_match
@@ -111,22 +68,6 @@ unfolding comms_match
 inexact_case line words are other = after (AreNames words) IsPolicyItem _ _ (a_name_list words are)
     (λ names is. (record { count = is.0; each = is.1; once = is.2 }, ap (has_mark (codes "exact-match")) is.3 ∙ other))
 
-marked_case : (line : ℕ) (words : List (List ℕ)) → AreWords words → IfOk (marked_match line words) IsPolicyItem
-unfolding marked_match
-marked_case line words are =
-    either IsPolicyItem (has_mark (codes "exact-match") words) _ _ (λ e. exact_case line (but_last words) (all_take IsWord (length words - 1) words are))
-    (λ other. inexact_case line words are other)
-
-match_comms_case : (line : ℕ) (words : List (List ℕ)) → AreWords words → IfOk (match_comms_form line words) IsPolicyItem
-unfolding match_comms_form
-match_comms_case line (_ ∷ _ ∷ words) are = marked_case line words are.1.1
-match_comms_case line _ are = tt
-
-lp_case : (words : List (List ℕ)) → IfOk (lp_form words) IsPolicyItem
-unfolding lp_form
-lp_case (_ ∷ _ ∷ number ∷ []) = given IsNumber IsPolicyItem _ _ (a_number number) (λ n is. is)
-lp_case _ = tt
-
 change_case : (words : List (List ℕ)) → IfOk (change_of words) IsWellFormedChange
 unfolding change_of
 change_case words =
@@ -135,24 +76,40 @@ change_case words =
     after IsCommunitySet IsWellFormedChange _ _ (a_community_set (but_last words)) (λ comms is. is)) (λ f.
     after IsCommunitySet IsWellFormedChange _ _ (a_community_set words) (λ comms is. is)))
 
-set_comms_case : (words : List (List ℕ)) → IfOk (set_comms_form words) IsPolicyItem
-unfolding set_comms_form
-set_comms_case (_ ∷ _ ∷ words) = after IsWellFormedChange IsPolicyItem _ _ (change_case words) (λ change is. is)
-set_comms_case _ = tt
-
-delete_case : (line : ℕ) (words : List (List ℕ)) → AreWords words → IfOk (delete_form line words) IsPolicyItem
-unfolding delete_form
-delete_case line (_ ∷ _ ∷ name ∷ word ∷ []) are = fits IsPolicyItem (bytes_eq word (codes "delete")) _
-    (λ e. after IsWellFormedNamed IsPolicyItem _ _ (a_named line name are.1.1.0) (λ list is. is))
-delete_case line _ are = tt
-
 as_numbers : (words : List (List ℕ)) → AllByRecursion (λ word. IfSome (as_number_word word) (IsBetween 1 4294967295)) words
 as_numbers [] = tt
 as_numbers (word ∷ words) = (an_as_number word, as_numbers words)
 
-prepend_case : (line : ℕ) (words : List (List ℕ)) → IfOk (prepend_form line words) IsPolicyItem
-unfolding prepend_form
-prepend_case line (_ ∷ _ ∷ _ ∷ words) =
+-- ---- a line by its head
+
+form_case : (f : PolicyForm) (line : ℕ) (words : List (List ℕ)) → AreWords words → IfOk (policy_form f line words) IsPolicyItem
+unfolding policy_form
+form_case form.PrefixEntry line (_ ∷ _ ∷ name ∷ word ∷ number ∷ act ∷ prefix ∷ options) are =
+    fits IsPolicyItem (bytes_eq word (codes "seq")) _ (λ e.
+    given (IsBetween 1 4294967295) IsPolicyItem _ _ (between 1 4294967295 number) (λ seq range.
+    given IsAny IsPolicyItem _ _ (anything (is_permit act)) (λ permit any.
+    given IsPrefix IsPolicyItem _ _ (a_prefix prefix) (λ p whole.
+    after (AreBoundsOf p.len) IsPolicyItem _ _ (some_bounds p.len options) (λ bounds within.
+    after IsListName IsPolicyItem _ _ (a_list_name name are.1.1.0) (λ list is.
+    (is, record { seq = range; prefix = whole; bounds = within })))))))
+form_case form.CommunityLine line (_ ∷ _ ∷ word ∷ next ∷ third ∷ words) are =
+    either IsPolicyItem (bytes_eq word (codes "standard")) _ _ (λ e. community_line_case line next third words are.1.1.1.0)
+    (λ e. fits IsPolicyItem (is_some (number_between 1 99 word)) _ (λ f. community_line_case line word next (third ∷ words) are.1.1.0))
+form_case form.MapHead line (_ ∷ name ∷ act ∷ number ∷ []) are =
+    given IsAny IsPolicyItem _ _ (anything (is_permit act)) (λ permit any.
+    given (IsBetween 0 65535) IsPolicyItem _ _ (between 0 65535 number) (λ seq range.
+    after IsListName IsPolicyItem _ _ (a_list_name name are.1.0) (λ map named.
+    (named, record { seq = range.1; prefixes = tt; comms = tt; exact = refl; lp = tt; change = tt; delete = tt; prepend = tt }))))
+form_case form.MatchPrefixes line (_ ∷ _ ∷ _ ∷ _ ∷ words) are =
+    after (AreNames words) IsPolicyItem _ _ (a_name_list words are.1.1.1.1) (λ names is. record { count = is.0; each = is.1; once = is.2 })
+form_case form.MatchComms line (_ ∷ _ ∷ words) are =
+    either IsPolicyItem (has_mark (codes "exact-match") words) _ _
+    (λ e. exact_case line (but_last words) (all_take IsWord (length words - 1) words are.1.1)) (λ other. inexact_case line words are.1.1 other)
+form_case form.Lp line (_ ∷ _ ∷ number ∷ []) are = mapped IsNumber IsPolicyItem _ _ (a_number number) (λ n is. is)
+form_case form.Comms line (_ ∷ _ ∷ words) are = after IsWellFormedChange IsPolicyItem _ _ (change_case words) (λ change is. is)
+form_case form.Delete line (_ ∷ _ ∷ name ∷ word ∷ []) are = fits IsPolicyItem (bytes_eq word (codes "delete")) _
+    (λ e. after IsWellFormedNamed IsPolicyItem _ _ (a_named line name are.1.1.0) (λ list is. is))
+form_case form.Prepend line (_ ∷ _ ∷ _ ∷ words) are =
     fits IsPolicyItem (nat_le 1 (length words) && nat_le (length words) 10 && list_all is_as_number words) _ (λ e.
     let two = and_parts (nat_le 1 (length words) && nat_le (length words) 10) (list_all is_as_number words) e in
     let one = and_parts (nat_le 1 (length words)) (nat_le (length words) 10) two.0 in
@@ -160,21 +117,7 @@ prepend_case line (_ ∷ _ ∷ _ ∷ words) =
     let low = leb-true 1 (length words) one.0 in
     let high = leb-true (length words) 10 one.1 in
     record { count = (omega arith, omega arith); each = all_filter_map (IsBetween 1 4294967295) as_number_word words (as_numbers words) })
-prepend_case line _ = tt
-
--- ---- a line by its head
-
-form_case : (f : PolicyForm) (line : ℕ) (words : List (List ℕ)) → AreWords words → IfOk (policy_form f line words) IsPolicyItem
-unfolding policy_form
-form_case form.PrefixEntry line words are = prefix_entry_case line words are
-form_case form.CommunityLine line words are = list_line_case line words are
-form_case form.MapHead line words are = map_head_case line words are
-form_case form.MatchPrefixes line words are = match_prefixes_case line words are
-form_case form.MatchComms line words are = match_comms_case line words are
-form_case form.Lp line words are = lp_case words
-form_case form.Comms line words are = set_comms_case words
-form_case form.Delete line words are = delete_case line words are
-form_case form.Prepend line words are = prepend_case line words
+form_case _ line _ are = tt
 
 class_case : (o : Option HeadClass) (line : ℕ) (words : List (List ℕ)) → AreWords words → IfOk (policy_item_by o line words) IsPolicyItem
 unfolding policy_item_by

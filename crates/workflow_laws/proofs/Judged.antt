@@ -15,7 +15,7 @@ use Rattle.cfg_ast.specs.declared.refusal.ReadRefusal.{ReadRefusal}
 use Rattle.cfg_ast.specs.declared.refusal.ReadRefusal.TheVariants.{At, Memory}
 use Rattle.cfg_ast.specs.meaning.Meaning.{judged, least_fault, meaning_faults, refused_by}
 use Rattle.cfg_ast.specs.text.Heads.{class_in, heads_of, policy_heads_of}
-use Rattle.cfg_ast.specs.text.Lines.{at_line, is_kept, kind_at, line_faults, line_of, lines_in, lines_of, pieces_from, unless_refused, Piece}
+use Rattle.cfg_ast.specs.text.Lines.{is_kept, kind_at, line_faults, line_of, lines_in, lines_of, pieces_from, unless_refused, Piece}
 use Rattle.cfg_ast.specs.text.PolicyForms.{policy_item_of}
 use Rattle.cfg_ast.specs.text.PolicyLines.{is_policy_line}
 use Rattle.cfg_ast.specs.text.Reading.{end_at, ending, is_end, network_of_text, reading_of, texts_of}
@@ -41,7 +41,7 @@ or_at (Some r) b first second = first
 
 -- ---- faults of lines as such
 
-one_fault : (n : ℕ) (o : Option Kind) (rest : List ReadRefusal) → AllByRecursion IsAt rest → AllByRecursion IsAt (cons_option (at_line n o) rest)
+one_fault : (n : ℕ) (o : Option Kind) (rest : List ReadRefusal) → AllByRecursion IsAt rest → AllByRecursion IsAt (cons_option (option_map (At n) o) rest)
 one_fault n None rest all = all
 one_fault n (Some kind) rest all = (tt, all)
 

@@ -25,8 +25,8 @@ def refused_in_sources() -> dict[str, set[str]]:
     text = HEADS.read_text("utf-8")
     found = {}
     for name, scope in TABLES.items():
-        table = re.search(rf"^refused_(?:at|in)_{name} =(.*?)^$", text, re.M | re.S)
-        found[scope] = set(re.findall(r'codes "([^"]+)"', table[1]))
+        table = re.search(rf"^{name}_heads =(.*?)^$", text, re.M | re.S)
+        found[scope] = {head for heads in re.findall(r'rows Refused \(codes "([^"]+)"', table[1]) for head in heads.split(", ")}
     return found
 
 

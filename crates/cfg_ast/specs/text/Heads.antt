@@ -10,6 +10,7 @@ use Rattle.cfg_ast.specs.declared.heads.HeadClass.{HeadClass}
 use Rattle.cfg_ast.specs.declared.heads.HeadClass.TheVariants.{Router, Policy, Refused, Ignored}
 use Rattle.cfg_ast.specs.declared.heads.RouterForm.TheVariants as router_form
 use Rattle.cfg_ast.specs.declared.heads.PolicyForm.TheVariants as policy_form
+use Rattle.cfg_ast.specs.text.Lines.{words_of}
 use Rattle.cfg_ast.specs.text.Words.{number_between}
 
 -- a row of a table: the words of a head, and what the lines are that it begins
@@ -17,9 +18,12 @@ pub record Row : Type 0 where
   pub words : List (List ℕ)
   pub class : HeadClass
 
--- a head written as one text
 abbrev pub row : HeadClass → List ℕ → Row
-row class text = record { words = slice_split (λ b. b == 32) text; class = class }
+row class head = record { words = words_of head; class = class }
+
+-- the heads of a class, with commas between them
+abbrev pub rows : HeadClass → List ℕ → List Row
+rows class heads = map (row class) (slice_split (λ b. b == 44) heads)
 
 -- ---- which head decides
 
@@ -54,10 +58,10 @@ longest (r ∷ rows) words = longer (if_begins r words) (longest rows words)
 abbrev pub class_in : List Row → List (List ℕ) → Option HeadClass
 class_in rows words = option_map (λ (r : Row). r.class) (longest rows words)
 
--- ---- top lines
+-- ---- the tables of each scope
 
-unfoldable pub known_at_top : List Row
-known_at_top =
+unfoldable pub top_heads : List Row
+top_heads =
     row (Router router_form.Hostname) (codes "hostname")
     ∷ row (Router router_form.Interface) (codes "interface")
     ∷ row (Router router_form.Bgp) (codes "router bgp")
@@ -66,72 +70,34 @@ known_at_top =
     ∷ row (Policy policy_form.CommunityLine) (codes "ip community-list")
     ∷ row (Policy policy_form.MapHead) (codes "route-map")
     ∷ row (Router router_form.End) (codes "end")
-    ∷ []
+    ∷ rows Refused (codes "ip route, ip vrf, vrf, ip as-path, ip community-list expanded, ip community-list 100-500")
+    ++ rows Refused (codes "ip extcommunity-list, ip policy-list, ip default-network, no ip routing, router, ipv6, banner, mpls")
+    ++ rows Ignored (codes "ip cef, no ip cef, no ipv6 cef, ip domain, no ip domain, ip domain-name, ip domain-lookup")
+    ++ rows Ignored (codes "no ip domain-lookup, ip name-server, ip forward-protocol, ip http, no ip http, ip ssh, ip tcp, ip ftp")
+    ++ rows Ignored (codes "ip tftp, ip dhcp, no ip dhcp, no ip bootp, ip subnet-zero, ip classless, ip routing, ip source-route")
+    ++ rows Ignored (codes "no ip source-route, ip bgp-community new-format, ip access-list, ip prefix-list A description")
+    ++ rows Ignored (codes "Building, Current, version, service, no service, boot-start-marker, boot-end-marker, boot, enable, aaa")
+    ++ rows Ignored (codes "no aaa, clock, mmi, multilink, username, redundancy, archive, line, control-plane, access-list, logging")
+    ++ rows Ignored (codes "no logging, snmp-server, ntp, spanning-tree, cdp, no cdp, lldp, license, crypto, memory-size, hw-module")
+    ++ rows Ignored (codes "diagnostic, vtp, vlan, scheduler, alias, privilege, exception, platform, security, login, class-map")
+    ++ rows Ignored (codes "policy-map, tacacs-server, radius-server, tacacs, radius, errdisable, file")
 
-unfoldable pub refused_at_top : List Row
-refused_at_top = map (row Refused) (
-    codes "ip route" ∷ codes "ip vrf" ∷ codes "vrf" ∷ codes "ip as-path" ∷ codes "ip community-list expanded"
-    ∷ codes "ip community-list 100-500" ∷ codes "ip extcommunity-list" ∷ codes "ip policy-list" ∷ codes "ip default-network" ∷ codes "no ip routing"
-    ∷ codes "router" ∷ codes "ipv6" ∷ codes "banner" ∷ codes "mpls" ∷ [])
-
--- lines about IP services
-unfoldable pub ignored_services : List Row
-ignored_services = map (row Ignored) (
-    codes "ip cef" ∷ codes "no ip cef" ∷ codes "no ipv6 cef" ∷ codes "ip domain" ∷ codes "no ip domain"
-    ∷ codes "ip domain-name" ∷ codes "ip domain-lookup" ∷ codes "no ip domain-lookup" ∷ codes "ip name-server"
-    ∷ codes "ip forward-protocol" ∷ codes "ip http" ∷ codes "no ip http" ∷ codes "ip ssh" ∷ codes "ip tcp"
-    ∷ codes "ip ftp" ∷ codes "ip tftp" ∷ codes "ip dhcp" ∷ codes "no ip dhcp" ∷ codes "no ip bootp"
-    ∷ codes "ip subnet-zero" ∷ codes "ip classless" ∷ codes "ip routing" ∷ codes "ip source-route"
-    ∷ codes "no ip source-route" ∷ codes "ip bgp-community new-format" ∷ codes "ip access-list"
-    ∷ codes "ip prefix-list A description" ∷ [])
-
--- lines about the device itself
-unfoldable pub ignored_device : List Row
-ignored_device = map (row Ignored) (
-    codes "Building" ∷ codes "Current" ∷ codes "version" ∷ codes "service" ∷ codes "no service"
-    ∷ codes "boot-start-marker" ∷ codes "boot-end-marker" ∷ codes "boot" ∷ codes "enable" ∷ codes "aaa"
-    ∷ codes "no aaa" ∷ codes "clock" ∷ codes "mmi" ∷ codes "multilink" ∷ codes "username" ∷ codes "redundancy"
-    ∷ codes "archive" ∷ codes "line" ∷ codes "control-plane" ∷ codes "access-list" ∷ codes "logging"
-    ∷ codes "no logging" ∷ codes "snmp-server" ∷ codes "ntp" ∷ codes "spanning-tree" ∷ codes "cdp" ∷ codes "no cdp"
-    ∷ codes "lldp" ∷ codes "license" ∷ codes "crypto" ∷ codes "memory-size" ∷ codes "hw-module"
-    ∷ codes "diagnostic" ∷ codes "vtp" ∷ codes "vlan" ∷ codes "scheduler" ∷ codes "alias" ∷ codes "privilege"
-    ∷ codes "exception" ∷ codes "platform" ∷ codes "security" ∷ codes "login" ∷ codes "class-map"
-    ∷ codes "policy-map" ∷ codes "tacacs-server" ∷ codes "radius-server" ∷ codes "tacacs" ∷ codes "radius"
-    ∷ codes "errdisable" ∷ codes "file" ∷ [])
-
--- ---- lines of an interface
-
-unfoldable pub known_in_interface : List Row
-known_in_interface =
+unfoldable pub interface_heads : List Row
+interface_heads =
     row (Router router_form.IpAddress) (codes "ip address")
     ∷ row (Router router_form.Cost) (codes "ip ospf cost")
     ∷ row (Router router_form.Shutdown) (codes "shutdown")
-    ∷ []
+    ∷ rows Refused (codes "ip ospf, ip unnumbered, ip vrf, ip policy, vrf, ipv6, bandwidth")
+    ++ rows Ignored (codes "description, duplex, speed, media-type, negotiation, no ip address, no shutdown, load-interval, mtu, ip mtu")
+    ++ rows Ignored (codes "keepalive, no keepalive, clock, encapsulation, switchport, no switchport, channel-group, spanning-tree")
+    ++ rows Ignored (codes "storm-control, power, cdp, no cdp, lldp, no lldp, logging, snmp, ip access-group, ip nat, ip helper-address")
+    ++ rows Ignored (codes "ip flow, ip tcp, ip virtual-reassembly, ip route-cache, no ip route-cache, no ip proxy-arp, no ip redirects")
+    ++ rows Ignored (codes "no ip unreachables, no ip directed-broadcast, no mop, arp, delay, hold-queue, serial, service-policy")
+    ++ rows Ignored (codes "ip ospf priority, ip ospf hello-interval, ip ospf dead-interval, ip ospf authentication")
+    ++ rows Ignored (codes "ip ospf authentication-key, ip ospf message-digest-key")
 
-unfoldable pub refused_in_interface : List Row
-refused_in_interface = map (row Refused) (
-    codes "ip ospf" ∷ codes "ip unnumbered" ∷ codes "ip vrf" ∷ codes "ip policy" ∷ codes "vrf" ∷ codes "ipv6"
-    ∷ codes "bandwidth" ∷ [])
-
-unfoldable pub ignored_in_interface : List Row
-ignored_in_interface = map (row Ignored) (
-    codes "description" ∷ codes "duplex" ∷ codes "speed" ∷ codes "media-type" ∷ codes "negotiation"
-    ∷ codes "no ip address" ∷ codes "no shutdown" ∷ codes "load-interval" ∷ codes "mtu" ∷ codes "ip mtu"
-    ∷ codes "keepalive" ∷ codes "no keepalive" ∷ codes "clock" ∷ codes "encapsulation" ∷ codes "switchport"
-    ∷ codes "no switchport" ∷ codes "channel-group" ∷ codes "spanning-tree" ∷ codes "storm-control"
-    ∷ codes "power" ∷ codes "cdp" ∷ codes "no cdp" ∷ codes "lldp" ∷ codes "no lldp" ∷ codes "logging"
-    ∷ codes "snmp" ∷ codes "ip access-group" ∷ codes "ip nat" ∷ codes "ip helper-address" ∷ codes "ip flow"
-    ∷ codes "ip tcp" ∷ codes "ip virtual-reassembly" ∷ codes "ip route-cache" ∷ codes "no ip route-cache"
-    ∷ codes "no ip proxy-arp" ∷ codes "no ip redirects" ∷ codes "no ip unreachables"
-    ∷ codes "no ip directed-broadcast" ∷ codes "no mop" ∷ codes "arp" ∷ codes "delay" ∷ codes "hold-queue"
-    ∷ codes "serial" ∷ codes "service-policy" ∷ codes "ip ospf priority" ∷ codes "ip ospf hello-interval"
-    ∷ codes "ip ospf dead-interval" ∷ codes "ip ospf authentication" ∷ codes "ip ospf authentication-key"
-    ∷ codes "ip ospf message-digest-key" ∷ [])
-
--- ---- lines of a BGP process
-
-unfoldable pub known_in_bgp : List Row
-known_in_bgp =
+unfoldable pub bgp_heads : List Row
+bgp_heads =
     row (Router router_form.Base) (codes "bgp default local-preference")
     ∷ row (Router router_form.Network) (codes "network")
     ∷ row (Router router_form.RemoteAs) (codes "neighbor A remote-as")
@@ -139,77 +105,33 @@ known_in_bgp =
     ∷ row (Router router_form.PeerSends) (codes "neighbor A send-community")
     ∷ row (Router router_form.PeerList) (codes "neighbor A prefix-list")
     ∷ row (Router router_form.PeerMap) (codes "neighbor A route-map")
-    ∷ []
+    ∷ rows Refused (codes "bgp, no bgp, neighbor, aggregate-address, redistribute, maximum-paths, distance, address-family")
+    ++ rows Refused (codes "default-information, default-metric, synchronization, auto-summary, table-map, distribute-list")
+    ++ rows Ignored (codes "bgp log-neighbor-changes, no bgp log-neighbor-changes, bgp router-id, bgp graceful-restart")
+    ++ rows Ignored (codes "no synchronization, no auto-summary, timers, neighbor A description, neighbor A timers, neighbor A password")
+    ++ rows Ignored (codes "neighbor A version, neighbor A soft-reconfiguration, neighbor A fall-over, neighbor A activate")
+    ++ rows Ignored (codes "neighbor A next-hop-self, neighbor A advertisement-interval, neighbor A transport")
+    ++ rows Ignored (codes "neighbor A send-community extended")
 
-unfoldable pub refused_in_bgp : List Row
-refused_in_bgp = map (row Refused) (
-    codes "bgp" ∷ codes "no bgp" ∷ codes "neighbor" ∷ codes "aggregate-address" ∷ codes "redistribute"
-    ∷ codes "maximum-paths" ∷ codes "distance" ∷ codes "address-family" ∷ codes "default-information"
-    ∷ codes "default-metric" ∷ codes "synchronization" ∷ codes "auto-summary" ∷ codes "table-map"
-    ∷ codes "distribute-list" ∷ [])
-
-unfoldable pub ignored_in_bgp : List Row
-ignored_in_bgp = map (row Ignored) (
-    codes "bgp log-neighbor-changes" ∷ codes "no bgp log-neighbor-changes" ∷ codes "bgp router-id"
-    ∷ codes "bgp graceful-restart" ∷ codes "no synchronization" ∷ codes "no auto-summary" ∷ codes "timers"
-    ∷ codes "neighbor A description" ∷ codes "neighbor A timers" ∷ codes "neighbor A password"
-    ∷ codes "neighbor A version" ∷ codes "neighbor A soft-reconfiguration" ∷ codes "neighbor A fall-over"
-    ∷ codes "neighbor A activate" ∷ codes "neighbor A next-hop-self" ∷ codes "neighbor A advertisement-interval"
-    ∷ codes "neighbor A transport" ∷ codes "neighbor A send-community extended" ∷ [])
-
--- ---- lines of an OSPF process
-
-unfoldable pub known_in_ospf : List Row
-known_in_ospf =
+unfoldable pub ospf_heads : List Row
+ospf_heads =
     row (Router router_form.Area) (codes "network")
     ∷ row (Router router_form.Passive) (codes "passive-interface")
     ∷ row (Router router_form.NotPassive) (codes "no passive-interface")
-    ∷ []
+    ∷ rows Refused (codes "auto-cost, redistribute, default-information, default-metric, distance, area, max-metric, distribute-list")
+    ++ rows Refused (codes "maximum-paths, summary-address, neighbor")
+    ++ rows Ignored (codes "router-id, log-adjacency-changes, no log-adjacency-changes, timers")
 
-unfoldable pub refused_in_ospf : List Row
-refused_in_ospf = map (row Refused) (
-    codes "auto-cost" ∷ codes "redistribute" ∷ codes "default-information" ∷ codes "default-metric"
-    ∷ codes "distance" ∷ codes "area" ∷ codes "max-metric" ∷ codes "distribute-list" ∷ codes "maximum-paths"
-    ∷ codes "summary-address" ∷ codes "neighbor" ∷ [])
-
-unfoldable pub ignored_in_ospf : List Row
-ignored_in_ospf = map (row Ignored) (
-    codes "router-id" ∷ codes "log-adjacency-changes" ∷ codes "no log-adjacency-changes" ∷ codes "timers" ∷ [])
-
--- ---- lines of an entry of a route map
-
-unfoldable pub known_in_entry : List Row
-known_in_entry =
+unfoldable pub entry_heads : List Row
+entry_heads =
     row (Policy policy_form.MatchPrefixes) (codes "match ip address prefix-list")
     ∷ row (Policy policy_form.MatchComms) (codes "match community")
     ∷ row (Policy policy_form.Lp) (codes "set local-preference")
     ∷ row (Policy policy_form.Comms) (codes "set community")
     ∷ row (Policy policy_form.Delete) (codes "set comm-list")
     ∷ row (Policy policy_form.Prepend) (codes "set as-path prepend")
-    ∷ []
-
-unfoldable pub refused_in_entry : List Row
-refused_in_entry = map (row Refused) (codes "match" ∷ codes "set" ∷ codes "continue" ∷ [])
-
-unfoldable pub ignored_in_entry : List Row
-ignored_in_entry = map (row Ignored) (codes "description" ∷ [])
-
--- ---- the tables of each scope
-
-abbrev pub top_heads : List Row
-top_heads = known_at_top ++ refused_at_top ++ ignored_services ++ ignored_device
-
-abbrev pub interface_heads : List Row
-interface_heads = known_in_interface ++ refused_in_interface ++ ignored_in_interface
-
-abbrev pub bgp_heads : List Row
-bgp_heads = known_in_bgp ++ refused_in_bgp ++ ignored_in_bgp
-
-abbrev pub ospf_heads : List Row
-ospf_heads = known_in_ospf ++ refused_in_ospf ++ ignored_in_ospf
-
-abbrev pub entry_heads : List Row
-entry_heads = known_in_entry ++ refused_in_entry ++ ignored_in_entry
+    ∷ rows Refused (codes "match, set, continue")
+    ++ rows Ignored (codes "description")
 
 unfoldable pub heads_of : Scope → List Row
 heads_of scope.Top = top_heads

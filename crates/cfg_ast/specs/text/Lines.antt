@@ -1,6 +1,7 @@
 -- The lines of a text, by where its newlines stand, and their words, the longest runs of bytes that
 -- are no blanks. The lines of a text are ASCII (RFC 20), without control bytes except the tab.
 use Rattle.std.specs.Prelude.{ℕ, ◌+◌, ◌-◌, ◌≤◌, Bool, true, false, not, ◌&&◌, ◌||◌, List, [], ◌∷◌, length, map, filter, slice_index, ◌==◌, nat_lt, nat_le, if◌then◌else◌, Option, Some, None, Result, Ok, Err}
+use Rattle.std.specs.Option.{option_map}
 use Rattle.std.specs.List.{range_with_len, position_or_len, enumerate_from, filter_map, slice_split, slice_range, AllByRecursion}
 use Rattle.std.specs.Str.{IsAscii}
 use Rattle.cfg_ast.specs.declared.line.Span.{Span}
@@ -103,13 +104,9 @@ kind_at bs p =
     else (if nat_lt 1000000 p.number then Some TooManyLines
     else None))
 
-abbrev pub at_line : ℕ → Option Kind → Option ReadRefusal
-at_line n None = None
-at_line n (Some k) = Some (At n k)
-
 -- the faults of a text, in the order of its lines
 abbrev pub line_faults : List ℕ → List Piece → List ReadRefusal
-line_faults bs ps = filter_map (λ (p : Piece). at_line p.number (kind_at bs p)) ps
+line_faults bs ps = filter_map (λ (p : Piece). option_map (At p.number) (kind_at bs p)) ps
 
 abbrev pub unless_refused : {X : Type 0} → List ReadRefusal → X → Result X ReadRefusal
 unless_refused [] x = Ok x

@@ -2,7 +2,7 @@
 -- writes them.
 use Rattle.std.specs.Prelude.{ℕ, ◌-◌, Bool, true, false, not, ◌&&◌, List, [], ◌∷◌, length, nat_le, if◌then◌else◌, Option, Some, None, Result, Ok, Err, codes, bytes_eq, take}
 use Rattle.std.specs.List.{list_all, list_any, filter_map}
-use Rattle.std.specs.Option.{is_some}
+use Rattle.std.specs.Option.{is_some, option_map}
 use Rattle.base_kit.specs.Sets.{with_numbers}
 use Rattle.cfg_ast.specs.declared.policy.MapEntry.{MapEntry}
 use Rattle.cfg_ast.specs.declared.policy.Change.{Change}
@@ -55,8 +55,6 @@ has_mark mark (word ∷ next ∷ words) = has_mark mark (next ∷ words)
 abbrev pub but_last : List (List ℕ) → List (List ℕ)
 but_last words = take (length words - 1) words
 
--- ---- top lines
-
 -- `ge G`, `le E`, both in this order, or neither, between the prefix's length and 32
 unfoldable pub bounds_of : ℕ → List (List ℕ) → Result (Option ℕ × Option ℕ) FormFault
 bounds_of len [] = Ok (None, None)
@@ -69,36 +67,12 @@ bounds_of len (word ∷ low ∷ other ∷ high ∷ []) = bad_unless (bytes_eq wo
   Ok (Some ge, Some le))
 bounds_of len _ = Err BadForm
 
--- ip prefix-list NAME seq NUMBER permit PREFIX, or deny, and the bounds
-unfoldable pub prefix_entry_form : ℕ → List (List ℕ) → Result PolicyItem FormFault
-prefix_entry_form line (_ ∷ _ ∷ name ∷ word ∷ number ∷ act ∷ prefix ∷ options) = bad_unless (bytes_eq word (codes "seq")) (do
-  seq ← or_bad (number_between 1 4294967295 number)
-  permit ← or_bad (is_permit act)
-  p ← or_bad (prefix_of prefix)
-  bounds ← bounds_of p.len options
-  list ← list_name_of name
-  Ok (item.PrefixEntry list (record { seq = seq; permit = permit; prefix = p; ge = bounds.0; le = bounds.1; line = line })))
-prefix_entry_form line _ = Err BadForm
-
 unfoldable pub community_line : ℕ → List ℕ → List ℕ → List (List ℕ) → Result PolicyItem FormFault
 community_line line name act communities = do
   permit ← or_bad (is_permit act)
   list ← list_name_of name
   comms ← community_words communities
   Ok (item.CommunityLine list (record { permit = permit; comms = comms; line = line }))
-
--- a list named by a number from 1 to 99
-unfoldable pub numbered_line : ℕ → List ℕ → List ℕ → List (List ℕ) → Result PolicyItem FormFault
-numbered_line line number act communities = bad_unless (is_some (number_between 1 99 number)) (community_line line number act communities)
-
--- ip community-list NUMBER permit COMMUNITY .., or standard NAME, or deny
-unfoldable pub community_line_form : ℕ → List (List ℕ) → Result PolicyItem FormFault
-community_line_form line (_ ∷ _ ∷ word ∷ []) = Err BadForm
-community_line_form line (_ ∷ _ ∷ word ∷ next ∷ []) = Err BadForm
-community_line_form line (_ ∷ _ ∷ word ∷ next ∷ third ∷ words) =
-    if bytes_eq word (codes "standard") then community_line line next third words
-    else numbered_line line word next (third ∷ words)
-community_line_form line _ = Err BadForm
 
 -- an entry of a route map that matches and sets nothing yet
 abbrev pub empty_entry : ℕ → Bool → ℕ → MapEntry
@@ -116,46 +90,11 @@ empty_entry seq permit line = record {
   prepend = None;
 }
 
--- route-map NAME permit NUMBER, or deny, from 0 to 65535
-unfoldable pub map_head_form : ℕ → List (List ℕ) → Result PolicyItem FormFault
-map_head_form line (_ ∷ name ∷ act ∷ number ∷ []) = do
-  permit ← or_bad (is_permit act)
-  seq ← or_bad (number_between 0 65535 number)
-  map ← list_name_of name
-  Ok (item.MapHead map (empty_entry seq permit line))
-map_head_form line _ = Err BadForm
-
--- ---- lines of an entry of a route map
-
--- match ip address prefix-list NAME ..
-unfoldable pub match_prefixes_form : ℕ → List (List ℕ) → Result PolicyItem FormFault
-match_prefixes_form line (_ ∷ _ ∷ _ ∷ _ ∷ words) = do
-  names ← list_names_of words
-  Ok (item.MatchPrefixes (record { names = names; line = line }))
-match_prefixes_form line _ = Err BadForm
-
 -- lists of communities, one of which must permit, by its exact answer or by its answer
 unfoldable pub comms_match : ℕ → Bool → List (List ℕ) → Result PolicyItem FormFault
 comms_match line exact words = do
   names ← list_names_of words
   Ok (item.MatchComms (record { names = names; line = line }) exact)
-
--- a last word `exact-match` is always the mark
-unfoldable pub marked_match : ℕ → List (List ℕ) → Result PolicyItem FormFault
-marked_match line words =
-    if has_mark (codes "exact-match") words then comms_match line true (but_last words) else comms_match line false words
-
--- match community NAME .., with `exact-match` or without
-unfoldable pub match_comms_form : ℕ → List (List ℕ) → Result PolicyItem FormFault
-match_comms_form line (_ ∷ _ ∷ words) = marked_match line words
-match_comms_form line _ = Err BadForm
-
--- set local-preference NUMBER
-unfoldable pub lp_form : List (List ℕ) → Result PolicyItem FormFault
-lp_form (_ ∷ _ ∷ number ∷ []) = do
-  n ← or_bad (number_word number)
-  Ok (item.Lp n)
-lp_form _ = Err BadForm
 
 unfoldable pub is_none_alone : List (List ℕ) → Bool
 is_none_alone (word ∷ []) = bytes_eq word (codes "none")
@@ -168,42 +107,55 @@ change_of words =
     else (if has_mark (codes "additive") words then community_words (but_last words) >>= (λ comms. Ok (Append comms))
     else (community_words words >>= (λ comms. Ok (Replace comms))))
 
--- set community, and what is to be done with the communities
-unfoldable pub set_comms_form : List (List ℕ) → Result PolicyItem FormFault
-set_comms_form (_ ∷ _ ∷ words) = do
-  change ← change_of words
-  Ok (item.Comms change)
-set_comms_form _ = Err BadForm
-
--- set comm-list NAME delete
-unfoldable pub delete_form : ℕ → List (List ℕ) → Result PolicyItem FormFault
-delete_form line (_ ∷ _ ∷ name ∷ word ∷ []) = bad_unless (bytes_eq word (codes "delete")) (do
-  list ← named_of line name
-  Ok (item.Delete list))
-delete_form line _ = Err BadForm
-
 abbrev pub is_as_number : List ℕ → Bool
 is_as_number word = is_some (as_number_word word)
 
--- set as-path prepend NUMBER .., 1 to 10 AS numbers, which may repeat
-unfoldable pub prepend_form : ℕ → List (List ℕ) → Result PolicyItem FormFault
-prepend_form line (_ ∷ _ ∷ _ ∷ words) =
-    bad_unless (nat_le 1 (length words) && nat_le (length words) 10 && list_all is_as_number words)
-    (Ok (item.Prepend (record { numbers = filter_map as_number_word words; line = line })))
-prepend_form line _ = Err BadForm
-
--- ---- a line by its head
+-- ---- what a line says by its form
 
 unfoldable pub policy_form : PolicyForm → ℕ → List (List ℕ) → Result PolicyItem FormFault
-policy_form form.PrefixEntry line words = prefix_entry_form line words
-policy_form form.CommunityLine line words = community_line_form line words
-policy_form form.MapHead line words = map_head_form line words
-policy_form form.MatchPrefixes line words = match_prefixes_form line words
-policy_form form.MatchComms line words = match_comms_form line words
-policy_form form.Lp line words = lp_form words
-policy_form form.Comms line words = set_comms_form words
-policy_form form.Delete line words = delete_form line words
-policy_form form.Prepend line words = prepend_form line words
+-- ip prefix-list NAME seq NUMBER permit PREFIX, or deny, and the bounds
+policy_form form.PrefixEntry line (_ ∷ _ ∷ name ∷ word ∷ number ∷ act ∷ prefix ∷ options) = bad_unless (bytes_eq word (codes "seq")) (do
+  seq ← or_bad (number_between 1 4294967295 number)
+  permit ← or_bad (is_permit act)
+  p ← or_bad (prefix_of prefix)
+  bounds ← bounds_of p.len options
+  list ← list_name_of name
+  Ok (item.PrefixEntry list (record { seq = seq; permit = permit; prefix = p; ge = bounds.0; le = bounds.1; line = line })))
+-- ip community-list NUMBER permit COMMUNITY .., or standard NAME, or deny; the number is from 1 to 99
+policy_form form.CommunityLine line (_ ∷ _ ∷ word ∷ next ∷ third ∷ words) =
+    if bytes_eq word (codes "standard") then community_line line next third words
+    else bad_unless (is_some (number_between 1 99 word)) (community_line line word next (third ∷ words))
+-- route-map NAME permit NUMBER, or deny, from 0 to 65535
+policy_form form.MapHead line (_ ∷ name ∷ act ∷ number ∷ []) = do
+  permit ← or_bad (is_permit act)
+  seq ← or_bad (number_between 0 65535 number)
+  map ← list_name_of name
+  Ok (item.MapHead map (empty_entry seq permit line))
+-- match ip address prefix-list NAME ..
+policy_form form.MatchPrefixes line (_ ∷ _ ∷ _ ∷ _ ∷ words) = do
+  names ← list_names_of words
+  Ok (item.MatchPrefixes (record { names = names; line = line }))
+-- match community NAME .., with `exact-match` or without: a last word `exact-match` is always the mark
+policy_form form.MatchComms line (_ ∷ _ ∷ words) =
+    if has_mark (codes "exact-match") words then comms_match line true (but_last words) else comms_match line false words
+-- set local-preference NUMBER
+policy_form form.Lp line (_ ∷ _ ∷ number ∷ []) = or_bad (option_map item.Lp (number_word number))
+-- set community, and what is to be done with the communities
+policy_form form.Comms line (_ ∷ _ ∷ words) = do
+  change ← change_of words
+  Ok (item.Comms change)
+-- set comm-list NAME delete
+policy_form form.Delete line (_ ∷ _ ∷ name ∷ word ∷ []) = bad_unless (bytes_eq word (codes "delete")) (do
+  list ← named_of line name
+  Ok (item.Delete list))
+-- set as-path prepend NUMBER .., 1 to 10 AS numbers, which may repeat
+policy_form form.Prepend line (_ ∷ _ ∷ _ ∷ words) =
+    bad_unless (nat_le 1 (length words) && nat_le (length words) 10 && list_all is_as_number words)
+    (Ok (item.Prepend (record { numbers = filter_map as_number_word words; line = line })))
+-- a line of no such shape
+policy_form _ line _ = Err BadForm
+
+-- ---- a line by its head
 
 -- A head in no table is unknown, and a refused one unsupported. Router lines are not read here; they
 -- are unsupported too.

@@ -1,14 +1,10 @@
 -- What lines of prefix lists, community lists and route maps add to a router, one after the other.
 use Rattle.std.specs.Prelude.{ℕ, Bool, false, ◌&&◌, ◌||◌, List, [], ◌∷◌, ◌++◌, ◌==◌, nat_lt, if◌then◌else◌, Some, Result, Ok, bytes_eq, codes, is_some}
 use Rattle.std.specs.List.{list_any}
-use Rattle.cfg_ast.specs.declared.network.Named.{Named}
 use Rattle.cfg_ast.specs.declared.policy.PrefixEntry.{PrefixEntry}
 use Rattle.cfg_ast.specs.declared.policy.PrefixList.{PrefixList}
 use Rattle.cfg_ast.specs.declared.policy.CommunityLine.{CommunityLine}
 use Rattle.cfg_ast.specs.declared.policy.CommunityList.{CommunityList}
-use Rattle.cfg_ast.specs.declared.policy.NameLine.{NameLine}
-use Rattle.cfg_ast.specs.declared.policy.Prepend.{Prepend}
-use Rattle.cfg_ast.specs.declared.policy.Change.{Change}
 use Rattle.cfg_ast.specs.declared.policy.MapEntry.{MapEntry}
 use Rattle.cfg_ast.specs.declared.policy.RouteMap.{RouteMap}
 use Rattle.cfg_ast.specs.declared.items.PolicyItem.{PolicyItem}
@@ -89,29 +85,11 @@ with_map_entry name e maps = changed_or_new (is_route_map name) (put_map_entry e
 
 -- ---- lines of an entry of a route map, of each kind one
 
-abbrev pub set_prefixes : ℕ → NameLine → MapEntry → Result MapEntry ReadRefusal
-set_prefixes n names e = once n (is_some e.prefixes) (record e { prefixes = Some names })
-
-abbrev pub set_comms : ℕ → NameLine → Bool → MapEntry → Result MapEntry ReadRefusal
-set_comms n names exact e = once n (is_some e.comms) (record e { comms = Some names; exact = exact })
-
-abbrev pub set_lp : ℕ → ℕ → MapEntry → Result MapEntry ReadRefusal
-set_lp n lp e = once n (is_some e.lp) (record e { lp = Some lp })
-
-abbrev pub set_change : ℕ → Change → MapEntry → Result MapEntry ReadRefusal
-set_change n change e = once n (is_some e.change) (record e { change = Some change; change_line = n })
-
-abbrev pub set_delete : ℕ → Named → MapEntry → Result MapEntry ReadRefusal
-set_delete n list e = once n (is_some e.delete) (record e { delete = Some list })
-
-abbrev pub set_prepend : ℕ → Prepend → MapEntry → Result MapEntry ReadRefusal
-set_prepend n prepend e = once n (is_some e.prepend) (record e { prepend = Some prepend })
-
 unfoldable pub set_entry : ℕ → PolicyItem → MapEntry → Result MapEntry ReadRefusal
-set_entry n (item.MatchPrefixes names) e = set_prefixes n names e
-set_entry n (item.MatchComms names exact) e = set_comms n names exact e
-set_entry n (item.Lp lp) e = set_lp n lp e
-set_entry n (item.Comms change) e = set_change n change e
-set_entry n (item.Delete list) e = set_delete n list e
-set_entry n (item.Prepend prepend) e = set_prepend n prepend e
+set_entry n (item.MatchPrefixes names) e = once n (is_some e.prefixes) (record e { prefixes = Some names })
+set_entry n (item.MatchComms names exact) e = once n (is_some e.comms) (record e { comms = Some names; exact = exact })
+set_entry n (item.Lp lp) e = once n (is_some e.lp) (record e { lp = Some lp })
+set_entry n (item.Comms change) e = once n (is_some e.change) (record e { change = Some change; change_line = n })
+set_entry n (item.Delete list) e = once n (is_some e.delete) (record e { delete = Some list })
+set_entry n (item.Prepend prepend) e = once n (is_some e.prepend) (record e { prepend = Some prepend })
 set_entry n _ e = Ok e

@@ -7,7 +7,6 @@ use Rattle.cfg_ast.specs.declared.network.Router.{Router}
 use Rattle.cfg_ast.specs.declared.interface.Interface.{Interface}
 use Rattle.cfg_ast.specs.declared.bgp.BgpProcess.{BgpProcess}
 use Rattle.cfg_ast.specs.declared.ospf.OspfProcess.{OspfProcess}
-use Rattle.cfg_ast.specs.declared.policy.PrefixEntry.{PrefixEntry}
 use Rattle.cfg_ast.specs.declared.policy.MapEntry.{MapEntry}
 use Rattle.cfg_ast.specs.declared.items.PolicyScope.TheVariants as policy_scope
 use Rattle.cfg_ast.specs.declared.items.PolicyItem.{PolicyItem}
@@ -97,24 +96,12 @@ new_bgp n number = record { number = number; line = n; base = None; networks = [
 abbrev pub new_ospf : ℕ → ℕ → OspfProcess
 new_ospf n number = record { number = number; line = n; passive_default = false; passive = []; not_passive = []; areas = [] }
 
-abbrev pub take_hostname : ℕ → List ℕ → Draft → Result Draft ReadRefusal
-take_hostname n name d = once n (is_some d.name) (record d { name = Some (record { name = name; line = n }) })
-
-abbrev pub open_interface : ℕ → List ℕ → Draft → Result Draft ReadRefusal
-open_interface n name d = once n (has_interface d.interfaces name) (record d { stanza = in_interface (new_interface n name) })
-
-abbrev pub open_bgp : ℕ → ℕ → Draft → Result Draft ReadRefusal
-open_bgp n number d = once n (is_some d.bgp) (record d { stanza = in_bgp (new_bgp n number) })
-
-abbrev pub open_ospf : ℕ → ℕ → Draft → Result Draft ReadRefusal
-open_ospf n number d = once n (is_some d.ospf) (record d { stanza = in_ospf (new_ospf n number) })
-
 -- the top lines that do not end a router
 unfoldable pub take_line : ℕ → RouterItem → Draft → Result Draft ReadRefusal
-take_line n (item.Hostname name) d = take_hostname n name d
-take_line n (item.Interface name) d = open_interface n name d
-take_line n (item.Bgp number) d = open_bgp n number d
-take_line n (item.Ospf number) d = open_ospf n number d
+take_line n (item.Hostname name) d = once n (is_some d.name) (record d { name = Some (record { name = name; line = n }) })
+take_line n (item.Interface name) d = once n (has_interface d.interfaces name) (record d { stanza = in_interface (new_interface n name) })
+take_line n (item.Bgp number) d = once n (is_some d.bgp) (record d { stanza = in_bgp (new_bgp n number) })
+take_line n (item.Ospf number) d = once n (is_some d.ospf) (record d { stanza = in_ospf (new_ospf n number) })
 take_line n item.Ignored d = Ok (record d { stanza = ignored })
 take_line n _ d = Ok d
 
@@ -147,16 +134,11 @@ take_top n said s = if ends_router said then end_router n s else take_line n sai
 
 -- ---- top lines of lists and route maps
 
-abbrev pub add_prefix_entry : ℕ → List ℕ → PrefixEntry → Draft → Result Draft ReadRefusal
-add_prefix_entry n name e d = once n (has_prefix_entry d.prefix_lists name e.seq) (record d { prefix_lists = with_prefix_entry name e d.prefix_lists })
-
-abbrev pub open_entry : ℕ → List ℕ → MapEntry → Draft → Result Draft ReadRefusal
-open_entry n name e d = once n (has_map_entry d.route_maps name e.seq) (record d { stanza = in_entry name e })
-
 unfoldable pub take_policy : ℕ → PolicyItem → Draft → Result Draft ReadRefusal
-take_policy n (policy.PrefixEntry name e) d = add_prefix_entry n name e d
+take_policy n (policy.PrefixEntry name e) d =
+    once n (has_prefix_entry d.prefix_lists name e.seq) (record d { prefix_lists = with_prefix_entry name e d.prefix_lists })
 take_policy n (policy.CommunityLine name line) d = Ok (record d { community_lists = with_community_line name line d.community_lists })
-take_policy n (policy.MapHead name e) d = open_entry n name e d
+take_policy n (policy.MapHead name e) d = once n (has_map_entry d.route_maps name e.seq) (record d { stanza = in_entry name e })
 take_policy n policy.Ignored d = Ok (record d { stanza = ignored })
 take_policy n _ d = Ok d
 

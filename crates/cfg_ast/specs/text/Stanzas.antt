@@ -69,21 +69,14 @@ new_neighbor n addr remote = record {
   map_out = None;
 }
 
--- a list of a neighbour may stand once in each direction, and so may a map
-abbrev pub set_list : ℕ → Named → Bool → Neighbor → Result Neighbor ReadRefusal
-set_list n list true p = once n (is_some p.list_in) (record p { list_in = Some list })
-set_list n list false p = once n (is_some p.list_out) (record p { list_out = Some list })
-
-abbrev pub set_map : ℕ → Named → Bool → Neighbor → Result Neighbor ReadRefusal
-set_map n map true p = once n (is_some p.map_in) (record p { map_in = Some map })
-set_map n map false p = once n (is_some p.map_out) (record p { map_out = Some map })
-
--- what a further line says of a neighbour
+-- what a further line says of a neighbour: a list may stand once in each direction, and so may a map
 unfoldable pub set_neighbor : ℕ → RouterItem → Neighbor → Result Neighbor ReadRefusal
 set_neighbor n (item.PeerShut _) p = Ok (record p { shut = true })
 set_neighbor n (item.PeerSends _) p = Ok (record p { sends = true })
-set_neighbor n (item.PeerList _ list inward) p = set_list n list inward p
-set_neighbor n (item.PeerMap _ map inward) p = set_map n map inward p
+set_neighbor n (item.PeerList _ list true) p = once n (is_some p.list_in) (record p { list_in = Some list })
+set_neighbor n (item.PeerList _ list false) p = once n (is_some p.list_out) (record p { list_out = Some list })
+set_neighbor n (item.PeerMap _ map true) p = once n (is_some p.map_in) (record p { map_in = Some map })
+set_neighbor n (item.PeerMap _ map false) p = once n (is_some p.map_out) (record p { map_out = Some map })
 set_neighbor n _ p = Ok p
 
 -- a change of the neighbour of this address, which must have its `remote-as` line
@@ -104,20 +97,12 @@ peer_of (item.PeerList addr _ _) = Some addr
 peer_of (item.PeerMap addr _ _) = Some addr
 peer_of _ = None
 
-abbrev pub set_base : ℕ → Base → BgpProcess → Result BgpProcess ReadRefusal
-set_base n base b = once n (is_some b.base) (record b { base = Some base })
-
-abbrev pub add_network : ℕ → NetLine → BgpProcess → Result BgpProcess ReadRefusal
-add_network n net b = once n (has_network b.networks net.prefix) (record b { networks = b.networks ++ net ∷ [] })
-
-abbrev pub add_neighbor : ℕ → ℕ → ℕ → BgpProcess → Result BgpProcess ReadRefusal
-add_neighbor n addr remote b = once n (has_neighbor b.neighbors addr) (record b { neighbors = b.neighbors ++ new_neighbor n addr remote ∷ [] })
-
 -- what a line says of the process itself
 unfoldable pub set_process : ℕ → RouterItem → BgpProcess → Result BgpProcess ReadRefusal
-set_process n (item.Base base) b = set_base n base b
-set_process n (item.Network net) b = add_network n net b
-set_process n (item.RemoteAs addr number) b = add_neighbor n addr number b
+set_process n (item.Base base) b = once n (is_some b.base) (record b { base = Some base })
+set_process n (item.Network net) b = once n (has_network b.networks net.prefix) (record b { networks = b.networks ++ net ∷ [] })
+set_process n (item.RemoteAs addr remote) b =
+    once n (has_neighbor b.neighbors addr) (record b { neighbors = b.neighbors ++ new_neighbor n addr remote ∷ [] })
 set_process n _ b = Ok b
 
 abbrev pub set_bgp_for : Option ℕ → ℕ → RouterItem → BgpProcess → Result BgpProcess ReadRefusal

@@ -9,7 +9,7 @@ use cfg_ast::HeadClass::{Ignored, Refused, Router};
 use cfg_ast::RouterForm;
 
 /// The heads that begin with `n` and whose third word, if they have one, begins with this byte.
-#[tactic(auto, unfolding(cfg_ast::specs::text::Heads::known_in_bgp, cfg_ast::specs::text::Heads::refused_in_bgp, cfg_ast::specs::text::Heads::ignored_in_bgp))]
+#[tactic(auto, unfolding(cfg_ast::specs::text::Heads::bgp_heads, cfg_ast::specs::text::Lines::words_of))]
 fn peer_heads(third: u8) -> &'static [Head]
     ensures { rows_of result.now ≡ going_on 2 third (begun_by 110 bgp_heads) }
 {
@@ -121,7 +121,7 @@ fn peer_heads(third: u8) -> &'static [Head]
 }
 
 /// The heads whose first word begins with this byte, in the order of the definition.
-#[tactic(auto, unfolding(cfg_ast::specs::text::Heads::known_in_bgp, cfg_ast::specs::text::Heads::refused_in_bgp, cfg_ast::specs::text::Heads::ignored_in_bgp))]
+#[tactic(auto, unfolding(cfg_ast::specs::text::Heads::bgp_heads, cfg_ast::specs::text::Lines::words_of))]
 pub(crate) fn begun_by(first: u8, third: u8) -> &'static [Head]
     ensures { rows_of result.now ≡ narrowed 110 2 first third bgp_heads }
 {

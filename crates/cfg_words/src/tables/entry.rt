@@ -9,7 +9,7 @@ use cfg_ast::HeadClass::{Ignored, Policy, Refused};
 use cfg_ast::PolicyForm;
 
 /// The heads whose first word begins with this byte, in the order of the definition.
-#[tactic(auto, unfolding(cfg_ast::specs::text::Heads::known_in_entry, cfg_ast::specs::text::Heads::refused_in_entry, cfg_ast::specs::text::Heads::ignored_in_entry))]
+#[tactic(auto, unfolding(cfg_ast::specs::text::Heads::entry_heads, cfg_ast::specs::text::Lines::words_of))]
 pub(crate) fn begun_by(first: u8) -> &'static [Head]
     ensures { rows_of result.now ≡ begun_by first entry_heads }
 {

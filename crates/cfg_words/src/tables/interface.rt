@@ -9,7 +9,7 @@ use cfg_ast::HeadClass::{Ignored, Refused, Router};
 use cfg_ast::RouterForm;
 
 /// The heads that begin with `i` and whose second word, if they have one, begins with this byte.
-#[tactic(auto, unfolding(cfg_ast::specs::text::Heads::known_in_interface, cfg_ast::specs::text::Heads::refused_in_interface, cfg_ast::specs::text::Heads::ignored_in_interface))]
+#[tactic(auto, unfolding(cfg_ast::specs::text::Heads::interface_heads, cfg_ast::specs::text::Lines::words_of))]
 fn ip_heads(second: u8) -> &'static [Head]
     ensures { rows_of result.now ≡ going_on 1 second (begun_by 105 interface_heads) }
 {
@@ -57,7 +57,7 @@ fn ip_heads(second: u8) -> &'static [Head]
 }
 
 /// The heads whose first word begins with this byte, in the order of the definition.
-#[tactic(auto, unfolding(cfg_ast::specs::text::Heads::known_in_interface, cfg_ast::specs::text::Heads::refused_in_interface, cfg_ast::specs::text::Heads::ignored_in_interface))]
+#[tactic(auto, unfolding(cfg_ast::specs::text::Heads::interface_heads, cfg_ast::specs::text::Lines::words_of))]
 pub(crate) fn begun_by(first: u8, second: u8) -> &'static [Head]
     ensures { rows_of result.now ≡ narrowed 105 1 first second interface_heads }
 {

@@ -9,7 +9,7 @@ use cfg_ast::HeadClass::{Ignored, Refused, Router};
 use cfg_ast::RouterForm;
 
 /// The heads whose first word begins with this byte, in the order of the definition.
-#[tactic(auto, unfolding(cfg_ast::specs::text::Heads::known_in_ospf, cfg_ast::specs::text::Heads::refused_in_ospf, cfg_ast::specs::text::Heads::ignored_in_ospf))]
+#[tactic(auto, unfolding(cfg_ast::specs::text::Heads::ospf_heads, cfg_ast::specs::text::Lines::words_of))]
 pub(crate) fn begun_by(first: u8) -> &'static [Head]
     ensures { rows_of result.now ≡ begun_by first ospf_heads }
 {

@@ -9,7 +9,7 @@ use cfg_ast::HeadClass::{Ignored, Policy, Refused, Router};
 use cfg_ast::{PolicyForm, RouterForm};
 
 /// The heads that begin with `i` and whose second word, if they have one, begins with this byte.
-#[tactic(auto, unfolding(cfg_ast::specs::text::Heads::known_at_top, cfg_ast::specs::text::Heads::refused_at_top, cfg_ast::specs::text::Heads::ignored_services, cfg_ast::specs::text::Heads::ignored_device))]
+#[tactic(auto, unfolding(cfg_ast::specs::text::Heads::top_heads, cfg_ast::specs::text::Lines::words_of))]
 fn ip_heads(second: u8) -> &'static [Head]
     ensures { rows_of result.now ≡ going_on 1 second (begun_by 105 top_heads) }
 {
@@ -103,7 +103,7 @@ fn ip_heads(second: u8) -> &'static [Head]
 }
 
 /// The heads whose first word begins with this byte, in the order of the definition.
-#[tactic(auto, unfolding(cfg_ast::specs::text::Heads::known_at_top, cfg_ast::specs::text::Heads::refused_at_top, cfg_ast::specs::text::Heads::ignored_services, cfg_ast::specs::text::Heads::ignored_device))]
+#[tactic(auto, unfolding(cfg_ast::specs::text::Heads::top_heads, cfg_ast::specs::text::Lines::words_of))]
 pub(crate) fn begun_by(first: u8, second: u8) -> &'static [Head]
     ensures { rows_of result.now ≡ narrowed 105 1 first second top_heads }
 {

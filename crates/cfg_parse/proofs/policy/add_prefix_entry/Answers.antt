@@ -1,9 +1,10 @@
 use Rattle.std.proofs.Common.{◌≡◌, true, refl, sym, ap, ◌∙◌}
 use Rattle.cfg_ast.specs.text.PolicyLines.{has_prefix_entry}
-use Rattle.cfg_ast.specs.text.Reading.{Draft}
+use Rattle.cfg_ast.specs.text.Reading.{Draft, take_policy}
 use Rattle.cfg_parse.proofs.policy.add_prefix_entry.Goals as goal
 
 pub returns-then-has_entry : goal.returns-then-has_entry
+unfolding take_policy
 returns-then-has_entry c =
     let v = c.draft.view_is in
     let stands : has_prefix_entry c.draft.inside.prefix_lists c.args.name c.args.entry.seq ≡ true = sym (rw c.as_str.ensures at c.has_entry.ensures)

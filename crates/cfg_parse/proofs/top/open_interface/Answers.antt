@@ -1,8 +1,9 @@
 use Rattle.std.proofs.Common.{◌≡◌, true, refl, sym, ap, ◌∙◌}
-use Rattle.cfg_ast.specs.text.Reading.{Draft, has_interface}
+use Rattle.cfg_ast.specs.text.Reading.{Draft, has_interface, take_line}
 use Rattle.cfg_parse.proofs.top.open_interface.Goals as goal
 
 pub returns-then-has : goal.returns-then-has
+unfolding take_line
 returns-then-has c =
     let v = c.draft.view_is in
     let stands : has_interface c.draft.inside.interfaces c.args.name ≡ true = sym (rw c.as_str.ensures at c.has.ensures) ∙ c.if-has.true in
