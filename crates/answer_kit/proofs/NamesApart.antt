@@ -6,7 +6,8 @@ use Rattle.cfg_ast.specs.declared.classes.DestClass.{DestClass}
 use Rattle.cfg_ast.specs.declared.network.Network.{Network}
 use Rattle.cfg_ast.specs.declared.network.Router.{Router}
 use Rattle.cfg_ast.specs.meaning.Classes.{classes_of}
-use Rattle.cfg_ast.specs.meaning.RouterFaults.{router_line, repeats_after, same_name, shared_name_lines}
+use Rattle.cfg_ast.specs.meaning.RouterFaults.{repeats_after, shared_name_lines}
+use Rattle.cfg_check.specs.Items.{router_line, same_name}
 use Rattle.cfg_check.specs.Faultless.{IsFaultless}
 use Rattle.srp_core.specs.Problem.{Problem}
 use Rattle.base_kit.specs.Names.{AreApart}

@@ -12,9 +12,10 @@ use Rattle.base_kit.specs.Sets.{has, with_number, with_numbers, IsAscending}
 use Rattle.base_kit.proofs.Members.{with_less, with_same, with_more}
 use Rattle.base_kit.proofs.SetFacts.{same_number, other_number, has-with_number, has-with_numbers, has_not, ascending_with_numbers, ascending_filter, has-filter, one_list}
 use Rattle.cfg_ast.specs.declared.policy.Mention.{Mention}
-use Rattle.cfg_ast.specs.meaning.PolicyFaults.{community_of, line_of_mention, communities_in, mentions_before, mentions_up_to, first_exceeds, exceeding_mentions}
+use Rattle.cfg_ast.specs.meaning.PolicyFaults.{community_of, communities_in, first_exceeds}
+use Rattle.cfg_check.specs.Items.{line_of_mention}
+use Rattle.cfg_check.specs.Communities.{mentions_before, mentions_up_to, exceeding_mentions, count_before, count_up_to, Numbers, HasNumbers, with_up_to, KeepsUpTo}
 use Rattle.cfg_check.specs.LeastLine.{lesser_line, least_line}
-use Rattle.cfg_check.specs.Communities.{count_before, count_up_to, Numbers, HasNumbers, with_up_to, KeepsUpTo}
 
 -- Sets of numbers.
 

@@ -7,7 +7,8 @@ use Rattle.cfg_ast.specs.declared.refusal.Kind.TheVariants as kind
 use Rattle.cfg_ast.specs.declared.refusal.Fault.{Fault}
 use Rattle.cfg_ast.specs.meaning.Meaning.{meaning_faults, faults_at}
 use Rattle.cfg_ast.specs.meaning.PolicyFaults.{undefined_map_lines, undefined_list_lines, delete_list_lines, too_many_communities_lines, prepend_form_lines, prepend_in_lines}
-use Rattle.cfg_ast.specs.meaning.RouterFaults.{router_line, first_beyond, shared_name_lines, shared_as_lines, internal_peer_lines, mixed_protocol_lines, other_area_lines, shared_address_lines, overlapping_lines, loopback_mask_lines, no_cost_lines, too_many_routers_lines, too_many_neighbors_lines, too_many_links_lines}
+use Rattle.cfg_ast.specs.meaning.RouterFaults.{first_beyond, shared_name_lines, shared_as_lines, internal_peer_lines, mixed_protocol_lines, other_area_lines, shared_address_lines, overlapping_lines, loopback_mask_lines, no_cost_lines, too_many_routers_lines, too_many_neighbors_lines, too_many_links_lines}
+use Rattle.cfg_check.specs.Items.{router_line}
 use Rattle.cfg_check.specs.Faultless.{IsFaultless}
 
 not_nil : {X : Type 0} (x : X) (xs : List X) → x ∷ xs ≡ [] → ⊥

@@ -2,8 +2,8 @@
 use Rattle.std.proofs.Common.{◌≡◌, ◌≤◌, ℕ, zero, suc, ◌+◌, Bool, true, false, cond, List, [], ◌∷◌, length, None, nat_lt, nat_le, refl, ap, ◌∙◌, arith}
 use Rattle.std.proofs.lemmas.Bool.Decides.{nat_tests}
 use Rattle.cfg_ast.specs.declared.policy.Mention.{Mention}
-use Rattle.cfg_ast.specs.meaning.PolicyFaults.{communities_of, communities_in, mentions, mentions_up_to, exceeding_mentions, too_many_communities_lines}
-use Rattle.cfg_check.specs.Communities.{count_before, count_up_to}
+use Rattle.cfg_ast.specs.meaning.PolicyFaults.{communities_of, communities_in, mentions, too_many_communities_lines}
+use Rattle.cfg_check.specs.Communities.{mentions_up_to, exceeding_mentions, count_before, count_up_to}
 use Rattle.cfg_check.specs.LeastLine.{least_line}
 use Rattle.cfg_check.specs.Laws.{FewCommunities}
 use Rattle.cfg_check.proofs.CommunityCounts.{before_first_line, before_next, exceeding_is, few_where, many_where}

@@ -1,7 +1,8 @@
 -- Repeated AS numbers, from the numbers and lines of the processes.
 use Rattle.std.proofs.Common.{◌≡◌, List, map, filter_map, refl}
 use Rattle.cfg_ast.specs.declared.network.Router.{Router}
-use Rattle.cfg_ast.specs.meaning.RouterFaults.{process_line, repeats, bgp_of, same_number}
+use Rattle.cfg_ast.specs.meaning.RouterFaults.{repeats}
+use Rattle.cfg_check.specs.Items.{process_line, bgp_of, same_number}
 use Rattle.cfg_check.specs.LeastLine.{least_line}
 use Rattle.cfg_check.specs.Processes.{numbered_by, numbered_of, line_of_numbered, same_numbered}
 use Rattle.cfg_check.proofs.Repeats.{least_repeat-keys}

@@ -1,11 +1,21 @@
 -- How many communities stand on lines, and sets of those that were seen.
-use Rattle.std.specs.Prelude.{◌≡◌, ℕ, List, length, nat_eq, nat_le, if◌then◌else◌}
+use Rattle.std.specs.Prelude.{◌≡◌, ℕ, List, map, filter, length, nat_eq, nat_lt, nat_le, if◌then◌else◌}
 use Rattle.std.specs.HashSet.{HashSet, contains, hash_set_len}
 use Rattle.std.specs.declared.hash.FoldHasher.{FoldHasher}
 use Rattle.std.specs.declared.hash.BuildHasherDefault.{BuildHasherDefault}
 use Rattle.base_kit.specs.Sets.{IsAscending, has, with_number}
 use Rattle.cfg_ast.specs.declared.policy.Mention.{Mention}
-use Rattle.cfg_ast.specs.meaning.PolicyFaults.{communities_in, mentions_before, mentions_up_to}
+use Rattle.cfg_ast.specs.meaning.PolicyFaults.{communities_in, first_exceeds}
+
+abbrev pub mentions_before : List Mention → ℕ → List Mention
+mentions_before ms line = filter (λ (m : Mention). nat_lt m.line line) ms
+
+abbrev pub mentions_up_to : List Mention → ℕ → List Mention
+mentions_up_to ms line = filter (λ (m : Mention). nat_le m.line line) ms
+
+-- the lines at which the number of communities first exceeds the limit
+abbrev pub exceeding_mentions : ℕ → List Mention → List ℕ
+exceeding_mentions limit ms = filter (first_exceeds limit ms) (map (λ (m : Mention). m.line) ms)
 
 -- how many communities stand before a line
 abbrev pub count_before : List Mention → ℕ → ℕ

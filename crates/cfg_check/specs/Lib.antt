@@ -3,6 +3,7 @@ pub mod AreaTables
 pub mod Blocks
 pub mod Communities
 pub mod Faultless
+pub mod Items
 pub mod Laws
 pub mod LeastLine
 pub mod NameSets

@@ -2,7 +2,8 @@
 
 ghost use Rattle.std.specs.Prelude.{◌≡◌, ◌++◌, IfOk, OnOk, map, filter_map, flat_map};
 ghost use Rattle.cfg_ast.specs.meaning.Topology.{up_address};
-ghost use Rattle.cfg_ast.specs.meaning.RouterFaults.{address_line, repeats, same_address, up_addresses_of};
+ghost use Rattle.cfg_ast.specs.meaning.RouterFaults.{address_line, repeats, up_addresses_of};
+ghost use Rattle.cfg_check.specs.Items.{same_address};
 ghost use Rattle.cfg_check.specs.LeastLine.{least_line};
 
 use crate::gather::push_some;

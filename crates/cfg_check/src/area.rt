@@ -2,7 +2,8 @@
 
 ghost use Rattle.std.specs.Prelude.{◌≡◌, IfOk, map, filter_map, flat_map, codes};
 ghost use Rattle.std.specs.Option.{option_map};
-ghost use Rattle.cfg_ast.specs.meaning.RouterFaults.{address_line, is_wide_loopback, has_no_cost, area_address_with, area_addresses_with};
+ghost use Rattle.cfg_ast.specs.meaning.RouterFaults.{address_line, is_wide_loopback, area_addresses_with};
+ghost use Rattle.cfg_check.specs.Items.{has_no_cost, area_address_with};
 ghost use Rattle.cfg_check.specs.LeastLine.{least_line};
 
 use crate::area_index::AreaIndex;

@@ -3,7 +3,8 @@
 ghost use Rattle.std.specs.Prelude.{◌≡◌, ◌<◌, IfOk, length, bytes_eq};
 ghost use Rattle.std.specs.List.{list_any};
 ghost use Rattle.cfg_ast.specs.meaning.Topology.{is_in_area_interface, is_active_interface, is_passive_in};
-ghost use Rattle.cfg_ast.specs.meaning.RouterFaults.{areas_of, active_address_on};
+ghost use Rattle.cfg_ast.specs.meaning.RouterFaults.{areas_of};
+ghost use Rattle.cfg_check.specs.Items.{active_address_on};
 ghost use Rattle.cfg_check.specs.NameSets.{HasNames};
 ghost use Rattle.cfg_check.specs.AreaLines.{listed_of};
 

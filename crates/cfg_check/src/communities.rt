@@ -4,9 +4,9 @@ ghost use Rattle.std.specs.Prelude.{◌≡◌, ◌≤◌, ◌<◌, ◌++◌, IfO
 ghost use Rattle.std.specs.List.{list_any};
 ghost use Rattle.base_kit.specs.Sets.{with_number};
 ghost use Rattle.cfg_ast.specs.declared.policy.Mention.{Mention};
-ghost use Rattle.cfg_ast.specs.meaning.PolicyFaults.{mention_at, mentions_on, mentions_in_list, changed_by, mentions_in, mentions_in_map, mentions_of, mentions_up_to, communities_in, exceeding_mentions};
+ghost use Rattle.cfg_ast.specs.meaning.PolicyFaults.{mention_at, mentions_on, mentions_in_list, changed_by, mentions_in, mentions_in_map, mentions_of, communities_in};
+ghost use Rattle.cfg_check.specs.Communities.{mentions_up_to, exceeding_mentions, count_before, count_up_to, KeepsUpTo};
 ghost use Rattle.cfg_check.specs.LeastLine.{least_line};
-ghost use Rattle.cfg_check.specs.Communities.{count_before, count_up_to, KeepsUpTo};
 
 use base_kit::{NoMemory, NumSet};
 use cfg_ast::{Change, CommunityLine, CommunityList, MapEntry, Mention, RouteMap, Router};

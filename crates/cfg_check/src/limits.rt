@@ -3,7 +3,8 @@
 ghost use Rattle.std.specs.Prelude.{◌≡◌, map, flat_map, slice_get};
 ghost use Rattle.std.specs.Option.{option_map};
 ghost use Rattle.cfg_ast.specs.meaning.Topology.{neighbors_of};
-ghost use Rattle.cfg_ast.specs.meaning.RouterFaults.{router_line, neighbor_line, first_beyond};
+ghost use Rattle.cfg_ast.specs.meaning.RouterFaults.{first_beyond};
+ghost use Rattle.cfg_check.specs.Items.{router_line, neighbor_line};
 ghost use Rattle.cfg_check.specs.LeastLine.{least_line};
 
 use cfg_ast::{Neighbor, Router};

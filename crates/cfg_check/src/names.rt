@@ -1,7 +1,8 @@
 //! Host names that two routers have.
 
 ghost use Rattle.std.specs.Prelude.{◌≡◌, IfOk, map};
-ghost use Rattle.cfg_ast.specs.meaning.RouterFaults.{router_line, repeats, same_name};
+ghost use Rattle.cfg_ast.specs.meaning.RouterFaults.{repeats};
+ghost use Rattle.cfg_check.specs.Items.{router_line, same_name};
 ghost use Rattle.cfg_check.specs.LeastLine.{least_line};
 
 use crate::least::with_line_if;

@@ -2,7 +2,8 @@
 
 ghost use Rattle.std.specs.Prelude.{◌≡◌, ◌≤◌, IfOk, OnOk, map, flat_map};
 ghost use Rattle.std.specs.List.{list_any};
-ghost use Rattle.cfg_ast.specs.meaning.RouterFaults.{address_line, repeats, overlap, overlapping_in};
+ghost use Rattle.cfg_ast.specs.meaning.RouterFaults.{address_line, repeats, overlap};
+ghost use Rattle.cfg_check.specs.Items.{overlapping_in};
 ghost use Rattle.cfg_check.specs.LeastLine.{least_line};
 ghost use Rattle.cfg_check.specs.Blocks.{block_of, is_kept_at, lies_in_one, meets, HasLens, AddsBlock, AddsAround, AddsSubnet};
 

@@ -1,7 +1,8 @@
 //! The number of adjacent pairs in OSPF.
 
 ghost use Rattle.std.specs.Prelude.{◌≡◌, ◌≤◌, IfOk, OnOk, map, filter_map, length, []};
-ghost use Rattle.cfg_ast.specs.meaning.RouterFaults.{active_address_on, active_addresses_of, added_after, exceeding};
+ghost use Rattle.cfg_ast.specs.meaning.RouterFaults.{active_addresses_of, added_after, exceeding};
+ghost use Rattle.cfg_check.specs.Items.{active_address_on};
 ghost use Rattle.cfg_check.specs.LeastLine.{least_line};
 ghost use Rattle.buckets.specs.Buckets.{bucket};
 ghost use Rattle.cfg_check.specs.Pairs.{subnet_pair, counted, sum_or_line, AddsAll};

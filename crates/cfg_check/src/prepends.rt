@@ -3,7 +3,8 @@
 ghost use Rattle.std.specs.Prelude.{◌≡◌, IfOk, flat_map};
 ghost use Rattle.std.specs.List.{list_all};
 ghost use Rattle.cfg_ast.specs.meaning.Topology.{has_number};
-ghost use Rattle.cfg_ast.specs.meaning.PolicyFaults.{line_naming, map_in_naming, foreign_prepend_in, foreign_prepends_in_map, foreign_prepends_of, prepending_maps_in_of};
+ghost use Rattle.cfg_ast.specs.meaning.PolicyFaults.{line_naming, foreign_prepends_in_map, foreign_prepends_of, prepending_maps_in_of};
+ghost use Rattle.cfg_check.specs.Items.{map_in_naming, foreign_prepend_in};
 ghost use Rattle.cfg_check.specs.LeastLine.{least_line};
 ghost use Rattle.cfg_check.specs.NameSets.{has_name};
 

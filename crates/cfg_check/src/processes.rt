@@ -2,7 +2,8 @@
 
 ghost use Rattle.std.specs.Prelude.{◌≡◌, IfOk, map, filter, filter_map, flat_map, slice_get, nat_eq};
 ghost use Rattle.std.specs.Option.{option_map};
-ghost use Rattle.cfg_ast.specs.meaning.RouterFaults.{process_line, neighbor_line, area_line, line_of_protocol, repeats, unlike_first, bgp_of, same_number, internal_peers, internal_peers_of, protocol_lines_of, is_same_protocol, same_protocol, areas_of, same_area};
+ghost use Rattle.cfg_ast.specs.meaning.RouterFaults.{repeats, unlike_first, internal_peers, internal_peers_of, protocol_lines_of, is_same_protocol, same_protocol, areas_of};
+ghost use Rattle.cfg_check.specs.Items.{process_line, neighbor_line, area_line, line_of_protocol, bgp_of, same_number, same_area};
 ghost use Rattle.cfg_check.specs.LeastLine.{least_line};
 ghost use Rattle.cfg_check.specs.Processes.{numbered_of, line_of_numbered, same_numbered, protocol_in, has_other_protocol, area_in, has_other_area};
 

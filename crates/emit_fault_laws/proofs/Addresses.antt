@@ -1,13 +1,14 @@
 -- No address of the network of the groups stands twice, and no two subnets of a router overlap.
 use Rattle.std.proofs.Common.{◌≡◌, ◌≢◌, ℕ, ◌+◌, ◌*◌, ◌<◌, ◌≤◌, Bool, true, false, cond, [], ◌++◌, map, length, ◌⊎◌, inl, inr, Option, Some, refl, sym, ◌∙◌, ap, subst, arith, nat_eq}
-use Rattle.std.specs.Prelude.{slice_get}
+use Rattle.std.specs.Prelude.{slice_get, flat_map}
 use Rattle.std.proofs.lemmas.Bool.Decides.{nat_tests}
 use Rattle.base_kit.proofs.Elements.{In, filter_map_in, append_in}
 use Rattle.base_kit.proofs.SetFacts.{same_number, other_number}
 use Rattle.cfg_ast.specs.meaning.Addresses.{Address}
 use Rattle.cfg_ast.specs.declared.interface.Interface.{Interface}
 use Rattle.cfg_ast.specs.declared.network.Router.{Router}
-use Rattle.cfg_ast.specs.meaning.RouterFaults.{repeats, address_line, up_addresses_of, up_addresses, same_address, shared_address_lines, overlap, overlapping_in, overlapping_lines}
+use Rattle.cfg_ast.specs.meaning.RouterFaults.{repeats, address_line, up_addresses_of, shared_address_lines, overlap, overlapping_lines}
+use Rattle.cfg_check.specs.Items.{same_address, overlapping_in}
 use Rattle.cfg_ast.specs.meaning.Topology.{up_address}
 use Rattle.cfg_ast.specs.printing.Bare.{bare_address}
 use Rattle.abstract_net.specs.declared.qlink.QLink.{QLink}
@@ -89,8 +90,8 @@ class_class e plan g h other below lower a b c d =
     let there : In (up_addresses_of k.router) d.of.address =
     subst (λ (r : Router). In (up_addresses_of r) d.of.address) (one_router (first_router_of e h) d.of.router k.router d.of.at k.at) d.of.address_in in
     let pairs = flat_pairs up_addresses_of (λ (x y : Address). same_address y x ≡ false) e.network.routers
-    (pairs_repeats same_address (up_addresses e.network)
-    (map_nil address_line (repeats same_address (up_addresses e.network)) plan.faultless.shared_address)) in
+    (pairs_repeats same_address (flat_map up_addresses_of e.network.routers)
+    (map_nil address_line (repeats same_address (flat_map up_addresses_of e.network.routers)) plan.faultless.shared_address)) in
     ap (λ (x : Address). same_address x a) (sym d.is) ∙ ap (λ (x : Address). same_address (bare_address d.of.address) x) (sym c.is)
     ∙ elim (pairs_either (λ (r s : Router). (x y : Address) → In (up_addresses_of r) x → In (up_addresses_of s) y → same_address y x ≡ false) e.network.routers
     (first_member e.groups g) (first_member e.groups h) f.router k.router pairs (firsts_differ e g h other f k) f.at k.at) [
@@ -158,7 +159,7 @@ pub no_shared_address : (e : Plan) → IsPlan e → length e.links ≤ 1048576 �
 unfolding shared_address_lines
 no_shared_address e plan few =
     ap (map address_line)
-    (no_repeats same_address (up_addresses (emitted e))
+    (no_repeats same_address (flat_map up_addresses_of (emitted e).routers)
     (pairs_flat up_addresses_of (λ (r s : Router). (a b : Address) → In (up_addresses_of r) a → In (up_addresses_of s) b → HaveOthers a b) HaveOthers
     (emitted e).routers
     (of_routers e (λ r. IsPairwise HaveOthers (up_addresses_of r))

@@ -2,13 +2,15 @@
 use Rattle.std.proofs.Common.{◌≡◌, ◌≢◌, ℕ, suc, ◌<◌, Bool, true, false, cond, not, ◌&&◌, List, [], ◌∷◌, map, length, inl, inr, Option, Some, None, refl, sym, ◌∙◌, ap, subst, arith, nat_eq}
 use Rattle.std.specs.Prelude.{slice_index, slice_index_or}
 use Rattle.std.proofs.lemmas.Bool.Decides.{nat_tests}
+use Rattle.std.specs.Option.{option_map_or}
 use Rattle.base_kit.specs.declared.protocol.Protocol.TheVariants.{Bgp as OverBgp}
 use Rattle.base_kit.proofs.Elements.{map_in}
 use Rattle.base_kit.proofs.SetFacts.{other_number}
 use Rattle.cfg_ast.specs.declared.bgp.BgpProcess.{BgpProcess}
 use Rattle.cfg_ast.specs.declared.bgp.Neighbor.{Neighbor}
 use Rattle.cfg_ast.specs.declared.network.Router.{Router}
-use Rattle.cfg_ast.specs.meaning.RouterFaults.{repeats, router_line, process_line, neighbor_line, same_name, shared_name_lines, bgp_of as process_on, bgp_processes, same_number as same_as, shared_as_lines, internal_peers_in, internal_peers_of, internal_peer_lines}
+use Rattle.cfg_ast.specs.meaning.RouterFaults.{repeats, shared_name_lines, bgp_processes, shared_as_lines, internal_peers, internal_peers_of, internal_peer_lines}
+use Rattle.cfg_check.specs.Items.{router_line, process_line, neighbor_line, same_name, bgp_of as process_on, same_number as same_as}
 use Rattle.abstract_net.specs.Links.{QuotientCarries}
 use Rattle.srp_core.specs.Problem.{count, number}
 use Rattle.srp_core.specs.Quotient.{first_number}
@@ -125,11 +127,11 @@ no_internal_peer e plan law =
     (flat_none internal_peers_of (emitted e).routers
     (of_routers e (λ r. internal_peers_of r ≡ []) (λ g below. step g below (written_bgp e.problem.protocol e g) refl)))
   where
-    step : (g : ℕ) → g < e.count → (o : Option BgpProcess) → written_bgp e.problem.protocol e g ≡ o → internal_peers_in o ≡ []
+    step : (g : ℕ) → g < e.count → (o : Option BgpProcess) → written_bgp e.problem.protocol e g ≡ o → option_map_or internal_peers o [] ≡ []
     step g below None made = refl
     step g below (Some b) made =
         let p = process_is e g b made in
-        subst (λ (x : BgpProcess). internal_peers_in (Some x) ≡ []) p.is
+        subst (λ (x : BgpProcess). internal_peers x ≡ []) p.is
         (filter_none (λ (n : Neighbor). nat_eq n.remote (number (small e) g)) (map (neighbor_at e g) (links_at e g))
         (λ n h.
         let m = map_in (neighbor_at e g) (links_at e g) n h in

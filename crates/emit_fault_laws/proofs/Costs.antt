@@ -1,13 +1,16 @@
 -- Each interface of the network of the groups has a cost, and none is a loopback.
 use Rattle.std.proofs.Common.{◌≡◌, ℕ, ◌+◌, Bool, true, false, cond, not, ◌&&◌, List, [], ◌∷◌, ◌++◌, map, take, inl, inr, Option, Some, None, refl, sym, ◌∙◌, ap, subst, arith, codes, decimal, bytes_eq}
-use Rattle.std.specs.Prelude.{is_some, flat_map}
+use Rattle.std.specs.Prelude.{is_some, flat_map, nat_eq}
 use Rattle.std.specs.List.{before_first, prefix_len}
 use Rattle.std.proofs.lemmas.Bool.{le-leb}
+use Rattle.std.specs.Option.{option_map_or}
 use Rattle.base_kit.specs.Numbers.{is_digit}
 use Rattle.base_kit.proofs.Elements.{In, append_in}
+use Rattle.cfg_ast.specs.meaning.Addresses.{Address}
 use Rattle.cfg_ast.specs.declared.interface.Interface.{Interface}
 use Rattle.cfg_ast.specs.declared.network.Router.{Router}
-use Rattle.cfg_ast.specs.meaning.RouterFaults.{address_line, has_host_mask, is_wide_loopback, area_address_with, area_addresses_with, loopback_mask_lines, has_no_cost, no_cost_lines}
+use Rattle.cfg_ast.specs.meaning.RouterFaults.{address_line, is_wide_loopback, area_addresses_with, loopback_mask_lines, no_cost_lines}
+use Rattle.cfg_check.specs.Items.{area_address_with, has_no_cost}
 use Rattle.cfg_ast.specs.meaning.Topology.{up_address, is_in_area_interface, type_of, default_costs, default_cost_of, cost_of_interface}
 use Rattle.config_emit.specs.Emitted.{emitted_router, emitted}
 use Rattle.config_emit.specs.Interfaces.{class_interfaces, link_interfaces}
@@ -75,7 +78,7 @@ none_anywhere e has_fault none =
 pub no_wide_loopback : (e : Plan) → IsPlan e → loopback_mask_lines (emitted e) ≡ []
 unfolding loopback_mask_lines
 no_wide_loopback e plan = ap (map address_line)
-    (none_anywhere e is_wide_loopback (λ g x h. ap (λ b. b && not (has_host_mask x.address)) (type_is e plan g x h).0))
+    (none_anywhere e is_wide_loopback (λ g x h. ap (λ b. b && not (option_map_or (λ (a : Address). nat_eq a.len 32) x.address false)) (type_is e plan g x h).0))
 
 pub none_without_cost : (e : Plan) → IsPlan e → no_cost_lines (emitted e) ≡ []
 unfolding no_cost_lines

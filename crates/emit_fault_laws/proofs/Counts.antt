@@ -13,7 +13,8 @@ use Rattle.base_kit.specs.declared.protocol.Protocol.TheVariants.{Bgp as OverBgp
 use Rattle.base_kit.proofs.SetFacts.{other_number}
 use Rattle.cfg_ast.specs.declared.bgp.BgpProcess.{BgpProcess}
 use Rattle.cfg_ast.specs.declared.bgp.Neighbor.{Neighbor}
-use Rattle.cfg_ast.specs.meaning.RouterFaults.{router_line, neighbor_line, first_beyond, too_many_routers_lines, too_many_neighbors_lines}
+use Rattle.cfg_ast.specs.meaning.RouterFaults.{first_beyond, too_many_routers_lines, too_many_neighbors_lines}
+use Rattle.cfg_check.specs.Items.{router_line, neighbor_line}
 use Rattle.cfg_ast.specs.meaning.Topology.{neighbors_of}
 use Rattle.abstract_net.specs.declared.qlink.QLink.{QLink}
 use Rattle.srp_core.specs.Problem.{number}

@@ -14,7 +14,8 @@ use Rattle.cfg_ast.specs.declared.bgp.Neighbor.{Neighbor}
 use Rattle.cfg_ast.specs.declared.policy.MapEntry.{MapEntry}
 use Rattle.cfg_ast.specs.declared.policy.RouteMap.{RouteMap}
 use Rattle.cfg_ast.specs.meaning.Classes.{same_items}
-use Rattle.cfg_ast.specs.meaning.PolicyFaults.{foreign_prepend, foreign_prepend_in, foreign_prepends_in_map, foreign_prepends_of, prepend_form_lines, prepends_in_map, has_prepending_map, map_in_naming, prepending_maps_in_of, prepend_in_lines}
+use Rattle.cfg_ast.specs.meaning.PolicyFaults.{foreign_prepend, foreign_prepends_in_map, foreign_prepends_of, prepend_form_lines, prepends_in_map, has_prepending_map, prepending_maps_in_of, prepend_in_lines}
+use Rattle.cfg_check.specs.Items.{foreign_prepend_in, map_in_naming}
 use Rattle.cfg_ast.specs.meaning.Topology.{neighbors_of, has_number}
 use Rattle.abstract_net.specs.Links.{QuotientCarries}
 use Rattle.abstract_net.specs.declared.qlink.QLink.{QLink}

@@ -1,6 +1,6 @@
 -- The network of the groups has one protocol and one area.
 use Rattle.std.proofs.Common.{◌≡◌, ℕ, Bool, true, not, List, [], ◌∷◌, ◌++◌, map, Option, Some, None, inl, inr, refl, sym, ◌∙◌, ap}
-use Rattle.std.specs.Option.{option_map}
+use Rattle.std.specs.Option.{option_map, option_map_or}
 use Rattle.base_kit.specs.declared.protocol.Protocol.{Protocol}
 use Rattle.base_kit.specs.declared.protocol.Protocol.TheVariants as protocol
 use Rattle.base_kit.proofs.Elements.{In, flat_map_in, filter_map_in}
@@ -11,7 +11,8 @@ use Rattle.cfg_ast.specs.declared.interface.Interface.{Interface}
 use Rattle.cfg_ast.specs.declared.network.Router.{Router}
 use Rattle.cfg_ast.specs.declared.ospf.AreaLine.{AreaLine}
 use Rattle.cfg_ast.specs.declared.ospf.OspfProcess.{OspfProcess}
-use Rattle.cfg_ast.specs.meaning.RouterFaults.{unlike_first, ProtocolLine, lines_in_order, protocol_lines_of, protocol_lines, is_same_protocol, same_protocol, line_of_protocol, mixed_protocol_lines, area_line as line_of_area, areas_in, areas_of, area_lines, same_area, other_area_lines}
+use Rattle.cfg_ast.specs.meaning.RouterFaults.{unlike_first, ProtocolLine, lines_in_order, protocol_lines_of, protocol_lines, is_same_protocol, same_protocol, mixed_protocol_lines, areas_of, area_lines, other_area_lines}
+use Rattle.cfg_check.specs.Items.{line_of_protocol, area_line as line_of_area, same_area}
 use Rattle.config_emit.specs.Emitted.{written_bgp, host_area_line, ospf_on, area_number, ospf_of, emitted}
 use Rattle.config_emit.specs.Interfaces.{class_interfaces, link_interfaces}
 use Rattle.config_emit.specs.Plan.{Plan}
@@ -68,11 +69,11 @@ made_area area x l made = step x.address made
     step (Some a) e = let same : ◌≡◌ {A = AreaLine} (record { addr = a.addr; wild = 0; area = area; line = 0 }) l = cc in
         ap (λ (x : AreaLine). x.area) (sym same)
 
-one_area : (q : Protocol) (e : Plan) (g : ℕ) (l : AreaLine) → In (areas_in (ospf_of q e g)) l → l.area ≡ area_number e
+one_area : (q : Protocol) (e : Plan) (g : ℕ) (l : AreaLine) → In (option_map_or (λ (process : OspfProcess). process.areas) (ospf_of q e g) []) l → l.area ≡ area_number e
 one_area protocol.Bgp e g l h = absurd h
 one_area protocol.Ospf e g l h = step (class_interfaces e g ++ link_interfaces e g) h
   where
-    step : (xs : List Interface) → In (areas_in (ospf_on (area_number e) (class_interfaces e g) xs)) l → l.area ≡ area_number e
+    step : (xs : List Interface) → In (option_map_or (λ (process : OspfProcess). process.areas) (ospf_on (area_number e) (class_interfaces e g) xs) []) l → l.area ≡ area_number e
     step [] h = absurd h
     step (x ∷ xs) h = let f = filter_map_in (host_area_line (area_number e)) (x ∷ xs) l h in made_area (area_number e) f.0 l f.2
 

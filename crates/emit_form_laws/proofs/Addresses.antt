@@ -13,7 +13,8 @@ use Rattle.cfg_ast.specs.meaning.Addresses.{Address}
 use Rattle.cfg_ast.specs.declared.interface.Interface.{Interface}
 use Rattle.cfg_ast.specs.declared.network.Network.{Network}
 use Rattle.cfg_ast.specs.declared.network.Router.{Router}
-use Rattle.cfg_ast.specs.meaning.RouterFaults.{address_line, up_addresses_of, overlap, overlapping_in, overlapping_lines}
+use Rattle.cfg_ast.specs.meaning.RouterFaults.{address_line, up_addresses_of, overlap, overlapping_lines}
+use Rattle.cfg_check.specs.Items.{overlapping_in}
 use Rattle.cfg_ast.specs.meaning.Topology.{subnet_of_address}
 use Rattle.cfg_ast.specs.printing.Bare.{bare_address}
 use Rattle.cfg_ast.proofs.PrefixSets.{not_before_self}

@@ -20,7 +20,7 @@ use Rattle.cfg_ast.specs.declared.ospf.AreaLine.{AreaLine}
 use Rattle.cfg_ast.specs.declared.ospf.OspfProcess.{OspfProcess}
 use Rattle.cfg_ast.specs.meaning.Classes.{initial_route}
 use Rattle.cfg_ast.specs.meaning.Policy.{default_preference}
-use Rattle.cfg_ast.specs.meaning.RouterFaults.{overlap, areas_in, areas_of, area_lines}
+use Rattle.cfg_ast.specs.meaning.RouterFaults.{overlap, areas_of, area_lines}
 use Rattle.cfg_ast.specs.printing.WellFormed.{IsBetween, IsNumber, IsWellFormedAddress, IsWellFormedInterface, IsWellFormedNetLine, same_net, IsWellFormedNamed, IsWellFormedNeighbor, same_neighbor, IsWellFormedBase, IsWellFormedBgp, IsWellFormedArea, IsInterfaceName, IsWellFormedOspf, IsWellFormedRouter}
 use Rattle.cfg_ast.specs.text.Stanzas.{same_area_line}
 use Rattle.cfg_ast.proofs.PrefixSets.{not_same_before}
@@ -210,7 +210,7 @@ area_form e plan = step (slice_get (area_lines e.network) 0) refl
         let r = flat_map_in areas_of e.network.routers line (get_in (area_lines e.network) 0 line is) in
         on r.0.ospf (router_forms e.network plan.well_formed r.0 r.1).ospf r.2
       where
-        on : (o : Option OspfProcess) → IfSome o IsWellFormedOspf → In (areas_in o) line → line.area ≤ 4294967295
+        on : (o : Option OspfProcess) → IfSome o IsWellFormedOspf → In (option_map_or (λ (process : OspfProcess). process.areas) o []) line → line.area ≤ 4294967295
         on None form h = absurd h
         on (Some process) form h = (all_in IsWellFormedArea process.areas line form.areas h).area
 

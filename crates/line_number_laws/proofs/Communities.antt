@@ -10,7 +10,9 @@ use Rattle.base_kit.proofs.SetFacts.{has-with_numbers, ascending_with_numbers, a
 use Rattle.cfg_ast.specs.declared.network.Network.{Network}
 use Rattle.cfg_ast.specs.declared.network.Router.{Router}
 use Rattle.cfg_ast.specs.declared.policy.Mention.{Mention}
-use Rattle.cfg_ast.specs.meaning.PolicyFaults.{mention_at, mentions_on, mentions_in_list, changed_by, mentions_in, mentions_in_map, mentions_of, mentions, community_of, line_of_mention, communities_in, communities_of, mentions_before, mentions_up_to, first_exceeds, too_many_communities_lines}
+use Rattle.cfg_ast.specs.meaning.PolicyFaults.{mention_at, mentions_on, mentions_in_list, changed_by, mentions_in, mentions_in_map, mentions_of, mentions, community_of, communities_in, communities_of, first_exceeds, too_many_communities_lines}
+use Rattle.cfg_check.specs.Items.{line_of_mention}
+use Rattle.cfg_check.specs.Communities.{mentions_before, mentions_up_to}
 use Rattle.cfg_ast.specs.printing.Bare.{bare_community_line, bare_community_list, bare_map_entry, bare_route_map, bare_router, bare}
 use Rattle.line_number_laws.proofs.Mapped.{map_mapped, flat_mapped}
 

@@ -15,7 +15,8 @@ use Rattle.cfg_ast.specs.declared.policy.NameLine.{NameLine}
 use Rattle.cfg_ast.specs.declared.policy.PrefixList.{PrefixList}
 use Rattle.cfg_ast.specs.declared.policy.Prepend.{Prepend}
 use Rattle.cfg_ast.specs.declared.policy.RouteMap.{RouteMap}
-use Rattle.cfg_ast.specs.meaning.PolicyFaults.{line_naming, match_line_naming, lacks_map, map_lines_naming, undefined_maps_of, undefined_map_lines, lacks_prefix_list, lacks_community_list, list_lines_naming, entry_lines_naming, lines_in_map_naming, undefined_lists_of, undefined_list_lines, is_name, is_deleted_in, is_deleted, several_at, several_in, wide_deletions_of, delete_list_lines, foreign_prepend, foreign_prepend_in, foreign_prepends_in_map, foreign_prepends_of, prepend_form_lines, prepends_in_map, has_prepending_map, map_in_naming, prepending_maps_in_of, prepend_in_lines}
+use Rattle.cfg_ast.specs.meaning.PolicyFaults.{line_naming, match_line_naming, lacks_map, map_lines_naming, undefined_maps_of, undefined_map_lines, lacks_prefix_list, lacks_community_list, list_lines_naming, entry_lines_naming, lines_in_map_naming, undefined_lists_of, undefined_list_lines, is_name, is_deleted_in, is_deleted, several_at, several_in, wide_deletions_of, delete_list_lines, foreign_prepend, foreign_prepends_in_map, foreign_prepends_of, prepend_form_lines, prepends_in_map, has_prepending_map, prepending_maps_in_of, prepend_in_lines}
+use Rattle.cfg_check.specs.Items.{foreign_prepend_in, map_in_naming}
 use Rattle.cfg_ast.specs.meaning.Topology.{neighbors_of, has_number}
 use Rattle.cfg_ast.specs.printing.Bare.{bare_community_line, bare_community_list, bare_map_entry, bare_name_line, bare_named, bare_neighbor, bare_prefix_list, bare_prepend, bare_route_map, bare_router, bare}
 use Rattle.line_number_laws.proofs.Interfaces.{neighbors_bare, number_bare}

@@ -11,7 +11,8 @@ use Rattle.cfg_ast.specs.declared.bgp.BgpProcess.{BgpProcess}
 use Rattle.cfg_ast.specs.declared.network.Network.{Network}
 use Rattle.cfg_ast.specs.declared.network.Router.{Router}
 use Rattle.cfg_ast.specs.declared.ospf.OspfProcess.{OspfProcess}
-use Rattle.cfg_ast.specs.meaning.RouterFaults.{ProtocolLine, of_bgp, of_ospf, lines_in_order, protocol_lines_of, protocol_lines, is_same_protocol, same_protocol, line_of_protocol, unlike_first, mixed_protocol_lines}
+use Rattle.cfg_ast.specs.meaning.RouterFaults.{ProtocolLine, of_bgp, of_ospf, lines_in_order, protocol_lines_of, protocol_lines, is_same_protocol, same_protocol, unlike_first, mixed_protocol_lines}
+use Rattle.cfg_check.specs.Items.{line_of_protocol}
 use Rattle.cfg_ast.specs.printing.Bare.{bare_bgp, bare_ospf, bare_router, bare}
 use Rattle.line_number_laws.specs.Laws.{ProtocolAside}
 use Rattle.line_number_laws.proofs.RouterLines.{no_items}

@@ -2,7 +2,7 @@
 -- numbers each of these faults is at line 0.
 use Rattle.std.proofs.Common.{◌≡◌, ℕ, ◌+◌, Bool, true, false, cond, ◌&&◌, List, [], ◌∷◌, ◌++◌, Option, Some, None, map, filter, length, refl, sym, ap, ◌∙◌}
 use Rattle.std.specs.Prelude.{flat_map, nat_eq, nat_lt}
-use Rattle.std.specs.Option.{option_map}
+use Rattle.std.specs.Option.{option_map, option_map_or}
 use Rattle.std.proofs.lemmas.List.{length-map, map-append}
 use Rattle.cfg_ast.specs.meaning.Addresses.{Address}
 use Rattle.cfg_ast.specs.declared.bgp.BgpProcess.{BgpProcess}
@@ -12,7 +12,8 @@ use Rattle.cfg_ast.specs.declared.network.Network.{Network}
 use Rattle.cfg_ast.specs.declared.network.Router.{Router}
 use Rattle.cfg_ast.specs.declared.ospf.AreaLine.{AreaLine}
 use Rattle.cfg_ast.specs.declared.ospf.OspfProcess.{OspfProcess}
-use Rattle.cfg_ast.specs.meaning.RouterFaults.{repeats, unlike_first, first_beyond, router_line, process_line, neighbor_line, address_line, area_line, same_name, shared_name_lines, bgp_of, bgp_processes, same_number, shared_as_lines, internal_peers_in, internal_peers_of, internal_peer_lines, areas_in, areas_of, area_lines, same_area, other_area_lines, up_addresses_of, up_addresses, same_address, shared_address_lines, overlap, overlapping_in, overlapping_lines, is_wide_loopback, area_address_with, area_addresses_with, loopback_mask_lines, has_no_cost, no_cost_lines, too_many_routers_lines, too_many_neighbors_lines, active_address_on, active_addresses_of, Added, added_by, added_after, exceeding, too_many_links_lines, has_host_mask}
+use Rattle.cfg_ast.specs.meaning.RouterFaults.{repeats, unlike_first, first_beyond, address_line, shared_name_lines, bgp_processes, shared_as_lines, internal_peers, internal_peers_of, internal_peer_lines, areas_of, area_lines, other_area_lines, up_addresses_of, shared_address_lines, overlap, overlapping_lines, is_wide_loopback, area_addresses_with, loopback_mask_lines, no_cost_lines, too_many_routers_lines, too_many_neighbors_lines, active_addresses_of, Added, added_by, added_after, exceeding, too_many_links_lines}
+use Rattle.cfg_check.specs.Items.{router_line, process_line, neighbor_line, area_line, same_name, bgp_of, same_number, same_area, same_address, overlapping_in, area_address_with, has_no_cost, active_address_on}
 use Rattle.cfg_ast.specs.meaning.Topology.{up_address, is_in_area_interface, is_active_interface, same_subnet, neighbors_of}
 use Rattle.cfg_ast.specs.printing.Bare.{bare_address, bare_area, bare_bgp, bare_interface, bare_neighbor, bare_ospf, bare_router, bare}
 use Rattle.line_number_laws.proofs.Interfaces.{up_address_bare, up_addresses_bare, in_area_bare, active_bare, neighbors_bare}
@@ -61,7 +62,7 @@ shared_as_bare n =
 
 internal_bare : (r : Router) → internal_peers_of (bare_router r) ≡ map bare_neighbor (internal_peers_of r)
 internal_bare r = step r.bgp where
-  step : (o : Option BgpProcess) → internal_peers_in (option_map bare_bgp o) ≡ map bare_neighbor (internal_peers_in o)
+  step : (o : Option BgpProcess) → option_map_or internal_peers (option_map bare_bgp o) [] ≡ map bare_neighbor (option_map_or internal_peers o [])
   step None = refl
   step (Some process) = filter_mapped bare_neighbor (λ (q : Neighbor). nat_eq q.remote process.number) (λ (q : Neighbor). nat_eq q.remote process.number)
       (λ q. refl) process.neighbors
@@ -72,9 +73,12 @@ internal_peer_bare n =
     ap (map neighbor_line) (flat_mapped bare_router bare_neighbor internal_peers_of internal_peers_of internal_bare n.routers)
     ∙ lines_of bare_neighbor neighbor_line (λ q. refl) (flat_map internal_peers_of n.routers)
 
+abbrev areas : Option OspfProcess → List AreaLine
+areas o = option_map_or (λ (process : OspfProcess). process.areas) o []
+
 areas_bare : (r : Router) → areas_of (bare_router r) ≡ map bare_area (areas_of r)
 areas_bare r = step r.ospf where
-  step : (o : Option OspfProcess) → areas_in (option_map bare_ospf o) ≡ map bare_area (areas_in o)
+  step : (o : Option OspfProcess) → areas (option_map bare_ospf o) ≡ map bare_area (areas o)
   step None = refl
   step (Some process) = refl
 
@@ -94,7 +98,7 @@ unfolding shared_address_lines
 shared_address_bare n =
     ap (λ (found : List Address). map address_line (repeats same_address found))
     (flat_mapped bare_router bare_address up_addresses_of up_addresses_of up_bare n.routers)
-    ∙ repeated bare_address address_line (λ a. refl) same_address (λ a b. refl) (up_addresses n)
+    ∙ repeated bare_address address_line (λ a. refl) same_address (λ a b. refl) (flat_map up_addresses_of n.routers)
 
 pub overlapping_bare : (n : Network) → overlapping_lines (bare n) ≡ at_zero (overlapping_lines n)
 unfolding overlapping_lines
@@ -122,6 +126,9 @@ area_faults_bare has_fault same n =
     (λ r. filter_map_mapped bare_interface bare_address (area_address_with has_fault (bare_router r)) (area_address_with has_fault r)
     (with_bare has_fault same r) r.interfaces) n.routers)
     ∙ lines_of bare_address address_line (λ a. refl) (flat_map (area_addresses_with has_fault) n.routers)
+
+abbrev has_host_mask : Option Address → Bool
+has_host_mask o = option_map_or (λ (a : Address). nat_eq a.len 32) o false
 
 mask_bare : (o : Option Address) → has_host_mask (option_map bare_address o) ≡ has_host_mask o
 mask_bare None = refl

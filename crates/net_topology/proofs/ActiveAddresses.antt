@@ -3,7 +3,7 @@ use Rattle.std.proofs.Common.{◌≡◌, Bool, true, false, cond, not, ◌&&◌,
 use Rattle.std.specs.Option.{option_map_or}
 use Rattle.cfg_ast.specs.meaning.Addresses.{Address}
 use Rattle.cfg_ast.specs.declared.interface.Interface.{Interface}
-use Rattle.cfg_ast.specs.meaning.RouterFaults.{active_address_on}
+use Rattle.cfg_check.specs.Items.{active_address_on}
 use Rattle.cfg_ast.specs.meaning.Topology.{Place, active_address, is_passive_in, process_has_address}
 
 address_of_active : (shut : Bool) (o : Option Address) (f : Address → Bool) (b : Bool)

@@ -6,7 +6,7 @@ use Rattle.cfg_ast.specs.declared.interface.Interface.{Interface}
 use Rattle.cfg_ast.specs.declared.network.Network.{Network}
 use Rattle.cfg_ast.specs.meaning.Topology.{Place, places, interfaces_of, are_adjacent, active_address, both_in_one_subnet, same_subnet, adjacencies_of}
 use Rattle.buckets.specs.Buckets.{is_at_pair}
-use Rattle.cfg_ast.specs.meaning.RouterFaults.{active_address_on}
+use Rattle.cfg_check.specs.Items.{active_address_on}
 use Rattle.net_topology.specs.declared.adjacencies.Spot.{Spot}
 use Rattle.net_topology.specs.Spots.{spot_at, spot_of, spots, pair_of, is_later, spot_link, links_in}
 use Rattle.net_topology.proofs.ActiveAddresses.{active_here}

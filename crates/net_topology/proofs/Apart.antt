@@ -12,7 +12,8 @@ use Rattle.cfg_ast.specs.meaning.Addresses.{Address}
 use Rattle.cfg_ast.specs.declared.interface.Interface.{Interface}
 use Rattle.cfg_ast.specs.declared.network.Network.{Network}
 use Rattle.cfg_ast.specs.declared.network.Router.{Router}
-use Rattle.cfg_ast.specs.meaning.RouterFaults.{repeats, repeats_after, address_line, same_address, up_addresses_of, up_addresses, shared_address_lines, overlap, overlapping_in, overlapping_lines}
+use Rattle.cfg_ast.specs.meaning.RouterFaults.{repeats, repeats_after, address_line, up_addresses_of, shared_address_lines, overlap, overlapping_lines}
+use Rattle.cfg_check.specs.Items.{same_address, overlapping_in}
 use Rattle.cfg_ast.specs.meaning.Topology.{up_address, first_address}
 use Rattle.cfg_check.specs.Faultless.{IsFaultless}
 use Rattle.net_topology.proofs.UpFacts.{IsUpOf, up_in}
@@ -116,11 +117,11 @@ none_repeated : (n : Network) → IsFaultless n → repeats (by_number addr_of) 
 unfolding shared_address_lines ups_of
 none_repeated n faultless =
     let ups = flat_map ups_on (enumerate_from 0 n.routers) in
-    let none : repeats same_address (up_addresses n) ≡ [] = map_nil address_line (repeats same_address (up_addresses n)) faultless.shared_address in
+    let none : repeats same_address (flat_map up_addresses_of n.routers) ≡ [] = map_nil address_line (repeats same_address (flat_map up_addresses_of n.routers)) faultless.shared_address in
     map_nil addr_of (repeats (by_number addr_of) ups)
     (sym (repeats_by_number addr_of [] ups)
     ∙ ap (repeats_after nat_eq []) (same_addresses 0 n.routers)
-    ∙ repeats_by_number number_of [] (up_addresses n)
+    ∙ repeats_by_number number_of [] (flat_map up_addresses_of n.routers)
     ∙ ap (map number_of) none)
 
 -- ---- subnets

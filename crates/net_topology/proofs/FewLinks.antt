@@ -5,7 +5,8 @@ use Rattle.base_kit.specs.declared.protocol.Protocol.{Protocol}
 use Rattle.base_kit.specs.declared.protocol.Protocol.TheVariants as protocol
 use Rattle.cfg_ast.specs.declared.network.Network.{Network}
 use Rattle.cfg_ast.specs.declared.topology.Link.{Link}
-use Rattle.cfg_ast.specs.meaning.RouterFaults.{neighbor_line, first_beyond, protocol_of, too_many_neighbors_lines}
+use Rattle.cfg_ast.specs.meaning.RouterFaults.{first_beyond, protocol_of, too_many_neighbors_lines}
+use Rattle.cfg_check.specs.Items.{neighbor_line}
 use Rattle.cfg_ast.specs.meaning.Topology.{neighbors_of, sessions_of, adjacencies_of, links_of}
 use Rattle.cfg_ast.specs.printing.WellFormed.{IsWellFormed}
 use Rattle.cfg_check.specs.Faultless.{IsFaultless}

@@ -10,7 +10,8 @@ use Rattle.cfg_ast.specs.meaning.Addresses.{Address}
 use Rattle.cfg_ast.specs.declared.interface.Interface.{Interface}
 use Rattle.cfg_ast.specs.declared.network.Network.{Network}
 use Rattle.cfg_ast.specs.declared.network.Router.{Router}
-use Rattle.cfg_ast.specs.meaning.RouterFaults.{Added, active_address_on, active_addresses_of, added_by, added_after, exceeding, too_many_links_lines}
+use Rattle.cfg_ast.specs.meaning.RouterFaults.{Added, active_addresses_of, added_by, added_after, exceeding, too_many_links_lines}
+use Rattle.cfg_check.specs.Items.{active_address_on}
 use Rattle.cfg_ast.specs.meaning.Topology.{Place, place_on, places_on, places, interfaces_of, links_from, link_between, are_adjacent, active_address, both_in_one_subnet, same_subnet, first_address, adjacencies_of}
 use Rattle.net_topology.proofs.ActiveAddresses.{active_here}
 use Rattle.net_topology.proofs.PairCounts.{one_if, passing, pairs, length_filter, pairs_append_left, pairs_append_right, pairs_same, no_pairs, pairs_turned}

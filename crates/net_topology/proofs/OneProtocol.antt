@@ -13,7 +13,8 @@ use Rattle.cfg_ast.specs.declared.interface.Interface.{Interface}
 use Rattle.cfg_ast.specs.declared.network.Network.{Network}
 use Rattle.cfg_ast.specs.declared.network.Router.{Router}
 use Rattle.cfg_ast.specs.declared.ospf.OspfProcess.{OspfProcess}
-use Rattle.cfg_ast.specs.meaning.RouterFaults.{ProtocolLine, of_bgp, of_ospf, lines_in_order, protocol_lines_of, protocol_lines, is_same_protocol, same_protocol, line_of_protocol, unlike_first, mixed_protocol_lines, protocol_of}
+use Rattle.cfg_ast.specs.meaning.RouterFaults.{ProtocolLine, of_bgp, of_ospf, lines_in_order, protocol_lines_of, protocol_lines, is_same_protocol, same_protocol, unlike_first, mixed_protocol_lines, protocol_of}
+use Rattle.cfg_check.specs.Items.{line_of_protocol}
 use Rattle.cfg_ast.specs.meaning.Topology.{Place, place_on, places_on, places, interfaces_of, neighbors_of, links_from, links_joining, is_session, are_adjacent, both_in_one_subnet, active_address, is_passive_in, process_has_address, up_address, sessions_of, adjacencies_of}
 
 -- ---- lines of one protocol

@@ -7,7 +7,7 @@ use Rattle.cfg_ast.specs.declared.network.Network.{Network}
 use Rattle.cfg_ast.specs.declared.network.Router.{Router}
 use Rattle.cfg_ast.specs.declared.topology.Link.{Link}
 use Rattle.cfg_ast.specs.meaning.Topology.{Place, places, interfaces_of, first_address}
-use Rattle.cfg_ast.specs.meaning.RouterFaults.{active_address_on}
+use Rattle.cfg_check.specs.Items.{active_address_on}
 use Rattle.buckets.specs.Buckets.{is_at_pair}
 use Rattle.net_topology.specs.declared.adjacencies.Spot.{Spot}
 

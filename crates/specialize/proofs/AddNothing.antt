@@ -5,7 +5,7 @@ use Rattle.std.proofs.lemmas.Cmp.{nat_list_eq_equiv}
 use Rattle.std.proofs.lemmas.List.Elements.{All-from_recursion}
 use Rattle.base_kit.specs.Prefixes.{Prefix}
 use Rattle.cfg_ast.specs.meaning.Policy.{name_of, prepend_count}
-use Rattle.cfg_ast.specs.meaning.PolicyFaults.{line_naming, prepends_in_map, has_prepending_map, map_in_naming, prepending_maps_in_of, prepend_in_lines}
+use Rattle.cfg_ast.specs.meaning.PolicyFaults.{line_naming, prepends_in_map, has_prepending_map, prepending_maps_in_of, prepend_in_lines}
 use Rattle.cfg_ast.specs.meaning.Topology.{neighbors_of}
 use Rattle.cfg_ast.specs.declared.bgp.Neighbor.{Neighbor}
 use Rattle.cfg_ast.specs.declared.network.Named.{Named}
@@ -52,7 +52,7 @@ pub in_maps_add_nothing : (network : Network) (router : Router) (line : Neighbor
 unfolding prepend_in_lines
 in_maps_add_nothing network router line none in_network in_router p =
     let in_router_none = contained_empty prepending_maps_in_of network.routers router none in_network in
-    let in_line_none = contained_empty (map_in_naming (has_prepending_map router)) (neighbors_of router) line in_router_none in_router in
+    let in_line_none = contained_empty (λ (q : Neighbor). line_naming (has_prepending_map router) q.map_in) (neighbors_of router) line in_router_none in_router in
     All-from_recursion IsUnadded (in_map p router line).entries
     (plain_holds IsUnadded router (name_of line.map_in) (name_of line.list_in) p true refl
     (named_adds_nothing router (own_preference router true) line.map_in in_line_none))

@@ -15,7 +15,8 @@ use Rattle.cfg_ast.specs.declared.network.Router.{Router}
 use Rattle.cfg_ast.specs.declared.ospf.OspfProcess.{OspfProcess}
 use Rattle.cfg_ast.specs.text.Reading.{IsGiven}
 use Rattle.cfg_ast.specs.declared.topology.Link.{Link}
-use Rattle.cfg_ast.specs.meaning.RouterFaults.{ProtocolLine, of_bgp, of_ospf, lines_in_order, protocol_lines_of, protocol_lines, is_same_protocol, same_protocol, line_of_protocol, unlike_first, mixed_protocol_lines, protocol_of, has_no_cost, area_address_with, area_addresses_with, address_line, no_cost_lines}
+use Rattle.cfg_ast.specs.meaning.RouterFaults.{ProtocolLine, of_bgp, of_ospf, lines_in_order, protocol_lines_of, protocol_lines, is_same_protocol, same_protocol, unlike_first, mixed_protocol_lines, protocol_of, area_addresses_with, address_line, no_cost_lines}
+use Rattle.cfg_check.specs.Items.{line_of_protocol, has_no_cost, area_address_with}
 use Rattle.cfg_ast.specs.meaning.Topology.{is_in_area_interface, process_has_address, up_address, cost_of_interface}
 use Rattle.cfg_check.specs.Faultless.{IsFaultless}
 use Rattle.given_laws.proofs.WellFormed.{given_costs_are_positive}

@@ -7,7 +7,8 @@ use Rattle.base_kit.proofs.SetFacts.{same_number}
 use Rattle.cfg_ast.specs.declared.bgp.BgpProcess.{BgpProcess}
 use Rattle.cfg_ast.specs.declared.network.Network.{Network}
 use Rattle.cfg_ast.specs.declared.network.Router.{Router}
-use Rattle.cfg_ast.specs.meaning.RouterFaults.{repeats, repeats_after, bgp_of, bgp_processes, same_number as same_as_number, process_line, shared_as_lines}
+use Rattle.cfg_ast.specs.meaning.RouterFaults.{repeats, repeats_after, bgp_processes, shared_as_lines}
+use Rattle.cfg_check.specs.Items.{bgp_of, same_number as same_as_number, process_line}
 
 fresh : {X : Type 0} (b : Bool) (x : X) (rest : List X) → cond b (x ∷ rest) rest ≡ [] → (b ≡ false) × (rest ≡ [])
 fresh true x rest e = cc

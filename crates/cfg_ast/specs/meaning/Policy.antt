@@ -47,12 +47,10 @@ comms_permitted_by router exact comms name = option_map_or (list_answer exact co
 
 -- a match line holds where one of its lists permits, and an absent one holds
 abbrev pub prefixes_match : Router → Prefix → Option NameLine → Bool
-prefixes_match router p None = true
-prefixes_match router p (Some line) = list_any (prefixes_permitted_by router p) line.names
+prefixes_match router p line = option_map_or (λ (l : NameLine). list_any (prefixes_permitted_by router p) l.names) line true
 
 abbrev pub communities_match : Router → Bool → List ℕ → Option NameLine → Bool
-communities_match router exact comms None = true
-communities_match router exact comms (Some line) = list_any (comms_permitted_by router exact comms) line.names
+communities_match router exact comms line = option_map_or (λ (l : NameLine). list_any (comms_permitted_by router exact comms) l.names) line true
 
 -- an entry holds where all of its match lines hold
 abbrev pub map_entry_holds : Router → Prefix → List ℕ → MapEntry → Bool

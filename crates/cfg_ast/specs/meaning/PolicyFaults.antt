@@ -1,15 +1,16 @@
 -- What is wrong with the meaning of policy lines: each definition lists the lines at which one kind of
 -- fault stands. A line names the maps and lists of its own router. Communities are those of RFC 1997,
 -- and the AS numbers that a router puts before a path are its own (RFC 4271 section 5.1.2).
-use Rattle.std.specs.Prelude.{ℕ, Bool, false, not, ◌&&◌, List, [], ◌∷◌, ◌++◌, Option, Some, None, map, filter, flat_map, nat_lt, nat_le, bytes_eq, is_some, length, if◌then◌else◌}
+use Rattle.std.specs.Prelude.{ℕ, Bool, false, not, ◌&&◌, List, [], ◌∷◌, ◌++◌, Option, Some, map, filter, flat_map, nat_lt, nat_le, bytes_eq, is_some, length, if◌then◌else◌}
 use Rattle.std.specs.List.{list_any, list_all}
+use Rattle.std.specs.Option.{option_map_or}
 use Rattle.base_kit.specs.Sets.{with_numbers}
 use Rattle.cfg_ast.specs.declared.bgp.Neighbor.{Neighbor}
 use Rattle.cfg_ast.specs.declared.network.Named.{Named}
 use Rattle.cfg_ast.specs.declared.network.Router.{Router}
 use Rattle.cfg_ast.specs.declared.network.Network.{Network}
 use Rattle.cfg_ast.specs.declared.policy.Change.{Change}
-use Rattle.cfg_ast.specs.declared.policy.Change.TheVariants.{Clear, Replace, Append}
+use Rattle.cfg_ast.specs.declared.policy.Change.TheVariants.{Replace, Append}
 use Rattle.cfg_ast.specs.declared.policy.CommunityLine.{CommunityLine}
 use Rattle.cfg_ast.specs.declared.policy.CommunityList.{CommunityList}
 use Rattle.cfg_ast.specs.declared.policy.MapEntry.{MapEntry}
@@ -22,13 +23,11 @@ use Rattle.cfg_ast.specs.meaning.Topology.{neighbors_of, has_number}
 
 -- the line, if it gives a name that passes the test
 abbrev pub line_naming : (List ℕ → Bool) → Option Named → List ℕ
-line_naming test None = []
-line_naming test (Some named) = if test named.name then named.line ∷ [] else []
+line_naming test named = option_map_or (λ (n : Named). if test n.name then n.line ∷ [] else []) named []
 
 -- the same for a match line, which may give several names
 abbrev pub match_line_naming : (List ℕ → Bool) → Option NameLine → List ℕ
-match_line_naming test None = []
-match_line_naming test (Some line) = if list_any test line.names then line.line ∷ [] else []
+match_line_naming test line = option_map_or (λ (l : NameLine). if list_any test l.names then l.line ∷ [] else []) line []
 
 -- UndefinedMap: a line that names a route map which its router does not define
 
@@ -77,8 +76,7 @@ undefined_list_lines n = flat_map undefined_lists_of n.routers
 -- router names
 
 abbrev pub is_name : List ℕ → Option Named → Bool
-is_name name None = false
-is_name name (Some named) = bytes_eq name named.name
+is_name name named = option_map_or (λ (n : Named). bytes_eq name n.name) named false
 
 abbrev pub is_deleted_in : List ℕ → RouteMap → Bool
 is_deleted_in name map = list_any (λ (entry : MapEntry). is_name name entry.delete) map.entries
@@ -112,10 +110,9 @@ mentions_in_list list = flat_map mentions_on list.lines
 
 -- the communities that a `set community` line names
 abbrev pub changed_by : Option Change → List ℕ
-changed_by None = []
-changed_by (Some Clear) = []
 changed_by (Some (Replace comms)) = comms
 changed_by (Some (Append comms)) = comms
+changed_by change = []
 
 abbrev pub mentions_in : MapEntry → List Mention
 mentions_in entry = map (mention_at entry.change_line) (changed_by entry.change)
@@ -133,9 +130,6 @@ mentions n = flat_map mentions_of n.routers
 abbrev pub community_of : Mention → ℕ
 community_of mention = mention.community
 
-abbrev pub line_of_mention : Mention → ℕ
-line_of_mention mention = mention.line
-
 -- the set of the communities that are mentioned
 abbrev pub communities_in : List Mention → List ℕ
 communities_in ms = with_numbers (map community_of ms) []
@@ -144,35 +138,25 @@ communities_in ms = with_numbers (map community_of ms) []
 unfoldable pub communities_of : Network → List ℕ
 communities_of n = communities_in (mentions n)
 
-abbrev pub mentions_before : List Mention → ℕ → List Mention
-mentions_before ms line = filter (λ (m : Mention). nat_lt m.line line) ms
-
-abbrev pub mentions_up_to : List Mention → ℕ → List Mention
-mentions_up_to ms line = filter (λ (m : Mention). nat_le m.line line) ms
+-- how many communities stand on the lines that pass the test
+abbrev pub count_on : (ℕ → Bool) → List Mention → ℕ
+count_on test ms = length (communities_in (filter (λ (m : Mention). test m.line) ms))
 
 -- at most `limit` communities stand before the line, and more up to it
 abbrev pub first_exceeds : ℕ → List Mention → ℕ → Bool
-first_exceeds limit ms line = nat_le (length (communities_in (mentions_before ms line))) limit
-    && nat_lt limit (length (communities_in (mentions_up_to ms line)))
-
-abbrev pub exceeding_mentions : ℕ → List Mention → List ℕ
-exceeding_mentions limit ms = filter (first_exceeds limit ms) (map line_of_mention ms)
+first_exceeds limit ms line = nat_le (count_on (λ l. nat_lt l line) ms) limit && nat_lt limit (count_on (λ l. nat_le l line) ms)
 
 unfoldable pub too_many_communities_lines : Network → List ℕ
-too_many_communities_lines n = exceeding_mentions 1024 (mentions n)
+too_many_communities_lines n = filter (first_exceeds 1024 (mentions n)) (map (λ (m : Mention). m.line) (mentions n))
 
 -- PrependForm: a `set as-path prepend` line with a number that is not the AS number of its router's
 -- BGP process
 
 abbrev pub foreign_prepend : Router → Option Prepend → List ℕ
-foreign_prepend router None = []
-foreign_prepend router (Some prepend) = if list_all (has_number router) prepend.numbers then [] else prepend.line ∷ []
-
-abbrev pub foreign_prepend_in : Router → MapEntry → List ℕ
-foreign_prepend_in router entry = foreign_prepend router entry.prepend
+foreign_prepend router prepend = option_map_or (λ (p : Prepend). if list_all (has_number router) p.numbers then [] else p.line ∷ []) prepend []
 
 abbrev pub foreign_prepends_in_map : Router → RouteMap → List ℕ
-foreign_prepends_in_map router map = flat_map (foreign_prepend_in router) map.entries
+foreign_prepends_in_map router map = flat_map (λ (entry : MapEntry). foreign_prepend router entry.prepend) map.entries
 
 abbrev pub foreign_prepends_of : Router → List ℕ
 foreign_prepends_of router = flat_map (foreign_prepends_in_map router) router.route_maps
@@ -188,11 +172,8 @@ prepends_in_map map = list_any (λ (entry : MapEntry). is_some entry.prepend) ma
 abbrev pub has_prepending_map : Router → List ℕ → Bool
 has_prepending_map router name = list_any (λ (map : RouteMap). prepends_in_map map && bytes_eq name map.name) router.route_maps
 
-abbrev pub map_in_naming : (List ℕ → Bool) → Neighbor → List ℕ
-map_in_naming test neighbor = line_naming test neighbor.map_in
-
 abbrev pub prepending_maps_in_of : Router → List ℕ
-prepending_maps_in_of router = flat_map (map_in_naming (has_prepending_map router)) (neighbors_of router)
+prepending_maps_in_of router = flat_map (λ (neighbor : Neighbor). line_naming (has_prepending_map router) neighbor.map_in) (neighbors_of router)
 
 unfoldable pub prepend_in_lines : Network → List ℕ
 prepend_in_lines n = flat_map prepending_maps_in_of n.routers

@@ -1,7 +1,7 @@
 -- What is wrong with the meaning of router lines: each definition lists the lines at which one kind of
 -- fault stands.
 use Rattle.std.specs.Prelude.{ℕ, ◌+◌, ◌-◌, ◌/◌, ◌^◌, min, Bool, true, false, not, ◌&&◌, List, [], ◌∷◌, ◌++◌, Option, Some, None, map, filter, filter_map, flat_map, nat_eq, nat_lt, bytes_eq, is_some, length, slice_get, codes, option_to_list, if◌then◌else◌}
-use Rattle.std.specs.Option.{option_map}
+use Rattle.std.specs.Option.{option_map, option_map_or}
 use Rattle.std.specs.List.{list_any}
 use Rattle.base_kit.specs.declared.protocol.Protocol.{Protocol}
 use Rattle.base_kit.specs.declared.protocol.Protocol.TheVariants as protocol
@@ -33,57 +33,32 @@ unlike_first alike (x ∷ xs) = filter (λ y. not (alike x y)) xs
 abbrev pub first_beyond : {X : Type 0} → ℕ → List X → List X
 first_beyond limit xs = option_to_list (slice_get xs limit)
 
-abbrev pub router_line : Router → ℕ
-router_line router = router.line
-
-abbrev pub process_line : BgpProcess → ℕ
-process_line process = process.line
-
-abbrev pub neighbor_line : Neighbor → ℕ
-neighbor_line neighbor = neighbor.line
-
 abbrev pub address_line : Address → ℕ
 address_line a = a.line
 
-abbrev pub area_line : AreaLine → ℕ
-area_line line = line.line
-
 -- SharedName: a `hostname` line that repeats an earlier router's name
 
-abbrev pub same_name : Router → Router → Bool
-same_name r q = bytes_eq r.name q.name
-
 unfoldable pub shared_name_lines : Network → List ℕ
-shared_name_lines n = map router_line (repeats same_name n.routers)
+shared_name_lines n = map (λ (r : Router). r.line) (repeats (λ (r q : Router). bytes_eq r.name q.name) n.routers)
 
 -- SharedAs: a `router bgp` line that repeats an earlier router's number
 
-abbrev pub bgp_of : Router → Option BgpProcess
-bgp_of router = router.bgp
-
 abbrev pub bgp_processes : Network → List BgpProcess
-bgp_processes n = filter_map bgp_of n.routers
-
-abbrev pub same_number : BgpProcess → BgpProcess → Bool
-same_number b c = nat_eq b.number c.number
+bgp_processes n = filter_map (λ (r : Router). r.bgp) n.routers
 
 unfoldable pub shared_as_lines : Network → List ℕ
-shared_as_lines n = map process_line (repeats same_number (bgp_processes n))
+shared_as_lines n = map (λ (b : BgpProcess). b.line) (repeats (λ (b c : BgpProcess). nat_eq b.number c.number) (bgp_processes n))
 
 -- InternalPeer: a `remote-as` line with the router's own number
 
 abbrev pub internal_peers : BgpProcess → List Neighbor
 internal_peers process = filter (λ (neighbor : Neighbor). nat_eq neighbor.remote process.number) process.neighbors
 
-abbrev pub internal_peers_in : Option BgpProcess → List Neighbor
-internal_peers_in None = []
-internal_peers_in (Some process) = internal_peers process
-
 abbrev pub internal_peers_of : Router → List Neighbor
-internal_peers_of router = internal_peers_in router.bgp
+internal_peers_of router = option_map_or internal_peers router.bgp []
 
 unfoldable pub internal_peer_lines : Network → List ℕ
-internal_peer_lines n = map neighbor_line (flat_map internal_peers_of n.routers)
+internal_peer_lines n = map (λ (neighbor : Neighbor). neighbor.line) (flat_map internal_peers_of n.routers)
 
 -- MixedProtocols: a `router` line of another protocol than the first `router` line
 
@@ -112,18 +87,14 @@ protocol_lines n = flat_map protocol_lines_of n.routers
 
 abbrev pub is_same_protocol : Protocol → Protocol → Bool
 is_same_protocol protocol.Bgp protocol.Bgp = true
-is_same_protocol protocol.Bgp protocol.Ospf = false
-is_same_protocol protocol.Ospf protocol.Bgp = false
 is_same_protocol protocol.Ospf protocol.Ospf = true
+is_same_protocol p q = false
 
 abbrev pub same_protocol : ProtocolLine → ProtocolLine → Bool
 same_protocol l m = is_same_protocol l.protocol m.protocol
 
-abbrev pub line_of_protocol : ProtocolLine → ℕ
-line_of_protocol l = l.line
-
 unfoldable pub mixed_protocol_lines : Network → List ℕ
-mixed_protocol_lines n = map line_of_protocol (unlike_first same_protocol (protocol_lines n))
+mixed_protocol_lines n = map (λ (l : ProtocolLine). l.line) (unlike_first same_protocol (protocol_lines n))
 
 -- the protocol of the first `router` line, if there is one
 abbrev pub protocol_of : Network → Option Protocol
@@ -131,21 +102,14 @@ protocol_of n = option_map (λ (l : ProtocolLine). l.protocol) (slice_get (proto
 
 -- OtherArea: an OSPF `network` line with another area than the first such line
 
-abbrev pub areas_in : Option OspfProcess → List AreaLine
-areas_in None = []
-areas_in (Some process) = process.areas
-
 abbrev pub areas_of : Router → List AreaLine
-areas_of router = areas_in router.ospf
+areas_of router = option_map_or (λ (process : OspfProcess). process.areas) router.ospf []
 
 abbrev pub area_lines : Network → List AreaLine
 area_lines n = flat_map areas_of n.routers
 
-abbrev pub same_area : AreaLine → AreaLine → Bool
-same_area l m = nat_eq l.area m.area
-
 unfoldable pub other_area_lines : Network → List ℕ
-other_area_lines n = map area_line (unlike_first same_area (area_lines n))
+other_area_lines n = map (λ (l : AreaLine). l.line) (unlike_first (λ (l m : AreaLine). nat_eq l.area m.area) (area_lines n))
 
 -- the area of the first OSPF `network` line, if there is one
 abbrev pub area_of : Network → Option ℕ
@@ -156,14 +120,8 @@ area_of n = option_map (λ (l : AreaLine). l.area) (slice_get (area_lines n) 0)
 abbrev pub up_addresses_of : Router → List Address
 up_addresses_of router = filter_map up_address router.interfaces
 
-abbrev pub up_addresses : Network → List Address
-up_addresses n = flat_map up_addresses_of n.routers
-
-abbrev pub same_address : Address → Address → Bool
-same_address a b = nat_eq a.addr b.addr
-
 unfoldable pub shared_address_lines : Network → List ℕ
-shared_address_lines n = map address_line (repeats same_address (up_addresses n))
+shared_address_lines n = map address_line (repeats (λ (a b : Address). nat_eq a.addr b.addr) (flat_map up_addresses_of n.routers))
 
 -- OverlappingInterfaces: an `ip address` line of an up interface whose subnet overlaps that of an
 -- earlier up interface of the same router
@@ -172,57 +130,42 @@ shared_address_lines n = map address_line (repeats same_address (up_addresses n)
 abbrev pub overlap : Address → Address → Bool
 overlap a b = nat_eq (a.addr / 2 ^ (32 - min a.len b.len)) (b.addr / 2 ^ (32 - min a.len b.len))
 
-abbrev pub overlapping_in : Router → List Address
-overlapping_in router = repeats overlap (up_addresses_of router)
-
 unfoldable pub overlapping_lines : Network → List ℕ
-overlapping_lines n = map address_line (flat_map overlapping_in n.routers)
+overlapping_lines n = map address_line (flat_map (λ router. repeats overlap (up_addresses_of router)) n.routers)
 
 -- LoopbackMask: the `ip address` line of an up loopback in the OSPF area whose mask is not /32
 
-abbrev pub has_host_mask : Option Address → Bool
-has_host_mask None = false
-has_host_mask (Some a) = nat_eq a.len 32
-
 abbrev pub is_wide_loopback : Interface → Bool
-is_wide_loopback x = bytes_eq (type_of x) (codes "Loopback") && not (has_host_mask x.address)
+is_wide_loopback x = bytes_eq (type_of x) (codes "Loopback") && not (option_map_or (λ (a : Address). nat_eq a.len 32) x.address false)
 
--- the address of an interface in the area that has a fault
-abbrev pub area_address_with : (Interface → Bool) → Router → Interface → Option Address
-area_address_with has_fault router x = if is_in_area_interface router x && has_fault x then up_address x else None
-
+-- the addresses of the interfaces in the area that have a fault
 abbrev pub area_addresses_with : (Interface → Bool) → Router → List Address
-area_addresses_with has_fault router = filter_map (area_address_with has_fault router) router.interfaces
+area_addresses_with has_fault router =
+    filter_map (λ x. if is_in_area_interface router x && has_fault x then up_address x else None) router.interfaces
 
 unfoldable pub loopback_mask_lines : Network → List ℕ
 loopback_mask_lines n = map address_line (flat_map (area_addresses_with is_wide_loopback) n.routers)
 
 -- NoCost: the `ip address` line of an up interface in the area that has no cost
 
-abbrev pub has_no_cost : Interface → Bool
-has_no_cost x = not (is_some (cost_of_interface x))
-
 unfoldable pub no_cost_lines : Network → List ℕ
-no_cost_lines n = map address_line (flat_map (area_addresses_with has_no_cost) n.routers)
+no_cost_lines n = map address_line (flat_map (area_addresses_with (λ x. not (is_some (cost_of_interface x)))) n.routers)
 
 -- TooManyRouters: the `hostname` line of the 4,097th router
 
 unfoldable pub too_many_routers_lines : Network → List ℕ
-too_many_routers_lines n = map router_line (first_beyond 4096 n.routers)
+too_many_routers_lines n = map (λ (r : Router). r.line) (first_beyond 4096 n.routers)
 
 -- TooManyNeighbors: the 131,073rd `remote-as` line
 
 unfoldable pub too_many_neighbors_lines : Network → List ℕ
-too_many_neighbors_lines n = map neighbor_line (first_beyond 131072 (flat_map neighbors_of n.routers))
+too_many_neighbors_lines n = map (λ (neighbor : Neighbor). neighbor.line) (first_beyond 131072 (flat_map neighbors_of n.routers))
 
 -- TooManyLinks: the `ip address` line at which the number of OSPF adjacent pairs, counted in the order
 -- of the lines, first exceeds 1,048,576
 
-abbrev pub active_address_on : Router → Interface → Option Address
-active_address_on router x = if is_active_interface router x then up_address x else None
-
 abbrev pub active_addresses_of : Router → List Address
-active_addresses_of router = filter_map (active_address_on router) router.interfaces
+active_addresses_of router = filter_map (λ x. if is_active_interface router x then up_address x else None) router.interfaces
 
 -- an `ip address` line, and the number of pairs that it adds
 pub record Added : Type 0 where

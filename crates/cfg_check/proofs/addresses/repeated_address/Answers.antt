@@ -2,7 +2,8 @@ use Rattle.std.proofs.Common.{◌≡◌, true, not, take, ap, ◌∙◌, nat_eq}
 use Rattle.std.proofs.Math.Bool.{not-not}
 use Rattle.std.specs.List.{list_any}
 use Rattle.cfg_ast.specs.meaning.Addresses.{Address}
-use Rattle.cfg_ast.specs.meaning.RouterFaults.{address_line, same_address}
+use Rattle.cfg_ast.specs.meaning.RouterFaults.{address_line}
+use Rattle.cfg_check.specs.Items.{same_address}
 use Rattle.cfg_check.proofs.Repeats.{least_repeat_turn}
 use Rattle.cfg_check.proofs.Seen.{number_turn}
 use Rattle.std.proofs.Common.{subst}

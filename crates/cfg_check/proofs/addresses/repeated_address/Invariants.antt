@@ -1,5 +1,6 @@
 use Rattle.std.proofs.Common.{◌≡◌, take, map, ℕ, nat_eq}
-use Rattle.cfg_ast.specs.meaning.RouterFaults.{address_line, repeats, same_address}
+use Rattle.cfg_ast.specs.meaning.RouterFaults.{address_line, repeats}
+use Rattle.cfg_check.specs.Items.{same_address}
 use Rattle.cfg_check.specs.LeastLine.{least_line}
 use Rattle.cfg_ast.specs.meaning.Addresses.{Address}
 use Rattle.std.specs.List.{list_any}

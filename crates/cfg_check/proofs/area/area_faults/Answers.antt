@@ -1,5 +1,6 @@
 use Rattle.std.proofs.Common.{◌∙◌}
-use Rattle.cfg_ast.specs.meaning.RouterFaults.{address_line, is_wide_loopback, has_no_cost, area_addresses_with}
+use Rattle.cfg_ast.specs.meaning.RouterFaults.{address_line, is_wide_loopback, area_addresses_with}
+use Rattle.cfg_check.specs.Items.{has_no_cost}
 use Rattle.cfg_check.proofs.Turns.{flat_step}
 use Rattle.cfg_check.proofs.area.area_faults.Goals as goal
 

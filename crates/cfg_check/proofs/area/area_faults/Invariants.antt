@@ -1,5 +1,6 @@
 use Rattle.std.proofs.Common.{◌≡◌, take, map, flat_map}
-use Rattle.cfg_ast.specs.meaning.RouterFaults.{address_line, is_wide_loopback, has_no_cost, area_addresses_with}
+use Rattle.cfg_ast.specs.meaning.RouterFaults.{address_line, is_wide_loopback, area_addresses_with}
+use Rattle.cfg_check.specs.Items.{has_no_cost}
 use Rattle.cfg_check.specs.LeastLine.{least_line}
 use Rattle.cfg_check.proofs.area.area_faults.Given as goal
 

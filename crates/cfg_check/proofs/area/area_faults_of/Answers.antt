@@ -1,7 +1,8 @@
 use Rattle.std.proofs.Common.{◌≡◌, Bool, List, map, filter_map, ap, ◌∙◌}
 use Rattle.cfg_ast.specs.declared.interface.Interface.{Interface}
 use Rattle.cfg_ast.specs.declared.network.Router.{Router}
-use Rattle.cfg_ast.specs.meaning.RouterFaults.{address_line, is_wide_loopback, has_no_cost, area_address_with, area_addresses_with}
+use Rattle.cfg_ast.specs.meaning.RouterFaults.{address_line, is_wide_loopback, area_addresses_with}
+use Rattle.cfg_check.specs.Items.{has_no_cost, area_address_with}
 use Rattle.cfg_check.specs.LeastLine.{least_line}
 use Rattle.cfg_check.proofs.area.area_faults_of.Goals as goal
 

@@ -1,5 +1,6 @@
 use Rattle.std.proofs.Common.{◌≡◌, take, map, filter_map}
-use Rattle.cfg_ast.specs.meaning.RouterFaults.{address_line, has_no_cost, area_address_with}
+use Rattle.cfg_ast.specs.meaning.RouterFaults.{address_line}
+use Rattle.cfg_check.specs.Items.{has_no_cost, area_address_with}
 use Rattle.cfg_check.specs.LeastLine.{least_line}
 use Rattle.cfg_check.proofs.area.no_cost_in.Given as goal
 

@@ -5,8 +5,10 @@ use Rattle.cfg_ast.specs.declared.refusal.Kind.TheVariants as kind
 use Rattle.cfg_ast.specs.declared.refusal.Fault.{Fault}
 use Rattle.cfg_ast.specs.meaning.Topology.{neighbors_of}
 use Rattle.cfg_ast.specs.meaning.Meaning.{meaning_faults, faults_at}
-use Rattle.cfg_ast.specs.meaning.PolicyFaults.{undefined_map_lines, undefined_list_lines, delete_list_lines, too_many_communities_lines, prepend_form_lines, prepend_in_lines, undefined_maps_of, undefined_lists_of, wide_deletions_of, exceeding_mentions, foreign_prepends_of, prepending_maps_in_of}
-use Rattle.cfg_ast.specs.meaning.RouterFaults.{shared_name_lines, shared_as_lines, internal_peer_lines, mixed_protocol_lines, other_area_lines, shared_address_lines, overlapping_lines, loopback_mask_lines, no_cost_lines, too_many_routers_lines, too_many_neighbors_lines, too_many_links_lines, router_line, process_line, neighbor_line, address_line, area_line, line_of_protocol, repeats, unlike_first, first_beyond, same_name, bgp_of, same_number, internal_peers_of, same_protocol, protocol_lines_of, same_area, areas_of, same_address, up_addresses_of, overlapping_in, area_addresses_with, is_wide_loopback, has_no_cost, exceeding, added_after}
+use Rattle.cfg_ast.specs.meaning.PolicyFaults.{undefined_map_lines, undefined_list_lines, delete_list_lines, too_many_communities_lines, prepend_form_lines, prepend_in_lines, undefined_maps_of, undefined_lists_of, wide_deletions_of, foreign_prepends_of, prepending_maps_in_of}
+use Rattle.cfg_check.specs.Communities.{exceeding_mentions}
+use Rattle.cfg_ast.specs.meaning.RouterFaults.{shared_name_lines, shared_as_lines, internal_peer_lines, mixed_protocol_lines, other_area_lines, shared_address_lines, overlapping_lines, loopback_mask_lines, no_cost_lines, too_many_routers_lines, too_many_neighbors_lines, too_many_links_lines, address_line, repeats, unlike_first, first_beyond, internal_peers_of, same_protocol, protocol_lines_of, areas_of, up_addresses_of, area_addresses_with, is_wide_loopback, exceeding, added_after}
+use Rattle.cfg_check.specs.Items.{router_line, process_line, neighbor_line, area_line, line_of_protocol, same_name, bgp_of, same_number, same_area, same_address, overlapping_in, has_no_cost}
 use Rattle.cfg_check.specs.LeastLine.{least_line}
 use Rattle.cfg_check.proofs.LeastFault.{kind_step}
 use Rattle.cfg_check.proofs.check.least_fault.Goals as goal

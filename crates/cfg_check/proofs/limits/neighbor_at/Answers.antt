@@ -5,7 +5,7 @@ use Rattle.cfg_ast.specs.meaning.Topology.{neighbors_of}
 use Rattle.std.proofs.Common.{subst, ◌+◌, ◌-◌, ◌≤◌}
 use Rattle.std.proofs.lemmas.Option.{slice_get-get_or}
 use Rattle.cfg_ast.specs.declared.bgp.Neighbor.{Neighbor}
-use Rattle.cfg_ast.specs.meaning.RouterFaults.{neighbor_line}
+use Rattle.cfg_check.specs.Items.{neighbor_line}
 use Rattle.cfg_check.proofs.Counted.{get_behind, get_within}
 use Rattle.cfg_check.proofs.limits.neighbor_at.Goals as goal
 

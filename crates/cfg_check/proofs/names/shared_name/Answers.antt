@@ -4,7 +4,7 @@ use Rattle.std.specs.List.{list_any}
 use Rattle.std.specs.HashSet.{contains_by}
 use Rattle.std.proofs.Math.Bool.{not-not}
 use Rattle.cfg_ast.specs.declared.network.Router.{Router}
-use Rattle.cfg_ast.specs.meaning.RouterFaults.{router_line, same_name}
+use Rattle.cfg_check.specs.Items.{router_line, same_name}
 use Rattle.cfg_check.proofs.Repeats.{least_repeat_turn}
 use Rattle.cfg_check.proofs.Seen.{text_turn}
 use Rattle.cfg_check.proofs.names.shared_name.Goals as goal

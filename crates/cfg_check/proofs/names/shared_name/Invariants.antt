@@ -3,7 +3,8 @@ use Rattle.std.specs.Prelude.{bytes_eq}
 use Rattle.std.specs.List.{list_any}
 use Rattle.std.specs.HashSet as bag
 use Rattle.cfg_ast.specs.declared.network.Router.{Router}
-use Rattle.cfg_ast.specs.meaning.RouterFaults.{router_line, repeats, same_name}
+use Rattle.cfg_ast.specs.meaning.RouterFaults.{repeats}
+use Rattle.cfg_check.specs.Items.{router_line, same_name}
 use Rattle.cfg_check.specs.LeastLine.{least_line}
 use Rattle.cfg_check.proofs.names.shared_name.Given as goal
 

@@ -1,5 +1,6 @@
 use Rattle.std.proofs.Common.{◌∙◌}
-use Rattle.cfg_ast.specs.meaning.RouterFaults.{address_line, overlapping_in}
+use Rattle.cfg_ast.specs.meaning.RouterFaults.{address_line}
+use Rattle.cfg_check.specs.Items.{overlapping_in}
 use Rattle.cfg_check.proofs.Turns.{flat_step}
 use Rattle.cfg_check.proofs.overlaps.overlapping_interfaces.Goals as goal
 

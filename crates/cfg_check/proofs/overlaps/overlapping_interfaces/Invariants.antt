@@ -1,5 +1,6 @@
 use Rattle.std.proofs.Common.{◌≡◌, take, map, flat_map}
-use Rattle.cfg_ast.specs.meaning.RouterFaults.{address_line, overlapping_in}
+use Rattle.cfg_ast.specs.meaning.RouterFaults.{address_line}
+use Rattle.cfg_check.specs.Items.{overlapping_in}
 use Rattle.cfg_check.specs.LeastLine.{least_line}
 use Rattle.cfg_check.proofs.overlaps.overlapping_interfaces.Given as goal
 

@@ -1,7 +1,7 @@
 use Rattle.std.proofs.Common.{List, filter_map, ap, ◌∙◌}
 use Rattle.cfg_ast.specs.declared.interface.Interface.{Interface}
 use Rattle.cfg_ast.specs.declared.network.Router.{Router}
-use Rattle.cfg_ast.specs.meaning.RouterFaults.{active_address_on}
+use Rattle.cfg_check.specs.Items.{active_address_on}
 use Rattle.cfg_check.proofs.pairs.active_addresses.Goals as goal
 
 pub returns : goal.returns

@@ -1,4 +1,4 @@
-use Rattle.cfg_ast.specs.meaning.RouterFaults.{active_address_on}
+use Rattle.cfg_check.specs.Items.{active_address_on}
 use Rattle.cfg_check.proofs.Turns.{picked_more}
 use Rattle.cfg_check.proofs.pairs.active_addresses_in.Goals as goal
 

@@ -1,5 +1,5 @@
 use Rattle.std.proofs.Common.{◌≡◌, take, filter_map}
-use Rattle.cfg_ast.specs.meaning.RouterFaults.{active_address_on}
+use Rattle.cfg_check.specs.Items.{active_address_on}
 use Rattle.cfg_check.proofs.pairs.active_addresses_in.Given as goal
 
 abbrev pub invariant-loop-interface : goal.invariant-loop-interface

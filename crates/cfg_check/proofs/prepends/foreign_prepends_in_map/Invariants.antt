@@ -1,5 +1,5 @@
 use Rattle.std.proofs.Common.{◌≡◌, take, flat_map}
-use Rattle.cfg_ast.specs.meaning.PolicyFaults.{foreign_prepend_in}
+use Rattle.cfg_check.specs.Items.{foreign_prepend_in}
 use Rattle.cfg_check.specs.LeastLine.{least_line}
 use Rattle.cfg_check.proofs.prepends.foreign_prepends_in_map.Given as goal
 

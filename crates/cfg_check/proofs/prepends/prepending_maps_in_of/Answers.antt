@@ -3,7 +3,8 @@ use Rattle.std.specs.Prelude.{bytes_eq}
 use Rattle.std.specs.List.{list_any}
 use Rattle.cfg_ast.specs.declared.bgp.Neighbor.{Neighbor}
 use Rattle.cfg_ast.specs.declared.policy.RouteMap.{RouteMap}
-use Rattle.cfg_ast.specs.meaning.PolicyFaults.{prepends_in_map, has_prepending_map, map_in_naming}
+use Rattle.cfg_ast.specs.meaning.PolicyFaults.{prepends_in_map, has_prepending_map}
+use Rattle.cfg_check.specs.Items.{map_in_naming}
 use Rattle.cfg_check.specs.LeastLine.{least_line}
 use Rattle.cfg_check.specs.NameSets.{has_name}
 use Rattle.cfg_check.proofs.NameTurns.{has_is}

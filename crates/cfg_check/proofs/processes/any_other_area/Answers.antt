@@ -1,6 +1,7 @@
 use Rattle.std.proofs.Common.{List, map, filter, ap, ◌∙◌}
 use Rattle.cfg_ast.specs.declared.ospf.AreaLine.{AreaLine}
-use Rattle.cfg_ast.specs.meaning.RouterFaults.{area_line, areas_of}
+use Rattle.cfg_ast.specs.meaning.RouterFaults.{areas_of}
+use Rattle.cfg_check.specs.Items.{area_line}
 use Rattle.cfg_check.specs.LeastLine.{least_line}
 use Rattle.cfg_check.specs.Processes.{has_other_area}
 use Rattle.cfg_check.proofs.Turns.{filter_flat_step}

@@ -1,5 +1,6 @@
 use Rattle.std.proofs.Common.{◌≡◌, take, map, flat_map}
-use Rattle.cfg_ast.specs.meaning.RouterFaults.{neighbor_line, internal_peers_of}
+use Rattle.cfg_ast.specs.meaning.RouterFaults.{internal_peers_of}
+use Rattle.cfg_check.specs.Items.{neighbor_line}
 use Rattle.cfg_check.specs.LeastLine.{least_line}
 use Rattle.cfg_check.proofs.processes.internal_peer.Given as goal
 

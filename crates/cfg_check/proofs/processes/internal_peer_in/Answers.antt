@@ -1,6 +1,6 @@
 use Rattle.std.proofs.Common.{refl, ◌∙◌, nat_eq}
 use Rattle.cfg_ast.specs.declared.bgp.Neighbor.{Neighbor}
-use Rattle.cfg_ast.specs.meaning.RouterFaults.{neighbor_line}
+use Rattle.cfg_check.specs.Items.{neighbor_line}
 use Rattle.cfg_check.proofs.Turns.{filter_step}
 use Rattle.cfg_check.proofs.processes.internal_peer_in.Goals as goal
 

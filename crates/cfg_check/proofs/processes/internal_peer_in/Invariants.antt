@@ -1,5 +1,5 @@
 use Rattle.std.proofs.Common.{◌≡◌, take, map, filter, nat_eq}
-use Rattle.cfg_ast.specs.meaning.RouterFaults.{neighbor_line}
+use Rattle.cfg_check.specs.Items.{neighbor_line}
 use Rattle.cfg_check.specs.LeastLine.{least_line}
 use Rattle.cfg_ast.specs.declared.bgp.Neighbor.{Neighbor}
 use Rattle.cfg_check.proofs.processes.internal_peer_in.Given as goal

@@ -1,6 +1,6 @@
 use Rattle.std.proofs.Common.{not, get_or, ap, ◌∙◌}
 use Rattle.cfg_ast.specs.declared.ospf.AreaLine.{AreaLine}
-use Rattle.cfg_ast.specs.meaning.RouterFaults.{area_line}
+use Rattle.cfg_check.specs.Items.{area_line}
 use Rattle.cfg_check.specs.Processes.{has_other_area}
 use Rattle.cfg_check.proofs.Turns.{filter_step}
 use Rattle.std.proofs.lemmas.List.{get_or_default}

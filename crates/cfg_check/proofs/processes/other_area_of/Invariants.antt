@@ -1,5 +1,5 @@
 use Rattle.std.proofs.Common.{◌≡◌, take, map, filter}
-use Rattle.cfg_ast.specs.meaning.RouterFaults.{area_line}
+use Rattle.cfg_check.specs.Items.{area_line}
 use Rattle.cfg_check.specs.LeastLine.{least_line}
 use Rattle.cfg_check.specs.Processes.{has_other_area}
 use Rattle.cfg_check.proofs.processes.other_area_of.Given as goal

@@ -1,5 +1,6 @@
 use Rattle.std.proofs.Common.{◌∙◌}
-use Rattle.cfg_ast.specs.meaning.RouterFaults.{line_of_protocol, protocol_lines_of}
+use Rattle.cfg_ast.specs.meaning.RouterFaults.{protocol_lines_of}
+use Rattle.cfg_check.specs.Items.{line_of_protocol}
 use Rattle.cfg_check.specs.Processes.{has_other_protocol}
 use Rattle.cfg_check.proofs.Turns.{filter_flat_step}
 use Rattle.cfg_check.proofs.processes.other_protocol.Goals as goal
