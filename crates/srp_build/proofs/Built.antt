@@ -15,9 +15,8 @@ use Rattle.cfg_ast.specs.meaning.Topology.{links_of}
 use Rattle.srp_core.specs.declared.route.Route.{Route}
 use Rattle.srp_core.specs.declared.route.Act.{Act}
 use Rattle.srp_core.specs.declared.route.Act.TheVariants.{Cost}
-use Rattle.srp_core.specs.Routes.{path_of, comms_of, IsRouteOf}
 use Rattle.srp_core.specs.Acts.{import_by, ActsAlike, KeepsSets, IsActOf}
-use Rattle.srp_core.specs.Problem.{Problem, count, initial, is_lone, act_of, IsEdgeOf, IsProblem}
+use Rattle.srp_core.specs.Problem.{Problem, count, is_lone, act_of, IsEdgeOf, IsProblem}
 use Rattle.srp_core.specs.ProblemOf.{as_number_of, start_route, Direction, IsDirection, MeansLink, StandsFor, IsProblemOf}
 use Rattle.srp_build.specs.declared.hops.Hop.{Hop}
 use Rattle.srp_build.specs.ActOrder.{AreByFirstUse}
@@ -31,7 +30,7 @@ use Rattle.srp_build.proofs.FirstUse.{within_get}
 use Rattle.srp_build.proofs.HopEdges.{hop_edge, few_edges}
 use Rattle.srp_build.proofs.LinkEnds.{link_ends}
 use Rattle.srp_build.proofs.LinkPlaces.{direction_of, hop_for, is_direction, sorted_of, sorted_hop, sorted_direction}
-use Rattle.srp_build.proofs.OspfRoutes.{IsCostRoute, start_is_cost, start_at, none_marked, priced_cost}
+use Rattle.srp_build.proofs.OspfRoutes.{has_starts, none_marked, priced_cost}
 use Rattle.srp_build.proofs.SortedEdges.{from, importer_in, exporter_in, ends_differ, ordered, one_of_link}
 use Rattle.srp_build.proofs.SortedHops.{IsHopOf}
 
@@ -128,11 +127,6 @@ module _ (n : Network) (p : Prefix) (init : List (Option Route)) (costs : List �
       parts.distinct.one_place i j (slice_index_or costs i 0) (cost_there costs i (omega arith))
       (cost_there costs j (omega arith) ∙ ap (λ (c : ℕ). Some c) (sym both))
 
-  start_cost : (u : ℕ) (r : Route) → initial made u ≡ Some r → IsCostRoute r
-  start_cost u r h =
-      let s = start_at p n.routers u r (sym (ap (λ (l : List (Option Route)). slice_index_or l u None) parts.starts) ∙ h) in
-      start_is_cost n parts.ospf s.router s.router_in p r s.is
-
   never_lone : (u : ℕ) → is_lone made u ≡ true → ⊥
   never_lone u h = true≢false (sym h ∙ none_marked n.routers u)
 
@@ -155,12 +149,7 @@ module _ (n : Network) (p : Prefix) (init : List (Option Route)) (costs : List �
       one_of_link = one_of_link n HasCost never_left same_ends edges parts.numbers.each;
     };
     acts = record { fit = all_from (IsActOf OverOspf) (map Cost costs) act_fits; keep = costs_keep costs; differ = acts_differ };
-    starts = record {
-      routes = λ u r h. subst (λ (x : Route). IsRouteOf OverOspf x) (sym (start_cost u r h).is) tt;
-      paths = λ u r h. ap path_of (start_cost u r h).is;
-      bare = λ u r h. ap comms_of (start_cost u r h).is;
-      unoriginated = λ e edge has. absurd cc;
-    };
+    starts = has_starts n parts.ospf p made refl parts.starts;
     numbers = λ e. absurd cc;
     marks = record {
       only = λ u a h. absurd (never_lone u h);

@@ -35,6 +35,7 @@ mod OspfExists
 mod OspfRoutes
 mod OwnNumbers
 mod ProblemExists
+mod Restarted
 mod Samples
 mod SortedEdges
 mod SortedHops

@@ -1,7 +1,9 @@
 -- Initial routes of OSPF routers, costs of interfaces, and lists of marks.
-use Rattle.std.proofs.Common.{◌≡◌, ℕ, zero, suc, Bool, true, false, cond, ◌&&◌, List, [], ◌∷◌, map, Option, Some, None, refl, sym, ◌∙◌, ap, inl, inr}
+use Rattle.std.proofs.Common.{◌≡◌, ℕ, zero, suc, Bool, true, false, cond, ◌&&◌, List, [], ◌∷◌, map, Option, Some, None, refl, sym, ◌∙◌, ap, subst, inl, inr}
 use Rattle.std.specs.Prelude.{find, slice_index_or, option_and_then}
 use Rattle.std.specs.Option.{option_map, unwrap_or}
+use Rattle.base_kit.specs.declared.protocol.Protocol.{Protocol}
+use Rattle.base_kit.specs.declared.protocol.Protocol.TheVariants.{Bgp as OverBgp, Ospf as OverOspf}
 use Rattle.base_kit.specs.Prefixes.{Prefix}
 use Rattle.base_kit.proofs.Elements.{In, contains_in}
 use Rattle.cfg_ast.specs.declared.bgp.BgpProcess.{BgpProcess}
@@ -12,7 +14,9 @@ use Rattle.cfg_ast.specs.meaning.Classes.{area_interface_in, is_up_in, route_by_
 use Rattle.cfg_ast.specs.meaning.Topology.{is_in_area_interface, cost_of_interface, cost_of}
 use Rattle.srp_core.specs.declared.route.Route.{Route}
 use Rattle.srp_core.specs.declared.route.Route.TheVariants.{Ospf}
+use Rattle.srp_core.specs.Problem.{Problem, initial, HasStarts}
 use Rattle.srp_core.specs.ProblemOf.{route_from, start_route}
+use Rattle.srp_core.specs.Routes.{path_of, comms_of, IsRouteOf}
 use Rattle.srp_build.specs.Costs.{cost_at}
 use Rattle.srp_build.specs.Ospf.{IsOspf, IsPriced}
 use Rattle.srp_build.specs.Starts.{none_lone}
@@ -31,7 +35,7 @@ and_first true b h = refl
 and_first false b h = absurd cc
 
 -- a route that is the cost of an interface
-pub record IsCostRoute (route : Route) : Type 0 where
+record IsCostRoute (route : Route) : Type 0 where
   pub cost : ℕ
   pub is : route ≡ Ospf cost
 
@@ -49,7 +53,7 @@ start_of n ospf router at p route (Some x) e h =
     route_of_cost router (cost_of_interface x) has.cost route has.is (let same : route_from router (cost_of_interface x) ≡ route = cc in same)
 
 -- an initial route of an OSPF network is a cost
-pub start_is_cost : (n : Network) → IsOspf n → (router : Router) → In n.routers router → (p : Prefix) (route : Route) → start_route p router ≡ Some route →
+start_is_cost : (n : Network) → IsOspf n → (router : Router) → In n.routers router → (p : Prefix) (route : Route) → start_route p router ≡ Some route →
     IsCostRoute route
 start_is_cost n ospf router at p route h =
     let none = ospf.unmixed router (contains_in n.routers router at) in
@@ -58,16 +62,30 @@ start_is_cost n ospf router at p route h =
     start_of n ospf router at p route (area_interface_in router p) refl (sym plain ∙ h)
 
 -- an initial route stands at a router that has it
-pub record IsStartOf (p : Prefix) (routers : List Router) (route : Route) : Type 0 where
+record IsStartOf (p : Prefix) (routers : List Router) (route : Route) : Type 0 where
   pub router : Router
   pub router_in : In routers router
   pub is : start_route p router ≡ Some route
 
-pub start_at : (p : Prefix) (routers : List Router) (u : ℕ) (route : Route) → slice_index_or (map (start_route p) routers) u None ≡ Some route →
+start_at : (p : Prefix) (routers : List Router) (u : ℕ) (route : Route) → slice_index_or (map (start_route p) routers) u None ≡ Some route →
     IsStartOf p routers route
 start_at p [] u route h = absurd cc
 start_at p (router ∷ routers) zero route h = record { router = router; router_in = inl refl; is = h }
 start_at p (router ∷ routers) (suc u) route h = let r = start_at p routers u route h in record { router = r.router; router_in = inr r.router_in; is = r.is }
+
+-- the initial routes of an OSPF problem are costs
+pub has_starts : (n : Network) → IsOspf n → (p : Prefix) (problem : Problem) → problem.protocol ≡ OverOspf → problem.init ≡ map (start_route p) n.routers →
+    HasStarts problem
+has_starts n ospf p problem over starts = record {
+  routes = λ u r h. subst (λ (q : Protocol). IsRouteOf q r) (sym over) (subst (λ (x : Route). IsRouteOf OverOspf x) (sym (start_cost u r h).is) tt);
+  paths = λ u r h. ap path_of (start_cost u r h).is;
+  bare = λ u r h. ap comms_of (start_cost u r h).is;
+  unoriginated = λ e edge has. (let both : OverOspf ≡ OverBgp = sym over ∙ e in absurd cc);
+} where
+  start_cost : (u : ℕ) (r : Route) → initial problem u ≡ Some r → IsCostRoute r
+  start_cost u r h =
+      let s = start_at p n.routers u r (sym (ap (λ (l : List (Option Route)). slice_index_or l u None) starts) ∙ h) in
+      start_is_cost n ospf s.router s.router_in p r s.is
 
 pub none_marked : (routers : List Router) (u : ℕ) → slice_index_or (none_lone routers) u false ≡ false
 none_marked [] u = refl

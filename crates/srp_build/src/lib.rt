@@ -7,7 +7,8 @@
 //! first edges that have them. The problem serves every prefix of its class, since the prefixes of a
 //! class are originated alike and every prefix list answers them alike. To build the problems of several
 //! classes, call `directions_of` once for what does not depend on a class, and then `build_over` for
-//! each class.
+//! each class. The classes of an OSPF network differ in what routers originate, and in nothing else that
+//! a problem has: `restart` makes the problem of one class that of another.
 #![tactic(auto)]
 
 mod acts;
@@ -33,4 +34,4 @@ mod session_hops;
 mod sums;
 
 pub use directions::{Directions, directions_of};
-pub use problem::{build, build_over};
+pub use problem::{build, build_over, restart};

@@ -1,15 +1,18 @@
 //! The problem of a class.
 
-ghost use Rattle.std.specs.Prelude.{◌≡◌, ◌<◌, ◌^◌, Some, IfOk, Contains, length};
+ghost use Rattle.std.specs.Prelude.{◌≡◌, ◌<◌, ◌^◌, Some, IfOk, OnOk, OnErr, Contains, length};
 ghost use Rattle.base_kit.specs.Prefixes.{Prefix};
 ghost use Rattle.base_kit.specs.declared.protocol.Protocol.TheVariants as protocol;
+ghost use Rattle.cfg_ast.specs.declared.classes.DestClass.{DestClass};
 ghost use Rattle.cfg_ast.specs.meaning.Classes.{classes_of};
 ghost use Rattle.cfg_ast.specs.meaning.PolicyFaults.{communities_of};
 ghost use Rattle.cfg_ast.specs.meaning.Topology.{links_of};
 ghost use Rattle.dd_core.specs.Sets.{Grows};
 ghost use Rattle.route_maps.specs.Within.{AreWithin};
+ghost use Rattle.srp_core.specs.Problem.{with_init};
 ghost use Rattle.srp_core.specs.ProblemOf.{IsProblemOf};
 ghost use Rattle.srp_build.specs.ActOrder.{AreActsByFirstUse};
+ghost use Rattle.srp_build.specs.Built.{IsBuiltFor};
 ghost use Rattle.srp_build.specs.Directions.{AreOfAdjacencies, AreDirectionsOf};
 ghost use Rattle.srp_build.specs.FirstActs.{HasFirstActs};
 ghost use Rattle.srp_build.specs.Ospf.{IsOspf};
@@ -132,4 +135,25 @@ pub fn build(
             problem_of_adjacencies(alloc, net, &costs, edges, class)
         }
     }
+}
+
+/// The problem of another class of an OSPF network: its routers originate otherwise, and all else is as
+/// it was. After an error the problem is as it was.
+pub fn restart(
+    alloc: Global,
+    net: &Checked,
+    class: &DestClass,
+    problem: &mut Srp,
+) -> Result<(), NoMemory>
+    requires ospf { problem.old.protocol ≡ protocol.Ospf }
+    requires built { (other : DestClass) × Contains (classes_of net.now.network) other × IsBuiltFor net.now.network other problem.old }
+    requires class { Contains (classes_of net.now.network) class.now }
+    ensures built { OnOk result (IsBuiltFor net.now.network class.now problem.new) }
+    ensures kept { problem.new ≡ with_init problem.old problem.new.init }
+    ensures err { OnErr result (problem.new ≡ problem.old) }
+{
+    let routers = net.network().routers.as_slice();
+    let init = starts_of(alloc, routers, class.origins.as_slice())?;
+    problem.restart(init);
+    Ok(())
 }

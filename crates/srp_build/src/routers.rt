@@ -15,7 +15,7 @@ use std::alloc::Global;
 pub fn names_of(alloc: Global, routers: &[Router]) -> Result<List<Text>, NoMemory>
     ensures { IfOk result (λ names. names ≡ map (λ (router : Router). router.name) routers.now) }
 {
-    let mut names = List::new(alloc);
+    let mut names = List::from_vec(Vec::with_capacity(alloc, routers.len())?);
     for router in routers {
         names.push(Text::copy_of(alloc, router.name.as_str())?)?;
     }
@@ -35,7 +35,7 @@ fn as_number_of(router: &Router) -> u32
 pub fn numbers_of(alloc: Global, routers: &[Router]) -> Result<List<u32>, NoMemory>
     ensures { IfOk result (λ numbers. numbers ≡ map as_number_of routers.now) }
 {
-    let mut numbers = List::new(alloc);
+    let mut numbers = List::from_vec(Vec::with_capacity(alloc, routers.len())?);
     for router in routers {
         numbers.push(as_number_of(router))?;
     }
@@ -46,7 +46,7 @@ pub fn numbers_of(alloc: Global, routers: &[Router]) -> Result<List<u32>, NoMemo
 pub fn none_lone(alloc: Global, routers: &[Router]) -> Result<List<bool>, NoMemory>
     ensures { IfOk result (λ lone. lone ≡ none_lone routers.now) }
 {
-    let mut lone = List::new(alloc);
+    let mut lone = List::from_vec(Vec::with_capacity(alloc, routers.len())?);
     for _router in routers {
         lone.push(false)?;
     }
@@ -116,7 +116,7 @@ pub fn starts_of(
     requires { length routers.now < 2 ^ 32 }
     ensures { IfOk result (λ starts. starts ≡ starts_from 0 origins.now routers.now) }
 {
-    let mut starts = List::new(alloc);
+    let mut starts = List::from_vec(Vec::with_capacity(alloc, routers.len())?);
     let mut later = origins;
     for place in 0..routers.len() {
         let cost = first_at(place as u32, later);

@@ -23,6 +23,18 @@ pub record Problem : Type 0 where
   pub acts : List Act
   pub edges : List Edge
 
+-- the problem with these initial routes in place of its own
+abbrev pub with_init : Problem → List (Option Route) → Problem
+with_init problem init = record {
+  protocol = problem.protocol;
+  names = problem.names;
+  numbers = problem.numbers;
+  init = init;
+  lone = problem.lone;
+  acts = problem.acts;
+  edges = problem.edges;
+}
+
 -- how many routers there are
 abbrev pub count : Problem → ℕ
 count problem = length problem.numbers

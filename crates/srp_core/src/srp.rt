@@ -2,7 +2,7 @@
 
 ghost use Rattle.std.specs.Prelude.{◌≡◌, All};
 ghost use Rattle.srp_core.specs.Acts.{KeepsSets};
-ghost use Rattle.srp_core.specs.Problem.{IsProblem, count};
+ghost use Rattle.srp_core.specs.Problem.{IsProblem, count, with_init};
 
 use crate::route::{Act, Route};
 use base_kit::{Edge, List, Protocol, Text};
@@ -63,6 +63,14 @@ impl Srp {
             edges,
             alloc,
         }
+    }
+
+    /// Puts these initial routes in place of the problem's own. All else is as it was.
+    pub fn restart(&mut self, init: List<Option<Route>>)
+        requires { IsProblem self.old → IsProblem (with_init self.old init) }
+        ensures { self.new ≡ with_init self.old init }
+    {
+        self.init = init;
     }
 
     /// Where the problem's parts lie.
