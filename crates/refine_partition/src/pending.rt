@@ -50,8 +50,8 @@ fn wait(
 fn all_waiting(alloc: Global, count: u32) -> Result<(VecDeque<u32>, Vec<bool>), NoMemory>
     ensures { IfOk result (λ r. AreAllWaiting count r.0.items r.1.items) }
 {
-    let mut queue = VecDeque::new(alloc);
-    let mut waits = Vec::new(alloc);
+    let mut queue = VecDeque::with_capacity(alloc, count as usize)?;
+    let mut waits = Vec::with_capacity(alloc, count as usize)?;
     for block in 0..count {
         queue.push_back(block)?;
         waits.push(true)?;
