@@ -397,6 +397,14 @@ moving_next numbers classes touched done arrival before next next' origins origi
           moved
     ]
 
+-- the class has its piece's number
+pub piece_named : (names names' : ClassNames) (lists lists' : List (Vec ℕ Global)) (origins origins' : List ℕ) (class origin number : ℕ) →
+    IsPieceOf names names' lists lists' origins origins' class origin number → get nat_eq names' class ≡ Some number
+piece_named names names' lists lists' origins origins' class origin number piece = elim piece [
+  | inl (found, same_names, same_lists, same_origins) ↦ rw same_names found
+  | inr new ↦ new.named.named
+]
+
 -- the lists with the piece of a class
 pub piece_listed : (numbers : List ℕ) (names names' : ClassNames) (lists lists' : List (Vec ℕ Global)) (origins origins' : List ℕ) (class origin number : ℕ) →
     AreListed numbers lists → IsPieceOf names names' lists lists' origins origins' class origin number → AreListed numbers lists'

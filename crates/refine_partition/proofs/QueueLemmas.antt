@@ -24,6 +24,15 @@ members_rise numbers block = IsStrictlyIncreasing-filter _ (range_with_len 0 (le
     let second = get_or-range_with_len 0 (length numbers) (k + 1) 0 (omega arith) in
     omega arith)
 
+-- an arrival at a block that is there already
+pub touched_again : (numbers : List ℕ) (arrivals : List Import) (arrival : Import) (blocks : List ℕ) → AreTouched numbers arrivals blocks →
+    Contains blocks (slice_index numbers arrival.importer) → AreTouched numbers (arrivals ++ arrival ∷ []) blocks
+touched_again numbers arrivals arrival blocks are there = record {
+  only = All-weaker (IsTouched numbers arrivals) (IsTouched numbers (arrivals ++ arrival ∷ []))
+      (λ b t. record { arrival = t.arrival; listed = Contains-append_left arrivals (arrival ∷ []) _ t.listed; is = t.is }) blocks are.only;
+  all = All-push (λ a. Contains blocks (slice_index numbers a.importer)) arrivals arrival are.all there;
+}
+
 pub touched_more : (numbers : List ℕ) (arrivals : List Import) (arrival : Import) (blocks : List ℕ) → AreTouched numbers arrivals blocks →
     AreTouched numbers (arrivals ++ arrival ∷ []) (blocks ++ slice_index numbers arrival.importer ∷ [])
 touched_more numbers arrivals arrival blocks are = record {

@@ -11,7 +11,7 @@ fn empty_blocks(alloc: Global, count: u32) -> Result<Vec<Vec<u32>>, NoMemory>
     ensures total { IfOk result (λ v. length v.items ≡ count) }
     ensures empty { IfOk result (λ v. All (λ l. l.items ≡ []) v.items) }
 {
-    let mut blocks = Vec::new(alloc);
+    let mut blocks = Vec::with_capacity(alloc, count as usize)?;
     for _block in 0..count {
         blocks.push(Vec::new(alloc))?;
     }

@@ -1,6 +1,7 @@
 //! Routers in classes by the acts of their edges into one block.
 
-ghost use Rattle.std.specs.Prelude.{◌≡◌, ℕ, ◌<◌, ◌≤◌, ◌+◌, ◌^◌, All, IfOk, length, slice_index_or};
+ghost use Rattle.std.specs.Prelude.{◌≡◌, ℕ, ◌<◌, ◌≤◌, ◌+◌, ◌^◌, All, IfOk, IfSome, Some, length, nat_eq, slice_index_or};
+ghost use Rattle.std.specs.HashMap.{get};
 ghost use Rattle.std.specs.List.Sorted.{IsNonDecreasingBy};
 ghost use Rattle.refine_partition.specs.Arrivals.{act_of_import};
 ghost use Rattle.refine_partition.specs.Classes.{IsNamed, IsSeparated, AreClasses};
@@ -22,6 +23,22 @@ fn name_of(names: &mut HashMap<usize, usize>, class: usize, next: usize) -> Resu
     Ok(next)
 }
 
+/// The name of the class, which needs no look-up where it is the last one that had one.
+fn name_after(
+    names: &mut HashMap<usize, usize>,
+    last: Option<(usize, usize)>,
+    class: usize,
+    next: usize,
+) -> Result<usize, NoMemory>
+    requires last { IfSome last (λ l. get nat_eq names.old l.0 ≡ Some l.1) }
+    ensures { IfOk result (λ name. IsNamed names.old names.new class next name) }
+{
+    match last {
+        Some((known, name)) if known == class => Ok(name),
+        _ => name_of(names, class, next),
+    }
+}
+
 /// Moves the importers out of their classes, those of one class into one fresh class, and gives the
 /// first number above all classes.
 fn separate(
@@ -37,12 +54,14 @@ fn separate(
 {
     let mut names = HashMap::new(alloc);
     let mut next = fresh;
+    let mut last = None;
     for mover in movers {
         let class = classes[mover.importer as usize];
         if class < fresh {
-            let name = name_of(&mut names, class, next)?;
+            let name = name_after(&mut names, last, class, next)?;
             classes[mover.importer as usize] = name;
             next = next.max(name + 1);
+            last = Some((class, name));
         }
     }
     Ok(next)

@@ -46,7 +46,7 @@ fn further_blocks(
     ensures total { IfOk result (λ v. length v.items ≡ length origins.now) }
     ensures further { IfOk result (λ v. AreFurther numbers.now origins.now blocks.now v.items) }
 {
-    let mut further = Vec::new(alloc);
+    let mut further = Vec::with_capacity(alloc, origins.len())?;
     for origin in origins {
         let number = (blocks.len() + further.len()) as u32;
         let members = members_with(alloc, &blocks[*origin as usize], numbers, number)?;

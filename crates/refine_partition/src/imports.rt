@@ -1,10 +1,10 @@
 //! The edges of a graph by their exporters.
 
-ghost use Rattle.std.specs.Prelude.{◌≡◌, [], All, IfOk, length};
+ghost use Rattle.std.specs.Prelude.{◌≡◌, ◌<◌, [], All, IfOk, length};
 ghost use Rattle.refine_partition.specs.Index.{IsImportIndex};
 
 use crate::graph_view::GraphView;
-use base_kit::NoMemory;
+use base_kit::{Edge, NoMemory};
 use std::alloc::Global;
 
 /// What an exporter's edge is to its importer.
@@ -14,14 +14,21 @@ pub struct Import {
     pub act: u32,
 }
 
+/// For each router the imports over the edges that it exports to. They do not depend on colors.
+#[derive(Drop)]
+pub struct Exports {
+    pub imports: Vec<Vec<Import>>,
+}
+
 /// For each router how many edges it exports to.
-fn counts_of(alloc: Global, graph: &GraphView) -> Result<Vec<usize>, NoMemory>
-    ensures total { IfOk result (λ v. length v.items ≡ graph.now.count) }
+fn counts_of(alloc: Global, count: u32, edges: &[Edge]) -> Result<Vec<usize>, NoMemory>
+    requires { All (λ e. e.exporter < count) edges.now }
+    ensures total { IfOk result (λ v. length v.items ≡ count) }
 {
-    let mut counts = vec![in alloc; 0usize; graph.count() as usize]?;
-    for edge in graph.edges() {
-        let count = counts[edge.exporter as usize];
-        counts[edge.exporter as usize] = count.saturating_add(1);
+    let mut counts = vec![in alloc; 0usize; count as usize]?;
+    for edge in edges {
+        let exports = counts[edge.exporter as usize];
+        counts[edge.exporter as usize] = exports.saturating_add(1);
     }
     Ok(counts)
 }
@@ -39,17 +46,27 @@ fn lists_with_room(alloc: Global, counts: &[usize]) -> Result<Vec<Vec<Import>>, 
 }
 
 /// For each router the imports over the edges that it exports to.
-pub fn imports_of(alloc: Global, graph: &GraphView) -> Result<Vec<Vec<Import>>, NoMemory>
-    ensures total { IfOk result (λ v. length v.items ≡ graph.now.count) }
-    ensures index { IfOk result (λ v. IsImportIndex graph.now.edges v.items) }
+pub fn exports_of(alloc: Global, count: u32, edges: &[Edge]) -> Result<Exports, NoMemory>
+    requires { All (λ e. e.exporter < count) edges.now }
+    ensures total { IfOk result (λ x. length x.imports.items ≡ count) }
+    ensures index { IfOk result (λ x. IsImportIndex edges.now x.imports.items) }
 {
-    let counts = counts_of(alloc, graph)?;
+    let counts = counts_of(alloc, count, edges)?;
     let mut imports = lists_with_room(alloc, &counts)?;
-    for edge in graph.edges() {
+    for edge in edges {
         imports[edge.exporter as usize].push(Import {
             importer: edge.importer,
             act: edge.act,
         })?;
     }
-    Ok(imports)
+    Ok(Exports { imports })
+}
+
+/// The imports over the edges of a graph by their exporters.
+pub fn imports_of(alloc: Global, graph: &GraphView) -> Result<Vec<Vec<Import>>, NoMemory>
+    ensures total { IfOk result (λ v. length v.items ≡ graph.now.count) }
+    ensures index { IfOk result (λ v. IsImportIndex graph.now.edges v.items) }
+{
+    let exports = exports_of(alloc, graph.count(), graph.edges())?;
+    Ok(exports.imports)
 }

@@ -3,7 +3,8 @@
 //! `coarsest` gives the partition that every admissible one refines, in groups that are numbered by
 //! their least members, and counts its turns: at most two for each router. A turn divides every other
 //! block by the acts of its members' edges into one block. `coarsest_over` does the same for a graph
-//! over borrowed edges.
+//! over borrowed edges, and `coarsest_by` with the edges by their exporters, as `exports_of` gives them
+//! once for all colors.
 //!
 //! `start` and `split_by` of a `Splitting` are the same steps for callers that split by hand. Their
 //! contracts pin the numbers and the order of the blocks, and each call counts one. `coarsest` counts
@@ -33,7 +34,8 @@ mod touched;
 mod turn;
 
 pub use graph_view::GraphView;
-pub use partition::{Partition, coarsest, coarsest_over};
+pub use imports::{Exports, exports_of};
+pub use partition::{Partition, coarsest, coarsest_by, coarsest_over};
 pub use splitting::{Splitting, start};
 
 #[cfg(test)]

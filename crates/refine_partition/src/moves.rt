@@ -1,6 +1,7 @@
 //! Moving the routers that edges reach into the pieces of their classes.
 
-ghost use Rattle.std.specs.Prelude.{◌≡◌, ℕ, ◌<◌, ◌+◌, ◌^◌, All, Any, IfOk, OnOk, length, slice_index};
+ghost use Rattle.std.specs.Prelude.{◌≡◌, ℕ, ◌<◌, ◌+◌, ◌^◌, All, Any, IfOk, IfSome, OnOk, Some, length, nat_eq, slice_index};
+ghost use Rattle.std.specs.HashMap.{get};
 ghost use Rattle.std.specs.List.Sorted.{IsStrictlyIncreasing};
 ghost use Rattle.refine_partition.specs.Classes.{AreClasses};
 ghost use Rattle.refine_partition.specs.Loose.{AreListed, AreMoved, AreUsed, IsMoved, IsPieceOf};
@@ -32,6 +33,26 @@ fn piece_of(
     origins.push(origin)?;
     name_class(names, class, number)?;
     Ok(number)
+}
+
+/// The number of a class, which needs no look-up where it is the last one that had one.
+fn piece_after(
+    alloc: Global,
+    names: &mut HashMap<usize, u32>,
+    last: Option<(usize, u32)>,
+    lists: &mut Vec<Vec<u32>>,
+    origins: &mut Vec<u32>,
+    class: usize,
+    origin: u32,
+) -> Result<u32, NoMemory>
+    requires few { length lists.old.items < 2 ^ 32 }
+    requires last { IfSome last (λ l. get nat_eq names.old l.0 ≡ Some l.1) }
+    ensures { IfOk result (λ number. IsPieceOf names.old names.new lists.old.items lists.new.items origins.old.items origins.new.items class origin number) }
+{
+    match last {
+        Some((known, number)) if known == class => Ok(number),
+        _ => piece_of(alloc, names, lists, origins, class, origin),
+    }
 }
 
 /// Moves a router to this block.
@@ -78,12 +99,14 @@ pub fn move_importers(
 {
     let mut names = staying_classes(alloc, lists, numbers, classes, touched)?;
     let mut origins = Vec::new(alloc);
+    let mut last = None;
     for arrival in arrivals {
         let router = arrival.importer;
         let class = classes[router as usize];
         let origin = numbers[router as usize];
-        let number = piece_of(alloc, &mut names, lists, &mut origins, class, origin)?;
+        let number = piece_after(alloc, &mut names, last, lists, &mut origins, class, origin)?;
         move_router(numbers, lists, router, number)?;
+        last = Some((class, number));
     }
     Ok(origins)
 }

@@ -1,6 +1,7 @@
 //! Numbers for keys, in the order in which the keys first stand.
 
-ghost use Rattle.std.specs.Prelude.{◌≡◌, ◌<◌, ◌^◌, IfOk, length};
+ghost use Rattle.std.specs.Prelude.{◌≡◌, ◌<◌, ◌^◌, IfOk, IfSome, Some, length, nat_eq};
+ghost use Rattle.std.specs.HashMap.{get};
 ghost use Rattle.base_kit.specs.Numbering.{IsKeyNamed};
 ghost use Rattle.refine_partition.specs.Numbering.{IsNumbering};
 
@@ -19,6 +20,22 @@ fn number_of(names: &mut HashMap<u32, u32>, key: u32, next: u32) -> Result<u32, 
     Ok(next)
 }
 
+/// The number of the key, which needs no look-up where it is the last one that had one.
+fn number_after(
+    names: &mut HashMap<u32, u32>,
+    last: Option<(u32, u32)>,
+    key: u32,
+    next: u32,
+) -> Result<u32, NoMemory>
+    requires last { IfSome last (λ l. get nat_eq names.old l.0 ≡ Some l.1) }
+    ensures { IfOk result (λ number. IsKeyNamed names.old names.new key next number) }
+{
+    match last {
+        Some((known, number)) if known == key => Ok(number),
+        _ => number_of(names, key, next),
+    }
+}
+
 /// The number of each place's key, and how many keys there are.
 pub fn numbers_of(alloc: Global, keys: &[u32]) -> Result<(Vec<u32>, u32), NoMemory>
     requires { length keys.now < 2 ^ 32 }
@@ -26,12 +43,14 @@ pub fn numbers_of(alloc: Global, keys: &[u32]) -> Result<(Vec<u32>, u32), NoMemo
     ensures numbering { IfOk result (λ r. IsNumbering keys.now r.0.items r.1) }
 {
     let mut names = HashMap::new(alloc);
-    let mut numbers = Vec::new(alloc);
+    let mut numbers = Vec::with_capacity(alloc, keys.len())?;
     let mut count = 0;
+    let mut last = None;
     for key in keys {
-        let number = number_of(&mut names, *key, count)?;
+        let number = number_after(&mut names, last, *key, count)?;
         numbers.push(number)?;
         count = count.max(number + 1);
+        last = Some((*key, number));
     }
     Ok((numbers, count))
 }

@@ -2,10 +2,12 @@
 
 ghost use Rattle.std.specs.Prelude.{◌≡◌, ℕ, ◌<◌, ◌≤◌, ◌+◌, ◌*◌, ◌^◌, IfOk, Contains, length, slice_index};
 ghost use Rattle.base_kit.specs.Partition.{IsNumbered, IsCoarsestOn, members_of};
+ghost use Rattle.refine_partition.specs.Index.{IsImportIndex};
 ghost use Rattle.refine_partition.specs.Runs.{AreReachedBy};
 
 use crate::blocks::blocks_of;
 use crate::graph_view::GraphView;
+use crate::imports::{Exports, exports_of};
 use crate::numbering::numbers_of;
 use crate::pending::refined;
 use base_kit::{ActGraph, NoMemory, Steps};
@@ -72,6 +74,28 @@ fn from_numbers(alloc: Global, numbers: Vec<u32>, count: u32) -> Result<Partitio
     })
 }
 
+/// The coarsest admissible partition of a graph over borrowed edges, by its edges' exporters: every
+/// admissible one refines it. It counts its turns, at most two for each router. Its groups are the blocks
+/// to which as many splits lead from the start, each as `split_by` divides, number for number.
+pub fn coarsest_by<L: Ledger>(
+    alloc: Global,
+    graph: &GraphView,
+    exports: &Exports,
+    turns: &mut Steps<L>,
+) -> Result<Partition, NoMemory>
+    requires one_list_each { length exports.now.imports.items ≡ graph.now.count }
+    requires index { IsImportIndex graph.now.edges exports.now.imports.items }
+    ensures coarsest { IfOk result (λ p. IsCoarsestOn graph.now p) }
+    ensures splits { IfOk result (λ p. (splits : ℕ) × (turns.new ≡ turns.old + splits) × AreReachedBy graph.now splits p) }
+    ensures turns { turns.new ≤ turns.old + 2 * graph.now.count }
+{
+    let _known = graph.count();
+    let blocks = refined(alloc, graph, &exports.imports, turns)?;
+    let (numbers, count) = numbers_of(alloc, &blocks)?;
+    let partition = from_numbers(alloc, numbers, count)?;
+    Ok(partition)
+}
+
 /// The coarsest admissible partition of a graph over borrowed edges: every admissible one refines it. It
 /// counts its turns, at most two for each router. Its groups are the blocks to which as many splits lead
 /// from the start, each as `split_by` divides, number for number.
@@ -84,11 +108,8 @@ pub fn coarsest_over<L: Ledger>(
     ensures splits { IfOk result (λ p. (splits : ℕ) × (turns.new ≡ turns.old + splits) × AreReachedBy graph.now splits p) }
     ensures turns { turns.new ≤ turns.old + 2 * graph.now.count }
 {
-    let _known = graph.count();
-    let blocks = refined(alloc, graph, turns)?;
-    let (numbers, count) = numbers_of(alloc, &blocks)?;
-    let partition = from_numbers(alloc, numbers, count)?;
-    Ok(partition)
+    let exports = exports_of(alloc, graph.count(), graph.edges())?;
+    coarsest_by(alloc, graph, &exports, turns)
 }
 
 /// The coarsest admissible partition of a graph: every admissible one refines it. It counts its turns,

@@ -2,10 +2,11 @@
 
 ghost use Rattle.std.specs.Prelude.{◌≡◌, ℕ, ◌<◌, ◌≤◌, ◌+◌, ◌*◌, ◌^◌, All, Contains, IfOk, OnOk, length, slice_index};
 ghost use Rattle.base_kit.specs.Partition.{IsCoarsestOn};
+ghost use Rattle.refine_partition.specs.Index.{IsImportIndex};
 ghost use Rattle.refine_partition.specs.Pending.{AreAllWaiting, AreMarked, IsWaiting, ArePiecesWaiting, AreSplitSoFar};
 
 use crate::graph_view::GraphView;
-use crate::imports::imports_of;
+use crate::imports::Import;
 use crate::turn::{start, turn};
 use base_kit::{NoMemory, Steps};
 use std::alloc::Global;
@@ -49,8 +50,8 @@ fn wait(
 fn all_waiting(alloc: Global, count: u32) -> Result<(VecDeque<u32>, Vec<bool>), NoMemory>
     ensures { IfOk result (λ r. AreAllWaiting count r.0.items r.1.items) }
 {
-    let mut queue = VecDeque::new(alloc);
-    let mut waits = Vec::new(alloc);
+    let mut queue = VecDeque::with_capacity(alloc, count as usize)?;
+    let mut waits = Vec::with_capacity(alloc, count as usize)?;
     for block in 0..count {
         queue.push_back(block)?;
         waits.push(true)?;
@@ -87,19 +88,21 @@ fn add_pieces(
 pub fn refined<L: Ledger>(
     alloc: Global,
     graph: &GraphView,
+    imports: &[Vec<Import>],
     turns: &mut Steps<L>,
 ) -> Result<Vec<u32>, NoMemory>
+    requires one_list_each { length imports.now ≡ graph.now.count }
+    requires index { IsImportIndex graph.now.edges imports.now }
     ensures coarsest { IfOk result (λ numbers. IsCoarsestOn graph.now numbers.items) }
     ensures splits { IfOk result (λ numbers. (splits count : ℕ) × (turns.new ≡ turns.old + splits) × AreSplitSoFar graph.now splits numbers.items count) }
     ensures turns { turns.new ≤ turns.old + 2 * graph.now.count }
 {
     let _known = graph.count();
-    let imports = imports_of(alloc, graph)?;
     let mut blocks = start(alloc, graph)?;
     let (mut queue, mut waits) = all_waiting(alloc, blocks.lists.len() as u32)?;
     while let Some(block) = queue.pop_back() {
         waits[block as usize] = false;
-        let origins = turn(alloc, graph, &imports, &mut blocks, block, turns)?;
+        let origins = turn(alloc, graph, imports, &mut blocks, block, turns)?;
         add_pieces(&mut queue, &mut waits, &blocks.lists, &origins)?;
     }
     Ok(blocks.numbers)

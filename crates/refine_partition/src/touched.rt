@@ -1,6 +1,6 @@
 //! The blocks that edges reach, and their members.
 
-ghost use Rattle.std.specs.Prelude.{◌≡◌, ◌<◌, All, IfOk, length};
+ghost use Rattle.std.specs.Prelude.{◌≡◌, ◌<◌, All, Contains, IfOk, IsTrue, length};
 ghost use Rattle.std.specs.List.Sorted.{IsStrictlyIncreasing};
 ghost use Rattle.refine_partition.specs.Members.{AreBlocks};
 ghost use Rattle.refine_partition.specs.Touched.{AreTouched, IsQueue};
@@ -8,6 +8,16 @@ ghost use Rattle.refine_partition.specs.Touched.{AreTouched, IsQueue};
 use crate::imports::Import;
 use base_kit::NoMemory;
 use std::alloc::Global;
+
+/// Whether the block is the last one of these.
+fn is_last(blocks: &[u32], block: u32) -> bool
+    ensures { IsTrue result → Contains blocks.now block }
+{
+    match blocks.last() {
+        Some(last) => *last == block,
+        None => false,
+    }
+}
 
 /// The numbers of the blocks of the importers, ascending.
 pub fn touched_blocks(
@@ -21,7 +31,10 @@ pub fn touched_blocks(
 {
     let mut blocks = Vec::new(alloc);
     for arrival in arrivals {
-        blocks.push(numbers[arrival.importer as usize])?;
+        let block = numbers[arrival.importer as usize];
+        if !is_last(&blocks, block) {
+            blocks.push(block)?;
+        }
     }
     blocks.sort()?;
     blocks.dedup();

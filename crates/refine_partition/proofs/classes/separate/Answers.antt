@@ -9,7 +9,7 @@ pub loop-mover-preserved : goal.loop-mover-preserved
 loop-mover-preserved c =
     let none : Import = record { importer = 0; act = 0 } in
     let mover : Import = get_or c.args.movers.now c.loop-mover.mover-index none in
-    let total = c.loop-mover.invariant.total in
+    let total = c.loop-mover.invariant.so_far.total in
     let inside : mover.importer < length c.args.classes.now.items = c.requires.in_range c.loop-mover.mover-index none c.loop-mover-test.true in
     let inside' : mover.importer < length c.loop-mover.classes.items = omega arith in
     let class : get_or c.loop-mover.classes.items mover.importer 0 ≡ c.index-class.result.now =
@@ -19,16 +19,22 @@ loop-mover-preserved c =
           let named = w.in_ok-name.ensures in
           let most = w.max-next.ensures in
           let bound : w.in_ok-name.name ≤ c.loop-mover.next = elim named.was [
-            | inl known ↦ let b = (c.loop-mover.invariant.named _ _ known).1 in omega arith
+            | inl known ↦ let b = (c.loop-mover.invariant.so_far.named _ _ known).1 in omega arith
             | inr e ↦ let e' = e.1 in omega arith
           ] in
-          rw (take_more c.args.movers.now c.loop-mover.mover-index none c.loop-mover-test.true, w.classes-is, w.names-is, w.next-is)
-          (separating_more _ _ _ mover _ _ _ _ _ _ _ c.loop-mover.invariant inside' class w.if-class-fresh.true w.in_ok-name.ensures.named
-          w.in_ok-name.ensures.others w.in_ok-name.ensures.was (omega arith) (omega arith) (omega arith))
+          record {
+            so_far = rw (take_more c.args.movers.now c.loop-mover.mover-index none c.loop-mover-test.true, w.classes-is, w.names-is, w.next-is)
+                (separating_more _ _ _ mover _ _ _ _ _ _ _ c.loop-mover.invariant.so_far inside' class w.if-class-fresh.true w.in_ok-name.ensures.named
+                w.in_ok-name.ensures.others w.in_ok-name.ensures.was (omega arith) (omega arith) (omega arith));
+            last = rw (w.names-is, w.last-is) w.in_ok-name.ensures.named;
+          }
       | else-class-fresh w ↦
-          rw (take_more c.args.movers.now c.loop-mover.mover-index none c.loop-mover-test.true, w.classes-is, w.names-is, w.next-is)
-          (separating_again _ _ _ mover _ _ _ c.loop-mover.invariant (let high = w.if-class-fresh.false in omega arith))
+          record {
+            so_far = rw (take_more c.args.movers.now c.loop-mover.mover-index none c.loop-mover-test.true, w.classes-is, w.names-is, w.next-is)
+                (separating_again _ _ _ mover _ _ _ c.loop-mover.invariant.so_far (let high = w.if-class-fresh.false in omega arith));
+            last = rw (w.names-is, w.last-is) c.loop-mover.invariant.last;
+          }
     ]
 
 pub returns : goal.returns
-returns c = rw (take_all c.loop-mover.mover-index c.args.movers.now c.loop-mover-test.false) at (separated _ _ _ _ _ _ c.loop-mover.invariant)
+returns c = rw (take_all c.loop-mover.mover-index c.args.movers.now c.loop-mover-test.false) at (separated _ _ _ _ _ _ c.loop-mover.invariant.so_far)

@@ -2,4 +2,4 @@ use Rattle.std.proofs.Common.{◌≡◌, length}
 use Rattle.refine_partition.proofs.imports.counts_of.Given as goal
 
 abbrev pub invariant-loop-edge : goal.invariant-loop-edge
-invariant-loop-edge l = length l.counts.items ≡ l.graph.count
+invariant-loop-edge l = length l.counts.items ≡ l.count

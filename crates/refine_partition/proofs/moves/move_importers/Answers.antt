@@ -3,7 +3,7 @@ use Rattle.std.specs.Prelude.{slice_index}
 use Rattle.std.proofs.lemmas.List.{take_more, take_all, get_or_default}
 use Rattle.std.proofs.lemmas.List.Elements.{All-take}
 use Rattle.refine_partition.specs.declared.imports.Import.{Import}
-use Rattle.refine_partition.proofs.MoveLemmas.{moving_none, moving_used, used_few, moving_next, moved_all, piece_listed, piece_size, piece_known}
+use Rattle.refine_partition.proofs.MoveLemmas.{moving_none, moving_used, used_few, moving_next, moved_all, piece_listed, piece_named, piece_size, piece_known}
 use Rattle.refine_partition.proofs.moves.move_importers.Goals as goal
 
 pub staying_classes-requires-clause-used : goal.staying_classes-requires-clause-used
@@ -19,10 +19,11 @@ loop-arrival-init c =
       listed = rw c.deref.ensures.value at kept.listed;
       moving = rw c.new-origins.ensures.items (moving_none _ _ _ c.args.arrivals.now _ _ (rw c.deref.ensures.value at kept.staying)
           (rw total c.requires.listed.below));
+      last = tt;
     }
 
-pub piece_of-requires : goal.piece_of-requires
-piece_of-requires c =
+pub piece_after-requires-clause-few : goal.piece_after-requires-clause-few
+piece_after-requires-clause-few c =
     let before = c.loop-arrival.invariant in
     let kept = c.in_ok-names.ensures.total in
     let fits = c.requires.fits in
@@ -31,7 +32,7 @@ piece_of-requires c =
     let few = used_few _ _ used in
     let total = before.total in
     let size = before.moving.total in
-    record { few = omega arith }
+    omega arith
 
 pub move_router-requires-clause-listed : goal.move_router-requires-clause-listed
 move_router-requires-clause-listed c = piece_listed _ _ _ _ _ _ _ _ _ _ c.loop-arrival.invariant.listed c.in_ok-number.ensures
@@ -59,6 +60,7 @@ loop-arrival-preserved c =
       listed = moved.listed;
       moving = rw (take_more c.args.arrivals.now k none here)
           (moving_next _ _ _ _ arrival _ _ _ _ _ _ _ _ _ _ _ _ before.moving before.total inside refl origin piece moved.moved);
+      last = piece_named _ _ _ _ _ _ _ _ _ piece;
     }
 
 pub returns-clause-listed : goal.returns-clause-listed

@@ -1,4 +1,4 @@
-use Rattle.std.proofs.Common.{◌≡◌, ◌+◌, length, take, nat_eq}
+use Rattle.std.proofs.Common.{◌≡◌, ◌+◌, length, take, nat_eq, IfSome, Some}
 use Rattle.std.specs.HashMap.{get}
 use Rattle.refine_partition.specs.Loose.{AreListed}
 use Rattle.refine_partition.proofs.MoveLemmas.{Moving}
@@ -10,4 +10,5 @@ invariant-loop-arrival l = record {
   listed : AreListed l.numbers.items l.lists.items;
   moving : Moving l.initial.numbers.items l.classes l.touched (take l.arrival-index l.arrivals) (length l.initial.lists.items) l.numbers.items l.origins.items
       (λ class. get nat_eq l.names class);
+  last : IfSome l.last (λ x. get nat_eq l.names x.0 ≡ Some x.1);
 }

@@ -14,4 +14,5 @@ loop-key-preserved c =
     record {
       total = ap length c.in_ok-push.ensures.items ∙ more ∙ ap (λ n. n + 1) total;
       so_far = rw c.in_ok-push.ensures.items (numbered_next _ _ _ _ _ _ _ c.loop-key.invariant.so_far named.named named.others named.was c.max-count.ensures);
+      last = c.in_ok-number.ensures.named;
     }

@@ -39,7 +39,7 @@ loop-block-preserved g c =
     let divided = c.in_ok-origins.ensures.parted in
     let added = c.in_ok-add_pieces.ensures in
     let marks : length (slice_set c.loop-block.waits.items c.in-Some.block false) ≡ length c.loop-block.blocks.lists.items = length-set _ _ _ ∙ size in
-    let waiting = rw (marks, c.deref-in-Some-2.ensures.value) at added.waiting in
+    let waiting = rw (marks, c.deref-in-Some.ensures.value) at added.waiting in
     let refining = refining_turn _ _ _ _ _ _ _ _ _ _ before.refining (taken_or_left _ _ _ popped) known.0 divided waiting in
     let longer = ap length popped ∙ length_push _ _ in
     let few = waiting.few in
@@ -52,7 +52,7 @@ loop-block-preserved g c =
     record {
       settled = c.in_ok-origins.ensures.settled;
       refining = refining;
-      size = added.size ∙ ap length c.deref-in-Some.ensures.value;
+      size = added.size ∙ ap length c.deref.ensures.value;
       marked = added.marked;
       splits = (splits + 1, omega arith, split_more _ _ _ _ _ _ _ before.refining.total before.settled.used known.1 so_far c.in_ok-origins.ensures.split);
       bound = omega arith;
