@@ -6,9 +6,11 @@
 from __future__ import annotations
 
 import argparse
+import codecs
 import contextlib
 import errno
 import importlib
+import io
 import os
 import subprocess
 import sys
@@ -56,7 +58,7 @@ def read_input(name: str) -> bytes:
 
 def name_of(file: str) -> str:
     """What a file of the command line is called."""
-    return "standard input" if file == "-" else file
+    return "standard input" if file == "-" else shown(file)
 
 
 def write_output(name: str, made: bytes, source: str = "-") -> None:
@@ -95,6 +97,22 @@ def not_written(name: str | os.PathLike[str], fault: OSError) -> OSError:
     return OSError(fault.errno or errno.EIO, f"{os.fspath(name)}: {fault.strerror}")
 
 
+def shown(text: str) -> str:
+    """The text as a person can read it: a byte that is no letter, as names of files and lines of texts can have it, is `\\xff`."""
+    return "".join(f"\\x{ord(letter) - 0xDC00:02x}" if "\udc80" <= letter <= "\udcff" else letter for letter in text)
+
+
+def _escaped(fault: UnicodeError) -> tuple[str | bytes, int]:
+    """What is written for letters that a stream cannot take: a byte as `shown` has it, another one by its number."""
+    if not isinstance(fault, UnicodeEncodeError):
+        raise fault
+    return shown(fault.object[fault.start : fault.end]).encode("ascii", "backslashreplace").decode("ascii"), fault.end
+
+
+ESCAPED = "roads.escaped"
+codecs.register_error(ESCAPED, _escaped)
+
+
 def one_line(text: str) -> str:
     """The text with `?` for what would end the line or move the cursor, as names of files can have it."""
     return "".join("?" if letter < " " or letter == "\x7f" else letter for letter in text)
@@ -102,6 +120,9 @@ def one_line(text: str) -> str:
 
 def run(name: str, work: Callable[[], int | None]) -> int:
     """Runs a tool's work and turns each failure into one line on standard error and a status."""
+    for stream in (sys.stdout, sys.stderr):
+        if isinstance(stream, io.TextIOWrapper):
+            stream.reconfigure(errors=ESCAPED)
     try:
         status = work() or 0
         sys.stdout.flush()

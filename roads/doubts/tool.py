@@ -15,7 +15,7 @@ from roads.doubts.numbers import doubts_of_numbers
 from roads.doubts.policies import doubts_of_policies
 from roads.doubts.suggested import doubts_of_folder
 from roads.doubts.ties import doubts_of_ties
-from roads.importing.read import read_folder
+from roads.importing.read import add_skip, read_folder
 from roads.program import Program
 
 PURPOSE = """Lists what a text says that Bonsai accepts and that is likely not meant.
@@ -34,6 +34,7 @@ def words() -> argparse.ArgumentParser:
     made = parser("bonsai-doubts", PURPOSE)
     made.add_argument("file", metavar="F", help="the configurations of the network, or - for standard input")
     made.add_argument("--folder", metavar="FOLDER", help="the folder that the text was imported from, for the links that it suggests")
+    add_skip(made)
     made.add_argument("--class", dest="numbers", metavar="N", type=int, action="append", help="ask for the ties and numbers of this class alone; may be repeated")
     made.add_argument("--no-ties", action="store_true", help="ask neither for ties nor for numbers")
     made.add_argument("--json", action="store_true", help="write one JSON object")
@@ -45,7 +46,7 @@ def work(arguments: argparse.Namespace) -> None:
     program = Program()
     name = name_of(arguments.file)
     text = asked(program, read_input(arguments.file), name)
-    folder = read_folder(arguments.folder) if arguments.folder else None
+    folder = read_folder(arguments.folder, arguments.skip) if arguments.folder else None
     found = [*doubts_of_links(text.network), *doubts_of_agreement(text.network), *doubts_of_policies(text.network)]
     if not arguments.no_ties:
         numbers = chosen(text, arguments.numbers)

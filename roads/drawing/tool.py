@@ -6,7 +6,7 @@ import os
 
 import graphviz
 
-from roads.command_line import Refused, name_of, parser, read_input, write_output
+from roads.command_line import Refused, name_of, one_line, parser, read_input, write_output
 from roads.compressed import Asked, Compressed, asked
 from roads.drawing.graph import Graph, large, large_by_groups, small
 from roads.drawing.layout import laid_out, picture
@@ -32,13 +32,14 @@ def words() -> argparse.ArgumentParser:
 
 def work(arguments: argparse.Namespace) -> None:
     """Draws what the words ask for."""
+    form = arguments.format or format_of(arguments.output)
     program = Program()
     text = asked(program, read_input(arguments.file), name_of(arguments.file))
     found = text.compress(program, arguments.number)
     if found.refusal and arguments.part != "before":
         raise Refused(f"bonsai compress: {found.refusal}: the network before can be drawn with --part before")
     drawn = picture(graphs(text, found, arguments.part, arguments.by_groups), title(text, found), found.groups)
-    write(drawn, arguments.format or format_of(arguments.output), arguments.output, arguments.file)
+    write(drawn, form, arguments.output, arguments.file)
 
 
 def graphs(text: Asked, found: Compressed, part: str = "both", by_groups: bool = False) -> list[Graph]:
@@ -57,10 +58,10 @@ def title(text: Asked, found: Compressed) -> str:
 
 
 def format_of(output: str) -> str:
-    """The format that the end of a name tells; svg where it has none. Refused where the end is another."""
+    """The format that the end of a name tells; svg where it has none. Another end is a wrong word."""
     end = os.path.splitext(output)[1][1:].lower()
     if end and end != "gv" and end not in FORMATS:
-        raise Refused(f"{output}: no format has this end: give --format dot, svg or png")
+        words().error(one_line(f"{output}: no format has the end .{end}: .dot, .gv, .svg and .png have one, and --format tells it for any name"))
     return "dot" if end == "gv" else end or "svg"
 
 

@@ -50,17 +50,21 @@ def first_of_equals(numbers: list[int], shapes: list[Hashable]) -> dict[int, int
     return {number: first.setdefault(shape, number) for number, shape in zip(numbers, shapes)}
 
 
-def begin(folder: Path, made: Plan, classes: list[Class], raw: bytes, is_resumed: bool) -> None:
-    """Makes the folder, or sees that it is that of the same plan. Refused where it is not, or where it has anything and is not resumed."""
+def make(folder: Path, is_resumed: bool) -> None:
+    """Makes the folder. Refused where it has anything and is not resumed."""
     try:
         folder.mkdir(parents=True, exist_ok=True)
     except OSError as fault:
         raise not_written(folder, fault) from None
-    if is_resumed:
-        _must_be_of(folder, made)
-    elif any(folder.iterdir()):
+    if not is_resumed and any(folder.iterdir()):
         hint = ": --resume goes on with what it has" if (folder / PLAN).exists() else ""
         raise Refused(f"{folder}: the folder is not empty{hint}")
+
+
+def begin(folder: Path, made: Plan, classes: list[Class], raw: bytes, is_resumed: bool) -> None:
+    """Writes the plan into the folder, or sees that it is that of the same plan. Refused where it is not."""
+    if is_resumed:
+        _must_be_of(folder, made)
     try:
         (folder / TEXT).write_bytes(raw)
         (folder / INDEX).write_text("".join(f"{line}\n" for line in _index(made, classes)))

@@ -8,7 +8,7 @@ from pathlib import Path
 from roads.accepted import accepted_classes
 from roads.command_line import name_of, parser, read_input
 from roads.every.jobs import Where, must_have_parallel, run
-from roads.every.plan import begin, plan
+from roads.every.plan import begin, make, plan
 from roads.native import native
 from roads.program import Program
 from roads.words import counted
@@ -43,6 +43,10 @@ def work(arguments: argparse.Namespace) -> int:
     raw = read_input(arguments.file)
     must_have_parallel()
     classes = accepted_classes(program, raw, name_of(arguments.file))
+    make(arguments.folder, arguments.resume)
+    if len(classes) > 1 and not arguments.each:
+        told = f"{len(classes)} classes: first it is asked which are alike but for their prefixes"
+        print(f"bonsai-every: {told}; --each leaves that out", file=sys.stderr, flush=True)
     made = plan(Program(str(executable)), raw, classes, executable, arguments.command, arguments.then, arguments.each)
     begin(arguments.folder, made, classes, raw, arguments.resume)
     if not made.asked:

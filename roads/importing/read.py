@@ -5,12 +5,15 @@ what lines mean is the rules' to say.
 """
 from __future__ import annotations
 
+import argparse
 import errno
+import fnmatch
 import os
 import re
+from collections.abc import Sequence
 from pathlib import Path
 
-from roads.command_line import Refused
+from roads.command_line import Refused, one_line
 from roads.importing.cleaning import cleaned
 from roads.importing.folder import Dialect, Folder, Source
 from roads.importing.rule import Log, rule
@@ -67,47 +70,108 @@ OTHERS = (
 )
 
 
-def read_folder(name: str) -> Folder:
+class _Reading:
+    """A folder while it is read: its routers so far, the files that cannot be read as routers, and the names that are left out."""
+
+    def __init__(self, skip: Sequence[str]) -> None:
+        self.folder = Folder([], {})
+        self.refused: list[str] = []
+        self.skip = dict.fromkeys(skip, False)
+
+    def leaves_out(self, path: Path, name: str) -> bool:
+        """Whether a pattern leaves a file or a folder out, which is told."""
+        pattern = next((it for it in self.skip if fnmatch.fnmatchcase(path.name, it) or fnmatch.fnmatchcase(name, it)), None)
+        if pattern is None:
+            return False
+        self.skip[pattern] = True
+        self.folder.log.remarks.append(f"{name} was not read: --skip {pattern} leaves it out")
+        return True
+
+    def add(self, path: Path, name: str, is_frr: bool = False) -> None:
+        """Adds the routers of a file, or notes why there are none."""
+        try:
+            self.folder.routers += _routers_of_file(path, name, self.folder, is_frr, path.stem)
+        except Refused as refused:
+            self.refused.append(str(refused))
+
+    def ended(self, name: str) -> Folder:
+        """What was read. Refused where a file cannot be read as routers, all such files at once, or where there is no router."""
+        hint = "what is no router's can be moved elsewhere, or left out by --skip"
+        if len(self.refused) == 1:
+            raise Refused(f"{self.refused[0]}; {hint}")
+        if self.refused:
+            raise Refused(f"{name}: {len(self.refused)} files cannot be read as routers; {hint}", [f"  {one_line(it)}" for it in self.refused])
+        if not self.folder.routers:
+            raise Refused(f"{name}: no file with a router's configuration")
+        self.folder.log.remarks += [f"--skip {pattern} leaves nothing out" for pattern, is_used in self.skip.items() if not is_used]
+        return self.folder
+
+
+def add_skip(made: argparse.ArgumentParser) -> None:
+    """Gives a tool that reads a folder the option that leaves files out."""
+    told = "leave out files and folders of this name, in which * stands for anything (may stand several times)"
+    made.add_argument("--skip", metavar="PATTERN", action="append", default=[], help=told)
+
+
+def read_given(names: Sequence[str], skip: Sequence[str] = ()) -> Folder:
+    """The routers of one folder, or of files in the order in which they are given."""
+    return read_folder(names[0], skip) if len(names) == 1 and Path(names[0]).is_dir() else read_files(names, skip)
+
+
+def read_files(names: Sequence[str], skip: Sequence[str] = ()) -> Folder:
+    """The routers of files, `-` for standard input. Refused where there are none, or where files of one router's daemons stand apart."""
+    found = _Reading(skip)
+    daemons = [path for path in map(Path, names) if path.name in FRR_FILES]
+    if len({path.parent for path in daemons}) < len(daemons):
+        raise Refused(f"{daemons[0].parent}: the files of FRR's daemons are those of one router: give their folder")
+    for name in names:
+        path = Path("/dev/stdin" if name == "-" else name)
+        if not found.leaves_out(path, name):
+            found.add(path, "standard input" if name == "-" else name, path.name in FRR_FILES)
+    return found.ended(names[0] if len(names) == 1 else "the files")
+
+
+def read_folder(name: str, skip: Sequence[str] = ()) -> Folder:
     """The routers of a folder, in the order of their names. Refused where there are none. OSError where there is no folder."""
     top = Path(name)
     if not top.is_dir():
         fault = errno.ENOTDIR if top.exists() else errno.ENOENT
         raise OSError(fault, os.strerror(fault), name)
-    folder = Folder([], {})
+    found = _Reading(skip)
     if (top / "configs").is_dir():
         top = top / "configs"
     if len(_frr_files(top)) > 1:
-        _read_router_folder(top, top, folder)
-        return folder
+        _read_router_folder(top, top, found)
+        return found.ended(name)
     has_folders = any(_frr_files(path) for path in top.iterdir() if path.is_dir())
     for path in sorted(top.iterdir()):
-        if path.name.startswith(".") or path.name.endswith("~"):
+        if path.name.startswith(".") or path.name.endswith("~") or found.leaves_out(path, path.name):
             continue
         if path.is_dir():
-            _read_router_folder(top, path, folder)
+            _read_router_folder(top, path, found)
         elif path.exists() and not path.is_file():
-            folder.log.remarks.append(f"{path.name} was not read: it is no file")
+            found.folder.log.remarks.append(f"{path.name} was not read: it is no file")
         elif path.suffix in NOT_READ or has_folders:
-            folder.log.remarks.append(
+            found.folder.log.remarks.append(
                 f"{path.name} was not read: {'by its name it is no configuration' if path.suffix in NOT_READ else 'each router here has a folder'}"
             )
         else:
-            folder.routers += _routers_of_file(path, str(path.relative_to(top)), folder, path.name in FRR_FILES, path.stem)
-    if not folder.routers:
-        raise Refused(f"{name}: no file with a router's configuration")
-    return folder
+            found.add(path, path.name, path.name in FRR_FILES)
+    return found.ended(name)
 
 
-def _read_router_folder(top: Path, path: Path, folder: Folder) -> None:
+def _read_router_folder(top: Path, path: Path, found: _Reading) -> None:
     """Reads a folder with FRR's files as one router, and another one as a folder of routers."""
+    folder = found.folder
     files = _frr_files(path)
     if not files and any(_frr_files(other) for other in top.iterdir() if other.is_dir()):
         folder.log.remarks.append(f"{path.name} was not read: it has none of FRR's files")
         return
     if not files:
         for inner in sorted(path.iterdir()):
-            if inner.is_file() and not inner.name.startswith(".") and inner.suffix not in NOT_READ:
-                folder.routers += _routers_of_file(inner, str(inner.relative_to(top)), folder, False, inner.stem)
+            name = str(inner.relative_to(top))
+            if inner.is_file() and not inner.name.startswith(".") and inner.suffix not in NOT_READ and not found.leaves_out(inner, name):
+                found.add(inner, name)
         return
     whole = Source("", dialect=Dialect.FRR, file=str(path.relative_to(top)))
     for file in files:

@@ -6,7 +6,7 @@ import json
 from collections import Counter, defaultdict
 
 from roads.change import Change
-from roads.command_line import Refused
+from roads.command_line import Refused, shown
 from roads.importing.folder import Folder
 from roads.importing.rule import RULES, Refusal
 from roads.text import Place
@@ -62,7 +62,7 @@ class Report:
         told = {
             "refused": [_plain(found) for found in self.refused],
             "assumed": [_plain(found) for found in log.assumptions],
-            "told": log.remarks,
+            "told": [shown(remark) for remark in log.remarks],
             "unused": [{"line": found.line, "verb": found.verb, "pattern": found.pattern} for found in self.folder.decisions.unused],
             "lines": [_plain(change) for change in self.changes],
             "rules": [{"rule": name, "lines": count, "reason": RULES[name].reason, "source": RULES[name].source} for name, count in self.counts],
@@ -108,4 +108,4 @@ def _became(change: Change) -> str:
 def _plain(found: object) -> dict[str, object]:
     told = dataclasses.asdict(found)
     place = told.pop("place")
-    return {**place, **told}
+    return {**place, "file": shown(place["file"]), **told}

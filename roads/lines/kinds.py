@@ -26,7 +26,7 @@ KINDS = (
     Kind("BadForm", "a line that begins with a known head and does not fit its form", " ip address dhcp", "compare the line with [its form](#known-lines). `tools/bonsai-import` writes those of FRR so, and cuts VRFs; what else has no such form is outside the profile"),
     Kind("WellKnown", "a line that fits its form but for a well-known community", " set community no-export", "Bonsai does not model what such a community does: write it with lists and maps on the sessions where it acts"),
     Kind("Misplaced", "an indented line without an open stanza, or a `neighbor` line before that neighbour's `remote-as`", " neighbor 10.0.0.2 send-community", "put the line into its stanza, behind `remote-as`; unfold peer groups"),
-    Kind("Repeated", "the second line that gives one value", " ip address 10.0.1.1 255.255.255.0", "keep the line that the device keeps: mostly the last. Two files of one router are one router"),
+    Kind("Repeated", "the second line that gives one value", " ip address 10.0.1.1 255.255.255.0", "if it is a `hostname` line, or such a line above it is `Repeated` too, look first whether `end` stands before that `hostname`: without it two routers are read as one. Put `end` there, and delete nothing. Elsewhere keep the line that the device keeps: mostly the last. Two files of one router are one router"),
     Kind("NoHostname", "the `end` of a router without a `hostname` line", "end", "name the router"),
     Kind("NoEnd", "the last line with words, where it is not `end`", "interface Serial0/0", "end each router with `end`; a text that was cut off lacks its last lines"),
     Kind("SharedName", "a `hostname` line with the name of an earlier router", "hostname a", "take out the second copy of the router, or rename it"),

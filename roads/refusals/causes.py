@@ -27,7 +27,7 @@ def cause_of(kind: str, texts: list[str], place: int, refused: Sequence[Refused]
 def _is_cause(kind: str, texts: list[str], place: int, other: int) -> bool:
     """Whether the other line gives, hides or encloses what the refused one says."""
     words, given = texts[place].split(), texts[other].split()
-    if _encloses(kind, texts, place, other):
+    if _encloses(kind, texts, place, other) or _joins(kind, texts, place, other):
         return True
     match kind:
         case "Misplaced":
@@ -56,6 +56,12 @@ def _encloses(kind: str, texts: list[str], place: int, other: int) -> bool:
     if any(text.split()[:1] == [close] for text in texts[other + 1 : place]):
         return False
     return given not in IN_PROCESS or kind in ("Repeated", "Misplaced") or texts[place].split()[:1] == [close]
+
+
+def _joins(kind: str, texts: list[str], place: int, other: int) -> bool:
+    """Whether the other line is a second `hostname` above the refused one: an `end` lacks, so two routers are judged as one, and what both have clashes."""
+    names = [number for number, text in enumerate(texts[: other + 1]) if text.split()[:1] == ["hostname"]]
+    return kind in ("Repeated", "OverlappingInterfaces") and other < place and len(names) > 1 and names[-1] == other
 
 
 def _hides(kind: str, texts: list[str], place: int, other: int) -> bool:

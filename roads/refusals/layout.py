@@ -2,7 +2,7 @@
 from __future__ import annotations
 
 import dataclasses
-from collections.abc import Iterable
+from collections.abc import Iterable, Sequence
 from pathlib import Path
 
 from roads.command_line import read_input
@@ -39,10 +39,10 @@ class Input:
         return [line for part in self.parts for line in part.lines]
 
 
-def read(name: str) -> Input:
+def read(name: str, skip: Sequence[str] = ()) -> Input:
     """A file, standard input where the name is `-`, or a folder as `bonsai-import` reads it."""
     if name != "-" and Path(name).is_dir():
-        routers = read_folder(name).routers
+        routers = read_folder(name, skip).routers
         parts = [Part(_ended(list(router.lines))) for router in routers]
         return Input(name, "".join(f"{line.text}\n" for part in parts for line in part.lines), parts, is_folder=True)
     text = read_input(name).decode("ascii", "surrogateescape")

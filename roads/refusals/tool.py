@@ -7,7 +7,8 @@ import re
 from collections.abc import Iterator
 from itertools import groupby
 
-from roads.command_line import Refused, parser
+from roads.command_line import Refused, parser, shown
+from roads.importing.read import add_skip
 from roads.program import Program
 from roads.refusals.collect import Entry, Refusals, collect
 from roads.refusals.layout import read
@@ -25,13 +26,14 @@ def words() -> argparse.ArgumentParser:
     """The words of the command line."""
     made = parser("bonsai-refusals", PURPOSE)
     made.add_argument("file", metavar="F", help="the configurations of the network, - for standard input, or a folder as bonsai-import reads it")
+    add_skip(made)
     made.add_argument("--json", action="store_true", help="write one JSON object")
     return made
 
 
 def work(arguments: argparse.Namespace) -> None:
     """Writes the refusals; Refused where there are some."""
-    found = collect(Program(), read(arguments.file))
+    found = collect(Program(), read(arguments.file, arguments.skip))
     print(json.dumps(as_json(found), indent=1) if arguments.json else "\n".join(as_text(found)))
     if found.entries:
         raise Refused(_counted(found))
@@ -41,12 +43,12 @@ def as_json(found: Refusals) -> dict[str, object]:
     """The refusals as one object."""
     return {
         "form": 1,
-        "input": found.input.name,
+        "input": shown(found.input.name),
         "routers": len(found.input.parts),
         "not_judged": found.not_judged,
         "refusals": [_entry_json(entry) for entry in found.entries],
         "groups": [
-            {"kind": kind, "scope": scope, "head": head, "count": len(entries), "remedy": entries[0].remedy} for (kind, scope, head), entries in groups(found)
+            {"kind": kind, "scope": scope, "head": _printable(head), "count": len(entries), "remedy": entries[0].remedy} for (kind, scope, head), entries in groups(found)
         ],
     }
 
@@ -61,7 +63,7 @@ def as_text(found: Refusals) -> Iterator[str]:
         yield f"the network as a whole was not judged: {found.not_judged}"
     for (kind, scope, head), entries in groups(found):
         yield ""
-        yield f"{kind}: {head} ({scope}): {len(entries)}"
+        yield f"{kind}: {_printable(head)} ({scope}): {len(entries)}"
         yield f"  {_without_links(entries[0].remedy)}"
         yield from (f"  {_told(entry, False)}" for entry in entries)
 
@@ -90,8 +92,8 @@ def _without_links(remedy: str) -> str:
 
 
 def _printable(text: str) -> str:
-    shown = text if len(text) <= 120 else f"{text[:117]}..."
-    return "".join(letter if " " <= letter <= "~" else letter.encode("unicode_escape").decode() for letter in shown)
+    begun = text if len(text) <= 120 else f"{text[:117]}..."
+    return "".join(letter if " " <= letter <= "~" else letter.encode("unicode_escape").decode() for letter in shown(begun))
 
 
 def _counted(found: Refusals) -> str:
@@ -105,6 +107,6 @@ def _counted(found: Refusals) -> str:
 
 
 def _entry_json(entry: Entry) -> dict[str, object]:
-    place = {"file": entry.line.place.file, "line": entry.line.place.line, "text": _printable(entry.line.text)} if entry.line else {"file": None, "line": None, "text": None}
-    because = {"file": entry.because.file, "line": entry.because.line} if entry.because else None
-    return {**place, "kind": entry.kind, "scope": entry.scope, "head": entry.head, "remedy": entry.remedy, "judged": entry.judged, "because": because}
+    place = {"file": shown(entry.line.place.file), "line": entry.line.place.line, "text": _printable(entry.line.text)} if entry.line else {"file": None, "line": None, "text": None}
+    because = {"file": shown(entry.because.file), "line": entry.because.line} if entry.because else None
+    return {**place, "kind": entry.kind, "scope": entry.scope, "head": _printable(entry.head), "remedy": entry.remedy, "judged": entry.judged, "because": because}

@@ -122,6 +122,8 @@ def test_help_names_each_command_and_status_of_the_pages() -> None:
     assert len(forms) >= 14 and len(statuses) >= 9
     assert all(f"\n  {form} " in told for form in forms)
     assert all(re.search(rf"^ +{status}  {name}: ", told, re.M) for status, name in statuses)
+    interrupted = re.search(r"^\| 130 Interrupted \| (.+?) \|", pages, re.M)
+    assert f"  130  Interrupted: {interrupted[1]}\n" in told
 
 
 @pytest.mark.parametrize("words", [["--help"], ["--version"]])

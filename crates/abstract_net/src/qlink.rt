@@ -1,4 +1,6 @@
 //! A link between two groups, and the list of such links.
+//!
+//! A link names edges of the graph by their places. `act_at` gives the act of the edge at a place.
 
 ghost use Rattle.std.specs.Prelude.{◌≡◌};
 ghost use Rattle.abstract_net.specs.Carried.{act_at};

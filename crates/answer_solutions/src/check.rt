@@ -42,7 +42,8 @@ impl TellsOfLabels for Judgement {
     }
 }
 
-/// Judges the solution in the second file, of a class.
+/// Answers whether the labels that the second file gives are a stable solution of the class. If they are
+/// not, it names the first router that breaks stability, and why.
 pub fn answer<S: Source>(
     alloc: Global,
     checked: &Checked,

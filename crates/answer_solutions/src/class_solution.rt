@@ -23,10 +23,11 @@ use std::alloc::Global;
 
 /// A command that tells something of the labels of a problem.
 pub trait TellsOfLabels {
-    /// What is allowed of them.
+    /// Which outcomes the command may have: `allowed problem labels outcome`. Each command has its own
+    /// definition here, as `check` has `IsJudgement`.
     ghost allowed: { Problem → List (Option Route) → Outcome → Type 0 };
 
-    /// What it tells of them.
+    /// Its reply to labels of a problem, with an outcome that is allowed.
     fn tell(alloc: Global, problem: &Srp, labels: &Labels) -> Reply
         requires { AreLabels problem.now labels.now }
         ensures { Answers result (allowed problem.now labels.now) ⊥ ⊥ };

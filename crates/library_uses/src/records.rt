@@ -2,6 +2,9 @@
 //!
 //! Each function takes a record apart and puts it together again, with the type of each field written
 //! out. If a field is added, removed or has another type, this crate does not compile.
+//!
+//! `Address` keeps a rule over its fields, so they are private. Its function reads them by `addr`, `len` and
+//! `line`, and puts the address together again by `new`.
 
 ghost use Rattle.std.specs.Prelude.{◌≡◌};
 
@@ -80,7 +83,7 @@ pub fn interface_again(interface: Interface) -> Interface
     }
 }
 
-/// An address, whose fields are private, since it keeps a rule over them.
+/// An address, read and made by its functions.
 pub fn address_again(address: &Address) -> Address
     ensures { result ≡ address.now }
 {

@@ -115,6 +115,11 @@ pub fn fold_into(
 /// In OSPF a group has the cost of its members. In BGP a group that originates has its initial route,
 /// and every other takes its route from the group of the router from which its first member took it.
 ///
+/// There are to be fewer than 2^31 links between groups: the problem of the groups has at most two edges
+/// for each, and a problem has fewer than 2^32. A network that is read from a text and checked has at most
+/// 1,048,576 links (`net_topology::laws::few_links`), and its groups have no more of them
+/// (`quotient_laws::groups_have_no_more_links`).
+///
 /// # Errors
 /// Out of memory.
 pub fn fold(alloc: Global, srp: &Srp, p: &Partition, labels: &Labels) -> Result<Labels, NoMemory>

@@ -114,6 +114,11 @@ pub fn lift_from(
 /// of a group. The router takes its route from the least router of that group that gives it a route with
 /// the key of its own group's route.
 ///
+/// There are to be fewer than 2^31 links between groups: the problem of the groups has at most two edges
+/// for each, and a problem has fewer than 2^32. A network that is read from a text and checked has at most
+/// 1,048,576 links (`net_topology::laws::few_links`), and its groups have no more of them
+/// (`quotient_laws::groups_have_no_more_links`).
+///
 /// # Errors
 /// Out of memory.
 pub fn lift(

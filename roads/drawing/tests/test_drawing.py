@@ -117,6 +117,13 @@ def test_refusals(words: list[str], status: int, told: bytes) -> None:
     assert ran.stderr.endswith(told) and ran.stderr.count(b"\n") == 1
 
 
+def test_an_end_that_tells_no_format(tmp_path) -> None:
+    ran = tool("bonsai-draw", place_of("campus.cfg"), 1, "-o", tmp_path / "a.foo")
+    assert (ran.returncode, ran.stdout) == (2, b"") and ran.stderr.startswith(b"usage: bonsai-draw ")
+    assert ran.stderr.endswith(b"a.foo: no format has the end .foo: .dot, .gv, .svg and .png have one, and --format tells it for any name\n")
+    assert tool("bonsai-draw", place_of("campus.cfg"), 1, "-o", tmp_path / "a.foo", "--format", "dot").returncode == 0
+
+
 def test_an_output_that_cannot_be_written() -> None:
     ran = tool("bonsai-draw", place_of("campus.cfg"), 1, "-f", "dot", "-o", "/no-such-folder/a.dot")
     assert (ran.returncode, ran.stderr) == (4, b"bonsai-draw: write fault: /no-such-folder/a.dot: No such file or directory\n")

@@ -46,7 +46,8 @@ def test_classes_of_equal_groups_and_other_costs_are_asked_both() -> None:
 def test_answers_are_those_of_the_program(tmp_path: Path) -> None:
     folder = tmp_path / "all"
     ran = tool("bonsai-every", place_of("campus.cfg"), folder)
-    assert (ran.returncode, ran.stderr) == (0, b"bonsai-every: 16 of 16 answered\n")
+    begun = b"bonsai-every: 16 classes: first it is asked which are alike but for their prefixes; --each leaves that out\n"
+    assert (ran.returncode, ran.stderr) == (0, begun + b"bonsai-every: 16 of 16 answered\n")
     assert {path.name for path in folder.glob("class-*")} == {f"class-{number}.cfg" for number in range(1, 17)}
     assert all((folder / f"class-{number}.cfg").read_text() == compressed("campus.cfg", number).text for number in range(1, 17))
 

@@ -3,8 +3,11 @@ from __future__ import annotations
 
 from pathlib import Path
 
+import pytest
+
+from roads.command_line import Refused
 from roads.importing.folder import Dialect, Folder
-from roads.importing.read import read_folder
+from roads.importing.read import read_folder, read_given
 
 PLAIN = "hostname a\n!\ninterface Vlan1\n ip address 10.0.0.1 255.255.255.0\n!\nrouter ospf 1\n network 10.0.0.0 0.0.0.255 area 0\n!\n"
 
@@ -85,6 +88,36 @@ def test_files_of_frr(tmp_path: Path) -> None:
         " network 10.0.0.0/24 area 0",
     ]
     assert "test.py was not read" in " ".join(folder.log.remarks)
+
+
+def test_files_without_a_router_are_told_at_once_or_left_out(tmp_path: Path) -> None:
+    files = {"a_cfg": PLAIN, "inventory_txt": "a 10.0.0.1\n", "site__hosts_txt": "hosts\n", "blob": b"\0"}
+    with pytest.raises(Refused, match="3 files cannot be read as routers; .* left out by --skip") as refused:
+        folder_of(tmp_path, **files)
+    assert refused.value.details == ["  blob: not a text, it has bytes of value 0", "  inventory.txt: no router in this file", "  site/hosts.txt: no router in this file"]
+    with pytest.raises(Refused, match="^blob: not a text, it has bytes of value 0; .* left out by --skip$"):
+        read_folder(str(tmp_path), ["*.txt"])
+    folder = read_folder(str(tmp_path), ["inventory.txt", "site", "b*", "*.old"])
+    assert [router.name for router in folder.routers] == ["a"]
+    assert folder.log.remarks == [
+        "blob was not read: --skip b* leaves it out",
+        "inventory.txt was not read: --skip inventory.txt leaves it out",
+        "site was not read: --skip site leaves it out",
+        "--skip *.old leaves nothing out",
+    ]
+
+
+def test_files_in_the_place_of_a_folder(tmp_path: Path) -> None:
+    for name in ("b", "a"):
+        (tmp_path / f"{name}.cfg").write_text(PLAIN.replace("hostname a", f"hostname {name}"))
+    names = [str(tmp_path / "b.cfg"), str(tmp_path / "a.cfg")]
+    folder = read_given(names)
+    assert [(router.name, router.file) for router in folder.routers] == [("b", names[0]), ("a", names[1])]
+    assert [router.name for router in read_given([str(tmp_path)]).routers] == ["a", "b"]
+    for name in ("zebra.conf", "bgpd.conf"):
+        (tmp_path / name).write_text("router bgp 5\n")
+    with pytest.raises(Refused, match="are those of one router: give their folder"):
+        read_given([str(tmp_path / "zebra.conf"), str(tmp_path / "bgpd.conf")])
 
 
 def test_the_files_of_one_router_alone(tmp_path: Path) -> None:

@@ -210,6 +210,27 @@ def test_lines_of_the_unicast_family_are_refused_for_themselves() -> None:
     assert because(A.replace("end\n", f"{lines}end\n")) == [(6, "Unsupported", None), (7, "Unsupported", None), (8, "UnknownLine", 6)]
 
 
+def test_a_router_without_its_end() -> None:
+    """The second `hostname` is refused, and so is what both routers have. The remedy asks for `end` before it says what to delete."""
+    assert because(A.replace("end\n", "") + B) == [(6, "Repeated", None), (7, "Repeated", 6), (9, "Repeated", 6)]
+    remedy = refusals(A.replace("end\n", "") + B).entries[0].remedy
+    assert remedy.index("whether `end` stands before that `hostname`") < remedy.index("keep the line")
+
+
+@pytest.mark.parametrize("coding", ["utf-8:strict", "ascii:strict"])
+def test_bytes_are_told_as_a_person_reads_them(coding: str, tmp_path) -> None:
+    """Bytes in a line and in the name of a file, in the text and in JSON."""
+    name = os.fsencode(tmp_path / "in") + b"\xff.cfg"
+    with open(name, "wb") as file:
+        file.write(b"hostname a\nmpls caf\xe9\nend\n")
+    for words in ([name], [name, "--json"], [tmp_path], [tmp_path, "--json"]):
+        command = [str(TOP / "tools" / "bonsai-refusals"), *words]
+        ran = subprocess.run(command, capture_output=True, check=False, env={**os.environ, "PYTHONIOENCODING": coding})
+        escape = b"\\\\" if "--json" in words else b"\\"
+        assert ran.returncode == 1 and ran.stderr.count(b"\n") == 1
+        assert (b"mpls caf" + escape + b"xe9") in ran.stdout and (b"in" + escape + b"xff.cfg") in ran.stdout and b"udc" not in ran.stdout
+
+
 def test_a_list_in_the_words_of_frr() -> None:
     lines = "bgp community-list standard C permit 1:1\nroute-map IN permit 10\n match community C\n"
     assert because(A.replace("end\n", f"{lines}end\n")) == [(6, "UnknownLine", None), (8, "UndefinedList", 6)]
