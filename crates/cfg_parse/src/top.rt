@@ -4,7 +4,7 @@ ghost use Rattle.std.specs.Prelude.{◌≡◌, IfOk};
 ghost use Rattle.cfg_ast.specs.declared.items.RouterItem.TheVariants as item;
 ghost use Rattle.cfg_ast.specs.text.Answers.{Gives};
 ghost use Rattle.cfg_ast.specs.text.Stanzas.{once};
-ghost use Rattle.cfg_ast.specs.text.Reading.{new_interface, ignored, router_of, end_router, ends_router, take_line, take_top};
+ghost use Rattle.cfg_ast.specs.text.Reading.{new_interface, ignored, named_router, end_router, ends_router, take_line, take_top};
 ghost use Rattle.cfg_stanzas.specs.Changes.{Changes};
 
 use crate::community_lists::CommunityLists;
@@ -101,7 +101,7 @@ fn lists_of(
 }
 
 fn router_of(alloc: Global, number: u32, draft: Draft) -> Result<Router, ReadRefusal>
-    ensures { Gives result (router_of number draft) }
+    ensures { Gives result (named_router number draft.name draft) }
 {
     let Draft {
         name,

@@ -17,7 +17,7 @@ use Rattle.cfg_ast.specs.declared.items.PolicyItem.TheVariants as item
 use Rattle.cfg_ast.specs.declared.items.PolicyScope.{PolicyScope}
 use Rattle.cfg_ast.specs.declared.items.PolicyScope.TheVariants as scope
 use Rattle.cfg_ast.specs.text.TextLines.{TextLine}
-use Rattle.cfg_ast.specs.text.Heads.{Row, begins, longer, if_begins, longest, class_in, entry_heads, policy_heads_of}
+use Rattle.cfg_ast.specs.text.Heads.{Row, begins, longer, longest, class_in, entry_heads, policy_heads_of}
 use Rattle.cfg_ast.specs.text.Lines.{words_of}
 use Rattle.cfg_ast.specs.text.PolicyForms.{has_mark, but_last, comms_match, policy_form, policy_item_by, policy_item_of, list_names_of, is_group, all_differ, is_permit, bounds_of, community_words, community_line, change_of, is_as_number}
 use Rattle.cfg_ast.specs.text.FormSteps.{list_name_of, named_of}
@@ -84,7 +84,7 @@ longer_case row r rows words (Some x) (Some y) first rest e = by (nat_lt (length
 
 found : (rows : List Row) (words : List (List ℕ)) (r : Row) → longest rows words ≡ Some r → IsFound rows words r
 found [] words r e = absurd cc
-found (row ∷ rows) words r e = longer_case row r rows words (if_begins row words) (longest rows words)
+found (row ∷ rows) words r e = longer_case row r rows words (if begins row.words words then Some row else None) (longest rows words)
     (λ is. of_row row r rows words (begins row.words words) refl is) (found rows words r) e
 
 -- a line of that class begins with the head of the class's only row

@@ -23,7 +23,7 @@ use Rattle.cfg_ast.specs.text.PolicyForms.{policy_item_of}
 use Rattle.cfg_ast.specs.text.Stanzas.{set_interface, set_bgp}
 use Rattle.cfg_ast.specs.text.Steps.{◌>>=◌}
 use Rattle.cfg_ast.specs.text.PolicyLines.{is_policy_line, is_route_map, put_map_entry, with_map_entry, has_prefix_entry, has_map_entry, set_entry}
-use Rattle.cfg_ast.specs.text.Reading.{Stanza, closed, ignored, in_interface, in_bgp, in_ospf, in_entry, Draft, State, at_start, closing_stanza, with_closed, has_interface, take_line, named_router, router_of, ends_router, take_top, take_policy, step_policy, step_router, take_inner, step, steps, ending, network_of_lines, texts_of, network_of_text, IsGiven}
+use Rattle.cfg_ast.specs.text.Reading.{Stanza, closed, ignored, in_interface, in_bgp, in_ospf, in_entry, Draft, State, at_start, closing_stanza, with_closed, has_interface, take_line, named_router, ends_router, take_top, take_policy, step_policy, step_router, take_inner, step, steps, ending, network_of_lines, texts_of, network_of_text, IsGiven}
 use Rattle.given_laws.proofs.Given.{IsAny, any_result, either, then_step, then_said, stands_once}
 use Rattle.given_laws.proofs.Each.{all_push}
 use Rattle.given_laws.proofs.Lists.{put_all, changed_all}
@@ -84,7 +84,7 @@ top_step : (n : ℕ) (said : RouterItem) (s : State) → IsShortState s → IfOk
 unfolding take_top
 top_step n said s is =
     either IsShortState (ends_router said) _ _
-    (λ e. then_step HasShortMaps IsShortState (router_of n s.draft) _ (router_step n s.draft.name s.draft is.draft.0)
+    (λ e. then_step HasShortMaps IsShortState (named_router n s.draft.name s.draft) _ (router_step n s.draft.name s.draft is.draft.0)
     (λ r short. record { routers = all_push HasShortMaps s.routers r is.routers short; draft = (tt, tt) }))
     (λ e. then_step IsShortDraft IsShortState (take_line n said s.draft) _ (line_step n said s.draft is.draft)
     (λ d short. record { routers = is.routers; draft = short }))

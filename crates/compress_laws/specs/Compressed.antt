@@ -38,12 +38,9 @@ pub record IsCompressedFor (network read : Network) (groups : List ℕ) (p : Pre
   pub correspond : (other lower : Problem) → IsProblemOf network p other → IsProblemOf read p lower → Correspond other lower groups
   pub links : (other : Problem) → IsProblemOf network p other → (low high : ℕ) → low < high → high < length read.routers → HasLinksForActs other groups read low high
 
-abbrev pub name_of_router : Router → List ℕ
-name_of_router router = router.name
-
 -- the name of a router by its place
 abbrev pub router_name : Network → ℕ → List ℕ
-router_name network u = slice_index_or (map name_of_router network.routers) u []
+router_name network u = slice_index_or (map (λ (r : Router). r.name) network.routers) u []
 
 -- for each group the names of its members
 abbrev pub names_of_groups : Network → List ℕ → ℕ → List (List (List ℕ))
@@ -64,7 +61,7 @@ pub record Compresses (network : Network) (class : DestClass) (bytes : List ℕ)
   pub short : length bytes ≤ 16777216
   pub reads : reading_of bytes ≡ Ok read
   pub routers : length read.routers ≡ count
-  pub names : map name_of_router read.routers ≡ names_of_first_members network groups count
+  pub names : map (λ (r : Router). r.name) read.routers ≡ names_of_first_members network groups count
   pub members : members_of_text bytes ≡ names_of_groups network groups count
   pub fewer_routers : length read.routers ≤ length network.routers
   pub fewer_links : length (links_of read) ≤ length (links_of network)

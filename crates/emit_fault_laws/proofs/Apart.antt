@@ -1,6 +1,6 @@
 -- No two routers of the network of the groups have one name or one AS number, and no neighbour has its router's own.
 use Rattle.std.proofs.Common.{◌≡◌, ◌≢◌, ℕ, suc, ◌<◌, Bool, true, false, cond, not, ◌&&◌, List, [], ◌∷◌, map, length, inl, inr, Option, Some, None, refl, sym, ◌∙◌, ap, subst, arith, nat_eq}
-use Rattle.std.specs.Prelude.{slice_index, slice_index_or}
+use Rattle.std.specs.Prelude.{filter_map, slice_index, slice_index_or}
 use Rattle.std.proofs.lemmas.Bool.Decides.{nat_tests}
 use Rattle.std.specs.Option.{option_map_or}
 use Rattle.base_kit.specs.declared.protocol.Protocol.TheVariants.{Bgp as OverBgp}
@@ -9,7 +9,7 @@ use Rattle.base_kit.proofs.SetFacts.{other_number}
 use Rattle.cfg_ast.specs.declared.bgp.BgpProcess.{BgpProcess}
 use Rattle.cfg_ast.specs.declared.bgp.Neighbor.{Neighbor}
 use Rattle.cfg_ast.specs.declared.network.Router.{Router}
-use Rattle.cfg_ast.specs.meaning.RouterFaults.{repeats, shared_name_lines, bgp_processes, shared_as_lines, internal_peers, internal_peers_of, internal_peer_lines}
+use Rattle.cfg_ast.specs.meaning.RouterFaults.{repeats, shared_name_lines, shared_as_lines, internal_peers, internal_peers_of, internal_peer_lines}
 use Rattle.cfg_check.specs.Items.{router_line, process_line, neighbor_line, same_name, bgp_of as process_on, same_number as same_as}
 use Rattle.abstract_net.specs.Links.{QuotientCarries}
 use Rattle.srp_core.specs.Problem.{count, number}
@@ -109,7 +109,7 @@ pub no_shared_as : (e : Plan) → IsPlan e → shared_as_lines (emitted e) ≡ [
 unfolding shared_as_lines
 no_shared_as e plan =
     ap (map process_line)
-    (no_repeats same_as (bgp_processes (emitted e))
+    (no_repeats same_as (filter_map (λ (r : Router). r.bgp) (emitted e).routers)
     (pairs_filter_map process_on (λ (r s : Router). (b c : BgpProcess) → process_on r ≡ Some b → process_on s ≡ Some c → same_as c b ≡ false)
     (λ (b c : BgpProcess). same_as c b ≡ false) (emitted e).routers
     (λ r s b c i j given has has'. given b c has has')

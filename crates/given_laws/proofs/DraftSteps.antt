@@ -18,7 +18,7 @@ use Rattle.cfg_ast.specs.declared.items.PolicyItem.TheVariants as policy
 use Rattle.cfg_ast.specs.text.TextLines.{TextLine}
 use Rattle.cfg_ast.specs.text.Words.{is_router_name}
 use Rattle.cfg_ast.specs.text.PolicyLines.{is_policy_line, has_prefix_entry, has_map_entry}
-use Rattle.cfg_ast.specs.text.Reading.{Stanza, closed, ignored, in_interface, in_bgp, in_ospf, in_entry, Draft, State, no_draft, at_start, closing_stanza, with_closed, has_interface, take_line, named_router, router_of, end_router, ends_router, take_top, take_policy, step_policy, step_router, take_inner, step, steps}
+use Rattle.cfg_ast.specs.text.Reading.{Stanza, closed, ignored, in_interface, in_bgp, in_ospf, in_entry, Draft, State, no_draft, at_start, closing_stanza, with_closed, has_interface, take_line, named_router, end_router, ends_router, take_top, take_policy, step_policy, step_router, take_inner, step, steps}
 use Rattle.cfg_ast.specs.text.RouterForms.{router_item_of}
 use Rattle.cfg_ast.specs.text.PolicyForms.{policy_item_of}
 use Rattle.cfg_ast.specs.printing.WellFormed.{IsListName, IsWellFormedInterface, same_interface, IsWellFormedBgp, IsWellFormedOspf, IsWellFormedPrefixList, same_prefix_list, IsWellFormedCommunityList, same_community_list, IsWellFormedMapEntry, IsWellFormedRouteMap, same_route_map, IsWellFormedRouter}
@@ -262,7 +262,7 @@ router_step n (Some host) d named has = record {
 
 end_step : (n : ℕ) (s : State) → IsState s → IfOk (end_router n s) IsState
 end_step n s is =
-    then_step IsWellFormedRouter IsState (router_of n s.draft) _ (router_step n s.draft.name s.draft is.draft.0.named is.draft.0) (λ r whole.
+    then_step IsWellFormedRouter IsState (named_router n s.draft.name s.draft) _ (router_step n s.draft.name s.draft is.draft.0.named is.draft.0) (λ r whole.
     record { routers = all_push IsWellFormedRouter s.routers r is.routers whole; draft = (no_parts, tt) })
 
 top_step : (n : ℕ) (said : RouterItem) (s : State) → IsRouterItem said → IsState s → IfOk (take_top n said s) IsState

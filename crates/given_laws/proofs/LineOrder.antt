@@ -21,7 +21,7 @@ use Rattle.cfg_ast.specs.text.PolicyLines.{is_policy_line, has_prefix_entry, has
 use Rattle.cfg_ast.specs.text.RouterForms.{router_item_of}
 use Rattle.cfg_ast.specs.text.PolicyForms.{policy_item_of}
 use Rattle.cfg_ast.specs.text.Stanzas.{set_interface, has_network, has_neighbor, new_neighbor, set_neighbor, at_neighbor, peer_of, set_process, set_bgp_for, set_bgp}
-use Rattle.cfg_ast.specs.text.Reading.{Stanza, closed, ignored, in_interface, in_bgp, in_ospf, in_entry, Draft, State, no_draft, at_start, closing_stanza, with_closed, has_interface, take_line, named_router, router_of, ends_router, take_top, take_policy, step_policy, step_router, take_inner, step, steps}
+use Rattle.cfg_ast.specs.text.Reading.{Stanza, closed, ignored, in_interface, in_bgp, in_ospf, in_entry, Draft, State, no_draft, at_start, closing_stanza, with_closed, has_interface, take_line, named_router, ends_router, take_top, take_policy, step_policy, step_router, take_inner, step, steps}
 use Rattle.given_laws.proofs.Given.{IsAny, any_result, either, then_step, then_said, stands_once}
 use Rattle.given_laws.proofs.Each.{all_weaker, all_push}
 
@@ -280,7 +280,7 @@ unfolding take_top
 top_grows n said rs d c of =
     either (GrowsState n (record { routers = rs; draft = d })) (ends_router said) _ _
     (λ e. then_step (λ (r : Router). GrowsState n (record { routers = rs; draft = d }) (record { routers = rs ++ r ∷ []; draft = no_draft }))
-    (GrowsState n (record { routers = rs; draft = d })) (router_of n c) _ (named_grows n rs d c c.name of) (λ r grows. grows))
+    (GrowsState n (record { routers = rs; draft = d })) (named_router n c.name c) _ (named_grows n rs d c c.name of) (λ r grows. grows))
     (λ e. then_step (Grows n c) (GrowsState n (record { routers = rs; draft = d })) (take_line n said c) _ (line_grows n said c of.idle)
     (λ x grows. in_state n rs d c x of grows))
 

@@ -1,7 +1,7 @@
 -- How many router lines have a fault does not depend on line numbers: in the network without line
 -- numbers each of these faults is at line 0.
 use Rattle.std.proofs.Common.{◌≡◌, ℕ, ◌+◌, Bool, true, false, cond, ◌&&◌, List, [], ◌∷◌, ◌++◌, Option, Some, None, map, filter, length, refl, sym, ap, ◌∙◌}
-use Rattle.std.specs.Prelude.{flat_map, nat_eq, nat_lt}
+use Rattle.std.specs.Prelude.{filter_map, flat_map, nat_eq, nat_lt}
 use Rattle.std.specs.Option.{option_map, option_map_or}
 use Rattle.std.proofs.lemmas.List.{length-map, map-append}
 use Rattle.cfg_ast.specs.meaning.Addresses.{Address}
@@ -12,7 +12,7 @@ use Rattle.cfg_ast.specs.declared.network.Network.{Network}
 use Rattle.cfg_ast.specs.declared.network.Router.{Router}
 use Rattle.cfg_ast.specs.declared.ospf.AreaLine.{AreaLine}
 use Rattle.cfg_ast.specs.declared.ospf.OspfProcess.{OspfProcess}
-use Rattle.cfg_ast.specs.meaning.RouterFaults.{repeats, unlike_first, first_beyond, address_line, shared_name_lines, bgp_processes, shared_as_lines, internal_peers, internal_peers_of, internal_peer_lines, areas_of, area_lines, other_area_lines, up_addresses_of, shared_address_lines, overlap, overlapping_lines, is_wide_loopback, area_addresses_with, loopback_mask_lines, no_cost_lines, too_many_routers_lines, too_many_neighbors_lines, active_addresses_of, Added, added_by, added_after, exceeding, too_many_links_lines}
+use Rattle.cfg_ast.specs.meaning.RouterFaults.{repeats, unlike_first, first_beyond, address_line, shared_name_lines, shared_as_lines, internal_peers, internal_peers_of, internal_peer_lines, areas_of, area_lines, other_area_lines, up_addresses_of, shared_address_lines, overlap, overlapping_lines, is_wide_loopback, area_addresses_with, loopback_mask_lines, no_cost_lines, too_many_routers_lines, too_many_neighbors_lines, active_addresses_of, Added, added_by, added_after, exceeding, too_many_links_lines}
 use Rattle.cfg_check.specs.Items.{router_line, process_line, neighbor_line, area_line, same_name, bgp_of, same_number, same_area, same_address, overlapping_in, area_address_with, has_no_cost, active_address_on}
 use Rattle.cfg_ast.specs.meaning.Topology.{up_address, is_in_area_interface, is_active_interface, same_subnet, neighbors_of}
 use Rattle.cfg_ast.specs.printing.Bare.{bare_address, bare_area, bare_bgp, bare_interface, bare_neighbor, bare_ospf, bare_router, bare}
@@ -58,7 +58,7 @@ pub shared_as_bare : (n : Network) → shared_as_lines (bare n) ≡ at_zero (sha
 unfolding shared_as_lines
 shared_as_bare n =
     ap (λ (bs : List BgpProcess). map process_line (repeats same_number bs)) (filter_map_mapped bare_router bare_bgp bgp_of bgp_of (λ r. refl) n.routers)
-    ∙ repeated bare_bgp process_line (λ b. refl) same_number (λ b c. refl) (bgp_processes n)
+    ∙ repeated bare_bgp process_line (λ b. refl) same_number (λ b c. refl) (filter_map (λ (r : Router). r.bgp) n.routers)
 
 internal_bare : (r : Router) → internal_peers_of (bare_router r) ≡ map bare_neighbor (internal_peers_of r)
 internal_bare r = step r.bgp where

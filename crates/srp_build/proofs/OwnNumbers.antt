@@ -7,7 +7,7 @@ use Rattle.base_kit.proofs.SetFacts.{same_number}
 use Rattle.cfg_ast.specs.declared.bgp.BgpProcess.{BgpProcess}
 use Rattle.cfg_ast.specs.declared.network.Network.{Network}
 use Rattle.cfg_ast.specs.declared.network.Router.{Router}
-use Rattle.cfg_ast.specs.meaning.RouterFaults.{repeats, repeats_after, bgp_processes, shared_as_lines}
+use Rattle.cfg_ast.specs.meaning.RouterFaults.{repeats, repeats_after, shared_as_lines}
 use Rattle.cfg_check.specs.Items.{bgp_of, same_number as same_as_number, process_line}
 
 fresh : {X : Type 0} (b : Bool) (x : X) (rest : List X) → cond b (x ∷ rest) rest ≡ [] → (b ≡ false) × (rest ≡ [])
@@ -79,4 +79,4 @@ map_nil f (x ∷ xs) e = cc
 -- routers with processes of one number are one
 pub one_router : (n : Network) → shared_as_lines n ≡ [] → (u v : ℕ) (p q : BgpProcess) → HasAt n.routers u p → HasAt n.routers v q → p.number ≡ q.number → u ≡ v
 unfolding shared_as_lines
-one_router n none u v p q a b same = one_place n.routers [] (map_nil process_line (repeats same_as_number (bgp_processes n)) none) u v p q a b same
+one_router n none u v p q a b same = one_place n.routers [] (map_nil process_line (repeats same_as_number (filter_map (λ (r : Router). r.bgp) n.routers)) none) u v p q a b same

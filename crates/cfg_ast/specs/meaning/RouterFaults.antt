@@ -43,11 +43,8 @@ shared_name_lines n = map (λ (r : Router). r.line) (repeats (λ (r q : Router).
 
 -- SharedAs: a `router bgp` line that repeats an earlier router's number
 
-abbrev pub bgp_processes : Network → List BgpProcess
-bgp_processes n = filter_map (λ (r : Router). r.bgp) n.routers
-
 unfoldable pub shared_as_lines : Network → List ℕ
-shared_as_lines n = map (λ (b : BgpProcess). b.line) (repeats (λ (b c : BgpProcess). nat_eq b.number c.number) (bgp_processes n))
+shared_as_lines n = map (λ (b : BgpProcess). b.line) (repeats (λ (b c : BgpProcess). nat_eq b.number c.number) (filter_map (λ (r : Router). r.bgp) n.routers))
 
 -- InternalPeer: a `remote-as` line with the router's own number
 

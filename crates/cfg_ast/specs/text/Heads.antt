@@ -46,13 +46,10 @@ longer None other = other
 longer (Some r) None = Some r
 longer (Some r) (Some s) = if nat_lt (length r.words) (length s.words) then Some s else Some r
 
-abbrev pub if_begins : Row → List (List ℕ) → Option Row
-if_begins r words = if begins r.words words then Some r else None
-
 -- the longest head that begins the line
 abbrev pub longest : List Row → List (List ℕ) → Option Row
 longest [] words = None
-longest (r ∷ rows) words = longer (if_begins r words) (longest rows words)
+longest (r ∷ rows) words = longer (if begins r.words words then Some r else None) (longest rows words)
 
 -- what the longest head says of the line
 abbrev pub class_in : List Row → List (List ℕ) → Option HeadClass

@@ -161,10 +161,9 @@ policy_form _ line _ = Err BadForm
 -- are unsupported too.
 unfoldable pub policy_item_by : Option HeadClass → ℕ → List (List ℕ) → Result PolicyItem FormFault
 policy_item_by None line words = Err UnknownLine
-policy_item_by (Some class.Refused) line words = Err Unsupported
 policy_item_by (Some class.Ignored) line words = Ok item.Ignored
-policy_item_by (Some (class.Router form)) line words = Err Unsupported
 policy_item_by (Some (class.Policy form)) line words = policy_form form line words
+policy_item_by _ line words = Err Unsupported
 
 -- what a line of this number says of a list, a route map or an entry, in its scope
 abbrev pub policy_item_of : PolicyScope → ℕ → List (List ℕ) → Result PolicyItem FormFault

@@ -105,6 +105,7 @@ take_line n (item.Ospf number) d = once n (is_some d.ospf) (record d { stanza = 
 take_line n item.Ignored d = Ok (record d { stanza = ignored })
 take_line n _ d = Ok d
 
+-- the router that a top line `end` ends
 abbrev pub named_router : ℕ → Option Named → Draft → Result Router ReadRefusal
 named_router n None d = Err (refusal.At n kind.NoHostname)
 named_router n (Some host) d = Ok (record {
@@ -118,12 +119,8 @@ named_router n (Some host) d = Ok (record {
   route_maps = d.route_maps;
 })
 
--- the router that a top line `end` ends
-abbrev pub router_of : ℕ → Draft → Result Router ReadRefusal
-router_of n d = named_router n d.name d
-
 abbrev pub end_router : ℕ → State → Result State ReadRefusal
-end_router n s = router_of n s.draft >>= (λ (r : Router). Ok (record { routers = s.routers ++ r ∷ []; draft = no_draft }))
+end_router n s = named_router n s.draft.name s.draft >>= (λ (r : Router). Ok (record { routers = s.routers ++ r ∷ []; draft = no_draft }))
 
 abbrev pub ends_router : RouterItem → Bool
 ends_router item.End = true

@@ -114,10 +114,9 @@ router_form _ line _ = Err BadForm
 -- read here; they are unsupported too.
 unfoldable pub router_item_by : Option HeadClass → ℕ → List (List ℕ) → Result RouterItem FormFault
 router_item_by None line words = Err UnknownLine
-router_item_by (Some class.Refused) line words = Err Unsupported
 router_item_by (Some class.Ignored) line words = Ok item.Ignored
-router_item_by (Some (class.Policy form)) line words = Err Unsupported
 router_item_by (Some (class.Router form)) line words = router_form form line words
+router_item_by _ line words = Err Unsupported
 
 -- what a router line of this number says in its scope
 abbrev pub router_item_of : Scope → ℕ → List (List ℕ) → Result RouterItem FormFault
