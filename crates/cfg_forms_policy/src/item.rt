@@ -14,7 +14,6 @@ use cfg_ast::{FormFault, HeadClass, Line, PolicyForm, PolicyItem, PolicyScope, S
 use cfg_words::policy_class;
 use std::alloc::Global;
 
-#[tactic(auto, unfolding(cfg_ast::specs::text::PolicyForms::policy_form))]
 fn read_form(
     alloc: Global,
     bytes: &[u8],

@@ -11,7 +11,6 @@ use cfg_ast::{FormFault, HeadClass, Line, RouterForm, RouterItem, Scope, Span};
 use cfg_words::router_class;
 use std::alloc::Global;
 
-#[tactic(auto, unfolding(cfg_ast::specs::text::RouterForms::router_form))]
 fn read_form(
     alloc: Global,
     bytes: &[u8],

@@ -68,15 +68,15 @@ filter_members numbers next from number total only =
               rw (within, second) (either (nat_eq (slice_index numbers u) from))
         ]
 
-pub members_same : (numbers next : List ℕ) (number : ℕ) → length next ≡ length numbers →
-    ((u : ℕ) → u < length numbers → slice_index next u ≡ number → slice_index numbers u ≡ number) →
-    ((u : ℕ) → u < length numbers → slice_index numbers u ≡ number → slice_index next u ≡ number) → members_of numbers number ≡ members_of next number
-members_same numbers next number total back there =
-    filter_same_tests (λ u. slice_index numbers u == number) (λ u. slice_index next u == number) (range_with_len 0 (length numbers))
+pub members_same : (numbers next : List ℕ) (old number : ℕ) → length next ≡ length numbers →
+    ((u : ℕ) → u < length numbers → slice_index next u ≡ number → slice_index numbers u ≡ old) →
+    ((u : ℕ) → u < length numbers → slice_index numbers u ≡ old → slice_index next u ≡ number) → members_of numbers old ≡ members_of next number
+members_same numbers next old number total back there =
+    filter_same_tests (λ u. slice_index numbers u == old) (λ u. slice_index next u == number) (range_with_len 0 (length numbers))
     (λ k inside. by (slice_index (range_with_len 0 (length numbers)) k) (in_range_at (length numbers) k inside))
     ∙ ap (λ n. filter (λ u. slice_index next u == number) (range_with_len 0 n)) (sym total)
   where
-    by : (u : ℕ) → u < length numbers → nat_eq (slice_index numbers u) number ≡ nat_eq (slice_index next u) number
+    by : (u : ℕ) → u < length numbers → nat_eq (slice_index numbers u) old ≡ nat_eq (slice_index next u) number
     by u hu = elim (cases_eq (slice_index next u) number) [
       | inl e ↦ same_test _ _ (back u hu e) ∙ sym (same_test _ _ e)
       | inr ne ↦ other_test _ _ (λ e. ne (there u hu e)) ∙ sym (other_test _ _ ne)
@@ -162,7 +162,7 @@ divided_blocks graph taken numbers next origins touched blocks further both afte
               elim (contains_or_not touched b) [
                 | inl there ↦ kept.touched_blocks b d (omega arith) there ∙ ap (filter (is_numbered next b)) at ∙ filter_members numbers next b b same_size back
                 | inr none ↦ kept.rest b d (omega arith) none ∙ at
-                    ∙ members_same numbers next b same_size back (λ u hu is. planned.rest u (omega arith) (λ found. none (subst (Contains touched) is found))
+                    ∙ members_same numbers next b b same_size back (λ u hu is. planned.rest u (omega arith) (λ found. none (subst (Contains touched) is found))
                     ∙ is)
               ]
           | inr new ↦

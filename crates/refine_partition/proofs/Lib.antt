@@ -13,3 +13,4 @@ pub mod TurnLemmas
 pub mod RefineLemmas
 pub mod SplittingLemmas
 pub mod RunLemmas
+mod TakenLemmas

@@ -2,7 +2,7 @@
 use Rattle.std.proofs.Common.{◌≡◌, ◌≢◌, ℕ, zero, suc, ◌+◌, ◌-◌, ◌<◌, Bool, true, false, List, [], ◌∷◌, ◌++◌, length, get_or, slice_index_or, slice_set, take, All, Contains, refl, sym, ◌∙◌, ap, subst, arith, inl, inr}
 use Rattle.std.specs.Prelude.{slice_index, ◌⊎◌}
 use Rattle.std.proofs.lemmas.Bool.{cases_eq, cases_lt}
-use Rattle.std.proofs.lemmas.List.{get_or-set_same, get_or-set_other, get_or_default, get_or_append_left, get_or_push, length_push}
+use Rattle.std.proofs.lemmas.List.{get_or-set_same, get_or-set_other, get_or_default, get_or_past, get_or_append_left, get_or_push, length_push}
 use Rattle.std.proofs.Math.ListN.{length-set}
 use Rattle.std.proofs.lemmas.List.Elements.{All-get_or, All-contains, All-push, All-weaker, Contains-get_or, Contains-push, Contains-append_left, Contains-push_cases}
 use Rattle.base_kit.specs.declared.act_graph.Edge.{Edge}
@@ -11,7 +11,7 @@ use Rattle.base_kit.specs.Partition.{HasTwinIfOutgoing, IsMirroredAt, IsAdmissib
 use Rattle.base_kit.proofs.Mirrors.{mirrored_coarser}
 use Rattle.refine_partition.specs.Splits.{HasAct, ActAlike, IsStart}
 use Rattle.refine_partition.specs.Loose.{AreParted}
-use Rattle.refine_partition.specs.Pending.{AreAllWaiting, AreMarked, IsWaiting, IsEven, IsRefining, ArePiecesWaiting}
+use Rattle.refine_partition.specs.Pending.{AreDistinct, AreAllWaiting, AreMarked, IsWaiting, IsEven, IsRefining, ArePiecesWaiting}
 use Rattle.refine_partition.specs.Numbering.{IsNumbering}
 use Rattle.refine_partition.proofs.MemberLemmas.{Contains-cons}
 
@@ -162,11 +162,44 @@ coarsest_by_number graph blocks numbers count coarsest size numbering =
       refined = λ others admissible u v hu hv same. together u v hu hv (coarsest.refined others admissible u v hu hv same);
     }
 
+distinct_left : (left : List ℕ) (block : ℕ) → AreDistinct (left ++ block ∷ []) → AreDistinct left
+distinct_left left block once = λ i j less inside same.
+    let more = length_push left block in
+    once i j less (omega arith) (get_or_append_left left (block ∷ []) 0 i (omega arith) ∙ same ∙ sym (get_or_append_left left (block ∷ []) 0 j inside))
+
+-- the last block of a queue does not stand before, too
+pub distinct_last : (left : List ℕ) (block : ℕ) → AreDistinct (left ++ block ∷ []) → ¬ Contains left block
+distinct_last left block once = λ found.
+    let (k, inside, at) = found in
+    let more = length_push left block in
+    let at' : slice_index left k ≡ block = get_or_default left k 0 block inside ∙ at in
+    once k (length left) inside (omega arith) (get_or_append_left left (block ∷ []) 0 k inside ∙ at' ∙ sym (get_or_push left block 0 (length left) refl))
+
+distinct_push : (old : List ℕ) (block : ℕ) → ¬ Contains old block → AreDistinct old → AreDistinct (old ++ block ∷ [])
+distinct_push old block none once = λ i j less inside same.
+    let more = length_push old block in
+    let at_i : slice_index (old ++ block ∷ []) i ≡ slice_index old i = get_or_append_left old (block ∷ []) 0 i (omega arith) in
+    elim (cases_lt j (length old)) [
+      | inl lt ↦ once i j less lt (sym at_i ∙ same ∙ get_or_append_left old (block ∷ []) 0 j lt)
+      | inr le ↦
+          let is : slice_index old i ≡ block = sym at_i ∙ same ∙ get_or_push old block 0 j (omega arith) in
+          none (subst (Contains old) is (Contains-get_or old i 0 (omega arith)))
+    ]
+
+distinct_cons : (old : List ℕ) (block : ℕ) → ¬ Contains old block → AreDistinct old → AreDistinct (block ∷ old)
+distinct_cons old block none once = by
+  where
+    by : AreDistinct (block ∷ old)
+    by i zero less inside same = absurd (omega arith)
+    by zero (suc j) less inside same = none (subst (Contains old) (sym same) (Contains-get_or old j 0 (omega arith)))
+    by (suc i) (suc j) less inside same = once i j (omega arith) (omega arith) same
+
 pub waiting_last : (old new : List ℕ) (block : ℕ) → new ≡ old ++ block ∷ [] → IsWaiting old new block
 waiting_last old new block e = rw e (record {
   waits = Contains-push old block;
   kept = λ other found. Contains-append_left old (block ∷ []) other found;
   only = λ other found. elim (Contains-push_cases old block other found) [ inl there ↦ inl there | inr is ↦ inr (sym is) ];
+  once = distinct_push old block;
   few = let more = length_push old block in omega arith;
 })
 
@@ -175,6 +208,7 @@ waiting_first old new block e = rw e (record {
   waits = (0, omega arith, refl);
   kept = λ other found. Contains-cons block old other found;
   only = λ other found. by block old other found;
+  once = distinct_cons old block;
   few = omega arith;
 })
   where
@@ -183,16 +217,30 @@ waiting_first old new block e = rw e (record {
     by block old other (suc k, inside, at) = inl (k, omega arith, at)
 
 pub waiting_already : (queue : List ℕ) (block : ℕ) → Contains queue block → IsWaiting queue queue block
-waiting_already queue block there = record { waits = there; kept = λ other found. found; only = λ other found. inl found; few = omega arith }
+waiting_already queue block there = record {
+  waits = there;
+  kept = λ other found. found;
+  only = λ other found. inl found;
+  once = λ none once. once;
+  few = omega arith;
+}
 
-pub marked_more : (old new : List ℕ) (waits : List Bool) (block : ℕ) → AreMarked old waits → IsWaiting old new block →
-    AreMarked new (slice_set waits block true)
-marked_more old new waits block marked waiting = record {
+pub marked_more : (old new : List ℕ) (waits : List Bool) (block : ℕ) → AreMarked old waits → block < length waits →
+    slice_index_or waits block false ≡ false → IsWaiting old new block → AreMarked new (slice_set waits block true)
+marked_more old new waits block marked known free waiting = record {
   marked = λ b inside is. elim (cases_eq b block) [
     | inl e ↦ subst (Contains new) (sym e) waiting.waits
     | inr ne ↦ let size = length-set waits block true in
         waiting.kept b (marked.marked b (omega arith) (sym (get_or-set_other waits block b true false ne) ∙ is))
   ];
+  only = λ b found. elim (cases_eq b block) [
+    | inl e ↦ ap (λ i. slice_index_or (slice_set waits block true) i false) e ∙ get_or-set_same waits block true false known
+    | inr ne ↦ elim (waiting.only b found) [
+      | inl there ↦ get_or-set_other waits block b true false ne ∙ marked.only b there
+      | inr is ↦ absurd (ne is)
+    ]
+  ];
+  once = waiting.once (λ found. let is = marked.only block found in absurd cc) marked.once;
 }
 
 pub marked_new : (queue : List ℕ) (waits waits' : List Bool) → AreMarked queue waits → waits' ≡ waits ++ false ∷ [] → AreMarked queue waits'
@@ -201,11 +249,16 @@ marked_new queue waits waits' marked e = rw e (record {
     | inl lt ↦ marked.marked b lt (sym (get_or_append_left waits (false ∷ []) false b lt) ∙ is)
     | inr le ↦ let last = get_or_push waits false false b (omega arith) in absurd cc
   ];
+  only = λ b found. let is = marked.only b found in elim (cases_lt b (length waits)) [
+    | inl lt ↦ get_or_append_left waits (false ∷ []) false b lt ∙ is
+    | inr le ↦ let past = get_or_past waits b false le in absurd cc
+  ];
+  once = marked.once;
 })
 
 pub marked_taken : (queue left : List ℕ) (waits : List Bool) (block : ℕ) → AreMarked queue waits → queue ≡ left ++ block ∷ [] → block < length waits →
     AreMarked left (slice_set waits block false)
-marked_taken queue left waits block marked e known = record {
+marked_taken queue left waits block marked e known = let once : AreDistinct (left ++ block ∷ []) = subst AreDistinct e marked.once in record {
   marked = λ b inside is. elim (cases_eq b block) [
     | inl same ↦ let at : slice_index_or (slice_set waits block false) b false ≡ false = ap (λ i. slice_index_or (slice_set waits block false) i false) same
         ∙ get_or-set_same waits block false false known in absurd cc
@@ -214,6 +267,11 @@ marked_taken queue left waits block marked e known = record {
         let found : Contains queue b = marked.marked b (omega arith) (sym (get_or-set_other waits block b false false ne) ∙ is) in
         elim (Contains-push_cases left block b (subst (λ (q : List ℕ). Contains q b) e found)) [ inl there ↦ there | inr same ↦ absurd (ne (sym same)) ]
   ];
+  only = λ b found.
+      let ne : b ≢ block = λ same. distinct_last left block once (subst (Contains left) same found) in
+      get_or-set_other waits block b false false ne
+      ∙ marked.only b (subst (λ (q : List ℕ). Contains q b) (sym e) (Contains-append_left left (block ∷ []) b found));
+  once = distinct_left left block once;
 }
 
 pub pieces_none : (queue origins : List ℕ) (before : ℕ) → ArePiecesWaiting queue queue before (take 0 origins)
@@ -221,6 +279,7 @@ pieces_none queue origins before = record {
   further = λ k inside. absurd (omega arith);
   divided = λ k inside. absurd (omega arith);
   kept = λ other found. found;
+  only = λ block found. inl found;
   known = λ bound old new le. old;
   few = omega arith;
 }
@@ -246,6 +305,19 @@ pieces_more old queue middle new origins before origin piece waiting first secon
         | inr le ↦ subst (Contains new) (sym (get_or_push origins origin 0 k (omega arith))) (second.kept _ first.waits)
       ];
       kept = λ other found. kept other (waiting.kept other found);
+      only = λ block found. elim (second.only block found) [
+        | inl there ↦ elim (first.only block there) [
+          | inl there' ↦ elim (waiting.only block there') [
+            | inl there'' ↦ inl there''
+            | inr new' ↦
+                let (k, inside, which) = new' in
+                let at : slice_index (origins ++ origin ∷ []) k ≡ slice_index origins k = get_or_append_left origins (origin ∷ []) 0 k inside in
+                inr (k, omega arith, elim which [ inl e ↦ inl e | inr e ↦ inr (e ∙ sym at) ])
+          ]
+          | inr e ↦ inr (length origins, omega arith, inr (e ∙ sym (get_or_push origins origin 0 (length origins) refl)))
+        ]
+        | inr e ↦ inr (length origins, omega arith, inl (e ∙ is))
+      ];
       known = λ bound olds all le.
           let all' : All (λ b. b < bound) origins =
           λ k d inside. subst (λ b. b < bound) (get_or_append_left origins (origin ∷ []) d k inside) (all k d (omega arith)) in
@@ -256,7 +328,11 @@ pieces_more old queue middle new origins before origin piece waiting first secon
     }
 
 pub marked_all : (count : ℕ) (queue : List ℕ) (waits : List Bool) → AreAllWaiting count queue waits → AreMarked queue waits
-marked_all count queue waits all = record { marked = λ b inside is. let size = all.size in all.all b (omega arith) }
+marked_all count queue waits all = record {
+  marked = λ b inside is. let size = all.size in all.all b (omega arith);
+  only = λ b found. let size = all.size in let lt = All-contains (λ b. b < count) queue b all.known found in all.marks b false (omega arith);
+  once = all.once;
+}
 
 pub left_known : (queue left : List ℕ) (block bound : ℕ) → queue ≡ left ++ block ∷ [] → All (λ b. b < bound) queue → All (λ b. b < bound) left × (block < bound)
 left_known queue left block bound e all =
@@ -270,11 +346,23 @@ pub taken_or_left : (queue left : List ℕ) (taken : ℕ) → queue ≡ left ++ 
 taken_or_left queue left taken e block found =
     elim (Contains-push_cases left taken block (subst (λ (q : List ℕ). Contains q block) e found)) [ inl there ↦ inr there | inr is ↦ inl (sym is) ]
 
+pub none_waiting : AreAllWaiting 0 [] []
+none_waiting = record {
+  size = refl;
+  marks = λ k d inside. absurd (omega arith);
+  few = refl;
+  once = λ i j less inside same. absurd (omega arith);
+  all = λ block inside. absurd (omega arith);
+  known = λ k d inside. absurd (omega arith);
+}
+
 pub all_more : (count : ℕ) (queue : List ℕ) (waits : List Bool) → AreAllWaiting count queue waits →
     AreAllWaiting (count + 1) (queue ++ count ∷ []) (waits ++ true ∷ [])
 all_more count queue waits all = record {
   size = let size = all.size in let more = length_push waits true in omega arith;
+  marks = All-push (λ w. w ≡ true) waits true all.marks refl;
   few = let few = all.few in let more = length_push queue count in omega arith;
+  once = distinct_push queue count (λ found. let lt = All-contains (λ b. b < count) queue count all.known found in absurd (omega arith)) all.once;
   all = λ block inside. elim (cases_lt block count) [
     | inl lt ↦ Contains-append_left queue (count ∷ []) block (all.all block lt)
     | inr le ↦ subst (Contains (queue ++ count ∷ [])) (omega arith) (Contains-push queue count)

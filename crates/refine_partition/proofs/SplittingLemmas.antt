@@ -35,7 +35,7 @@ list_of_block [] k v h e = absurd (omega arith)
 list_of_block (w ∷ ws) zero v h e = ap (λ (x : Vec ℕ Global). x.items) e
 list_of_block (w ∷ ws) (suc k) v h e = list_of_block ws k v (omega arith) e
 
-block_at : (numbers : List ℕ) (n k : ℕ) → k < n → get_or (blocks_of numbers n) k [] ≡ members_of numbers k
+pub block_at : (numbers : List ℕ) (n k : ℕ) → k < n → get_or (blocks_of numbers n) k [] ≡ members_of numbers k
 block_at numbers n k h = get_or-map-range_with_len (members_of numbers) 0 n k k [] h (omega arith)
 
 blocks_are : (numbers : List ℕ) (blocks : List (Vec ℕ Global)) → AreBlocks numbers blocks → block_lists blocks ≡ blocks_of numbers (length (block_lists blocks))

@@ -1,20 +1,28 @@
 -- The blocks that wait for their turn.
 use Rattle.std.specs.Prelude.{◌≡◌, ◌≢◌, ℕ, ◌+◌, ◌*◌, ◌<◌, ◌≤◌, List, [], length, slice_index, slice_index_or, Bool, true, false, Contains, All, ◌⊎◌}
 use Rattle.base_kit.specs.declared.act_graph.ActGraph.{ActGraph}
-use Rattle.base_kit.specs.Partition.{color, IsAdmissibleOn, Refines}
+use Rattle.base_kit.specs.Partition.{color, members_of, IsAdmissibleOn, Refines}
 use Rattle.refine_partition.specs.Loose.{AreRenamed}
-use Rattle.refine_partition.specs.Runs.{IsRun}
+use Rattle.refine_partition.specs.Runs.{taken_at, IsRun}
 use Rattle.refine_partition.specs.Splits.{ActAlike}
 use Rattle.refine_partition.specs.Splitting.{blocks_of}
 
--- a block that is marked as waiting stands in the queue
+-- no block stands twice in the queue
+abbrev pub AreDistinct : List ℕ → Type 0
+AreDistinct queue = (i j : ℕ) → i < j → j < length queue → slice_index queue i ≢ slice_index queue j
+
+-- the blocks that are marked as waiting, and only they, stand in the queue, each once
 pub record AreMarked (queue : List ℕ) (waits : List Bool) : Type 0 where
   pub marked : (block : ℕ) → block < length waits → slice_index_or waits block false ≡ true → Contains queue block
+  pub only : (block : ℕ) → Contains queue block → slice_index_or waits block false ≡ true
+  pub once : AreDistinct queue
 
 -- all blocks wait, each once
 pub record AreAllWaiting (count : ℕ) (queue : List ℕ) (waits : List Bool) : Type 0 where
   pub size : length waits ≡ count
+  pub marks : All (λ w. w ≡ true) waits
   pub few : length queue ≡ count
+  pub once : AreDistinct queue
   pub all : (block : ℕ) → block < count → Contains queue block
   pub known : All (λ block. block < count) queue
 
@@ -23,6 +31,7 @@ pub record IsWaiting (old new : List ℕ) (block : ℕ) : Type 0 where
   pub waits : Contains new block
   pub kept : (other : ℕ) → Contains old other → Contains new other
   pub only : (other : ℕ) → Contains new other → Contains old other ⊎ (other ≡ block)
+  pub once : ¬ Contains old block → AreDistinct old → AreDistinct new
   pub few : length new ≤ length old + 1
 
 -- all pieces of the divided blocks wait, with all that waited before
@@ -30,6 +39,8 @@ pub record ArePiecesWaiting (old new : List ℕ) (before : ℕ) (origins : List 
   pub further : (k : ℕ) → k < length origins → Contains new (before + k)
   pub divided : (k : ℕ) → k < length origins → Contains new (slice_index origins k)
   pub kept : (other : ℕ) → Contains old other → Contains new other
+  pub only : (block : ℕ) → Contains new block →
+      Contains old block ⊎ ((k : ℕ) × (k < length origins) × ((block ≡ before + k) ⊎ (block ≡ slice_index origins k)))
   pub known : (bound : ℕ) → All (λ block. block < bound) old → All (λ block. block < bound) origins → before + length origins ≤ bound →
       All (λ block. block < bound) new
   pub few : length new ≤ length old + 2 * length origins
@@ -53,7 +64,19 @@ pub record IsRefining (graph : ActGraph) (numbers : List ℕ) (count : ℕ) (que
 -- between turns: the blocks are those to which so many splits lead, under other numbers
 pub record AreSplitSoFar (graph : ActGraph) (splits : ℕ) (slots : List ℕ) (count : ℕ) : Type 0 where
   pub history : List (List (List ℕ))
-  pub run : IsRun graph splits history
+  pub taken : List ℕ
+  pub run : IsRun graph splits history taken
   pub numbers : List ℕ
   pub renamed : AreRenamed count slots numbers
   pub last : slice_index_or history splits [] ≡ blocks_of numbers count
+
+-- The members of a block that was taken. Each block is inside them or apart from them, and no block that
+-- waits has just these members.
+pub record IsPast (numbers queue past : List ℕ) : Type 0 where
+  pub whole : (u v : ℕ) → u < length numbers → v < length numbers → slice_index numbers u ≡ slice_index numbers v → Contains past u → Contains past v
+  pub over : (block : ℕ) → Contains queue block → members_of numbers block ≢ past
+
+-- between turns: no block that was taken waits
+pub record AreTakenOnce (graph : ActGraph) (splits : ℕ) (slots : List ℕ) (count : ℕ) (queue : List ℕ) : Type 0 where
+  pub so_far : AreSplitSoFar graph splits slots count
+  pub past : (k : ℕ) → k < splits → IsPast slots queue (taken_at so_far.history so_far.taken k)

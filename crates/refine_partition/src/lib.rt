@@ -8,7 +8,8 @@
 //!
 //! `start` and `split_by` of a `Splitting` are the same steps for callers that split by hand. Their
 //! contracts pin the numbers and the order of the blocks, and each call counts one. `coarsest` counts
-//! turns in the same way: as many calls of `split_by` as it counts lead from `start` to its groups.
+//! turns in the same way: as many calls of `split_by` as it counts lead from `start` to its groups,
+//! and no block is taken twice.
 //!
 //! A split by hand costs as much as there are routers and edges, since it keeps the blocks ready to be
 //! read. A turn of `coarsest` divides the blocks in the same way, but costs only a step for each router

@@ -1,6 +1,6 @@
 use Rattle.std.proofs.Common.{length, ap, ◌∙◌, arith}
 use Rattle.std.proofs.lemmas.List.{take_more, length-take, length_push}
-use Rattle.refine_partition.proofs.RefineLemmas.{pieces_more}
+use Rattle.refine_partition.proofs.RefineLemmas.{marked_new, pieces_more}
 use Rattle.refine_partition.proofs.pending.add_pieces.Goals as goal
 
 pub overflow_cast-piece : goal.overflow_cast-piece
@@ -10,6 +10,9 @@ overflow_cast-piece c =
     let now = c.loop-origin.invariant.size in
     let here = c.loop-origin-test.true in
     omega arith
+
+pub wait-requires-clause-marked : goal.wait-requires-clause-marked
+wait-requires-clause-marked c = marked_new _ _ _ c.loop-origin.invariant.marked c.in_ok-push.ensures.items
 
 pub loop-origin-preserved : goal.loop-origin-preserved
 loop-origin-preserved c =

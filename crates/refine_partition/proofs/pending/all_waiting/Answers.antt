@@ -1,5 +1,12 @@
-use Rattle.refine_partition.proofs.RefineLemmas.{all_more}
+use Rattle.std.proofs.Common.{rules, ◌≡◌, []}
+use Rattle.refine_partition.proofs.RefineLemmas.{none_waiting, all_more}
 use Rattle.refine_partition.proofs.pending.all_waiting.Goals as goal
+
+pub loop-block-init : goal.loop-block-init
+loop-block-init c =
+    let queue : c.new-queue.result.items ≡ [] = search rules in
+    let waits : c.new-waits.result.items ≡ [] = search rules in
+    rw (queue, waits) none_waiting
 
 pub loop-block-preserved : goal.loop-block-preserved
 loop-block-preserved c = rw (c.in_ok-push_back.ensures.items, c.in_ok-push.ensures.items) (all_more _ _ _ c.loop-block.invariant)

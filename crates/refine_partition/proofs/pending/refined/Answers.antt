@@ -3,7 +3,7 @@ use Rattle.std.proofs.lemmas.List.{length_push}
 use Rattle.std.proofs.Math.ListN.{length-set}
 use Rattle.refine_partition.specs.Pending.{IsRefining}
 use Rattle.refine_partition.proofs.RefineLemmas.{refining_start, refining_turn, refining_end, marked_all, marked_taken, left_known, taken_or_left}
-use Rattle.refine_partition.proofs.RunLemmas.{split_start, split_more}
+use Rattle.refine_partition.proofs.TakenLemmas.{once_start, once_more}
 use Rattle.refine_partition.proofs.pending.refined.Goals as goal
 
 pub loop-block-init : goal.loop-block-init
@@ -18,7 +18,7 @@ loop-block-init g c =
       refining = refining_start _ _ _ _ start all.all all.known;
       size = all.size;
       marked = marked_all _ _ _ all;
-      splits = (0, omega arith, split_start _ _ _ start);
+      splits = (0, omega arith, once_start _ _ _ _ start);
       bound = omega arith;
     }
 
@@ -48,13 +48,18 @@ loop-block-preserved g c =
     let grows = divided.size in
     let most = divided.few in
     let small = before.refining.small in
-    let (splits, turns, so_far) = before.splits in
+    let (splits, turns, once) = before.splits in
     record {
       settled = c.in_ok-origins.ensures.settled;
       refining = refining;
       size = added.size ∙ ap length c.deref.ensures.value;
       marked = added.marked;
-      splits = (splits + 1, omega arith, split_more _ _ _ _ _ _ _ before.refining.total before.settled.used known.1 so_far c.in_ok-origins.ensures.split);
+      splits = (
+        splits + 1,
+        omega arith,
+        once_more _ _ _ _ _ _ _ _ _ _ _ once popped before.marked.once before.refining.known before.refining.total
+            before.settled.used c.in_ok-origins.ensures.settled.used c.in_ok-origins.ensures.split divided waiting,
+      );
       bound = omega arith;
     }
 
@@ -65,4 +70,4 @@ returns-clause-coarsest g c =
     c.loop-block.invariant.refining)
 
 pub returns-clause-splits : goal.returns-clause-splits
-returns-clause-splits g c = let (splits, turns, so_far) = c.loop-block.invariant.splits in (splits, length c.loop-block.blocks.lists.items, turns, so_far)
+returns-clause-splits g c = let (splits, turns, once) = c.loop-block.invariant.splits in (splits, length c.loop-block.blocks.lists.items, turns, once.so_far)
