@@ -11,7 +11,7 @@ use Rattle.base_kit.specs.Partition.{HasTwinIfOutgoing, IsMirroredAt, IsAdmissib
 use Rattle.base_kit.proofs.Mirrors.{mirrored_coarser}
 use Rattle.refine_partition.specs.Splits.{HasAct, ActAlike, IsStart}
 use Rattle.refine_partition.specs.Loose.{AreParted}
-use Rattle.refine_partition.specs.Pending.{AreDistinct, AreAllWaiting, AreMarked, IsWaiting, IsEven, IsRefining, ArePiecesWaiting}
+use Rattle.refine_partition.specs.Pending.{HasEachOnce, AreAllWaiting, AreMarked, IsWaiting, IsEven, IsRefining, ArePiecesWaiting}
 use Rattle.refine_partition.specs.Numbering.{IsNumbering}
 use Rattle.refine_partition.proofs.MemberLemmas.{Contains-cons}
 
@@ -162,20 +162,20 @@ coarsest_by_number graph blocks numbers count coarsest size numbering =
       refined = λ others admissible u v hu hv same. together u v hu hv (coarsest.refined others admissible u v hu hv same);
     }
 
-distinct_left : (left : List ℕ) (block : ℕ) → AreDistinct (left ++ block ∷ []) → AreDistinct left
+distinct_left : (left : List ℕ) (block : ℕ) → HasEachOnce (left ++ block ∷ []) → HasEachOnce left
 distinct_left left block once = λ i j less inside same.
     let more = length_push left block in
     once i j less (omega arith) (get_or_append_left left (block ∷ []) 0 i (omega arith) ∙ same ∙ sym (get_or_append_left left (block ∷ []) 0 j inside))
 
 -- the last block of a queue does not stand before, too
-pub distinct_last : (left : List ℕ) (block : ℕ) → AreDistinct (left ++ block ∷ []) → ¬ Contains left block
+pub distinct_last : (left : List ℕ) (block : ℕ) → HasEachOnce (left ++ block ∷ []) → ¬ Contains left block
 distinct_last left block once = λ found.
     let (k, inside, at) = found in
     let more = length_push left block in
     let at' : slice_index left k ≡ block = get_or_default left k 0 block inside ∙ at in
     once k (length left) inside (omega arith) (get_or_append_left left (block ∷ []) 0 k inside ∙ at' ∙ sym (get_or_push left block 0 (length left) refl))
 
-distinct_push : (old : List ℕ) (block : ℕ) → ¬ Contains old block → AreDistinct old → AreDistinct (old ++ block ∷ [])
+distinct_push : (old : List ℕ) (block : ℕ) → ¬ Contains old block → HasEachOnce old → HasEachOnce (old ++ block ∷ [])
 distinct_push old block none once = λ i j less inside same.
     let more = length_push old block in
     let at_i : slice_index (old ++ block ∷ []) i ≡ slice_index old i = get_or_append_left old (block ∷ []) 0 i (omega arith) in
@@ -186,10 +186,10 @@ distinct_push old block none once = λ i j less inside same.
           none (subst (Contains old) is (Contains-get_or old i 0 (omega arith)))
     ]
 
-distinct_cons : (old : List ℕ) (block : ℕ) → ¬ Contains old block → AreDistinct old → AreDistinct (block ∷ old)
+distinct_cons : (old : List ℕ) (block : ℕ) → ¬ Contains old block → HasEachOnce old → HasEachOnce (block ∷ old)
 distinct_cons old block none once = by
   where
-    by : AreDistinct (block ∷ old)
+    by : HasEachOnce (block ∷ old)
     by i zero less inside same = absurd (omega arith)
     by zero (suc j) less inside same = none (subst (Contains old) (sym same) (Contains-get_or old j 0 (omega arith)))
     by (suc i) (suc j) less inside same = once i j (omega arith) (omega arith) same
@@ -258,7 +258,7 @@ marked_new queue waits waits' marked e = rw e (record {
 
 pub marked_taken : (queue left : List ℕ) (waits : List Bool) (block : ℕ) → AreMarked queue waits → queue ≡ left ++ block ∷ [] → block < length waits →
     AreMarked left (slice_set waits block false)
-marked_taken queue left waits block marked e known = let once : AreDistinct (left ++ block ∷ []) = subst AreDistinct e marked.once in record {
+marked_taken queue left waits block marked e known = let once : HasEachOnce (left ++ block ∷ []) = subst HasEachOnce e marked.once in record {
   marked = λ b inside is. elim (cases_eq b block) [
     | inl same ↦ let at : slice_index_or (slice_set waits block false) b false ≡ false = ap (λ i. slice_index_or (slice_set waits block false) i false) same
         ∙ get_or-set_same waits block false false known in absurd cc

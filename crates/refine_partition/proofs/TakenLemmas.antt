@@ -8,7 +8,7 @@ use Rattle.base_kit.specs.Partition.{members_of}
 use Rattle.refine_partition.specs.Splits.{IsStart}
 use Rattle.refine_partition.specs.Loose.{AreUsed, AreParted, IsDividedAsSplit}
 use Rattle.refine_partition.specs.Runs.{taken_at}
-use Rattle.refine_partition.specs.Pending.{AreDistinct, ArePiecesWaiting, AreTakenOnce, IsPast}
+use Rattle.refine_partition.specs.Pending.{HasEachOnce, ArePiecesWaiting, AreTakenOnce, IsPast}
 use Rattle.refine_partition.proofs.MemberLemmas.{IsMember, members_all, member}
 use Rattle.refine_partition.proofs.DivisionLemmas.{members_same}
 use Rattle.refine_partition.proofs.RunLemmas.{split_start, split_more}
@@ -76,13 +76,13 @@ pub once_start : (graph : ActGraph) (numbers queue : List ℕ) (count : ℕ) →
 once_start graph numbers queue count start = record { so_far = split_start graph numbers count start; past = λ k inside. absurd (omega arith) }
 
 pub once_more : (graph : ActGraph) (splits taken : ℕ) (slots next origins queue left queue' : List ℕ) (before after : ℕ) →
-    AreTakenOnce graph splits slots before queue → queue ≡ left ++ taken ∷ [] → AreDistinct queue → All (λ block. block < before) queue →
+    AreTakenOnce graph splits slots before queue → queue ≡ left ++ taken ∷ [] → HasEachOnce queue → All (λ block. block < before) queue →
     length slots ≡ graph.count → AreUsed before slots → AreUsed after next → IsDividedAsSplit graph taken slots next before after →
     AreParted graph taken slots next before after origins → ArePiecesWaiting left queue' before origins → AreTakenOnce graph (splits + 1) next after queue'
 once_more graph splits taken slots next origins queue left queue' before after once popped distinct all size used used' split divided waiting =
     let known = left_known queue left taken before popped all in
     let waits : Contains queue taken = subst (λ (q : List ℕ). Contains q taken) (sym popped) (Contains-push left taken) in
-    let out : ¬ Contains left taken = distinct_last left taken (subst AreDistinct popped distinct) in
+    let out : ¬ Contains left taken = distinct_last left taken (subst HasEachOnce popped distinct) in
     let step = split_more graph splits taken slots next before after size used known.1 once.so_far split (λ k inside. (once.past k inside).over taken waits) in
     let turn : (past : List ℕ) → IsPast slots left past → IsPast next queue' past = λ past was.
     past_turn graph taken slots next origins left queue' past before after size used' known.0 divided waiting was in

@@ -8,21 +8,21 @@ use Rattle.refine_partition.specs.Splits.{ActAlike}
 use Rattle.refine_partition.specs.Splitting.{blocks_of}
 
 -- no block stands twice in the queue
-abbrev pub AreDistinct : List ℕ → Type 0
-AreDistinct queue = (i j : ℕ) → i < j → j < length queue → slice_index queue i ≢ slice_index queue j
+abbrev pub HasEachOnce : List ℕ → Type 0
+HasEachOnce queue = (i j : ℕ) → i < j → j < length queue → slice_index queue i ≢ slice_index queue j
 
 -- the blocks that are marked as waiting, and only they, stand in the queue, each once
 pub record AreMarked (queue : List ℕ) (waits : List Bool) : Type 0 where
   pub marked : (block : ℕ) → block < length waits → slice_index_or waits block false ≡ true → Contains queue block
   pub only : (block : ℕ) → Contains queue block → slice_index_or waits block false ≡ true
-  pub once : AreDistinct queue
+  pub once : HasEachOnce queue
 
 -- all blocks wait, each once
 pub record AreAllWaiting (count : ℕ) (queue : List ℕ) (waits : List Bool) : Type 0 where
   pub size : length waits ≡ count
   pub marks : All (λ w. w ≡ true) waits
   pub few : length queue ≡ count
-  pub once : AreDistinct queue
+  pub once : HasEachOnce queue
   pub all : (block : ℕ) → block < count → Contains queue block
   pub known : All (λ block. block < count) queue
 
@@ -31,7 +31,7 @@ pub record IsWaiting (old new : List ℕ) (block : ℕ) : Type 0 where
   pub waits : Contains new block
   pub kept : (other : ℕ) → Contains old other → Contains new other
   pub only : (other : ℕ) → Contains new other → Contains old other ⊎ (other ≡ block)
-  pub once : ¬ Contains old block → AreDistinct old → AreDistinct new
+  pub once : ¬ Contains old block → HasEachOnce old → HasEachOnce new
   pub few : length new ≤ length old + 1
 
 -- all pieces of the divided blocks wait, with all that waited before
