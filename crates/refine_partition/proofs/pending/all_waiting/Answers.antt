@@ -4,8 +4,8 @@ use Rattle.refine_partition.proofs.pending.all_waiting.Goals as goal
 
 pub loop-block-init : goal.loop-block-init
 loop-block-init c =
-    let queue : c.new-queue.result.items ≡ [] = search rules in
-    let waits : c.new-waits.result.items ≡ [] = search rules in
+    let queue : c.in_ok-queue.queue.items ≡ [] = search rules in
+    let waits : c.in_ok-waits.waits.items ≡ [] = search rules in
     rw (queue, waits) none_waiting
 
 pub loop-block-preserved : goal.loop-block-preserved

@@ -4,6 +4,9 @@ use Rattle.cfg_ast.specs.text.Lines.{words_of}
 use Rattle.cfg_words.proofs.Begun.{IsNone, none_narrowed}
 use Rattle.cfg_words.proofs.tables.interface.begun_by.Goals as goal
 
+pub returns-in-105 : goal.returns-in-105
+returns-in-105 c = rw c.in-105.is c.ip_heads.ensures
+
 pub returns-in-110 : goal.returns-in-110
 unfolding interface_heads words_of
 returns-in-110 c = rw c.in-110.is refl

@@ -12,6 +12,9 @@ pub returns-in-101 : goal.returns-in-101
 unfolding top_heads words_of
 returns-in-101 c = rw c.in-101.is refl
 
+pub returns-in-105 : goal.returns-in-105
+returns-in-105 c = rw c.in-105.is c.ip_heads.ensures
+
 pub returns-in_default : goal.returns-in_default
 unfolding top_heads words_of
 returns-in_default c =
