@@ -1,9 +1,10 @@
 -- What each step gives on the way from a network to the network of the groups of a class (Beckett, Gupta,
 -- Mahajan and Walker, Control Plane Compression, SIGCOMM 2018).
-use Rattle.std.specs.Prelude.{◌≡◌, ℕ, Some, None, Result, Ok, Err}
+use Rattle.std.specs.Prelude.{◌≡◌, ℕ, length, Some, None, Result, Ok, Err, Contains}
 use Rattle.base_kit.specs.Partition.{IsNumbered}
 use Rattle.cfg_ast.specs.declared.network.Network.{Network}
 use Rattle.cfg_ast.specs.declared.classes.DestClass.{DestClass}
+use Rattle.cfg_ast.specs.meaning.Classes.{classes_of}
 use Rattle.cfg_ast.specs.meaning.PolicyFaults.{communities_of}
 use Rattle.cfg_ast.specs.meaning.Topology.{links_of}
 use Rattle.abstract_net.specs.Links.{quotient_links}
@@ -13,9 +14,13 @@ use Rattle.config_emit.specs.declared.emitted.Emitted.{Emitted}
 use Rattle.config_emit.specs.Answers.{IsEmitted}
 use Rattle.config_emit.specs.Plan.{Plan}
 use Rattle.config_emit.specs.Pool.{pool_line}
+use Rattle.refine_partition.specs.Index.{IsImportIndex}
+use Rattle.refine_partition.specs.declared.imports.Exports.{Exports}
+use Rattle.srp_build.specs.Built.{IsBuiltFor}
 use Rattle.srp_build.specs.Directions.{AreDirectionsOf}
-use Rattle.srp_core.specs.Problem.{Problem}
+use Rattle.srp_core.specs.Problem.{Problem, count}
 use Rattle.srp_core.specs.Quotient.{IsCoarsest}
+use Rattle.driver.specs.declared.class_problem.ClassProblem.{ClassProblem}
 use Rattle.driver.specs.declared.grouping.Grouping.{Grouping}
 use Rattle.driver.specs.declared.shared.Shared.{Shared}
 
@@ -24,6 +29,20 @@ pub record IsSharedOf (network : Network) (shared : Shared) : Type 0 where
   pub links : shared.links ≡ links_of network
   pub directions : AreDirectionsOf network shared.directions
   pub universe : shared.store.universe ≡ communities_of network
+
+-- an index of the edges of the problem by their exporters
+pub record AreExportsOf (problem : Problem) (exports : Exports) : Type 0 where
+  pub total : length exports.imports.items ≡ count problem
+  pub index : IsImportIndex problem.edges exports.imports.items
+
+-- the problem of the class, and an index of its edges
+pub record IsClassProblem (network : Network) (class : DestClass) (k : ClassProblem) : Type 0 where
+  pub built : IsBuiltFor network class k.problem
+  pub exports : AreExportsOf k.problem k.exports
+
+-- those of some class of the network
+abbrev pub IsProblemOfSome : Network → ClassProblem → Type 0
+IsProblemOfSome network k = (class : DestClass) × Contains (classes_of network) class × IsClassProblem network class k
 
 -- the problem, its coarsest admissible partition, and the links between the groups
 pub record IsGroupingOf (problem : Problem) (g : Grouping) : Type 0 where

@@ -1,4 +1,4 @@
-use Rattle.driver.proofs.grouping.coarsest_of.Given as goal
+use Rattle.driver.proofs.grouping.coarsest_by_exports.Given as goal
 
 abbrev pub ghosts-counted : goal.ghosts-counted
 ghosts-counted a = record { name = a.blank.name; parts = a.blank.parts }
