@@ -1,4 +1,4 @@
-"""bench/turns: the user seconds of one or more programs over networks that grow, each program in turn, the least of several runs.
+"""bench/turns: the user seconds, or the memory, of one or more programs over networks that grow, each program in turn, the least of several runs.
 
 So two states of the program are compared in one run of the machine. Second files are what the first program wrote: the labels that a
 schedule comes to rest in, and those of the network of the groups.
@@ -11,9 +11,11 @@ import os
 import subprocess
 import sys
 import tempfile
-from collections.abc import Iterator
+from collections.abc import Callable, Iterator
 from pathlib import Path
 
+from roads.bench.paper import TIME
+from roads.bench.paper import asked as timed_answer
 from roads.bench.shapes import SHAPES
 from roads.command_line import Refused, parser
 
@@ -23,18 +25,26 @@ OF_SECOND = {"check": "labels", "fold": "labels", "reach": "labels", "lift": "sm
 COMMANDS = ("classes", "summary", *OF_CLASS, *OF_SECOND, "trial")
 TRIALS = (8, 12, 20)
 MOST_BYTES = 16777216
-# below that a time says nothing about growth
-LEAST_SECONDS = 0.02
 
 
 @dataclasses.dataclass(frozen=True)
 class Timed:
-    """One command on one network: the least user seconds of each program, in order."""
+    """One command on one network: the least user seconds of each program, in order, or the least memory."""
 
     shape: str
     size: int
     command: str
-    seconds: tuple[float, ...]
+    least: tuple[float, ...]
+
+
+@dataclasses.dataclass(frozen=True)
+class Measure:
+    """What is measured of a run: its unit, how a figure is written, from which figure on two are compared, and how it is found."""
+
+    unit: str
+    form: str
+    compared_from: float
+    of: Callable[[Path, list[str]], float]
 
 
 def words() -> argparse.ArgumentParser:
@@ -44,6 +54,7 @@ def words() -> argparse.ArgumentParser:
     made.add_argument("--command", action="append", choices=COMMANDS, help="only this command (may stand several times)")
     made.add_argument("--shape", action="append", choices=[*SHAPES, "fat-tree"], help="only this shape (may stand several times)")
     made.add_argument("--sizes", default="1024,2048,4096", help="numbers of routers, ascending (default: %(default)s); `trial` takes its own")
+    made.add_argument("--memory", action="store_true", help="measure the most memory that is resident, in MiB, and no time")
     made.add_argument("--runs", type=int, default=5, help="runs of each program, of which the least counts (default: %(default)s)")
     return made
 
@@ -58,30 +69,33 @@ def work(arguments: argparse.Namespace) -> None:
     for program in programs:
         if not os.access(program, os.X_OK) or not program.is_file():
             raise Refused(f"{program}: no program")
+    if arguments.memory and not os.access(TIME, os.X_OK):
+        raise Refused("the program time is not there: install the package time")
+    measure = MEMORY if arguments.memory else SECONDS
     commands, shapes = arguments.command or COMMANDS, arguments.shape or [*SHAPES, "fat-tree"]
-    print(head(len(programs)))
+    print(head(len(programs), measure))
     before: dict[tuple[str, str], float] = {}
-    for timed in measured(programs, shapes, sizes, commands, arguments.runs):
-        print(row(timed, before.get((timed.shape, timed.command))), flush=True)
-        before[timed.shape, timed.command] = timed.seconds[-1]
+    for timed in measured(programs, shapes, sizes, commands, arguments.runs, measure):
+        print(row(timed, before.get((timed.shape, timed.command)), measure), flush=True)
+        before[timed.shape, timed.command] = timed.least[-1]
 
 
-def measured(programs: list[Path], shapes: list[str], sizes: list[int], commands: tuple[str, ...], runs: int) -> Iterator[Timed]:
+def measured(programs: list[Path], shapes: list[str], sizes: list[int], commands: tuple[str, ...], runs: int, measure: Measure) -> Iterator[Timed]:
     """Each command on each network that fits into a text; the trials stand for the shape of fat trees."""
     for shape in shapes:
         if shape == "fat-tree":
             for size in TRIALS if "trial" in commands else ():
-                yield Timed(shape, size, "trial", in_turn(programs, ["trial", str(size)], runs))
+                yield Timed(shape, size, "trial", in_turn(programs, ["trial", str(size)], runs, measure))
             continue
         for size in sizes:
             text = SHAPES[shape](size)
             if len(text) > MOST_BYTES:
                 break
             with tempfile.TemporaryDirectory(prefix="bonsai-") as room:
-                yield from on_text(programs, Path(room), shape, size, text, commands, runs)
+                yield from on_text(programs, Path(room), shape, size, text, commands, runs, measure)
 
 
-def on_text(programs: list[Path], room: Path, shape: str, size: int, text: str, commands: tuple[str, ...], runs: int) -> Iterator[Timed]:
+def on_text(programs: list[Path], room: Path, shape: str, size: int, text: str, commands: tuple[str, ...], runs: int, measure: Measure) -> Iterator[Timed]:
     """The commands on one text. What needs labels is left out, and said, where the schedule does not come to rest."""
     file = room / "F"
     file.write_text(text, "ascii")
@@ -97,7 +111,7 @@ def on_text(programs: list[Path], room: Path, shape: str, size: int, text: str, 
             if command != "trial":
                 print(f"turns: {shape} {size}: no file for {command}: {ROUNDS} rounds do not come to rest", file=sys.stderr)
             continue
-        yield Timed(shape, size, command, in_turn(programs, asked, runs))
+        yield Timed(shape, size, command, in_turn(programs, asked, runs, measure))
 
 
 def second_files(program: Path, room: Path, file: Path, wanted: list[str]) -> dict[str, Path]:
@@ -132,10 +146,10 @@ def output(program: Path, asked: list[str]) -> bytes:
     return ran.stdout
 
 
-def in_turn(programs: list[Path], asked: list[str], runs: int) -> tuple[float, ...]:
-    """The least user seconds of each program, which take turns."""
-    found = [[user_seconds(program, asked) for program in programs] for _ in range(runs)]
-    return tuple(min(times) for times in zip(*found, strict=True))
+def in_turn(programs: list[Path], asked: list[str], runs: int, measure: Measure) -> tuple[float, ...]:
+    """The least figure of each program, which take turns."""
+    found = [[measure.of(program, asked) for program in programs] for _ in range(runs)]
+    return tuple(min(figures) for figures in zip(*found, strict=True))
 
 
 def user_seconds(program: Path, asked: list[str]) -> float:
@@ -149,18 +163,28 @@ def user_seconds(program: Path, asked: list[str]) -> float:
     return used.ru_utime
 
 
-def head(count: int) -> str:
+def resident(program: Path, asked: list[str]) -> float:
+    """The most memory that is resident in one run, in MiB."""
+    return timed_answer(program, *asked)[2]
+
+
+# (a shorter time says nothing about growth)
+SECONDS = Measure("s", ".3f", 0.02, user_seconds)
+MEMORY = Measure("MiB", ".1f", 0, resident)
+
+
+def head(count: int, measure: Measure) -> str:
     """The head of the table."""
-    names = [f"s, program {place + 1}" for place in range(count)]
+    names = [f"{measure.unit}, program {place + 1}" for place in range(count)]
     columns = ["network", "routers", "command", *names, *(["last to first"] if count > 1 else []), "growth of the last"]
     return "| " + " | ".join(columns) + " |\n|---|---:|---|" + "---:|" * (len(columns) - 3)
 
 
-def row(timed: Timed, before: float | None) -> str:
-    """A row: the growth is the time of the last program over its time at the size before, where that is long enough to say something."""
-    first, last = timed.seconds[0], timed.seconds[-1]
-    cells = [timed.shape, f"{timed.size:,}", f"`{timed.command}`", *(f"{it:.3f}" for it in timed.seconds)]
-    if len(timed.seconds) > 1:
-        cells.append(f"{last / first:.2f}" if first >= LEAST_SECONDS else "")
-    cells.append(f"{last / before:.1f}" if before is not None and before >= LEAST_SECONDS else "")
+def row(timed: Timed, before: float | None, measure: Measure) -> str:
+    """A row: the growth is the figure of the last program over its figure at the size before, where that is large enough to say something."""
+    first, last = timed.least[0], timed.least[-1]
+    cells = [timed.shape, f"{timed.size:,}", f"`{timed.command}`", *(f"{it:{measure.form}}" for it in timed.least)]
+    if len(timed.least) > 1:
+        cells.append(f"{last / first:.2f}" if first >= measure.compared_from else "")
+    cells.append(f"{last / before:.1f}" if before is not None and before >= measure.compared_from else "")
     return "| " + " | ".join(cells) + " |"
