@@ -5,7 +5,7 @@ use Rattle.std.proofs.lemmas.Bool.{cases_eq}
 use Rattle.std.proofs.Math.Seq.{drop-cons}
 use Rattle.std.specs.List.{list_all}
 use Rattle.std.proofs.lemmas.Bool.Decides.{nat_tests}
-use Rattle.base_kit.specs.Numbers.{is_digit, value_from, is_numeral, number_up_to, parts_at_points, before_first, address_of_parts}
+use Rattle.base_kit.specs.Numbers.{is_digit, value_from, is_numeral, number_up_to, parts_at_points, onto_first_part, address_of_parts}
 
 pub value_from-le : (value : ℕ) (word : List ℕ) → value ≤ value_from value word
 value_from-le value [] = omega arith
@@ -27,7 +27,7 @@ large_number most word large = grind (arith, nat_tests)
 pub a_number : (most : ℕ) (word : List ℕ) → is_numeral word ≡ true → value_from 0 word ≤ most → number_up_to most word ≡ Some (value_from 0 word)
 a_number most word plain small = grind (arith, nat_tests)
 
-skip : (b : ℕ) (word : List ℕ) → b ≢ 46 → parts_at_points (b ∷ word) ≡ before_first b (parts_at_points word)
+skip : (b : ℕ) (word : List ℕ) → b ≢ 46 → parts_at_points (b ∷ word) ≡ onto_first_part b (parts_at_points word)
 skip b word other = grind (arith, nat_tests)
 
 -- the first point
@@ -36,7 +36,7 @@ cut : (word : List ℕ) (i : ℕ) → i < length word → ((k : ℕ) → k < i �
 cut [] i below none here = absurd (omega arith)
 cut (b ∷ word) zero below none here = rw here refl
 cut (b ∷ word) (suc i) below none here = skip b word (none 0 (omega arith))
-    ∙ ap (λ parts. before_first b parts) (cut word i (omega arith) (λ k le. none (suc k) (omega arith)) here)
+    ∙ ap (λ parts. onto_first_part b parts) (cut word i (omega arith) (λ k le. none (suc k) (omega arith)) here)
 
 pub parts_cut : (word : List ℕ) (i : ℕ) → i < length word → ((k : ℕ) → k < i → get_or word k 0 ≢ 46) → get_or word i 0 ≡ 46
     → parts_at_points word ≡ take i word ∷ parts_at_points (take (length word - (i + 1)) (drop (i + 1) word))
@@ -47,7 +47,7 @@ parts_cut word i below none here =
 -- no point
 pub parts_none : (word : List ℕ) → ((k : ℕ) → k < length word → get_or word k 0 ≢ 46) → parts_at_points word ≡ word ∷ []
 parts_none [] none = refl
-parts_none (b ∷ word) none = skip b word (none 0 (omega arith)) ∙ ap (λ parts. before_first b parts) (parts_none word (λ k le. none (suc k) (omega arith)))
+parts_none (b ∷ word) none = skip b word (none 0 (omega arith)) ∙ ap (λ parts. onto_first_part b parts) (parts_none word (λ k le. none (suc k) (omega arith)))
 
 -- a digit more makes it too large
 pub large_step : (most value i : ℕ) (word : List ℕ) → i < length word → value_from value (drop i word) ≡ value_from 0 word →
@@ -63,7 +63,7 @@ record Cons (parts : List (List ℕ)) : Type 0 where
   others : List (List ℕ)
   is : parts ≡ first ∷ others
 
-onto_cons : (b : ℕ) (parts : List (List ℕ)) → Cons (before_first b parts)
+onto_cons : (b : ℕ) (parts : List (List ℕ)) → Cons (onto_first_part b parts)
 onto_cons b [] = record { first = b ∷ []; others = []; is = refl }
 onto_cons b (p ∷ ps) = record { first = b ∷ p; others = ps; is = refl }
 

@@ -24,15 +24,15 @@ number_up_to most word = if is_numeral word && nat_le (value_from 0 word) most t
 abbrev pub number_of : List ℕ → Option ℕ
 number_of word = number_up_to 4294967295 word
 
--- a letter put before the first of some words
-abbrev pub before_first : ℕ → List (List ℕ) → List (List ℕ)
-before_first b [] = (b ∷ []) ∷ []
-before_first b (part ∷ parts) = (b ∷ part) ∷ parts
+-- a byte put in front of the first of some parts
+abbrev pub onto_first_part : ℕ → List (List ℕ) → List (List ℕ)
+onto_first_part b [] = (b ∷ []) ∷ []
+onto_first_part b (part ∷ parts) = (b ∷ part) ∷ parts
 
 -- the parts between points
 abbrev pub parts_at_points : List ℕ → List (List ℕ)
 parts_at_points [] = [] ∷ []
-parts_at_points (b ∷ word) = if b == 46 then [] ∷ parts_at_points word else before_first b (parts_at_points word)
+parts_at_points (b ∷ word) = if b == 46 then [] ∷ parts_at_points word else onto_first_part b (parts_at_points word)
 
 abbrev pub address_of_numbers : Option ℕ → Option ℕ → Option ℕ → Option ℕ → Option ℕ
 address_of_numbers (Some a) (Some b) (Some c) (Some d) = Some (((a * 256 + b) * 256 + c) * 256 + d)

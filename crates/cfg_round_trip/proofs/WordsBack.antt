@@ -8,7 +8,7 @@ use Rattle.std.proofs.lemmas.Bool.{le-leb, ne_eqb, eqb-true, and_from, cases_lt,
 use Rattle.std.proofs.lemmas.Fmt.{decimal_by_steps}
 use Rattle.std.proofs.Math.Nat.{div-div-eq-div-mul}
 use Rattle.std.proofs.Math.Seq.{take-append_seam, drop-append-add}
-use Rattle.base_kit.specs.Numbers.{is_digit, value_from, is_numeral, number_up_to, parts_at_points, before_first as before_part, address_of_parts, address_of}
+use Rattle.base_kit.specs.Numbers.{is_digit, value_from, is_numeral, number_up_to, parts_at_points, onto_first_part, address_of_parts, address_of}
 use Rattle.base_kit.specs.Prefixes.{Prefix}
 use Rattle.base_kit.proofs.Words.{is_plain_digits, a_number}
 use Rattle.cfg_ast.specs.text.Words.{number_word, number_between, as_number_word, address_word, mask_of, len_of_mask, mask_len_of, bits_behind, cut_to, is_slash, prefix_of, is_colon, community_word}
@@ -94,16 +94,16 @@ as_number_back n range = between_back 1 4294967295 n range.1 range
 abbrev IsNoPoint : ℕ → Type 0
 IsNoPoint b = b ≢ 46
 
-point : (b : ℕ) (word : List ℕ) → b ≢ 46 → parts_at_points (b ∷ word) ≡ before_part b (parts_at_points word)
+point : (b : ℕ) (word : List ℕ) → b ≢ 46 → parts_at_points (b ∷ word) ≡ onto_first_part b (parts_at_points word)
 point b word other = rw (ne_eqb b 46 other) refl
 
 parts_last : (word : List ℕ) → AllByRecursion IsNoPoint word → parts_at_points word ≡ word ∷ []
 parts_last [] none = refl
-parts_last (b ∷ word) none = point b word none.0 ∙ ap (before_part b) (parts_last word none.1)
+parts_last (b ∷ word) none = point b word none.0 ∙ ap (onto_first_part b) (parts_last word none.1)
 
 parts_more : (word rest : List ℕ) → AllByRecursion IsNoPoint word → parts_at_points (word ++ 46 ∷ rest) ≡ word ∷ parts_at_points rest
 parts_more [] rest none = refl
-parts_more (b ∷ word) rest none = point b (word ++ 46 ∷ rest) none.0 ∙ ap (before_part b) (parts_more word rest none.1)
+parts_more (b ∷ word) rest none = point b (word ++ 46 ∷ rest) none.0 ∙ ap (onto_first_part b) (parts_more word rest none.1)
 
 no_points : (n : ℕ) → n < 2 ^ 64 → AllByRecursion IsNoPoint (decimal n)
 no_points n small = all_weaker IsDigit IsNoPoint (λ b is e. let low = is.0 in omega arith) (decimal n) (decimal_digits n small).digits
