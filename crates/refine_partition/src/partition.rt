@@ -76,7 +76,8 @@ fn from_numbers(alloc: Global, numbers: Vec<u32>, count: u32) -> Result<Partitio
 
 /// The coarsest admissible partition of a graph over borrowed edges, by its edges' exporters: every
 /// admissible one refines it. It counts its turns, at most two for each router. Its groups are the blocks
-/// to which as many splits lead from the start, each as `split_by` divides, number for number.
+/// to which as many splits lead from the start, each as `split_by` divides, number for number. No two of
+/// them take a block of the same members.
 pub fn coarsest_by<L: Ledger>(
     alloc: Global,
     graph: &GraphView,
@@ -98,7 +99,8 @@ pub fn coarsest_by<L: Ledger>(
 
 /// The coarsest admissible partition of a graph over borrowed edges: every admissible one refines it. It
 /// counts its turns, at most two for each router. Its groups are the blocks to which as many splits lead
-/// from the start, each as `split_by` divides, number for number.
+/// from the start, each as `split_by` divides, number for number. No two of them take a block of the same
+/// members.
 pub fn coarsest_over<L: Ledger>(
     alloc: Global,
     graph: &GraphView,
@@ -114,7 +116,7 @@ pub fn coarsest_over<L: Ledger>(
 
 /// The coarsest admissible partition of a graph: every admissible one refines it. It counts its turns,
 /// at most two for each router. Its groups are the blocks to which as many calls of `split_by` lead from
-/// `start`.
+/// `start`, no two of which take a block of the same members.
 pub fn coarsest<L: Ledger>(
     alloc: Global,
     graph: &ActGraph,
