@@ -3,7 +3,6 @@
 use Rattle.std.specs.Prelude.{ℕ, Bool, true, false, ◌&&◌, List, [], ◌∷◌, ◌++◌, ◌==◌, if◌then◌else◌, Option, Some, None, Result, Ok, Err, bytes_eq, is_some}
 use Rattle.std.specs.List.{list_any}
 use Rattle.base_kit.specs.Prefixes.{Prefix, same_prefix}
-use Rattle.cfg_ast.specs.declared.network.Named.{Named}
 use Rattle.cfg_ast.specs.declared.interface.Interface.{Interface}
 use Rattle.cfg_ast.specs.declared.bgp.Base.{Base}
 use Rattle.cfg_ast.specs.declared.bgp.NetLine.{NetLine}
