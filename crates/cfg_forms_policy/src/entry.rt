@@ -1,11 +1,11 @@
 //! The lines of an entry of a route map.
 
-ghost use Rattle.std.specs.Prelude.{ℕ, ◌≡◌, length, nat_le, ◌&&◌, IfOk};
+ghost use Rattle.std.specs.Prelude.{ℕ, ◌≡◌, length, nat_le, ◌&&◌, IfOk, if◌then◌else◌, codes, true, false};
 ghost use Rattle.std.specs.List.{AllByRecursion, list_all, filter_map};
 ghost use Rattle.cfg_ast.specs.text.Answers.{Reads};
 ghost use Rattle.cfg_ast.specs.text.Lines.{IsWordIn, texts};
 ghost use Rattle.cfg_ast.specs.declared.heads.PolicyForm.TheVariants as form;
-ghost use Rattle.cfg_ast.specs.text.PolicyForms.{comms_match, is_none_alone, change_of, is_as_number, policy_form};
+ghost use Rattle.cfg_ast.specs.text.PolicyForms.{comms_match, has_mark, but_last, is_none_alone, change_of, is_as_number, policy_form};
 ghost use Rattle.cfg_ast.specs.text.Words.{as_number_word};
 
 use crate::communities::communities;
@@ -49,6 +49,21 @@ fn comms_match(
     Ok(PolicyItem::MatchComms(NameLine { names, line }, exact))
 }
 
+fn marked_match(
+    alloc: Global,
+    bytes: &[u8],
+    words: &[Span],
+    line: u32,
+) -> Result<PolicyItem, FormFault>
+    requires { AllByRecursion (IsWordIn bytes.now) words.now }
+    ensures { Reads result (if has_mark (codes "exact-match") (texts bytes.now words.now) then comms_match line true (but_last (texts bytes.now words.now)) else comms_match line false (texts bytes.now words.now)) }
+{
+    if let Some(names) = before_mark(bytes, words, b"exact-match") {
+        return comms_match(alloc, bytes, names, line, true);
+    }
+    comms_match(alloc, bytes, words, line, false)
+}
+
 #[tactic(auto, unfolding(cfg_ast::specs::text::PolicyForms::policy_form))]
 pub(crate) fn match_comms(
     alloc: Global,
@@ -62,10 +77,7 @@ pub(crate) fn match_comms(
     let [_, _, words @ ..] = words else {
         return Err(BadForm);
     };
-    if let Some(names) = before_mark(bytes, words, b"exact-match") {
-        return comms_match(alloc, bytes, names, line, true);
-    }
-    comms_match(alloc, bytes, words, line, false)
+    marked_match(alloc, bytes, words, line)
 }
 
 #[tactic(auto, unfolding(cfg_ast::specs::text::PolicyForms::policy_form))]
