@@ -37,8 +37,8 @@ fn put_line(
     Ok(())
 }
 
-// The line of the counts of each class of a network. The problem of each class but the first is made from
-// that of the class before it.
+// The line of the counts of each class of a network. In OSPF the problem of each class but the first is
+// made from that of the class before it.
 fn lines_of(alloc: Global, checked: &Checked, classes: &[DestClass]) -> Result<Vec<u8>, NoMemory>
     requires { classes.now ≡ classes_of checked.now.network }
     ensures { IfOk result (λ bytes. AreSummaryLines checked.now.network 1 classes.now bytes.items) }

@@ -40,7 +40,7 @@ pub record IsClassProblem (network : Network) (class : DestClass) (k : ClassProb
   pub built : IsBuiltFor network class k.problem
   pub exports : AreExportsOf k.problem k.exports
 
--- those of some class of the network
+-- the problem and the index of some class of the network
 abbrev pub IsProblemOfSome : Network → ClassProblem → Type 0
 IsProblemOfSome network k = (class : DestClass) × Contains (classes_of network) class × IsClassProblem network class k
 

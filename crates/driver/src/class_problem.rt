@@ -57,11 +57,12 @@ impl Shared {
         Ok(ClassProblem { problem, exports })
     }
 
-    /// The problem of a class, made from that of a class before it where there is one. In OSPF only
-    /// what the routers originate is made anew.
+    /// The problem of a class, with its index. In OSPF it is made from the problem of a class before it, if
+    /// one is given: only what the routers originate is made anew. In BGP all is made anew, since what a
+    /// map says depends on the prefix.
     ///
     /// # Errors
-    /// Out of memory.
+    /// Out of memory. Then the problem before is gone; what the classes share still serves.
     pub fn problem_after(
         &mut self,
         alloc: Global,
