@@ -165,7 +165,7 @@ in_by_link es k e h =
     in_flat_map (on_link es) (range_with_len 0 (link_bound es)) e.link k (below_in (link_bound es) e.link (link_below es 0 e (get_in es k e h)))
     (in_filter (λ k. nat_eq (link_at es k) e.link) (range_with_len 0 (length es)) k (below_in (length es) k (slice_get_within es k e h)) (eq-eqb _ _ at.link))
 
-module _ (es : List Edge) (groups : List ℕ) (g h : ℕ) where
+module _ (es : List Edge) (groups : List ℕ) (acts g h : ℕ) where
   abbrev between : List ℕ
   between = filter (goes es groups g h) (by_link es)
 
@@ -192,16 +192,16 @@ module _ (es : List Edge) (groups : List ℕ) (g h : ℕ) where
           let tests = two_true (goes es groups g h k.0) (nat_eq (act_at es k.0) a) (leads_as a k.0 found.0 k.1 ∙ found.2) in
           in_any (λ j. nat_eq (act_at es j) a) between k.0 (in_filter (goes es groups g h) (by_link es) k.0 (in_by_link es k.0 found.0 k.1) tests.0) tests.1
 
-  few_between : All (λ e. e.act < 16) es → (k : ℕ) → In between k → act_at es k < 16
+  few_between : All (λ e. e.act < acts) es → (k : ℕ) → In between k → act_at es k < acts
   few_between few k at =
       let e = edge_of k at in
-      subst (λ (n : ℕ). n < 16) (sym (at_place es groups k e.0 e.1).does)
-      (All-contains (λ (e : Edge). e.act < 16) es e.0 few (contains_in es e.0 (get_in es k e.0 e.1)))
+      subst (λ (n : ℕ). n < acts) (sym (at_place es groups k e.0 e.1).does)
+      (All-contains (λ (e : Edge). e.act < acts) es e.0 few (contains_in es e.0 (get_in es k e.0 e.1)))
 
   -- as many acts as some edge has
-  pub acts_counted : (f : ℕ → Bool) → All (λ e. e.act < 16) es → ((a : ℕ) → a < 16 → f a ≡ has_act es groups g h a) →
-      length (acts_into es groups g h) ≡ sum_below (λ a. one_where (f a)) 16
+  pub acts_counted : (f : ℕ → Bool) → All (λ e. e.act < acts) es → ((a : ℕ) → a < acts → f a ≡ has_act es groups g h a) →
+      length (acts_into es groups g h) ≡ sum_below (λ a. one_where (f a)) acts
   unfolding acts_into
   acts_counted f few is =
-      first_counted es [] between 16 (few_between few)
-      ∙ sum_same _ _ 16 (λ a less. ap one_where (and_true (any_at es between a) ∙ same_act a ∙ sym (is a less)))
+      first_counted es [] between acts (few_between few)
+      ∙ sum_same _ _ acts (λ a less. ap one_where (and_true (any_at es between a) ∙ same_act a ∙ sym (is a less)))

@@ -1,10 +1,11 @@
 -- The links between groups, counted in a table of acts.
-use Rattle.std.proofs.Common.{◌≡◌, ℕ, zero, suc, ◌+◌, ◌-◌, ◌<◌, ◌≤◌, Bool, List, [], ◌∷◌, ◌++◌, length, max, refl, sym, ap, ◌∙◌, arith}
+use Rattle.std.proofs.Common.{◌≡◌, ℕ, zero, suc, ◌+◌, ◌-◌, ◌<◌, Bool, List, [], ◌∷◌, ◌++◌, length, max, refl, sym, ap, ◌∙◌, arith}
 use Rattle.std.specs.Prelude.{flat_map}
 use Rattle.std.specs.List.{range_with_len}
 use Rattle.std.proofs.lemmas.List.FromFn.{length-map-range_with_len}
 use Rattle.base_kit.specs.declared.act_graph.Edge.{Edge}
 use Rattle.abstract_net.specs.Links.{acts_into, group_link, links_of_pair, group_links_from, quotient_links}
+use Rattle.group_report.specs.declared.link_counts.Size.{Size}
 use Rattle.group_report.specs.LinkTables.{is_set, IsLinkTable, sum_below, acts_in, links_between, links_above, links_below}
 use Rattle.group_report.proofs.ActCounts.{sum_same, acts_counted}
 
@@ -29,24 +30,24 @@ total : {X : Type 0} (f : ℕ → List X) (a n : ℕ) → length (flat_map f (ra
 total f a zero = refl
 total f a (suc n) = let before = total f a n in let last = one_more f a n in omega (arith, before, last)
 
-module _ (es : List Edge) (groups : List ℕ) (table : List Bool) (is : IsLinkTable es groups table) where
-  acts_are : (g h : ℕ) → g < 64 → h < 64 → length (acts_into es groups g h) ≡ acts_in table g h
-  acts_are g h gs hs = acts_counted es groups g h (is_set table g h) is.few_acts (λ a acts. is.cells g h a gs hs acts)
+module _ (es : List Edge) (groups : List ℕ) (size : Size) (table : List Bool) (is : IsLinkTable es groups size table) where
+  acts_are : (g h : ℕ) → g < size.groups → h < size.groups → length (acts_into es groups g h) ≡ acts_in size table g h
+  acts_are g h gs hs = acts_counted es groups size.acts g h (is_set size table g h) is.few_acts (λ a acts. is.cells g h a gs hs acts)
 
-  pair : (g h : ℕ) → g < 64 → h < 64 → length (links_of_pair es groups g h) ≡ links_between table g h
+  pair : (g h : ℕ) → g < size.groups → h < size.groups → length (links_of_pair es groups g h) ≡ links_between size table g h
   pair g h gs hs =
       length-map-range_with_len (group_link g h (acts_into es groups g h) (acts_into es groups h g)) 0
       (max (length (acts_into es groups g h)) (length (acts_into es groups h g)))
       ∙ (λ i. max (acts_are g h gs hs i) (acts_are h g hs gs i))
 
-  above : (count g : ℕ) → count ≤ 64 → g < count → length (group_links_from es groups count g) ≡ links_above table g (count - (g + 1))
-  above count g few inside =
-      total (links_of_pair es groups g) (g + 1) (count - (g + 1))
-      ∙ sum_same _ _ (count - (g + 1)) (λ i less. pair g (g + 1 + i) (omega (arith, few, inside)) (omega (arith, few, inside, less)))
+  above : (g : ℕ) → g < size.groups → length (group_links_from es groups size.groups g) ≡ links_above size table g (size.groups - (g + 1))
+  above g inside =
+      total (links_of_pair es groups g) (g + 1) (size.groups - (g + 1))
+      ∙ sum_same _ _ (size.groups - (g + 1)) (λ i less. pair g (g + 1 + i) inside (omega (arith, inside, less)))
 
-  pub counted : (count : ℕ) → count ≤ 64 → links_below table count count ≡ length (quotient_links es groups count)
+  pub counted : links_below size table size.groups ≡ length (quotient_links es groups size.groups)
   unfolding quotient_links
-  counted count few =
-      sym (total (group_links_from es groups count) 0 count
-      ∙ sum_same _ _ count (λ g inside. ap (λ (k : ℕ). length (group_links_from es groups count k)) (let z : 0 + g ≡ g = omega arith in z)
-      ∙ above count g few inside))
+  counted =
+      sym (total (group_links_from es groups size.groups) 0 size.groups
+      ∙ sum_same _ _ size.groups (λ g inside. ap (λ (k : ℕ). length (group_links_from es groups size.groups k)) (let z : 0 + g ≡ g = omega arith in z)
+      ∙ above g inside))

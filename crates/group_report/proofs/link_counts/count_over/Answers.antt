@@ -1,11 +1,13 @@
-use Rattle.std.proofs.Common.{Bool, List, ap, ◌∙◌}
-use Rattle.group_report.specs.LinkTables.{IsLinkTable, links_below}
+use Rattle.std.proofs.Common.{ℕ, Bool, List, length, ap, ◌∙◌}
+use Rattle.abstract_net.specs.Links.{quotient_links}
+use Rattle.group_report.specs.LinkTables.{links_below}
 use Rattle.group_report.proofs.LinkSums.{counted}
 use Rattle.group_report.proofs.link_counts.count_over.Goals as goal
 
 pub returns-in-Some : goal.returns-in-Some
 returns-in-Some c =
-    let is : IsLinkTable c.args.edges.now c.args.groups.now c.in-Some.table.items = rw c.in-Some.is at c.in_ok-table.ensures in
+    let size = c.in-Some.size in
     c.links_below.ensures
-    ∙ ap (λ (table : List Bool). links_below table c.args.count c.args.count) c.deref.ensures.value
-    ∙ counted c.args.edges.now c.args.groups.now c.in-Some.table.items is c.args.count c.if-count-le64.true
+    ∙ ap (λ (table : List Bool). links_below size table size.groups) c.deref.ensures.value
+    ∙ counted c.args.edges.now c.args.groups.now size c.in_ok-table.table.items c.in_ok-table.ensures
+    ∙ ap (λ (count : ℕ). length (quotient_links c.args.edges.now c.args.groups.now count)) c.in-Some.ensures.groups
