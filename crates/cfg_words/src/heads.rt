@@ -66,7 +66,8 @@ fn is_longer(row: &Head, best: &Option<Head>) -> bool
     }
 }
 
-// The longest head of these rows that begins the line.
+// The longest head of these rows that begins the line. Most rows after the longest need no look at the
+// line, since they are not longer.
 #[tactic(auto, using(crate::proofs::Longest::longer_assoc))]
 fn longest(rows: &[Head], bytes: &[u8], words: &[Span]) -> Option<Head>
     requires { AllByRecursion (IsWordIn bytes.now) words.now }
@@ -74,7 +75,7 @@ fn longest(rows: &[Head], bytes: &[u8], words: &[Span]) -> Option<Head>
 {
     let mut best = None;
     for row in rows {
-        if begins(row.0, bytes, words) && is_longer(row, &best) {
+        if is_longer(row, &best) && begins(row.0, bytes, words) {
             best = Some(*row);
         }
     }
