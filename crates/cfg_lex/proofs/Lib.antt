@@ -2,3 +2,4 @@ pub mod LineWords
 pub mod LinesLeft
 pub mod Taken
 pub mod Odd
+mod Runs

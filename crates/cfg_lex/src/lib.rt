@@ -14,6 +14,7 @@ mod all_lines;
 mod cutting;
 mod faults;
 mod following;
+mod lanes;
 mod line_words;
 mod places;
 mod words;

@@ -4,6 +4,8 @@ ghost use Rattle.std.specs.Prelude.{◌≡◌, ◌-◌, ◌≤◌, length};
 ghost use Rattle.cfg_ast.specs.text.Lines.{is_blank, is_plain, newline_from, without_return, word_end, indent_between, odd_from};
 ghost use Rattle.cfg_lex.specs.Odd.{is_letter, letters_end, behind_return};
 
+use crate::lanes::{LANES, letter_run, plain_run};
+
 pub(crate) fn is_blank(b: u8) -> bool
     ensures { result ≡ is_blank b }
 {
@@ -74,9 +76,9 @@ pub(crate) fn indent_between(bytes: &[u8], from: usize, upto: usize) -> usize
     i - from
 }
 
-// The place of the first byte that a line may not have, or the end.
+// The same as the next function, byte by byte.
 #[tactic(auto, using(cfg_ast::proofs::Places::first_next, cfg_ast::proofs::Places::first_here, cfg_ast::proofs::Places::first_end))]
-pub(crate) fn odd_from(bytes: &[u8], from: usize, upto: usize) -> usize
+fn odd_among_few(bytes: &[u8], from: usize, upto: usize) -> usize
     requires front { from ≤ upto }
     requires end { upto ≤ length bytes.now }
     ensures place { result ≡ odd_from bytes.now from upto }
@@ -89,6 +91,24 @@ pub(crate) fn odd_from(bytes: &[u8], from: usize, upto: usize) -> usize
     i
 }
 
+// The place of the first byte that a line may not have, or the end.
+pub(crate) fn odd_from(bytes: &[u8], from: usize, upto: usize) -> usize
+    requires front { from ≤ upto }
+    requires end { upto ≤ length bytes.now }
+    ensures place { result ≡ odd_from bytes.now from upto }
+    ensures bounds { (from ≤ result) × (result ≤ upto) }
+{
+    let mut i = from;
+    while LANES <= upto - i {
+        let run = plain_run(bytes, i);
+        if run < LANES {
+            return i + run;
+        }
+        i += LANES;
+    }
+    odd_among_few(bytes, i, upto)
+}
+
 // A byte of a word: one that prints, and no blank.
 fn is_letter(b: u8) -> bool
     ensures { result ≡ is_letter b }
@@ -96,9 +116,9 @@ fn is_letter(b: u8) -> bool
     b >= b'!' && b <= b'~'
 }
 
-// The place of the first byte from `from` on that is none of a word, or the end of the text.
+// The same as the next function, byte by byte.
 #[tactic(auto, using(cfg_ast::proofs::Places::first_next, cfg_ast::proofs::Places::first_here, cfg_ast::proofs::Places::first_end))]
-pub(crate) fn letters_end(bytes: &[u8], from: usize) -> usize
+fn letters_end_among_few(bytes: &[u8], from: usize) -> usize
     requires { from ≤ length bytes.now }
     ensures place { result ≡ letters_end bytes.now from }
     ensures bounds { (from ≤ result) × (result ≤ length bytes.now) }
@@ -108,6 +128,23 @@ pub(crate) fn letters_end(bytes: &[u8], from: usize) -> usize
         i += 1;
     }
     i
+}
+
+// The place of the first byte from `from` on that is none of a word, or the end of the text.
+pub(crate) fn letters_end(bytes: &[u8], from: usize) -> usize
+    requires { from ≤ length bytes.now }
+    ensures place { result ≡ letters_end bytes.now from }
+    ensures bounds { (from ≤ result) × (result ≤ length bytes.now) }
+{
+    let mut i = from;
+    while LANES <= bytes.len() - i {
+        let run = letter_run(bytes, i);
+        if run < LANES {
+            return i + run;
+        }
+        i += LANES;
+    }
+    letters_end_among_few(bytes, i)
 }
 
 // The place behind a carriage return, if one stands here.
