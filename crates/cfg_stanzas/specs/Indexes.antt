@@ -1,5 +1,5 @@
 -- What a set or a map beside a list says of the items of the list.
-use Rattle.std.specs.Prelude.{◌≡◌, ℕ, List, nat_eq}
+use Rattle.std.specs.Prelude.{◌≡◌, ℕ, List, Option, Some, None, ⊤, nat_eq}
 use Rattle.std.specs.List.{list_any, position}
 use Rattle.std.specs.Ordering.{nat_cmp, ordering_then, is_eq}
 use Rattle.std.specs.declared.cmp.Ordering.{Ordering}
@@ -36,3 +36,11 @@ HasKeys order key set items = (wanted : _) → sorted.contains order set wanted 
 -- the map has the place of the first neighbour of an address
 abbrev pub HasAddresses : tree.BTreeMap ℕ ℕ → List Neighbor → Type 0
 HasAddresses places items = (wanted : ℕ) → tree.get nat_cmp places wanted ≡ position (λ (p : Neighbor). nat_eq p.addr wanted) items
+
+-- the map has this place at this address, if one is given
+abbrev pub HasPlace : tree.BTreeMap ℕ ℕ → Option (ℕ × ℕ) → Type 0
+HasPlace places None = ⊤
+HasPlace places (Some (addr, place)) = tree.get nat_cmp places addr ≡ Some place
+
+abbrev pub AreAddresses : tree.BTreeMap ℕ ℕ → Option (ℕ × ℕ) → List Neighbor → Type 0
+AreAddresses places last items = HasAddresses places items × HasPlace places last

@@ -15,23 +15,25 @@ use std::alloc::Global;
 use std::collections::BTreeMap;
 use std::marker::Model;
 
-/// The neighbours of a BGP process, with the place of each by its address.
+/// The neighbours of a BGP process, with the place of each by its address. The lines of a neighbour
+/// mostly follow its `remote-as` line, so the address and the place of the last one stand beside the map.
 #[derive(Drop)]
 pub(crate) struct Neighbors {
     items: Vec<Neighbor>,
     places: BTreeMap<u32, usize>,
+    last: Option<(u32, usize)>,
 }
 
 impl Model for Neighbors {
     ghost use Rattle.std.specs.Prelude.{List};
     ghost use Rattle.cfg_ast.specs.declared.bgp.Neighbor.{Neighbor};
-    ghost use Rattle.cfg_stanzas.specs.Indexes.{HasAddresses};
+    ghost use Rattle.cfg_stanzas.specs.Indexes.{AreAddresses};
 
     ghost Value = { List Neighbor };
 
     ghost view = { λ a. a.items.items };
 
-    ghost invariant = { λ a. HasAddresses a.places a.items.items };
+    ghost invariant = { λ a. AreAddresses a.places a.last a.items.items };
 }
 
 /// A neighbour with only its `remote-as` line so far.
@@ -103,12 +105,18 @@ impl Neighbors {
         Neighbors {
             items: Vec::new(alloc),
             places: BTreeMap::new(alloc),
+            last: None,
         }
     }
 
     fn place_of(&self, addr: u32) -> Option<usize>
         ensures { result ≡ position (λ p. nat_eq p.addr addr) self.now }
     {
+        if let Some((last, place)) = self.last
+            && last == addr
+        {
+            return Some(place);
+        }
         match self.places.get(&addr) {
             Some(place) => Some(*place),
             None => None,
@@ -126,13 +134,20 @@ impl Neighbors {
         requires { has_neighbor self peer.addr ≡ false }
         ensures { IfOk result (λ all. all ≡ self ++ peer ∷ []) }
     {
-        let Neighbors { items, mut places } = self;
+        let Neighbors {
+            items,
+            mut places,
+            ..
+        } = self;
         let items = List::from_vec(items);
-        places.insert(peer.addr, items.len())?;
+        let addr = peer.addr;
+        let place = items.len();
+        places.insert(addr, place)?;
         let items = pushed(items, peer)?;
         Ok(Neighbors {
             items: items.into_vec(),
             places,
+            last: Some((addr, place)),
         })
     }
 

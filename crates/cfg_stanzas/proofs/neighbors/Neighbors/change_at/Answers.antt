@@ -12,9 +12,11 @@ invariant_of-self c =
     let place = c.args.place in
     let inside : place < length peers = subst (λ peers. place < length peers) (sym c.self.view_is) c.requires in
     let was : c.index_mut.result.now ≡ get_or peers place (new_neighbor 0 0 0) = c.index_mut.ensures.value
-    ∙ other_default peers place c.index_mut.result.now inside in
-    addresses_kept c.self.inside.places peers place c.set_neighbor.new.peer (new_neighbor 0 0 0) inside
-    (c.set_neighbor.ensures.addr ∙ ap (λ (p : Neighbor). p.addr) was) c.self.invariant
+    ∙ other_default peers place c.index_mut.result.now inside in (
+      addresses_kept c.self.inside.places peers place c.set_neighbor.new.peer (new_neighbor 0 0 0) inside
+          (c.set_neighbor.ensures.addr ∙ ap (λ (p : Neighbor). p.addr) was) c.self.invariant.0,
+      c.self.invariant.1,
+    )
 
 pub invariant_of-self-2 : goal.invariant_of-self-2
 invariant_of-self-2 c =
@@ -22,6 +24,8 @@ invariant_of-self-2 c =
     let place = c.args.place in
     let inside : place < length peers = subst (λ peers. place < length peers) (sym c.self.view_is) c.requires in
     let was : c.index_mut.result.now ≡ get_or peers place (new_neighbor 0 0 0) = c.index_mut.ensures.value
-    ∙ other_default peers place c.index_mut.result.now inside in
-    addresses_kept c.self.inside.places peers place c.set_neighbor.new.peer (new_neighbor 0 0 0) inside
-    (c.set_neighbor.ensures.addr ∙ ap (λ (p : Neighbor). p.addr) was) c.self.invariant
+    ∙ other_default peers place c.index_mut.result.now inside in (
+      addresses_kept c.self.inside.places peers place c.set_neighbor.new.peer (new_neighbor 0 0 0) inside
+          (c.set_neighbor.ensures.addr ∙ ap (λ (p : Neighbor). p.addr) was) c.self.invariant.0,
+      c.self.invariant.1,
+    )
