@@ -1,6 +1,6 @@
 //! A text read line by line, from a place on.
 
-ghost use Rattle.std.specs.Prelude.{◌≡◌, ◌≤◌, IfOk, length, true, is_ok};
+ghost use Rattle.std.specs.Prelude.{◌≡◌, ◌≤◌, [], IfOk, length, true, is_ok};
 ghost use Rattle.cfg_lex.specs.Odd.{AreWordsFrom};
 ghost use Rattle.cfg_lex.specs.Places.{IsPlace, IsNext, lines_from};
 
@@ -8,7 +8,6 @@ use crate::places::{behind_return, indent_between, is_blank, is_plain, letters_e
 use crate::words::are_kept;
 use base_kit::{List, NoMemory};
 use cfg_ast::{Line, Span};
-use std::alloc::Global;
 
 /// A place of a text where a line begins: how many lines stand before it, and its first byte.
 #[derive(Clone, Copy, Debug, PartialEq, Eq)]
@@ -24,13 +23,23 @@ struct Words {
     upto: usize,
 }
 
-// The words from a place on, up to the first byte that a line may not have.
-fn words_from(alloc: Global, bytes: &[u8], from: usize) -> Result<Words, NoMemory>
+// The list without its items, whose room it keeps.
+fn cleared(spans: List<Span>) -> List<Span>
+    ensures { result ≡ [] }
+{
+    let mut spans = spans.into_vec();
+    spans.clear();
+    List::from_vec(spans)
+}
+
+// The words from a place on, up to the first byte that a line may not have. They take the room of a
+// list that is no longer needed.
+fn words_from(bytes: &[u8], from: usize, spare: List<Span>) -> Result<Words, NoMemory>
     requires front { from ≤ length bytes.now }
     requires short { length bytes.now ≤ 16777216 }
     ensures { IfOk result (AreWordsFrom bytes.now from) }
 {
-    let mut spans = List::new(alloc);
+    let mut spans = cleared(spare);
     let mut i = from;
     while i < bytes.len() && is_plain(bytes[i]) {
         if is_blank(bytes[i]) {
@@ -47,11 +56,12 @@ fn words_from(alloc: Global, bytes: &[u8], from: usize) -> Result<Words, NoMemor
     Ok(Words { spans, upto: i })
 }
 
-/// The first line from a place on that is not skipped, and the place behind it.
+/// The first line from a place on that is not skipped, and the place behind it. Its words take the room
+/// of `spare`, as that of the words of a line before it.
 pub fn line_from(
-    alloc: Global,
     bytes: &[u8],
     place: Place,
+    spare: List<Span>,
 ) -> Result<Option<(Line, Place)>, NoMemory>
     requires short { length bytes.now ≤ 16777216 }
     requires place { IsPlace bytes.now place }
@@ -59,8 +69,9 @@ pub fn line_from(
     ensures { IfOk result (IsNext bytes.now place) }
 {
     let mut at = place;
+    let mut spare = spare;
     while at.from < bytes.len() {
-        let Words { spans, upto } = words_from(alloc, bytes, at.from)?;
+        let Words { spans, upto } = words_from(bytes, at.from, spare)?;
         let next = Place {
             number: at.number + 1,
             from: behind_return(bytes, upto) + 1,
@@ -74,6 +85,7 @@ pub fn line_from(
             return Ok(Some((line, next)));
         }
         at = next;
+        spare = spans;
     }
     Ok(None)
 }

@@ -13,6 +13,7 @@ use crate::end_line::is_end_line;
 use crate::policy::{is_policy_line, take_policy};
 use crate::stanza::take_inner;
 use crate::top::take_top;
+use base_kit::List;
 use cfg_ast::{Kind, Line, Network, PolicyScope, ReadRefusal, Scope};
 use cfg_lex::{Place, line_from, sound};
 use cfg_stanzas::{policy_said_in, said_in};
@@ -119,10 +120,12 @@ fn read_lines(alloc: Global, bytes: &[u8], state: &mut State) -> Result<(), Read
 {
     let mut place = Place { number: 0, from: 0 };
     let mut last = None;
-    while let Some((line, next)) = line_from(alloc, bytes, place)? {
+    let mut spare = List::new(alloc);
+    while let Some((line, next)) = line_from(bytes, place, spare)? {
         step(alloc, bytes, &line, state)?;
         last = unended(bytes, &line);
         place = next;
+        spare = line.words;
     }
     ended(last)
 }

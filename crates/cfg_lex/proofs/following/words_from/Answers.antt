@@ -12,7 +12,7 @@ pub loop-i-init : goal.loop-i-init
 loop-i-init c = record {
   front = omega arith;
   below = (odd_bounds c.args.bytes.now c.args.from c.requires.front).0;
-  words = rw c.new-spans.ensures refl;
+  words = rw c.cleared-spans.ensures refl;
 }
 
 pub loop-i-preserved-then-is_blank : goal.loop-i-preserved-then-is_blank
