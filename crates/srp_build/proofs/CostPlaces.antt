@@ -1,15 +1,16 @@
 -- Costs that are all different, and edges that number them.
-use Rattle.std.proofs.Common.{◌≡◌, ℕ, ◌+◌, ◌<◌, ◌≤◌, true, List, [], ◌∷◌, ◌++◌, ◌⊎◌, length, take, get_or, slice_get, nat_eq, Some, refl, sym, ◌∙◌, ap, subst, arith, inl, inr}
-use Rattle.std.specs.Prelude.{Contains}
+use Rattle.std.proofs.Common.{◌≡◌, ℕ, ◌+◌, ◌<◌, ◌≤◌, true, List, [], ◌∷◌, ◌++◌, ◌⊎◌, length, take, get_or, slice_get, nat_eq, Option, Some, refl, sym, ◌∙◌, ap, subst, arith, inl, inr}
+use Rattle.std.specs.Prelude.{Contains, IfSome}
 use Rattle.std.specs.List.{IsDistinct}
 use Rattle.std.proofs.lemmas.Bool.Decides.{nat_tests}
 use Rattle.base_kit.specs.declared.act_graph.Edge.{Edge}
 use Rattle.base_kit.proofs.Elements.{In, in_contains, contains_in, append_in, in_left, in_right}
 use Rattle.cfg_ast.specs.declared.network.Router.{Router}
 use Rattle.distinct_values.proofs.Interned.{distinct_places}
+use Rattle.srp_build.specs.declared.costs.InterfaceAct.{InterfaceAct}
 use Rattle.srp_build.specs.declared.hops.Hop.{Hop}
 use Rattle.srp_build.specs.ActOrder.{AreByFirstUse}
-use Rattle.srp_build.specs.Costs.{cost_of_hop, HopAdded, IsEdgeOfHop, never_left, IsCostOf, NumbersHops}
+use Rattle.srp_build.specs.Costs.{cost_of_hop, IsInterfaceAct, HopAdded, IsEdgeOfHop, never_left, IsCostOf, NumbersHops}
 use Rattle.distinct_values.specs.Distinct.{AreDistinct}
 use Rattle.srp_build.specs.HopEdges.{edge_with, AreEdgesOf}
 use Rattle.srp_build.proofs.FirstUse.{length_last, get_front, get_last, within_get, take_more, IsOldOrNext, first_use_next}
@@ -39,6 +40,11 @@ act_known old new cost act distinct at (inr more) = inr (
   ap (λ (l : List ℕ). length l) more ∙ length_last old cost,
   distinct.one_place act (length old) cost at (ap (λ (l : List ℕ). slice_get l (length old)) more ∙ get_last old cost),
 )
+
+-- directions so far, and the act of the last one's interface
+pub record AreNumberedTo (routers : List Router) (costs : List ℕ) (hops : List Hop) (edges : List Edge) (last : Option InterfaceAct) : Type 0 where
+  pub numbers : NumbersHops routers costs hops edges
+  pub known : IfSome last (IsInterfaceAct routers costs)
 
 module _ (routers : List Router) where
   cost_kept : (hops : List Hop) (hop : Hop) (cost : ℕ) → IsCostOf routers hops cost → IsCostOf routers (hops ++ hop ∷ []) cost

@@ -6,6 +6,7 @@ use Rattle.base_kit.specs.declared.act_graph.Edge.{Edge}
 use Rattle.cfg_ast.specs.declared.network.Router.{Router}
 use Rattle.cfg_ast.specs.meaning.Topology.{cost_of}
 use Rattle.distinct_values.specs.Distinct.{AreDistinct}
+use Rattle.srp_build.specs.declared.costs.InterfaceAct.{InterfaceAct}
 use Rattle.srp_build.specs.declared.hops.Hop.{Hop}
 use Rattle.srp_build.specs.ActOrder.{AreByFirstUse}
 use Rattle.srp_build.specs.HopEdges.{edge_with, AreEdgesOf}
@@ -17,6 +18,10 @@ cost_at routers router item = unwrap_or (option_and_then (λ (r : Router). cost_
 -- a direction costs what the importer's interface does
 abbrev pub cost_of_hop : List Router → Hop → ℕ
 cost_of_hop routers hop = cost_at routers hop.importer hop.importer_item
+
+-- the act numbers the cost of the interface
+pub record IsInterfaceAct (routers : List Router) (costs : List ℕ) (known : InterfaceAct) : Type 0 where
+  pub cost : slice_get costs known.act ≡ Some (cost_at routers known.importer known.item)
 
 -- an edge was put last, and its cost too if it was new
 pub record HopAdded (routers : List Router) (old new : List ℕ) (edges more : List Edge) (hop : Hop) : Type 0 where

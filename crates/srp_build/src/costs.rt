@@ -1,8 +1,8 @@
 //! The edges of an OSPF problem, and the costs that number their acts.
 
-ghost use Rattle.std.specs.Prelude.{◌≡◌, ◌⊎◌, ◌<◌, ◌^◌, ◌++◌, ◌∷◌, [], Some, IfOk, OnOk, length, map, slice_get};
+ghost use Rattle.std.specs.Prelude.{◌≡◌, ◌⊎◌, ◌<◌, ◌^◌, ◌++◌, ◌∷◌, [], Some, IfOk, IfSome, OnOk, length, map, slice_get};
 ghost use Rattle.srp_core.specs.declared.route.Act.TheVariants as act;
-ghost use Rattle.srp_build.specs.Costs.{cost_at, HopAdded, NumbersHops};
+ghost use Rattle.srp_build.specs.Costs.{cost_at, cost_of_hop, IsInterfaceAct, HopAdded, NumbersHops};
 ghost use Rattle.srp_build.specs.HopNumbers.{hop_at};
 ghost use Rattle.distinct_values.specs.Distinct.{AreDistinct};
 
@@ -19,6 +19,14 @@ use std::marker::Model;
 #[derive(Drop)]
 pub struct Costs {
     items: IndexSet<u16>,
+}
+
+/// The act of an importer's interface: the place of its cost.
+#[derive(Clone, Copy)]
+pub struct InterfaceAct {
+    importer: u32,
+    item: u32,
+    act: u32,
 }
 
 impl Model for Costs {
@@ -52,6 +60,31 @@ impl Costs {
         Ok(place)
     }
 
+    // The act of a direction. Directions over one interface follow one another, so the last act is asked
+    // first.
+    fn act_of(
+        &mut self,
+        routers: &[Router],
+        last: Option<InterfaceAct>,
+        hop: &Hop,
+    ) -> Result<u32, NoMemory>
+        requires few { length self.old < 2 ^ 32 }
+        requires last { IfSome last (IsInterfaceAct routers.now self.old) }
+        ensures found { IfOk result (λ act. slice_get self.new act ≡ Some (cost_of_hop routers.now hop.now)) }
+        ensures grown { OnOk result ((self.new ≡ self.old) ⊎ (self.new ≡ self.old ++ cost_of_hop routers.now hop.now ∷ [])) }
+        ensures distinct { AreDistinct self.new }
+    {
+        let _known = self.items.len();
+        if let Some(known) = last {
+            if known.importer == hop.importer && known.item == hop.importer_item {
+                return Ok(known.act);
+            }
+        }
+        let cost = cost_at(routers, hop.importer, hop.importer_item);
+        let place = self.number(cost)?;
+        Ok(place as u32)
+    }
+
     /// An act for each cost, in order.
     pub fn acts(&self, alloc: Global) -> Result<List<Act>, NoMemory>
         ensures acts { IfOk result (λ acts. acts ≡ map act.Cost self.now) }
@@ -82,20 +115,26 @@ fn push_edge(
     routers: &[Router],
     costs: &mut Costs,
     edges: &mut List<Edge>,
+    last: Option<InterfaceAct>,
     hop: &Hop,
-) -> Result<(), NoMemory>
-    requires { length costs.old < 2 ^ 32 }
-    ensures { OnOk result (HopAdded routers.now costs.old costs.new edges.old edges.new hop.now) }
+) -> Result<InterfaceAct, NoMemory>
+    requires few { length costs.old < 2 ^ 32 }
+    requires last { IfSome last (IsInterfaceAct routers.now costs.old) }
+    ensures added { OnOk result (HopAdded routers.now costs.old costs.new edges.old edges.new hop.now) }
+    ensures known { IfOk result (IsInterfaceAct routers.now costs.new) }
 {
-    let cost = cost_at(routers, hop.importer, hop.importer_item);
-    let act = costs.number(cost)?;
+    let act = costs.act_of(routers, last, hop)?;
     edges.push(Edge {
         importer: hop.importer,
         exporter: hop.exporter,
-        act: act as u32,
+        act,
         link: hop.link,
     })?;
-    Ok(())
+    Ok(InterfaceAct {
+        importer: hop.importer,
+        item: hop.importer_item,
+        act,
+    })
 }
 
 /// Edges, and the costs that their acts number.
@@ -118,9 +157,11 @@ pub fn number_hops(
 {
     let mut costs = Costs::new(alloc);
     let mut edges = List::from_vec(Vec::with_capacity(alloc, numbers.len())?);
+    let mut last = None;
     for number in numbers {
         let hop = hop_at(links, *number);
-        push_edge(routers, &mut costs, &mut edges, &hop)?;
+        let known = push_edge(routers, &mut costs, &mut edges, last, &hop)?;
+        last = Some(known);
     }
     Ok(Numbered { costs, edges })
 }
