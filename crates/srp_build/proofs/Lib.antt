@@ -17,6 +17,7 @@ mod FirstUse
 mod FixedMaps
 mod HopEdges
 mod HopNumbers
+mod HopOrder
 mod ImportMaps
 mod ImportSteps
 mod PolicyMaps

@@ -1,6 +1,6 @@
 -- The links of a network join places of two of its routers, and their directions.
 use Rattle.std.proofs.Common.{◌≡◌, ◌≢◌, ℕ, ◌<◌, Bool, true, false, ◌&&◌, List, inl, inr, length, Some, refl, sym, ◌∙◌, ap, subst, arith}
-use Rattle.std.specs.Prelude.{filter, slice_get, nat_lt}
+use Rattle.std.specs.Prelude.{All, filter, slice_get, nat_lt}
 use Rattle.std.specs.List.{enumerate_from}
 use Rattle.std.proofs.lemmas.Bool.Decides.{nat_tests}
 use Rattle.by_key.proofs.KeyedItems.{all_from}
@@ -139,6 +139,9 @@ all_inside n = record {
   exporters = all_from (λ (hop : Hop). hop.exporter < length n.routers) (hops_of (links_of n))
       (λ hop at. (is_between n hop (hop_of (links_of n) hop at)).exporter_in);
 }
+
+pub all_apart : (n : Network) → All (λ (link : Link). link.low < link.high) (links_of n)
+all_apart n = all_from (λ (link : Link). link.low < link.high) (links_of n) (λ link at. (link_between_routers n link at).apart)
 
 -- the directions of a network, sorted by their ends
 abbrev pub sorted_of : Network → List Hop

@@ -7,8 +7,7 @@ ghost use Rattle.srp_build.specs.Directions.{AreDirectionsOf};
 ghost use Rattle.srp_build.specs.Problem.{is_bgp};
 
 use crate::costs::{Numbered, number_hops};
-use crate::hop_numbers::sorted_numbers;
-use crate::hops::sorted_hops;
+use crate::hop_numbers::{sorted_hops, sorted_numbers};
 use crate::session_hops::{SessionHops, session_hops};
 use base_kit::{List, NoMemory, Protocol};
 use cfg_ast::Link;

@@ -1,4 +1,4 @@
-use Rattle.std.proofs.Common.{◌≡◌, ◌≤◌, ◌∙◌, true, List, length, map, sym, ap, subst, arith}
+use Rattle.std.proofs.Common.{◌≡◌, ◌<◌, ◌≤◌, ◌∙◌, true, List, length, map, sym, ap, subst, arith}
 use Rattle.std.proofs.lemmas.List.{length-map}
 use Rattle.std.specs.Prelude.{All}
 use Rattle.cfg_ast.specs.declared.network.Network.{Network}
@@ -15,9 +15,21 @@ use Rattle.srp_build.specs.Problem.{is_bgp as is_over_bgp}
 use Rattle.srp_build.proofs.BgpChecked.{is_bgp, bgp_is}
 use Rattle.srp_build.proofs.DirectionsOf.{sorted_are, few_directions}
 use Rattle.srp_build.proofs.LinesJoined.{all_join}
-use Rattle.srp_build.proofs.LinkPlaces.{all_inside}
+use Rattle.srp_build.proofs.LinkPlaces.{all_apart, all_inside}
 use Rattle.srp_build.proofs.SortedHops.{length-hops_of}
 use Rattle.srp_build.proofs.directions.directions_of.Goals as goal
+
+pub sorted_hops-requires-clause-few : goal.sorted_hops-requires-clause-few
+sorted_hops-requires-clause-few c =
+    let n = c.args.net.now.network in
+    let links_are = ap length (c.as_slice-links.ensures ∙ c.requires) in
+    let few_links = c.few_links.ensures n (c.given_is_well_formed.ensures n c.args.net.now.given) c.args.net.now.faultless in
+    omega arith
+
+pub sorted_hops-requires-clause-apart : goal.sorted_hops-requires-clause-apart
+sorted_hops-requires-clause-apart c =
+    let n = c.args.net.now.network in
+    subst (λ (l : List Link). All (λ (link : Link). link.low < link.high) l) (sym (c.as_slice-links.ensures ∙ c.requires)) (all_apart n)
 
 pub sorted_hops-requires-clause-inside : goal.sorted_hops-requires-clause-inside
 sorted_hops-requires-clause-inside c =
@@ -60,6 +72,11 @@ sorted_numbers-requires-clause-few c =
     let few_links = c.few_links.ensures n (c.given_is_well_formed.ensures n c.args.net.now.given) c.args.net.now.faultless in
     omega arith
 
+pub sorted_numbers-requires-clause-apart : goal.sorted_numbers-requires-clause-apart
+sorted_numbers-requires-clause-apart c =
+    let n = c.args.net.now.network in
+    subst (λ (l : List Link). All (λ (link : Link). link.low < link.high) l) (sym (c.as_slice-links.ensures ∙ c.requires)) (all_apart n)
+
 pub sorted_numbers-requires-clause-inside : goal.sorted_numbers-requires-clause-inside
 sorted_numbers-requires-clause-inside c =
     let n = c.args.net.now.network in
@@ -73,7 +90,8 @@ number_hops-requires c =
     let links_are = ap length (c.as_slice-links.ensures ∙ c.requires) in
     let few_links = c.few_links.ensures n (c.given_is_well_formed.ensures n c.args.net.now.given) c.args.net.now.faultless in
     let read = ap length c.deref.ensures.value in
-    let twice = c.in_ok-numbers.ensures.len ∙ length-hops_of c.as_slice-links.result.now in
+    let most = c.in_ok-numbers.ensures.len in
+    let twice = length-hops_of c.as_slice-links.result.now in
     omega arith
 
 pub returns : goal.returns
@@ -91,6 +109,6 @@ returns c =
       numbers = subst (λ (r : List Router). NumbersHops r numbered.costs (directions_of n) numbered.edges) routers_are
           (subst (λ (h : List Hop). NumbersHops c.as_slice-routers.result.now numbered.costs h numbered.edges) (ap (map f) c.deref.ensures.value ∙ same)
           c.in_ok-numbered.ensures);
-      few = few_directions n c.as_slice-links.result.now hops links_are same (length-map c.in_ok-numbers.numbers.items f ∙ c.in_ok-numbers.ensures.len)
-          few_links;
+      few = few_directions n c.as_slice-links.result.now hops links_are same
+          (let size = length-map c.in_ok-numbers.numbers.items f in let most = c.in_ok-numbers.ensures.len in omega arith) few_links;
     }
