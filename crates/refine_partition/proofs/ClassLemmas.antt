@@ -3,11 +3,11 @@ use Rattle.std.proofs.Common.{◌≡◌, ◌≢◌, ℕ, zero, suc, ◌+◌, ◌
 use Rattle.std.specs.Prelude.{slice_index, ◌⊎◌}
 use Rattle.std.proofs.lemmas.Bool.{cases_eq, cases_lt}
 use Rattle.std.proofs.lemmas.List.{get_or-set_same, get_or-set_other, length_push, get_or_push, get_or_append_left, length-append, get_or-take, get_or-drop, get_or_default, drop-take, take-append-drop, length-take}
-use Rattle.std.proofs.lemmas.List.Elements.{All-set, All-weaker, All-push, All-append, All-take, All-contains, Contains-append_left, Contains-append_right, Contains-append_cases}
+use Rattle.std.proofs.lemmas.List.Elements.{All-set, All-weaker, All-push, All-append, All-take, All-contains, Contains-append_left, Contains-append_right, Contains-append_cases, Contains-push}
 use Rattle.std.proofs.Math.ListN.{length-set}
 use Rattle.refine_partition.specs.declared.imports.Import.{Import}
 use Rattle.refine_partition.specs.Arrivals.{act_of_import}
-use Rattle.refine_partition.specs.Classes.{IsSeparated, AreClasses}
+use Rattle.refine_partition.specs.Classes.{IsNoted, IsSeparated, AreClasses, AreReached}
 
 -- what holds while the first importers have moved, with the names of the classes that they left
 pub record Separating (old new : List ℕ) (movers : List Import) (names : ℕ → Option ℕ) (fresh next : ℕ) : Type 0 where
@@ -160,6 +160,46 @@ separating_more old new movers mover names names' fresh next next' class name so
         ]
       ];
     }
+
+-- no router has left its class
+pub reached_none : (classes : List ℕ) (count : ℕ) → All (λ class. class < count) classes → AreReached classes count []
+reached_none classes count below = record {
+  only = λ k d inside. absurd (omega arith);
+  all = λ u hu high. let lt : slice_index classes u < count = below u 0 hu in absurd (omega arith);
+}
+
+-- a router gets a new class, and is added where it had none
+pub reached_more : (classes reached reached' : List ℕ) (count router class name : ℕ) → AreReached classes count reached → router < length classes →
+    slice_index classes router ≡ class → count ≤ name → IsNoted reached reached' router class count → AreReached (slice_set classes router name) count reached'
+reached_more classes reached reached' count router class name are inside is high noted =
+    let classes' : List ℕ = slice_set classes router name in
+    let size = length-set classes router name in
+    let here : (u : ℕ) → u ≡ router → slice_index classes' u ≡ name =
+    λ u e. ap (slice_index classes') e ∙ get_or-set_same classes router name 0 inside in
+    let there : (u : ℕ) → u ≢ router → slice_index classes' u ≡ slice_index classes u = λ u ne. get_or-set_other classes router u name 0 ne in
+    let kept : All (λ u. (u < length classes') × (count ≤ slice_index classes' u)) reached =
+    All-weaker (λ u. (u < length classes) × (count ≤ slice_index classes u)) (λ u. (u < length classes') × (count ≤ slice_index classes' u)) (λ u (hu, at).
+    elim (cases_eq u router) [
+      | inl e ↦ let v = here u e in (omega arith, omega arith)
+      | inr ne ↦ let v = there u ne in (omega arith, omega arith)
+    ]) reached are.only in
+    elim noted [
+      | inl (low, added) ↦ rw added (record {
+        only = let v = here router refl in All-push (λ u. (u < length classes') × (count ≤ slice_index classes' u)) reached router kept
+            (omega arith, omega arith);
+        all = λ u hu at. elim (cases_eq u router) [
+          | inl e ↦ subst (Contains (reached ++ router ∷ [])) (sym e) (Contains-push reached router)
+          | inr ne ↦ let v = there u ne in Contains-append_left reached (router ∷ []) u (are.all u (omega arith) (omega arith))
+        ];
+      })
+      | inr (was, same) ↦ rw same (record {
+        only = kept;
+        all = λ u hu at. elim (cases_eq u router) [
+          | inl e ↦ subst (Contains reached) (sym e) (are.all router inside (omega arith))
+          | inr ne ↦ let v = there u ne in are.all u (omega arith) (omega arith)
+        ];
+      })
+    ]
 
 abbrev import_at : ℕ → ℕ → Import
 import_at router act = record { importer = router; act = act }

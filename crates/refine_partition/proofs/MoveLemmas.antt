@@ -1,5 +1,5 @@
--- The importers move into the pieces of their classes.
-use Rattle.std.proofs.Common.{◌≡◌, ◌≢◌, ℕ, zero, suc, ◌+◌, ◌-◌, ◌<◌, ◌≤◌, nat_eq, List, [], ◌∷◌, ◌++◌, length, slice_index_or, slice_set, take, All, Any, Contains, Option, Some, None, Vec, refl, sym, ◌∙◌, ap, subst, arith, inl, inr}
+-- The reached routers move into the pieces of their classes.
+use Rattle.std.proofs.Common.{◌≡◌, ◌≢◌, ℕ, ◌+◌, ◌-◌, ◌<◌, ◌≤◌, nat_eq, List, [], ◌∷◌, ◌++◌, length, slice_index_or, slice_set, take, All, Contains, Option, Some, None, Vec, refl, sym, ◌∙◌, ap, subst, arith, inl, inr}
 use Rattle.std.specs.Prelude.{slice_index, ◌⊎◌}
 use Rattle.std.specs.HashMap.{get}
 use Rattle.std.specs.declared.alloc.Global.{Global}
@@ -8,44 +8,13 @@ use Rattle.std.proofs.lemmas.List.{get_or-set_same, get_or-set_other, length_pus
 use Rattle.std.proofs.lemmas.List.Elements.{All-contains, All-weaker, All-push, All-get_or, Contains-append_left, Contains-push, Contains-push_cases}
 use Rattle.std.proofs.lemmas.Map.Steps.{le-length_from_below}
 use Rattle.std.proofs.Math.ListN.{length-set}
-use Rattle.refine_partition.specs.declared.imports.Import.{Import}
-use Rattle.refine_partition.specs.Classes.{ClassNames, AreClasses}
+use Rattle.refine_partition.specs.Classes.{ClassNames, AreNewClasses}
 use Rattle.refine_partition.specs.Loose.{AreListed, AreUsed, AreStaying, IsPieceOf, IsMoved, AreMoved}
+use Rattle.refine_partition.proofs.PlanLemmas.{contains_or_not}
 use Rattle.refine_partition.proofs.RenumberLemmas.{any_at}
 
--- an edge of the list arrives at the router
-abbrev pub Arrives : List Import → ℕ → Type 0
-Arrives arrivals u = Any (λ a. a.importer ≡ u) arrivals
-
-pub arrives_or_not : (arrivals : List Import) (u : ℕ) → Arrives arrivals u ⊎ (¬ Arrives arrivals u)
-arrives_or_not [] u = inr (λ (k, a, inside, at, is). absurd (omega arith))
-arrives_or_not (x ∷ xs) u = elim (cases_eq x.importer u) [
-  | inl e ↦ inl (0, x, omega arith, refl, e)
-  | inr ne ↦ elim (arrives_or_not xs u) [
-    | inl found ↦ let (k, a, inside, at, is) = found in inl (suc k, a, omega arith, at, is)
-    | inr none ↦ inr (λ found. by x xs u ne none found)
-  ]
-]
-  where
-    by : (x : Import) (xs : List Import) (u : ℕ) → x.importer ≢ u → ¬ Arrives xs u → Arrives (x ∷ xs) u → ⊥
-    by x xs u ne none (zero, a, inside, at, is) = ne (ap (λ (b : Import). b.importer) at ∙ is)
-    by x xs u ne none (suc k, a, inside, at, is) = none (k, a, omega arith, at, is)
-
-arrives_before : (done : List Import) (arrival : Import) (u : ℕ) → Arrives done u → Arrives (done ++ arrival ∷ []) u
-arrives_before done arrival u (k, a, inside, at, is) =
-    let (j, within, at') = Contains-append_left done (arrival ∷ []) a (k, inside, at) in (j, a, within, at', is)
-
-arrives_last : (done : List Import) (arrival : Import) (u : ℕ) → arrival.importer ≡ u → Arrives (done ++ arrival ∷ []) u
-arrives_last done arrival u is = let (j, within, at) = Contains-push done arrival in (j, arrival, within, at, is)
-
-arrives_cases : (done : List Import) (arrival : Import) (u : ℕ) → Arrives (done ++ arrival ∷ []) u → Arrives done u ⊎ (arrival.importer ≡ u)
-arrives_cases done arrival u (k, a, inside, at, is) = elim (Contains-push_cases done arrival a (k, inside, at)) [
-  | inl (j, within, at') ↦ inl (j, a, within, at', is)
-  | inr e ↦ inr (ap (λ (b : Import). b.importer) e ∙ is)
-]
-
-all_arrive : (P : ℕ → Type 0) (arrivals : List Import) (u : ℕ) → All (λ a. P a.importer) arrivals → Arrives arrivals u → P u
-all_arrive P arrivals u all (k, a, inside, at, is) = subst P is (All-contains (λ a. P a.importer) arrivals a all (k, inside, at))
+last_at : (done : List ℕ) (router u : ℕ) → u ≡ router → Contains (done ++ router ∷ []) u
+last_at done router u e = subst (Contains (done ++ router ∷ [])) (sym e) (Contains-push done router)
 
 -- a router of the class: it had the number, or the new block comes from its block
 pub record IsNamer (numbers classes : List ℕ) (before : ℕ) (origins : List ℕ) (class number : ℕ) : Type 0 where
@@ -55,22 +24,22 @@ pub record IsNamer (numbers classes : List ℕ) (before : ℕ) (origins : List �
   pub old : number < before → slice_index numbers router ≡ number
   pub new : (k : ℕ) → number ≡ before + k → k < length origins → slice_index origins k ≡ slice_index numbers router
 
--- what holds while the first importers have moved, with the numbers of their classes
-pub record Moving (numbers classes touched : List ℕ) (done : List Import) (before : ℕ) (next origins : List ℕ) (names : ℕ → Option ℕ) : Type 0 where
+-- what holds while the first routers have moved, with the numbers of their classes
+pub record Moving (numbers classes touched done : List ℕ) (before : ℕ) (next origins : List ℕ) (names : ℕ → Option ℕ) : Type 0 where
   pub total : length next ≡ length numbers
-  pub rest : (u : ℕ) → u < length numbers → ¬ Arrives done u → slice_index next u ≡ slice_index numbers u
-  pub named : (u : ℕ) → u < length numbers → Arrives done u → names (slice_index classes u) ≡ Some (slice_index next u)
+  pub rest : (u : ℕ) → u < length numbers → ¬ Contains done u → slice_index next u ≡ slice_index numbers u
+  pub named : (u : ℕ) → u < length numbers → Contains done u → names (slice_index classes u) ≡ Some (slice_index next u)
   pub one : (a b number : ℕ) → names a ≡ Some number → names b ≡ Some number → a ≡ b
   pub below : (class number : ℕ) → names class ≡ Some number → number < before + length origins
   pub back : (class number : ℕ) → names class ≡ Some number → IsNamer numbers classes before origins class number
   pub all_left : (class number : ℕ) → names class ≡ Some number → number < before → class ≢ number → (u : ℕ) → u < length numbers →
       slice_index numbers u ≡ number → slice_index classes u ≢ number
-  pub used : (k : ℕ) → k < length origins → (u : ℕ) × (u < length numbers) × Arrives done u × (slice_index next u ≡ before + k)
+  pub used : (k : ℕ) → k < length origins → (u : ℕ) × (u < length numbers) × Contains done u × (slice_index next u ≡ before + k)
   pub each : All (λ block. (class : ℕ) × (names class ≡ Some block)) touched
 
-pub moving_none : (numbers classes touched : List ℕ) (arrivals : List Import) (before : ℕ) (names : ClassNames) → AreStaying numbers classes touched names →
-    All (λ n. n < before) numbers → Moving numbers classes touched (take 0 arrivals) before numbers [] (λ class. get nat_eq names class)
-moving_none numbers classes touched arrivals before names staying low =
+pub moving_none : (numbers classes touched reached : List ℕ) (before : ℕ) (names : ClassNames) → AreStaying numbers classes touched names →
+    All (λ n. n < before) numbers → Moving numbers classes touched (take 0 reached) before numbers [] (λ class. get nat_eq names class)
+moving_none numbers classes touched reached before names staying low =
     let lower : (class number : ℕ) → get nat_eq names class ≡ Some number → number < before = λ class number found.
     let (u, hu, is, has) = (staying.only class number found).1.member in
     let lt : slice_index numbers u < before = All-get_or (λ n. n < before) numbers u 0 hu low in
@@ -78,7 +47,7 @@ moving_none numbers classes touched arrivals before names staying low =
     record {
       total = refl;
       rest = λ u hu none. refl;
-      named = λ u hu (k, a, inside, at, is). absurd (omega arith);
+      named = λ u hu (k, inside, at). absurd (omega arith);
       one = staying.one;
       below = λ class number found. let lt = lower class number found in omega arith;
       back = λ class number found.
@@ -89,21 +58,20 @@ moving_none numbers classes touched arrivals before names staying low =
       each = staying.each;
     }
 
--- the importer moves to the block of its class
-pub moving_known : (numbers classes touched : List ℕ) (done : List Import) (arrival : Import) (before : ℕ) (next next' origins : List ℕ) (names : ℕ → Option ℕ)
-    (number : ℕ) → Moving numbers classes touched done before next origins names → arrival.importer < length numbers →
-    names (slice_index classes arrival.importer) ≡ Some number → IsMoved next next' arrival.importer number →
-    Moving numbers classes touched (done ++ arrival ∷ []) before next' origins names
-moving_known numbers classes touched done arrival before next next' origins names number so_far inside known moved =
-    let router : ℕ = arrival.importer in
+-- the router moves to the block of its class
+pub moving_known : (numbers classes touched done : List ℕ) (router : ℕ) (before : ℕ) (next next' origins : List ℕ) (names : ℕ → Option ℕ)
+    (number : ℕ) → Moving numbers classes touched done before next origins names → router < length numbers →
+    names (slice_index classes router) ≡ Some number → IsMoved next next' router number →
+    Moving numbers classes touched (done ++ router ∷ []) before next' origins names
+moving_known numbers classes touched done router before next next' origins names number so_far inside known moved =
     let at : (u : ℕ) → router ≡ u → slice_index next' u ≡ number = λ u e. ap (slice_index next') (sym e) ∙ moved.here in
     record {
       total = moved.total ∙ so_far.total;
-      rest = λ u hu none. moved.others u (λ e. none (arrives_last done arrival u (sym e)))
-          ∙ so_far.rest u hu (λ found. none (arrives_before done arrival u found));
+      rest = λ u hu none. moved.others u (λ e. none (last_at done router u e))
+          ∙ so_far.rest u hu (λ found. none (Contains-append_left done (router ∷ []) u found));
       named = λ u hu found. elim (cases_eq u router) [
         | inl e ↦ ap names (ap (slice_index classes) e) ∙ known ∙ ap (λ n. Some n) (sym (at u (sym e)))
-        | inr ne ↦ elim (arrives_cases done arrival u found) [
+        | inr ne ↦ elim (Contains-push_cases done router u found) [
           | inl earlier ↦ so_far.named u hu earlier ∙ ap (λ n. Some n) (sym (moved.others u ne))
           | inr e ↦ absurd (ne (sym e))
         ]
@@ -116,7 +84,7 @@ moving_known numbers classes touched done arrival before next next' origins name
           let (u, hu, found, is) = so_far.used k within in (
             u,
             hu,
-            arrives_before done arrival u found,
+            Contains-append_left done (router ∷ []) u found,
             elim (cases_eq u router) [
               | inl e ↦
                   let named : names (slice_index classes router) ≡ Some (slice_index next u) = ap names (ap (slice_index classes) (sym e))
@@ -129,22 +97,21 @@ moving_known numbers classes touched done arrival before next next' origins name
       each = so_far.each;
     }
 
--- the importer moves to a new block
-pub moving_new : (numbers classes touched : List ℕ) (done : List Import) (arrival : Import) (before : ℕ) (next next' origins origins' : List ℕ)
-    (names names' : ℕ → Option ℕ) (number origin : ℕ) → Moving numbers classes touched done before next origins names → arrival.importer < length numbers →
-    names (slice_index classes arrival.importer) ≡ None → number ≡ before + length origins → names' (slice_index classes arrival.importer) ≡ Some number →
-    ((other : ℕ) → other ≢ slice_index classes arrival.importer → names' other ≡ names other) → origin ≡ slice_index next arrival.importer →
-    origins' ≡ origins ++ origin ∷ [] → IsMoved next next' arrival.importer number →
-    Moving numbers classes touched (done ++ arrival ∷ []) before next' origins' names'
-moving_new numbers classes touched done arrival before next next' origins origins' names names' number origin so_far inside none is_next named others origin_is
+-- the router moves to a new block
+pub moving_new : (numbers classes touched done : List ℕ) (router : ℕ) (before : ℕ) (next next' origins origins' : List ℕ)
+    (names names' : ℕ → Option ℕ) (number origin : ℕ) → Moving numbers classes touched done before next origins names → router < length numbers →
+    names (slice_index classes router) ≡ None → number ≡ before + length origins → names' (slice_index classes router) ≡ Some number →
+    ((other : ℕ) → other ≢ slice_index classes router → names' other ≡ names other) → origin ≡ slice_index next router →
+    origins' ≡ origins ++ origin ∷ [] → IsMoved next next' router number →
+    Moving numbers classes touched (done ++ router ∷ []) before next' origins' names'
+moving_new numbers classes touched done router before next next' origins origins' names names' number origin so_far inside none is_next named others origin_is
     pushed moved =
-    let router : ℕ = arrival.importer in
     let class : ℕ = slice_index classes router in
     let size : length origins' ≡ length origins + 1 = ap length pushed ∙ length_push origins origin in
     let at : (u : ℕ) → router ≡ u → slice_index next' u ≡ number = λ u e. ap (slice_index next') (sym e) ∙ moved.here in
-    let not_yet : ¬ Arrives done router = λ found. let named_before = so_far.named router inside found in absurd cc in
-    let apart : (u : ℕ) → Arrives done u → u ≢ router = λ u found e. not_yet (subst (Arrives done) e found) in
-    let not_class : (u : ℕ) → u < length numbers → Arrives done u → slice_index classes u ≢ class = λ u hu found e.
+    let not_yet : ¬ Contains done router = λ found. let named_before = so_far.named router inside found in absurd cc in
+    let apart : (u : ℕ) → Contains done u → u ≢ router = λ u found e. not_yet (subst (Contains done) e found) in
+    let not_class : (u : ℕ) → u < length numbers → Contains done u → slice_index classes u ≢ class = λ u hu found e.
     let named_before : names class ≡ Some (slice_index next u) = ap names (sym e) ∙ so_far.named u hu found in absurd cc in
     let by_class : (a n : ℕ) → names' a ≡ Some n → ((a ≡ class) × (n ≡ number)) ⊎ ((a ≢ class) × (names a ≡ Some n)) = λ a n found. elim (cases_eq a class) [
       | inl e ↦ inl (e, let found' = ap names' (sym e) ∙ found in cc)
@@ -156,9 +123,9 @@ moving_new numbers classes touched done arrival before next next' origins origin
     ∙ get_or_push origins origin 0 k (sym e) in
     record {
       total = moved.total ∙ so_far.total;
-      rest = λ u hu away. moved.others u (λ e. away (arrives_last done arrival u (sym e)))
-          ∙ so_far.rest u hu (λ found. away (arrives_before done arrival u found));
-      named = λ u hu found. elim (arrives_cases done arrival u found) [
+      rest = λ u hu away. moved.others u (λ e. away (last_at done router u e))
+          ∙ so_far.rest u hu (λ found. away (Contains-append_left done (router ∷ []) u found));
+      named = λ u hu found. elim (Contains-push_cases done router u found) [
         | inl earlier ↦ others (slice_index classes u) (not_class u hu earlier) ∙ so_far.named u hu earlier
             ∙ ap (λ n. Some n) (sym (moved.others u (apart u earlier)))
         | inr e ↦ ap names' (ap (slice_index classes) (sym e)) ∙ named ∙ ap (λ n. Some n) (sym (at u e))
@@ -198,8 +165,8 @@ moving_new numbers classes touched done arrival before next next' origins origin
         | inr o ↦ so_far.all_left a n o.1 lt ne
       ];
       used = λ k within. elim (cases_lt k (length origins)) [
-        | inl lt ↦ let (u, hu, found, is) = so_far.used k lt in (u, hu, arrives_before done arrival u found, moved.others u (apart u found) ∙ is)
-        | inr le ↦ (router, inside, arrives_last done arrival router refl, moved.here ∙ omega arith)
+        | inl lt ↦ let (u, hu, found, is) = so_far.used k lt in (u, hu, Contains-append_left done (router ∷ []) u found, moved.others u (apart u found) ∙ is)
+        | inr le ↦ (router, inside, Contains-push done router, moved.here ∙ omega arith)
       ];
       each = All-weaker (λ b. (c : ℕ) × (names c ≡ Some b)) (λ b. (c : ℕ) × (names' c ≡ Some b)) (λ b (c, found). elim (cases_eq c class) [
         | inl e ↦ let found' : names class ≡ Some b = ap names (sym e) ∙ found in absurd cc
@@ -207,26 +174,26 @@ moving_new numbers classes touched done arrival before next next' origins origin
       ]) touched so_far.each;
     }
 
--- no block is empty while importers move
-pub moving_used : (numbers classes touched : List ℕ) (done : List Import) (before : ℕ) (next origins : List ℕ) (names : ℕ → Option ℕ) →
-    Moving numbers classes touched done before next origins names → AreUsed before numbers → All (λ a. Contains touched (slice_index numbers a.importer)) done →
+-- no block is empty while routers move
+pub moving_used : (numbers classes touched done : List ℕ) (before : ℕ) (next origins : List ℕ) (names : ℕ → Option ℕ) →
+    Moving numbers classes touched done before next origins names → AreUsed before numbers → All (λ w. Contains touched (slice_index numbers w)) done →
     AreUsed (before + length origins) next
 moving_used numbers classes touched done before next origins names so_far used reached = λ number inside.
     let total = so_far.total in
     elim (cases_lt number before) [
       | inl old ↦
           let (u, hu, is) = used number old in
-          elim (arrives_or_not done u) [
+          elim (contains_or_not done u) [
             | inl found ↦
                 let there : Contains touched number = subst (Contains touched) is
-                (all_arrive (λ w. Contains touched (slice_index numbers w)) done u reached found) in
+                (All-contains (λ w. Contains touched (slice_index numbers w)) done u reached found) in
                 let (class, named) = All-contains (λ b. (c : ℕ) × (names c ≡ Some b)) touched number so_far.each there in
                 let namer = so_far.back class number named in
                 let w : ℕ = namer.router in
                 let hw = namer.below in (
                   w,
                   omega arith,
-                  elim (arrives_or_not done w) [
+                  elim (contains_or_not done w) [
                     | inl moved ↦
                         let named' : names class ≡ Some (slice_index next w) = ap names (sym namer.class_is) ∙ so_far.named w hw moved in
                         cc
@@ -244,15 +211,15 @@ moving_used numbers classes touched done before next origins names so_far used r
 pub used_few : (count : ℕ) (numbers : List ℕ) → AreUsed count numbers → count ≤ length numbers
 used_few count numbers used = le-length_from_below numbers count (λ q inside. let (u, hu, is) = used q inside in any_at numbers q u hu is)
 
--- all importers have moved
-pub moved_all : (numbers classes touched : List ℕ) (arrivals : List Import) (before class_count : ℕ) (next origins : List ℕ) (names : ℕ → Option ℕ) →
-    Moving numbers classes touched arrivals before next origins names → AreClasses numbers arrivals before classes class_count → All (λ n. n < before) numbers →
-    AreUsed before numbers → All (λ a. Contains touched (slice_index numbers a.importer)) arrivals → AreMoved numbers classes arrivals before next origins
-moved_all numbers classes touched arrivals before class_count next origins names so_far are low used reached =
+-- all reached routers have moved
+pub moved_all : (numbers classes touched reached : List ℕ) (before : ℕ) (next origins : List ℕ) (names : ℕ → Option ℕ) →
+    Moving numbers classes touched reached before next origins names → AreNewClasses numbers classes before reached → All (λ n. n < before) numbers →
+    AreUsed before numbers → All (λ w. Contains touched (slice_index numbers w)) reached → AreMoved numbers classes reached before next origins
+moved_all numbers classes touched reached before next origins names so_far are low used touches =
     let below : (u : ℕ) → u < length numbers → slice_index numbers u < before = λ u hu. All-get_or (λ n. n < before) numbers u 0 hu low in
-    let high : (u : ℕ) → Arrives arrivals u → before ≤ slice_index classes u =
-    λ u found. all_arrive (λ w. before ≤ slice_index classes w) arrivals u are.moved found in
-    let mixed : (u v : ℕ) → u < length numbers → v < length numbers → Arrives arrivals u → ¬ Arrives arrivals v → slice_index next u ≡ slice_index next v → ⊥ =
+    let high : (u : ℕ) → Contains reached u → before ≤ slice_index classes u =
+    λ u found. (All-contains (λ w. (w < length classes) × (before ≤ slice_index classes w)) reached u are.new.only found).1 in
+    let mixed : (u v : ℕ) → u < length numbers → v < length numbers → Contains reached u → ¬ Contains reached v → slice_index next u ≡ slice_index next v → ⊥ =
     λ u v hu hv found none same.
     let lt = below v hv in
     let stays = so_far.rest v hv none in
@@ -263,41 +230,41 @@ moved_all numbers classes touched arrivals before class_count next origins names
     record {
       total = so_far.total;
       rest = so_far.rest;
-      together = λ u v hu hv same. elim (arrives_or_not arrivals u) [
-        | inl first ↦ elim (arrives_or_not arrivals v) [
+      together = λ u v hu hv same. elim (contains_or_not reached u) [
+        | inl first ↦ elim (contains_or_not reached v) [
           | inl second ↦
               let a = so_far.named u hu first in
               let b = so_far.named v hv second in
               let e = ap names same in cc
           | inr none ↦ let at = high u first in let e = are.stay v hv none in let lt = below v hv in absurd (omega arith)
         ]
-        | inr none ↦ elim (arrives_or_not arrivals v) [
+        | inr none ↦ elim (contains_or_not reached v) [
           | inl second ↦ let at = high v second in let e = are.stay u hu none in let lt = below u hu in absurd (omega arith)
           | inr none' ↦ so_far.rest u hu none ∙ sym (are.stay u hu none) ∙ same ∙ are.stay v hv none' ∙ sym (so_far.rest v hv none')
         ]
       ];
-      apart = λ u v hu hv same. elim (arrives_or_not arrivals u) [
-        | inl first ↦ elim (arrives_or_not arrivals v) [
+      apart = λ u v hu hv same. elim (contains_or_not reached u) [
+        | inl first ↦ elim (contains_or_not reached v) [
           | inl second ↦ so_far.one (slice_index classes u) (slice_index classes v) (slice_index next u) (so_far.named u hu first)
               (so_far.named v hv second ∙ ap (λ n. Some n) (sym same))
           | inr none ↦ absurd (mixed u v hu hv first none same)
         ]
-        | inr none ↦ elim (arrives_or_not arrivals v) [
+        | inr none ↦ elim (contains_or_not reached v) [
           | inl second ↦ absurd (mixed v u hv hu second none (sym same))
           | inr none' ↦ are.stay u hu none ∙ sym (so_far.rest u hu none) ∙ same ∙ so_far.rest v hv none' ∙ sym (are.stay v hv none')
         ]
       ];
-      kept = λ u hu small. elim (arrives_or_not arrivals u) [
+      kept = λ u hu small. elim (contains_or_not reached u) [
         | inl found ↦
             let namer = so_far.back (slice_index classes u) (slice_index next u) (so_far.named u hu found) in
             sym (namer.old small) ∙ are.same namer.router u namer.below hu namer.class_is
         | inr none ↦ so_far.rest u hu none
       ];
-      below = λ u hu. elim (arrives_or_not arrivals u) [
+      below = λ u hu. elim (contains_or_not reached u) [
         | inl found ↦ so_far.below (slice_index classes u) (slice_index next u) (so_far.named u hu found)
         | inr none ↦ let lt = below u hu in let e = so_far.rest u hu none in omega arith
       ];
-      origin = λ u k hu is. elim (arrives_or_not arrivals u) [
+      origin = λ u k hu is. elim (contains_or_not reached u) [
         | inl found ↦
             let named = so_far.named u hu found in
             let lt = so_far.below (slice_index classes u) (slice_index next u) named in
@@ -305,7 +272,7 @@ moved_all numbers classes touched arrivals before class_count next origins names
             namer.new k is (omega arith) ∙ are.same namer.router u namer.below hu namer.class_is
         | inr none ↦ let lt = below u hu in let e = so_far.rest u hu none in absurd (omega arith)
       ];
-      used = moving_used numbers classes touched arrivals before next origins names so_far used reached;
+      used = moving_used numbers classes touched reached before next origins names so_far used touches;
     }
 
 -- a router is listed in the block that it moves to
@@ -372,21 +339,21 @@ listed_new numbers lists empty listed none =
           rw (get_or_append_left lists (empty ∷ []) d (slice_index numbers u) lt) (listed.members u d hu);
     }
 
--- the next importer moves
-pub moving_next : (numbers classes touched : List ℕ) (done : List Import) (arrival : Import) (before : ℕ) (next next' origins origins' : List ℕ)
+-- the next router moves
+pub moving_next : (numbers classes touched done : List ℕ) (router : ℕ) (before : ℕ) (next next' origins origins' : List ℕ)
     (names names' : ClassNames) (lists lists' : List (Vec ℕ Global)) (class number origin : ℕ) →
     Moving numbers classes touched done before next origins (λ c. get nat_eq names c) → length lists ≡ before + length origins →
-    arrival.importer < length numbers → slice_index classes arrival.importer ≡ class → slice_index next arrival.importer ≡ origin →
-    IsPieceOf names names' lists lists' origins origins' class origin number → IsMoved next next' arrival.importer number →
-    Moving numbers classes touched (done ++ arrival ∷ []) before next' origins' (λ c. get nat_eq names' c)
-moving_next numbers classes touched done arrival before next next' origins origins' names names' lists lists' class number origin so_far size inside class_is
+    router < length numbers → slice_index classes router ≡ class → slice_index next router ≡ origin →
+    IsPieceOf names names' lists lists' origins origins' class origin number → IsMoved next next' router number →
+    Moving numbers classes touched (done ++ router ∷ []) before next' origins' (λ c. get nat_eq names' c)
+moving_next numbers classes touched done router before next next' origins origins' names names' lists lists' class number origin so_far size inside class_is
     origin_is piece moved = elim piece [
       | inl (found, same_names, same_lists, same_origins) ↦
-          rw (same_names, same_origins) (moving_known numbers classes touched done arrival before next next' origins (λ c. get nat_eq names c) number so_far
+          rw (same_names, same_origins) (moving_known numbers classes touched done router before next next' origins (λ c. get nat_eq names c) number so_far
           inside
           (ap (λ c. get nat_eq names c) class_is ∙ found) moved)
       | inr new ↦
-          moving_new numbers classes touched done arrival before next next' origins origins' (λ c. get nat_eq names c) (λ c. get nat_eq names' c) number origin
+          moving_new numbers classes touched done router before next next' origins origins' (λ c. get nat_eq names c) (λ c. get nat_eq names' c) number origin
           so_far inside
           (ap (λ c. get nat_eq names c) class_is ∙ new.none)
           (new.number_is ∙ size)
@@ -424,7 +391,7 @@ piece_size names names' lists lists' origins origins' class origin number before
       omega arith
 ]
 
-pub piece_known : (numbers classes touched : List ℕ) (done : List Import) (before : ℕ) (next : List ℕ) (names names' : ClassNames)
+pub piece_known : (numbers classes touched done : List ℕ) (before : ℕ) (next : List ℕ) (names names' : ClassNames)
     (lists lists' : List (Vec ℕ Global)) (origins origins' : List ℕ) (class origin number : ℕ) →
     Moving numbers classes touched done before next origins (λ c. get nat_eq names c) → length lists ≡ before + length origins →
     IsPieceOf names names' lists lists' origins origins' class origin number → number < length lists'

@@ -1,5 +1,5 @@
 -- What the parts of a plan say together.
-use Rattle.std.proofs.Common.{◌≡◌, ◌≢◌, ℕ, zero, suc, ◌-◌, ◌<◌, List, [], ◌∷◌, length, All, Contains, Vec, sym, ◌∙◌, subst, arith, inl, inr}
+use Rattle.std.proofs.Common.{◌≡◌, ◌≢◌, ℕ, zero, suc, ◌-◌, ◌<◌, ◌≤◌, List, [], ◌∷◌, length, All, Contains, Vec, sym, ◌∙◌, subst, arith, inl, inr}
 use Rattle.std.specs.Prelude.{slice_index, ◌⊎◌}
 use Rattle.std.specs.declared.alloc.Global.{Global}
 use Rattle.std.specs.List.Sorted.{IsStrictlyIncreasing}
@@ -10,7 +10,7 @@ use Rattle.base_kit.specs.declared.act_graph.ActGraph.{ActGraph}
 use Rattle.refine_partition.specs.declared.imports.Import.{Import}
 use Rattle.refine_partition.specs.Splits.{HasAct, StandsBeforeByBlock}
 use Rattle.refine_partition.specs.Arrivals.{IsArrival, AreArrivals}
-use Rattle.refine_partition.specs.Classes.{SameArrivals, AreClasses}
+use Rattle.refine_partition.specs.Classes.{SameArrivals, AreClasses, AreReached}
 use Rattle.refine_partition.specs.Touched.{IsTouched, AreTouched, IsInBlocks, IsQueue}
 use Rattle.refine_partition.specs.Renumbering.{IsQueueOf, IsRenumbered}
 use Rattle.refine_partition.specs.Planned.{AreNumbered, IsPlanned}
@@ -46,11 +46,12 @@ queue_is numbers touched queue queued = record {
 }
 
 pub planned : (graph : ActGraph) (taken : ℕ) (numbers : List ℕ) (blocks : List (Vec ℕ Global)) (arrivals : List Import)
-    (classes touched queue next origins : List ℕ) (class_count : ℕ) → length numbers ≡ graph.count → AreNumbered numbers blocks →
-    AreArrivals graph.edges numbers taken arrivals → AreClasses numbers arrivals (length blocks) classes class_count → IsStrictlyIncreasing touched →
-    AreTouched numbers arrivals touched → IsQueue numbers touched queue → IsRenumbered numbers classes queue (length blocks) next origins →
+    (classes reached touched queue next origins : List ℕ) (class_count : ℕ) → length numbers ≡ graph.count → AreNumbered numbers blocks →
+    AreArrivals graph.edges numbers taken arrivals → AreClasses numbers arrivals (length blocks) classes class_count →
+    AreReached classes (length blocks) reached → IsStrictlyIncreasing touched →
+    AreTouched numbers reached touched → IsQueue numbers touched queue → IsRenumbered numbers classes queue (length blocks) next origins →
     IsPlanned graph taken numbers (length blocks) next origins touched
-planned graph taken numbers blocks arrivals classes touched queue next origins class_count total numbered arrived are rising touches queued renumbered =
+planned graph taken numbers blocks arrivals classes reached touched queue next origins class_count total numbered arrived are new rising touches queued renumbered =
     let before : ℕ = length blocks in
     let low : (u : ℕ) → u < graph.count → slice_index numbers u < before = λ u hu. numbered.below u 0 (omega arith) in
     let in_queue : (u : ℕ) → u < graph.count → Contains touched (slice_index numbers u) → Contains queue u =
@@ -61,8 +62,12 @@ planned graph taken numbers blocks arrivals classes touched queue next origins c
     λ u hu none. renumbered.rest u (omega arith) (not_in_queue u none) in
     let listed : (u act : ℕ) → slice_index numbers u ≢ taken → HasAct graph.edges numbers taken u act → Contains touched (slice_index numbers u) =
     λ u act outside has.
-    All-contains (λ a. Contains touched (slice_index numbers a.importer)) arrivals (record { importer = u; act = act }) touches.all
-    (arrived.all u act outside has) in
+    let arrival : Import = record { importer = u; act = act } in
+    let found = arrived.all u act outside has in
+    let at = All-contains (λ a. before ≤ slice_index classes a.importer) arrivals arrival are.moved found in
+    let below = All-contains (λ a. a.importer < length numbers) arrivals arrival (arrivals_in_range graph numbers taken arrivals total arrived) found in
+    let size = are.total in
+    All-contains (λ w. Contains touched (slice_index numbers w)) reached u touches.all (new.all u (omega arith) at) in
     let acts : (u v : ℕ) → slice_index numbers u ≡ slice_index numbers v → SameArrivals arrivals u v → slice_index numbers u ≢ taken → (act : ℕ) →
     HasAct graph.edges numbers taken u act → HasAct graph.edges numbers taken v act = λ u v same alike outside act has.
     (All-contains (IsArrival graph.edges numbers taken) arrivals (record { importer = v; act = act }) arrived.only
@@ -146,10 +151,10 @@ planned graph taken numbers blocks arrivals classes touched queue next origins c
         | inl there ↦ renumbered.origin u k (in_queue u hu there) is
         | inr none ↦ let e = rest u hu none in let lt = low u hu in absurd (omega arith)
       ];
-      known = All-weaker (IsTouched numbers arrivals) (λ block. block < before) (λ block t.
-          let in_range = arrivals_in_range graph numbers taken arrivals total arrived in
-          let below = All-contains (λ a. a.importer < length numbers) arrivals t.arrival in_range t.listed in
-          let lt = numbered.below t.arrival.importer 0 below in
+      known = All-weaker (IsTouched numbers reached) (λ block. block < before) (λ block t.
+          let (below, at) = All-contains (λ u. (u < length classes) × (before ≤ slice_index classes u)) reached t.router new.only t.listed in
+          let size = are.total in
+          let lt = numbered.below t.router 0 (omega arith) in
           let e = t.is in
           omega arith) touched touches.only;
       in_order = rising;

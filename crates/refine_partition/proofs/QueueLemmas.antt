@@ -10,7 +10,6 @@ use Rattle.std.proofs.lemmas.List.Elements.{All-append, All-weaker, All-push, Co
 use Rattle.std.proofs.lemmas.List.Kept.{IsStrictlyIncreasing-filter}
 use Rattle.std.proofs.lemmas.Map.Keys.{sorted_from_strictly_increasing, below_from_sorted}
 use Rattle.base_kit.specs.Partition.{members_of}
-use Rattle.refine_partition.specs.declared.imports.Import.{Import}
 use Rattle.refine_partition.specs.Touched.{IsTouched, AreTouched, IsInBlocks, IsQueue}
 use Rattle.refine_partition.proofs.MemberLemmas.{members_all, member, IsMember}
 
@@ -24,35 +23,33 @@ members_rise numbers block = IsStrictlyIncreasing-filter _ (range_with_len 0 (le
     let second = get_or-range_with_len 0 (length numbers) (k + 1) 0 (omega arith) in
     omega arith)
 
--- an arrival at a block that is there already
-pub touched_again : (numbers : List ℕ) (arrivals : List Import) (arrival : Import) (blocks : List ℕ) → AreTouched numbers arrivals blocks →
-    Contains blocks (slice_index numbers arrival.importer) → AreTouched numbers (arrivals ++ arrival ∷ []) blocks
-touched_again numbers arrivals arrival blocks are there = record {
-  only = All-weaker (IsTouched numbers arrivals) (IsTouched numbers (arrivals ++ arrival ∷ []))
-      (λ b t. record { arrival = t.arrival; listed = Contains-append_left arrivals (arrival ∷ []) _ t.listed; is = t.is }) blocks are.only;
-  all = All-push (λ a. Contains blocks (slice_index numbers a.importer)) arrivals arrival are.all there;
+-- a router whose block is there already
+pub touched_again : (numbers routers : List ℕ) (router : ℕ) (blocks : List ℕ) → AreTouched numbers routers blocks →
+    Contains blocks (slice_index numbers router) → AreTouched numbers (routers ++ router ∷ []) blocks
+touched_again numbers routers router blocks are there = record {
+  only = All-weaker (IsTouched numbers routers) (IsTouched numbers (routers ++ router ∷ []))
+      (λ b t. record { router = t.router; listed = Contains-append_left routers (router ∷ []) _ t.listed; is = t.is }) blocks are.only;
+  all = All-push (λ u. Contains blocks (slice_index numbers u)) routers router are.all there;
 }
 
-pub touched_more : (numbers : List ℕ) (arrivals : List Import) (arrival : Import) (blocks : List ℕ) → AreTouched numbers arrivals blocks →
-    AreTouched numbers (arrivals ++ arrival ∷ []) (blocks ++ slice_index numbers arrival.importer ∷ [])
-touched_more numbers arrivals arrival blocks are = record {
-  only = All-push (IsTouched numbers (arrivals ++ arrival ∷ [])) blocks _
-      (All-weaker (IsTouched numbers arrivals) (IsTouched numbers (arrivals ++ arrival ∷ []))
-      (λ b t. record { arrival = t.arrival; listed = Contains-append_left arrivals (arrival ∷ []) _ t.listed; is = t.is }) blocks are.only)
-      (record { arrival = arrival; listed = Contains-push arrivals arrival; is = refl });
-  all = All-push (λ a. Contains (blocks ++ slice_index numbers arrival.importer ∷ []) (slice_index numbers a.importer)) arrivals arrival
-      (All-weaker (λ a. Contains blocks (slice_index numbers a.importer))
-      (λ a. Contains (blocks ++ slice_index numbers arrival.importer ∷ []) (slice_index numbers a.importer))
-      (λ a t. Contains-append_left blocks (slice_index numbers arrival.importer ∷ []) _ t) arrivals are.all)
-      (Contains-push blocks (slice_index numbers arrival.importer));
+pub touched_more : (numbers routers : List ℕ) (router : ℕ) (blocks : List ℕ) → AreTouched numbers routers blocks →
+    AreTouched numbers (routers ++ router ∷ []) (blocks ++ slice_index numbers router ∷ [])
+touched_more numbers routers router blocks are = record {
+  only = All-push (IsTouched numbers (routers ++ router ∷ [])) blocks _
+      (All-weaker (IsTouched numbers routers) (IsTouched numbers (routers ++ router ∷ []))
+      (λ b t. record { router = t.router; listed = Contains-append_left routers (router ∷ []) _ t.listed; is = t.is }) blocks are.only)
+      (record { router = router; listed = Contains-push routers router; is = refl });
+  all = All-push (λ u. Contains (blocks ++ slice_index numbers router ∷ []) (slice_index numbers u)) routers router
+      (All-weaker (λ u. Contains blocks (slice_index numbers u)) (λ u. Contains (blocks ++ slice_index numbers router ∷ []) (slice_index numbers u))
+      (λ u t. Contains-append_left blocks (slice_index numbers router ∷ []) _ t) routers are.all)
+      (Contains-push blocks (slice_index numbers router));
 }
 
-pub touched_kept : (numbers : List ℕ) (arrivals : List Import) (before after : List ℕ) → AreTouched numbers arrivals before →
-    ((P : ℕ → Type 0) → All P before → All P after) → ((x : ℕ) → Contains before x → Contains after x) → AreTouched numbers arrivals after
-touched_kept numbers arrivals before after are all_kept kept = record {
-  only = all_kept (IsTouched numbers arrivals) are.only;
-  all = All-weaker (λ a. Contains before (slice_index numbers a.importer)) (λ a. Contains after (slice_index numbers a.importer)) (λ a t. kept _ t) arrivals
-      are.all;
+pub touched_kept : (numbers routers before after : List ℕ) → AreTouched numbers routers before →
+    ((P : ℕ → Type 0) → All P before → All P after) → ((x : ℕ) → Contains before x → Contains after x) → AreTouched numbers routers after
+touched_kept numbers routers before after are all_kept kept = record {
+  only = all_kept (IsTouched numbers routers) are.only;
+  all = All-weaker (λ u. Contains before (slice_index numbers u)) (λ u. Contains after (slice_index numbers u)) (λ u t. kept _ t) routers are.all;
 }
 
 pub queue_none : (numbers blocks : List ℕ) → IsQueue numbers (take 0 blocks) []

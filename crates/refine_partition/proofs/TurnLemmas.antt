@@ -1,5 +1,5 @@
 -- What the parts of a turn say together.
-use Rattle.std.proofs.Common.{◌≡◌, ◌≢◌, ℕ, ◌+◌, ◌<◌, List, [], ◌∷◌, ◌++◌, length, slice_set, All, Any, Contains, Vec, sym, ◌∙◌, ap, subst, arith, inl, inr}
+use Rattle.std.proofs.Common.{◌≡◌, ◌≢◌, ℕ, ◌+◌, ◌<◌, ◌≤◌, List, [], ◌∷◌, ◌++◌, length, slice_set, All, Contains, Vec, sym, ◌∙◌, ap, subst, arith, inl, inr}
 use Rattle.std.specs.Prelude.{slice_index, ◌⊎◌}
 use Rattle.std.specs.declared.alloc.Global.{Global}
 use Rattle.std.proofs.lemmas.Bool.{cases_eq}
@@ -11,8 +11,8 @@ use Rattle.refine_partition.specs.declared.imports.Import.{Import}
 use Rattle.refine_partition.specs.Members.{AreBlocks}
 use Rattle.refine_partition.specs.Splits.{HasAct}
 use Rattle.refine_partition.specs.Arrivals.{IsArrival, AreArrivals}
-use Rattle.refine_partition.specs.Classes.{AreClasses}
-use Rattle.refine_partition.specs.Loose.{AreFiner, AreMoved, AreParted, AreSettled, AreUsed, IsDividedAsSplit}
+use Rattle.refine_partition.specs.Classes.{AreClasses, AreNewClasses, AreReached}
+use Rattle.refine_partition.specs.Loose.{AreMoved, AreParted, AreSettled, AreUsed, IsDividedAsSplit}
 use Rattle.refine_partition.proofs.RenumberLemmas.{place_of}
 use Rattle.refine_partition.proofs.StayingLemmas.{listed_first}
 use Rattle.refine_partition.proofs.MoveLemmas.{used_few}
@@ -35,11 +35,11 @@ listed_acts graph taken numbers arrivals u v arrived same there act found =
     arrived.all v act (λ e. arrival.outside (same ∙ e)) (there arrival.outside act arrival.has)
 
 -- a turn divides the blocks by the acts of their members' edges
-pub parted : (graph : ActGraph) (taken : ℕ) (numbers classes next origins : List ℕ) (arrivals : List Import) (before after class_count : ℕ) →
+pub parted : (graph : ActGraph) (taken : ℕ) (numbers classes reached next origins : List ℕ) (arrivals : List Import) (before after class_count : ℕ) →
     length numbers ≡ graph.count → All (λ n. n < before) numbers → AreArrivals graph.edges numbers taken arrivals →
-    AreClasses numbers arrivals before classes class_count → AreMoved numbers classes arrivals before next origins → after ≡ before + length origins →
+    AreClasses numbers arrivals before classes class_count → AreMoved numbers classes reached before next origins → after ≡ before + length origins →
     AreParted graph taken numbers next before after origins
-parted graph taken numbers classes next origins arrivals before after class_count total low arrived are moved size =
+parted graph taken numbers classes reached next origins arrivals before after class_count total low arrived are moved size =
     let next_total = moved.total in
     record {
       total = next_total ∙ total;
@@ -71,60 +71,64 @@ parted graph taken numbers classes next origins arrivals before after class_coun
     }
 
 -- a turn divides the blocks as a split does
-pub divided : (graph : ActGraph) (taken : ℕ) (numbers classes next origins : List ℕ) (arrivals : List Import) (before after class_count : ℕ) →
+pub divided : (graph : ActGraph) (taken : ℕ) (numbers classes reached next origins : List ℕ) (arrivals : List Import) (before after class_count : ℕ) →
     length numbers ≡ graph.count → All (λ n. n < before) numbers → AreArrivals graph.edges numbers taken arrivals →
-    AreClasses numbers arrivals before classes class_count → AreMoved numbers classes arrivals before next origins → after ≡ before + length origins →
+    AreClasses numbers arrivals before classes class_count → AreMoved numbers classes reached before next origins → after ≡ before + length origins →
     IsDividedAsSplit graph taken numbers next before after
-divided graph taken numbers classes next origins arrivals before after class_count total low arrived are moved size = record {
+divided graph taken numbers classes reached next origins arrivals before after class_count total low arrived are moved size = record {
   split = pinned_split graph taken numbers next origins before after total
-      (parted graph taken numbers classes next origins arrivals before after class_count total low arrived are moved size)
+      (parted graph taken numbers classes reached next origins arrivals before after class_count total low arrived are moved size)
       (subst (λ n. AreUsed n next) (sym size) moved.used);
 }
 
-pub finer : (numbers classes : List ℕ) (arrivals : List Import) (before class_count : ℕ) → AreClasses numbers arrivals before classes class_count →
-    AreFiner numbers classes
-finer numbers classes arrivals before class_count are = λ u v hu hv same. are.same u v hu hv same
+-- the classes of the reached routers are new, and only theirs
+pub new_classes : (numbers classes reached : List ℕ) (arrivals : List Import) (before class_count : ℕ) → All (λ n. n < before) numbers →
+    AreClasses numbers arrivals before classes class_count → AreReached classes before reached → AreNewClasses numbers classes before reached
+new_classes numbers classes reached arrivals before class_count low are new =
+    let total = are.total in
+    record {
+      total = total;
+      same = are.same;
+      new = new;
+      stay = λ u hu away. are.stay u hu (λ (k, a, inside, at, is). away (new.all u (omega arith)
+          (subst (λ w. before ≤ slice_index classes w) is
+          (subst (λ (b : Import). before ≤ slice_index classes b.importer) at (are.moved k a inside)))));
+    }
 
-pub unreached : (numbers classes next origins : List ℕ) (arrivals : List Import) (before class_count : ℕ) →
-    AreClasses numbers arrivals before classes class_count → AreMoved numbers classes arrivals before next origins → (u : ℕ) → u < length next →
-    ¬ Any (λ a. a.importer ≡ u) arrivals → slice_index classes u ≡ slice_index next u
-unreached numbers classes next origins arrivals before class_count are moved u hu none =
+pub unreached : (numbers classes reached next origins : List ℕ) (before : ℕ) → AreNewClasses numbers classes before reached →
+    AreMoved numbers classes reached before next origins → (u : ℕ) → u < length next → ¬ Contains reached u → slice_index classes u ≡ slice_index next u
+unreached numbers classes reached next origins before are moved u hu none =
     let total = moved.total in
     are.stay u (omega arith) none ∙ sym (moved.rest u (omega arith) none)
 
--- a class is the block again, or no edge of the list arrives at its router
-abbrev pub IsSettled : List ℕ → List ℕ → List ℕ → List Import → ℕ → Type 0
+-- a class is the block again, or the router is not among these
+abbrev pub IsSettled : List ℕ → List ℕ → List ℕ → List ℕ → ℕ → Type 0
 IsSettled old classes numbers done u =
-    (slice_index classes u ≡ slice_index numbers u) ⊎ ((slice_index classes u ≡ slice_index old u) × (¬ Any (λ a. a.importer ≡ u) done))
+    (slice_index classes u ≡ slice_index numbers u) ⊎ ((slice_index classes u ≡ slice_index old u) × (¬ Contains done u))
 
-pub settled_more : (old classes numbers : List ℕ) (done : List Import) (arrival : Import) (u : ℕ) → arrival.importer < length classes →
-    IsSettled old classes numbers done u → IsSettled old (slice_set classes arrival.importer (slice_index numbers arrival.importer)) numbers
-    (done ++ arrival ∷ []) u
-settled_more old classes numbers done arrival u inside so_far =
-    let value : ℕ = slice_index numbers arrival.importer in
-    elim (cases_eq u arrival.importer) [
-      | inl e ↦ inl (ap (slice_index (slice_set classes arrival.importer value)) e ∙ get_or-set_same classes arrival.importer value 0 inside
-          ∙ ap (slice_index numbers) (sym e))
+pub settled_more : (old classes numbers done : List ℕ) (router u : ℕ) → router < length classes → IsSettled old classes numbers done u →
+    IsSettled old (slice_set classes router (slice_index numbers router)) numbers (done ++ router ∷ []) u
+settled_more old classes numbers done router u inside so_far =
+    let value : ℕ = slice_index numbers router in
+    elim (cases_eq u router) [
+      | inl e ↦ inl (ap (slice_index (slice_set classes router value)) e ∙ get_or-set_same classes router value 0 inside ∙ ap (slice_index numbers) (sym e))
       | inr ne ↦
-          let same : slice_index (slice_set classes arrival.importer value) u ≡ slice_index classes u =
-          get_or-set_other classes arrival.importer u value 0 ne in
+          let same : slice_index (slice_set classes router value) u ≡ slice_index classes u = get_or-set_other classes router u value 0 ne in
           elim so_far [
             | inl is ↦ inl (same ∙ is)
-            | inr (was, none) ↦ inr (same ∙ was, λ found. by done arrival u none ne found)
+            | inr (was, none) ↦ inr (
+              same ∙ was,
+              λ found. elim (Contains-push_cases done router u found) [
+                | inl earlier ↦ none earlier
+                | inr e ↦ ne (sym e)
+              ],
+            )
           ]
     ]
-  where
-    by : (done : List Import) (arrival : Import) (u : ℕ) → ¬ Any (λ a. a.importer ≡ u) done → u ≢ arrival.importer →
-        Any (λ a. a.importer ≡ u) (done ++ arrival ∷ []) → ⊥
-    by done arrival u none ne (k, a, inside, at, is) = elim (Contains-push_cases done arrival a (k, inside, at)) [
-      | inl (j, within, at') ↦ none (j, a, within, at', is)
-      | inr e ↦ ne (sym (ap (λ (b : Import). b.importer) e ∙ is))
-    ]
 
-pub settled_all : (old classes numbers : List ℕ) (arrivals : List Import) → length classes ≡ length numbers →
-    ((u : ℕ) → IsSettled old classes numbers arrivals u) →
-    ((u : ℕ) → u < length numbers → ¬ Any (λ a. a.importer ≡ u) arrivals → slice_index old u ≡ slice_index numbers u) → classes ≡ numbers
-settled_all old classes numbers arrivals size settled rest = ext_get_or 0 classes numbers size (λ u inside. elim (settled u) [
+pub settled_all : (old classes numbers reached : List ℕ) → length classes ≡ length numbers → ((u : ℕ) → IsSettled old classes numbers reached u) →
+    ((u : ℕ) → u < length numbers → ¬ Contains reached u → slice_index old u ≡ slice_index numbers u) → classes ≡ numbers
+settled_all old classes numbers reached size settled rest = ext_get_or 0 classes numbers size (λ u inside. elim (settled u) [
   | inl is ↦ is
   | inr (was, none) ↦ was ∙ rest u (omega arith) none
 ])

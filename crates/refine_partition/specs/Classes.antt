@@ -1,5 +1,5 @@
 -- Routers in classes by the acts of their edges into one block.
-use Rattle.std.specs.Prelude.{◌≡◌, ◌≢◌, ℕ, ◌+◌, ◌<◌, ◌≤◌, List, length, slice_index, nat_eq, All, Any, Contains, ◌⊎◌, Some, None}
+use Rattle.std.specs.Prelude.{◌≡◌, ◌≢◌, ℕ, ◌+◌, ◌<◌, ◌≤◌, List, [], ◌∷◌, ◌++◌, length, slice_index, nat_eq, All, Any, Contains, ◌⊎◌, Some, None}
 use Rattle.std.specs.declared.hash.FoldHasher.{FoldHasher}
 use Rattle.std.specs.declared.hash.BuildHasherDefault.{BuildHasherDefault}
 use Rattle.std.specs.HashMap.{get, HashMap}
@@ -47,3 +47,20 @@ pub record AreClasses (numbers : List ℕ) (arrivals : List Import) (count : ℕ
       slice_index classes u ≡ slice_index classes v
   pub same : (u v : ℕ) → u < length numbers → v < length numbers → slice_index classes u ≡ slice_index classes v → slice_index numbers u ≡ slice_index numbers v
   pub alike : (u v : ℕ) → u < length numbers → v < length numbers → slice_index classes u ≡ slice_index classes v → SameArrivals arrivals u v
+
+-- the router is added where its class is one of the first
+abbrev pub IsNoted : List ℕ → List ℕ → ℕ → ℕ → ℕ → Type 0
+IsNoted old new router class count = ((class < count) × (new ≡ old ++ router ∷ [])) ⊎ ((count ≤ class) × (new ≡ old))
+
+-- the routers whose classes are new
+pub record AreReached (classes : List ℕ) (count : ℕ) (reached : List ℕ) : Type 0 where
+  pub only : All (λ u. (u < length classes) × (count ≤ slice_index classes u)) reached
+  pub all : (u : ℕ) → u < length classes → count ≤ slice_index classes u → Contains reached u
+
+-- Routers of one class have one number. The classes of the reached routers are new, and that of each other
+-- router is its number.
+pub record AreNewClasses (numbers classes : List ℕ) (count : ℕ) (reached : List ℕ) : Type 0 where
+  pub total : length classes ≡ length numbers
+  pub same : (u v : ℕ) → u < length numbers → v < length numbers → slice_index classes u ≡ slice_index classes v → slice_index numbers u ≡ slice_index numbers v
+  pub new : AreReached classes count reached
+  pub stay : (u : ℕ) → u < length numbers → ¬ Contains reached u → slice_index classes u ≡ slice_index numbers u

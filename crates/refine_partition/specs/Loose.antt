@@ -1,9 +1,8 @@
 -- Routers in numbered blocks, of which a turn moves only those that edges reach.
-use Rattle.std.specs.Prelude.{◌≡◌, ◌≢◌, ℕ, ◌+◌, ◌<◌, ◌≤◌, List, [], ◌∷◌, ◌++◌, length, slice_index, slice_index_or, nat_eq, All, Any, Contains, Vec, Some, None, ◌⊎◌}
+use Rattle.std.specs.Prelude.{◌≡◌, ◌≢◌, ℕ, ◌+◌, ◌<◌, ◌≤◌, List, [], ◌∷◌, ◌++◌, length, slice_index, slice_index_or, nat_eq, All, Contains, Vec, Some, None, ◌⊎◌}
 use Rattle.std.specs.declared.alloc.Global.{Global}
 use Rattle.std.specs.HashMap.{get}
 use Rattle.base_kit.specs.declared.act_graph.ActGraph.{ActGraph}
-use Rattle.refine_partition.specs.declared.imports.Import.{Import}
 use Rattle.refine_partition.specs.Classes.{ClassNames}
 use Rattle.refine_partition.specs.Splits.{StayTogether, IsSplit}
 
@@ -75,9 +74,9 @@ pub record IsMoved (old new : List ℕ) (router number : ℕ) : Type 0 where
   pub others : (u : ℕ) → u ≢ router → slice_index new u ≡ slice_index old u
 
 -- The blocks are the classes. One class of each block keeps its number, and the others have the next ones.
-pub record AreMoved (numbers classes : List ℕ) (arrivals : List Import) (before : ℕ) (next origins : List ℕ) : Type 0 where
+pub record AreMoved (numbers classes reached : List ℕ) (before : ℕ) (next origins : List ℕ) : Type 0 where
   pub total : length next ≡ length numbers
-  pub rest : (u : ℕ) → u < length numbers → ¬ Any (λ a. a.importer ≡ u) arrivals → slice_index next u ≡ slice_index numbers u
+  pub rest : (u : ℕ) → u < length numbers → ¬ Contains reached u → slice_index next u ≡ slice_index numbers u
   pub together : (u v : ℕ) → u < length numbers → v < length numbers → slice_index classes u ≡ slice_index classes v → slice_index next u ≡ slice_index next v
   pub apart : (u v : ℕ) → u < length numbers → v < length numbers → slice_index next u ≡ slice_index next v → slice_index classes u ≡ slice_index classes v
   pub kept : (u : ℕ) → u < length numbers → slice_index next u < before → slice_index next u ≡ slice_index numbers u

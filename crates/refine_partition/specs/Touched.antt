@@ -1,18 +1,17 @@
 -- The blocks that edges reach, and their members.
 use Rattle.std.specs.Prelude.{◌≡◌, ℕ, ◌<◌, List, length, slice_index, All, Contains}
-use Rattle.refine_partition.specs.declared.imports.Import.{Import}
 use Rattle.refine_partition.specs.Splits.{StandsBeforeByBlock}
 
--- the block of an importer
-pub record IsTouched (numbers : List ℕ) (arrivals : List Import) (block : ℕ) : Type 0 where
-  pub arrival : Import
-  pub listed : Contains arrivals arrival
-  pub is : slice_index numbers arrival.importer ≡ block
+-- the block of one of these routers
+pub record IsTouched (numbers routers : List ℕ) (block : ℕ) : Type 0 where
+  pub router : ℕ
+  pub listed : Contains routers router
+  pub is : slice_index numbers router ≡ block
 
--- the blocks of the importers, and only those
-pub record AreTouched (numbers : List ℕ) (arrivals : List Import) (blocks : List ℕ) : Type 0 where
-  pub only : All (IsTouched numbers arrivals) blocks
-  pub all : All (λ a. Contains blocks (slice_index numbers a.importer)) arrivals
+-- the blocks of the routers, and only those
+pub record AreTouched (numbers routers blocks : List ℕ) : Type 0 where
+  pub only : All (IsTouched numbers routers) blocks
+  pub all : All (λ u. Contains blocks (slice_index numbers u)) routers
 
 -- the router is in one of the blocks
 pub record IsInBlocks (numbers blocks : List ℕ) (router : ℕ) : Type 0 where

@@ -1,10 +1,10 @@
 //! Routers in classes by the acts of their edges into one block.
 
-ghost use Rattle.std.specs.Prelude.{◌≡◌, ℕ, ◌<◌, ◌≤◌, ◌+◌, ◌^◌, All, IfOk, IfSome, Some, length, nat_eq, slice_index_or};
+ghost use Rattle.std.specs.Prelude.{◌≡◌, ℕ, ◌<◌, ◌≤◌, ◌+◌, ◌^◌, All, IfOk, IfSome, OnOk, Some, length, nat_eq, slice_index_or};
 ghost use Rattle.std.specs.HashMap.{get};
 ghost use Rattle.std.specs.List.Sorted.{IsNonDecreasingBy};
 ghost use Rattle.refine_partition.specs.Arrivals.{act_of_import};
-ghost use Rattle.refine_partition.specs.Classes.{IsNamed, IsSeparated, AreClasses};
+ghost use Rattle.refine_partition.specs.Classes.{IsNamed, IsNoted, IsSeparated, AreClasses, AreReached};
 ghost use Rattle.refine_partition.specs.declared.imports.Import.{Import as AnImport};
 
 use crate::imports::Import;
@@ -39,18 +39,33 @@ fn name_after(
     }
 }
 
-/// Moves the importers out of their classes, those of one class into one fresh class, and gives the
-/// first number above all classes.
+/// Adds the router where its class is one of the first.
+fn note(reached: &mut Vec<u32>, router: u32, class: usize, count: usize) -> Result<(), NoMemory>
+    ensures { OnOk result (IsNoted reached.old.items reached.new.items router class count) }
+{
+    if class < count {
+        reached.push(router)?;
+    }
+    Ok(())
+}
+
+/// Moves the importers out of their classes, those of one class into one fresh class, adds those that were
+/// in one of the first classes, and gives the first number above all classes.
 fn separate(
     alloc: Global,
     classes: &mut Vec<usize>,
+    reached: &mut Vec<u32>,
+    count: usize,
     movers: &[Import],
     fresh: usize,
 ) -> Result<usize, NoMemory>
     requires in_range { All (λ m. m.importer < length classes.old.items) movers.now }
     requires below { All (λ class. class < fresh) classes.old.items }
     requires fits { fresh + length movers.now < 2 ^ 64 }
-    ensures { IfOk result (λ next. IsSeparated classes.old.items classes.new.items movers.now fresh next) }
+    requires first { count ≤ fresh }
+    requires reached { AreReached classes.old.items count reached.old.items }
+    ensures separated { IfOk result (λ next. IsSeparated classes.old.items classes.new.items movers.now fresh next) }
+    ensures reached { IfOk result (λ next. AreReached classes.new.items count reached.new.items) }
 {
     let mut names = HashMap::new(alloc);
     let mut next = fresh;
@@ -58,6 +73,7 @@ fn separate(
     for mover in movers {
         let class = classes[mover.importer as usize];
         if class < fresh {
+            note(reached, mover.importer, class, count)?;
             let name = name_after(&mut names, last, class, next)?;
             classes[mover.importer as usize] = name;
             next = next.max(name + 1);
@@ -95,25 +111,29 @@ pub fn widened(alloc: Global, numbers: &[u32]) -> Result<Vec<usize>, NoMemory>
     Ok(classes)
 }
 
-/// Divides the classes by the acts of their routers' edges, and gives the first number above all
-/// classes: two routers are then in one class where they were and their edges have the same acts.
+/// Divides the classes by the acts of their routers' edges, and gives the first number above all classes
+/// and the routers with new ones: two routers are then in one class where they were and their edges have
+/// the same acts.
 pub fn divide_classes(
     alloc: Global,
     classes: &mut Vec<usize>,
     arrivals: &[Import],
     count: u32,
-) -> Result<usize, NoMemory>
+) -> Result<(usize, Vec<u32>), NoMemory>
     requires below { All (λ class. class < count) classes.old.items }
     requires in_range { All (λ a. a.importer < length classes.old.items) arrivals.now }
     requires in_order { IsNonDecreasingBy act_of_import arrivals.now }
-    ensures { IfOk result (λ next. AreClasses classes.old.items arrivals.now count classes.new.items next) }
+    ensures classes { IfOk result (λ r. AreClasses classes.old.items arrivals.now count classes.new.items r.0) }
+    ensures reached { IfOk result (λ r. AreReached classes.new.items count r.1.items) }
 {
+    let mut reached = Vec::new(alloc);
     let mut next = count as usize;
     let mut start = 0;
     while start < arrivals.len() {
         let end = run_end(arrivals, start);
-        next = separate(alloc, classes, &arrivals[start..end], next)?;
+        let run = &arrivals[start..end];
+        next = separate(alloc, classes, &mut reached, count as usize, run, next)?;
         start = end;
     }
-    Ok(next)
+    Ok((next, reached))
 }

@@ -1,13 +1,12 @@
 //! Moving the routers that edges reach into the pieces of their classes.
 
-ghost use Rattle.std.specs.Prelude.{◌≡◌, ℕ, ◌<◌, ◌+◌, ◌^◌, All, Any, IfOk, IfSome, OnOk, Some, length, nat_eq, slice_index};
+ghost use Rattle.std.specs.Prelude.{◌≡◌, ℕ, ◌<◌, ◌+◌, ◌^◌, All, Contains, IfOk, IfSome, OnOk, Some, length, nat_eq, slice_index};
 ghost use Rattle.std.specs.HashMap.{get};
 ghost use Rattle.std.specs.List.Sorted.{IsStrictlyIncreasing};
-ghost use Rattle.refine_partition.specs.Classes.{AreClasses};
+ghost use Rattle.refine_partition.specs.Classes.{AreNewClasses};
 ghost use Rattle.refine_partition.specs.Loose.{AreListed, AreMoved, AreUsed, IsMoved, IsPieceOf};
 ghost use Rattle.refine_partition.specs.Touched.{AreTouched};
 
-use crate::imports::Import;
 use crate::staying::{name_class, staying_classes};
 use base_kit::NoMemory;
 use std::alloc::Global;
@@ -76,49 +75,47 @@ fn move_router(
     Ok(())
 }
 
-/// Moves the importers into the pieces of their classes, and gives for each new piece the block that it
-/// comes from.
-pub fn move_importers(
+/// Moves the reached routers into the pieces of their classes, and gives for each new piece the block that
+/// it comes from.
+pub fn move_reached(
     alloc: Global,
     numbers: &mut Vec<u32>,
     lists: &mut Vec<Vec<u32>>,
     classes: &[usize],
     touched: &[u32],
-    arrivals: &[Import],
+    reached: &[u32],
 ) -> Result<Vec<u32>, NoMemory>
     requires fits { length numbers.old.items < 2 ^ 32 }
     requires listed { AreListed numbers.old.items lists.old.items }
     requires used { AreUsed (length lists.old.items) numbers.old.items }
-    requires in_range { All (λ a. a.importer < length numbers.old.items) arrivals.now }
-    requires classes { (next : ℕ) × AreClasses numbers.old.items arrivals.now (length lists.old.items) classes.now next }
-    requires touched { AreTouched numbers.old.items arrivals.now touched.now }
+    requires classes { AreNewClasses numbers.old.items classes.now (length lists.old.items) reached.now }
+    requires touched { AreTouched numbers.old.items reached.now touched.now }
     requires in_order { IsStrictlyIncreasing touched.now }
     ensures listed { IfOk result (λ origins. AreListed numbers.new.items lists.new.items) }
     ensures total { IfOk result (λ origins. length lists.new.items ≡ length lists.old.items + length origins.items) }
-    ensures moved { IfOk result (λ origins. AreMoved numbers.old.items classes.now arrivals.now (length lists.old.items) numbers.new.items origins.items) }
+    ensures moved { IfOk result (λ origins. AreMoved numbers.old.items classes.now reached.now (length lists.old.items) numbers.new.items origins.items) }
 {
     let mut names = staying_classes(alloc, lists, numbers, classes, touched)?;
     let mut origins = Vec::new(alloc);
     let mut last = None;
-    for arrival in arrivals {
-        let router = arrival.importer;
-        let class = classes[router as usize];
-        let origin = numbers[router as usize];
+    for router in reached {
+        let class = classes[*router as usize];
+        let origin = numbers[*router as usize];
         let number = piece_after(alloc, &mut names, last, lists, &mut origins, class, origin)?;
-        move_router(numbers, lists, router, number)?;
+        move_router(numbers, lists, *router, number)?;
         last = Some((class, number));
     }
     Ok(origins)
 }
 
-/// Lets the class of each importer be its block again.
-pub fn settle(classes: &mut Vec<usize>, numbers: &[u32], arrivals: &[Import])
+/// Lets the class of each reached router be its block again.
+pub fn settle(classes: &mut Vec<usize>, numbers: &[u32], reached: &[u32])
     requires one_class_each { length classes.old.items ≡ length numbers.now }
-    requires in_range { All (λ a. a.importer < length numbers.now) arrivals.now }
-    requires rest { (u : ℕ) → u < length numbers.now → ¬ Any (λ a. a.importer ≡ u) arrivals.now → slice_index classes.old.items u ≡ slice_index numbers.now u }
+    requires in_range { All (λ u. u < length numbers.now) reached.now }
+    requires rest { (u : ℕ) → u < length numbers.now → ¬ Contains reached.now u → slice_index classes.old.items u ≡ slice_index numbers.now u }
     ensures { classes.new.items ≡ numbers.now }
 {
-    for arrival in arrivals {
-        classes[arrival.importer as usize] = numbers[arrival.importer as usize] as usize;
+    for router in reached {
+        classes[*router as usize] = numbers[*router as usize] as usize;
     }
 }

@@ -42,8 +42,8 @@ pub fn planned(
     let arrivals = arrivals_at(alloc, graph, imports, numbers, members, taken)?;
     let count = blocks.len() as u32;
     let mut classes = widened(alloc, numbers)?;
-    let class_count = divide_classes(alloc, &mut classes, &arrivals, count)?;
-    let touched = touched_blocks(alloc, numbers, &arrivals)?;
+    let (class_count, reached) = divide_classes(alloc, &mut classes, &arrivals, count)?;
+    let touched = touched_blocks(alloc, numbers, &reached)?;
     let queue = queue_of(alloc, numbers, blocks, &touched)?;
     let renumbering = renumbered(alloc, numbers, blocks, &classes, class_count, &queue)?;
     Ok(Plan {

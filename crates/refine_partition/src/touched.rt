@@ -5,7 +5,6 @@ ghost use Rattle.std.specs.List.Sorted.{IsStrictlyIncreasing};
 ghost use Rattle.refine_partition.specs.Members.{AreBlocks};
 ghost use Rattle.refine_partition.specs.Touched.{AreTouched, IsQueue};
 
-use crate::imports::Import;
 use base_kit::NoMemory;
 use std::alloc::Global;
 
@@ -19,19 +18,15 @@ fn is_last(blocks: &[u32], block: u32) -> bool
     }
 }
 
-/// The numbers of the blocks of the importers, ascending.
-pub fn touched_blocks(
-    alloc: Global,
-    numbers: &[u32],
-    arrivals: &[Import],
-) -> Result<Vec<u32>, NoMemory>
-    requires in_range { All (λ a. a.importer < length numbers.now) arrivals.now }
+/// The numbers of the blocks of the routers, ascending.
+pub fn touched_blocks(alloc: Global, numbers: &[u32], routers: &[u32]) -> Result<Vec<u32>, NoMemory>
+    requires in_range { All (λ u. u < length numbers.now) routers.now }
     ensures in_order { IfOk result (λ v. IsStrictlyIncreasing v.items) }
-    ensures touched { IfOk result (λ v. AreTouched numbers.now arrivals.now v.items) }
+    ensures touched { IfOk result (λ v. AreTouched numbers.now routers.now v.items) }
 {
     let mut blocks = Vec::new(alloc);
-    for arrival in arrivals {
-        let block = numbers[arrival.importer as usize];
+    for router in routers {
+        let block = numbers[*router as usize];
         if !is_last(&blocks, block) {
             blocks.push(block)?;
         }

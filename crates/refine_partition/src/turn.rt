@@ -13,7 +13,7 @@ use crate::classes::{divide_classes, widened};
 use crate::division::has_number;
 use crate::graph_view::GraphView;
 use crate::imports::Import;
-use crate::moves::{move_importers, settle};
+use crate::moves::{move_reached, settle};
 use crate::numbering::numbers_of;
 use crate::touched::touched_blocks;
 use base_kit::{NoMemory, Steps};
@@ -85,16 +85,16 @@ pub fn turn<L: Ledger>(
     keep_members(&mut blocks.lists, &blocks.numbers, taken);
     let members = &blocks.lists[taken as usize];
     let arrivals = arrivals_at(alloc, graph, imports, &blocks.numbers, members, taken)?;
-    let _next = divide_classes(alloc, &mut blocks.classes, &arrivals, count)?;
-    let touched = touched_blocks(alloc, &blocks.numbers, &arrivals)?;
-    let origins = move_importers(
+    let (_next, reached) = divide_classes(alloc, &mut blocks.classes, &arrivals, count)?;
+    let touched = touched_blocks(alloc, &blocks.numbers, &reached)?;
+    let origins = move_reached(
         alloc,
         &mut blocks.numbers,
         &mut blocks.lists,
         &blocks.classes,
         &touched,
-        &arrivals,
+        &reached,
     )?;
-    settle(&mut blocks.classes, &blocks.numbers, &arrivals);
+    settle(&mut blocks.classes, &blocks.numbers, &reached);
     Ok(origins)
 }

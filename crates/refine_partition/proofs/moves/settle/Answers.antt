@@ -1,34 +1,32 @@
-use Rattle.std.proofs.Common.{◌<◌, length, get_or, arith, inr, refl}
+use Rattle.std.proofs.Common.{ℕ, ◌<◌, length, get_or, arith, inr, refl}
 use Rattle.std.proofs.lemmas.List.{take_more, take_all}
 use Rattle.std.proofs.Math.ListN.{length-set}
-use Rattle.refine_partition.specs.declared.imports.Import.{Import}
 use Rattle.refine_partition.proofs.TurnLemmas.{settled_more, settled_all}
 use Rattle.refine_partition.proofs.moves.settle.Goals as goal
 
-pub loop-arrival-init : goal.loop-arrival-init
-loop-arrival-init c = record {
+pub loop-router-init : goal.loop-router-init
+loop-router-init c = record {
   total = refl;
-  settled = λ u. inr (refl, λ (k, a, inside, at, is). absurd (omega arith));
+  settled = λ u. inr (refl, λ (k, inside, at). absurd (omega arith));
 }
 
-pub loop-arrival-preserved : goal.loop-arrival-preserved
-loop-arrival-preserved c =
-    let none : Import = record { importer = 0; act = 0 } in
-    let k = c.loop-arrival.arrival-index in
-    let here = c.loop-arrival-test.true in
-    let arrival : Import = get_or c.args.arrivals.now k none in
-    let inside = c.requires.in_range k none here in
+pub loop-router-preserved : goal.loop-router-preserved
+loop-router-preserved c =
+    let k = c.loop-router.router-index in
+    let here = c.loop-router-test.true in
+    let router : ℕ = get_or c.args.reached.now k 0 in
+    let inside = c.requires.in_range k 0 here in
     let size = c.requires.one_class_each in
-    let total = c.loop-arrival.invariant.total in
-    let known : arrival.importer < length c.loop-arrival.classes.items = omega arith in
+    let total = c.loop-router.invariant.total in
+    let known : router < length c.loop-router.classes.items = omega arith in
     record {
-      total = let same = length-set c.loop-arrival.classes.items arrival.importer (get_or c.args.numbers.now arrival.importer 0) in omega arith;
-      settled = λ u. rw (take_more c.args.arrivals.now k none here) (settled_more _ _ _ _ arrival u known (c.loop-arrival.invariant.settled u));
+      total = let same = length-set c.loop-router.classes.items router (get_or c.args.numbers.now router 0) in omega arith;
+      settled = λ u. rw (take_more c.args.reached.now k 0 here) (settled_more _ _ _ _ router u known (c.loop-router.invariant.settled u));
     }
 
 pub returns : goal.returns
 returns c =
-    let whole = take_all c.loop-arrival.arrival-index c.args.arrivals.now c.loop-arrival-test.false in
+    let whole = take_all c.loop-router.router-index c.args.reached.now c.loop-router-test.false in
     let size = c.requires.one_class_each in
-    let total = c.loop-arrival.invariant.total in
-    settled_all _ _ _ _ (omega arith) (rw whole at c.loop-arrival.invariant.settled) c.requires.rest
+    let total = c.loop-router.invariant.total in
+    settled_all _ _ _ _ (omega arith) (rw whole at c.loop-router.invariant.settled) c.requires.rest

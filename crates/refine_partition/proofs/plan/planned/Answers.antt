@@ -15,8 +15,9 @@ pub renumbered-requires-clause-queue : goal.renumbered-requires-clause-queue
 renumbered-requires-clause-queue c = rw c.deref-6.ensures.value (queue_is _ _ _ c.in_ok-queue.ensures)
 
 pub returns : goal.returns
-returns c = planned_by _ _ _ _ _ _ _ _ _ _ _ c.requires.one_number_each c.requires.numbered c.in_ok-arrivals.ensures.arrivals
-    (rw (c.in_ok-classes.ensures, c.deref-2.ensures.value) at c.in_ok-class_count.ensures)
+returns c = planned_by _ _ _ _ _ _ _ _ _ _ _ _ c.requires.one_number_each c.requires.numbered c.in_ok-arrivals.ensures.arrivals
+    (rw (c.in_ok-classes.ensures, c.deref-2.ensures.value) at c.in_ok-class_count.ensures.classes)
+    c.in_ok-class_count.ensures.reached
     c.in_ok-touched.ensures.in_order
     (rw c.deref-3.ensures.value at c.in_ok-touched.ensures.touched)
     (rw c.deref-4.ensures.value at c.in_ok-queue.ensures)

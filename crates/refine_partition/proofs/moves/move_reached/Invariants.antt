@@ -2,13 +2,13 @@ use Rattle.std.proofs.Common.{◌≡◌, ◌+◌, length, take, nat_eq, IfSome, 
 use Rattle.std.specs.HashMap.{get}
 use Rattle.refine_partition.specs.Loose.{AreListed}
 use Rattle.refine_partition.proofs.MoveLemmas.{Moving}
-use Rattle.refine_partition.proofs.moves.move_importers.Given as goal
+use Rattle.refine_partition.proofs.moves.move_reached.Given as goal
 
-abbrev pub invariant-loop-arrival : goal.invariant-loop-arrival
-invariant-loop-arrival l = record {
+abbrev pub invariant-loop-router : goal.invariant-loop-router
+invariant-loop-router l = record {
   total : length l.lists.items ≡ length l.initial.lists.items + length l.origins.items;
   listed : AreListed l.numbers.items l.lists.items;
-  moving : Moving l.initial.numbers.items l.classes l.touched (take l.arrival-index l.arrivals) (length l.initial.lists.items) l.numbers.items l.origins.items
+  moving : Moving l.initial.numbers.items l.classes l.touched (take l.router-index l.reached) (length l.initial.lists.items) l.numbers.items l.origins.items
       (λ class. get nat_eq l.names class);
   last : IfSome l.last (λ x. get nat_eq l.names x.0 ≡ Some x.1);
 }
