@@ -1,5 +1,5 @@
 -- Numbers for keys, in the order in which the keys first stand.
-use Rattle.std.specs.Prelude.{◌≡◌, ℕ, ◌<◌, ◌≤◌, List, length, slice_index}
+use Rattle.std.specs.Prelude.{◌≡◌, ◌≢◌, ℕ, ◌<◌, ◌≤◌, List, length, slice_index, slice_index_or, Option, Some, None, ◌⊎◌}
 use Rattle.base_kit.specs.Partition.{IsNumbered}
 
 -- the first places have numbers below `count`, equal where their keys are
@@ -8,3 +8,14 @@ pub record IsNumbering (keys numbers : List ℕ) (count : ℕ) : Type 0 where
   pub small : count ≤ length numbers
   pub apart : (u v : ℕ) → u < length numbers → v < length numbers → slice_index numbers u ≡ slice_index numbers v → slice_index keys u ≡ slice_index keys v
   pub together : (u v : ℕ) → u < length numbers → v < length numbers → slice_index keys u ≡ slice_index keys v → slice_index numbers u ≡ slice_index numbers v
+
+-- the number of a key, if it has one
+abbrev pub number_at : List (Option ℕ) → ℕ → Option ℕ
+number_at names key = slice_index_or names key None
+
+-- the key has the number, which is the next one if it had none, and all others keep theirs
+pub record IsKeyNamedAt (old new : List (Option ℕ)) (key next number : ℕ) : Type 0 where
+  pub size : length new ≡ length old
+  pub named : number_at new key ≡ Some number
+  pub others : (other : ℕ) → other ≢ key → number_at new other ≡ number_at old other
+  pub was : (number_at old key ≡ Some number) ⊎ ((number_at old key ≡ None) × (number ≡ next))

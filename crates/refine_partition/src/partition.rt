@@ -8,7 +8,7 @@ ghost use Rattle.refine_partition.specs.Runs.{AreReachedBy};
 use crate::blocks::blocks_of;
 use crate::graph_view::GraphView;
 use crate::imports::{Exports, exports_of};
-use crate::numbering::numbers_of;
+use crate::numbering::numbers_of_small;
 use crate::pending::refined;
 use base_kit::{ActGraph, NoMemory, Steps};
 use std::alloc::Global;
@@ -92,7 +92,7 @@ pub fn coarsest_by<L: Ledger>(
 {
     let _known = graph.count();
     let blocks = refined(alloc, graph, &exports.imports, turns)?;
-    let (numbers, count) = numbers_of(alloc, &blocks)?;
+    let (numbers, count) = numbers_of_small(alloc, &blocks)?;
     let partition = from_numbers(alloc, numbers, count)?;
     Ok(partition)
 }

@@ -96,6 +96,7 @@ pub fn refined<L: Ledger>(
     ensures coarsest { IfOk result (λ numbers. IsCoarsestOn graph.now numbers.items) }
     ensures splits { IfOk result (λ numbers. (splits count : ℕ) × (turns.new ≡ turns.old + splits) × AreSplitSoFar graph.now splits numbers.items count) }
     ensures turns { turns.new ≤ turns.old + 2 * graph.now.count }
+    ensures below { IfOk result (λ numbers. All (λ number. number < length numbers.items) numbers.items) }
 {
     let _known = graph.count();
     let mut blocks = start(alloc, graph)?;

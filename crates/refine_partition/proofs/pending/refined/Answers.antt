@@ -1,5 +1,6 @@
-use Rattle.std.proofs.Common.{rules, ◌≡◌, [], ◌∷◌, ◌++◌, ◌+◌, false, slice_set, length, subst, ap, ◌∙◌, arith}
+use Rattle.std.proofs.Common.{rules, ◌≡◌, [], ◌∷◌, ◌++◌, ◌+◌, false, slice_set, length, ◌<◌, subst, ap, ◌∙◌, arith}
 use Rattle.std.proofs.lemmas.List.{length_push}
+use Rattle.std.proofs.lemmas.List.Elements.{All-from_get_or}
 use Rattle.std.proofs.Math.ListN.{length-set}
 use Rattle.refine_partition.specs.Pending.{IsRefining}
 use Rattle.refine_partition.proofs.RefineLemmas.{refining_start, refining_turn, refining_end, marked_all, marked_taken, left_known, taken_or_left}
@@ -71,3 +72,11 @@ returns-clause-coarsest g c =
 
 pub returns-clause-splits : goal.returns-clause-splits
 returns-clause-splits g c = let (splits, turns, once) = c.loop-block.invariant.splits in (splits, length c.loop-block.blocks.lists.items, turns, once.so_far)
+
+pub returns-clause-below : goal.returns-clause-below
+returns-clause-below g c =
+    let refining = c.loop-block.invariant.refining in
+    let total = refining.total in
+    let small = refining.small in
+    All-from_get_or (λ number. number < length c.loop-block.blocks.numbers.items) c.loop-block.blocks.numbers.items 0 (λ u inside.
+    let lt = refining.below u (omega arith) in omega arith)
