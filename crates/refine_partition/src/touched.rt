@@ -1,6 +1,6 @@
 //! The blocks that edges reach, and their members.
 
-ghost use Rattle.std.specs.Prelude.{◌≡◌, ◌<◌, All, Contains, IfOk, IsTrue, length};
+ghost use Rattle.std.specs.Prelude.{◌≡◌, ◌<◌, ◌-◌, ◌↔◌, All, Contains, IfOk, IsTrue, Some, length, slice_get};
 ghost use Rattle.std.specs.List.Sorted.{IsStrictlyIncreasing};
 ghost use Rattle.refine_partition.specs.Members.{AreBlocks};
 ghost use Rattle.refine_partition.specs.Touched.{AreTouched, IsQueue};
@@ -10,7 +10,8 @@ use std::alloc::Global;
 
 /// Whether the block is the last one of these.
 fn is_last(blocks: &[u32], block: u32) -> bool
-    ensures { IsTrue result → Contains blocks.now block }
+    ensures there { IsTrue result → Contains blocks.now block }
+    ensures last { IsTrue result ↔ (slice_get blocks.now (length blocks.now - 1) ≡ Some block) }
 {
     match blocks.last() {
         Some(last) => *last == block,

@@ -16,7 +16,7 @@ loop-router-preserved c =
       | then-not-is_last+in_ok-push w ↦
           rw (more, w.blocks-is, w.in_ok-push.ensures.items) (touched_more _ _ router _ c.loop-router.invariant)
       | else-not-is_last w ↦
-          let there = rw c.deref.ensures.value at (c.is_last.ensures w.if-not-is_last.false) in
+          let there = rw c.deref.ensures.value at (c.is_last.ensures.there w.if-not-is_last.false) in
           rw (more, w.blocks-is) (touched_again _ _ router _ c.loop-router.invariant there)
     ]
 
