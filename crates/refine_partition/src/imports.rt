@@ -3,7 +3,6 @@
 ghost use Rattle.std.specs.Prelude.{◌≡◌, ◌<◌, [], All, IfOk, length};
 ghost use Rattle.refine_partition.specs.Index.{IsImportIndex};
 
-use crate::graph_view::GraphView;
 use base_kit::{Edge, NoMemory};
 use std::alloc::Global;
 
@@ -60,13 +59,4 @@ pub fn exports_of(alloc: Global, count: u32, edges: &[Edge]) -> Result<Exports, 
         })?;
     }
     Ok(Exports { imports })
-}
-
-/// The imports over the edges of a graph by their exporters.
-pub fn imports_of(alloc: Global, graph: &GraphView) -> Result<Vec<Vec<Import>>, NoMemory>
-    ensures total { IfOk result (λ v. length v.items ≡ graph.now.count) }
-    ensures index { IfOk result (λ v. IsImportIndex graph.now.edges v.items) }
-{
-    let exports = exports_of(alloc, graph.count(), graph.edges())?;
-    Ok(exports.imports)
 }

@@ -6,7 +6,7 @@ ghost use Rattle.refine_partition.specs.Splitting.{IsSplitOf, IsSplittingOf, IsS
 use crate::blocks::blocks_of;
 use crate::division::divide;
 use crate::graph_view::GraphView;
-use crate::imports::imports_of;
+use crate::imports::exports_of;
 use crate::numbering::numbers_of;
 use base_kit::{ActGraph, NoMemory, Steps};
 use std::alloc::Global;
@@ -83,13 +83,13 @@ impl Splitting {
     {
         turns.tick();
         let graph = GraphView::of(graph);
-        let imports = imports_of(self.alloc, &graph)?;
+        let exports = exports_of(self.alloc, graph.count(), graph.edges())?;
         divide(
             self.alloc,
             &graph,
             &mut self.numbers,
             &mut self.blocks,
-            &imports,
+            &exports.imports,
             block,
         )?;
         Ok(())

@@ -9,7 +9,7 @@ pub divide-requires-clause-one_number_each : goal.divide-requires-clause-one_num
 divide-requires-clause-one_number_each g c = rw c.of-graph.ensures
     (all_routers c.args.graph.now _ _ _ c.self.invariant.numbered c.self.view_is c.requires.of_graph)
 
-split_is : (g : Over) (c : goal.After-drop-imports-2 g) → IsSplitOf c.args.graph.now c.args.block c.args.self.now (block_lists c.divide.new.blocks.items)
+split_is : (g : Over) (c : goal.After-drop-exports-2 g) → IsSplitOf c.args.graph.now c.args.block c.args.self.now (block_lists c.divide.new.blocks.items)
 split_is g c =
     let split = rw c.of-graph.ensures at c.in_ok-divide.ensures.ok in
     let total = all_routers c.args.graph.now _ _ _ c.self.invariant.numbered c.self.view_is c.requires.of_graph in
