@@ -32,7 +32,8 @@ impl Model for Cache {
 }
 
 impl Cache {
-    /// A cache that keeps nothing yet, and never more entries than the capacity.
+    /// A cache that keeps nothing yet, and never more entries than the capacity. It takes memory as it
+    /// fills, so a large capacity costs nothing where few operations are asked.
     pub fn new(alloc: Global, capacity: usize) -> Result<Cache, NoMemory>
         requires { 1 ≤ capacity }
         ensures { IfOk result (λ c. c ≡ memory capacity []) }
@@ -40,7 +41,7 @@ impl Cache {
         let Some(capacity) = NonZeroUsize::new(capacity) else {
             unreachable!()
         };
-        let kept = LruCache::new(alloc, capacity)?;
+        let kept = LruCache::sparse(alloc, capacity)?;
         Ok(Cache { kept })
     }
 

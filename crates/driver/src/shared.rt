@@ -27,11 +27,15 @@ pub struct Shared {
     pub store: Store,
 }
 
+// How many operations on diagrams are remembered. An operation on diagrams that are larger than what is
+// remembered does the same work over and over.
+const REMEMBERED: usize = 1048576;
+
 // A store of diagrams over all communities that the network names.
 fn store_of(alloc: Global, checked: &Checked) -> Result<Store, NoMemory>
     ensures { IfOk result (λ store. store.universe ≡ communities_of checked.now.network) }
 {
-    let store = Store::new(alloc, checked.communities())?;
+    let store = Store::with_capacity(alloc, checked.communities(), REMEMBERED)?;
     Ok(store)
 }
 
