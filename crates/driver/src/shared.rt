@@ -14,7 +14,7 @@ use dd_core::Store;
 use given_laws::given_is_well_formed;
 use net_topology::laws::few_links;
 use net_topology::links;
-use srp_build::{Directions, build_over, directions_of};
+use srp_build::{Directions, build, build_over, directions_of};
 use srp_core::Srp;
 use std::alloc::Global;
 
@@ -86,7 +86,7 @@ impl Shared {
     }
 }
 
-/// The problem of a class, if no other class is needed.
+/// The problem of a class, if no other class is needed: its edges are not copied.
 ///
 /// # Errors
 /// Out of memory.
@@ -98,6 +98,8 @@ pub fn problem_of_class(
     requires { Contains (classes_of checked.now.network) class.now }
     ensures { IfOk result (IsBuiltFor checked.now.network class.now) }
 {
-    let mut shared = Shared::of(alloc, checked)?;
-    shared.problem(alloc, checked, class)
+    let links = links(alloc, checked)?;
+    let mut store = store_of(alloc, checked)?;
+    let problem = build(alloc, checked, &links, class, &mut store)?;
+    Ok(problem)
 }
