@@ -16,6 +16,7 @@ from collections.abc import Callable, Iterable
 from pathlib import Path
 
 from roads import synthetic
+from roads.bench.states import kind, program_at
 from roads.command_line import Refused, parser
 from roads.fat_tree import fat_tree_text
 from roads.native import native
@@ -70,6 +71,8 @@ def words() -> argparse.ArgumentParser:
     made = parser("paper", "Measures fat trees, rings and full meshes, and prints the table.")
     made.add_argument("--small", action="store_true", help="only networks up to 200 routers")
     made.add_argument("--keep", action="store_true", help="write the measurements to bench/measured/paper.csv, with the load of the machine")
+    made.add_argument("--program", type=Path, help="the program that is measured (default: that of the repository)")
+    made.add_argument("--named", metavar="STATE", help="with --keep: what its state is called on the page, as a commit")
     made.add_argument("--kept", action="store_true", help="print the table of the kept measurements, and measure nothing")
     return made
 
@@ -81,7 +84,7 @@ def work(arguments: argparse.Namespace) -> None:
         return
     if not os.access(TIME, os.X_OK):
         raise Refused("the program time is not there: install the package time")
-    program = native(Program())
+    program = program_at(arguments.program) if arguments.program else native(Program())
     before = os.getloadavg()[0]
     rows = []
     for family in FAMILIES:
@@ -91,7 +94,8 @@ def work(arguments: argparse.Namespace) -> None:
                 print(f"paper: {family.name} {size}", file=sys.stderr)
     print(table(rows), end="")
     if arguments.keep:
-        keep(rows, f"load {before:.1f} before and {os.getloadavg()[0]:.1f} after, {os.cpu_count()} processors; program: {version_of(program)}")
+        state = f"{arguments.named}, {kind(program)}" if arguments.named else kind(program)
+        keep(rows, f"load {before:.1f} before and {os.getloadavg()[0]:.1f} after, {os.cpu_count()} processors; program: {state}")
 
 
 def measured(program: Path, family: Family, size: int) -> Row:
@@ -168,9 +172,3 @@ def read(place: Path) -> list[Row]:
         found = csv.DictReader(line for line in file if not line.startswith("#"))
         kinds = {field.name: {"str": str, "int": int, "float": float}[field.type] for field in dataclasses.fields(Row)}
         return [Row(**{name: kinds[name](value) for name, value in row.items()}) for row in found]
-
-
-def version_of(program: Path) -> str:
-    """Which program it was."""
-    is_proved = program.is_relative_to(TOP / "crates")
-    return "proved by ./build" if is_proved else "an unproved build"

@@ -5,7 +5,11 @@ import argparse
 import re
 from pathlib import Path
 
+from roads.bench import profile
+from roads.bench.kept import Table
+from roads.bench.measures import MEMORY, SECONDS
 from roads.bench.paper import KEPT, Row, read, table
+from roads.bench.tables import memory_text, turns_text
 from roads.command_line import Refused, parser
 from roads.program import TOP
 
@@ -21,7 +25,7 @@ PLOTS = (
 
 def words() -> argparse.ArgumentParser:
     """The words of the command line."""
-    made = parser("plot", "Draws time and memory against size from bench/measured/paper.csv, and writes the tables of README.md and docs/MEASURED.md.")
+    made = parser("plot", "Draws time and memory against size from bench/measured/paper.csv, and writes the tables of README.md and docs/MEASURED.md from all files there.")
     made.add_argument("--into", metavar="DIR", type=Path, help="draw into this folder, and leave the pages alone (default: docs/pictures)")
     return made
 
@@ -35,11 +39,23 @@ def work(arguments: argparse.Namespace) -> None:
 
 def with_tables(page: str) -> str:
     """A page with the tables of the kept measurements between its marks."""
-    rows = read(KEPT)
-    told = KEPT.read_text("ascii").partition("\n")[0].removeprefix("# ")
-    for name, text in (("all", table(rows) + f"\nMade with: {told}.\n"), ("some", short_table(rows))):
+    for name, text in texts().items():
         page = re.sub(rf"(<!-- measured: {name}[^\n]*-->\n).*?(<!-- measured: end -->\n)", lambda mark: mark[1] + text + mark[2], page, flags=re.S)
     return page
+
+
+def texts() -> dict[str, str]:
+    """The tables by the names of their marks, of what is kept."""
+    rows = read(KEPT)
+    told = KEPT.read_text("ascii").partition("\n")[0].removeprefix("# ")
+    made = {"all": table(rows) + f"\nMade with: {told}.\n", "some": short_table(rows)}
+    for measure, text in ((SECONDS, turns_text), (MEMORY, memory_text)):
+        kept = Table.read(measure)
+        if kept.rows:
+            made[measure.name] = text(kept)
+    if profile.KEPT.is_file():
+        made["profile"] = profile.profile_text()
+    return made
 
 
 def short_table(rows: list[Row]) -> str:

@@ -4,6 +4,8 @@ Each link has a subnet of two addresses from 172.16.0.0 on. An OSPF link costs 1
 """
 from __future__ import annotations
 
+import dataclasses
+import functools
 import math
 import random
 from collections.abc import Callable, Iterator
@@ -117,12 +119,25 @@ MAPS = [
     )
 ]
 
-SHAPES: dict[str, Callable[[int], str]] = {
-    "ospf-grid": lambda size: ospf(grid(size)),
-    "ospf-ring": lambda size: ospf(ring(size)),
-    "ospf-shuffled-line": lambda size: ospf(shuffled_line(size)),
-    "ospf-loopbacks": lambda size: ospf(leaf_spine(size), is_loopback_each=True),
-    "bgp-ring": lambda size: bgp(ring(size), 1, has_maps=False),
-    "bgp-star": lambda size: bgp(star(size), 1, has_maps=True),
-    "bgp-leaf-spine": lambda size: bgp(leaf_spine(size), 2, has_maps=True),
+
+@dataclasses.dataclass(frozen=True)
+class Shape:
+    """Networks of one rule: the graph of a size, and the text of a graph."""
+
+    graph: Callable[[int], Graph]
+    text_of: Callable[[Graph], str]
+
+    def text(self, size: int) -> str:
+        """The text of a size."""
+        return self.text_of(self.graph(size))
+
+
+SHAPES: dict[str, Shape] = {
+    "ospf-grid": Shape(grid, ospf),
+    "ospf-ring": Shape(ring, ospf),
+    "ospf-shuffled-line": Shape(shuffled_line, ospf),
+    "ospf-loopbacks": Shape(leaf_spine, functools.partial(ospf, is_loopback_each=True)),
+    "bgp-ring": Shape(ring, functools.partial(bgp, origins=1, has_maps=False)),
+    "bgp-star": Shape(star, functools.partial(bgp, origins=1, has_maps=True)),
+    "bgp-leaf-spine": Shape(leaf_spine, functools.partial(bgp, origins=2, has_maps=True)),
 }

@@ -1,50 +1,37 @@
-"""bench/turns: the user seconds, or the memory, of one or more programs over networks that grow, each program in turn, the least of several runs.
+"""bench/turns: the processor seconds, or the memory, of one or more programs over networks that grow, each program in turn, the least of several runs.
 
-So two states of the program are compared in one run of the machine. Second files are what the first program wrote: the labels that a
-schedule comes to rest in, and those of the network of the groups.
+So two states of the program are compared in one run of the machine. With --keep the rows go to a file of bench/measured, and rows that are kept there are
+not measured again.
 """
 from __future__ import annotations
 
 import argparse
-import dataclasses
 import os
-import subprocess
 import sys
 import tempfile
-from collections.abc import Callable, Iterator
+from collections.abc import Iterable, Iterator
 from pathlib import Path
 
+from roads.bench.inputs import READ_BY, ROUNDS, output, second_files
+from roads.bench.kept import Row, Table
+from roads.bench.measures import MEMORY, SECONDS, Measure, in_turn
 from roads.bench.paper import TIME
-from roads.bench.paper import asked as timed_answer
 from roads.bench.shapes import SHAPES
+from roads.bench.states import add_named, names_of, program_at, told_of
 from roads.command_line import Refused, parser
+from roads import fat_tree
 
-ROUNDS = 64
+OF_TEXT = ("classes", "summary")
 OF_CLASS = ("groups", "compress", "canon", "report", "json", "certify")
-OF_SECOND = {"check": "labels", "fold": "labels", "reach": "labels", "lift": "small", "run": "schedule", "verify": "certificate"}
-COMMANDS = ("classes", "summary", *OF_CLASS, *OF_SECOND, "trial")
+COMMANDS = (*OF_TEXT, *OF_CLASS, *READ_BY, "trial")
+FAT_TREE = "fat-tree"
+SIZES = (1024, 2048, 4096)
+# (in OSPF each link has a class, and all classes together take the square of the time of one)
+SUMMARY_SIZES = (256, 512, 1024)
 TRIALS = (8, 12, 20)
+MEMORY_COMMANDS = ("classes", "groups", "compress")
 MOST_BYTES = 16777216
-
-
-@dataclasses.dataclass(frozen=True)
-class Timed:
-    """One command on one network: the least user seconds of each program, in order, or the least memory."""
-
-    shape: str
-    size: int
-    command: str
-    least: tuple[float, ...]
-
-
-@dataclasses.dataclass(frozen=True)
-class Measure:
-    """What is measured of a run: its unit, how a figure is written, from which figure on two are compared, and how it is found."""
-
-    unit: str
-    form: str
-    compared_from: float
-    of: Callable[[Path, list[str]], float]
+Planned = tuple[str, int, tuple[str, ...]]
 
 
 def words() -> argparse.ArgumentParser:
@@ -52,125 +39,93 @@ def words() -> argparse.ArgumentParser:
     made = parser("turns", "Measures programs in turn over networks that grow, and prints a table.")
     made.add_argument("programs", nargs="+", type=Path, metavar="PROGRAM", help="a program, as crates/bonsai/out/bonsai")
     made.add_argument("--command", action="append", choices=COMMANDS, help="only this command (may stand several times)")
-    made.add_argument("--shape", action="append", choices=[*SHAPES, "fat-tree"], help="only this shape (may stand several times)")
-    made.add_argument("--sizes", default="1024,2048,4096", help="numbers of routers, ascending (default: %(default)s); `trial` takes its own")
+    made.add_argument("--shape", action="append", choices=[*SHAPES, FAT_TREE], help="only this shape (may stand several times)")
+    made.add_argument("--sizes", metavar="N,N..", help=f"numbers of routers, ascending (default: {SIZES}, {SUMMARY_SIZES} for `summary` in OSPF); `trial` takes its own")
     made.add_argument("--memory", action="store_true", help="measure the most memory that is resident, in MiB, and no time")
-    made.add_argument("--runs", type=int, default=5, help="runs of each program, of which the least counts (default: %(default)s)")
+    made.add_argument("--runs", type=int, default=5, help="turns of the programs, of which the least figures count (default: %(default)s; short runs more, long ones fewer)")
+    made.add_argument("--keep", action="store_true", help="keep the rows in bench/measured (turns.csv or memory.csv), and measure only what is not kept there of these programs")
+    made.add_argument("--anew", action="store_true", help="with --keep: forget what is kept")
+    add_named(made)
     return made
 
 
 def work(arguments: argparse.Namespace) -> None:
     """Measures and prints, row by row."""
-    try:
-        sizes = [int(word) for word in arguments.sizes.split(",")]
-    except ValueError:
-        raise Refused(f"--sizes {arguments.sizes}: no numbers") from None
-    programs = [program.resolve() for program in arguments.programs]
-    for program in programs:
-        if not os.access(program, os.X_OK) or not program.is_file():
-            raise Refused(f"{program}: no program")
+    programs = [program_at(program) for program in arguments.programs]
     if arguments.memory and not os.access(TIME, os.X_OK):
         raise Refused("the program time is not there: install the package time")
     measure = MEMORY if arguments.memory else SECONDS
-    commands, shapes = arguments.command or COMMANDS, arguments.shape or [*SHAPES, "fat-tree"]
+    commands = tuple(arguments.command or (MEMORY_COMMANDS if arguments.memory and arguments.keep else COMMANDS))
+    shapes = arguments.shape or [*SHAPES, FAT_TREE]
+    sizes = numbers(arguments.sizes) if arguments.sizes else SIZES[-1:] if arguments.memory and arguments.keep else None
+    table = Table.opened(measure, told_of(programs, names_of(arguments.named, programs)), is_anew=arguments.anew) if arguments.keep else None
     print(head(len(programs), measure))
     before: dict[tuple[str, str], float] = {}
-    for timed in measured(programs, shapes, sizes, commands, arguments.runs, measure):
-        print(row(timed, before.get((timed.shape, timed.command)), measure), flush=True)
-        before[timed.shape, timed.command] = timed.least[-1]
+    for row in measured(programs, plan(shapes, commands, sizes, table.keys() if table else frozenset()), arguments.runs, measure):
+        print(line(row, before.get((row.shape, row.command)), measure), flush=True)
+        before[row.shape, row.command] = row.least[-1][0]
+        if table:
+            table.append(row)
 
 
-def measured(programs: list[Path], shapes: list[str], sizes: list[int], commands: tuple[str, ...], runs: int, measure: Measure) -> Iterator[Timed]:
-    """Each command on each network that fits into a text; the trials stand for the shape of fat trees."""
+def numbers(text: str) -> tuple[int, ...]:
+    """The sizes of the command line."""
+    try:
+        return tuple(int(word) for word in text.split(","))
+    except ValueError:
+        raise Refused(f"--sizes {text}: no numbers") from None
+
+
+def plan(shapes: Iterable[str], commands: tuple[str, ...], sizes: tuple[int, ...] | None, kept: frozenset[tuple[str, int, str]]) -> list[Planned]:
+    """Which commands are measured on which networks: those that are not kept."""
+    found = []
     for shape in shapes:
-        if shape == "fat-tree":
-            for size in TRIALS if "trial" in commands else ():
-                yield Timed(shape, size, "trial", in_turn(programs, ["trial", str(size)], runs, measure))
+        for size in TRIALS if shape == FAT_TREE else sizes or sorted({*SIZES, *SUMMARY_SIZES}):
+            usual = tuple(it for it in commands if (it == "trial") == (shape == FAT_TREE) and (sizes or size in sizes_of(shape, it)))
+            wanted = tuple(it for it in usual if (shape, size, it) not in kept)
+            if wanted:
+                found.append((shape, size, wanted))
+    return found
+
+
+def sizes_of(shape: str, command: str) -> tuple[int, ...]:
+    """The usual sizes of a command on a shape."""
+    if shape == FAT_TREE:
+        return TRIALS
+    return SUMMARY_SIZES if command == "summary" and shape.startswith("ospf") else SIZES
+
+
+def measured(programs: list[Path], planned: list[Planned], runs: int, measure: Measure) -> Iterator[Row]:
+    """Each command on each network that fits into a text."""
+    for shape, size, commands in planned:
+        if shape == FAT_TREE:
+            least, turns = in_turn(programs, ["trial", str(size)], runs, measure)
+            counts = (len(fat_tree.names_of(size)), len(fat_tree.links_of(size)), size * size // 2, len(fat_tree.fat_tree_text(size)))
+            yield Row(shape, size, "trial", *counts, turns, os.getloadavg()[0], least)
             continue
-        for size in sizes:
-            text = SHAPES[shape](size)
-            if len(text) > MOST_BYTES:
-                break
+        text = SHAPES[shape].text(size)
+        if len(text) <= MOST_BYTES:
             with tempfile.TemporaryDirectory(prefix="bonsai-") as room:
-                yield from on_text(programs, Path(room), shape, size, text, commands, runs, measure)
+                file = Path(room) / "F"
+                file.write_text(text, "ascii")
+                yield from on_text(programs, file, shape, size, commands, runs, measure)
 
 
-def on_text(programs: list[Path], room: Path, shape: str, size: int, text: str, commands: tuple[str, ...], runs: int, measure: Measure) -> Iterator[Timed]:
-    """The commands on one text. What needs labels is left out, and said, where the schedule does not come to rest."""
-    file = room / "F"
-    file.write_text(text, "ascii")
-    seconds = second_files(programs[0], room, file, [OF_SECOND[it] for it in commands if it in OF_SECOND])
+def on_text(programs: list[Path], file: Path, shape: str, size: int, commands: tuple[str, ...], runs: int, measure: Measure) -> Iterator[Row]:
+    """The commands on one text. What needs labels is left out, and said, where no schedule comes to rest."""
+    graph = SHAPES[shape].graph(size)
+    seconds = second_files(programs[0], file.parent, file, graph, commands)
+    classes = output(programs[0], ["classes", str(file)]).count(b"\n")
     for command in commands:
-        if command in ("classes", "summary"):
-            asked = [command, str(file)]
-        elif command in OF_CLASS:
-            asked = [command, str(file), "1"]
-        elif command in OF_SECOND and OF_SECOND[command] in seconds:
-            asked = [command, str(file), "1", str(seconds[OF_SECOND[command]])]
-        else:
-            if command != "trial":
+        asked, length = [command, str(file), *(["1"] if command not in OF_TEXT else [])], file.stat().st_size
+        if command in READ_BY:
+            if READ_BY[command] not in seconds:
                 print(f"turns: {shape} {size}: no file for {command}: {ROUNDS} rounds do not come to rest", file=sys.stderr)
-            continue
-        yield Timed(shape, size, command, in_turn(programs, asked, runs, measure))
-
-
-def second_files(program: Path, room: Path, file: Path, wanted: list[str]) -> dict[str, Path]:
-    """The second files that are wanted and can be made: the schedule, a certificate, labels of rest, and those of the network of the groups."""
-    made: dict[str, Path] = {}
-
-    def keep(name: str, data: bytes) -> Path:
-        made[name] = room / name
-        made[name].write_bytes(data)
-        return made[name]
-
-    if not wanted:
-        return made
-    schedule = keep("schedule", b"*\n" * ROUNDS)
-    if "certificate" in wanted:
-        keep("certificate", output(program, ["certify", str(file), "1"]))
-    if not {"labels", "small"} & set(wanted):
-        return made
-    first, _, rest = output(program, ["run", str(file), "1", str(schedule)]).partition(b"\n")
-    if first != b"rest":
-        return made
-    labels = keep("labels", rest)
-    keep("small", output(program, ["fold", str(file), "1", str(labels)]))
-    return made
-
-
-def output(program: Path, asked: list[str]) -> bytes:
-    """What the program writes. Refused where its status is not 0."""
-    ran = subprocess.run([program, *asked], stdin=subprocess.DEVNULL, capture_output=True, check=False)
-    if ran.returncode:
-        raise Refused(f"{program} {' '.join(asked)}: status {ran.returncode}", ran.stderr.decode("utf-8", "replace").splitlines())
-    return ran.stdout
-
-
-def in_turn(programs: list[Path], asked: list[str], runs: int, measure: Measure) -> tuple[float, ...]:
-    """The least figure of each program, which take turns."""
-    found = [[measure.of(program, asked) for program in programs] for _ in range(runs)]
-    return tuple(min(figures) for figures in zip(*found, strict=True))
-
-
-def user_seconds(program: Path, asked: list[str]) -> float:
-    """The user seconds of one run. Refused where its status is not 0."""
-    with open(os.devnull, "wb") as sink:
-        ran = subprocess.Popen([program, *asked], stdin=subprocess.DEVNULL, stdout=sink, stderr=sink)
-        _, status, used = os.wait4(ran.pid, 0)
-    ran.returncode = os.waitstatus_to_exitcode(status)
-    if ran.returncode:
-        raise Refused(f"{program} {' '.join(asked)}: status {ran.returncode}")
-    return used.ru_utime
-
-
-def resident(program: Path, asked: list[str]) -> float:
-    """The most memory that is resident in one run, in MiB."""
-    return timed_answer(program, *asked)[2]
-
-
-# (a shorter time says nothing about growth)
-SECONDS = Measure("s", ".3f", 0.02, user_seconds)
-MEMORY = Measure("MiB", ".1f", 0, resident)
+                continue
+            second = seconds[READ_BY[command]]
+            asked, length = [*asked, str(second)], length + second.stat().st_size
+        least, turns = in_turn(programs, asked, runs, measure)
+        yield Row(shape, size, command, len(graph[0]), len(graph[1]), classes, length, turns, os.getloadavg()[0], least)
 
 
 def head(count: int, measure: Measure) -> str:
@@ -180,11 +135,11 @@ def head(count: int, measure: Measure) -> str:
     return "| " + " | ".join(columns) + " |\n|---|---:|---|" + "---:|" * (len(columns) - 3)
 
 
-def row(timed: Timed, before: float | None, measure: Measure) -> str:
+def line(row: Row, before: float | None, measure: Measure) -> str:
     """A row: the growth is the figure of the last program over its figure at the size before, where that is large enough to say something."""
-    first, last = timed.least[0], timed.least[-1]
-    cells = [timed.shape, f"{timed.size:,}", f"`{timed.command}`", *(f"{it:{measure.form}}" for it in timed.least)]
-    if len(timed.least) > 1:
+    first, last = row.least[0][0], row.least[-1][0]
+    cells = [row.shape, f"{row.routers:,}", f"`{row.command}`", *(f"{it[0]:{measure.form}}" for it in row.least)]
+    if len(row.least) > 1:
         cells.append(f"{last / first:.2f}" if first >= measure.compared_from else "")
     cells.append(f"{last / before:.1f}" if before is not None and before >= measure.compared_from else "")
     return "| " + " | ".join(cells) + " |"

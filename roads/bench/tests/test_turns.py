@@ -1,35 +1,72 @@
-"""Programs are measured in turn over networks of each shape."""
+"""Programs are measured in turn over networks of each shape, and rows are kept."""
 import pytest
 
-from roads.bench.shapes import SHAPES
-from roads.bench.turns import COMMANDS, MEMORY, SECONDS, Timed, head, measured, row
+from roads.bench import everything, kept, turns
+from roads.bench.inputs import outward, second_files
+from roads.bench.kept import Row, Table
+from roads.bench.measures import LONG, MEMORY, SECONDS, least, wanted
+from roads.bench.shapes import SHAPES, ring
+from roads.bench.states import kind, names_of
+from roads.bench.turns import COMMANDS, SIZES, SUMMARY_SIZES, TRIALS, head, line, measured, plan
 from roads.command_line import Refused
 from roads.native import native
 from roads.program import Program
 
 
+@pytest.fixture
+def programs() -> list:
+    return [native(Program())] * 2
+
+
+@pytest.fixture
+def folder(tmp_path, monkeypatch):
+    monkeypatch.setattr(kept, "FOLDER", tmp_path)
+    return tmp_path
+
+
+def row_of(command: str = "groups", before: float = 0.2, after: float = 0.1, **more: object) -> Row:
+    told = {"shape": "ospf-ring", "size": 2048, "routers": 2048, "links": 2048, "classes": 2049, "bytes": 1000, "turns": 5, "load": 0.5} | more
+    return Row(command=command, least=((before, before / 2), (after, after / 2)), **told)
+
+
 @pytest.mark.parametrize("shape", SHAPES)
 def test_the_shapes_are_read_and_have_classes(shape: str) -> None:
-    text = SHAPES[shape](32)
+    text = SHAPES[shape].text(32)
     assert Program().refusal(text) is None
     told = Program().summary(text)
-    assert told and {found.routers for found in told} <= {25, 32}
+    names, links = SHAPES[shape].graph(32)
+    assert told and {(found.routers, found.links) for found in told} == {(len(names), len(links))}
 
 
 def test_each_router_of_the_loopbacks_has_a_class() -> None:
-    told = Program().classes(SHAPES["ospf-loopbacks"](32))
+    told = Program().classes(SHAPES["ospf-loopbacks"].text(32))
     assert sum(found.prefixes[0].endswith("/32") for found in told) == 32
 
 
-def test_every_command_is_measured_on_a_ring() -> None:
-    found = list(measured([native(Program())] * 2, ["ospf-ring", "fat-tree"], [8], COMMANDS, 1, SECONDS))
-    assert {timed.command for timed in found} == set(COMMANDS)
-    assert all(len(timed.least) == 2 for timed in found)
+def test_every_command_is_measured_on_a_ring(programs) -> None:
+    found = list(measured(programs, [("ospf-ring", 8, COMMANDS[:-1]), ("fat-tree", 4, ("trial",))], 1, SECONDS))
+    assert [row.command for row in found] == list(COMMANDS)
+    assert all(len(row.least) == 2 and row.least[0][0] >= row.least[0][1] for row in found)
+    told = {row.command: (row.routers, row.links, row.classes) for row in found}
+    assert told["groups"] == (8, 8, 9) and told["trial"] == (20, 32, 8)
+    assert len({row.bytes for row in found}) > 3
 
 
-def test_what_does_not_come_to_rest_is_told(capsys) -> None:
-    found = list(measured([native(Program())], ["ospf-ring"], [256], ("run", "check"), 1, SECONDS))
-    assert [timed.command for timed in found] == ["run"]
+def test_paths_longer_than_all_rounds_come_to_rest(programs, tmp_path) -> None:
+    file = tmp_path / "F"
+    for shape in ("ospf-ring", "bgp-ring"):
+        file.write_text(SHAPES[shape].text(256))
+        assert {"labels", "small"} <= set(second_files(programs[0], tmp_path, file, SHAPES[shape].graph(256), ["check", "lift"]))
+
+
+def test_routers_by_their_distance() -> None:
+    assert outward(ring(5), "r4") == ["r4", "r3", "r0", "r2", "r1"]
+
+
+def test_what_does_not_come_to_rest_is_told(programs, capsys, monkeypatch) -> None:
+    monkeypatch.setattr("roads.bench.inputs.outward", lambda _graph, _origin: [])
+    found = list(measured(programs, [("ospf-ring", 256, ("run", "check"))], 1, SECONDS))
+    assert [row.command for row in found] == ["run"]
     assert "do not come to rest" in capsys.readouterr().err
 
 
@@ -38,19 +75,87 @@ def test_a_program_that_refuses_ends_the_run(tmp_path) -> None:
     program.write_text("#!/bin/sh\nexit 1\n")
     program.chmod(0o755)
     with pytest.raises(Refused, match="status 1"):
-        list(measured([program], ["ospf-ring"], [8], ("classes",), 1, SECONDS))
+        list(measured([program], [("ospf-ring", 8, ("classes",))], 1, SECONDS))
+
+
+def test_the_usual_plan_has_every_command_on_every_shape() -> None:
+    whole = plan([*SHAPES, "fat-tree"], COMMANDS, None, frozenset())
+    told = {(shape, size, command) for shape, size, commands in whole for command in commands}
+    assert {(shape, command) for shape, _, command in told} == {(shape, command) for shape in SHAPES for command in COMMANDS[:-1]} | {("fat-tree", "trial")}
+    assert {size for shape, size, command in told if (shape, command) == ("ospf-loopbacks", "summary")} == set(SUMMARY_SIZES)
+    assert {size for _, size, command in told if command == "groups"} == set(SIZES) and {size for shape, size, _ in told if shape == "fat-tree"} == set(TRIALS)
+    assert not plan([*SHAPES, "fat-tree"], COMMANDS, None, frozenset(told))
+    assert plan(["ospf-ring"], ("groups", "trial"), (8,), frozenset()) == [("ospf-ring", 8, ("groups",))]
+
+
+def test_short_runs_get_more_turns_and_long_ones_fewer() -> None:
+    def turn(before: float, after: float) -> tuple:
+        return ((before, before), (after, after))
+
+    assert wanted([], 5, SECONDS) == 5
+    assert wanted([turn(0.5, 0.4)], 5, SECONDS) == 5
+    assert wanted([turn(0.01, 0.01)], 5, SECONDS) == 15
+    assert wanted([turn(LONG / 2, LONG)], 5, SECONDS) == 1
+    assert wanted([turn(0.5, 0.6)] * 5, 5, SECONDS) == 20
+    assert wanted([turn(0.5, 0.6)] * 5 + [turn(0.5, 0.5)], 5, SECONDS) == 5
+    assert wanted([turn(0.01, 0.2)], 5, MEMORY) == 5
+    assert least([((3, 1), (5, 2)), ((2, 2), (6, 1))]) == ((2, 1), (5, 1))
+
+
+def test_chance_makes_nothing_slower() -> None:
+    assert SECONDS.is_more(1.0, 1.06) and not SECONDS.is_more(1.0, 1.04)
+    assert not SECONDS.is_more(0.004, 0.0045) and SECONDS.is_more(0.004, 0.006)
 
 
 def test_a_row_tells_factor_and_growth() -> None:
-    timed = Timed("ospf-ring", 2048, "groups", (0.2, 0.1))
-    assert row(timed, 0.05, SECONDS) == "| ospf-ring | 2,048 | `groups` | 0.200 | 0.100 | 0.50 | 2.0 |"
-    assert row(timed, 0.01, SECONDS) == "| ospf-ring | 2,048 | `groups` | 0.200 | 0.100 | 0.50 |  |"
-    assert head(2, SECONDS).splitlines()[0].count("|") == row(timed, None, SECONDS).count("|")
+    assert line(row_of(), 0.05, SECONDS) == "| ospf-ring | 2,048 | `groups` | 0.2000 | 0.1000 | 0.50 | 2.0 |"
+    assert line(row_of(), 0.001, SECONDS) == "| ospf-ring | 2,048 | `groups` | 0.2000 | 0.1000 | 0.50 |  |"
+    assert head(2, SECONDS).splitlines()[0].count("|") == line(row_of(), None, SECONDS).count("|")
 
 
-def test_memory_in_the_place_of_time() -> None:
-    found = list(measured([native(Program())], ["ospf-ring"], [8], ("classes", "compress"), 1, MEMORY))
-    assert [timed.command for timed in found] == ["classes", "compress"] and all(0.5 < timed.least[0] < 64 for timed in found)
-    timed = Timed("ospf-ring", 1024, "classes", (20.04, 22))
+def test_memory_in_the_place_of_time(programs) -> None:
+    found = list(measured(programs, [("ospf-ring", 8, ("classes", "compress"))], 1, MEMORY))
+    assert [row.command for row in found] == ["classes", "compress"] and all(0.5 < row.before < 64 for row in found)
     assert head(2, MEMORY).startswith("| network | routers | command | MiB, program 1 | MiB, program 2 | last to first |")
-    assert row(timed, None, MEMORY) == "| ospf-ring | 1,024 | `classes` | 20.0 | 22.0 | 1.10 |  |"
+
+
+def test_rows_are_kept_as_they_are(folder) -> None:
+    for measure, least_figures in ((SECONDS, ((0.25, 0.125), (0.5, 0.25))), (MEMORY, ((20.5,), (10.5,)))):
+        rows = [row_of(), row_of("certify")]
+        rows = [Row(**{**vars(row), "least": least_figures}) for row in rows]
+        table = Table.opened(measure, "two programs", is_anew=False)
+        for row in rows:
+            table.append(row)
+        again = Table.opened(measure, "two programs", is_anew=False)
+        assert again.rows == rows and again.told == "two programs" and (folder / f"{measure.name}.csv").is_file()
+        assert Table.opened(measure, "others", is_anew=False).rows == []
+
+
+def test_what_is_kept_is_not_measured_again(folder, programs, capsys) -> None:
+    asked = [*map(str, programs), "--keep", "--named", "old,new", "--shape", "ospf-ring", "--sizes", "8", "--runs", "1", "--command", "groups"]
+    for more, lines in (([], 3), ([], 2), (["--command", "classes"], 3), (["--anew"], 3)):
+        turns.work(turns.words().parse_args([*asked, *more]))
+        assert len(capsys.readouterr().out.splitlines()) == lines
+    told = Table.read(SECONDS).told
+    assert told.startswith(f"before: old ({kind(programs[0])}, SHA-256 ") and "; after: new (" in told
+    assert [row.command for row in Table.read(SECONDS).rows] == ["groups"]
+
+
+def test_two_states_have_two_names(tmp_path) -> None:
+    assert names_of(None, [tmp_path / "a", tmp_path / "b"]) == ["a", "b"]
+    for named, count in (("a", 2), ("a,b", 3)):
+        with pytest.raises(Refused, match="two names"):
+            names_of(named, [tmp_path] * count)
+
+
+def test_an_unproved_build_is_told(tmp_path) -> None:
+    for data, told in ((b"\x7fELF __asan_init", "an unproved build"), (b"\x7fELF", "proved by ./build")):
+        (tmp_path / "program").write_bytes(data)
+        assert kind(tmp_path / "program") == told
+
+
+def test_all_measurements_are_made_of_two_states(programs) -> None:
+    found = everything.steps(everything.words().parse_args([*map(str, programs), "--named", "old,new"]))
+    assert [tool.__name__.rpartition(".")[2] for tool, _ in found] == ["turns", "turns", "profile", "paper", "plot"]
+    for tool, asked in found:
+        assert tool.words().parse_args(asked)

@@ -1,0 +1,50 @@
+"""bench/all: every measurement of two states of the program, kept, and the pages and plots made from it."""
+from __future__ import annotations
+
+import argparse
+import sys
+import time
+from pathlib import Path
+from types import ModuleType
+
+from roads.bench import paper, plot, profile, turns
+from roads.bench.states import add_named, names_of, program_at
+from roads.command_line import parser
+
+Step = tuple[ModuleType, list[str]]
+
+
+def words() -> argparse.ArgumentParser:
+    """The words of the command line."""
+    made = parser(
+        "all",
+        "Measures two states of the program: `bench/turns --keep`, the same with --memory, `bench/profile --keep`, and `bench/paper --keep` of the state after;"
+        " then `bench/plot` writes the plots and the tables of the pages. A run that ended early goes on where it was. Takes about a quarter of an hour.",
+    )
+    made.add_argument("programs", nargs=2, type=Path, metavar="PROGRAM", help="the state before, and the state after: programs that ./build proved")
+    add_named(made)
+    made.add_argument("--anew", action="store_true", help="measure again what is kept of these programs")
+    return made
+
+
+def work(arguments: argparse.Namespace) -> None:
+    """Measures, keeps and writes."""
+    for tool, asked in steps(arguments):
+        started = time.monotonic()
+        tool.work(tool.words().parse_args(asked))
+        print(f"all: {tool.__name__.rpartition('.')[2]} {' '.join(asked)}: {time.monotonic() - started:.0f} s", file=sys.stderr)
+
+
+def steps(arguments: argparse.Namespace) -> list[Step]:
+    """The tools and their words, in order."""
+    programs = [program_at(program) for program in arguments.programs]
+    names = names_of(arguments.named, programs)
+    both = [*map(str, programs), "--keep", "--named", ",".join(names)]
+    anew = ["--anew"] if arguments.anew else []
+    return [
+        (turns, [*both, *anew]),
+        (turns, [*both, *anew, "--memory", "--runs", "3"]),
+        (profile, both),
+        (paper, ["--keep", "--program", str(programs[1]), "--named", names[1]]),
+        (plot, []),
+    ]

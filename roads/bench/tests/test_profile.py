@@ -1,0 +1,39 @@
+"""Functions are told with their shares of the samples."""
+import shutil
+
+import pytest
+
+from roads.bench import profile
+from roads.bench.profile import KERNEL, rows_of, sampled, shares_of, texts
+from roads.command_line import Refused
+from roads.native import native
+from roads.program import Program
+from roads.tests.asking import place_of
+
+REPORT = "# Overhead\n# ........\n\n   60        \t[.] grouping::coarsest_of\n  20\t[k] clear_page\n10\t[.] malloc\n10 \t[k] page_fault\n"
+
+
+def test_the_kernel_is_one_row() -> None:
+    assert shares_of(REPORT) == {"grouping::coarsest_of": 0.6, KERNEL: 0.3, "malloc": 0.1}
+    with pytest.raises(Refused, match="no samples"):
+        shares_of("# nothing\n")
+
+
+def test_shares_are_kept_as_they_are(tmp_path, monkeypatch) -> None:
+    monkeypatch.setattr(profile, "KEPT", tmp_path / "profile.csv")
+    rows = rows_of("summary", "bgp-ring", 1024, {"first": 0.75, "second": 0.25}, {"second": 0.5, "third": 0.5})
+    profile.keep(rows, "two programs")
+    text = profile.profile_text()
+    assert text == "\n".join([*texts(rows), "", "Made with: two programs."]) + "\n"
+    assert "| `summary`, bgp-ring 1,024: function | before | after |" in text and "| `first` | 75.0 % | 0.0 % |" in text and "| `third` | 0.0 % | 50.0 % |" in text
+
+
+def test_a_program_is_sampled(tmp_path, monkeypatch) -> None:
+    if not shutil.which("perf"):
+        pytest.skip("the package linux-perf is not there")
+    monkeypatch.setattr(profile, "SECONDS", 0.3)
+    try:
+        shares = sampled(native(Program()), ["classes", str(place_of("campus.cfg"))], tmp_path / "samples")
+    except Refused as refused:
+        pytest.skip(f"perf may not sample here: {refused}")
+    assert sum(shares.values()) == pytest.approx(1) and any("::" in name for name in shares)
