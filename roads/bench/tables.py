@@ -62,7 +62,15 @@ def judgement(rows: list[Row]) -> list[str]:
         f"- Slower by more than {100 * SLOWER - 100:.0f} % and {1000 * SECONDS.resolved:.0f} ms, of {len(rows)} rows of all sizes: {'; '.join(slower) or 'none'}. "
         f"By less: {len(more)} rows; faster or alike: {len(rows) - len(slower) - len(more)}.",
         f"- Grows by more than {MOST_GROWTH} while the links double: {'; '.join(fast) or 'none'}.",
+        *_reading([of_command[-1] for of_command in series(rows) if of_command[-1].command == "classes"]),
     ]
+
+
+def _reading(rows: list[Row]) -> Iterator[str]:
+    """How fast the largest texts are read."""
+    rates = [row.bytes / 1e6 / row.after for row in rows]
+    if rates:
+        yield f"- `classes` reads {min(rates):.0f} to {max(rates):.0f} MB a second."
 
 
 def _slower(row: Row) -> str:

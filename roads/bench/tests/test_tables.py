@@ -27,8 +27,9 @@ def test_growth_is_that_while_links_double() -> None:
 
 
 def test_what_is_slower_is_named() -> None:
-    slower, _ = judgement([row(1024, "groups", 0.1, 0.12), row(1024, "json", 0.1, 0.103), row(1024, "run", 0.1, 0.1), row(1024, "classes", 0.004, 0.0045)])
+    slower, _, read = judgement([row(1024, "groups", 0.1, 0.12), row(1024, "json", 0.1, 0.103), row(1024, "run", 0.1, 0.1), row(1024, "classes", 0.004, 0.0045)])
     assert slower == "- Slower by more than 5 % and 1 ms, of 4 rows of all sizes: ospf-ring 1,024 `groups` 1.20 (0.1000 s, 0.1200 s). By less: 2 rows; faster or alike: 1."
+    assert read == "- `classes` reads 23 to 23 MB a second."
 
 
 def test_what_grows_fast_is_named() -> None:
