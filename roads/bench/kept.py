@@ -21,8 +21,8 @@ KINDS = {"shape": str, "command": str, "load": float}
 class Row:
     """One command on one network.
 
-    `size` is the one that was asked for. `bytes` are those of the text and of the second file. `load` is the machine's load
-    when the row was made. `least` has the least figures of each program, in order.
+    `size` is the one that was asked for. `bytes` are read and written. `load` is the machine's load when the
+    row was made. `least` has the least figures of each program, in order.
     """
 
     shape: str

@@ -12,7 +12,7 @@ from roads.command_line import Refused
 
 SLOWER = 1.05
 SHORT, SHORT_TURNS = 0.05, 3
-LONG = 30.0
+LONG = 45.0
 MORE_TURNS = 4
 
 

@@ -79,7 +79,7 @@ def sampled(program: Path, asked: list[str], samples: Path) -> Shares:
     called.unlink(missing_ok=True)
     called.symlink_to(program)
     loop = f"for run in $(seq {runs}); do {shlex.join([str(called), *asked])} >/dev/null || exit; done"
-    perf("record", "-q", "-e", "cpu-clock", "-F", str(PER_SECOND), "-o", str(samples), "--", "sh", "-c", loop)
+    perf("record", "-q", "-N", "-e", "cpu-clock", "-F", str(PER_SECOND), "-o", str(samples), "--", "sh", "-c", loop)
     return shares_of(perf("report", "-i", str(samples), "--stdio", "--no-children", "--comm", "measured", "-F", "sample,sym", "-t", "\t"))
 
 

@@ -8,7 +8,7 @@ from roads.bench.kept import Row, Table
 from roads.bench.measures import SECONDS, SLOWER
 
 MOST_GROWTH = 2.3
-# (a figure that grows no faster than what is read)
+# (a figure that grows hardly faster than what is read and written)
 AS_BYTES = 1.15
 FOR_EACH_CLASS = ("summary", "trial")
 
@@ -70,7 +70,7 @@ def _reading(rows: list[Row]) -> Iterator[str]:
     """How fast the largest texts are read."""
     rates = [row.bytes / 1e6 / row.after for row in rows]
     if rates:
-        yield f"- `classes` reads {min(rates):.0f} to {max(rates):.0f} MB a second."
+        yield f"- `classes` reads and writes {min(rates):.0f} to {max(rates):.0f} MB a second."
 
 
 def _slower(row: Row) -> str:
@@ -89,8 +89,8 @@ def _fast(rows: list[Row]) -> str:
         return f"{name}, for each class {each:.1f}" if found > MOST_GROWTH or each > MOST_GROWTH else ""
     if found <= MOST_GROWTH:
         return ""
-    bytes_read = growth(last, before, lambda row: row.bytes)
-    return f"{name}, where the bytes that are read grow by {bytes_read:.1f}" if found <= AS_BYTES * bytes_read else name
+    of_bytes = growth(last, before, lambda row: row.bytes)
+    return f"{name}, where the bytes that are read and written grow by {of_bytes:.1f}" if found <= AS_BYTES * of_bytes else name
 
 
 def _is_told(rows: list[Row], figure: Callable[[Row], float]) -> bool:

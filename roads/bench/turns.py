@@ -117,13 +117,14 @@ def on_text(programs: list[Path], file: Path, shape: str, size: int, commands: t
     seconds = second_files(programs[0], file.parent, file, graph, commands)
     classes = output(programs[0], ["classes", str(file)]).count(b"\n")
     for command in commands:
-        asked, length = [command, str(file), *(["1"] if command not in OF_TEXT else [])], file.stat().st_size
+        asked, files = [command, str(file), *(["1"] if command not in OF_TEXT else [])], [file]
         if command in READ_BY:
             if READ_BY[command] not in seconds:
                 print(f"turns: {shape} {size}: no file for {command}: {ROUNDS} rounds do not come to rest", file=sys.stderr)
                 continue
-            second = seconds[READ_BY[command]]
-            asked, length = [*asked, str(second)], length + second.stat().st_size
+            files.append(seconds[READ_BY[command]])
+            asked.append(str(files[-1]))
+        length = sum(it.stat().st_size for it in files) + len(output(programs[-1], asked))
         least, turns = in_turn(programs, asked, runs, measure)
         yield Row(shape, size, command, len(graph[0]), len(graph[1]), classes, length, turns, os.getloadavg()[0], least)
 

@@ -29,7 +29,7 @@ def test_growth_is_that_while_links_double() -> None:
 def test_what_is_slower_is_named() -> None:
     slower, _, read = judgement([row(1024, "groups", 0.1, 0.12), row(1024, "json", 0.1, 0.103), row(1024, "run", 0.1, 0.1), row(1024, "classes", 0.004, 0.0045)])
     assert slower == "- Slower by more than 5 % and 1 ms, of 4 rows of all sizes: ospf-ring 1,024 `groups` 1.20 (0.1000 s, 0.1200 s). By less: 2 rows; faster or alike: 1."
-    assert read == "- `classes` reads 23 to 23 MB a second."
+    assert read == "- `classes` reads and writes 23 to 23 MB a second."
 
 
 def test_what_grows_fast_is_named() -> None:
@@ -39,7 +39,7 @@ def test_what_grows_fast_is_named() -> None:
     assert fast(row(1024, "groups", 0.1, 0.1), row(2048, "groups", 0.4, 0.22)) == "none."
     assert fast(row(1024, "groups", 0.1, 0.001), row(2048, "groups", 0.4, 0.1)) == "none."
     assert fast(row(1024, "groups", 0.1, 0.1), row(2048, "groups", 0.4, 0.3)) == "ospf-ring `groups` 3.0."
-    assert fast(row(1024, "check", 0.1, 0.1, bytes=100), row(2048, "check", 0.4, 0.4, bytes=390)) == "ospf-ring `check` 4.0, where the bytes that are read grow by 3.9."
+    assert fast(row(1024, "check", 0.1, 0.1, bytes=100), row(2048, "check", 0.4, 0.4, bytes=390)) == "ospf-ring `check` 4.0, where the bytes that are read and written grow by 3.9."
     assert fast(row(512, "summary", 1, 1, classes=512), row(1024, "summary", 4, 4, classes=1024)) == "ospf-ring `summary` 4.0, for each class 2.0."
 
 
