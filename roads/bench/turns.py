@@ -23,6 +23,7 @@ from roads import fat_tree
 
 OF_TEXT = ("classes", "summary")
 OF_CLASS = ("groups", "compress", "canon", "report", "json", "certify")
+MAY_CHOOSE = ("certify",)
 COMMANDS = (*OF_TEXT, *OF_CLASS, *READ_BY, "trial")
 FAT_TREE = "fat-tree"
 SIZES = (1024, 2048, 4096)
@@ -124,7 +125,10 @@ def on_text(programs: list[Path], file: Path, shape: str, size: int, commands: t
                 continue
             files.append(seconds[READ_BY[command]])
             asked.append(str(files[-1]))
-        length = sum(it.stat().st_size for it in files) + len(output(programs[-1], asked))
+        answers = [output(program, asked) for program in programs]
+        if len(set(answers)) > 1 and command not in MAY_CHOOSE:
+            print(f"turns: {shape} {size} {command}: the programs write different answers", file=sys.stderr)
+        length = sum(it.stat().st_size for it in files) + len(answers[-1])
         least, turns = in_turn(programs, asked, runs, measure)
         yield Row(shape, size, command, len(graph[0]), len(graph[1]), classes, length, turns, os.getloadavg()[0], least)
 

@@ -78,6 +78,14 @@ def test_a_program_that_refuses_ends_the_run(tmp_path) -> None:
         list(measured([program], [("ospf-ring", 8, ("classes",))], 1, SECONDS))
 
 
+def test_other_answers_are_told(programs, tmp_path, capsys) -> None:
+    other = tmp_path / "program"
+    other.write_text("#!/bin/sh\necho other\n")
+    other.chmod(0o755)
+    assert len(list(measured([programs[0], other], [("ospf-ring", 8, ("groups", "certify"))], 1, SECONDS))) == 2
+    assert capsys.readouterr().err == "turns: ospf-ring 8 groups: the programs write different answers\n"
+
+
 def test_the_usual_plan_has_every_command_on_every_shape() -> None:
     whole = plan([*SHAPES, "fat-tree"], COMMANDS, None, frozenset())
     told = {(shape, size, command) for shape, size, commands in whole for command in commands}
