@@ -27,8 +27,9 @@ MAY_CHOOSE = ("certify",)
 COMMANDS = (*OF_TEXT, *OF_CLASS, *READ_BY, "trial")
 FAT_TREE = "fat-tree"
 SIZES = (1024, 2048, 4096)
-# (in OSPF each link has a class, and all classes together take the square of the time of one)
-SUMMARY_SIZES = (256, 512, 1024)
+# (in OSPF each link has a class, and all classes together take about the square of the time of one)
+SUMMARY_SIZES = (128, 256, 512)
+LOOPBACKS_SIZES = (512, 1024)
 TRIALS = (8, 12, 20)
 MEMORY_COMMANDS = ("classes", "groups", "compress")
 MOST_BYTES = 16777216
@@ -41,7 +42,7 @@ def words() -> argparse.ArgumentParser:
     made.add_argument("programs", nargs="+", type=Path, metavar="PROGRAM", help="a program, as crates/bonsai/out/bonsai")
     made.add_argument("--command", action="append", choices=COMMANDS, help="only this command (may stand several times)")
     made.add_argument("--shape", action="append", choices=[*SHAPES, FAT_TREE], help="only this shape (may stand several times)")
-    made.add_argument("--sizes", metavar="N,N..", help=f"numbers of routers, ascending (default: {SIZES}, {SUMMARY_SIZES} for `summary` in OSPF); `trial` takes its own")
+    made.add_argument("--sizes", metavar="N,N..", help=f"numbers of routers, ascending (default: {SIZES}; of `summary` in OSPF {SUMMARY_SIZES}, with loopbacks {LOOPBACKS_SIZES}); `trial` takes its own")
     made.add_argument("--memory", action="store_true", help="measure the most memory that is resident, in MiB, and no time")
     made.add_argument("--runs", type=int, default=5, help="turns of the programs, of which the least figures count (default: %(default)s; short runs more, long ones fewer)")
     made.add_argument("--keep", action="store_true", help="keep the rows in bench/measured (turns.csv or memory.csv), and measure only what is not kept there of these programs")
@@ -81,7 +82,7 @@ def plan(shapes: Iterable[str], commands: tuple[str, ...], sizes: tuple[int, ...
     """Which commands are measured on which networks: those that are not kept."""
     found = []
     for shape in shapes:
-        for size in TRIALS if shape == FAT_TREE else sizes or sorted({*SIZES, *SUMMARY_SIZES}):
+        for size in TRIALS if shape == FAT_TREE else sizes or sorted({*SIZES, *SUMMARY_SIZES, *LOOPBACKS_SIZES}):
             usual = tuple(it for it in commands if (it == "trial") == (shape == FAT_TREE) and (sizes or size in sizes_of(shape, it)))
             wanted = tuple(it for it in usual if (shape, size, it) not in kept)
             if wanted:
@@ -93,7 +94,9 @@ def sizes_of(shape: str, command: str) -> tuple[int, ...]:
     """The usual sizes of a command on a shape."""
     if shape == FAT_TREE:
         return TRIALS
-    return SUMMARY_SIZES if command == "summary" and shape.startswith("ospf") else SIZES
+    if command != "summary" or not shape.startswith("ospf"):
+        return SIZES
+    return LOOPBACKS_SIZES if shape == "ospf-loopbacks" else SUMMARY_SIZES
 
 
 def measured(programs: list[Path], planned: list[Planned], runs: int, measure: Measure) -> Iterator[Row]:

@@ -7,7 +7,7 @@ from roads.bench.kept import Row, Table
 from roads.bench.measures import LONG, MEMORY, SECONDS, least, wanted
 from roads.bench.shapes import SHAPES, ring
 from roads.bench.states import kind, names_of
-from roads.bench.turns import COMMANDS, SIZES, SUMMARY_SIZES, TRIALS, head, line, measured, plan
+from roads.bench.turns import COMMANDS, LOOPBACKS_SIZES, SIZES, SUMMARY_SIZES, TRIALS, head, line, measured, plan
 from roads.command_line import Refused
 from roads.native import native
 from roads.program import Program
@@ -90,7 +90,8 @@ def test_the_usual_plan_has_every_command_on_every_shape() -> None:
     whole = plan([*SHAPES, "fat-tree"], COMMANDS, None, frozenset())
     told = {(shape, size, command) for shape, size, commands in whole for command in commands}
     assert {(shape, command) for shape, _, command in told} == {(shape, command) for shape in SHAPES for command in COMMANDS[:-1]} | {("fat-tree", "trial")}
-    assert {size for shape, size, command in told if (shape, command) == ("ospf-loopbacks", "summary")} == set(SUMMARY_SIZES)
+    for shape, sizes in (("ospf-loopbacks", LOOPBACKS_SIZES), ("ospf-ring", SUMMARY_SIZES), ("bgp-ring", SIZES)):
+        assert [size for found, size, command in sorted(told) if (found, command) == (shape, "summary")] == list(sizes)
     assert {size for _, size, command in told if command == "groups"} == set(SIZES) and {size for shape, size, _ in told if shape == "fat-tree"} == set(TRIALS)
     assert not plan([*SHAPES, "fat-tree"], COMMANDS, None, frozenset(told))
     assert plan(["ospf-ring"], ("groups", "trial"), (8,), frozenset()) == [("ospf-ring", 8, ("groups",))]
