@@ -58,12 +58,13 @@ SECONDS = Measure("turns", "s", ".4f", 0.005, 0.001, seconds)
 MEMORY = Measure("memory", "MiB", ".1f", 0, 0.5, resident)
 
 
-def in_turn(programs: list[Path], asked: list[str], runs: int, measure: Measure) -> tuple[tuple[tuple[float, ...], ...], int]:
-    """The least figures of each program, and the number of turns that found them."""
-    found: list[tuple[tuple[float, ...], ...]] = []
-    while len(found) < wanted(found, runs, measure):
-        found.append(tuple(measure.of(program, asked) for program in programs))
-    return least(found), len(found)
+def in_turn(programs: list[Path], asked: list[list[str]], runs: int, measure: Measure) -> list[tuple[tuple[tuple[float, ...], ...], int]]:
+    """For each of some commands the least figures of each program, and the number of turns that found them. In a turn all have a run, so that all meet the same load."""
+    found: list[list[tuple[tuple[float, ...], ...]]] = [[] for _ in asked]
+    while wanting := [place for place, turns in enumerate(found) if len(turns) < wanted(turns, runs, measure)]:
+        for place in wanting:
+            found[place].append(tuple(measure.of(program, asked[place]) for program in programs))
+    return [(least(turns), len(turns)) for turns in found]
 
 
 def least(found: list[tuple[tuple[float, ...], ...]]) -> tuple[tuple[float, ...], ...]:

@@ -6,6 +6,8 @@ not measured again.
 from __future__ import annotations
 
 import argparse
+import dataclasses
+import itertools
 import os
 import sys
 import tempfile
@@ -33,7 +35,20 @@ LOOPBACKS_SIZES = (512, 1024)
 TRIALS = (8, 12, 20)
 MEMORY_COMMANDS = ("classes", "groups", "compress")
 MOST_BYTES = 16777216
-Planned = tuple[str, int, tuple[str, ...]]
+Planned = tuple[str, str, tuple[int, ...]]
+
+
+@dataclasses.dataclass(frozen=True)
+class Network:
+    """A network of a shape, with its text and the second files of commands; `trial` makes its own."""
+
+    shape: str
+    size: int
+    routers: int
+    links: int
+    classes: int
+    file: Path | None
+    seconds: dict[str, Path]
 
 
 def words() -> argparse.ArgumentParser:
@@ -82,12 +97,11 @@ def plan(shapes: Iterable[str], commands: tuple[str, ...], sizes: tuple[int, ...
     """Which commands are measured on which networks: those that are not kept."""
     found = []
     for shape in shapes:
-        for size in TRIALS if shape == FAT_TREE else sizes or sorted({*SIZES, *SUMMARY_SIZES, *LOOPBACKS_SIZES}):
-            usual = tuple(it for it in commands if (it == "trial") == (shape == FAT_TREE) and (sizes or size in sizes_of(shape, it)))
-            wanted = tuple(it for it in usual if (shape, size, it) not in kept)
-            if wanted:
-                found.append((shape, size, wanted))
-    return found
+        for command in commands:
+            if (command == "trial") == (shape == FAT_TREE):
+                usual = sizes_of(shape, command) if shape == FAT_TREE or not sizes else sizes
+                found.append((shape, command, tuple(size for size in usual if (shape, size, command) not in kept)))
+    return [it for it in found if it[2]]
 
 
 def sizes_of(shape: str, command: str) -> tuple[int, ...]:
@@ -101,39 +115,55 @@ def sizes_of(shape: str, command: str) -> tuple[int, ...]:
 
 def measured(programs: list[Path], planned: list[Planned], runs: int, measure: Measure) -> Iterator[Row]:
     """Each command on each network that fits into a text."""
-    for shape, size, commands in planned:
-        if shape == FAT_TREE:
-            least, turns = in_turn(programs, ["trial", str(size)], runs, measure)
-            counts = (len(fat_tree.names_of(size)), len(fat_tree.links_of(size)), size * size // 2, len(fat_tree.fat_tree_text(size)))
-            yield Row(shape, size, "trial", *counts, turns, os.getloadavg()[0], least)
-            continue
-        text = SHAPES[shape].text(size)
-        if len(text) <= MOST_BYTES:
-            with tempfile.TemporaryDirectory(prefix="bonsai-") as room:
-                file = Path(room) / "F"
-                file.write_text(text, "ascii")
-                yield from on_text(programs, file, shape, size, commands, runs, measure)
+    for shape, of_shape in itertools.groupby(planned, key=lambda it: it[0]):
+        series = list(of_shape)
+        with tempfile.TemporaryDirectory(prefix="bonsai-") as room:
+            sizes = sorted({size for _, _, sizes in series for size in sizes})
+            networks = [made for size in sizes if (made := network(programs[0], Path(room), shape, size, [command for _, command, _ in series]))]
+            for _, command, wanted in series:
+                yield from in_series(programs, command, [it for it in networks if it.size in wanted], runs, measure)
 
 
-def on_text(programs: list[Path], file: Path, shape: str, size: int, commands: tuple[str, ...], runs: int, measure: Measure) -> Iterator[Row]:
-    """The commands on one text. What needs labels is left out, and said, where no schedule comes to rest."""
+def network(program: Path, room: Path, shape: str, size: int, commands: list[str]) -> Network | None:
+    """A network with its files, or none where its text is too long."""
+    if shape == FAT_TREE:
+        counts = (len(fat_tree.names_of(size)), len(fat_tree.links_of(size)), size * size // 2)
+        return Network(shape, size, *counts, None, {})
     graph = SHAPES[shape].graph(size)
-    seconds = second_files(programs[0], file.parent, file, graph, commands)
-    classes = output(programs[0], ["classes", str(file)]).count(b"\n")
-    for command in commands:
-        asked, files = [command, str(file), *(["1"] if command not in OF_TEXT else [])], [file]
-        if command in READ_BY:
-            if READ_BY[command] not in seconds:
-                print(f"turns: {shape} {size}: no file for {command}: {ROUNDS} rounds do not come to rest", file=sys.stderr)
-                continue
-            files.append(seconds[READ_BY[command]])
-            asked.append(str(files[-1]))
-        answers = [output(program, asked) for program in programs]
+    text = SHAPES[shape].text(size)
+    if len(text) > MOST_BYTES:
+        return None
+    file = room / str(size) / "F"
+    file.parent.mkdir()
+    file.write_text(text, "ascii")
+    classes = output(program, ["classes", str(file)]).count(b"\n")
+    return Network(shape, size, len(graph[0]), len(graph[1]), classes, file, second_files(program, file.parent, file, graph, commands))
+
+
+def in_series(programs: list[Path], command: str, networks: list[Network], runs: int, measure: Measure) -> Iterator[Row]:
+    """A command on networks that grow, which take turns too. What needs labels is left out, and said, where no schedule comes to rest."""
+    able = [it for it in networks if READ_BY.get(command) in (None, *it.seconds)]
+    for it in networks:
+        if it not in able:
+            print(f"turns: {it.shape} {it.size}: no file for {command}: {ROUNDS} rounds do not come to rest", file=sys.stderr)
+    files = [[it.file, *([it.seconds[READ_BY[command]]] if command in READ_BY else [])] if it.file else [] for it in able]
+    asked = [words_of(command, it, of_network) for it, of_network in zip(able, files, strict=True)]
+    lengths = []
+    for it, of_network, ask in zip(able, files, asked, strict=True):
+        answers = [output(program, ask) for program in programs]
+        lengths.append(sum(file.stat().st_size for file in of_network) + len(answers[-1]))
         if len(set(answers)) > 1 and command not in MAY_CHOOSE:
-            print(f"turns: {shape} {size} {command}: the programs write different answers", file=sys.stderr)
-        length = sum(it.stat().st_size for it in files) + len(answers[-1])
-        least, turns = in_turn(programs, asked, runs, measure)
-        yield Row(shape, size, command, len(graph[0]), len(graph[1]), classes, length, turns, os.getloadavg()[0], least)
+            print(f"turns: {it.shape} {it.size} {command}: the programs write different answers", file=sys.stderr)
+    for it, length, (least, turns) in zip(able, lengths, in_turn(programs, asked, runs, measure), strict=True):
+        yield Row(it.shape, it.size, command, it.routers, it.links, it.classes, length, turns, os.getloadavg()[0], least)
+
+
+def words_of(command: str, on: Network, files: list[Path]) -> list[str]:
+    """The words of a command: on a text, on its first class, or that and a second file."""
+    if not on.file:
+        return [command, str(on.size)]
+    first, *second = map(str, files)
+    return [command, first, *(["1"] if command not in OF_TEXT else []), *second]
 
 
 def head(count: int, measure: Measure) -> str:

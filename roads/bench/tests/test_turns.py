@@ -44,7 +44,7 @@ def test_each_router_of_the_loopbacks_has_a_class() -> None:
 
 
 def test_every_command_is_measured_on_a_ring(programs) -> None:
-    found = list(measured(programs, [("ospf-ring", 8, COMMANDS[:-1]), ("fat-tree", 4, ("trial",))], 1, SECONDS))
+    found = list(measured(programs, plan(["ospf-ring"], COMMANDS, (8,), frozenset()) + [("fat-tree", "trial", (4,))], 1, SECONDS))
     assert [row.command for row in found] == list(COMMANDS)
     assert all(len(row.least) == 2 and row.least[0][0] >= row.least[0][1] for row in found)
     told = {row.command: (row.routers, row.links, row.classes) for row in found}
@@ -65,8 +65,8 @@ def test_routers_by_their_distance() -> None:
 
 def test_what_does_not_come_to_rest_is_told(programs, capsys, monkeypatch) -> None:
     monkeypatch.setattr("roads.bench.inputs.outward", lambda _graph, _origin: [])
-    found = list(measured(programs, [("ospf-ring", 256, ("run", "check"))], 1, SECONDS))
-    assert [row.command for row in found] == ["run"]
+    found = list(measured(programs, [("ospf-ring", "run", (8, 256)), ("ospf-ring", "check", (8, 256))], 1, SECONDS))
+    assert [(row.command, row.size) for row in found] == [("run", 8), ("run", 256), ("check", 8)]
     assert "do not come to rest" in capsys.readouterr().err
 
 
@@ -75,26 +75,26 @@ def test_a_program_that_refuses_ends_the_run(tmp_path) -> None:
     program.write_text("#!/bin/sh\nexit 1\n")
     program.chmod(0o755)
     with pytest.raises(Refused, match="status 1"):
-        list(measured([program], [("ospf-ring", 8, ("classes",))], 1, SECONDS))
+        list(measured([program], [("ospf-ring", "classes", (8,))], 1, SECONDS))
 
 
 def test_other_answers_are_told(programs, tmp_path, capsys) -> None:
     other = tmp_path / "program"
     other.write_text("#!/bin/sh\necho other\n")
     other.chmod(0o755)
-    assert len(list(measured([programs[0], other], [("ospf-ring", 8, ("groups", "certify"))], 1, SECONDS))) == 2
+    assert len(list(measured([programs[0], other], [("ospf-ring", it, (8,)) for it in ("groups", "certify")], 1, SECONDS))) == 2
     assert capsys.readouterr().err == "turns: ospf-ring 8 groups: the programs write different answers\n"
 
 
 def test_the_usual_plan_has_every_command_on_every_shape() -> None:
     whole = plan([*SHAPES, "fat-tree"], COMMANDS, None, frozenset())
-    told = {(shape, size, command) for shape, size, commands in whole for command in commands}
+    told = {(shape, size, command) for shape, command, sizes in whole for size in sizes}
     assert {(shape, command) for shape, _, command in told} == {(shape, command) for shape in SHAPES for command in COMMANDS[:-1]} | {("fat-tree", "trial")}
     for shape, sizes in (("ospf-loopbacks", LOOPBACKS_SIZES), ("ospf-ring", SUMMARY_SIZES), ("bgp-ring", SIZES)):
         assert [size for found, size, command in sorted(told) if (found, command) == (shape, "summary")] == list(sizes)
     assert {size for _, size, command in told if command == "groups"} == set(SIZES) and {size for shape, size, _ in told if shape == "fat-tree"} == set(TRIALS)
     assert not plan([*SHAPES, "fat-tree"], COMMANDS, None, frozenset(told))
-    assert plan(["ospf-ring"], ("groups", "trial"), (8,), frozenset()) == [("ospf-ring", 8, ("groups",))]
+    assert plan(["ospf-ring"], ("groups", "trial"), (8,), frozenset()) == [("ospf-ring", "groups", (8,))]
 
 
 def test_short_runs_get_more_turns_and_long_ones_fewer() -> None:
@@ -123,7 +123,7 @@ def test_a_row_tells_factor_and_growth() -> None:
 
 
 def test_memory_in_the_place_of_time(programs) -> None:
-    found = list(measured(programs, [("ospf-ring", 8, ("classes", "compress"))], 1, MEMORY))
+    found = list(measured(programs, [("ospf-ring", it, (8,)) for it in ("classes", "compress")], 1, MEMORY))
     assert [row.command for row in found] == ["classes", "compress"] and all(0.5 < row.before < 64 for row in found)
     assert head(2, MEMORY).startswith("| network | routers | command | MiB, program 1 | MiB, program 2 | last to first |")
 
