@@ -84,8 +84,8 @@ def _fast(rows: list[Row]) -> str:
     last, before = rows[-1], rows[-2]
     found = growth(last, before, _after)
     name = f"{last.shape} `{last.command}` {found:.1f}"
-    if last.command in FOR_EACH_CLASS and last.classes != before.classes:
-        each = growth(last, before, _each_class)
+    if has_more_classes(rows):
+        each = growth(last, before, lambda row: row.after / row.classes)
         return f"{name}, for each class {each:.1f}" if found > MOST_GROWTH or each > MOST_GROWTH else ""
     if found <= MOST_GROWTH:
         return ""
@@ -98,7 +98,16 @@ def _is_told(rows: list[Row], figure: Callable[[Row], float]) -> bool:
 
 
 def _grown(rows: list[Row], figure: Callable[[Row], float]) -> str:
-    return f"{growth(rows[-1], rows[-2], figure):.1f}" if _is_told(rows, figure) else ""
+    if not _is_told(rows, figure):
+        return ""
+    last, before = rows[-1], rows[-2]
+    found = f"{growth(last, before, figure):.1f}"
+    return f"{found} ({growth(last, before, lambda row: figure(row) / row.classes):.1f} a class)" if has_more_classes(rows) else found
+
+
+def has_more_classes(rows: list[Row]) -> bool:
+    """Whether the command answers for all classes, and those of the larger network are more."""
+    return rows[-1].command in FOR_EACH_CLASS and rows[-1].classes != rows[-2].classes
 
 
 def _before(row: Row) -> float:
@@ -107,7 +116,3 @@ def _before(row: Row) -> float:
 
 def _after(row: Row) -> float:
     return row.after
-
-
-def _each_class(row: Row) -> float:
-    return row.after / row.classes

@@ -19,6 +19,7 @@ def test_the_largest_network_is_shown_with_its_growth() -> None:
     text = turns_text(table(row(1024, "groups", 0.04, 0.02), row(2048, "groups", 0.12, 0.05), row(1024, "json", 0.001, 0.001), row(2048, "json", 0.004, 0.002)))
     assert "| ospf-ring | 2,048 | `groups` | 0.120 | 0.050 | 0.42 | 3.0 | 2.5 |" in text
     assert "| ospf-ring | 2,048 | `json` | 0.004 | 0.002 | 0.50 |  |  |" in text
+    assert " | 4.0 (2.0 a class) | 3.0 (1.5 a class) |" in turns_text(table(row(512, "trial", 1, 1, classes=512), row(1024, "trial", 4, 3, classes=1024)))
     assert text.endswith("- Made with: before: old; after: new, at a load of 1.5 to 1.5.\n")
 
 
