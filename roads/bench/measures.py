@@ -11,7 +11,7 @@ from roads.bench.paper import asked as timed_answer
 from roads.command_line import Refused
 
 SLOWER = 1.05
-SHORT, SHORT_TURNS = 0.05, 3
+SHORT, SHORT_TURNS = 0.05, 2
 LONG = 45.0
 MORE_TURNS = 4
 
