@@ -104,8 +104,12 @@ def shares_of(report: str) -> Shares:
 
 
 def plain(symbol: str) -> str:
-    """The name of a function without what the compiler adds."""
-    return symbol
+    """The name of a function in the source, with all its instances. So are the functions of the C library that handle memory, and its variants for some processors."""
+    if re.fullmatch(r"(_int_|__libc_)?(c?free|malloc|realloc|calloc)(_consolidate)?|(unlink|tcache)\w*(\.\w+)*|sysmalloc|systrim\S*", symbol):
+        return "malloc, free"
+    found = re.fullmatch(r"__(mem[a-z]+?)_(?:avx|evex|sse|erms)\w*", symbol)
+    name = found[1] if found else re.sub(r"::<.*>", "", symbol)
+    return "memmove" if name == "memcpy" else name
 
 
 def rows_of(command: str, shape: str, size: int, before: Shares, after: Shares) -> list[dict[str, str]]:

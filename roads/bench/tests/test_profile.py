@@ -4,7 +4,7 @@ import shutil
 import pytest
 
 from roads.bench import profile
-from roads.bench.profile import KERNEL, rows_of, sampled, shares_of, texts
+from roads.bench.profile import KERNEL, plain, rows_of, sampled, shares_of, texts
 from roads.command_line import Refused
 from roads.native import native
 from roads.program import Program
@@ -14,9 +14,22 @@ REPORT = "# Overhead\n# ........\n\n   60        \t[.] grouping::coarsest_of\n  
 
 
 def test_the_kernel_is_one_row() -> None:
-    assert shares_of(REPORT) == {"grouping::coarsest_of": 0.6, KERNEL: 0.3, "malloc": 0.1}
+    assert shares_of(REPORT) == {"grouping::coarsest_of": 0.6, KERNEL: 0.3, "malloc, free": 0.1}
     with pytest.raises(Refused, match="no samples"):
         shares_of("# nothing\n")
+
+
+def test_names_are_those_of_the_source() -> None:
+    for symbol, name in (
+        ("core::slice::sort::stable::deal::<#75be691b78e6ffb4>", "core::slice::sort::stable::deal"),
+        ("core::cmp::RefSlicePartialEq::eq::<i8,31'core::cmp::numbers::U8PartialEq{}>", "core::cmp::RefSlicePartialEq::eq"),
+        ("__memmove_evex_unaligned_erms", "memmove"),
+        ("__memcpy_avx_unaligned", "memmove"),
+        ("_int_free", "malloc, free"),
+        ("unlink_chunk.constprop.0", "malloc, free"),
+        ("driver::grouping::coarsest_of", "driver::grouping::coarsest_of"),
+    ):
+        assert plain(symbol) == name
 
 
 def test_shares_are_kept_as_they_are(tmp_path, monkeypatch) -> None:
