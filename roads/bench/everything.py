@@ -23,6 +23,7 @@ def words() -> argparse.ArgumentParser:
     )
     made.add_argument("programs", nargs=2, type=Path, metavar="PROGRAM", help="the state before, and the state after: programs that ./build proved")
     add_named(made)
+    made.add_argument("--runs", type=int, default=5, help="turns of `bench/turns` (default: %(default)s)")
     made.add_argument("--anew", action="store_true", help="measure again what is kept of these programs")
     return made
 
@@ -42,7 +43,7 @@ def steps(arguments: argparse.Namespace) -> list[Step]:
     both = [*map(str, programs), "--keep", "--named", ",".join(names)]
     anew = ["--anew"] if arguments.anew else []
     return [
-        (turns, [*both, *anew]),
+        (turns, [*both, *anew, "--runs", str(arguments.runs)]),
         (turns, [*both, *anew, "--memory", "--runs", "3"]),
         (profile, both),
         (paper, ["--keep", "--program", str(programs[1]), "--named", names[1]]),

@@ -21,8 +21,8 @@ def turns_text(table: Table) -> str:
         factor = f"{last.after / last.before:.2f}"
         seconds = f"{last.before:.3f} | {last.after:.3f}"
         lines.append(f"| {last.shape} | {last.routers:,} | `{last.command}` | {seconds} | {factor} | {_grown(rows, _before)} | {_grown(rows, _after)} |")
-    loads = [row.load for row in table.rows]
-    return "\n".join([*lines, "", *judgement(table.rows), f"- Made with: {table.told}, at a load of {min(loads):.1f} to {max(loads):.1f}."]) + "\n"
+    loads, turns = [row.load for row in table.rows], [row.turns for row in table.rows]
+    return "\n".join([*lines, "", *judgement(table.rows), f"- Made with: {table.told}, in {min(turns)} to {max(turns)} turns, at a load of {min(loads):.1f} to {max(loads):.1f}."]) + "\n"
 
 
 def memory_text(table: Table) -> str:

@@ -20,7 +20,7 @@ def test_the_largest_network_is_shown_with_its_growth() -> None:
     assert "| ospf-ring | 2,048 | `groups` | 0.120 | 0.050 | 0.42 | 3.0 | 2.5 |" in text
     assert "| ospf-ring | 2,048 | `json` | 0.004 | 0.002 | 0.50 |  |  |" in text
     assert " | 4.0 (2.0 a class) | 3.0 (1.5 a class) |" in turns_text(table(row(512, "trial", 1, 1, classes=512), row(1024, "trial", 4, 3, classes=1024)))
-    assert text.endswith("- Made with: before: old; after: new, at a load of 1.5 to 1.5.\n")
+    assert text.endswith("- Made with: before: old; after: new, in 5 to 5 turns, at a load of 1.5 to 1.5.\n")
 
 
 def test_growth_is_that_while_links_double() -> None:
