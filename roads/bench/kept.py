@@ -6,6 +6,7 @@ from __future__ import annotations
 
 import csv
 import dataclasses
+from collections.abc import Callable
 from pathlib import Path
 
 from roads.bench.measures import MEMORY, SECONDS, Measure
@@ -67,15 +68,19 @@ class Table:
             return cls(measure, place, told, [_row(found, measure) for found in csv.DictReader(file)])
 
     @classmethod
-    def opened(cls, measure: Measure, told: str, is_anew: bool) -> Table:
-        """A table to which rows of these programs can be added: it begins anew where it has those of others."""
+    def opened(cls, measure: Measure, told: str, forget: Callable[[Row], bool] = lambda _row: False) -> Table:
+        """A table to which rows of these programs can be added, without those to forget: it begins anew where it has those of others."""
         found = cls.read(measure)
-        if found.told != told or is_anew:
-            found = cls(measure, found.place, told, [])
-            with open(found.place, "w", newline="", encoding="ascii") as file:
-                file.write(f"# {told}\n")
-                found._writer(file).writeheader()
-        return found
+        rows = [row for row in found.rows if found.told == told and not forget(row)]
+        if found.told == told and rows == found.rows:
+            return found
+        made = cls(measure, found.place, told, [])
+        with open(made.place, "w", newline="", encoding="ascii") as file:
+            file.write(f"# {told}\n")
+            made._writer(file).writeheader()
+        for row in rows:
+            made.append(row)
+        return made
 
     def keys(self) -> frozenset[tuple[str, int, str]]:
         """What is kept."""

@@ -61,7 +61,7 @@ def words() -> argparse.ArgumentParser:
     made.add_argument("--memory", action="store_true", help="measure the most memory that is resident, in MiB, and no time")
     made.add_argument("--runs", type=int, default=5, help="turns of the programs, of which the least figures count (default: %(default)s; short runs more, long ones fewer)")
     made.add_argument("--keep", action="store_true", help="keep the rows in bench/measured (turns.csv or memory.csv), and measure only what is not kept there of these programs")
-    made.add_argument("--anew", action="store_true", help="with --keep: forget what is kept")
+    made.add_argument("--anew", action="store_true", help="with --keep: measure again what is kept of these commands and shapes")
     add_named(made)
     return made
 
@@ -75,7 +75,10 @@ def work(arguments: argparse.Namespace) -> None:
     commands = tuple(arguments.command or (MEMORY_COMMANDS if arguments.memory and arguments.keep else COMMANDS))
     shapes = arguments.shape or [*SHAPES, FAT_TREE]
     sizes = numbers(arguments.sizes) if arguments.sizes else SIZES[-1:] if arguments.memory and arguments.keep else None
-    table = Table.opened(measure, told_of(programs, names_of(arguments.named, programs)), is_anew=arguments.anew) if arguments.keep else None
+    table = None
+    if arguments.keep:
+        told = told_of(programs, names_of(arguments.named, programs))
+        table = Table.opened(measure, told, lambda row: arguments.anew and row.shape in shapes and row.command in commands)
     print(head(len(programs), measure))
     before: dict[tuple[str, str], float] = {}
     for row in measured(programs, plan(shapes, commands, sizes, table.keys() if table else frozenset()), arguments.runs, measure):

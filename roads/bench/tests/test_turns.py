@@ -132,12 +132,12 @@ def test_rows_are_kept_as_they_are(folder) -> None:
     for measure, least_figures in ((SECONDS, ((0.25, 0.125), (0.5, 0.25))), (MEMORY, ((20.5,), (10.5,)))):
         rows = [row_of(), row_of("certify")]
         rows = [Row(**{**vars(row), "least": least_figures}) for row in rows]
-        table = Table.opened(measure, "two programs", is_anew=False)
+        table = Table.opened(measure, "two programs")
         for row in rows:
             table.append(row)
-        again = Table.opened(measure, "two programs", is_anew=False)
+        again = Table.opened(measure, "two programs")
         assert again.rows == rows and again.told == "two programs" and (folder / f"{measure.name}.csv").is_file()
-        assert Table.opened(measure, "others", is_anew=False).rows == []
+        assert Table.opened(measure, "others").rows == []
 
 
 def test_what_is_kept_is_not_measured_again(folder, programs, capsys) -> None:
@@ -147,7 +147,7 @@ def test_what_is_kept_is_not_measured_again(folder, programs, capsys) -> None:
         assert len(capsys.readouterr().out.splitlines()) == lines
     told = Table.read(SECONDS).told
     assert told.startswith(f"before: old ({kind(programs[0])}, SHA-256 ") and "; after: new (" in told
-    assert [row.command for row in Table.read(SECONDS).rows] == ["groups"]
+    assert [row.command for row in Table.read(SECONDS).rows] == ["classes", "groups"]
 
 
 def test_two_states_have_two_names(tmp_path) -> None:
