@@ -7,6 +7,7 @@ import os
 import re
 from pathlib import Path
 
+from roads import packing
 from roads.command_line import Refused
 
 
@@ -18,8 +19,14 @@ def program_at(program: Path) -> Path:
 
 
 def kind(program: Path) -> str:
-    """Whether it is a proved program: an unproved build has the checks of AddressSanitizer."""
-    return "an unproved build" if b"__asan_" in program.read_bytes() else "proved by ./build"
+    """Whether it is a proved program, which `./build` says in a file beside it. An unproved build has the checks of AddressSanitizer, or says in such a file how it was made."""
+    data = program.read_bytes()
+    told = program.with_name(f"{program.name}.made")
+    if told.is_file():
+        first, *lines = told.read_text("utf-8").splitlines()
+        if lines[:1] == [packing.sum_of(program)]:
+            return "proved by ./build" if re.fullmatch("[0-9a-f]{64}", first) else first
+    return "an unproved build" if b"__asan_" in data else "of an unknown make"
 
 
 def add_named(made: argparse.ArgumentParser) -> None:

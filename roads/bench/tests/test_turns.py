@@ -1,6 +1,7 @@
 """Programs are measured in turn over networks of each shape, and rows are kept."""
 import pytest
 
+from roads import packing
 from roads.bench import everything, kept, turns
 from roads.bench.inputs import outward, second_files
 from roads.bench.kept import Row, Table
@@ -158,9 +159,15 @@ def test_two_states_have_two_names(tmp_path) -> None:
 
 
 def test_an_unproved_build_is_told(tmp_path) -> None:
-    for data, told in ((b"\x7fELF __asan_init", "an unproved build"), (b"\x7fELF", "proved by ./build")):
-        (tmp_path / "program").write_bytes(data)
-        assert kind(tmp_path / "program") == told
+    program, made = tmp_path / "program", tmp_path / "program.made"
+    for data, told in ((b"\x7fELF __asan_init", "an unproved build"), (b"\x7fELF", "of an unknown make")):
+        program.write_bytes(data)
+        assert kind(program) == told
+    for first, told in (("0" * 64, "proved by ./build"), ("optimized, unproved", "optimized, unproved")):
+        made.write_text(f"{first}\n{packing.sum_of(program)}\n", "utf-8")
+        assert kind(program) == told
+    program.write_bytes(b"another")
+    assert kind(program) == "of an unknown make"
 
 
 def test_all_measurements_are_made_of_two_states(programs) -> None:
