@@ -21,7 +21,7 @@ def words() -> argparse.ArgumentParser:
         "Measures two states of the program: `bench/turns --keep`, the same with --memory, `bench/profile --keep`, and `bench/paper --keep` of the state after;"
         " then `bench/plot` writes the plots and the tables of the pages. A run that ended early goes on where it was. Takes about a quarter of an hour.",
     )
-    made.add_argument("programs", nargs=2, type=Path, metavar="PROGRAM", help="the state before, and the state after: programs that ./build proved")
+    made.add_argument("programs", nargs=2, type=Path, metavar="PROGRAM", help="the state before, and the state after: programs that ./build proved, or others with a file PROGRAM.made: how it was made, and its SHA-256 (a line each)")
     add_named(made)
     made.add_argument("--runs", type=int, default=5, help="turns of `bench/turns` (default: %(default)s)")
     made.add_argument("--anew", action="store_true", help="measure again what is kept of these programs")
