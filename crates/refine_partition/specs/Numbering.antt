@@ -10,12 +10,12 @@ pub record IsNumbering (keys numbers : List ℕ) (count : ℕ) : Type 0 where
   pub together : (u v : ℕ) → u < length numbers → v < length numbers → slice_index keys u ≡ slice_index keys v → slice_index numbers u ≡ slice_index numbers v
 
 -- the number of a key, if it has one
-abbrev pub number_at : List (Option ℕ) → ℕ → Option ℕ
-number_at names key = slice_index_or names key None
+abbrev pub number_of_key : List (Option ℕ) → ℕ → Option ℕ
+number_of_key names key = slice_index_or names key None
 
 -- the key has the number, which is the next one if it had none, and all others keep theirs
 pub record IsKeyNamedAt (old new : List (Option ℕ)) (key next number : ℕ) : Type 0 where
   pub size : length new ≡ length old
-  pub named : number_at new key ≡ Some number
-  pub others : (other : ℕ) → other ≢ key → number_at new other ≡ number_at old other
-  pub was : (number_at old key ≡ Some number) ⊎ ((number_at old key ≡ None) × (number ≡ next))
+  pub named : number_of_key new key ≡ Some number
+  pub others : (other : ℕ) → other ≢ key → number_of_key new other ≡ number_of_key old other
+  pub was : (number_of_key old key ≡ Some number) ⊎ ((number_of_key old key ≡ None) × (number ≡ next))
