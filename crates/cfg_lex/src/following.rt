@@ -57,7 +57,7 @@ fn words_from(bytes: &[u8], from: usize, spare: List<Span>) -> Result<Words, NoM
 }
 
 /// The first line from a place on that is not skipped, and the place behind it. Its words take the room
-/// of `spare`, as that of the words of a line before it.
+/// of `spare`, a list that is no longer needed.
 pub fn line_from(
     bytes: &[u8],
     place: Place,

@@ -76,7 +76,7 @@ pub(crate) fn indent_between(bytes: &[u8], from: usize, upto: usize) -> usize
     i - from
 }
 
-// The same as the next function, byte by byte.
+// As `odd_from`, byte by byte: for the last bytes, fewer than sixteen.
 #[tactic(auto, using(cfg_ast::proofs::Places::first_next, cfg_ast::proofs::Places::first_here, cfg_ast::proofs::Places::first_end))]
 fn odd_among_few(bytes: &[u8], from: usize, upto: usize) -> usize
     requires front { from ≤ upto }
@@ -116,7 +116,7 @@ fn is_letter(b: u8) -> bool
     b >= b'!' && b <= b'~'
 }
 
-// The same as the next function, byte by byte.
+// As `letters_end`, byte by byte: for the last bytes, fewer than sixteen.
 #[tactic(auto, using(cfg_ast::proofs::Places::first_next, cfg_ast::proofs::Places::first_here, cfg_ast::proofs::Places::first_end))]
 fn letters_end_among_few(bytes: &[u8], from: usize) -> usize
     requires { from ≤ length bytes.now }

@@ -42,5 +42,6 @@ abbrev pub HasPlace : tree.BTreeMap ℕ ℕ → Option (ℕ × ℕ) → Type 0
 HasPlace places None = ⊤
 HasPlace places (Some (addr, place)) = tree.get nat_cmp places addr ≡ Some place
 
+-- the map has the place of each address, also of the last one, which stands beside the map
 abbrev pub AreAddresses : tree.BTreeMap ℕ ℕ → Option (ℕ × ℕ) → List Neighbor → Type 0
 AreAddresses places last items = HasAddresses places items × HasPlace places last

@@ -60,8 +60,8 @@ impl Costs {
         Ok(place)
     }
 
-    // The act of a direction. Directions over one interface follow one another, so the last act is asked
-    // first.
+    // The act of a direction. Directions over one interface mostly follow one another, so the last act is
+    // asked first.
     fn act_of(
         &mut self,
         routers: &[Router],
