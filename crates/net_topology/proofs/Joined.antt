@@ -1,6 +1,7 @@
 -- Links that an index finds are the links by all pairs.
-use Rattle.std.proofs.Common.{◌≡◌, Bool, true, false, cond, ◌&&◌, List, [], ◌∷◌, ◌++◌, map, filter, filter_map, flat_map, Option, Some, None, refl, sym, ◌∙◌, ap}
+use Rattle.std.proofs.Common.{◌≡◌, Bool, true, false, cond, ◌&&◌, List, [], ◌∷◌, ◌++◌, map, filter, filter_map, flat_map, Option, Some, None, length, nat_eq, refl, sym, ◌∙◌, ap, arith}
 use Rattle.std.specs.List.{cons_option}
+use Rattle.std.proofs.lemmas.Bool.Decides.{nat_tests}
 use Rattle.cfg_ast.specs.declared.topology.Link.{Link}
 use Rattle.cfg_ast.specs.meaning.Topology.{Place, link_between, links_from, links_joining}
 
@@ -83,3 +84,8 @@ pub joined_by_index : {X S : Type 0} (Good : Place X → Type 0) (spot : Place X
     (link : S → S → Link) → IsIndexed Good spot joins near later link
     → (ps : List (Place X)) → AreGood Good ps → links_joining joins ps ≡ flat_map (near_links near later link (filter_map spot ps)) (filter_map spot ps)
 joined_by_index Good spot joins near later link is ps all = outer Good spot joins near later link is ps ps all all
+
+-- no links before some
+pub none_before : (links more : List Link) → nat_eq (length links) 0 ≡ true → more ≡ links ++ more
+none_before [] more none = refl
+none_before (l ∷ ls) more none = absurd (grind (arith, nat_tests))

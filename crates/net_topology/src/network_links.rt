@@ -20,6 +20,18 @@ fn append(links: &mut List<Link>, more: &[Link]) -> Result<(), NoMemory>
     Ok(())
 }
 
+// The links of both lists. The second one is not copied if it is the only one that has links.
+fn joined(links: List<Link>, more: List<Link>) -> Result<List<Link>, NoMemory>
+    ensures { IfOk result (λ all. all ≡ links ++ more) }
+{
+    if links.is_empty() {
+        return Ok(more);
+    }
+    let mut all = links;
+    append(&mut all, more.as_slice())?;
+    Ok(all)
+}
+
 /// The links of a network: its BGP sessions or its OSPF adjacencies, in the order of their ends, the
 /// earlier end first. The only error is that memory ran out.
 #[tactic(auto, unfolding(cfg_ast::specs::meaning::Topology::links_of))]
@@ -28,8 +40,8 @@ pub fn links(alloc: Global, net: &Checked) -> Result<List<Link>, NoMemory>
 {
     places_are_few(net);
     let network = net.network();
-    let mut links = sessions(alloc, network)?;
+    let sessions = sessions(alloc, network)?;
     let adjacencies = adjacencies(alloc, network)?;
-    append(&mut links, adjacencies.as_slice())?;
+    let links = joined(sessions, adjacencies)?;
     Ok(links)
 }
