@@ -59,12 +59,22 @@ MEMORY = Measure("memory", "MiB", ".1f", 0, 0.5, resident)
 
 
 def in_turn(programs: list[Path], asked: list[list[str]], runs: int, measure: Measure) -> list[tuple[tuple[tuple[float, ...], ...], int]]:
-    """For each of some commands the least figures of each program, and the number of turns that found them. In a turn all have a run, so that all meet the same load."""
+    """For each of some commands the least figures of each program, and the number of turns that found them.
+
+    In a turn all have a run, so that all meet the same load. From turn to turn they run in the other order, so that none always comes first.
+    """
     found: list[list[tuple[tuple[float, ...], ...]]] = [[] for _ in asked]
     while wanting := [place for place, turns in enumerate(found) if len(turns) < wanted(turns, runs, measure)]:
         for place in wanting:
-            found[place].append(tuple(measure.of(program, asked[place]) for program in programs))
+            found[place].append(turn(programs, asked[place], measure, len(found[place]) % 2 == 1))
     return [(least(turns), len(turns)) for turns in found]
+
+
+def turn(programs: list[Path], asked: list[str], measure: Measure, is_backward: bool) -> tuple[tuple[float, ...], ...]:
+    """The figures of one run of each program, in the order of the programs, whichever ran first."""
+    order = reversed(programs) if is_backward else programs
+    figures = [measure.of(program, asked) for program in order]
+    return tuple(reversed(figures) if is_backward else figures)
 
 
 def least(found: list[tuple[tuple[float, ...], ...]]) -> tuple[tuple[float, ...], ...]:
@@ -75,7 +85,8 @@ def least(found: list[tuple[tuple[float, ...], ...]]) -> tuple[tuple[float, ...]
 def wanted(found: list[tuple[tuple[float, ...], ...]], runs: int, measure: Measure) -> int:
     """How many turns there are to be, after those that are found.
 
-    Short runs get more turns, long ones fewer. Where the last program looks slower than the first there are more, since chance only adds: the least figures of both come down.
+    Short runs get more turns, long ones fewer. Where the last program looks slower than the first, or the first than the last, there are more, since chance only
+    adds: the least figures of both come down.
     """
     if not found or measure.name != SECONDS.name:
         return runs
@@ -84,5 +95,6 @@ def wanted(found: list[tuple[tuple[float, ...], ...]], runs: int, measure: Measu
         return len(found)
     now = least(found)
     usual = runs * (SHORT_TURNS if now[0][0] < SHORT else 1)
-    is_doubtful = len(found) >= usual and measure.is_more(now[0][0], now[-1][0])
+    first, last = now[0][0], now[-1][0]
+    is_doubtful = len(found) >= usual and (measure.is_more(first, last) or measure.is_more(last, first))
     return usual * MORE_TURNS if is_doubtful else usual

@@ -1,11 +1,13 @@
 """Programs are measured in turn over networks of each shape, and rows are kept."""
+from pathlib import Path
+
 import pytest
 
 from roads import packing
 from roads.bench import everything, kept, turns
 from roads.bench.inputs import outward, second_files
 from roads.bench.kept import Row, Table
-from roads.bench.measures import LONG, MEMORY, SECONDS, least, wanted
+from roads.bench.measures import LONG, MEMORY, SECONDS, Measure, in_turn, least, wanted
 from roads.bench.shapes import SHAPES, ring
 from roads.bench.states import kind, names_of
 from roads.bench.turns import COMMANDS, LOOPBACKS_SIZES, SIZES, SUMMARY_SIZES, TRIALS, head, line, measured, plan
@@ -106,10 +108,23 @@ def test_short_runs_get_more_turns_and_long_ones_fewer() -> None:
     assert wanted([turn(0.5, 0.4)], 5, SECONDS) == 5
     assert wanted([turn(0.01, 0.01)], 5, SECONDS) == 10
     assert wanted([turn(LONG / 2, LONG)], 5, SECONDS) == 1
-    assert wanted([turn(0.5, 0.6)] * 5, 5, SECONDS) == 20
+    assert wanted([turn(0.5, 0.6)] * 5, 5, SECONDS) == wanted([turn(0.6, 0.5)] * 5, 5, SECONDS) == 20
+    assert wanted([turn(0.5, 0.51)] * 5, 5, SECONDS) == wanted([turn(0.51, 0.5)] * 5, 5, SECONDS) == 5
     assert wanted([turn(0.5, 0.6)] * 5 + [turn(0.5, 0.5)], 5, SECONDS) == 5
     assert wanted([turn(0.01, 0.2)], 5, MEMORY) == 5
     assert least([((3, 1), (5, 2)), ((2, 2), (6, 1))]) == ((2, 1), (5, 1))
+
+
+def test_no_program_always_runs_first() -> None:
+    ran = []
+
+    def of(program: Path, _asked: list[str]) -> tuple[float, ...]:
+        ran.append(program.name)
+        return (len(ran) + 10.0 * (program.name == "b"),)
+
+    programs = [Path("a"), Path("b")]
+    assert in_turn(programs, [["x"]], 3, Measure("memory", "", "", 0, 0, of)) == [(((1.0,), (12.0,)), 3)]
+    assert "".join(ran) == "abbaab"
 
 
 def test_chance_makes_nothing_slower() -> None:
