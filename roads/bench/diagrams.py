@@ -13,6 +13,7 @@ import argparse
 import heapq
 import os
 import random
+import re
 import signal
 import subprocess
 import sys
@@ -22,6 +23,8 @@ from collections.abc import Callable, Iterator
 from pathlib import Path
 
 from roads.bench.decisions import FALSE, TRUE, Store, TooMany
+from roads.bench.paper import TIME
+from roads.bench.states import program_at
 from roads.command_line import Refused, parser
 
 Line = tuple[bool, tuple[int, ...]]
@@ -52,9 +55,12 @@ def work(arguments: argparse.Namespace) -> None:
     if arguments.write:
         print(network(by_chance(*texts[0], arguments.named)), end="")
     elif arguments.program:
+        program = program_at(arguments.program)
+        if not os.access(TIME, os.X_OK):
+            raise Refused("the program time is not there: install the package time")
         print("| lists | lines | communities | user s | MiB | outcome |\n|---:|---:|---:|---:|---:|---|")
         for shape in texts:
-            print(row([*shape, *asked(arguments.program.resolve(), network(by_chance(*shape, arguments.named)), arguments.kib, arguments.seconds)]), flush=True)
+            print(row([*shape, *asked(program, network(by_chance(*shape, arguments.named)), arguments.kib, arguments.seconds)]), flush=True)
     else:
         print("| lists | lines | communities | order | steps | nodes made | nodes of the outcome | s |\n|---:|---:|---:|---|---:|---:|---:|---:|")
         for shape in texts:
@@ -68,6 +74,8 @@ def shape_of(word: str) -> tuple[int, int, int]:
         lists, lines, communities = (int(part) for part in word.split("x"))
     except ValueError:
         raise Refused(f"--texts {word}: not LISTSxLINESxCOMMUNITIES") from None
+    if lists < 1 or lines < 1 or communities < 0:
+        raise Refused(f"--texts {word}: a text has at least one list and one line")
     return lists, lines, communities
 
 
@@ -75,6 +83,8 @@ def by_chance(lists: int, lines: int, communities: int, named: int) -> list[Matc
     """Lists whose lines permit and deny in turn. Refused where a list has no communities for its lines."""
     chance = random.Random(1)
     need = lines * named
+    if named < 1 or (communities and named > communities):
+        raise Refused(f"--named {named}: a line has at least one community, and no more than there are")
     if communities and need > communities and named == 1:
         raise Refused(f"{lines} lines need as many communities, and there are {communities}")
     pool = list(range(communities or lists * need))
@@ -229,19 +239,32 @@ def network(lists: list[Matched]) -> str:
 
 
 def asked(program: Path, text: str, kib: int | None, seconds: int) -> tuple[object, ...]:
-    """User seconds, MiB and how the program ended."""
-    limits = f"ulimit -t {seconds}; " + (f"ulimit -v {kib}; " if kib else "")
-    with tempfile.NamedTemporaryFile("w", prefix="bonsai-", encoding="ascii") as file, tempfile.TemporaryFile() as told:
+    """User seconds, MiB and how the program ended.
+
+    Memory is told by the program time, since a child that Python starts counts Python's own memory as its peak. The limit of seconds is a soft one, so
+    that it ends the program by a signal of its own, and not by the one with which a kernel that has no memory left ends it.
+    """
+    limits = f"ulimit -S -t {seconds}; " + (f"ulimit -v {kib}; " if kib else "")
+    with tempfile.NamedTemporaryFile("w", prefix="bonsai-", encoding="ascii") as file, tempfile.TemporaryFile() as told, tempfile.NamedTemporaryFile() as most:
         file.write(text)
         file.flush()
-        ran = subprocess.Popen(["sh", "-c", limits + 'exec "$0" "$@"', program, "compress", file.name, "1"], stdin=subprocess.DEVNULL, stdout=subprocess.DEVNULL, stderr=told)
+        words = [TIME, "-o", most.name, "-f", "%M", "sh", "-c", limits + 'exec "$0" "$@"', program, "compress", file.name, "1"]
+        ran = subprocess.Popen(words, stdin=subprocess.DEVNULL, stdout=subprocess.DEVNULL, stderr=told)
         _, status, used = os.wait4(ran.pid, 0)
         ran.returncode = os.waitstatus_to_exitcode(status)
         told.seek(0)
         line = told.read().decode("ascii", "replace").strip()
-    is_ended = ran.returncode in (-signal.SIGXCPU, -signal.SIGKILL)
-    outcome = f"ended after {seconds} s" if is_ended else f"status {ran.returncode}{f', `{line}`' if line else ''}"
-    return f"{used.ru_utime:.2f}", f"{used.ru_maxrss / 1024:.0f}", outcome
+        timed = most.read().decode("ascii", "replace")
+    by_signal = re.search(r"terminated by signal (\d+)", timed)
+    outcome = ended_by(int(by_signal[1]), seconds) if by_signal else f"status {ran.returncode}{f', `{line}`' if line else ''}"
+    return f"{used.ru_utime:.2f}", f"{int(timed.split()[-1]) / 1024:.0f}", outcome
+
+
+def ended_by(number: int, seconds: int) -> str:
+    """How a program ended by a signal."""
+    if number == signal.SIGXCPU:
+        return f"ended after {seconds} s"
+    return "killed, as where the machine has no memory left" if number == signal.SIGKILL else f"ended by signal {number}"
 
 
 def row(cells: list[object]) -> str:

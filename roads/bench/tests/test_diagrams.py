@@ -1,10 +1,11 @@
 """The model of diagrams means what lists mean, in each order, and the networks that it writes are read."""
 import itertools
+from pathlib import Path
 
 import pytest
 
 from roads.bench.decisions import TRUE, Store
-from roads.bench.diagrams import ORDERS, Matched, asked, built, by_chance, network, shape_of
+from roads.bench.diagrams import ORDERS, Matched, asked, built, by_chance, network, shape_of, words, work
 from roads.command_line import Refused
 from roads.native import native
 from roads.program import Program
@@ -61,5 +62,38 @@ def test_what_is_no_text_is_refused() -> None:
     assert shape_of("4x32x128") == (4, 32, 128)
     with pytest.raises(Refused):
         shape_of("4x32")
-    with pytest.raises(Refused):
-        by_chance(2, 32, 16, 1)
+    for word in ("0x4x8", "2x0x8", "2x4x-1"):
+        with pytest.raises(Refused, match="at least one"):
+            shape_of(word)
+    for shape, named in (((2, 32, 16), 1), ((2, 4, 2), 3), ((2, 4, 0), 0)):
+        with pytest.raises(Refused):
+            by_chance(*shape, named)
+
+
+def program_of(folder: Path, *lines: str) -> Path:
+    program = folder / "program"
+    program.write_text("".join(f"{line}\n" for line in ("#!/bin/sh", *lines)))
+    program.chmod(0o755)
+    return program
+
+
+@pytest.mark.parametrize(
+    ("line", "outcome"),
+    [("kill -KILL $$", "killed, as where the machine has no memory left"), ("kill -XCPU $$", "ended after 60 s"), ("kill -TERM $$", "ended by signal 15"), ("echo no >&2; exit 3", "status 3, `no`")],
+)
+def test_how_a_program_ended(tmp_path: Path, line: str, outcome: str) -> None:
+    assert asked(program_of(tmp_path, line), "", None, 60)[2] == outcome
+
+
+def test_a_program_that_takes_too_long_is_ended(tmp_path: Path) -> None:
+    assert asked(program_of(tmp_path, "while :; do :; done"), "", None, 1)[2] == "ended after 1 s"
+
+
+def test_memory_is_that_of_the_program(tmp_path: Path) -> None:
+    held = bytearray(b"x" * 2**26)
+    assert int(asked(program_of(tmp_path, "exit 0"), "", None, 60)[1]) < 8 and held
+
+
+def test_a_program_that_is_not_there_is_refused(tmp_path: Path) -> None:
+    with pytest.raises(Refused, match="no program"):
+        work(words().parse_args(["--program", str(tmp_path / "none")]))
