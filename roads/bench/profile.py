@@ -6,6 +6,7 @@ from __future__ import annotations
 
 import argparse
 import csv
+import os
 import re
 import shlex
 import shutil
@@ -15,11 +16,11 @@ import time
 from collections import Counter
 from pathlib import Path
 
-from roads.bench.inputs import second_files
+from roads.bench.inputs import READ_BY, ROUNDS, output, second_files
 from roads.bench.kept import FOLDER
 from roads.bench.shapes import SHAPES
 from roads.bench.states import add_named, names_of, program_at, told_of
-from roads.bench.turns import OF_TEXT
+from roads.bench.turns import OF_CLASS, OF_TEXT
 from roads.command_line import Refused, parser
 
 KEPT = FOLDER / "profile.csv"
@@ -29,7 +30,9 @@ SECONDS = 4.0
 SHOWN = 8
 KERNEL = "(the kernel)"
 COLUMNS = ("command", "shape", "size", "symbol", "before", "after")
+COMMANDS = (*OF_TEXT, *OF_CLASS, *READ_BY)
 Shares = dict[str, float]
+Case = tuple[str, str, int]
 
 
 def words() -> argparse.ArgumentParser:
@@ -44,17 +47,31 @@ def words() -> argparse.ArgumentParser:
 
 
 def work(arguments: argparse.Namespace) -> None:
-    """Samples and prints."""
+    """Samples and prints. What the words have wrong is refused before the first sample."""
     if not shutil.which("perf"):
         raise Refused("the program perf is not there: install the package linux-perf")
     programs = [program_at(program) for program in arguments.programs]
+    told = told_of(programs, names_of(arguments.named, programs))
+    cases = [case_of(*case) for case in arguments.case or CASES]
     rows: list[dict[str, str]] = []
-    for command, shape, size in arguments.case or CASES:
-        shares = profiled(programs, command, shape, int(size))
-        rows += rows_of(command, shape, int(size), *shares)
+    loads = [os.getloadavg()[0]]
+    for case in cases:
+        rows += rows_of(*case, *profiled(programs, *case))
+        loads.append(os.getloadavg()[0])
     print("\n".join(texts(rows)))
     if arguments.keep:
-        keep(rows, told_of(programs, names_of(arguments.named, programs)))
+        keep(rows, f"{told}, at a load of {min(loads):.1f} to {max(loads):.1f}")
+
+
+def case_of(command: str, shape: str, size: str | int) -> Case:
+    """A case of the command line."""
+    for word, known in ((command, COMMANDS), (shape, SHAPES)):
+        if word not in known:
+            raise Refused(f"--case {command} {shape} {size}: {word} is none of {', '.join(known)}")
+    try:
+        return command, shape, int(size)
+    except ValueError:
+        raise Refused(f"--case {command} {shape} {size}: {size} is no number") from None
 
 
 def profiled(programs: list[Path], command: str, shape: str, size: int) -> list[Shares]:
@@ -64,15 +81,17 @@ def profiled(programs: list[Path], command: str, shape: str, size: int) -> list[
         file.write_text(SHAPES[shape].text(size), "ascii")
         second = second_files(programs[0], file.parent, file, SHAPES[shape].graph(size), [command])
         asked = [command, str(file), *(["1"] if command not in OF_TEXT else [])]
-        if second:
-            asked.append(str(list(second.values())[-1]))
+        if command in READ_BY:
+            if READ_BY[command] not in second:
+                raise Refused(f"{shape} {size}: no file for {command}: {ROUNDS} rounds do not come to rest")
+            asked.append(str(second[READ_BY[command]]))
         return [sampled(program, asked, Path(room) / "samples") for program in programs]
 
 
 def sampled(program: Path, asked: list[str], samples: Path) -> Shares:
     """The shares of a program's functions in the samples of several runs."""
     started = time.monotonic()
-    subprocess.run([program, *asked], stdin=subprocess.DEVNULL, stdout=subprocess.DEVNULL, check=True)
+    output(program, asked)
     runs = max(1, round(SECONDS / (time.monotonic() - started)))
     # (a name of its own tells the program's samples from those of the shell)
     called = samples.with_name("measured")

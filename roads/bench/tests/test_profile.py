@@ -1,10 +1,11 @@
 """Functions are told with their shares of the samples."""
 import shutil
+from pathlib import Path
 
 import pytest
 
 from roads.bench import profile
-from roads.bench.profile import KERNEL, plain, rows_of, sampled, shares_of, texts
+from roads.bench.profile import CASES, KERNEL, case_of, plain, rows_of, sampled, shares_of, texts
 from roads.command_line import Refused
 from roads.native import native
 from roads.program import Program
@@ -39,6 +40,47 @@ def test_shares_are_kept_as_they_are(tmp_path, monkeypatch) -> None:
     text = profile.profile_text()
     assert text == "\n".join([*texts(rows), "", "Made with: two programs."]) + "\n"
     assert "| `summary`, bgp-ring 1,024: function | before | after |" in text and "| `first` | 75.0 % | 0.0 % |" in text and "| `third` | 0.0 % | 50.0 % |" in text
+
+
+def test_cases_that_are_none_are_refused() -> None:
+    assert [case_of(*case) for case in CASES] == list(CASES) and case_of("check", "bgp-ring", "8") == ("check", "bgp-ring", 8)
+    for case, word in ((("trial", "bgp-ring", "8"), "trial"), (("check", "ring", "8"), "ring"), (("check", "bgp-ring", "few"), "few")):
+        with pytest.raises(Refused, match=f"{word} is n"):
+            case_of(*case)
+
+
+def test_words_are_refused_before_the_first_sample(tmp_path, monkeypatch) -> None:
+    program = tmp_path / "program"
+    program.write_text("#!/bin/sh\n")
+    program.chmod(0o755)
+    monkeypatch.setattr("shutil.which", lambda name: name)
+    monkeypatch.setattr(profile, "profiled", lambda *_case: pytest.fail("sampled"))
+    for more in (["--named", "one"], ["--case", "classes", "ospf-ring", "8", "--case", "classes", "ring", "8"]):
+        with pytest.raises(Refused):
+            profile.work(profile.words().parse_args([str(program), str(program), *more]))
+
+
+def test_the_file_of_a_command_is_its_own(monkeypatch) -> None:
+    made = {"order": Path("order"), "labels": Path("labels")}
+    monkeypatch.setattr(profile, "second_files", lambda *_more: made)
+    monkeypatch.setattr(profile, "sampled", lambda _program, asked, _samples: asked)
+    assert [asked[2:] for asked in profile.profiled([Path("a")], "check", "ospf-ring", 8)] == [["1", "labels"]]
+    del made["labels"]
+    with pytest.raises(Refused, match="do not come to rest"):
+        profile.profiled([Path("a")], "check", "ospf-ring", 8)
+    assert [asked[2:] for asked in profile.profiled([Path("a")], "groups", "ospf-ring", 8)] == [["1"]]
+
+
+def test_the_load_is_kept(tmp_path, monkeypatch, capsys) -> None:
+    program = tmp_path / "program"
+    program.write_text("#!/bin/sh\n")
+    program.chmod(0o755)
+    monkeypatch.setattr("shutil.which", lambda name: name)
+    monkeypatch.setattr("os.getloadavg", iter([(2.0, 0, 0), (1.5, 0, 0)]).__next__)
+    monkeypatch.setattr(profile, "KEPT", tmp_path / "profile.csv")
+    monkeypatch.setattr(profile, "profiled", lambda *_case: [{"first": 1.0}] * 2)
+    profile.work(profile.words().parse_args([str(program), str(program), "--keep", "--case", "classes", "ospf-ring", "8"]))
+    assert profile.profile_text().endswith(", at a load of 1.5 to 2.0.\n") and capsys.readouterr().out
 
 
 def test_a_program_is_sampled(tmp_path, monkeypatch) -> None:
