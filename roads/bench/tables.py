@@ -21,8 +21,8 @@ def turns_text(table: Table) -> str:
         factor = f"{last.after / last.before:.2f}"
         seconds = f"{last.before:.3f} | {last.after:.3f}"
         lines.append(f"| {last.shape} | {last.routers:,} | `{last.command}` | {seconds} | {factor} | {_grown(rows, _before)} | {_grown(rows, _after)} |")
-    loads, turns = [row.load for row in table.rows], [row.turns for row in table.rows]
-    return "\n".join([*lines, "", *judgement(table.rows), f"- Made with: {table.told}, in {min(turns)} to {max(turns)} turns, at a load of {min(loads):.1f} to {max(loads):.1f}."]) + "\n"
+    turns = [row.turns for row in table.rows]
+    return "\n".join([*lines, "", *judgement(table.rows), f"- Made with: {table.told}, in {min(turns)} to {max(turns)} turns, {_load(table.rows)}."]) + "\n"
 
 
 def memory_text(table: Table) -> str:
@@ -35,7 +35,13 @@ def memory_text(table: Table) -> str:
         routers = next(row.routers for row in of_network if row)
         lines.append(f"| {shape} | {routers:,} | " + " | ".join(f"{row.before:.0f}, {row.after:.0f}" if row else "" for row in of_network) + " |")
     most = max(table.rows, key=_after)
-    return "\n".join([*lines, "", f"Each cell has the state before and the one after. The most is now {most.after:.0f} MiB. Made with: {table.told}."]) + "\n"
+    return "\n".join([*lines, "", f"Each cell has the state before and the one after. The most is now {most.after:.0f} MiB. Made with: {table.told}, {_load(table.rows)}."]) + "\n"
+
+
+def _load(rows: list[Row]) -> str:
+    """The load of the machine while the rows were made."""
+    loads = [row.load for row in rows]
+    return f"at a load of {min(loads):.1f} to {max(loads):.1f}"
 
 
 def series(rows: list[Row]) -> Iterator[list[Row]]:
@@ -56,13 +62,16 @@ def growth(last: Row, before: Row, figure: Callable[[Row], float]) -> float:
 def judgement(rows: list[Row]) -> list[str]:
     """Which rows are slower, and which grow fast."""
     slower = [_slower(row) for row in rows if SECONDS.is_more(row.before, row.after)]
-    fast = [told for of_command in series(rows) if (told := _fast(of_command))]
+    of_commands = list(series(rows))
+    judged = [of_command for of_command in of_commands if _is_told(of_command, _after)]
+    fast = [told for of_command in judged if (told := _fast(of_command))]
     more = [it for it in rows if it.before < it.after and not SECONDS.is_more(it.before, it.after)]
     return [
         f"- Slower by more than {100 * SLOWER - 100:.0f} % and {1000 * SECONDS.resolved:.0f} ms, of {len(rows)} rows of all sizes: {'; '.join(slower) or 'none'}. "
         f"By less: {len(more)} rows; faster or alike: {len(rows) - len(slower) - len(more)}.",
-        f"- Grows by more than {MOST_GROWTH} while the links double: {'; '.join(fast) or 'none'}.",
-        *_reading([of_command[-1] for of_command in series(rows) if of_command[-1].command == "classes"]),
+        f"- Grows by more than {MOST_GROWTH} while the links double, of {len(judged)} of {len(of_commands)} series, which take at least "
+        f"{1000 * SECONDS.compared_from:.0f} ms at the smaller size: {'; '.join(fast) or 'none'}.",
+        *_reading([of_command[-1] for of_command in of_commands if of_command[-1].command == "classes"]),
     ]
 
 
@@ -78,9 +87,7 @@ def _slower(row: Row) -> str:
 
 
 def _fast(rows: list[Row]) -> str:
-    """A series that grows fast, or nothing. Classes grow with the network, and so do paths: then what a class costs, or a byte, is what counts."""
-    if not _is_told(rows, _after):
-        return ""
+    """A series that is judged and grows fast, or nothing. Classes grow with the network, and so do paths: then what a class costs, or a byte, is what counts."""
     last, before = rows[-1], rows[-2]
     found = growth(last, before, _after)
     name = f"{last.shape} `{last.command}` {found:.1f}"

@@ -44,7 +44,12 @@ def test_what_grows_fast_is_named() -> None:
     assert fast(row(512, "summary", 1, 1, classes=512), row(1024, "summary", 4, 4, classes=1024)) == "ospf-ring `summary` 4.0, for each class 2.0."
 
 
+def test_it_is_told_how_many_series_are_judged() -> None:
+    rows = [row(size, command, 0.1, after) for command, afters in (("groups", (0.1, 0.2)), ("json", (0.004, 0.1)), ("run", (0.1,))) for size, after in zip((1024, 2048), afters)]
+    assert judgement(rows)[1] == "- Grows by more than 2.3 while the links double, of 1 of 3 series, which take at least 5 ms at the smaller size: none."
+
+
 def test_memory_of_both_states() -> None:
     made = [Row("bgp-ring", 64, command, 64, 64, 1, 1000, 3, 1.5, ((before,), (after,))) for command, before, after in (("classes", 20, 10.4), ("groups", 30, 31))]
     text = memory_text(Table(MEMORY, None, "told", made))
-    assert "| bgp-ring | 64 | 20, 10 | 30, 31 |" in text and "The most is now 31 MiB. Made with: told." in text
+    assert "| bgp-ring | 64 | 20, 10 | 30, 31 |" in text and "The most is now 31 MiB. Made with: told, at a load of 1.5 to 1.5." in text
