@@ -2,6 +2,9 @@
 from __future__ import annotations
 
 import argparse
+import importlib.util
+import os
+import shutil
 import sys
 import time
 from pathlib import Path
@@ -9,7 +12,7 @@ from types import ModuleType
 
 from roads.bench import paper, plot, profile, turns
 from roads.bench.states import add_named, names_of, program_at
-from roads.command_line import parser
+from roads.command_line import Refused, parser
 
 Step = tuple[ModuleType, list[str]]
 
@@ -19,9 +22,11 @@ def words() -> argparse.ArgumentParser:
     made = parser(
         "all",
         "Measures two states of the program: `bench/turns --keep`, the same with --memory, `bench/profile --keep`, and `bench/paper --keep` of the state after;"
-        " then `bench/plot` writes the plots and the tables of the pages. A run that ended early goes on where it was. Takes about a quarter of an hour.",
+        " then `bench/plot` writes the plots and the tables of the pages. A run that ended early goes on where it was. Takes about a quarter of an hour, and longer where"
+        " many rows of the states differ: these get more turns.",
     )
-    made.add_argument("programs", nargs=2, type=Path, metavar="PROGRAM", help="the state before, and the state after: programs that ./build proved, or others with a file PROGRAM.made: how it was made, and its SHA-256 (a line each)")
+    states = "the state before, and the state after: programs that ./build proved, or others with a file PROGRAM.made: how it was made, and its SHA-256 (a line each)"
+    made.add_argument("programs", nargs=2, type=Path, metavar="PROGRAM", help=states)
     add_named(made)
     made.add_argument("--runs", type=int, default=5, help="turns of `bench/turns` (default: %(default)s)")
     made.add_argument("--anew", action="store_true", help="measure again what is kept of these programs")
@@ -29,11 +34,19 @@ def words() -> argparse.ArgumentParser:
 
 
 def work(arguments: argparse.Namespace) -> None:
-    """Measures, keeps and writes."""
+    """Measures, keeps and writes. What a later step needs is looked for before the first."""
+    if missing := packages():
+        raise Refused(f"programs or modules are not there: install the packages {', '.join(missing)}")
     for tool, asked in steps(arguments):
         started = time.monotonic()
         tool.work(tool.words().parse_args(asked))
         print(f"all: {tool.__name__.rpartition('.')[2]} {' '.join(asked)}: {time.monotonic() - started:.0f} s", file=sys.stderr)
+
+
+def packages() -> list[str]:
+    """The packages of what is not there, of all that the steps need."""
+    needed = {"linux-perf": shutil.which("perf"), "time": os.access(paper.TIME, os.X_OK), "python3-matplotlib": importlib.util.find_spec("matplotlib")}
+    return [package for package, found in needed.items() if not found]
 
 
 def steps(arguments: argparse.Namespace) -> list[Step]:

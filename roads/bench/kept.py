@@ -6,10 +6,13 @@ from __future__ import annotations
 
 import csv
 import dataclasses
+import io
+import sys
 from collections.abc import Callable
 from pathlib import Path
 
 from roads.bench.measures import MEMORY, SECONDS, Measure
+from roads.command_line import write_output
 from roads.program import TOP
 
 FOLDER = TOP / "bench" / "measured"
@@ -59,27 +62,21 @@ class Table:
 
     @classmethod
     def read(cls, measure: Measure) -> Table:
-        """What is kept: nothing where there is no file."""
+        """What is kept: nothing where there is no file. A last line that is cut, as by a run that was ended while it wrote, is no row."""
         place = FOLDER / f"{measure.name}.csv"
         if not place.is_file():
             return cls(measure, place, "", [])
-        with open(place, newline="", encoding="ascii") as file:
-            told = file.readline().removeprefix("# ").rstrip("\n")
-            return cls(measure, place, told, [_row(found, measure) for found in csv.DictReader(file)])
+        first, *lines = place.read_bytes().decode("ascii", "backslashreplace").rpartition("\n")[0].split("\n")
+        return cls(measure, place, first.removeprefix("# "), [_row(found, measure) for found in csv.DictReader(lines)])
 
     @classmethod
     def opened(cls, measure: Measure, told: str, forget: Callable[[Row], bool] = lambda _row: False) -> Table:
-        """A table to which rows of these programs can be added, without those to forget: it begins anew where it has those of others."""
+        """A table to which rows of these programs can be added, without those to forget: it begins anew, and says so, where it has those of others."""
         found = cls.read(measure)
-        rows = [row for row in found.rows if found.told == told and not forget(row)]
-        if found.told == told and rows == found.rows:
-            return found
-        made = cls(measure, found.place, told, [])
-        with open(made.place, "w", newline="", encoding="ascii") as file:
-            file.write(f"# {told}\n")
-            made._writer(file).writeheader()
-        for row in rows:
-            made.append(row)
+        if found.rows and found.told != told:
+            print(f"{found.place.name}: {len(found.rows)} rows of other programs are dropped ({found.told})", file=sys.stderr)
+        made = cls(measure, found.place, told, [row for row in found.rows if found.told == told and not forget(row)])
+        write_output(str(made.place), made._text().encode("ascii", "backslashreplace"))
         return made
 
     def keys(self) -> frozenset[tuple[str, int, str]]:
@@ -89,10 +86,22 @@ class Table:
     def append(self, row: Row) -> None:
         """Adds a row."""
         self.rows.append(row)
-        figures = [f"{it:.6f}" if self.measure is SECONDS else f"{it:.1f}" for figures in row.least for it in figures]
         with open(self.place, "a", newline="", encoding="ascii") as file:
-            keys = {name: getattr(row, name) for name in KEYS} | {"load": f"{row.load:.1f}"}
-            self._writer(file).writerow(keys | dict(zip(FIGURES[self.measure.name], figures, strict=True)))
+            self._writer(file).writerow(self._cells(row))
+
+    def _text(self) -> str:
+        """The whole file."""
+        made = io.StringIO()
+        made.write(f"# {self.told}\n")
+        out = self._writer(made)
+        out.writeheader()
+        out.writerows(map(self._cells, self.rows))
+        return made.getvalue()
+
+    def _cells(self, row: Row) -> dict[str, object]:
+        figures = [f"{it:.6f}" if self.measure is SECONDS else f"{it:.1f}" for figures in row.least for it in figures]
+        keys = {name: getattr(row, name) for name in KEYS} | {"load": f"{row.load:.1f}"}
+        return keys | dict(zip(FIGURES[self.measure.name], figures, strict=True))
 
     def _writer(self, file: object) -> csv.DictWriter:
         return csv.DictWriter(file, [*KEYS, *FIGURES[self.measure.name]], lineterminator="\n")

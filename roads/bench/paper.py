@@ -16,7 +16,7 @@ from collections.abc import Callable, Iterable
 from pathlib import Path
 
 from roads import synthetic
-from roads.bench.states import kind, program_at
+from roads.bench.states import in_ascii, kind, program_at
 from roads.command_line import Refused, parser
 from roads.fat_tree import fat_tree_text
 from roads.native import native
@@ -94,7 +94,7 @@ def work(arguments: argparse.Namespace) -> None:
                 print(f"paper: {family.name} {size}", file=sys.stderr)
     print(table(rows), end="")
     if arguments.keep:
-        state = f"{arguments.named}, {kind(program)}" if arguments.named else kind(program)
+        state = in_ascii(f"{arguments.named}, {kind(program)}" if arguments.named else kind(program))
         keep(rows, f"load {before:.1f} before and {os.getloadavg()[0]:.1f} after, {os.cpu_count()} processors; program: {state}")
 
 

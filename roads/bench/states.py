@@ -8,7 +8,7 @@ import re
 from pathlib import Path
 
 from roads import packing
-from roads.command_line import Refused
+from roads.command_line import Refused, one_line
 
 
 def program_at(program: Path) -> Path:
@@ -23,8 +23,8 @@ def kind(program: Path) -> str:
     data = program.read_bytes()
     told = program.with_name(f"{program.name}.made")
     if told.is_file():
-        first, *lines = told.read_text("utf-8").splitlines()
-        if lines[:1] == [packing.sum_of(program)]:
+        first, made = [*told.read_text("utf-8", "backslashreplace").splitlines(), "", ""][:2]
+        if first and made == packing.sum_of(program):
             return "proved by ./build" if re.fullmatch("[0-9a-f]{64}", first) else first
     return "an unproved build" if b"__asan_" in data else "of an unknown make"
 
@@ -45,10 +45,15 @@ def names_of(named: str | None, programs: list[Path]) -> list[str]:
 def told_of(programs: list[Path], names: list[str]) -> str:
     """Two states, and the machine."""
     before, after = (f"{name} ({kind(program)}, SHA-256 {hashlib.sha256(program.read_bytes()).hexdigest()[:12]})" for name, program in zip(names, programs, strict=True))
-    return f"before: {before}; after: {after}; {machine()}"
+    return in_ascii(f"before: {before}; after: {after}; {machine()}")
+
+
+def in_ascii(told: str) -> str:
+    """A first line as a kept file can have it: other letters, as names have them, are told by their numbers."""
+    return one_line(told).encode("ascii", "backslashreplace").decode("ascii")
 
 
 def machine() -> str:
     """The machine, in a few words."""
-    found = re.search(r"^model name\s*: (.+)$", Path("/proc/cpuinfo").read_text("ascii", "replace"), re.M)
-    return f"{os.cpu_count()} processors, {found[1] if found else 'of no name'}"
+    found = re.search(r"^model name\s*: (.+)$", Path("/proc/cpuinfo").read_text("utf-8", "backslashreplace"), re.M)
+    return in_ascii(f"{os.cpu_count()} processors, {found[1] if found else 'of no name'}")

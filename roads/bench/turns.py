@@ -57,7 +57,8 @@ def words() -> argparse.ArgumentParser:
     made.add_argument("programs", nargs="+", type=Path, metavar="PROGRAM", help="a program, as crates/bonsai/out/bonsai")
     made.add_argument("--command", action="append", choices=COMMANDS, help="only this command (may stand several times)")
     made.add_argument("--shape", action="append", choices=[*SHAPES, FAT_TREE], help="only this shape (may stand several times)")
-    made.add_argument("--sizes", metavar="N,N..", help=f"numbers of routers, ascending (default: {SIZES}; of `summary` in OSPF {SUMMARY_SIZES}, with loopbacks {LOOPBACKS_SIZES}); `trial` takes its own")
+    usual = f"default: {SIZES}; of `summary` in OSPF {SUMMARY_SIZES}, with loopbacks {LOOPBACKS_SIZES}"
+    made.add_argument("--sizes", metavar="N,N..", help=f"numbers of routers, ascending ({usual}); `trial` takes its own")
     made.add_argument("--memory", action="store_true", help="measure the most memory that is resident, in MiB, and no time")
     made.add_argument("--runs", type=int, default=5, help="turns of the programs, of which the least figures count (default: %(default)s; short runs more, long ones fewer)")
     made.add_argument("--keep", action="store_true", help="keep the rows in bench/measured (turns.csv or memory.csv), and measure only what is not kept there of these programs")
@@ -68,6 +69,8 @@ def words() -> argparse.ArgumentParser:
 
 def work(arguments: argparse.Namespace) -> None:
     """Measures and prints, row by row."""
+    if arguments.anew and not arguments.keep:
+        raise Refused("--anew is for what is kept: it needs --keep")
     programs = [program_at(program) for program in arguments.programs]
     if arguments.memory and not os.access(TIME, os.X_OK):
         raise Refused("the program time is not there: install the package time")

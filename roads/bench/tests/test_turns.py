@@ -9,7 +9,7 @@ from roads.bench.inputs import outward, second_files
 from roads.bench.kept import Row, Table
 from roads.bench.measures import LONG, MEMORY, SECONDS, Measure, in_turn, least, wanted
 from roads.bench.shapes import SHAPES, ring
-from roads.bench.states import kind, names_of
+from roads.bench.states import kind, machine, names_of, told_of
 from roads.bench.turns import COMMANDS, LOOPBACKS_SIZES, SIZES, SUMMARY_SIZES, TRIALS, head, line, measured, plan
 from roads.command_line import Refused
 from roads.native import native
@@ -156,6 +156,47 @@ def test_rows_are_kept_as_they_are(folder) -> None:
         assert Table.opened(measure, "others").rows == []
 
 
+def test_a_row_that_was_cut_is_none(folder) -> None:
+    table = Table.opened(SECONDS, "two programs")
+    rows = [row_of(), row_of("certify")]
+    for row in rows:
+        table.append(row)
+    whole = table.place.read_bytes()
+    for cut in range(1, len(whole)):
+        table.place.write_bytes(whole[:cut])
+        kept_rows = [row for row, end in zip(rows, (whole.rindex(b"\n", 0, -1) + 1, len(whole)), strict=True) if cut >= end]
+        assert Table.read(SECONDS).rows == kept_rows
+        again = Table.opened(SECONDS, "two programs")
+        assert again.rows == kept_rows
+        for row in rows[len(kept_rows) :]:
+            again.append(row)
+        assert table.place.read_bytes() == whole
+
+
+def test_rows_that_are_dropped_are_told(folder, capsys) -> None:
+    Table.opened(SECONDS, "two programs").append(row_of())
+    Table.opened(SECONDS, "two programs")
+    assert not capsys.readouterr().err
+    assert Table.opened(SECONDS, "others").rows == []
+    assert capsys.readouterr().err == "turns.csv: 1 rows of other programs are dropped (two programs)\n"
+
+
+def test_names_have_any_letters(folder, tmp_path, monkeypatch) -> None:
+    monkeypatch.setattr("roads.bench.states.Path.read_text", lambda _file, *_more: "model name\t: Intel\xae Xeon\n")
+    assert machine().endswith(" processors, Intel\\xae Xeon")
+    program = tmp_path / "program"
+    program.write_bytes(b"\x7fELF")
+    told = told_of([program, program], ["fr\xfch", "a\nb"])
+    assert told.isascii() and told.startswith("before: fr\\xfch (") and "; after: a?b (" in told
+    Table.opened(SECONDS, told).append(row_of())
+    assert Table.opened(SECONDS, told).rows == [row_of()]
+
+
+def test_anew_is_for_what_is_kept(tmp_path) -> None:
+    with pytest.raises(Refused, match="--keep"):
+        turns.work(turns.words().parse_args([str(tmp_path), "--anew"]))
+
+
 def test_what_is_kept_is_not_measured_again(folder, programs, capsys) -> None:
     asked = [*map(str, programs), "--keep", "--named", "old,new", "--shape", "ospf-ring", "--sizes", "8", "--runs", "1", "--command", "groups"]
     for more, lines in (([], 3), ([], 2), (["--command", "classes"], 3), (["--anew"], 3)):
@@ -181,6 +222,10 @@ def test_an_unproved_build_is_told(tmp_path) -> None:
     for first, told in (("0" * 64, "proved by ./build"), ("optimized, unproved", "optimized, unproved")):
         made.write_text(f"{first}\n{packing.sum_of(program)}\n", "utf-8")
         assert kind(program) == told
+    for text in ("", "\n", f"\n{packing.sum_of(program)}\n", "proved\n"):
+        made.write_text(text, "utf-8")
+        assert kind(program) == "of an unknown make"
+    made.write_text(f"proved\n{packing.sum_of(program)}\n", "utf-8")
     program.write_bytes(b"another")
     assert kind(program) == "of an unknown make"
 
@@ -190,3 +235,11 @@ def test_all_measurements_are_made_of_two_states(programs) -> None:
     assert [tool.__name__.rpartition(".")[2] for tool, _ in found] == ["turns", "turns", "profile", "paper", "plot"]
     for tool, asked in found:
         assert tool.words().parse_args(asked)
+
+
+def test_what_a_later_step_needs_is_looked_for_first(tmp_path, monkeypatch) -> None:
+    monkeypatch.setattr("shutil.which", lambda _name: None)
+    monkeypatch.setattr("importlib.util.find_spec", lambda _name: None)
+    monkeypatch.setattr("roads.bench.paper.TIME", str(tmp_path / "time"))
+    with pytest.raises(Refused, match="packages linux-perf, time, python3-matplotlib"):
+        everything.work(everything.words().parse_args([str(tmp_path), str(tmp_path)]))
