@@ -10,7 +10,7 @@ from pathlib import Path
 from roads.bench.paper import asked as timed_answer
 from roads.command_line import Refused
 
-SLOWER, CLEAR = 1.05, 1.25
+SLOWER, FASTER = 1.05, 0.9
 SHORT, SHORT_TURNS = 0.05, 2
 LONG = 45.0
 MORE_TURNS = 4
@@ -85,8 +85,8 @@ def least(found: list[tuple[tuple[float, ...], ...]]) -> tuple[tuple[float, ...]
 def wanted(found: list[tuple[tuple[float, ...], ...]], runs: int, measure: Measure) -> int:
     """How many turns there are to be, after those that are found.
 
-    Short runs get more turns, long ones fewer. Where the last program looks a little slower than the first, or the first than the last, there are more, since
-    chance only adds: the least figures of both come down.
+    Short runs get more turns, long ones fewer. There are more until the last program is faster by a tenth, since chance only adds: the least figures of both
+    come down. So neither a difference by chance nor one that chance hides is taken for granted.
     """
     if not found or measure.name != SECONDS.name:
         return runs
@@ -96,6 +96,5 @@ def wanted(found: list[tuple[tuple[float, ...], ...]], runs: int, measure: Measu
     now = least(found)
     usual = runs * (SHORT_TURNS if now[0][0] < SHORT else 1)
     first, last = now[0][0], now[-1][0]
-    is_clear = max(first, last) > CLEAR * min(first, last)
-    is_doubtful = len(found) >= usual and not is_clear and (measure.is_more(first, last) or measure.is_more(last, first))
+    is_doubtful = len(found) >= usual and last > FASTER * first
     return usual * MORE_TURNS if is_doubtful else usual

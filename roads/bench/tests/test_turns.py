@@ -108,9 +108,8 @@ def test_short_runs_get_more_turns_and_long_ones_fewer() -> None:
     assert wanted([turn(0.5, 0.4)], 5, SECONDS) == 5
     assert wanted([turn(0.01, 0.01)], 5, SECONDS) == 10
     assert wanted([turn(LONG / 2, LONG)], 5, SECONDS) == 1
-    assert wanted([turn(0.5, 0.6)] * 5, 5, SECONDS) == wanted([turn(0.6, 0.5)] * 5, 5, SECONDS) == 20
-    assert wanted([turn(0.5, 0.51)] * 5, 5, SECONDS) == wanted([turn(0.51, 0.5)] * 5, 5, SECONDS) == 5
-    assert wanted([turn(0.5, 0.6)] * 5 + [turn(0.5, 0.5)], 5, SECONDS) == 5
+    assert wanted([turn(0.5, 0.6)] * 5, 5, SECONDS) == wanted([turn(0.51, 0.5)] * 5, 5, SECONDS) == 20
+    assert wanted([turn(0.6, 0.5)] * 5, 5, SECONDS) == wanted([turn(0.5, 0.6)] * 5 + [turn(0.5, 0.4)], 5, SECONDS) == 5
     assert wanted([turn(0.01, 0.2)], 5, MEMORY) == 5
     assert least([((3, 1), (5, 2)), ((2, 2), (6, 1))]) == ((2, 1), (5, 1))
 
