@@ -3,6 +3,7 @@ from __future__ import annotations
 
 import dataclasses
 import os
+import re
 import subprocess
 from collections.abc import Callable
 from pathlib import Path
@@ -54,7 +55,17 @@ def resident(program: Path, asked: list[str]) -> tuple[float]:
     return (timed_answer(program, *asked)[2],)
 
 
+def instructions(program: Path, asked: list[str]) -> tuple[float]:
+    """The instructions of one run, in millions, which other load does not change. Refused where its status is not 0."""
+    ran = subprocess.run(["valgrind", "--tool=callgrind", "--callgrind-out-file=/dev/null", program, *asked], stdin=subprocess.DEVNULL, stdout=subprocess.DEVNULL, stderr=subprocess.PIPE, check=False)
+    found = re.search(rb"Collected : (\d+)", ran.stderr)
+    if ran.returncode or not found:
+        raise Refused(f"{program} {' '.join(asked)}: status {ran.returncode}")
+    return (int(found[1]) / 1e6,)
+
+
 SECONDS = Measure("turns", "s", ".4f", 0.005, 0.001, seconds)
+INSTRUCTIONS = Measure("instructions", "million instructions", ".1f", 0, 0.0, instructions)
 MEMORY = Measure("memory", "MiB", ".1f", 0, 0.5, resident)
 
 

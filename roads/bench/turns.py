@@ -9,6 +9,7 @@ import argparse
 import dataclasses
 import itertools
 import os
+import shutil
 import sys
 import tempfile
 from collections.abc import Iterable, Iterator
@@ -16,7 +17,7 @@ from pathlib import Path
 
 from roads.bench.inputs import READ_BY, ROUNDS, output, second_files
 from roads.bench.kept import Row, Table
-from roads.bench.measures import MEMORY, SECONDS, Measure, in_turn
+from roads.bench.measures import INSTRUCTIONS, MEMORY, SECONDS, Measure, in_turn
 from roads.bench.paper import TIME
 from roads.bench.shapes import SHAPES
 from roads.bench.states import add_named, names_of, program_at, told_of
@@ -60,6 +61,7 @@ def words() -> argparse.ArgumentParser:
     usual = f"default: {SIZES}; of `summary` in OSPF {SUMMARY_SIZES}, with loopbacks {LOOPBACKS_SIZES}"
     made.add_argument("--sizes", metavar="N,N..", help=f"numbers of routers, ascending ({usual}); `trial` takes its own")
     made.add_argument("--memory", action="store_true", help="measure the most memory that is resident, in MiB, and no time")
+    made.add_argument("--instructions", action="store_true", help="count instructions, in millions, by one run of each program under valgrind, and measure no time")
     made.add_argument("--runs", type=int, default=5, help="turns of the programs, of which the least figures count (default: %(default)s; short runs more, long ones fewer)")
     made.add_argument("--keep", action="store_true", help="keep the rows in bench/measured (turns.csv or memory.csv), and measure only what is not kept there of these programs")
     made.add_argument("--anew", action="store_true", help="with --keep: measure again what is kept of these commands and shapes")
@@ -74,7 +76,9 @@ def work(arguments: argparse.Namespace) -> None:
     programs = [program_at(program) for program in arguments.programs]
     if arguments.memory and not os.access(TIME, os.X_OK):
         raise Refused("the program time is not there: install the package time")
-    measure = MEMORY if arguments.memory else SECONDS
+    if arguments.instructions and (arguments.memory or arguments.keep or not shutil.which("valgrind")):
+        raise Refused("--instructions stands without --memory and --keep, and needs the package valgrind")
+    measure = MEMORY if arguments.memory else INSTRUCTIONS if arguments.instructions else SECONDS
     commands = tuple(arguments.command or (MEMORY_COMMANDS if arguments.memory and arguments.keep else COMMANDS))
     shapes = arguments.shape or [*SHAPES, FAT_TREE]
     sizes = numbers(arguments.sizes) if arguments.sizes else SIZES[-1:] if arguments.memory and arguments.keep else None
@@ -84,7 +88,7 @@ def work(arguments: argparse.Namespace) -> None:
         table = Table.opened(measure, told, lambda row: arguments.anew and row.shape in shapes and row.command in commands)
     print(head(len(programs), measure))
     before: dict[tuple[str, str], float] = {}
-    for row in measured(programs, plan(shapes, commands, sizes, table.keys() if table else frozenset()), arguments.runs, measure):
+    for row in measured(programs, plan(shapes, commands, sizes, table.keys() if table else frozenset()), 1 if arguments.instructions else arguments.runs, measure):
         print(line(row, before.get((row.shape, row.command)), measure), flush=True)
         before[row.shape, row.command] = row.least[-1][0]
         if table:

@@ -242,3 +242,9 @@ def test_what_a_later_step_needs_is_looked_for_first(tmp_path, monkeypatch) -> N
     monkeypatch.setattr("roads.bench.paper.TIME", str(tmp_path / "time"))
     with pytest.raises(Refused, match="packages linux-perf, time, python3-matplotlib"):
         everything.work(everything.words().parse_args([str(tmp_path), str(tmp_path)]))
+
+
+def test_instructions_are_counted_alone(programs) -> None:
+    for more in ("--memory", "--keep"):
+        with pytest.raises(Refused, match="--instructions"):
+            turns.work(turns.words().parse_args([*map(str, programs), "--instructions", more]))
