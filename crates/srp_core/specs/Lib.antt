@@ -11,5 +11,8 @@ pub mod Problem
 pub mod ProblemOf
 pub mod Quotient
 pub mod Routes
+pub mod Solutions
 pub mod Stability
 pub mod Starts
+pub mod Weak
+pub mod Without
