@@ -11,13 +11,14 @@ use Rattle.base_kit.specs.declared.protocol.Protocol.TheVariants.{Bgp as OverBgp
 use Rattle.base_kit.proofs.Elements.{In, contains_in, in_contains, in_filter_map, filter_map_in}
 use Rattle.srp_core.specs.declared.route.Route.{Route}
 use Rattle.srp_core.specs.Routes.{path_of, is_on, compare_keys}
-use Rattle.srp_core.specs.Problem.{Problem, number, initial, step_over, key_of}
-use Rattle.srp_core.specs.Stability.{label, IsCandidateOver, IsCandidate, of_init, of_edge}
+use Rattle.srp_core.specs.Problem.{Problem, count, number, initial, step_over, key_of}
+use Rattle.srp_core.specs.Stability.{label, AreLabels, IsCandidateOver, IsCandidate, of_init, of_edge, IsStable}
 use Rattle.srp_core.specs.Candidates.{passed, over}
 use Rattle.route_keys.specs.Same.{same_route}
 use Rattle.route_keys.proofs.Same.{same_true, same_self}
 use Rattle.solution_check.specs.Breaks.{HasWrongOrigin, HasNoCandidate, HasBetterCandidate, LacksLabel, HoldsBest}
-use Rattle.solution_check.specs.Offers.{AreOwn, routes_of, is_label, beats_label, always, is_wrong_origin}
+use Rattle.route_offers.specs.Offers.{AreOwn}
+use Rattle.solution_check.specs.Offers.{routes_of, is_label, beats_label, always, is_wrong_origin}
 
 pub is_less : (o : Ordering) → is_lt o ≡ true → o ≡ Less
 is_less Less e = refl
@@ -190,3 +191,14 @@ not_true false e = refl
 pub not_false : (b : Bool) → not b ≡ false → b ≡ true
 not_false true e = refl
 not_false false e = sym e
+
+-- ---- all routers
+
+-- all routers hold the best
+pub all_hold : (P : Problem) (L : List (Option Route)) → AreLabels P L → ((v : ℕ) → v < count P → HoldsBest P L v) → IsStable P L
+all_hold P L fits hold = record {
+  fitting = fits;
+  none = λ u c lt e. (hold u lt).none c e;
+  held = λ u r lt e. (hold u lt).held r e;
+  best = λ u r c lt e is. (hold u lt).best r c e is;
+}

@@ -1,5 +1,3 @@
 pub mod OneAnswer
-pub mod Lengthened
 pub mod Weighed
 pub mod Judged
-pub mod OwnEdges

@@ -1,38 +1,20 @@
 -- What the edges of a router offer it, compared with its label.
-use Rattle.std.specs.Prelude.{◌≡◌, ℕ, Bool, true, false, not, ◌||◌, List, Option, Some, None, [], Contains, filter_map, if◌then◌else◌}
+use Rattle.std.specs.Prelude.{◌≡◌, ℕ, Bool, true, false, not, ◌||◌, List, Option, Some, None, [], filter_map}
 use Rattle.std.specs.List.{list_any, cons_option}
 use Rattle.std.specs.Ordering.{is_lt}
-use Rattle.base_kit.specs.Sets.{with_number}
 use Rattle.base_kit.specs.declared.act_graph.Edge.{Edge}
 use Rattle.base_kit.specs.declared.protocol.Protocol.{Protocol}
 use Rattle.base_kit.specs.declared.protocol.Protocol.TheVariants.{Bgp as OverBgp, Ospf as OverOspf}
 use Rattle.srp_core.specs.declared.route.Route.{Route}
-use Rattle.srp_core.specs.declared.route.Route.TheVariants.{Bgp, Ospf}
-use Rattle.srp_core.specs.Acts.{arrived}
 use Rattle.srp_core.specs.Routes.{compare_keys}
 use Rattle.srp_core.specs.Problem.{Problem, initial, key_of}
 use Rattle.srp_core.specs.Candidates.{over}
 use Rattle.route_keys.specs.Same.{same_route}
-use Rattle.solution_check.specs.declared.offers.Offer.{Offer}
 use Rattle.solution_check.specs.declared.weights.Weight.{Weight}
-use Rattle.solution_check.specs.declared.offers.Offer.TheVariants.{Nothing, Import, Cost}
-
--- the edges of the router
-pub record AreOwn (problem : Problem) (router : ℕ) (own : List Edge) : Type 0 where
-  pub only : (edge : Edge) → Contains own edge → Contains problem.edges edge × (edge.importer ≡ router)
-  pub all : (edge : Edge) → Contains problem.edges edge → edge.importer ≡ router → Contains own edge
 
 -- its initial route, and what its edges give
 abbrev pub routes_of : Problem → List (Option Route) → ℕ → List Edge → List Route
 routes_of problem labels router own = cons_option (initial problem router) (filter_map (over problem labels) own)
-
--- the route that an offer makes of that of the exporter with the number
-abbrev pub offered : Offer → Option Route → ℕ → Option Route
-offered Nothing from number = None
-offered (Cost cost) from number = Some (Ospf cost)
-offered (Import imported) None number = None
-offered (Import imported) (Some (Ospf cost)) number = None
-offered (Import imported) (Some (Bgp lp path comms)) number = Some (arrived number path imported)
 
 -- whether a route is the label, and whether it beats the label
 abbrev pub is_label : Route → Route → Bool
@@ -40,18 +22,6 @@ is_label route candidate = same_route candidate route
 
 abbrev pub beats_label : Problem → Route → Route → Bool
 beats_label problem route candidate = is_lt (compare_keys (key_of problem candidate) (key_of problem route))
-
--- whether an offer gives a route
-abbrev pub gives : Offer → Bool
-gives Nothing = false
-gives (Import imported) = true
-gives (Cost cost) = true
-
--- ---- keys
-
--- the lone numbers behind a number that is a lone router's or not
-abbrev pub with_lone : Bool → ℕ → List ℕ → List ℕ
-with_lone is_lone number rest = if is_lone then with_number number rest else rest
 
 -- ---- what candidates weigh
 

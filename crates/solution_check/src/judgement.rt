@@ -6,13 +6,14 @@ ghost use Rattle.base_kit.specs.declared.act_graph.Edge.{Edge};
 ghost use Rattle.srp_core.specs.Problem.{count};
 ghost use Rattle.srp_core.specs.Stability.{label, AreLabels};
 ghost use Rattle.solution_check.specs.Breaks.{HoldsBest, BreaksBy, Judges};
-ghost use Rattle.solution_check.specs.Lone.{IsLoneOf};
-ghost use Rattle.solution_check.specs.Offers.{AreOwn, is_wrong_origin};
+ghost use Rattle.route_offers.specs.Lone.{IsLoneOf};
+ghost use Rattle.route_offers.specs.Offers.{AreOwn};
+ghost use Rattle.solution_check.specs.Offers.{is_wrong_origin};
 
-use crate::lone::{Lone, lone_of_labels};
 use crate::weights::{has_candidate, weigh};
 use base_kit::{Edge, NoMemory, Protocol};
 use route_keys::same_route;
+use route_offers::{Lone, end_of, lone_of_labels};
 use srp_core::{Labels, Route, Srp};
 use std::alloc::Global;
 
@@ -80,20 +81,6 @@ fn judge(
             Ok(None)
         }
     }
-}
-
-// The place behind the edges of the router, which begin at `first`.
-fn end_of(edges: &[Edge], router: u32, first: usize) -> usize
-    requires first { first ≤ length edges.now }
-    ensures bounds { (first ≤ result) × (result ≤ length edges.now) }
-    ensures own { AllWithin (λ edge. edge.importer ≡ router) edges.now first result }
-    ensures other { result < length edges.now → (d : Edge) → (slice_index_or edges.now result d).importer ≢ router }
-{
-    let mut end = first;
-    while end < edges.len() && edges[end].importer == router {
-        end += 1;
-    }
-    end
 }
 
 /// Whether the labels, one for each router and each of the problem's protocol, are stable.

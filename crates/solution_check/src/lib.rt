@@ -7,8 +7,6 @@
 
 mod judgement;
 pub mod laws;
-mod lone;
-mod offers;
 mod weights;
 
 pub use judgement::{Answer, check};

@@ -12,15 +12,15 @@ ghost use Rattle.srp_core.specs.Routes.{path_of, chosen, compare_keys};
 ghost use Rattle.srp_core.specs.Stability.{label, AreLabels};
 ghost use Rattle.srp_core.specs.Candidates.{over};
 ghost use Rattle.route_keys.specs.Keys.{key, key_with};
-ghost use Rattle.solution_check.specs.declared.offers.Offer.TheVariants.{Import};
-ghost use Rattle.solution_check.specs.Lone.{IsLoneOf};
-ghost use Rattle.solution_check.specs.Offers.{AreOwn, routes_of, offered, is_label, beats_label, with_lone, one, WeighsAs, both_weighed, always};
+ghost use Rattle.route_offers.specs.declared.offers.Offer.TheVariants.{Import};
+ghost use Rattle.route_offers.specs.Lone.{IsLoneOf};
+ghost use Rattle.route_offers.specs.Offers.{offered, with_lone};
+ghost use Rattle.solution_check.specs.Offers.{routes_of, is_label, beats_label, one, WeighsAs, both_weighed, always};
 
-use crate::lone::Lone;
-use crate::offers::{Offer, is_lengthened, offer_over};
 use base_kit::{Edge, NoMemory, NumSet};
 use route_keys::{comms_of, preference_of, same_route, size_of};
 use route_maps::Imported;
+use route_offers::{Lone, Offer, grown, is_lengthened, offer_over};
 use srp_core::{Labels, Route, Srp};
 use std::alloc::Global;
 use std::cmp::Ordering;
@@ -80,12 +80,6 @@ fn is_better(
             Ok(order == Ordering::Less)
         }
     }
-}
-
-fn grown(length: usize, adds: u8) -> u128
-    ensures { result ≡ length + suc adds }
-{
-    length as u128 + u128::from(adds) + 1
 }
 
 // What the import from a path weighs.

@@ -2,7 +2,8 @@ use Rattle.std.proofs.Common.{◌≡◌, ℕ, sym, subst, arith, inl, inr, Optio
 use Rattle.std.proofs.lemmas.Bool.{cases_lt}
 use Rattle.srp_core.specs.Problem.{AreOrdered}
 use Rattle.solution_check.specs.Breaks.{HoldsBest, BreaksBy}
-use Rattle.solution_check.proofs.OwnEdges.{Stand, passed_more, left_more, own_are, all_hold}
+use Rattle.route_offers.proofs.OwnEdges.{Stand, passed_more, left_more, own_are}
+use Rattle.solution_check.proofs.Judged.{all_hold}
 use Rattle.solution_check.proofs.judgement.check.Goals as goal
 
 pub judge-requires-clause-own : goal.judge-requires-clause-own

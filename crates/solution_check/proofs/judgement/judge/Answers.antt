@@ -6,7 +6,7 @@ use Rattle.srp_core.specs.Stability.{label}
 use Rattle.solution_check.specs.Breaks.{wrong_origin, not_a_candidate, better_candidate, none_with_candidate}
 use Rattle.solution_check.specs.Offers.{is_wrong_origin}
 use Rattle.solution_check.proofs.Judged.{wrong_start, right_start, not_held, beaten, has_one, fine_without, fine_with, not_lacking, read_at, not_true, not_false}
-use Rattle.solution_check.proofs.OwnEdges.{own_fit}
+use Rattle.route_offers.proofs.OwnEdges.{own_fit}
 use Rattle.solution_check.proofs.judgement.judge.Goals as goal
 
 pub returns-then-is_wrong_origin : goal.returns-then-is_wrong_origin

@@ -5,9 +5,10 @@ use Rattle.srp_core.specs.declared.route.Route.TheVariants.{Ospf}
 use Rattle.srp_core.specs.Candidates.{over}
 use Rattle.srp_core.specs.Problem.{number}
 use Rattle.srp_core.specs.Stability.{label}
-use Rattle.solution_check.specs.declared.offers.Offer.{Offer}
-use Rattle.solution_check.specs.declared.offers.Offer.TheVariants.{Import}
-use Rattle.solution_check.specs.Offers.{offered, one, WeighsAs}
+use Rattle.route_offers.specs.declared.offers.Offer.{Offer}
+use Rattle.route_offers.specs.declared.offers.Offer.TheVariants.{Import}
+use Rattle.route_offers.specs.Offers.{offered}
+use Rattle.solution_check.specs.Offers.{one, WeighsAs}
 use Rattle.solution_check.proofs.Weighed.{if_ok, bare_weighs}
 use Rattle.solution_check.proofs.weights.weigh_edge.Goals as goal
 

@@ -5,9 +5,10 @@ use Rattle.srp_core.specs.declared.route.Route.TheVariants.{Bgp}
 use Rattle.srp_core.specs.Acts.{arrived}
 use Rattle.srp_core.specs.Problem.{number}
 use Rattle.srp_core.specs.Stability.{label}
-use Rattle.solution_check.specs.declared.offers.Offer.TheVariants.{Import}
-use Rattle.solution_check.specs.Offers.{offered}
-use Rattle.solution_check.proofs.Weighed.{if_ok, import_weighs, lone_at}
+use Rattle.route_offers.specs.declared.offers.Offer.TheVariants.{Import}
+use Rattle.route_offers.specs.Offers.{offered}
+use Rattle.route_offers.proofs.OfferKeys.{lone_at}
+use Rattle.solution_check.proofs.Weighed.{if_ok, import_weighs}
 use Rattle.solution_check.proofs.weights.weigh_from.Goals as goal
 
 pub returns-in-Bgp : goal.returns-in-Bgp

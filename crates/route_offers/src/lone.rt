@@ -2,7 +2,7 @@
 
 ghost use Rattle.std.specs.Prelude.{◌≡◌, IfOk, map, nat_eq};
 ghost use Rattle.std.specs.HashSet.{contains};
-ghost use Rattle.solution_check.specs.Lone.{chosen_on_path, IsLoneOf};
+ghost use Rattle.route_offers.specs.Lone.{chosen_on_path, IsLoneOf};
 
 use base_kit::{List, NoMemory, NumSet};
 use route_keys::{lone_numbers, lone_on};
@@ -12,9 +12,9 @@ use std::collections::HashSet;
 
 /// The numbers of the lone routers, and those of them that are on the path of each label.
 #[derive(Drop)]
-pub(crate) struct Lone {
-    pub(crate) numbers: HashSet<u32>,
-    pub(crate) paths: List<NumSet>,
+pub struct Lone {
+    pub numbers: HashSet<u32>,
+    pub paths: List<NumSet>,
 }
 
 fn lone_of(alloc: Global, numbers: &HashSet<u32>, label: &Option<Route>) -> Result<NumSet, NoMemory>
@@ -41,7 +41,7 @@ fn lone_paths(
 }
 
 /// The lone numbers of a problem and its labels.
-pub(crate) fn lone_of_labels(alloc: Global, srp: &Srp, labels: &Labels) -> Result<Lone, NoMemory>
+pub fn lone_of_labels(alloc: Global, srp: &Srp, labels: &Labels) -> Result<Lone, NoMemory>
     ensures { IfOk result (IsLoneOf srp.now labels.now) }
 {
     let numbers = lone_numbers(alloc, srp)?;

@@ -5,8 +5,8 @@ use Rattle.route_maps.specs.declared.plain.Imported.{Imported}
 use Rattle.srp_core.specs.Acts.{step_by, import_by, arrived}
 use Rattle.srp_core.specs.Candidates.{passed}
 use Rattle.srp_core.specs.Routes.{is_on}
-use Rattle.solution_check.proofs.Lengthened.{dropped, kept}
-use Rattle.solution_check.proofs.offers.offer_by.Goals as goal
+use Rattle.route_offers.proofs.Lengthened.{dropped, kept}
+use Rattle.route_offers.proofs.offers.offer_by.Goals as goal
 
 pub returns-then-loops-clause-exact : goal.returns-then-loops-clause-exact
 unfolding step_by import_by

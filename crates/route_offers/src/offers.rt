@@ -8,7 +8,7 @@ ghost use Rattle.srp_core.specs.Acts.{step_by, prepended};
 ghost use Rattle.srp_core.specs.Candidates.{over, passed};
 ghost use Rattle.srp_core.specs.Problem.{number, IsEdgeOf};
 ghost use Rattle.srp_core.specs.Stability.{label, AreLabels};
-ghost use Rattle.solution_check.specs.Offers.{offered, gives};
+ghost use Rattle.route_offers.specs.Offers.{offered, gives};
 
 use base_kit::{Edge, NoMemory};
 use route_maps::{Imported, import};
@@ -17,7 +17,7 @@ use std::alloc::Global;
 
 /// What an edge gives its importer: nothing, or in BGP what it imports, and in OSPF a cost.
 #[derive(Drop)]
-pub(crate) enum Offer {
+pub enum Offer {
     Nothing,
     Import(Imported),
     Cost(u32),
@@ -66,12 +66,7 @@ fn offer_by(
 }
 
 /// What an edge gives its importer.
-pub(crate) fn offer_over(
-    alloc: Global,
-    srp: &Srp,
-    labels: &Labels,
-    edge: &Edge,
-) -> Result<Offer, NoMemory>
+pub fn offer_over(alloc: Global, srp: &Srp, labels: &Labels, edge: &Edge) -> Result<Offer, NoMemory>
     requires edge { IsEdgeOf srp.now edge.now }
     requires labels { AreLabels srp.now labels.now }
     ensures exact { IfOk result (λ offer. offered offer (label labels.now edge.now.exporter) (number srp.now edge.now.exporter) ≡ over srp.now labels.now edge.now) }
@@ -90,10 +85,10 @@ pub(crate) fn offer_over(
 
 impl Offer {
     ghost use Rattle.std.specs.Prelude.{◌≡◌};
-    ghost use Rattle.solution_check.specs.Offers.{gives};
+    ghost use Rattle.route_offers.specs.Offers.{gives};
 
     /// Whether it gives a route.
-    pub(crate) fn gives(&self) -> bool
+    pub fn gives(&self) -> bool
         ensures { result ≡ gives self.now }
     {
         match self {
@@ -111,7 +106,7 @@ fn are_all(path: &[u32], number: u32) -> bool
 }
 
 /// Whether a path begins with the number, one time more than the count, and goes on as another path.
-pub(crate) fn is_lengthened(path: &[u32], number: u32, adds: u8, rest: &[u32]) -> bool
+pub fn is_lengthened(path: &[u32], number: u32, adds: u8, rest: &[u32]) -> bool
     ensures { result ≡ bytes_eq path.now (prepended (suc adds) number rest.now) }
 {
     let front = adds as usize + 1;
@@ -122,4 +117,11 @@ pub(crate) fn is_lengthened(path: &[u32], number: u32, adds: u8, rest: &[u32]) -
         return false;
     }
     &path[front..] == rest
+}
+
+/// The length of a path of that length behind a number, one time more than the count.
+pub fn grown(length: usize, adds: u8) -> u128
+    ensures { result ≡ length + suc adds }
+{
+    length as u128 + u128::from(adds) + 1
 }

@@ -5,7 +5,7 @@ use Rattle.srp_core.specs.declared.route.Route.{Route}
 use Rattle.srp_core.specs.Routes.{path_of, chosen}
 use Rattle.srp_core.specs.Problem.{Problem, is_lone_number}
 use Rattle.route_keys.specs.Lone.{HasLoneNumbers}
-use Rattle.solution_check.specs.declared.lone.Lone.{Lone}
+use Rattle.route_offers.specs.declared.lone.Lone.{Lone}
 
 -- the numbers on the path of a label that pass the test, ascending
 abbrev pub chosen_on_path : (ℕ → Bool) → Option Route → List ℕ

@@ -1,16 +1,13 @@
 -- The edges of a router stand together.
-use Rattle.std.proofs.Common.{◌≡◌, ◌≢◌, ℕ, zero, suc, ◌+◌, ◌-◌, ◌<◌, ◌≤◌, All, List, [], ◌∷◌, length, take, drop, get_or, refl, sym, ap, ◌∙◌, subst, arith, inl, inr, Option}
+use Rattle.std.proofs.Common.{◌≡◌, ◌≢◌, ℕ, zero, suc, ◌+◌, ◌-◌, ◌<◌, ◌≤◌, All, List, [], ◌∷◌, length, take, drop, get_or, refl, sym, ap, ◌∙◌, subst, arith, inl, inr}
 use Rattle.std.specs.Prelude.{Contains, slice_index_or}
 use Rattle.std.specs.List.{AllWithin}
 use Rattle.std.proofs.Math.ListN.{length-drop, length-take}
 use Rattle.std.proofs.Math.Seq.{get_or-drop, get_or-take}
 use Rattle.std.proofs.lemmas.Bool.{cases_lt}
 use Rattle.base_kit.specs.declared.act_graph.Edge.{Edge}
-use Rattle.srp_core.specs.declared.route.Route.{Route}
-use Rattle.srp_core.specs.Problem.{Problem, count, Precedes, AreOrdered, IsEdgeOf, IsProblem}
-use Rattle.srp_core.specs.Stability.{AreLabels, IsStable}
-use Rattle.solution_check.specs.Breaks.{HoldsBest}
-use Rattle.solution_check.specs.Offers.{AreOwn}
+use Rattle.srp_core.specs.Problem.{Problem, Precedes, AreOrdered, IsEdgeOf, IsProblem}
+use Rattle.route_offers.specs.Offers.{AreOwn}
 
 before_importer : (a b : Edge) → Precedes a b → a.importer ≤ b.importer
 before_importer a b (inl less) = omega arith
@@ -51,14 +48,15 @@ left_more edges router first end up s k d le lt =
     above : (a b r : ℕ) → r ≤ a → a ≢ r → a ≤ b → r + 1 ≤ b
     above a b r at apart rise = elim (cases_lt r a) [ inl less ↦ omega arith | inr eq ↦ absurd (apart (omega arith)) ]
 
-abbrev own_of : List Edge → ℕ → ℕ → List Edge
+-- the edges from the first to the end
+abbrev pub own_of : List Edge → ℕ → ℕ → List Edge
 own_of edges first end = take (end - first) (drop first edges)
 
-own_at : (edges : List Edge) (first end k : ℕ) (d : Edge) → end ≤ length edges → first + k < end →
+pub own_at : (edges : List Edge) (first end k : ℕ) (d : Edge) → end ≤ length edges → first + k < end →
     get_or (own_of edges first end) k d ≡ get_or edges (first + k) d
 own_at edges first end k d le lt = get_or-take (end - first) (drop first edges) k d (omega arith) ∙ get_or-drop first edges k d
 
-own_length : (edges : List Edge) (first end : ℕ) → first ≤ end → end ≤ length edges → length (own_of edges first end) ≡ end - first
+pub own_length : (edges : List Edge) (first end : ℕ) → first ≤ end → end ≤ length edges → length (own_of edges first end) ≡ end - first
 own_length edges first end fw le = omega (arith, length-take (end - first) (drop first edges), length-drop first edges)
 
 pub own_are : (P : Problem) (edges : List Edge) (router first end : ℕ) → edges ≡ P.edges → AreOrdered edges → Stand edges router first end →
@@ -101,12 +99,3 @@ own_fit P router own rules are k d lt =
     again [] k d lt = absurd (omega arith)
     again (x ∷ xs) zero d lt = refl
     again (x ∷ xs) (suc k) d lt = again xs k d (omega arith)
-
--- all routers hold the best
-pub all_hold : (P : Problem) (L : List (Option Route)) → AreLabels P L → ((v : ℕ) → v < count P → HoldsBest P L v) → IsStable P L
-all_hold P L fits hold = record {
-  fitting = fits;
-  none = λ u c lt e. (hold u lt).none c e;
-  held = λ u r lt e. (hold u lt).held r e;
-  best = λ u r c lt e is. (hold u lt).best r c e is;
-}

@@ -1,6 +1,6 @@
 use Rattle.std.proofs.Common.{◌≡◌, ◌-◌, ◌≤◌, length}
 use Rattle.std.specs.List.{AllWithin}
-use Rattle.solution_check.proofs.judgement.end_of.Given as goal
+use Rattle.route_offers.proofs.own_edges.end_of.Given as goal
 
 abbrev pub invariant-loop-end : goal.invariant-loop-end
 invariant-loop-end l = record {

@@ -1,6 +1,6 @@
 use Rattle.std.proofs.Common.{suc, sym, ◌∙◌, arith}
-use Rattle.solution_check.proofs.Lengthened.{too_short, not_all, all_front}
-use Rattle.solution_check.proofs.offers.is_lengthened.Goals as goal
+use Rattle.route_offers.proofs.Lengthened.{too_short, not_all, all_front}
+use Rattle.route_offers.proofs.offers.is_lengthened.Goals as goal
 
 pub returns-then-path-front : goal.returns-then-path-front
 returns-then-path-front c = sym (too_short (suc c.args.adds) c.args.number c.args.path.now c.args.rest.now (omega arith))

@@ -1,0 +1,3 @@
+pub mod Lengthened
+pub mod OfferKeys
+pub mod OwnEdges
