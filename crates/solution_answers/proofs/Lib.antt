@@ -1,0 +1,5 @@
+mod Appended
+pub mod Pairs
+mod Seen
+mod Solving
+mod Tellings

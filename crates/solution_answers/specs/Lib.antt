@@ -1,0 +1,11 @@
+pub mod Forwarding
+pub mod Pairwise
+pub mod Parts
+pub mod Questions
+pub mod RouterNames
+pub mod Seen
+pub mod Solutions
+pub mod Solved
+pub mod Told
+pub mod Verdicts
+pub mod Writing

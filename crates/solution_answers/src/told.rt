@@ -1,0 +1,10 @@
+//! What is told of a solution.
+
+/// What is told of a solution.
+#[derive(Clone, Copy, Debug, PartialEq, Eq)]
+pub enum Told {
+    /// The labels of all routers.
+    Labels,
+    /// Whom each router forwards to.
+    Hops,
+}

@@ -1,0 +1,30 @@
+use Rattle.std.proofs.Common.{rules, ◌≡◌, ◌<◌, false, length, Some, None, sym, ◌∙◌, arith}
+use Rattle.std.specs.Prelude.{is_some, slice_index_or}
+use Rattle.std.proofs.lemmas.List.{get_or_default}
+use Rattle.srp_core.specs.Stability.{label}
+use Rattle.solution_search.specs.Bests.{rank_of, replaced}
+use Rattle.solution_search.specs.Boards.{best_at}
+use Rattle.solution_search.proofs.Adding.{adds_nothing, adds_better}
+use Rattle.solution_search.proofs.settling.add_offer.Goals as goal
+
+pub returns-in-None-2 : goal.returns-in-None-2
+returns-in-None-2 c =
+    let bests = c.args.board.now.bests.items in
+    let inside : c.args.router < length bests = (let r = c.requires.router in let f = c.requires.fits.bests in omega (arith, r, f)) in
+    let at : c.index.result.now ≡ slice_index_or bests c.args.router c.index.result.now = c.index.ensures in
+    let known : best_at bests c.args.router ≡ Some c.in-Some.best = get_or_default bests c.args.router None c.index.result.now inside ∙ sym at ∙ c.in-Some.is in
+    let unsettled : is_some (label c.args.board.now.labels c.args.router) ≡ false = search rules in
+    let is : c.in_ok-replacement-in-Some.field-0 ≡ replaced (rank_of c.args.offer c.in-Some.best) c.in-Some.best c.args.offer = c.in_ok-replacement-in-Some.ensures in
+    adds_nothing c.args.board.now c.args.router c.args.offer c.in-Some.best known unsettled (sym is ∙ c.in-None-2.is)
+
+pub returns-in_ok-put_best-in-Some-2 : goal.returns-in_ok-put_best-in-Some-2
+returns-in_ok-put_best-in-Some-2 c =
+    let bests = c.args.board.now.bests.items in
+    let inside : c.args.router < length bests = (let r = c.requires.router in let f = c.requires.fits.bests in omega (arith, r, f)) in
+    let at : c.index.result.now ≡ slice_index_or bests c.args.router c.index.result.now = c.index.ensures in
+    let known : best_at bests c.args.router ≡ Some c.in-Some.best = get_or_default bests c.args.router None c.index.result.now inside ∙ sym at ∙ c.in-Some.is in
+    let unsettled : is_some (label c.args.board.now.labels c.args.router) ≡ false = search rules in
+    let is : c.in_ok-replacement-in-Some.field-0 ≡ replaced (rank_of c.args.offer c.in-Some.best) c.in-Some.best c.args.offer = c.in_ok-replacement-in-Some.ensures in
+    adds_better c.args.board.now c.args.router c.args.offer c.in-Some.best known unsettled c.put_best-in-Some-2.new.board c.in-Some-2.better
+    (sym is ∙ c.in-Some-2.is) c.in_ok-put_best-in-Some-2.ensures.same c.in_ok-put_best-in-Some-2.ensures.bests
+    c.in_ok-put_best-in-Some-2.ensures.changes

@@ -1,0 +1,11 @@
+pub mod Bests
+pub mod Boards
+pub mod Burdens
+pub mod Cases
+pub mod Endings
+pub mod Lookups
+pub mod Looks
+pub mod Offers
+pub mod Search
+pub mod Settled
+pub mod Steps

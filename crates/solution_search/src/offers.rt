@@ -1,0 +1,132 @@
+//! The route that an edge gives its importer.
+
+ghost use Rattle.std.specs.Prelude.{◌≡◌, ◌<◌, suc, IfOk, length, option_and_then};
+ghost use Rattle.srp_core.specs.Acts.{step_by, prepended};
+ghost use Rattle.srp_core.specs.Candidates.{over, passed};
+ghost use Rattle.srp_core.specs.Problem.{count};
+ghost use Rattle.solution_search.specs.Offers.{IsOfferOf, OffersRoute};
+
+use crate::bests::Best;
+use crate::lookups::Lookups;
+use base_kit::{List, NoMemory};
+use route_keys::lone_on;
+use route_maps::import;
+use srp_core::{Act, Labels, Route};
+use std::alloc::Global;
+
+// The number one time more than the count, and then the path.
+fn lengthened(alloc: Global, path: &[u32], number: u32, adds: u8) -> Result<List<u32>, NoMemory>
+    ensures { IfOk result (λ longer. longer ≡ prepended (suc adds) number path.now) }
+{
+    let mut numbers = Vec::new(alloc);
+    numbers.push(number)?;
+    for _i in 0..adds {
+        numbers.push(number)?;
+    }
+    numbers.extend_from_slice(path)?;
+    Ok(List::from_vec(numbers))
+}
+
+// What an act makes of the route of the exporter with that number, before the loop check.
+#[tactic(auto, unfolding(srp_core::specs::Acts::step_by, srp_core::specs::Acts::import_by))]
+fn step(alloc: Global, act: &Act, number: u32, route: &Route) -> Result<Option<Route>, NoMemory>
+    ensures { IfOk result (λ stepped. stepped ≡ step_by act.now number route.now) }
+{
+    match (act, route) {
+        (Act::Import { out, sends, into }, Route::Bgp { path, comms, .. }) => {
+            match import(alloc, out, *sends, into, comms)? {
+                None => Ok(None),
+                Some(imported) => {
+                    let path = lengthened(alloc, path.as_slice(), number, imported.adds)?;
+                    Ok(Some(Route::Bgp {
+                        lp: imported.lp,
+                        path,
+                        comms: imported.comms,
+                    }))
+                }
+            }
+        }
+        (Act::Cost(cost), Route::Ospf { cost: other }) => {
+            let sum = u64::from(*cost) + u64::from(*other);
+            if sum > 4294967295 {
+                Ok(None)
+            } else {
+                Ok(Some(Route::Ospf { cost: sum as u32 }))
+            }
+        }
+        (Act::Import { .. }, Route::Ospf { .. }) => Ok(None),
+        (Act::Cost(_), Route::Bgp { .. }) => Ok(None),
+    }
+}
+
+/// The route as an offer that no other ties with.
+pub(crate) fn offer_of(lookups: &Lookups, route: Route) -> Result<Best, NoMemory>
+    ensures { IfOk result (IsOfferOf lookups.now route) }
+{
+    let lone = lone_on(lookups.alloc, &lookups.lone, &route)?;
+    Ok(Best {
+        route,
+        lone,
+        tied: None,
+    })
+}
+
+// The route, unless the importer's own number is on its path (RFC 4271 section 9.1.2).
+fn without_loop(route: Option<Route>, own: u32) -> Option<Route>
+    ensures { result ≡ option_and_then (passed own) route }
+{
+    match route {
+        Some(route) => if route.has_on_path(own) {
+            None
+        } else {
+            Some(route)
+        },
+        None => None,
+    }
+}
+
+// What the exporter's label gives the importer by an act.
+fn route_over(
+    lookups: &Lookups,
+    labels: &Labels,
+    exporter: u32,
+    importer: u32,
+    act: u32,
+) -> Result<Option<Route>, NoMemory>
+    requires exporter { exporter < count lookups.now }
+    requires importer { importer < count lookups.now }
+    requires act { act < length lookups.now.acts }
+    requires labels { length labels.now ≡ count lookups.now }
+    ensures { IfOk result (λ route. route ≡ over lookups.now labels.now (record { importer = importer; exporter = exporter; act = act; link = 0 })) }
+{
+    match &labels.as_slice()[exporter as usize] {
+        None => Ok(None),
+        Some(from) => {
+            let own = lookups.srp.numbers()[importer as usize];
+            let number = lookups.srp.numbers()[exporter as usize];
+            let act = &lookups.srp.acts()[act as usize];
+            let stepped = step(lookups.alloc, act, number, from)?;
+            Ok(without_loop(stepped, own))
+        }
+    }
+}
+
+/// What an exporter offers the importer by an act, if it offers anything.
+pub(crate) fn offer_over(
+    lookups: &Lookups,
+    labels: &Labels,
+    exporter: u32,
+    importer: u32,
+    act: u32,
+) -> Result<Option<Best>, NoMemory>
+    requires exporter { exporter < count lookups.now }
+    requires importer { importer < count lookups.now }
+    requires act { act < length lookups.now.acts }
+    requires labels { length labels.now ≡ count lookups.now }
+    ensures { IfOk result (OffersRoute lookups.now (over lookups.now labels.now (record { importer = importer; exporter = exporter; act = act; link = 0 }))) }
+{
+    match route_over(lookups, labels, exporter, importer, act)? {
+        None => Ok(None),
+        Some(route) => Ok(Some(offer_of(lookups, route)?)),
+    }
+}

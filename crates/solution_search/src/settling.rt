@@ -1,0 +1,158 @@
+//! A router is settled.
+
+ghost use Rattle.std.specs.Prelude.{◌≡◌, ◌<◌, IfOk, None, Some, length};
+ghost use Rattle.srp_core.specs.Problem.{count};
+ghost use Rattle.srp_core.specs.Stability.{label};
+ghost use Rattle.solution_search.specs.declared.bests.Best.{Best as BestOffer};
+ghost use Rattle.solution_search.specs.Boards.{best_at, Fits, Adds, Takes, noted_by, noted_at_take, outcome_of};
+ghost use Rattle.solution_search.specs.Settled.{HasGiven, HasSpread, HasSettled};
+
+use crate::bests::{Best, Difference, Rank, rank_of, replacement};
+use crate::board::{Board, Change, note_tie, put_best};
+use crate::lookups::Lookups;
+use crate::offers::offer_over;
+use base_kit::NoMemory;
+
+/// What a further candidate makes of the labels that are settled.
+#[derive(Clone, Copy, Debug, PartialEq, Eq)]
+pub(crate) enum Outcome {
+    Fine,
+    /// It beats the label of its router.
+    Upset,
+}
+
+// A settled router has a further candidate.
+fn judge(board: &mut Board, router: u32, rank: Rank) -> Outcome
+    ensures outcome { result ≡ outcome_of rank }
+    ensures tie { board.new.tie ≡ noted_by board.old.tie router rank }
+    ensures same { board.new ≡ record board.old { tie = board.new.tie } }
+{
+    match rank {
+        Rank::Better => Outcome::Upset,
+        Rank::TiedBetter(by) => {
+            note_tie(board, router, by);
+            Outcome::Upset
+        }
+        Rank::TiedWorse(by) => {
+            note_tie(board, router, by);
+            Outcome::Fine
+        }
+        Rank::Equal | Rank::Worse => Outcome::Fine,
+    }
+}
+
+// A router has a further candidate.
+fn add_offer(
+    lookups: &Lookups,
+    board: &mut Board,
+    router: u32,
+    offer: Best,
+) -> Result<Outcome, NoMemory>
+    requires fits { Fits (count lookups.now) board.old }
+    requires router { router < count lookups.now }
+    ensures { IfOk result (Adds board.old board.new router offer) }
+{
+    let is_settled = board.labels.as_slice()[router as usize].is_some();
+    match &board.bests[router as usize] {
+        None => {
+            put_best(board, router, offer)?;
+            Ok(Outcome::Fine)
+        }
+        Some(best) => {
+            if is_settled {
+                let rank = rank_of(&offer, best);
+                return Ok(judge(board, router, rank));
+            }
+            match replacement(lookups.alloc, best, offer)? {
+                None => Ok(Outcome::Fine),
+                Some(better) => {
+                    put_best(board, router, better)?;
+                    Ok(Outcome::Fine)
+                }
+            }
+        }
+    }
+}
+
+// What a router that was settled gives another over an edge.
+fn give(
+    lookups: &Lookups,
+    board: &mut Board,
+    router: u32,
+    importer: u32,
+    act: u32,
+) -> Result<Outcome, NoMemory>
+    requires fits { Fits (count lookups.now) board.old }
+    requires router { router < count lookups.now }
+    requires importer { importer < count lookups.now }
+    requires act { act < length lookups.now.acts }
+    ensures { IfOk result (HasGiven lookups.now board.old board.new router (record { importer = importer; act = act })) }
+{
+    let _known = lookups.srp.count();
+    match offer_over(lookups, &board.labels, router, importer, act)? {
+        None => Ok(Outcome::Fine),
+        Some(offer) => {
+            let outcome = add_offer(lookups, board, importer, offer)?;
+            Ok(outcome)
+        }
+    }
+}
+
+// What a router that was settled gives the others.
+fn spread(lookups: &Lookups, board: &mut Board, router: u32) -> Result<Outcome, NoMemory>
+    requires fits { Fits (count lookups.now) board.old }
+    requires router { router < count lookups.now }
+    ensures { IfOk result (HasSpread lookups.now board.old board.new router) }
+{
+    let _known = lookups.srp.count();
+    for import in &lookups.exports.imports[router as usize] {
+        match give(lookups, board, router, import.importer, import.act)? {
+            Outcome::Upset => return Ok(Outcome::Upset),
+            Outcome::Fine => {}
+        }
+    }
+    Ok(Outcome::Fine)
+}
+
+// A router took an offer, with which another one ties or none does.
+fn note_at_take(board: &mut Board, router: u32, tied: Option<Difference>)
+    ensures tie { board.new.tie ≡ noted_at_take board.old.tie router tied }
+    ensures same { board.new ≡ record board.old { tie = board.new.tie } }
+{
+    if let Some(by) = tied {
+        note_tie(board, router, by);
+    }
+}
+
+// The router takes its best offer.
+fn take(lookups: &Lookups, board: &mut Board, router: u32) -> Result<(), NoMemory>
+    requires fits { Fits (count lookups.now) board.old }
+    requires router { router < count lookups.now }
+    ensures fits { IfOk result (λ _. Fits (count lookups.now) board.new) }
+    ensures takes { IfOk result (λ _. (best : BestOffer) → best_at board.old.bests.items router ≡ Some best → Takes board.old board.new router best) }
+{
+    match &board.bests[router as usize] {
+        None => Ok(()),
+        Some(best) => {
+            let tied = best.tied;
+            let route = best.route.copy(lookups.alloc)?;
+            board.labels.set(router, Some(route));
+            board.changes.push(Change::Settled(router))?;
+            note_at_take(board, router, tied);
+            Ok(())
+        }
+    }
+}
+
+/// The router takes its best offer, and offers what it took to the others. Upset: a label that was
+/// settled is beaten now.
+pub(crate) fn settle(lookups: &Lookups, board: &mut Board, router: u32) -> Result<Outcome, NoMemory>
+    requires fits { Fits (count lookups.now) board.old }
+    requires router { router < count lookups.now }
+    ensures { IfOk result (λ outcome. (best : BestOffer) → best_at board.old.bests.items router ≡ Some best → label board.old.labels router ≡ None → HasSettled lookups.now board.old board.new router best outcome) }
+{
+    let _known = lookups.srp.count();
+    take(lookups, board, router)?;
+    let outcome = spread(lookups, board, router)?;
+    Ok(outcome)
+}

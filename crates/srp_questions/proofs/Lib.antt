@@ -1,0 +1,9 @@
+mod ChainFacts
+mod EqualKeys
+mod Exporters
+mod KeysDecide
+mod RankWalk
+mod ReadLabels
+mod SizeOrder
+mod Telling
+mod WalkSteps
