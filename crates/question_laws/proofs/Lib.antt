@@ -1,0 +1,5 @@
+pub mod SameLabels
+pub mod Lists
+pub mod Corresponding
+pub mod SmallVerdicts
+pub mod Kept

@@ -1,0 +1,7 @@
+mod ChangedLists
+mod ShutRouters
+mod ShutLinks
+mod ShutEnds
+mod Renumbered
+mod ShutProblem
+mod SameClasses

@@ -1,0 +1,23 @@
+//! What `shutdown` at a neighbour does to the problems of a network.
+//!
+//! The problem without a session is, but for the numbers of links, the problem of the network in which one of its two
+//! neighbours has `shutdown`. Each law is the contract of a function that does nothing: whoever needs one calls it.
+#![tactic(auto)]
+
+ghost use Rattle.shutdown_laws.specs.Shutdown.{ShutdownIsWithout, ShutdownKeepsClasses, ShutdownLeavesLinks};
+
+/// A BGP problem without the links of one neighbour is, but for the numbers of links, the problem of the network in
+/// which that neighbour has `shutdown`.
+pub fn shutdown_is_without()
+    ensures { ShutdownIsWithout }
+{}
+
+/// In BGP the links of that network are those that do not end at the neighbour, in the same order.
+pub fn shutdown_leaves_links()
+    ensures { ShutdownLeavesLinks }
+{}
+
+/// Its classes are the same, with the same numbers.
+pub fn shutdown_keeps_classes()
+    ensures { ShutdownKeepsClasses }
+{}
