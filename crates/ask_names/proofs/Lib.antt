@@ -1,0 +1,5 @@
+pub mod Holding
+pub mod Loops
+pub mod Marks
+pub mod Names
+pub mod Naming

@@ -1,0 +1,4 @@
+pub mod Marks
+pub mod Networks
+pub mod Routers
+pub mod Selection
