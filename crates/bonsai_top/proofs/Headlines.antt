@@ -30,7 +30,7 @@ use Rattle.answer_kit.specs.Kinds.{line_reason}
 use Rattle.bonsai_top.specs.Commands.{command_of, reads_first}
 use Rattle.answer_groups.specs.CanonText.{no_canon, IsCanonicalFor, IsCanonicalPlanOf, IsCanonOf}
 use Rattle.answer_groups.specs.CompressText.{pool_overlap, IsPlanOf, IsTextOr, IsTextOfPlan, IsUnlessPool, IsCompressOf}
-use Rattle.bonsai_top.specs.Headline.{IsHeadline, IsCarriedDown, IsCarriedUp}
+use Rattle.bonsai_top.specs.Headline.{DoneIsHeadline, IsHeadline, IsCarriedDown, IsCarriedUp}
 use Rattle.bonsai_top.specs.Meets.{RunMeets}
 use Rattle.answer_kit.specs.Outcome.{Outcome, refused}
 use Rattle.bonsai_top.specs.Outcomes.{IsAnswerTo, IsOutcomeOfReading, IsOutcomeOfText, IsOutcomeOfFiles, IsOutcomeBy, IsOutcomeAt, IsOutcome}
@@ -123,6 +123,28 @@ module _ (words : List (List ℕ)) (contents : List ℕ → Option (List ℕ)) (
       subst (λ (b : Bool). IsOutcomeBy b named (contents (file_of words)) (contents (second_of words)) o) reads at in
       of_text named (contents (second_of words)) text o status
       (subst (λ (c : Option (List ℕ)). IsOutcomeOfFiles named c (contents (second_of words)) o) told files)
+
+-- ---- an outcome of compress or canon that is done
+
+is_headline : (text : List ℕ) (n : Network) (number : ℕ) (o : Outcome) → reading_of text ≡ Ok n → HasBytes n number o
+    → IsHeadline text number [] (Some o.out)
+is_headline text n number o reads b =
+    record { network = n; reads = reads; class = b.class; class_is = b.class_is; bytes = o.out; took = refl; compresses = b.compresses }
+
+pub compress_is_headline : PlanCompresses → DoneIsHeadline on_class.Compress
+compress_is_headline law words contents text number o names told is status =
+    let h = of_outcome words contents (command.OnClass on_class.Compress number) text o status refl names told is in
+    let n = h.network in
+    is_headline text n number o h.reads
+    (has_bytes text n h.read number o status (IsCompressOf n) (compress_compresses text n h.read number o status law) (class_at (classes_of n) number) refl
+    h.answer)
+
+pub canon_is_headline : FittingPlanCompresses → DoneIsHeadline on_class.Canon
+canon_is_headline law words contents text number o names told is status =
+    let h = of_outcome words contents (command.OnClass on_class.Canon number) text o status refl names told is in
+    let n = h.network in
+    is_headline text n number o h.reads
+    (has_bytes text n h.read number o status (IsCanonOf n) (canon_compresses text n h.read number o status law) (class_at (classes_of n) number) refl h.answer)
 
 -- a run that is done told an answer to its command, and all of its bytes
 record HasTold (named : Command) (text : List ℕ) (second : Option (List ℕ)) (before : List ℕ) (after : Option (List ℕ)) : Type 0 where

@@ -1,12 +1,19 @@
 -- THE HEADLINE: what was written compresses the network that was read; and what was carried corresponds.
-use Rattle.std.specs.Prelude.{◌≡◌, ℕ, List, ◌++◌, Option, Some, Ok}
+use Rattle.std.specs.Prelude.{◌≡◌, ℕ, List, [], ◌++◌, Option, Some, Ok}
 use Rattle.cfg_ast.specs.declared.network.Network.{Network}
 use Rattle.cfg_ast.specs.declared.classes.DestClass.{DestClass}
 use Rattle.cfg_ast.specs.meaning.Classes.{classes_of}
 use Rattle.cfg_ast.specs.text.Reading.{reading_of}
 use Rattle.compress_laws.specs.Compressed.{Compresses}
 use Rattle.answer_kit.specs.ClassNumbers.{class_at}
+use Rattle.answer_kit.specs.Outcome.{Outcome}
+use Rattle.answer_kit.specs.declared.status.Status.TheVariants.{Done}
 use Rattle.answer_solutions.specs.ReadBack.{IsReadAsFold, IsReadAsLift}
+use Rattle.bonsai_top.specs.declared.command.ClassCommand.{ClassCommand}
+use Rattle.bonsai_top.specs.declared.command.Command.TheVariants.{OnClass}
+use Rattle.bonsai_top.specs.Commands.{command_of}
+use Rattle.bonsai_top.specs.Outcomes.{IsOutcome}
+use Rattle.bonsai_top.specs.Words.{file_of}
 
 -- The text is read as a network that has a class of this number, and the bytes that were taken behind those
 -- before are the configurations of its compressed network.
@@ -18,6 +25,12 @@ pub record IsHeadline (text : List ℕ) (number : ℕ) (before : List ℕ) (afte
   pub bytes : List ℕ
   pub took : after ≡ Some (before ++ bytes)
   pub compresses : Compresses network class bytes
+
+-- The bytes of an outcome of this command on a class that is done, over a file that is told, compress its network.
+abbrev pub DoneIsHeadline : ClassCommand → Type 0
+DoneIsHeadline of = (words : List (List ℕ)) (contents : List ℕ → Option (List ℕ)) (text : List ℕ) (number : ℕ) (o : Outcome)
+    → command_of words ≡ Some (OnClass of number) → contents (file_of words) ≡ Some text → IsOutcome words contents o → o.status ≡ Done
+    → IsHeadline text number [] (Some o.out)
 
 -- The text is read as a network, and the bytes that were taken are read as stable labels of the groups of the
 -- class, which correspond to the solution.

@@ -48,8 +48,8 @@ pub enum Command {
     Trial(u32),
 }
 
-// A number of at most nine digits.
-fn short_number(word: &str) -> Option<u32>
+/// A number of at most nine digits.
+pub fn short_number(word: &str) -> Option<u32>
     ensures { result ≡ short_number_of word.now }
 {
     let n = read_number(word.as_bytes())?;
@@ -68,7 +68,8 @@ fn network_command(name: &str) -> Option<NetworkCommand>
     None
 }
 
-fn class_command(name: &str) -> Option<ClassCommand>
+/// The command on a class that has this name.
+pub fn class_command(name: &str) -> Option<ClassCommand>
     ensures { result ≡ class_command name.now }
 {
     if name == "groups" {

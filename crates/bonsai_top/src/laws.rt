@@ -1,6 +1,8 @@
 //! Laws of outcomes. The functions do nothing: their contracts are the laws.
 
+ghost use Rattle.bonsai_top.specs.Headline.{DoneIsHeadline};
 ghost use Rattle.bonsai_top.specs.OneOutcome.{OutcomeIsOne};
+ghost use Rattle.bonsai_top.specs.declared.command.ClassCommand.TheVariants as on_class;
 
 /// The words allow only one outcome, if the files that the command reads are told. The exception is
 /// `certify`, which may choose the certificate.
@@ -20,4 +22,14 @@ pub fn outcome_is_one()
     answer_reports::laws::json_answer_is_one();
     answer_reports::laws::summary_answer_is_one();
     answer_reports::laws::trial_answer_is_one();
+}
+
+/// If an outcome of `compress` or `canon` is done over a file that is told, its bytes are read as the
+/// compressed network.
+pub fn done_is_headline()
+    ensures compress { DoneIsHeadline on_class.Compress }
+    ensures canon { DoneIsHeadline on_class.Canon }
+{
+    compress_laws::laws::plan_compresses();
+    compress_laws::laws::fitting_plan_compresses();
 }

@@ -15,4 +15,5 @@ mod top;
 mod work;
 
 pub use answer_kit::Status;
+pub use command::{ClassCommand, class_command, short_number};
 pub use top::run;

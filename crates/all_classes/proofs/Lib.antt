@@ -1,0 +1,6 @@
+mod Framed
+mod Headlines
+mod OnCommands
+mod Runs
+mod Tellings
+mod Words

@@ -1,0 +1,75 @@
+//! The answer to a command on the class of a number.
+
+ghost use Rattle.std.specs.Prelude.{◌≡◌, Some, None, Contains, MatchOption};
+ghost use Rattle.cfg_ast.specs.meaning.Classes.{classes_of};
+ghost use Rattle.answer_kit.specs.ClassNumbers.{class_at, no_class};
+ghost use Rattle.answer_kit.specs.Outcome.{refused};
+ghost use Rattle.answer_kit.specs.Replies.{Answers, Only};
+ghost use Rattle.bonsai_top.specs.Outcomes.{IsOnClass};
+ghost use Rattle.all_classes.specs.Tellings.{IsAnswer};
+
+use answer_certificates::certify;
+use answer_groups::{canon, compress, groups};
+use answer_kit::{Reply, refuse};
+use answer_reports::report;
+use answer_reports::report::Form;
+use bonsai_top::ClassCommand;
+use cfg_ast::DestClass;
+use cfg_check::Checked;
+use std::alloc::Global;
+
+// The class of this number, counted from 1.
+fn class_at<'a>(checked: &Checked, classes: &'a [DestClass], number: u32) -> Option<&'a DestClass>
+    requires { classes.now ≡ classes_of checked.now.network }
+    ensures { MatchOption result (class_at (classes_of checked.now.network) number ≡ None) (λ class. class_at (classes_of checked.now.network) number ≡ Some class.now) }
+{
+    if number == 0 {
+        return None;
+    }
+    classes.get(number as usize - 1)
+}
+
+// The refusal where no class has this number.
+fn no_class(alloc: Global, number: u32) -> Reply
+    ensures { Answers result (Only (refused (no_class number))) ⊥ ⊥ }
+{
+    refuse(format!(in alloc; "NoClass {number}"))
+}
+
+// The answer to a command on a class, which has this number.
+fn on_class(
+    alloc: Global,
+    command: ClassCommand,
+    checked: &Checked,
+    number: u32,
+    class: &DestClass,
+) -> Reply
+    requires { Contains (classes_of checked.now.network) class.now }
+    ensures { Answers result (IsOnClass command checked.now.network number class.now) ⊥ ⊥ }
+{
+    match command {
+        ClassCommand::Groups => groups::answer(alloc, checked, class),
+        ClassCommand::Compress => compress::answer(alloc, checked, class),
+        ClassCommand::Report => report::answer(alloc, Form::Lines, checked, number, class),
+        ClassCommand::Json => report::answer(alloc, Form::Json, checked, number, class),
+        ClassCommand::Canon => canon::answer(alloc, checked, class),
+        ClassCommand::Certify => certify::answer(alloc, checked, class),
+    }
+}
+
+/// The answer to a command on the class of this number.
+pub fn answer(
+    alloc: Global,
+    command: ClassCommand,
+    checked: &Checked,
+    classes: &[DestClass],
+    number: u32,
+) -> Reply
+    requires { classes.now ≡ classes_of checked.now.network }
+    ensures { Answers result (IsAnswer command checked.now.network number) ⊥ ⊥ }
+{
+    match class_at(checked, classes, number) {
+        Some(class) => on_class(alloc, command, checked, number, class),
+        None => no_class(alloc, number),
+    }
+}

@@ -1,0 +1,3 @@
+pub mod Findings
+mod Lines
+pub mod Runs
