@@ -3,14 +3,14 @@ from __future__ import annotations
 
 import collections
 import dataclasses
+import fcntl
 import functools
 import os
 import select
 import signal
 import subprocess
 
-from roads.native import native
-from roads.program import TOP, Answer, Program
+from bonsainet.ask.program import LOWEST, Answer, Program
 
 SECONDS = 60.0
 LARGEST_READ = 1 << 30
@@ -20,7 +20,8 @@ USAGE = 2
 
 @dataclasses.dataclass
 class Counts:
-    """What was asked so far: commands, kinds of refusals and other ends, and texts that the second reader judges only in part."""
+    """What was asked so far: commands, kinds of refusals and other ends, and texts that the second reader judges only
+    in part."""
 
     commands: collections.Counter[str] = dataclasses.field(default_factory=collections.Counter)
     kinds: collections.Counter[str] = dataclasses.field(default_factory=collections.Counter)
@@ -36,14 +37,14 @@ class Counts:
 
 
 class Asker(Program):
-    """The program, without the launcher in front of it, whose outputs are files in memory. `ask` has the same answers as that of Program.
+    """The program, without the launcher in front of it, whose outputs are files in memory. `ask` has the same answers
+    as that of Program.
 
-    Refused where the launcher names no program yet."""
+    NoProgram where the launcher names none."""
 
     def __init__(self, path: str | None = None) -> None:
         super().__init__(path)
-        if os.path.realpath(self.path) == str(TOP / "bonsai"):
-            self.path = str(native(self))
+        self.path = self.path
         self._environment = dict(os.environ)
         self._out, self._err = (os.memfd_create(name, os.MFD_CLOEXEC) for name in ("out", "err"))
 
@@ -70,7 +71,11 @@ class Asker(Program):
         for file in (self._out, self._err):
             os.ftruncate(file, 0)
             os.lseek(file, 0, os.SEEK_SET)
-        actions = [(os.POSIX_SPAWN_OPEN, 0, "/dev/null", os.O_RDONLY, 0), (os.POSIX_SPAWN_DUP2, self._out, 1), (os.POSIX_SPAWN_DUP2, self._err, 2)]
+        actions = [
+            (os.POSIX_SPAWN_OPEN, 0, "/dev/null", os.O_RDONLY, 0),
+            (os.POSIX_SPAWN_DUP2, self._out, 1),
+            (os.POSIX_SPAWN_DUP2, self._err, 2),
+        ]
         child = os.posix_spawn(words[0], words, self._environment, file_actions=actions)
         watch = os.pidfd_open(child)
         try:
@@ -89,7 +94,9 @@ class Asker(Program):
 
 def _file(text: str | bytes) -> int:
     """A file in memory that a child inherits."""
-    file = os.memfd_create("text", 0)
+    first = os.memfd_create("text")
+    file = fcntl.fcntl(first, fcntl.F_DUPFD, LOWEST)
+    os.close(first)
     rest = memoryview(text.encode("utf-8", "surrogateescape") if isinstance(text, str) else text)
     while rest:
         rest = rest[os.write(file, rest) :]

@@ -7,44 +7,84 @@ import datetime
 import hashlib
 import json
 import os
+import sys
 from pathlib import Path
 
 from hostile import running
 from hostile.asking import Asker, Counts
-from roads.command_line import Refused
+from bonsainet.ask.where import NoProgram
+from bonsainet.cli import streams
+from bonsainet.cli.command_line import Refused
 
 
 def words() -> argparse.ArgumentParser:
     """The words of `hostile/run`."""
-    parser = argparse.ArgumentParser(prog="hostile/run", description="Ask the program and the second reader over made texts, and tell what differs.")
+    parser = argparse.ArgumentParser(
+        prog="hostile/run", description="Ask the program and the second reader over made texts, and tell what differs."
+    )
     parser.add_argument("--seconds", type=float, default=20, help="how long (default 20)")
     parser.add_argument("--jobs", type=int, default=2, help="how many processes (default 2)")
     parser.add_argument("--commands", type=int, help="end when so many commands were asked")
-    parser.add_argument("--processor-seconds", type=float, help="end when the jobs and the program used so much, as on a machine that others use too")
+    parser.add_argument(
+        "--processor-seconds",
+        type=float,
+        help="end when the jobs and the program used so much, as on a machine that others use too",
+    )
+    parser.add_argument(
+        "--at-least", type=int, default=1, metavar="TEXTS", help="status 1 where fewer texts were asked (default 1)"
+    )
     parser.add_argument("--first", action="store_true", help="end at the first difference")
-    parser.add_argument("--unshrunk", action="store_true", help="keep texts that differ as they were made, in place of the smallest that still differs")
-    parser.add_argument("--seed", type=int, help="the seed, a number; the same seed makes the same texts in the same order")
-    parser.add_argument("--keep", type=Path, default=Path("out/hostile"), help="the folder for texts that differ (default out/hostile)")
-    parser.add_argument("--log", type=Path, help="a file that gets the counts as a line of JSON each minute and at the end, behind what it had")
-    parser.add_argument("--answers", type=Path, help="a file that keeps the program's answers, so that later runs over the same texts do not ask it again")
+    parser.add_argument(
+        "--unshrunk",
+        action="store_true",
+        help="keep texts that differ as they were made, in place of the smallest that still differs",
+    )
+    parser.add_argument(
+        "--seed", type=int, help="the seed, a number; the same seed makes the same texts in the same order"
+    )
+    parser.add_argument(
+        "--keep", type=Path, default=Path("out/hostile"), help="the folder for texts that differ (default out/hostile)"
+    )
+    parser.add_argument(
+        "--log",
+        type=Path,
+        help="a file that gets the counts as a line of JSON each minute and at the end, behind what it had",
+    )
+    parser.add_argument(
+        "--answers",
+        type=Path,
+        help="a file that keeps the program's answers, so that later runs over the same texts do not ask it again",
+    )
     parser.add_argument("--text", type=Path, help="ask over this text alone, with --seed")
     return parser
 
 
 def main(arguments: list[str] | None = None) -> int:
     """Status 0 without a difference, 1 with one or without a program, 2 for wrong words, 3 where a file can't be read or made."""
+    streams.hold()
+    streams.end_by_signals()
     parser = words()
     given = parser.parse_args(arguments)
     try:
         Asker().close()
-    except Refused as why:
+    except (Refused, NoProgram) as why:
         parser.exit(1, f"hostile/run: refused: {why}\n")
     if given.jobs < 1:
         parser.error("--jobs is at least 1")
     seed = given.seed if given.seed is not None else int.from_bytes(os.urandom(3), "big")
     if given.text:
         return _alone(parser, given.text, seed)
-    plan = running.Plan(seed, given.seconds, given.jobs, given.keep, given.commands, given.first, given.answers, given.processor_seconds, given.unshrunk)
+    plan = running.Plan(
+        seed,
+        given.seconds,
+        given.jobs,
+        given.keep,
+        given.commands,
+        given.first,
+        given.answers,
+        given.processor_seconds,
+        given.unshrunk,
+    )
     print(f"seed {seed}", flush=True)
     with contextlib.ExitStack() as room:
         log = None
@@ -57,7 +97,9 @@ def main(arguments: list[str] | None = None) -> int:
             print(head_of_log(plan), file=log, flush=True)
         found, seconds = running.run(plan, log)
     print(running.report(found, seconds, plan.jobs), end="")
-    return 1 if found.differences else 0
+    if found.runs < given.at_least:
+        print(f"hostile/run: {found.runs} texts were asked, and {given.at_least} are wanted", file=sys.stderr)
+    return 1 if found.differences or found.runs < given.at_least else 0
 
 
 def head_of_log(plan: running.Plan) -> str:
@@ -66,7 +108,9 @@ def head_of_log(plan: running.Plan) -> str:
     sum_of = hashlib.sha256(Path(program.path).read_bytes()).hexdigest()
     program.close()
     now = datetime.datetime.now(datetime.timezone.utc).isoformat(timespec="seconds")
-    return json.dumps({"begun": now, "seed": plan.seed, "jobs": plan.jobs, "for_seconds": plan.seconds, "program_sha256": sum_of})
+    return json.dumps(
+        {"begun": now, "seed": plan.seed, "jobs": plan.jobs, "for_seconds": plan.seconds, "program_sha256": sum_of}
+    )
 
 
 def _alone(parser: argparse.ArgumentParser, file: Path, seed: int) -> int:
@@ -74,5 +118,8 @@ def _alone(parser: argparse.ArgumentParser, file: Path, seed: int) -> int:
         differ = running.differences(Asker(), file.read_bytes(), seed, Counts())
     except OSError as fault:
         parser.exit(3, f"hostile/run: {file}: {fault.strerror}\n")
-    print("\n".join(f"{one.command}: expected {one.expected}\nanswered {one.answered}" for one in differ) or "no difference")
+    print(
+        "\n".join(f"{one.command}: expected {one.expected}\nanswered {one.answered}" for one in differ)
+        or "no difference"
+    )
     return 1 if differ else 0

@@ -9,7 +9,7 @@ from hostile.asking import Asked, has_canon
 from hostile.judge import answers, canonical, certificates as judge, groups, labels, problem
 from hostile.judge.network import Refused
 from hostile.makers import certificates, labels as maker, solutions
-from roads.program import Answer
+from bonsainet.ask.program import Answer
 
 LARGEST_SUMMARY = 60
 PROBES = 6
@@ -86,7 +86,12 @@ class Comparison:
         document = {
             "class": number,
             "groups": [
-                {"lone": part[0] in whole.lone, "members": [whole.names[place] for place in part], "name": whole.names[part[0]], "origin": part[0] in whole.initial}
+                {
+                    "lone": part[0] in whole.lone,
+                    "members": [whole.names[place] for place in part],
+                    "name": whole.names[part[0]],
+                    "origin": part[0] in whole.initial,
+                }
                 for part in parts
             ],
             "links": {"after": groups.links_between(whole, parts), "before": whole.link_count},
@@ -127,7 +132,11 @@ class Comparison:
 
     def _labels(self, net: problem.Network, word: str, whole: problem.Problem, parts: list[list[int]]) -> None:
         names = [*whole.names, "*", "*"]
-        schedule = " ".join(self.chance.choice(names) for _ in range(self.chance.randint(0, 12))) + "\n" + "*\n" * self.chance.choice([0, 9, 9])
+        schedule = (
+            " ".join(self.chance.choice(names) for _ in range(self.chance.randint(0, 12)))
+            + "\n"
+            + "*\n" * self.chance.choice([0, 9, 9])
+        )
         rest = self._run(word, whole, schedule)
         if rest is None:
             return
@@ -144,7 +153,9 @@ class Comparison:
     def _run(self, word: str, whole: problem.Problem, schedule: str) -> str | None:
         """The labels that a schedule leads to, where one more activation behind it does what it should."""
         router = self.chance.randrange(len(whole.names))
-        before, after = (self._ask("run", word, "S", S=text.encode()) for text in (schedule, f"{schedule}{whole.names[router]}\n"))
+        before, after = (
+            self._ask("run", word, "S", S=text.encode()) for text in (schedule, f"{schedule}{whole.names[router]}\n")
+        )
         held = []
         for ran in (before, after):
             first, _, rest = ran.text.partition("\n")
@@ -159,7 +170,15 @@ class Comparison:
             self._differ("run", f"a best candidate at {whole.names[router]}, and nothing else changed", after)
         return before.text.partition("\n")[2]
 
-    def _judged(self, command: str, word: str, whole: problem.Problem, parts: list[list[int]], text: bytes, large: problem.Problem | None = None) -> None:
+    def _judged(
+        self,
+        command: str,
+        word: str,
+        whole: problem.Problem,
+        parts: list[list[int]],
+        text: bytes,
+        large: problem.Problem | None = None,
+    ) -> None:
         answer = self._ask(command, word, "S", S=text)
         try:
             held = labels.read(text, whole)
@@ -182,7 +201,15 @@ class Comparison:
         else:
             self._carried(command, answer, whole, parts, held, large)
 
-    def _carried(self, command: str, answer: Answer, whole: problem.Problem, parts: list[list[int]], held: list[labels.Label], large: problem.Problem | None) -> None:
+    def _carried(
+        self,
+        command: str,
+        answer: Answer,
+        whole: problem.Problem,
+        parts: list[list[int]],
+        held: list[labels.Label],
+        large: problem.Problem | None,
+    ) -> None:
         target = large or groups.quotient(whole, parts)
         try:
             carried = labels.read(answer.out, target)

@@ -6,7 +6,7 @@ import sqlite3
 from pathlib import Path
 
 from hostile.asking import SECONDS, Asker
-from roads.program import Answer
+from bonsainet.ask.program import Answer
 
 
 class KeptAsker(Asker):
@@ -17,7 +17,9 @@ class KeptAsker(Asker):
         self._sum = hashlib.sha256(Path(self.path).read_bytes()).digest()
         self._base = sqlite3.connect(file, timeout=60, isolation_level=None)
         self._base.executescript("pragma journal_mode=wal; pragma synchronous=off")
-        self._base.execute("create table if not exists answers (key blob primary key, status integer, out blob, err blob)")
+        self._base.execute(
+            "create table if not exists answers (key blob primary key, status integer, out blob, err blob)"
+        )
 
     def close(self) -> None:
         """Lets go of its files."""
@@ -26,11 +28,16 @@ class KeptAsker(Asker):
 
     def ask(self, *words: str, texts: dict[str, str | bytes] | None = None, seconds: float | None = SECONDS) -> Answer:
         """The kept answer, else that of the program."""
-        given = {name: text.encode("utf-8", "surrogateescape") if isinstance(text, str) else text for name, text in (texts or {}).items()}
+        given = {
+            name: text.encode("utf-8", "surrogateescape") if isinstance(text, str) else text
+            for name, text in (texts or {}).items()
+        }
         key = hashlib.sha256(self._sum + repr((words, sorted(given.items()))).encode()).digest()
         known = self._base.execute("select status, out, err from answers where key = ?", (key,)).fetchone()
         if known:
             return Answer(*known)
         answer = super().ask(*words, texts=texts, seconds=seconds)
-        self._base.execute("insert or ignore into answers values (?, ?, ?, ?)", (key, answer.status, answer.out, answer.err))
+        self._base.execute(
+            "insert or ignore into answers values (?, ?, ?, ?)", (key, answer.status, answer.out, answer.err)
+        )
         return answer

@@ -6,7 +6,7 @@ import random
 from hostile import permutations
 from hostile.asking import Asked, has_canon
 from hostile.compare import Difference
-from roads.program import Answer, classes_of, groups_of
+from bonsainet.ask.program import Answer, classes_of, groups_of
 
 ROUNDS = b"*\n" * 12
 
@@ -22,7 +22,11 @@ class Rounds:
     def law(self, name: str, holds: bool, *seen: Answer) -> None:
         """Notes a law that does not hold."""
         if not holds:
-            self.found.append(Difference(f"law-{name}", "the law", "\n".join(f"status {one.status} {one.reason}\n{one.text}" for one in seen)))
+            self.found.append(
+                Difference(
+                    f"law-{name}", "the law", "\n".join(f"status {one.status} {one.reason}\n{one.text}" for one in seen)
+                )
+            )
 
     def run(self) -> list[Difference]:
         """All laws over one class."""
@@ -40,7 +44,8 @@ class Rounds:
         return self.found
 
     def compressed(self, small: Answer, number: int, prefixes: set[str], command: str) -> str | None:
-        """What is compressed is read, has these groups, gains nothing by compressing, and judges as `lift` does. Gives its number of the class."""
+        """What is compressed is read, has these groups, gains nothing by compressing, and judges as `lift` does. Gives
+        its number of the class."""
         kind = {"compress": "compressed", "canon": "canonical"}[command]
         again = self.ask(small.out, "classes")
         below = [one for one in classes_of(again.text) if prefixes <= set(one.prefixes)] if not again.status else []
@@ -55,25 +60,48 @@ class Rounds:
             self.law(f"{kind}-twice", _without_notes(twice.out) == _without_notes(small.out), small, twice)
         ran = self.ask(small.out, "run", place, "S", S=ROUNDS)
         labels = ran.out.partition(b"\n")[2]
-        judged, lifted = self.ask(small.out, "check", place, "S", S=labels), self.ask(self.text, "lift", word, "S", S=labels)
-        self.law(f"check-{kind}-is-lift", (judged.status, judged.reason) == (lifted.status, lifted.reason), judged, lifted)
+        judged, lifted = self.ask(small.out, "check", place, "S", S=labels), self.ask(
+            self.text, "lift", word, "S", S=labels
+        )
+        self.law(
+            f"check-{kind}-is-lift", (judged.status, judged.reason) == (lifted.status, lifted.reason), judged, lifted
+        )
         if not lifted.status:
-            self.law(f"lifted-from-{kind}-is-stable", self.ask(self.text, "check", word, "S", S=lifted.out).out == b"stable\n", lifted)
+            self.law(
+                f"lifted-from-{kind}-is-stable",
+                self.ask(self.text, "check", word, "S", S=lifted.out).out == b"stable\n",
+                lifted,
+            )
         above = self.ask(self.text, "run", word, "S", S=ROUNDS).out.partition(b"\n")[2]
         folded = self.ask(self.text, "fold", word, "S", S=above)
         if not folded.status:
-            self.law(f"folded-is-stable-in-{kind}", self.ask(small.out, "check", place, "S", S=folded.out).out == b"stable\n", folded)
+            self.law(
+                f"folded-is-stable-in-{kind}",
+                self.ask(small.out, "check", place, "S", S=folded.out).out == b"stable\n",
+                folded,
+            )
         return place
 
     def canonical(self, small: Answer, number: int, prefixes: set[str]) -> None:
-        """`canon` writes the groups of `compress`, the same where policies are written otherwise, and in OSPF its bytes; of what is compressed it writes the same."""
+        """`canon` writes the groups of `compress`, the same where policies are written otherwise, and in OSPF its
+        bytes; of what is compressed it writes the same."""
         made = self.ask(self.text, "canon", str(number))
         other = self.ask(permutations.rewritten(self.chance, self.text), "canon", str(number))
-        self.law("canon-of-rewritten", (made.status, made.reason, made.out) == (other.status, other.reason, other.out), made, other)
+        self.law(
+            "canon-of-rewritten",
+            (made.status, made.reason, made.out) == (other.status, other.reason, other.out),
+            made,
+            other,
+        )
         if "NoCanon" in made.reason:
             return
         if made.status or small.status or b"router bgp" not in made.out:
-            self.law("canon-is-compress", (made.status, made.reason, made.out) == (small.status, small.reason, small.out), made, small)
+            self.law(
+                "canon-is-compress",
+                (made.status, made.reason, made.out) == (small.status, small.reason, small.out),
+                made,
+                small,
+            )
             return
         self.law("canon-has-the-groups", _members(made.out) == _members(small.out), made, small)
         self.compressed(made, number, prefixes, "canon")
@@ -82,7 +110,8 @@ class Rounds:
         self.law("canon-of-compressed", _without_notes(again.out) == _without_notes(made.out), made, again)
 
     def carried_up_and_down(self, text: bytes, word: str) -> None:
-        """`fold` is done where `check` says stable; what is folded is lifted; what is reached rests; certified, verified."""
+        """`fold` is done where `check` says stable; what is folded is lifted; what is reached rests; certified,
+        verified."""
         above = self.ask(text, "run", word, "S", S=ROUNDS)
         labels = above.out.partition(b"\n")[2]
         judged, folded = self.ask(text, "check", word, "S", S=labels), self.ask(text, "fold", word, "S", S=labels)
@@ -97,7 +126,8 @@ class Rounds:
         self.law("certified-is-verified", self.ask(text, "verify", word, "S", S=made.out).out == b"yes\n", made)
 
     def the_same_network(self, listed: Answer) -> None:
-        """Routers in another order, under other names or numbers, or with lines moved: the same classes and groups up to that."""
+        """Routers in another order, under other names or numbers, or with lines moved: the same classes and groups up
+        to that."""
         how, change = self.chance.choice(["permuted", "renamed", "renumbered", "moved-lines", "rewritten"]), {}
         if how == "permuted":
             other = permutations.reordered(self.chance, self.text)
@@ -110,13 +140,20 @@ class Rounds:
         else:
             other = permutations.moved(self.chance, self.text)
         again = self.ask(other, "classes")
-        plain = [(one.number, one.prefixes, frozenset((change.get(name, name), cost) for name, cost in one.origins)) for one in classes_of(listed.text)]
-        same = not again.status and plain == [(one.number, one.prefixes, frozenset(one.origins)) for one in classes_of(again.text)]
+        plain = [
+            (one.number, one.prefixes, frozenset((change.get(name, name), cost) for name, cost in one.origins))
+            for one in classes_of(listed.text)
+        ]
+        same = not again.status and plain == [
+            (one.number, one.prefixes, frozenset(one.origins)) for one in classes_of(again.text)
+        ]
         self.law(f"{how}-classes", same, listed, again)
         word = str(self.chance.randint(1, len(plain)))
         first, second = self.ask(self.text, "groups", word), self.ask(other, "groups", word)
         parts = {frozenset(change.get(name, name) for name in group.members) for group in groups_of(first.text)}
-        self.law(f"{how}-groups", parts == {frozenset(group.members) for group in groups_of(second.text)}, first, second)
+        self.law(
+            f"{how}-groups", parts == {frozenset(group.members) for group in groups_of(second.text)}, first, second
+        )
 
 
 def _without_notes(text: bytes) -> list[bytes]:

@@ -1,9 +1,10 @@
-"""Texts of the same network: routers in another order, under other names or numbers, with their stanzas moved, or their policies written otherwise."""
+"""Texts of the same network: routers in another order, under other names or numbers, with their stanzas moved, or their
+policies written otherwise."""
 from __future__ import annotations
 
 import random
 
-from roads.text import Line, Router, Stanza, lines_of, read_text, routers_of, text_of
+from bonsainet.configs.text import Line, Router, Stanza, lines_of, read_text, routers_of, text_of
 
 
 def _read(text: bytes) -> list[Router]:
@@ -19,7 +20,8 @@ def reordered(chance: random.Random, text: bytes) -> bytes:
 
 
 def _changed(text: bytes, change: dict[str, str], places: dict[tuple[str, ...], slice]) -> bytes:
-    """The words of a text that stand at some places of lines with these heads, changed. The word * stands for any word of a head."""
+    """The words of a text that stand at some places of lines with these heads, changed. The word * stands for any word
+    of a head."""
     found = []
     for line in lines_of(text.decode("latin-1"), "F"):
         words = line.words
@@ -43,12 +45,17 @@ def renumbered(chance: random.Random, text: bytes) -> bytes:
     """The AS numbers of routers exchanged among them."""
     numbers = sorted({stanza.head.words[2] for router in _read(text) for stanza in router.with_head("router", "bgp")})
     change = dict(zip(numbers, chance.sample(numbers, len(numbers))))
-    places = {("router", "bgp", "*"): slice(2, None), ("neighbor", "*", "remote-as", "*"): slice(3, None), ("set", "as-path", "prepend"): slice(3, None)}
+    places = {
+        ("router", "bgp", "*"): slice(2, None),
+        ("neighbor", "*", "remote-as", "*"): slice(3, None),
+        ("set", "as-path", "prepend"): slice(3, None),
+    }
     return _changed(text, change, places)
 
 
 def moved(chance: random.Random, text: bytes) -> bytes:
-    """The stanzas of each router in another order; lines of community lists keep theirs, as the first that holds decides."""
+    """The stanzas of each router in another order; lines of community lists keep theirs, as the first that holds
+    decides."""
     routers = _read(text)
     for router in routers:
         ordered = iter([stanza for stanza in router.stanzas if _is_list(stanza)])
@@ -76,7 +83,8 @@ def _moved_neighbors(chance: random.Random, body: list[Line]) -> list[Line]:
 
 
 def rewritten(chance: random.Random, text: bytes) -> bytes:
-    """Policies that do the same, written otherwise: under other names, with words in another order, lines and entries that never decide, and entries parted by their lists."""
+    """Policies that do the same, written otherwise: under other names, with words in another order, lines and entries
+    that never decide, and entries parted by their lists."""
     routers = _read(text)
     for router in routers:
         change = _other_names(chance, router)
@@ -86,8 +94,13 @@ def rewritten(chance: random.Random, text: bytes) -> bytes:
 
 
 def _other_names(chance: random.Random, router: Router) -> dict[tuple[str, str], str]:
-    """New names of prefix lists, community lists and route maps by kind and old name. Those that are numbers or long stay."""
-    places = {"prefix-list": (("ip", "prefix-list"), 2), "community-list": (("ip", "community-list", "standard"), 3), "route-map": (("route-map",), 1)}
+    """New names of prefix lists, community lists and route maps by kind and old name. Those that are numbers or long
+    stay."""
+    places = {
+        "prefix-list": (("ip", "prefix-list"), 2),
+        "community-list": (("ip", "community-list", "standard"), 3),
+        "route-map": (("route-map",), 1),
+    }
     found = {}
     for kind, (head, place) in places.items():
         for stanza in router.with_head(*head):
@@ -97,9 +110,15 @@ def _other_names(chance: random.Random, router: Router) -> dict[tuple[str, str],
     return found
 
 
-def _rewritten(chance: random.Random, router: Router, stanza: Stanza, change: dict[tuple[str, str], str]) -> list[Stanza]:
-    """A stanza under the new names, its words in another order where that means nothing. An entry of two community lists is sometimes parted in two."""
-    lines = [line.with_text((" " if line.is_indented else "") + " ".join(_words(chance, line.words, change))) for line in stanza.lines]
+def _rewritten(
+    chance: random.Random, router: Router, stanza: Stanza, change: dict[tuple[str, str], str]
+) -> list[Stanza]:
+    """A stanza under the new names, its words in another order where that means nothing. An entry of two community
+    lists is sometimes parted in two."""
+    lines = [
+        line.with_text((" " if line.is_indented else "") + " ".join(_words(chance, line.words, change)))
+        for line in stanza.lines
+    ]
     made = Stanza(lines[0], lines[1:])
     matched = next((line for line in made.body if line.words[:2] == ["match", "community"]), None)
     if matched and stanza.starts("route-map") and chance.random() < 0.5:
@@ -108,7 +127,9 @@ def _rewritten(chance: random.Random, router: Router, stanza: Stanza, change: di
 
 
 def _words(chance: random.Random, words: list[str], change: dict[tuple[str, str], str]) -> list[str]:
-    """The words of a line, each name of a list or a map by the new one, and words whose order means nothing in another."""
+    """The words of a line, each name of a list or a map by the new one, and words whose order means nothing in
+    another."""
+
     def new(kind: str, names: list[str]) -> list[str]:
         return [change.get((kind, name), name) for name in names]
 
@@ -139,24 +160,34 @@ def _words(chance: random.Random, words: list[str], change: dict[tuple[str, str]
 
 
 def _parted(router: Router, old: Stanza, made: Stanza, matched: Line) -> list[Stanza]:
-    """An entry that matches two or more community lists as two entries, the second of the number behind it, where no entry has that."""
+    """An entry that matches two or more community lists as two entries, the second of the number behind it, where no
+    entry has that."""
     exact = matched.words[-1:] if matched.words[-1] == "exact-match" and len(matched.words) > 3 else []
     names = matched.words[2 : len(matched.words) - len(exact)]
     name, act, number = old.head.words[1:4]
     heads = [stanza.head.words for stanza in router.with_head("route-map", name)]
     behind = str(int(number) + 1)
-    if len(names) < 2 or [words[3:] for words in heads].count([number]) != 1 or [behind] in [words[3:] for words in heads] or int(behind) > 65_535:
+    if (
+        len(names) < 2
+        or [words[3:] for words in heads].count([number]) != 1
+        or [behind] in [words[3:] for words in heads]
+        or int(behind) > 65_535
+    ):
         return [made]
 
     def entry(number: str, some: list[str]) -> Stanza:
-        body = [matched.with_text(" ".join([" match community", *some, *exact])) if line is matched else line for line in made.body]
+        body = [
+            matched.with_text(" ".join([" match community", *some, *exact])) if line is matched else line
+            for line in made.body
+        ]
         return Stanza(made.head.with_text(f"route-map {made.head.words[1]} {act} {number}"), body)
 
     return [entry(number, names[:1]), entry(behind, names[1:])]
 
 
 def _unreached(chance: random.Random, router: Router) -> list[Stanza]:
-    """Lines of community lists that are there already, with another answer, and a last entry for maps that denies, as their end does."""
+    """Lines of community lists that are there already, with another answer, and a last entry for maps that denies, as
+    their end does."""
     found: dict[tuple[str, ...], Stanza] = {}
     maps: dict[str, list[Stanza]] = {}
     for stanza in router.stanzas:

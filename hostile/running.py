@@ -8,7 +8,6 @@ import hashlib
 import json
 import random
 import resource
-import signal
 import subprocess
 import time
 import traceback
@@ -23,7 +22,8 @@ from hostile.compare import Comparison, Difference, Enough
 from hostile.judge.network import Refused
 from hostile.kept_answers import KeptAsker
 from hostile.makers import makers
-from roads.program import Program
+from bonsainet.ask.program import Program
+from bonsainet.cli.workers import workers
 
 SLICE = 5.0
 LOG_EVERY = 60.0
@@ -62,8 +62,9 @@ class Found:
 
 @dataclasses.dataclass(frozen=True)
 class Plan:
-    """What a run asks for: its seed, how long and by how many jobs, at most how many commands and processor seconds, whether the first difference ends it, a file
-    of answers, and whether texts that differ are kept as they were made."""
+    """What a run asks for: its seed, how long and by how many jobs, at most how many commands and processor seconds,
+    whether the first difference ends it, a file of answers, and whether texts that differ are kept as they were
+    made."""
 
     seed: int
     seconds: float
@@ -77,7 +78,8 @@ class Plan:
 
 
 def differences(program: Program, text: bytes, seed: int, counts: Counts) -> list[Difference]:
-    """What differs over a text: against the judge, and against the laws. An answer that never comes differs too, and a text over which the judge fails."""
+    """What differs over a text: against the judge, and against the laws. An answer that never comes differs too, and a
+    text over which the judge fails."""
     asked = Asked(program, counts)
     return _caught(lambda: Comparison(asked, text, seed).run() + laws.broken(asked, text, seed))
 
@@ -111,12 +113,12 @@ def _caught(found: Callable[[], list[Difference]]) -> list[Difference]:
 
 @functools.cache
 def _program(answers: Path | None) -> Asker:
-    signal.signal(signal.SIGINT, signal.SIG_IGN)
     return KeptAsker(answers) if answers else Asker()
 
 
 def part_of_job(plan: Plan, number: int, turn: int, seconds: float) -> tuple[Found, int]:
-    """A job's texts from a turn on, for some time, and the next turn. A difference ends it where the first is looked for."""
+    """A job's texts from a turn on, for some time, and the next turn. A difference ends it where the first is looked
+    for."""
     program, found, until, used = _program(plan.answers), Found(), time.monotonic() + seconds, _used()
     while time.monotonic() < until and not (plan.first and found.differences):
         turn += 1
@@ -139,19 +141,26 @@ def _kept(program: Program, text: bytes, start: int, difference: Difference, pla
     small, folder = text, plan.folder
     if not plan.unshrunk:
         small = shrink.smallest(text, lambda smaller: still_differs(program, smaller, start, difference.command))
-    again = next((other for other in differences(program, small, start, Counts()) if other.command == difference.command), difference)
+    again = next(
+        (other for other in differences(program, small, start, Counts()) if other.command == difference.command),
+        difference,
+    )
     folder.mkdir(parents=True, exist_ok=True)
     name = f"{difference.command}-{hashlib.sha256(small).hexdigest()[:12]}"
     (folder / f"{name}.cfg").write_bytes(small)
-    (folder / f"{name}.txt").write_text(f"seed {start}\ncommand {again.command}\nexpected {again.expected}\nanswered {again.answered}\n")
+    (folder / f"{name}.txt").write_text(
+        f"seed {start}\ncommand {again.command}\nexpected {again.expected}\nanswered {again.answered}\n"
+    )
     return name
 
 
 def run(plan: Plan, log: TextIO | None = None) -> tuple[Found, float]:
-    """All jobs until their time is over, or enough was asked or found; and the seconds that it took. Interrupted, it ends with what it has."""
+    """All jobs until their time is over, or enough was asked or found; and the seconds that it took. Interrupted, it
+    ends with what it has."""
     begun, found, logged = time.monotonic(), Found(), 0.0
     spent = lambda: time.monotonic() - begun  # noqa: E731
-    with concurrent.futures.ProcessPoolExecutor(plan.jobs) as pool:
+    with workers(plan.jobs) as pool:
+
         def part(number: int, turn: int) -> concurrent.futures.Future:
             return pool.submit(part_of_job, plan, number, turn, min(SLICE, max(0.0, plan.seconds - spent())))
 
@@ -183,15 +192,31 @@ def _is_enough(plan: Plan, found: Found) -> bool:
 
 def line_of_log(found: Found, seconds: float) -> str:
     """What was asked so far, as one line of JSON."""
-    counts = {"commands": dict(sorted(found.counts.commands.items())), "kinds": dict(sorted(found.counts.kinds.items()))}
-    return json.dumps({"seconds": round(seconds, 1), "texts": found.runs, "partly": found.counts.partly, "asked": found.asked, "own_seconds": round(found.own_seconds, 1),
-                       "program_seconds": round(found.program_seconds, 1), **counts, "differences": found.differences})
+    counts = {
+        "commands": dict(sorted(found.counts.commands.items())),
+        "kinds": dict(sorted(found.counts.kinds.items())),
+    }
+    return json.dumps(
+        {
+            "seconds": round(seconds, 1),
+            "texts": found.runs,
+            "partly": found.counts.partly,
+            "asked": found.asked,
+            "own_seconds": round(found.own_seconds, 1),
+            "program_seconds": round(found.program_seconds, 1),
+            **counts,
+            "differences": found.differences,
+        }
+    )
 
 
 def report(found: Found, seconds: float, jobs: int) -> str:
     """What is printed at the end."""
+
     def table(counter: Counter[str]) -> str:
-        return " ".join(f"{name}:{count}" for name, count in sorted(counter.items(), key=lambda pair: (-pair[1], pair[0])))
+        return " ".join(
+            f"{name}:{count}" for name, count in sorted(counter.items(), key=lambda pair: (-pair[1], pair[0]))
+        )
 
     rows = [
         f"runs {found.runs}, of which {found.counts.partly} name too many communities for more than classes and laws",

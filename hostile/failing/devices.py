@@ -10,8 +10,8 @@ import time
 from collections.abc import Callable
 from pathlib import Path
 
-from roads.native import program_file
-from roads.program import TOP
+from bonsainet.ask.native import program_file
+from bonsainet.ask.program import TOP
 
 FABRIC = str(TOP / "examples" / "inputs" / "fabric.cfg")
 SOLUTION = str(TOP / "examples" / "inputs" / "fabric-solution.txt")
@@ -21,7 +21,9 @@ End = tuple[int, bytes, bytes]
 
 def end(words: list[str], **more: object) -> End:
     """Runs a command to its end."""
-    ran = subprocess.run([program_file(), *words], stderr=subprocess.PIPE, check=False, timeout=60, **{"stdout": subprocess.PIPE, **more})
+    ran = subprocess.run(
+        [program_file(), *words], stderr=subprocess.PIPE, check=False, timeout=60, **{"stdout": subprocess.PIPE, **more}
+    )
     return ran.returncode, ran.stdout or b"", ran.stderr
 
 
@@ -96,7 +98,8 @@ def second_directory(folder: Path) -> End:
 
 
 def growing(folder: Path) -> End:
-    """F gets more comments for as long as it is read, at most 4 MiB of them, so that it stays within the limit of lines."""
+    """F gets more comments for as long as it is read, at most 4 MiB of them, so that it stays within the limit of
+    lines."""
     file, stop = folder / "growing.cfg", threading.Event()
     file.write_bytes(Path(FABRIC).read_bytes())
 
@@ -162,11 +165,14 @@ def _fed(folder: Path, words: Callable[[str], list[str]], feed: Callable[[int], 
 def early_fifo(folder: Path) -> End:
     """F is a FIFO that ends in the middle of a line."""
     text = Path(FABRIC).read_bytes()
-    return _fed(folder, lambda name: ["classes", name], lambda place: os.write(place, text[: text.index(b"interface") + 4]))
+    return _fed(
+        folder, lambda name: ["classes", name], lambda place: os.write(place, text[: text.index(b"interface") + 4])
+    )
 
 
 def slow_fifo(folder: Path) -> End:
     """F is a FIFO that gives one byte at a time."""
+
     def feed(place: int) -> None:
         for byte in Path(FABRIC).read_bytes():
             os.write(place, bytes([byte]))
@@ -205,7 +211,11 @@ def many_classes(count: int) -> str:
     """One router that originates this many subnets; a cost for each, so that each is a class."""
     lines = ["hostname a"]
     for number in range(count):
-        lines += [f"interface Vlan{number}", f" ip address 11.{number >> 16}.{number >> 8 & 255}.{number & 255} 255.255.255.255", f" ip ospf cost {1 + number % 60000}"]
+        lines += [
+            f"interface Vlan{number}",
+            f" ip address 11.{number >> 16}.{number >> 8 & 255}.{number & 255} 255.255.255.255",
+            f" ip ospf cost {1 + number % 60000}",
+        ]
     return "\n".join([*lines, "router ospf 1", " network 0.0.0.0 255.255.255.255 area 0", "end", ""])
 
 
@@ -213,7 +223,9 @@ def ended_by(number: int, folder: Path) -> tuple[int, bytes]:
     """A signal comes while the program waits for F: how it ends, and what it wrote."""
     fifo = folder / f"fifo{number}"
     os.mkfifo(fifo)
-    with subprocess.Popen([program_file(), "classes", str(fifo)], stdout=subprocess.PIPE, stderr=subprocess.PIPE) as ran:
+    with subprocess.Popen(
+        [program_file(), "classes", str(fifo)], stdout=subprocess.PIPE, stderr=subprocess.PIPE
+    ) as ran:
         place = os.open(fifo, os.O_WRONLY)
         os.write(place, b"hostname a\n")
         time.sleep(0.1)

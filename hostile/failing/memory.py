@@ -1,7 +1,8 @@
-"""Each allocation fails in turn: `out of memory`, status 5 and nothing written, or the answer as without the fault. Never a crash.
+"""Each allocation fails in turn: `out of memory`, status 5 and nothing written, or the answer as without the fault.
+Never a crash.
 
-Where memory runs out before the program has its words, status 5 comes without a line: docs/COMMANDS.md says so. How many allocations
-that are is counted over as many words that are no command."""
+Where memory runs out before the program has its words, status 5 comes without a line: docs/COMMANDS.md says so. How
+many allocations that are is counted over as many words that are no command."""
 from __future__ import annotations
 
 import argparse
@@ -18,9 +19,9 @@ from hostile.asking import has_canon
 from hostile.judge import answers
 from hostile.makers import networks as makers
 from hostile.makers.shapes import shape
-from roads.command_line import Refused
-from roads.native import program_file
-from roads.program import TOP, Program
+from bonsainet.cli.command_line import Refused
+from bonsainet.ask.native import program_file
+from bonsainet.ask.program import TOP, Program
 
 SOURCE = Path(__file__).with_name("refuse.c")
 OUT_OF_MEMORY = (5, b"", b"out of memory\n")
@@ -42,23 +43,34 @@ class Wrong:
 def allocator(folder: Path) -> Path:
     """Builds the allocator into a folder. CalledProcessError where gcc fails."""
     library = folder / "refuse.so"
-    subprocess.run(["gcc", "-shared", "-fPIC", "-O1", "-Wall", "-Werror", "-fno-builtin", "-o", str(library), str(SOURCE), "-ldl"], check=True)
+    subprocess.run(
+        ["gcc", "-shared", "-fPIC", "-O1", "-Wall", "-Werror", "-fno-builtin", "-o", str(library), str(SOURCE), "-ldl"],
+        check=True,
+    )
     return library
 
 
 def _run(words: tuple[str, ...], library: Path, **more: str) -> tuple[int, bytes, bytes]:
     # (the launcher is a script, whose memory would fail first)
-    ran = subprocess.run([program_file(), *words], env={**os.environ, "LD_PRELOAD": str(library), **more}, capture_output=True, check=False)
+    ran = subprocess.run(
+        [program_file(), *words],
+        env={**os.environ, "LD_PRELOAD": str(library), **more},
+        capture_output=True,
+        check=False,
+    )
     return ran.returncode, ran.stdout, ran.stderr
 
 
 def count(words: tuple[str, ...], library: Path, folder: Path) -> tuple[int, tuple[int, bytes, bytes]]:
-    """How many allocations a command makes, and its answer. Refused where there is none, since a build with checks of memory has an allocator of its own."""
+    """How many allocations a command makes, and its answer. Refused where there is none, since a build with checks of
+    memory has an allocator of its own."""
     file = folder / "count"
     answer = _run(words, library, COUNT_TO=str(file))
     found = int(file.read_text())
     if not found:
-        raise Refused(f"{program_file()}: has an allocator of its own: take the proved program, or `hostile/plant --as-it-is`")
+        raise Refused(
+            f"{program_file()}: has an allocator of its own: take the proved program, or `hostile/plant --as-it-is`"
+        )
     return found, answer
 
 
@@ -77,7 +89,8 @@ def wrong(words: tuple[str, ...], library: Path, folder: Path, most: int | None 
 
 
 def networks(folder: Path, each: int = 4) -> list[str]:
-    """Files of networks of either protocol: an example, and for the rest small ones by chance, which have a class that `compress` takes."""
+    """Files of networks of either protocol: an example, and for the rest small ones by chance, which have a class that
+    `compress` takes."""
     inputs = TOP / "examples" / "inputs"
     found = [str(inputs / "fabric.cfg"), str(inputs / "campus.cfg")]
     for write in (makers.bgp, makers.ospf):
@@ -87,7 +100,12 @@ def networks(folder: Path, each: int = 4) -> list[str]:
             chance = random.Random(seed)
             text = write(chance, shape(chance)).encode()
             net = answers.read(text)
-            if isinstance(net, answers.Expected) or not net.classes or not net.links or answers.has_many_communities(net):
+            if (
+                isinstance(net, answers.Expected)
+                or not net.classes
+                or not net.links
+                or answers.has_many_communities(net)
+            ):
                 continue
             file = folder / f"{write.__name__}-{made}.cfg"
             file.write_bytes(text)
@@ -102,7 +120,8 @@ def _rest(text: str) -> str:
 
 
 def commands(texts: list[str], folder: Path) -> Iterator[tuple[str, ...]]:
-    """Every command on class 1 of each text, with labels of rest, an order to them and a certificate, in files of a folder."""
+    """Every command on class 1 of each text, with labels of rest, an order to them and a certificate, in files of a
+    folder."""
     program = Program()
     for number, text in enumerate(texts):
         names = {name: str(folder / f"{number}-{name}") for name in ("rounds", "above", "below", "certificate")}
@@ -114,13 +133,20 @@ def commands(texts: list[str], folder: Path) -> Iterator[tuple[str, ...]]:
         more = ("canon",) if has_canon(program) else ()
         yield from ((word, text, "1") for word in ("groups", "compress", "report", "json", "certify", *more))
         yield from ((word, text, "1", names["above"]) for word in ("check", "fold", "reach"))
-        yield from [("lift", text, "1", names["below"]), ("run", text, "1", names["rounds"]), ("verify", text, "1", names["certificate"])]
+        yield from [
+            ("lift", text, "1", names["below"]),
+            ("run", text, "1", names["rounds"]),
+            ("verify", text, "1", names["certificate"]),
+        ]
     yield "trial", "4"
 
 
 def main(arguments: list[str] | None = None) -> int:
     """`hostile/failing/measure`: each allocation of each command; status 1 where a run ended otherwise."""
-    parser = argparse.ArgumentParser(prog="hostile/failing/measure", description="Let each allocation of each command fail, alone and with all behind it.")
+    parser = argparse.ArgumentParser(
+        prog="hostile/failing/measure",
+        description="Let each allocation of each command fail, alone and with all behind it.",
+    )
     parser.add_argument("--networks", type=int, default=4, help="how many networks of either protocol (default 4)")
     parser.add_argument("--most", type=int, help="at most so many allocations of a command, spread evenly")
     parser.add_argument("--jobs", type=int, default=2, help="how many commands are tried side by side (default 2)")

@@ -39,8 +39,13 @@ def classes(net: problem.Network) -> str:
     """`classes F`."""
     rows = []
     for number, one in enumerate(net.classes, 1):
-        origins = [net.routers[place].name + (f":{start}" if net.protocol == "ospf" else "") for place, start in sorted(one.origins.items())]
-        rows.append(f"class {number} prefixes {' '.join(f'{dotted(base)}/{length}' for base, length in one.prefixes)} origins {' '.join(origins)}\n")
+        origins = [
+            net.routers[place].name + (f":{start}" if net.protocol == "ospf" else "")
+            for place, start in sorted(one.origins.items())
+        ]
+        rows.append(
+            f"class {number} prefixes {' '.join(f'{dotted(base)}/{length}' for base, length in one.prefixes)} origins {' '.join(origins)}\n"
+        )
     return "".join(rows)
 
 
@@ -106,6 +111,8 @@ def compress_fault(net: problem.Network, number: int, text: bytes) -> str | None
         return "the acts between groups differ"
     if made.link_count != model.link_count:
         return f"it has {made.link_count} links, and the groups {model.link_count}"
-    if net.protocol == "bgp" and any(mine != other for mine, other, part in zip(made.numbers, model.numbers, parts) if other and mine):
+    if net.protocol == "bgp" and any(
+        mine != other for mine, other, part in zip(made.numbers, model.numbers, parts) if other and mine
+    ):
         return "AS numbers differ"
     return None

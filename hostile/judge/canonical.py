@@ -1,4 +1,5 @@
-"""`canon F N`: which edges have no canonical lists, and whether a text has lists that depend on what an edge does alone."""
+"""`canon F N`: which edges have no canonical lists, and whether a text has lists that depend on what an edge does
+alone."""
 from __future__ import annotations
 
 from hostile.judge import answers, problem
@@ -10,7 +11,11 @@ def looks_at_others(whole: problem.Problem, act: problem.Act) -> bool:
     if whole.protocol != "bgp":
         return False
     results = dict(zip(whole.sets, act))
-    return any(_of_named(whole, results[carried]) != _of_named(whole, results[carried | {whole.unnamed}]) for carried in whole.sets if whole.unnamed not in carried)
+    return any(
+        _of_named(whole, results[carried]) != _of_named(whole, results[carried | {whole.unnamed}])
+        for carried in whole.sets
+        if whole.unnamed not in carried
+    )
 
 
 def _of_named(whole: problem.Problem, result: tuple[int, frozenset[int], int] | None) -> object:
@@ -18,7 +23,8 @@ def _of_named(whole: problem.Problem, result: tuple[int, frozenset[int], int] | 
 
 
 def refusals(whole: problem.Problem) -> list[str]:
-    """The refusal that must come, if one must: of the first edge that has no canonical lists, by importer, exporter and link. So few communities are judged that no list is too long."""
+    """The refusal that must come, if one must: of the first edge that has no canonical lists, by importer, exporter and
+    link. So few communities are judged that no list is too long."""
     without = [edge for edge in whole.edges if looks_at_others(whole, edge.act)]
     if not without:
         return []
@@ -45,9 +51,14 @@ def canon_fault(net: problem.Network, number: int, text: bytes) -> str | None:
 
 
 def _written(router: Router, line: Neighbor, way: str) -> object:
-    """The lists and maps of a neighbour in one direction, without their names and the number that prepending repeats."""
+    """The lists and maps of a neighbour in one direction, without their names and the number that prepending
+    repeats."""
     listed = [router.prefix_lists[name] for name in [line.lists.get(way)] if name]
-    mapped = [[(number, _entry(router, entry)) for number, entry in sorted(router.maps[name].items())] for name in [line.maps.get(way)] if name]
+    mapped = [
+        [(number, _entry(router, entry)) for number, entry in sorted(router.maps[name].items())]
+        for name in [line.maps.get(way)]
+        if name
+    ]
     return line.sends or way == "in", listed, mapped
 
 

@@ -87,7 +87,12 @@ class Judge:
         group = {one: number for number, block in enumerate(self.named) for one in block}
         for block in self.named:
             seen = [
-                {(edge.act, group[edge.exporter]) for edge in self.problem.edges if edge.importer == one and group[edge.exporter] != group[one]} for one in block
+                {
+                    (edge.act, group[edge.exporter])
+                    for edge in self.problem.edges
+                    if edge.importer == one and group[edge.exporter] != group[one]
+                }
+                for one in block
             ]
             if any(acts != seen[0] for acts in seen):
                 raise Refused(place, "NotAdmissible")

@@ -8,12 +8,22 @@ from hostile.judge.problem import Edge, Problem
 
 @functools.lru_cache(200)
 def groups(problem: Problem) -> list[list[int]]:
-    """The coarsest admissible partition: blocks are split until the members of each have the same acts into each other block."""
+    """The coarsest admissible partition: blocks are split until the members of each have the same acts into each other
+    block."""
     count = len(problem.names)
-    block = [("lone", place) if place in problem.lone else ("starts", problem.initial.get(place)) for place in range(count)]
+    block = [
+        ("lone", place) if place in problem.lone else ("starts", problem.initial.get(place)) for place in range(count)
+    ]
     while True:
         kinds = [
-            (block[place], frozenset((edge.act, block[edge.exporter]) for edge in problem.edges if edge.importer == place and block[edge.exporter] != block[place]))
+            (
+                block[place],
+                frozenset(
+                    (edge.act, block[edge.exporter])
+                    for edge in problem.edges
+                    if edge.importer == place and block[edge.exporter] != block[place]
+                ),
+            )
             for place in range(count)
         ]
         order = {kind: number for number, kind in enumerate(dict.fromkeys(kinds))}
@@ -51,4 +61,14 @@ def quotient(problem: Problem, parts: list[list[int]]) -> Problem:
     initial = {number: problem.initial[part[0]] for number, part in enumerate(parts) if part[0] in problem.initial}
     numbers = [next((problem.numbers[place] for place in part if problem.numbers[place]), 0) for part in parts]
     lone = {number for number, part in enumerate(parts) if part[0] in problem.lone}
-    return Problem([problem.names[part[0]] for part in parts], numbers, problem.protocol, initial, edges, lone, problem.sets, links_between(problem, parts), problem.unnamed)
+    return Problem(
+        [problem.names[part[0]] for part in parts],
+        numbers,
+        problem.protocol,
+        initial,
+        edges,
+        lone,
+        problem.sets,
+        links_between(problem, parts),
+        problem.unnamed,
+    )

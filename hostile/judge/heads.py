@@ -10,15 +10,33 @@ from hostile.judge import words
 PAGE = Path(__file__).resolve().parents[2] / "docs" / "LINES.md"
 SCOPES = {"top": "top", "interface": "interface", "router bgp": "bgp", "router ospf": "ospf", "route-map": "entry"}
 KNOWN = {
-    "top": ["hostname", "interface", "router bgp", "router ospf", "ip prefix-list", "ip community-list", "route-map", "end"],
+    "top": [
+        "hostname",
+        "interface",
+        "router bgp",
+        "router ospf",
+        "ip prefix-list",
+        "ip community-list",
+        "route-map",
+        "end",
+    ],
     "interface": ["ip address", "ip ospf cost", "shutdown"],
     "bgp": [
-        "bgp default local-preference", "network", "neighbor ADDRESS remote-as", "neighbor ADDRESS shutdown",
-        "neighbor ADDRESS send-community", "neighbor ADDRESS prefix-list", "neighbor ADDRESS route-map",
+        "bgp default local-preference",
+        "network",
+        "neighbor ADDRESS remote-as",
+        "neighbor ADDRESS shutdown",
+        "neighbor ADDRESS send-community",
+        "neighbor ADDRESS prefix-list",
+        "neighbor ADDRESS route-map",
     ],
     "ospf": ["network", "passive-interface", "no passive-interface"],
     "entry": [
-        "match ip address prefix-list", "match community", "set local-preference", "set community", "set comm-list",
+        "match ip address prefix-list",
+        "match community",
+        "set local-preference",
+        "set community",
+        "set comm-list",
         "set as-path prepend",
     ],
 }
@@ -33,7 +51,9 @@ def _table(title: str) -> dict[str, list[str]]:
         if len(cells) < 2 or cells[0] not in SCOPES:
             continue
         plain, _, behind = cells[1].partition("`neighbor ADDRESS` with")
-        heads = re.findall(r"`([^`]+)`", plain) + [f"neighbor ADDRESS {word}" for word in re.findall(r"`([^`]+)`", behind)]
+        heads = re.findall(r"`([^`]+)`", plain) + [
+            f"neighbor ADDRESS {word}" for word in re.findall(r"`([^`]+)`", behind)
+        ]
         found[SCOPES[cells[0]]] = heads
     return found
 

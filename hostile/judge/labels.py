@@ -148,12 +148,15 @@ def fault(problem: Problem, labels: list[Label]) -> tuple[str, str] | None:
 
 
 def activated(problem: Problem, before: list[Label], after: list[Label], router: int) -> bool:
-    """Whether an activation of a router leads from labels to others: it has a best candidate, or none without one, and nothing else changed."""
+    """Whether an activation of a router leads from labels to others: it has a best candidate, or none without one, and
+    nothing else changed."""
     found = candidates(problem, before, router)
     others = all(one == other for place, (one, other) in enumerate(zip(before, after)) if place != router)
     if not found:
         return others and after[router] is None
-    return others and after[router] in found and key(problem, after[router]) == min(key(problem, route) for route in found)
+    return (
+        others and after[router] in found and key(problem, after[router]) == min(key(problem, route) for route in found)
+    )
 
 
 def forwards(problem: Problem, labels: list[Label], place: int) -> set[int]:
@@ -162,12 +165,17 @@ def forwards(problem: Problem, labels: list[Label], place: int) -> set[int]:
         return set()
     mine = key(problem, labels[place])
     return {
-        edge.exporter for edge in problem.edges
-        if edge.importer == place and (route := offered(problem, edge, labels[edge.exporter])) is not None and key(problem, route) == mine
+        edge.exporter
+        for edge in problem.edges
+        if edge.importer == place
+        and (route := offered(problem, edge, labels[edge.exporter])) is not None
+        and key(problem, route) == mine
     }
 
 
-def correspond(large: Problem, above: list[Label], parts: list[list[int]], small: Problem, below: list[Label]) -> str | None:
+def correspond(
+    large: Problem, above: list[Label], parts: list[list[int]], small: Problem, below: list[Label]
+) -> str | None:
     """Why labels do not correspond, or None: keys, and the groups to which routers forward."""
     group = {place: number for number, part in enumerate(parts) for place in part}
     for place, name in enumerate(large.names):

@@ -6,9 +6,24 @@ from collections.abc import Iterator
 from hostile.judge.network import Refused, Router
 
 ORDER = [
-    "SharedName", "SharedAs", "InternalPeer", "MixedProtocols", "OtherArea", "UndefinedMap", "UndefinedList", "DeleteListForm",
-    "SharedAddress", "OverlappingInterfaces", "LoopbackMask", "NoCost", "TooManyRouters", "TooManyCommunities",
-    "TooManyNeighbors", "TooManyLinks", "PrependForm", "PrependIn",
+    "SharedName",
+    "SharedAs",
+    "InternalPeer",
+    "MixedProtocols",
+    "OtherArea",
+    "UndefinedMap",
+    "UndefinedList",
+    "DeleteListForm",
+    "SharedAddress",
+    "OverlappingInterfaces",
+    "LoopbackMask",
+    "NoCost",
+    "TooManyRouters",
+    "TooManyCommunities",
+    "TooManyNeighbors",
+    "TooManyLinks",
+    "PrependForm",
+    "PrependIn",
 ]
 ROUTERS, COMMUNITIES, NEIGHBORS, LINKS = 4096, 1024, 131_072, 1_048_576
 
@@ -52,7 +67,11 @@ def _protocols(routers: list[Router]) -> Iterator[tuple[int, str]]:
             if router.bgp.number in numbers:
                 yield router.bgp.line, "SharedAs"
             numbers.add(router.bgp.number)
-            yield from ((other.line, "InternalPeer") for other in router.bgp.neighbors.values() if other.number == router.bgp.number)
+            yield from (
+                (other.line, "InternalPeer")
+                for other in router.bgp.neighbors.values()
+                if other.number == router.bgp.number
+            )
         for _, _, area, line in router.ospf.networks if router.ospf else ():
             areas.append(area)
             if area != areas[0]:

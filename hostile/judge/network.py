@@ -5,7 +5,15 @@ import dataclasses
 
 from hostile.judge.words import Prefix, cut
 
-COSTS = {"Loopback": 1, "FastEthernet": 1, "GigabitEthernet": 1, "TenGigabitEthernet": 1, "Vlan": 1, "Ethernet": 10, "Serial": 64}
+COSTS = {
+    "Loopback": 1,
+    "FastEthernet": 1,
+    "GigabitEthernet": 1,
+    "TenGigabitEthernet": 1,
+    "Vlan": 1,
+    "Ethernet": 10,
+    "Serial": 64,
+}
 
 
 class Refused(Exception):

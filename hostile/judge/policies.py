@@ -28,8 +28,11 @@ def community_list_permits(router: Router, name: str, carried: Communities, exac
 
 
 @functools.lru_cache(20_000)
-def apply(router: Router, name: str | None, prefix: Prefix, carried: Communities) -> tuple[int | None, Communities, int] | None:
-    """A route map: a preference if one is set, communities, and the count of numbers put before. None is a dropped route."""
+def apply(
+    router: Router, name: str | None, prefix: Prefix, carried: Communities
+) -> tuple[int | None, Communities, int] | None:
+    """A route map: a preference if one is set, communities, and the count of numbers put before. None is a dropped
+    route."""
     if name is None:
         return None, carried, 0
     for _, entry in sorted(router.maps[name].items()):
@@ -39,7 +42,9 @@ def apply(router: Router, name: str | None, prefix: Prefix, carried: Communities
 
 
 def _holds(router: Router, entry: Entry, prefix: Prefix, carried: Communities) -> bool:
-    if entry.prefix_lists is not None and not any(prefix_list_permits(router, name, prefix) for name in entry.prefix_lists):
+    if entry.prefix_lists is not None and not any(
+        prefix_list_permits(router, name, prefix) for name in entry.prefix_lists
+    ):
         return False
     lists = entry.community_lists
     return lists is None or any(community_list_permits(router, name, carried, entry.exact) for name in lists)
@@ -47,15 +52,20 @@ def _holds(router: Router, entry: Entry, prefix: Prefix, carried: Communities) -
 
 def _changed(router: Router, entry: Entry, carried: Communities) -> Communities:
     if entry.deletes is not None:
-        carried = frozenset(one for one in carried if not community_list_permits(router, entry.deletes, frozenset([one]), False))
+        carried = frozenset(
+            one for one in carried if not community_list_permits(router, entry.deletes, frozenset([one]), False)
+        )
     if entry.change is None:
         return carried
     how, named = entry.change
     return carried | named if how == "add" else named
 
 
-def imported(importer: Router, inward: Neighbor, exporter: Router, outward: Neighbor, prefix: Prefix, carried: Communities) -> Imported | None:
-    """What the importer makes of a route of the exporter with these communities. `inward` is the importer's line of the session."""
+def imported(
+    importer: Router, inward: Neighbor, exporter: Router, outward: Neighbor, prefix: Prefix, carried: Communities
+) -> Imported | None:
+    """What the importer makes of a route of the exporter with these communities. `inward` is the importer's line of the
+    session."""
     if "out" in outward.lists and not prefix_list_permits(exporter, outward.lists["out"], prefix):
         return None
     if "in" in inward.lists and not prefix_list_permits(importer, inward.lists["in"], prefix):

@@ -58,7 +58,11 @@ def community_list(router: Router, rest: list[str], line: int) -> None:
 def communities(named: list[str], line: int) -> frozenset[int]:
     """1 to 32 communities, each named once; WellKnown where they fit but for a well-known one."""
     values = [words.community(word) for word in named]
-    if not 1 <= len(named) <= MOST_NAMED or None in values or len({words.community_key(word) for word in named}) < len(named):
+    if (
+        not 1 <= len(named) <= MOST_NAMED
+        or None in values
+        or len({words.community_key(word) for word in named}) < len(named)
+    ):
         raise Refused(line, "BadForm")
     if words.WELL_KNOWN in values:
         raise Refused(line, "WellKnown")

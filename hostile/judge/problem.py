@@ -59,34 +59,56 @@ class Network:
 
 def network(routers: list[Router]) -> Network:
     """The network of routers that were read."""
-    starts = sorted((part.line, name) for router in routers for name, part in (("bgp", router.bgp), ("ospf", router.ospf)) if part)
+    starts = sorted(
+        (part.line, name) for router in routers for name, part in (("bgp", router.bgp), ("ospf", router.ospf)) if part
+    )
     protocol = starts[0][1] if starts else "none"
     links = _sessions(routers) if protocol == "bgp" else _adjacencies(routers)
-    used = {(place, other.address) for link in links for place, other in zip(link[:2], link[2:]) if isinstance(other, Neighbor)}
+    used = {
+        (place, other.address)
+        for link in links
+        for place, other in zip(link[:2], link[2:])
+        if isinstance(other, Neighbor)
+    }
     unmatched = [
         (router.name, other.address)
-        for place, router in enumerate(routers) if router.bgp
-        for other in router.bgp.neighbors.values() if (place, other.address) not in used
+        for place, router in enumerate(routers)
+        if router.bgp
+        for other in router.bgp.neighbors.values()
+        if (place, other.address) not in used
     ]
     return Network(routers, protocol, links, _classes(routers, protocol), unmatched)
 
 
 def _sessions(routers: list[Router]) -> list[tuple[int, int, Neighbor, Neighbor]]:
     owner = {port.address: (place, port) for place, router in enumerate(routers) for port in router.ups}
-    lines = [(place, other) for place, router in enumerate(routers) if router.bgp for other in router.bgp.neighbors.values()]
+    lines = [
+        (place, other) for place, router in enumerate(routers) if router.bgp for other in router.bgp.neighbors.values()
+    ]
     found = []
     for (u, one), (v, two) in itertools.combinations(sorted(lines, key=lambda pair: pair[1].line), 2):
         far, near = owner.get(one.address), owner.get(two.address)
         if u == v or one.shut or two.shut or far is None or near is None or (far[0], near[0]) != (v, u):
             continue
-        if far[1].subnet == near[1].subnet and one.number == routers[v].bgp.number and two.number == routers[u].bgp.number:
+        if (
+            far[1].subnet == near[1].subnet
+            and one.number == routers[v].bgp.number
+            and two.number == routers[u].bgp.number
+        ):
             found.append((u, v, one, two))
     return sorted(found, key=lambda link: (link[2].line, link[3].line))
 
 
 def _adjacencies(routers: list[Router]) -> list[tuple[int, int, Interface, Interface]]:
-    ports = sorted(((place, port) for place, router in enumerate(routers) for port in router.ups if router.is_active(port)), key=lambda pair: pair[1].line)
-    found = [(u, v, one, two) for (u, one), (v, two) in itertools.combinations(ports, 2) if u != v and one.subnet == two.subnet]
+    ports = sorted(
+        ((place, port) for place, router in enumerate(routers) for port in router.ups if router.is_active(port)),
+        key=lambda pair: pair[1].line,
+    )
+    found = [
+        (u, v, one, two)
+        for (u, one), (v, two) in itertools.combinations(ports, 2)
+        if u != v and one.subnet == two.subnet
+    ]
     return sorted(found, key=lambda link: (link[2].line, link[3].line))
 
 
@@ -137,10 +159,23 @@ def problem(net: Network, destinations: Class, values: frozenset[int] | None = N
                 continue
             if u in destinations.origins:
                 continue
-            results = [imported(net.routers[u], near, net.routers[v], far, destinations.prefixes[0], carried) for carried in sets]
+            results = [
+                imported(net.routers[u], near, net.routers[v], far, destinations.prefixes[0], carried)
+                for carried in sets
+            ]
             if any(result is not None for result in results):
                 edges.append(Edge(u, v, number, tuple(results)))
                 preferences.setdefault(u, set()).update(result[0] for result in results if result is not None)
     lone = {u for u, found in preferences.items() if len(found) > 1}
     numbers = [router.bgp.number if router.bgp else 0 for router in net.routers]
-    return Problem([router.name for router in net.routers], numbers, net.protocol, dict(destinations.origins), edges, lone, sets, len(net.links), unnamed(values))
+    return Problem(
+        [router.name for router in net.routers],
+        numbers,
+        net.protocol,
+        dict(destinations.origins),
+        edges,
+        lone,
+        sets,
+        len(net.links),
+        unnamed(values),
+    )

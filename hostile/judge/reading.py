@@ -115,7 +115,9 @@ def _top(state: State, found: list[str], line: int) -> None:
             policy_forms.prefix_list(router, rest, line)
         case ["ip", "community-list", *rest]:
             policy_forms.community_list(router, rest, line)
-        case ["route-map", name, ("permit" | "deny") as act, word] if words.list_name(name) and (seq := words.number(word, 0, 65535)) is not None:
+        case ["route-map", name, ("permit" | "deny") as act, word] if words.list_name(name) and (
+            seq := words.number(word, 0, 65535)
+        ) is not None:
             entries = router.maps.setdefault(name, {})
             once(seq not in entries, line)
             state.entry = entries[seq] = Entry(act == "permit")
@@ -127,4 +129,3 @@ def _top(state: State, found: list[str], line: int) -> None:
             state.router = Router()
         case _:
             raise bad
-

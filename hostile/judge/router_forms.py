@@ -14,7 +14,9 @@ def once(is_first: bool, line: int) -> None:
 def interface_line(port: Interface, found: list[str], line: int) -> None:
     """A known line of an interface."""
     match found:
-        case ["ip", "address", word, mask] if (value := words.address(word)) is not None and (length := words.mask(mask)) is not None:
+        case ["ip", "address", word, mask] if (value := words.address(word)) is not None and (
+            length := words.mask(mask)
+        ) is not None:
             once(port.address is None, line)
             port.address, port.length, port.line = value, length, line
         case ["ip", "ospf", "cost", word] if (cost := words.number(word, 1, 65535)) is not None:

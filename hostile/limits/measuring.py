@@ -9,7 +9,7 @@ import tempfile
 from pathlib import Path
 
 from hostile.limits.texts import Case, cases, worst
-from roads.native import program_file
+from bonsainet.ask.native import program_file
 
 WATCH = """
 import resource, subprocess, sys, time
@@ -20,12 +20,14 @@ used = resource.getrusage(resource.RUSAGE_CHILDREN)
 with open(sys.argv[1], "w") as file:
     print(status, used.ru_utime + used.ru_stime, time.monotonic() - start, used.ru_maxrss / 1024, file=file)
 """
-"""Starts a command from a process that is small, as the most memory of a process counts from before it became another program."""
+"""Starts a command from a process that is small, as the most memory of a process counts from before it became another
+program."""
 
 
 @dataclasses.dataclass(frozen=True)
 class Measured:
-    """A case that ran: what was wrong about its answer (empty: nothing), processor seconds, seconds, and MiB at most."""
+    """A case that ran: what was wrong about its answer (empty: nothing), processor seconds, seconds, and MiB at
+    most."""
 
     case: Case
     wrong: str
@@ -53,21 +55,36 @@ def measured(case: Case, folder: Path) -> Measured:
     out = (folder / "out").read_bytes()
     lines, size = out.count(b"\n"), len(out)
     told = (int(status), reason, lines if case.lines is not None else None, size if case.size is not None else None)
-    wrong = "" if told == (case.status, case.reason, case.lines, case.size) else f"status {status} {reason} {lines} lines {size} bytes"
+    wrong = (
+        ""
+        if told == (case.status, case.reason, case.lines, case.size)
+        else f"status {status} {reason} {lines} lines {size} bytes"
+    )
     return Measured(case, wrong, float(processor), float(seconds), float(memory))
 
 
 def main(arguments: list[str] | None = None) -> int:
     """`hostile/limits/measure`: a line for each case; status 1 where one has another answer."""
-    parser = argparse.ArgumentParser(prog="hostile/limits/measure", description="Each limit at its value and one beyond, with time and memory; or the worst texts.")
-    parser.add_argument("--worst", type=int, metavar="SCALE", help="in place of the limits, texts made against hash tables, of up to 4,000 times SCALE keys, and against diagrams")
+    parser = argparse.ArgumentParser(
+        prog="hostile/limits/measure",
+        description="Each limit at its value and one beyond, with time and memory; or the worst texts.",
+    )
+    parser.add_argument(
+        "--worst",
+        type=int,
+        metavar="SCALE",
+        help="in place of the limits, texts made against hash tables, of up to 4,000 times SCALE keys, and against diagrams",
+    )
     given = parser.parse_args(arguments)
     failed = False
     print("| limit | command | ends with | processor seconds | MiB |\n|---|---|---|---:|---:|")
     with tempfile.TemporaryDirectory() as folder:
         for case in cases() if given.worst is None else worst(given.worst):
             if is_left_out(case):
-                print(f"hostile/limits/measure: left out, as the program is an unproved build: {case.name}", file=sys.stderr)
+                print(
+                    f"hostile/limits/measure: left out, as the program is an unproved build: {case.name}",
+                    file=sys.stderr,
+                )
                 continue
             one = measured(case, Path(folder))
             failed |= bool(one.wrong)

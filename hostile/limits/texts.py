@@ -11,7 +11,8 @@ TOO_LONG = "refused: FileTooLong"
 
 @dataclasses.dataclass(frozen=True)
 class Case:
-    """A command over a text F, and S where it has one: its status, its line on standard error, and how many lines and bytes it writes.
+    """A command over a text F, and S where it has one: its status, its line on standard error, and how many lines and
+    bytes it writes.
 
     `memory` bounds the address space of the command, in KiB."""
 
@@ -61,7 +62,9 @@ def routers(count: int) -> bytes:
 
 def communities(count: int) -> bytes:
     """A list with this many communities, one a line."""
-    return joined(["hostname a", *(f"ip community-list standard L permit {number}" for number in range(1, count + 1)), "end"])
+    return joined(
+        ["hostname a", *(f"ip community-list standard L permit {number}" for number in range(1, count + 1)), "end"]
+    )
 
 
 def neighbors(count: int) -> bytes:
@@ -90,13 +93,41 @@ def cases() -> Iterator[Case]:
     yield Case("neighbours and 1", one, lambda: neighbors(131_073), 1, "refused: line 131075: TooManyNeighbors", 0)
     yield Case("pairs", ("summary", "F"), lambda: exact_pairs(0), 0, "", 4)
     yield Case("pairs and 1", one, lambda: exact_pairs(1), 1, "refused: line 8779: TooManyLinks", 0)
-    yield Case("solution bytes", ("check", "F", "1", "S"), lambda: ONE, 0, "", 1, lambda: padded(b"a cost 1\n", 268_435_456))
-    yield Case("solution bytes and 1", ("check", "F", "1", "S"), lambda: ONE, 1, "refused: solution FileTooLong", 0, lambda: padded(b"a cost 1\n", 268_435_457))
+    yield Case(
+        "solution bytes", ("check", "F", "1", "S"), lambda: ONE, 0, "", 1, lambda: padded(b"a cost 1\n", 268_435_456)
+    )
+    yield Case(
+        "solution bytes and 1",
+        ("check", "F", "1", "S"),
+        lambda: ONE,
+        1,
+        "refused: solution FileTooLong",
+        0,
+        lambda: padded(b"a cost 1\n", 268_435_457),
+    )
     yield Case("schedule bytes", ("run", "F", "1", "S"), lambda: ONE, 0, "", 2, lambda: padded(b"a\n", 16_777_216))
-    yield Case("schedule bytes and 1", ("run", "F", "1", "S"), lambda: ONE, 1, "refused: schedule FileTooLong", 0, lambda: padded(b"a\n", 16_777_217))
+    yield Case(
+        "schedule bytes and 1",
+        ("run", "F", "1", "S"),
+        lambda: ONE,
+        1,
+        "refused: schedule FileTooLong",
+        0,
+        lambda: padded(b"a\n", 16_777_217),
+    )
     certificate = b"bonsai certificate 1\ngroup a\nend\n"
-    yield Case("certificate bytes", ("verify", "F", "1", "S"), lambda: ONE, 0, "", 1, lambda: padded(certificate, 16_777_216))
-    yield Case("certificate bytes and 1", ("verify", "F", "1", "S"), lambda: ONE, 1, "refused: certificate FileTooLong", 0, lambda: padded(certificate, 16_777_217))
+    yield Case(
+        "certificate bytes", ("verify", "F", "1", "S"), lambda: ONE, 0, "", 1, lambda: padded(certificate, 16_777_216)
+    )
+    yield Case(
+        "certificate bytes and 1",
+        ("verify", "F", "1", "S"),
+        lambda: ONE,
+        1,
+        "refused: certificate FileTooLong",
+        0,
+        lambda: padded(certificate, 16_777_217),
+    )
     compress = ("compress", "F", "1")
     yield Case("bytes of an output", compress, lambda: outputs.exact_bytes(0), size=outputs.BYTES)
     yield Case("bytes of an output and 1", compress, lambda: outputs.exact_bytes(1), 1, "refused: OutputTooLong", 0)
@@ -107,19 +138,37 @@ def cases() -> Iterator[Case]:
 
 
 def worst(scale: int) -> Iterator[Case]:
-    """Texts made to take long: against the tables by hashes, each beside a plain text of the same size, and against the diagrams. `scale` multiplies their sizes."""
+    """Texts made to take long: against the tables by hashes, each beside a plain text of the same size, and against the
+    diagrams. `scale` multiplies their sizes."""
     one = ("classes", "F")
     for count in (1000 * scale, 2000 * scale, 4000 * scale):
         yield Case(f"{count:,} names", one, lambda count=count: collisions.plain_names(count), 0, "", 0)
         yield Case(f"{count:,} names that meet", one, lambda count=count: collisions.with_names(count), 0, "", 0)
     for count in (2000 * scale, 4000 * scale):
         yield Case(f"{count:,} addresses", one, lambda count=count: collisions.plain_addresses(count), 0, "", 0)
-        yield Case(f"{count:,} addresses that meet", one, lambda count=count: collisions.with_addresses(count), 0, "", 0)
+        yield Case(
+            f"{count:,} addresses that meet", one, lambda count=count: collisions.with_addresses(count), 0, "", 0
+        )
     groups = ("groups", "F", "1")
     for pairs in (8, 12, 14):
-        yield Case(f"a list of {pairs} lines whose diagram has 2^{pairs} nodes", groups, lambda pairs=pairs: collisions.exploding(pairs), 0, "", 2)
+        yield Case(
+            f"a list of {pairs} lines whose diagram has 2^{pairs} nodes",
+            groups,
+            lambda pairs=pairs: collisions.exploding(pairs),
+            0,
+            "",
+            2,
+        )
     for memory in (32_768, 65_536):
-        yield Case(f"2^60 nodes in {memory // 1024} MiB", groups, lambda: collisions.exploding(60), 5, "out of memory", 0, memory=memory)
+        yield Case(
+            f"2^60 nodes in {memory // 1024} MiB",
+            groups,
+            lambda: collisions.exploding(60),
+            5,
+            "out of memory",
+            0,
+            memory=memory,
+        )
 
 
 def padded(text: bytes, size: int) -> bytes:
@@ -130,12 +179,22 @@ def padded(text: bytes, size: int) -> bytes:
 def exact_pairs(more: int) -> bytes:
     """Subnets with 1,048,576 pairs of adjacent interfaces in all, or one more.
 
-    1,448 routers make 1,047,628 pairs in the first subnet, 44 make 946 in the second; two subnets of two make the last 2, or one of three makes 3."""
+    1,448 routers make 1,047,628 pairs in the first subnet, 44 make 946 in the second; two subnets of two make the last
+    2, or one of three makes 3.
+    """
     lines = []
     for number in range(1448):
         lines += [f"hostname r{number}", "interface Vlan1", f" ip address {address((10 << 24) + number)} 255.255.0.0"]
         lines += ["interface Vlan2", f" ip address {address((11 << 24) + number)} 255.255.0.0"] if number < 44 else []
-        lines += ["interface Vlan3", f" ip address {address((12 << 24) + number)} 255.255.0.0"] if 100 <= number < 103 - (0 if more else 1) else []
-        lines += ["interface Vlan4", f" ip address {address((13 << 24) + number)} 255.255.0.0"] if 200 <= number < 202 and not more else []
+        lines += (
+            ["interface Vlan3", f" ip address {address((12 << 24) + number)} 255.255.0.0"]
+            if 100 <= number < 103 - (0 if more else 1)
+            else []
+        )
+        lines += (
+            ["interface Vlan4", f" ip address {address((13 << 24) + number)} 255.255.0.0"]
+            if 200 <= number < 202 and not more
+            else []
+        )
         lines += ["router ospf 1", " network 0.0.0.0 255.255.255.255 area 0", "end"]
     return joined(lines)

@@ -12,7 +12,19 @@ def broken(chance: random.Random, text: str, names: list[str]) -> bytes:
         if how == 0 and len(lines) > 1:
             del lines[place]
         elif how == 1:
-            lines.insert(place, chance.choice(["", "end", "group", f"group {chance.choice([*names, 'nobody'])}", "bonsai certificate 1", "split 1 2"]))
+            lines.insert(
+                place,
+                chance.choice(
+                    [
+                        "",
+                        "end",
+                        "group",
+                        f"group {chance.choice([*names, 'nobody'])}",
+                        "bonsai certificate 1",
+                        "split 1 2",
+                    ]
+                ),
+            )
         elif how == 2:
             split = f"split {chance.randint(0, 4)} {chance.randint(0, 4)} {chance.choice([*names, 'nobody'])} {chance.randint(0, 6)}"
             lines.insert(min(place, 1 + sum(line.startswith("split") for line in lines)), split)

@@ -9,7 +9,8 @@ from hostile.makers import forms
 
 EXAMPLES = Path(__file__).resolve().parents[2] / "examples"
 
-PLANTS = """\
+PLANTS = (
+    """\
 hostname r0|hostname|hostname -x|hostname r1|interface Vlan1|interface Vlan|interface Tunnel0| ip address 10.0.0.1 255.255.255.0
  ip address 10.0.0.1 255.0.255.0| ip address 172.16.0.0 255.255.255.254| ip address 10.0.0.9 255.255.0.0| ip address 10.0.0.256 255.0.0.0
  ip ospf cost 0| ip ospf cost 65535| ip ospf cost 01| ip ospf priority 3| ip ospf network point-to-point| shutdown| shutdown now| ip unnumbered Vlan1
@@ -27,8 +28,12 @@ route-map IN permit 10|route-map IN permit 65536|route-map Z permit 0|route-map 
  match ip address prefix-list P| match ip address prefix-list NONE| match ip address 7| match as-path 3| set community none| set community 1:1 none| set community additive
  set community internet| set comm-list A delete| set comm-list NONE delete| set comm-list D| set local-preference 5| set local-preference x| set as-path prepend 65001
  set as-path prepend 9| set as-path prepend| set as-path prepend 65001 65001 65001 65001 65001 65001 65001 65001 65001 65001 65001| set metric 5| continue 20
-end|end all|!| !|version 15.2|line con 0| login|banner motd ^C|frobnicate| frobnicate|service timestamps|\t|no ip routing|ip cef|exit|interface Loopback0""".replace("\\t",
-    "\t").replace("\n", "|").split("|")
+end|end all|!| !|version 15.2|line con 0| login|banner motd ^C|frobnicate| frobnicate|service timestamps|\t|no ip routing|ip cef|exit|interface Loopback0""".replace(
+        "\\t", "\t"
+    )
+    .replace("\n", "|")
+    .split("|")
+)
 
 
 def planted(chance: random.Random, text: str) -> bytes:
@@ -51,12 +56,23 @@ def planted(chance: random.Random, text: str) -> bytes:
 
 
 def _places(lines: list[str], line: str) -> list[int]:
-    """Where a line can stand without being at fault for its place: behind the lines of a stanza that has such lines, or at the top."""
+    """Where a line can stand without being at fault for its place: behind the lines of a stanza that has such lines, or
+    at the top."""
     if line[:1] not in (" ", "\t"):
         return [at for at, other in enumerate(lines) if not other.startswith(" ")]
     first = line.split()[0] if line.split() else ""
-    stanzas = {"ip": "interface", "shutdown": "interface", "neighbor": "router bgp", "bgp": "router bgp", "match": "route-map", "set": "route-map",
-               "continue": "route-map", "passive-interface": "router ospf", "no": "router ospf", "network": "router ospf" if " area " in line else "router bgp"}
+    stanzas = {
+        "ip": "interface",
+        "shutdown": "interface",
+        "neighbor": "router bgp",
+        "bgp": "router bgp",
+        "match": "route-map",
+        "set": "route-map",
+        "continue": "route-map",
+        "passive-interface": "router ospf",
+        "no": "router ospf",
+        "network": "router ospf" if " area " in line else "router bgp",
+    }
     wanted, found, inside = stanzas.get(first, ""), [], False
     for at, other in enumerate(lines, 1):
         inside = other.startswith(wanted) if not other.startswith(" ") else inside
@@ -67,7 +83,9 @@ def _places(lines: list[str], line: str) -> list[int]:
 def _word_changed(chance: random.Random, line: str, lines: list[str]) -> str:
     words = line.split(" ")
     other = chance.choice(lines).split(" ")
-    words[chance.randrange(len(words))] = chance.choice([*other, "0", "4294967296", "1:1", "x" * 64, "255.255.255.255", "", "default", "none"])
+    words[chance.randrange(len(words))] = chance.choice(
+        [*other, "0", "4294967296", "1:1", "x" * 64, "255.255.255.255", "", "default", "none"]
+    )
     return " ".join(words)
 
 
@@ -82,7 +100,9 @@ def bytes_changed(chance: random.Random, text: bytes) -> bytes:
         elif how == 1 and place < len(found):
             found[place] = chance.choice(b"\n\r\t !09:./-\x00\x7f\xc3")
         elif how == 2:
-            found[place:place] = chance.choice([b"\n", b"\r\n", b"\r", b"\t", b" ", b"\x00", b"!", b" " * 1025, b"9" * 11])
+            found[place:place] = chance.choice(
+                [b"\n", b"\r\n", b"\r", b"\t", b" ", b"\x00", b"!", b" " * 1025, b"9" * 11]
+            )
         else:
             found = found.replace(b"\n", b"\r\n", chance.randint(1, 5))
     return bytes(found)
@@ -91,5 +111,8 @@ def bytes_changed(chance: random.Random, text: bytes) -> bytes:
 @functools.cache
 def examples() -> list[bytes]:
     """The texts of the examples, and each configuration of their folders, that are not large."""
-    files = [*(EXAMPLES / "inputs").glob("*.cfg"), *(file for file in (EXAMPLES / "folders").rglob("*") if file.is_file())]
+    files = [
+        *(EXAMPLES / "inputs").glob("*.cfg"),
+        *(file for file in (EXAMPLES / "folders").rglob("*") if file.is_file()),
+    ]
     return [text for text in (file.read_bytes() for file in sorted(files)) if len(text) < 40_000]

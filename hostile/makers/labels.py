@@ -1,4 +1,5 @@
-"""Labels by chance that come close to what decides: communities that lists name, ties, lone routers on paths, best candidates and others."""
+"""Labels by chance that come close to what decides: communities that lists name, ties, lone routers on paths, best
+candidates and others."""
 from __future__ import annotations
 
 import random
@@ -12,7 +13,13 @@ COSTS = [1, 2, 5, 10, 64, 65535, 4294967295, 4294967294, 4294901760]
 def telling_sets(net: Network) -> list[frozenset[int]]:
     """The sets of communities that a list names or a map sets."""
     found = [named for router in net.routers for lines in router.community_lists.values() for _, named, _ in lines]
-    found += [entry.change[1] for router in net.routers for entries in router.maps.values() for entry in entries.values() if entry.change]
+    found += [
+        entry.change[1]
+        for router in net.routers
+        for entries in router.maps.values()
+        for entry in entries.values()
+        if entry.change
+    ]
     return found or [frozenset()]
 
 
@@ -24,10 +31,14 @@ class Maker:
         self.telling = telling_sets(net)
 
     def text(self) -> bytes:
-        """A solution: routes by chance, of which the first routers have their best candidate, or one of their candidates."""
+        """A solution: routes by chance, of which the first routers have their best candidate, or one of their
+        candidates."""
         whole = self.problem
         tied = self._route() if self.chance.random() < (0.9 if whole.lone else 0.6) else None
-        held = [labels.start(whole, place) if place in whole.initial else self._like(tied) for place in range(len(whole.names))]
+        held = [
+            labels.start(whole, place) if place in whole.initial else self._like(tied)
+            for place in range(len(whole.names))
+        ]
         for place in range(self.chance.randint(1, min(3, len(held)))):
             held[place] = self._chosen(labels.candidates(whole, held, place))
         return "".join(f"{name} {labels.text(label)}\n" for name, label in zip(whole.names, held)).encode()
@@ -40,7 +51,12 @@ class Maker:
         how = self.chance.random()
         if how < 0.4 or not isinstance(best, labels.Route):
             return best if how < 0.6 else self.chance.choice(found)
-        same = [route for route in found if (route.preference, len(route.path), route.communities) == (best.preference, len(best.path), best.communities)]
+        same = [
+            route
+            for route in found
+            if (route.preference, len(route.path), route.communities)
+            == (best.preference, len(best.path), best.communities)
+        ]
         return self.chance.choice(same if how < 0.75 else found)
 
     def _like(self, tied: labels.Label) -> labels.Label:
@@ -57,7 +73,11 @@ class Maker:
             return None
         if self.problem.protocol != "bgp":
             return self.chance.choice(COSTS)
-        return labels.Route(self.chance.choice([100, 100, 50, 0, 4294967295]), self._path(self.chance.randint(0, 3)), self._communities())
+        return labels.Route(
+            self.chance.choice([100, 100, 50, 0, 4294967295]),
+            self._path(self.chance.randint(0, 3)),
+            self._communities(),
+        )
 
     def _path(self, length: int) -> tuple[int, ...]:
         lone = [self.problem.numbers[place] for place in self.problem.lone]

@@ -19,4 +19,6 @@ def made(chance: random.Random) -> bytes:
         return faults.planted(chance, networks.text(chance))
     if how < 0.95:
         return faults.planted(chance, chance.choice(faults.examples()).decode("latin-1"))
-    return faults.bytes_changed(chance, chance.choice([networks.text(chance).encode(), chance.choice(faults.examples())]))
+    return faults.bytes_changed(
+        chance, chance.choice([networks.text(chance).encode(), chance.choice(faults.examples())])
+    )

@@ -34,8 +34,15 @@ def ospf(chance: random.Random, one: Shape) -> str:
         if place in one.origins and chance.random() < 0.5:
             lines.append(f" ip ospf cost {chance.choice([1, 10, 65535])}")
         for number, _, own, _ in ports(one, place):
-            lines += [f"interface {kind if plain else chance.choice(TYPES)}0/{number}", f" ip address {own} 255.255.255.254"]
-            lines += [f" ip ospf cost {chance.choice([1, 1, 5, 10, 64, 65535])}"] if chance.random() < (0.1 if plain else 0.5) else []
+            lines += [
+                f"interface {kind if plain else chance.choice(TYPES)}0/{number}",
+                f" ip address {own} 255.255.255.254",
+            ]
+            lines += (
+                [f" ip ospf cost {chance.choice([1, 1, 5, 10, 64, 65535])}"]
+                if chance.random() < (0.1 if plain else 0.5)
+                else []
+            )
             lines += [" shutdown"] if chance.random() < 0.05 else []
         if place in shared:
             lines += ["interface Vlan77", f" ip address 10.77.0.{place + 1} 255.255.0.0"]
@@ -45,8 +52,16 @@ def ospf(chance: random.Random, one: Shape) -> str:
             lines.append(f"router ospf {place + 1}")
             lines += [f" passive-interface Vlan{chance.choice([1, 2, 77])}"] if chance.random() < 0.3 else []
             lines += [" passive-interface default", f" no passive-interface {kind}0/0"] if chance.random() < 0.1 else []
-            lines.append(f" network {chance.choice(['0.0.0.0 255.255.255.255', '0.0.0.0 255.255.255.255', '10.0.0.0 0.255.255.255', '10.0.0.0 0.1.0.255'])} area {area}")
-            lines += [f" network {chance.choice(['172.16.0.0 0.15.255.255', '172.16.0.0 0.0.255.251', '172.16.0.0 255.0.255.255'])} area {area}"] if chance.random() < 0.9 else []
+            lines.append(
+                f" network {chance.choice(['0.0.0.0 255.255.255.255', '0.0.0.0 255.255.255.255', '10.0.0.0 0.255.255.255', '10.0.0.0 0.1.0.255'])} area {area}"
+            )
+            lines += (
+                [
+                    f" network {chance.choice(['172.16.0.0 0.15.255.255', '172.16.0.0 0.0.255.251', '172.16.0.0 255.0.255.255'])} area {area}"
+                ]
+                if chance.random() < 0.9
+                else []
+            )
         lines.append("end")
     return "".join(f"{line}\n" for line in lines)
 
@@ -84,8 +99,14 @@ def bgp(chance: random.Random, one: Shape) -> str:
 def _neighbor(chance: random.Random, policy: policies.Policy, far: str, number: int, wild: float) -> list[str]:
     lines = [f" neighbor {far} remote-as {number if chance.random() < 0.98 else 9}"]
     lines += [f" neighbor {far} shutdown"] if chance.random() < 0.02 else []
-    lines += [f" neighbor {far} send-community{chance.choice(['', ' both', ' standard'])}"] if chance.random() < 0.85 else []
+    lines += (
+        [f" neighbor {far} send-community{chance.choice(['', ' both', ' standard'])}"] if chance.random() < 0.85 else []
+    )
     for direction in ("in", "out"):
         lines += [f" neighbor {far} prefix-list {policy.prefix_list} {direction}"] if chance.random() < wild / 4 else []
-        lines += [f" neighbor {far} route-map {chance.choice(policy.maps[direction])} {direction}"] if chance.random() < wild else []
+        lines += (
+            [f" neighbor {far} route-map {chance.choice(policy.maps[direction])} {direction}"]
+            if chance.random() < wild
+            else []
+        )
     return lines

@@ -67,8 +67,12 @@ def _prefix_list(chance: random.Random, name: str) -> list[str]:
     for sequence in (10, 5):
         length = chance.choice([8, 16, 24, 24, 25])
         least, most = sorted((chance.randint(length, 32), chance.randint(length, 32)))
-        options = chance.choice(["", f" le {most}", f" ge {least}", f" ge {least} le {most}", " le 24" if length <= 24 else "", " le 32"])
-        lines.append(f"ip prefix-list {name} seq {sequence} {chance.choice(['permit', 'permit', 'deny'])} {chance.choice(PREFIXES)}/{length}{options}")
+        options = chance.choice(
+            ["", f" le {most}", f" ge {least}", f" ge {least} le {most}", " le 24" if length <= 24 else "", " le 32"]
+        )
+        lines.append(
+            f"ip prefix-list {name} seq {sequence} {chance.choice(['permit', 'permit', 'deny'])} {chance.choice(PREFIXES)}/{length}{options}"
+        )
     return lines + ([f"ip prefix-list {name} seq 90 permit 0.0.0.0/0 le 32"] if chance.random() < 0.7 else [])
 
 
@@ -76,8 +80,16 @@ def _community_lists(chance: random.Random, named: list[str]) -> list[str]:
     lines = []
     for name in ("standard A", "7", "standard B"):
         for _ in range(chance.randint(1, 3)):
-            lines.append(f"ip community-list {name} {chance.choice(['permit', 'permit', 'deny'])} {some(chance, named)}")
-    return [*lines, *(f"ip community-list standard D {chance.choice(['permit', 'permit', 'deny'])} {one}" for one in chance.sample(named, min(2, len(named))))]
+            lines.append(
+                f"ip community-list {name} {chance.choice(['permit', 'permit', 'deny'])} {some(chance, named)}"
+            )
+    return [
+        *lines,
+        *(
+            f"ip community-list standard D {chance.choice(['permit', 'permit', 'deny'])} {one}"
+            for one in chance.sample(named, min(2, len(named)))
+        ),
+    ]
 
 
 def some(chance: random.Random, named: list[str]) -> str:
@@ -91,7 +103,9 @@ def _map(chance: random.Random, name: str, direction: str, named: list[str], pre
         lines.append(f"route-map {name} {chance.choice(['permit', 'permit', 'deny'])} {sequence}")
         lines += [f" match ip address prefix-list {prefix_list}"] if chance.random() < 0.15 else []
         if chance.random() < 0.7:
-            lines.append(f" match community {chance.choice(['A', 'B', '7', 'A B', 'B 7'])}{chance.choice(['', ' exact-match'])}")
+            lines.append(
+                f" match community {chance.choice(['A', 'B', '7', 'A B', 'B 7'])}{chance.choice(['', ' exact-match'])}"
+            )
         lines += _sets(chance, direction, named)
     return lines + ([f"route-map {name} permit 90", *_sets(chance, direction, named)] if chance.random() < 0.8 else [])
 
@@ -99,10 +113,16 @@ def _map(chance: random.Random, name: str, direction: str, named: list[str], pre
 def _sets(chance: random.Random, direction: str, named: list[str]) -> list[str]:
     lines = []
     if chance.random() < (0.6 if direction == "out" else 0.4):
-        lines.append(f" set community {chance.choice([some(chance, named), some(chance, named) + ' additive', 'none'])}")
+        lines.append(
+            f" set community {chance.choice([some(chance, named), some(chance, named) + ' additive', 'none'])}"
+        )
     lines += [" set comm-list D delete"] if chance.random() < 0.3 else []
     if chance.random() < 0.3:
-        lines.append(f" set as-path prepend{' OWN' * chance.choice([1, 1, 2, 3, 10])}" if direction == "out" else f" set local-preference {chance.choice([100, 200, 200])}")
+        lines.append(
+            f" set as-path prepend{' OWN' * chance.choice([1, 1, 2, 3, 10])}"
+            if direction == "out"
+            else f" set local-preference {chance.choice([100, 200, 200])}"
+        )
     if direction == "out" and chance.random() < 0.05:
         lines.append(" set local-preference 300")
     return lines

@@ -39,7 +39,10 @@ def shape(chance: random.Random) -> Shape:
         pairs = list(itertools.combinations(range(count), 2))
     pairs += [chance.choice(pairs) for _ in range(chance.choice([0, 0, 1, 2, 3])) if pairs]
     lengths = {prefix: chance.choice(LENGTHS) for prefix in PREFIXES}
-    origins = {place: [(prefix, lengths[prefix]) for prefix in chance.sample(PREFIXES, chance.randint(1, 2))] for place in chance.sample(range(count), chance.choice([1, 1, 2]))}
+    origins = {
+        place: [(prefix, lengths[prefix]) for prefix in chance.sample(PREFIXES, chance.randint(1, 2))]
+        for place in chance.sample(range(count), chance.choice([1, 1, 2]))
+    }
     return Shape(count, pairs, origins)
 
 

@@ -3,7 +3,17 @@ from __future__ import annotations
 
 import random
 
-PIECES = ["none", "cost 1", "cost 4294967296", "bgp 100 path comms", "bgp 100 path 65001 comms 1:1", "bgp 100 path comms 1:2 1:1", "bgp 100 path", "", "cost"]
+PIECES = [
+    "none",
+    "cost 1",
+    "cost 4294967296",
+    "bgp 100 path comms",
+    "bgp 100 path 65001 comms 1:1",
+    "bgp 100 path comms 1:2 1:1",
+    "bgp 100 path",
+    "",
+    "cost",
+]
 
 
 def broken(chance: random.Random, text: str, names: list[str]) -> bytes:
@@ -20,7 +30,9 @@ def broken(chance: random.Random, text: str, names: list[str]) -> bytes:
             lines[place] = f"{lines[place].split(' ')[0]} {chance.choice(PIECES)}"
         elif how == 3 and lines:
             words = lines[place].split(" ")
-            words[chance.randrange(len(words))] = chance.choice(["65001", "65002*2", "65002*12", "7", "65000:1", "comms", "50"])
+            words[chance.randrange(len(words))] = chance.choice(
+                ["65001", "65002*2", "65002*12", "7", "65000:1", "comms", "50"]
+            )
             lines[place] = " ".join(words)
         else:
             chance.shuffle(lines)

@@ -14,11 +14,11 @@ from collections.abc import Callable
 from pathlib import Path
 
 from hostile.asking import Asker
-from hostile.planting import copies, expecting, judge_faults, record
+from hostile.planting import copies, expecting, judge_faults, record, tool_faults, tools
 from hostile.planting.copies import Unfit
 from hostile.planting.fault import Fault
 from hostile.planting.program_faults import FAULTS
-from roads.program import TOP
+from bonsainet.ask.program import TOP
 
 WAITS = 20
 """How many times longer than asked a run may take on a machine that others use too."""
@@ -41,14 +41,33 @@ class Outcome:
 def outcome(fault: Fault, script: Path, program: Path, given: argparse.Namespace, *more: str) -> Outcome:
     """A run that ends at its first difference, or when its jobs used the processor seconds that they are given."""
     keep = given.folder.resolve() / "differed" / fault.name
-    words = ["--seconds", str(WAITS * given.seconds), "--processor-seconds", str(given.jobs * given.seconds), "--jobs", str(given.jobs), "--seed", str(given.seed)]
+    words = [
+        "--seconds",
+        str(WAITS * given.seconds),
+        "--processor-seconds",
+        str(given.jobs * given.seconds),
+        "--jobs",
+        str(given.jobs),
+        "--seed",
+        str(given.seed),
+    ]
     environment = {**os.environ, "BONSAI_PROGRAM": str(program.resolve())}
-    ran = subprocess.run([str(script), *words, "--first", "--unshrunk", "--keep", str(keep), *more], env=environment, capture_output=True, text=True, check=False)
-    texts, seconds = re.search(r"runs (\d+)", ran.stdout), re.search(r"processor seconds ([\d.]+) here and ([\d.]+)", ran.stdout)
+    ran = subprocess.run(
+        [str(script), *words, "--first", "--unshrunk", "--keep", str(keep), *more],
+        env=environment,
+        capture_output=True,
+        text=True,
+        check=False,
+    )
+    texts, seconds = re.search(r"runs (\d+)", ran.stdout), re.search(
+        r"processor seconds ([\d.]+) here and ([\d.]+)", ran.stdout
+    )
     if not texts or not seconds:
         raise Unfit(f"{fault.name}: {ran.stderr[-2000:]}")
     names = re.search(r"differences [1-9]\d*: (\S+)", ran.stdout)
-    return Outcome(fault, names[1].rpartition("-")[0] if names else "", int(texts[1]), float(seconds[1]) + float(seconds[2]))
+    return Outcome(
+        fault, names[1].rpartition("-")[0] if names else "", int(texts[1]), float(seconds[1]) + float(seconds[2])
+    )
 
 
 def of_program(fault: Fault, given: argparse.Namespace) -> Outcome | None:
@@ -63,7 +82,14 @@ def of_judge(fault: Fault, given: argparse.Namespace) -> Outcome | None:
     program.close()
     with tempfile.TemporaryDirectory(prefix="sensitivity-") as room:
         given.folder.mkdir(parents=True, exist_ok=True)
-        return outcome(fault, copies.reader(fault, Path(room)), Path(program.path), given, "--answers", str(given.folder.resolve() / "answers"))
+        return outcome(
+            fault,
+            copies.reader(fault, Path(room)),
+            Path(program.path),
+            given,
+            "--answers",
+            str(given.folder.resolve() / "answers"),
+        )
 
 
 def expected(fault: Fault, given: argparse.Namespace) -> Outcome:
@@ -81,14 +107,27 @@ def expected(fault: Fault, given: argparse.Namespace) -> Outcome:
 
 def words(name: str, what: str, seconds: float) -> argparse.ArgumentParser:
     """The words that both have."""
-    parser = argparse.ArgumentParser(prog=f"hostile/{name}", description=f"Plant faults in {what}, one at a time, and tell which of them hostile/run finds.")
+    parser = argparse.ArgumentParser(
+        prog=f"hostile/{name}",
+        description=f"Plant faults in {what}, one at a time, and tell which of them hostile/run finds.",
+    )
     parser.add_argument("name", nargs="*", help="faults by their names; all without a name")
     parser.add_argument("--list", action="store_true", help="name the faults, and plant none")
     parser.add_argument("--side", type=int, default=1, help="how many faults are tried side by side (default 1)")
-    parser.add_argument("--seconds", type=float, default=seconds, help=f"how many processor seconds each process of a run may take (default {seconds:.0f})")
+    parser.add_argument(
+        "--seconds",
+        type=float,
+        default=seconds,
+        help=f"how many processor seconds each process of a run may take (default {seconds:.0f})",
+    )
     parser.add_argument("--jobs", type=int, default=2, help="the processes of a run (default 2)")
     parser.add_argument("--seed", type=int, default=1, help="the seed of each run (default 1)")
-    parser.add_argument("--folder", type=Path, default=Path("out") / name, help=f"where built copies, answers and what differed are kept (default out/{name})")
+    parser.add_argument(
+        "--folder",
+        type=Path,
+        default=Path("out") / name,
+        help=f"where built copies, answers and what differed are kept (default out/{name})",
+    )
     return parser
 
 
@@ -96,9 +135,24 @@ def plant(arguments: list[str] | None = None) -> int:
     """`hostile/plant`."""
     parser = words("plant", "copies of the program", 120)
     parser.add_argument("--build", action="store_true", help="build the copies, and run none")
-    parser.add_argument("--as-it-is", action="store_true", help="build a copy without a fault, and write where it is: for `BONSAI_PROGRAM` of hostile/failing and hostile/limits")
-    parser.add_argument("--record", action="store_true", help="keep what was found in hostile/measured/planted.json, and write the table of hostile/README.md from it")
+    parser.add_argument(
+        "--as-it-is",
+        action="store_true",
+        help="build a copy without a fault, and write where it is: for `BONSAI_PROGRAM` of hostile/failing and hostile/limits",
+    )
+    parser.add_argument(
+        "--record",
+        action="store_true",
+        help="keep what was found in hostile/measured/planted.json, and write the table of hostile/README.md from it",
+    )
+    parser.add_argument(
+        "--tools",
+        action="store_true",
+        help="plant faults of the tools, the launcher and the build in copies of the repository, and tell which their tests see",
+    )
     given = parser.parse_args(arguments)
+    if given.tools:
+        return _of_tools(parser, given)
     if not given.as_it_is:
         return _all(parser, arguments, FAULTS, of_program)
     try:
@@ -109,10 +163,26 @@ def plant(arguments: list[str] | None = None) -> int:
         return 1
 
 
+def _of_tools(parser: argparse.ArgumentParser, given: argparse.Namespace) -> int:
+    """The faults of the tools."""
+    unknown = set(given.name) - {fault.name for fault in tool_faults.FAULTS}
+    if unknown:
+        parser.error("no such fault; --list names them")
+    if given.list:
+        print("".join(f"{fault.name:22} {fault.means}\n" for fault in tool_faults.FAULTS), end="")
+        return 0
+    return tools.plant(given.name, given.record)
+
+
 def sensitivity(arguments: list[str] | None = None) -> int:
     """`hostile/sensitivity`."""
     parser = words("sensitivity", "copies of the second reader", 120)
-    parser.add_argument("--alone", type=int, metavar="TEXTS", help="ask no program: compare with what the right reader expects over so many texts")
+    parser.add_argument(
+        "--alone",
+        type=int,
+        metavar="TEXTS",
+        help="ask no program: compare with what the right reader expects over so many texts",
+    )
     given = parser.parse_args(arguments)
     if given.alone is None:
         return _all(parser, arguments, judge_faults.FAULTS, of_judge)
@@ -121,7 +191,12 @@ def sensitivity(arguments: list[str] | None = None) -> int:
     return _all(parser, arguments, judge_faults.FAULTS, expected)
 
 
-def _all(parser: argparse.ArgumentParser, arguments: list[str] | None, faults: list[Fault], tried: Callable[[Fault, argparse.Namespace], Outcome | None]) -> int:
+def _all(
+    parser: argparse.ArgumentParser,
+    arguments: list[str] | None,
+    faults: list[Fault],
+    tried: Callable[[Fault, argparse.Namespace], Outcome | None],
+) -> int:
     """Status 0 where each fault is found but at most one in ten, 1 else, 2 for wrong words."""
     given = parser.parse_args(arguments)
     chosen = [fault for fault in faults if not given.name or fault.name in given.name]
@@ -143,5 +218,11 @@ def _all(parser: argparse.ArgumentParser, arguments: list[str] | None, faults: l
                 missed += not found.command
                 print(found.row(), flush=True)
                 if getattr(given, "record", False):
-                    record.keep(fault=found.fault, command=found.command, texts=found.texts, seconds=found.seconds, seed=given.seed)
+                    record.keep(
+                        fault=found.fault,
+                        command=found.command,
+                        texts=found.texts,
+                        seconds=found.seconds,
+                        seed=given.seed,
+                    )
     return 1 if failed or missed > len(chosen) / 10 else 0

@@ -9,7 +9,7 @@ from pathlib import Path
 from types import ModuleType
 
 from hostile.planting.fault import Fault
-from roads.program import TOP
+from bonsainet.ask.program import TOP
 
 
 class Unfit(Exception):
@@ -26,7 +26,8 @@ def planted(fault: Fault, source: Path) -> None:
 
 CLANG = '#!/bin/sh\nfor word do\n    shift\n    case $word in -O0) word=-O1 ;; -fsanitize=*) continue ;; esac\n    set -- "$@" "$word"\ndone\nexec %s/clang "$@"\n'
 LINKER = '#!/bin/sh\nfor word do\n    shift\n    case $word in */asan.a) continue ;; esac\n    set -- "$@" "$word"\ndone\n%s/ld.lld "$@" || exit\n[ ! -f program ] || cp program %s\n'
-"""In the place of the launcher's: without the checks of memory, by which an answer takes six times as long, and which have an allocator of their own."""
+"""In the place of the launcher's: without the checks of memory, by which an answer takes six times as long, and which
+have an allocator of their own."""
 
 
 def launcher_of(folder: Path) -> ModuleType:
@@ -55,7 +56,9 @@ def program(fault: Fault | None, folder: Path) -> Path:
         if not launcher.kit():
             raise Unfit("the command rt of the Rattle kit is not on the path")
         try:
-            launcher.build_unproved(str(kept))
+            asked = launcher.Program("bonsai")
+            kept.write_bytes(launcher.built(asked, launcher.kit(), launcher.code_of(asked), str(room / "build")))
+            kept.chmod(0o755)
         except launcher.NoProgram as why:
             raise Unfit(f"{kept.name}: {why}") from why
     return kept
@@ -64,7 +67,7 @@ def program(fault: Fault | None, folder: Path) -> Path:
 def reader(fault: Fault, room: Path) -> Path:
     """The script `run` of a copy of this folder, in which the second reader has a fault."""
     leave = shutil.ignore_patterns("__pycache__", "tests", "out")
-    for name in ("hostile", "roads", "examples"):
+    for name in ("hostile", "python", "examples"):
         shutil.copytree(TOP / name, room / name, ignore=leave)
     (room / "docs").mkdir()
     shutil.copy2(TOP / "docs" / "LINES.md", room / "docs")

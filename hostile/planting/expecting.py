@@ -1,6 +1,8 @@
-"""What the second reader expects over many texts, kept in a file, and the first text over which another one expects something else. It needs no program.
+"""What the second reader expects over many texts, kept in a file, and the first text over which another one expects
+something else. It needs no program.
 
-A faulty reader that differs here is found by `hostile/run` too, as far as the program agrees with the right one. Labels that are carried, run or compressed are not looked at."""
+A faulty reader that differs here is found by `hostile/run` too, as far as the program agrees with the right one. Labels
+that are carried, run or compressed are not looked at."""
 from __future__ import annotations
 
 import json
@@ -52,7 +54,12 @@ def asked(text: bytes, start: int) -> dict[str, object]:
     made = [maker.text().decode() for _ in range(LABELS)]
     made.append(solutions.broken(chance, made[0], whole.names).decode("latin-1"))
     right = _certificate(whole)
-    return {**found, "number": number, "labels": made, "certificates": [right, *(certificates.broken(chance, right, whole.names).decode("latin-1") for _ in range(3))]}
+    return {
+        **found,
+        "number": number,
+        "labels": made,
+        "certificates": [right, *(certificates.broken(chance, right, whole.names).decode("latin-1") for _ in range(3))],
+    }
 
 
 def said(one: dict[str, object]) -> Said:
@@ -82,7 +89,8 @@ def keep(file: Path, count: int, seed: int) -> None:
 
 
 def first_other(file: Path) -> tuple[int, str]:
-    """The number of the first text over which something else is expected, and the command; or how many texts there are, and nothing."""
+    """The number of the first text over which something else is expected, and the command; or how many texts there are,
+    and nothing."""
     turn = 0
     with file.open() as lines:
         for turn, line in enumerate(lines, 1):

@@ -6,7 +6,7 @@ from pathlib import Path
 
 from hostile.planting.fault import Fault
 from hostile.planting.program_faults import FAULTS
-from roads.program import TOP
+from bonsainet.ask.program import TOP
 
 KEPT = TOP / "hostile" / "measured" / "planted.json"
 PAGE = TOP / "hostile" / "README.md"
@@ -28,13 +28,19 @@ def table(found: Kept) -> str:
     """The table, in the order of the faults, with a line that counts."""
     rows = ["| layer | fault | found by | texts | processor seconds |", "|---|---|---|---:|---:|"]
     tried = [fault for fault in FAULTS if fault.name in found]
-    rows += [row(fault, str(one["command"]), int(one["texts"]), float(one["seconds"])) for fault in tried for one in [found[fault.name]]]
+    rows += [
+        row(fault, str(one["command"]), int(one["texts"]), float(one["seconds"]))
+        for fault in tried
+        for one in [found[fault.name]]
+    ]
     missed = [fault.means for fault in tried if not found[fault.name]["command"]]
     told = f"Found: {len(tried) - len(missed)} of the {len(tried)} that were tried; `hostile/plant --list` names {len(FAULTS)}."
     return "\n".join([*rows, "", f"{told} Missed: {'; '.join(missed)}." if missed else told])
 
 
-def keep(*, fault: Fault, command: str, texts: int, seconds: float, seed: int, file: Path = KEPT, page: Path = PAGE) -> None:
+def keep(
+    *, fault: Fault, command: str, texts: int, seconds: float, seed: int, file: Path = KEPT, page: Path = PAGE
+) -> None:
     """Keeps one more outcome, and writes the table."""
     found = {**kept(file), fault.name: {"command": command, "texts": texts, "seconds": round(seconds, 1), "seed": seed}}
     file.write_text(json.dumps(dict(sorted(found.items())), indent=1) + "\n", "utf-8")

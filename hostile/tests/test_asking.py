@@ -8,17 +8,26 @@ import pytest
 
 from hostile.asking import Asked, Asker, Counts
 from hostile.kept_answers import KeptAsker
-from roads.program import TOP, Program
+from bonsainet.ask.program import TOP, Program
 
 FABRIC = (TOP / "examples" / "inputs" / "fabric.cfg").read_bytes()
 ASKED: list[tuple[tuple[str, ...], dict[str, str | bytes]]] = [
-    (("classes", "F"), {"F": FABRIC}), (("classes", "F"), {"F": FABRIC.decode()}), (("classes", "F"), {"F": b"x\n"}), (("classes", "F"), {"F": b""}), ((), {}), (("classes", "/nowhere"), {}),
-    (("compress", "F", "1"), {"F": FABRIC}), (("check", "F", "1", "S"), {"F": FABRIC, "S": b"spine1 none\n"}), (("groups", "F", "9"), {"F": FABRIC}),
+    (("classes", "F"), {"F": FABRIC}),
+    (("classes", "F"), {"F": FABRIC.decode()}),
+    (("classes", "F"), {"F": b"x\n"}),
+    (("classes", "F"), {"F": b""}),
+    ((), {}),
+    (("classes", "/nowhere"), {}),
+    (("compress", "F", "1"), {"F": FABRIC}),
+    (("check", "F", "1", "S"), {"F": FABRIC, "S": b"spine1 none\n"}),
+    (("groups", "F", "9"), {"F": FABRIC}),
 ]
 
 
 @pytest.mark.parametrize(("words", "texts"), ASKED)
-def test_the_answers_are_those_of_the_program(words: tuple[str, ...], texts: dict[str, str | bytes], tmp_path: Path) -> None:
+def test_the_answers_are_those_of_the_program(
+    words: tuple[str, ...], texts: dict[str, str | bytes], tmp_path: Path
+) -> None:
     """Status, output and line on standard error, asked, kept, and from what was kept."""
     plain = Program().ask(*words, texts=texts)
     assert Asker().ask(*words, texts=texts) == plain
@@ -29,7 +38,7 @@ def test_the_answers_are_those_of_the_program(words: tuple[str, ...], texts: dic
 def test_what_is_kept_is_not_asked_again(tmp_path: Path) -> None:
     """A program that counts its calls is called once for each question."""
     program, calls = tmp_path / "program", tmp_path / "calls"
-    program.write_text(f"#!/bin/sh\necho >> {calls}\ncat \"$2\"\n")
+    program.write_text(f'#!/bin/sh\necho >> {calls}\ncat "$2"\n')
     program.chmod(0o755)
     for _ in range(3):
         asker = KeptAsker(tmp_path / "answers", str(program))
@@ -37,7 +46,11 @@ def test_what_is_kept_is_not_asked_again(tmp_path: Path) -> None:
         asker.close()
     assert len(calls.read_text()) == 2
     asked = Asked(Asker(str(program)), Counts())
-    assert [asked.ask(b"c", "classes").out for _ in range(3)] == [b"c"] * 3 and asked.counts.commands == {"classes": 1} and len(calls.read_text()) == 3
+    assert (
+        [asked.ask(b"c", "classes").out for _ in range(3)] == [b"c"] * 3
+        and asked.counts.commands == {"classes": 1}
+        and len(calls.read_text()) == 3
+    )
 
 
 def test_an_answer_that_never_comes(tmp_path: Path) -> None:

@@ -10,8 +10,8 @@ from pathlib import Path
 import pytest
 
 from hostile.failing import devices, memory
-from roads.command_line import Refused
-from roads.native import program_file
+from bonsainet.cli.command_line import Refused
+from bonsainet.ask.native import program_file
 
 FAULT = (4, b"", b"write fault\n")
 
@@ -42,7 +42,9 @@ def test_a_reader_of_single_bytes() -> None:
     assert devices.slow_reader() == (0, devices.plain(), b"")
 
 
-@pytest.mark.parametrize("fault", [devices.directory, devices.second_directory, devices.vanished, devices.second_vanished, devices.dangling])
+@pytest.mark.parametrize(
+    "fault", [devices.directory, devices.second_directory, devices.vanished, devices.second_vanished, devices.dangling]
+)
 def test_a_file_that_cannot_be_read(fault, tmp_path: Path) -> None:
     """Status 3, and the name."""
     status, out, err = fault(tmp_path)
@@ -100,20 +102,25 @@ def _is_unproved() -> bool:
 CHECKED = "an unproved build has an allocator of its own and reserves address space for its checks: memory is not tried"
 
 
-@pytest.mark.skipif(shutil.which("gcc") is None, reason="no gcc here")
+@pytest.mark.skipif(shutil.which("gcc") is None, reason="the package gcc is not there: nothing is compiled")
 @pytest.mark.skipif(_is_unproved(), reason=CHECKED)
 def test_memory_that_fails_in_turn(tmp_path: Path) -> None:
-    """Each command on four networks of either protocol: `out of memory`, or as without the fault. `hostile/failing/measure` tries each allocation."""
+    """Each command on four networks of either protocol: `out of memory`, or as without the fault.
+    `hostile/failing/measure` tries each allocation."""
     library = memory.allocator(tmp_path)
-    wrong = [one for words in memory.commands(memory.networks(tmp_path), tmp_path) for one in memory.wrong(words, library, tmp_path, 8)]
+    wrong = [
+        one
+        for words in memory.commands(memory.networks(tmp_path), tmp_path)
+        for one in memory.wrong(words, library, tmp_path, 8)
+    ]
     assert not wrong
 
 
-@pytest.mark.skipif(shutil.which("gcc") is None, reason="no gcc here")
+@pytest.mark.skipif(shutil.which("gcc") is None, reason="the package gcc is not there: nothing is compiled")
 def test_a_program_whose_memory_cannot_fail(tmp_path: Path, monkeypatch: pytest.MonkeyPatch) -> None:
     """Refused, and nothing is said to have been tried."""
     script = tmp_path / "program"
-    script.write_text("#!/bin/sh\necho 0 > \"$COUNT_TO\"\n")
+    script.write_text('#!/bin/sh\necho 0 > "$COUNT_TO"\n')
     script.chmod(0o755)
     monkeypatch.setattr(memory, "program_file", lambda: str(script))
     with pytest.raises(Refused):
@@ -124,5 +131,7 @@ def test_a_program_whose_memory_cannot_fail(tmp_path: Path, monkeypatch: pytest.
 def test_memory_that_is_short() -> None:
     """Under a limit of the address space, from 8 MB up, it ends with `out of memory` or with the answer."""
     for size in (8000, 12_000, 20_000):
-        ran = subprocess.run(["bash", "-c", f'ulimit -v {size}; exec "$0" trial 8', program_file()], capture_output=True, check=False)
+        ran = subprocess.run(
+            ["bash", "-c", f'ulimit -v {size}; exec "$0" trial 8', program_file()], capture_output=True, check=False
+        )
         assert ran.returncode == 0 or (ran.returncode, ran.stdout, ran.stderr) == memory.OUT_OF_MEMORY, size

@@ -1,4 +1,5 @@
-"""Each of the 29 kinds of refusals of docs/LINES.md on a text of its own: the second reader and the program meet it at the same line."""
+"""Each of the 29 kinds of refusals of docs/LINES.md on a text of its own: the second reader and the program meet it at
+the same line."""
 from __future__ import annotations
 
 import re
@@ -22,7 +23,12 @@ KINDS: dict[str, tuple[bytes, int]] = {
     "BadForm": (text(*router("a", "interface Vlan1", " ip address dhcp")), 3),
     "WellKnown": (text(*router("a", "route-map M permit 10", " set community no-export")), 3),
     "Misplaced": (text(*speaker("a", 65001, " neighbor 10.0.0.2 send-community")), 3),
-    "Repeated": (text(*router("a", "interface Vlan1", " ip address 10.0.0.1 255.255.255.0", " ip address 10.0.1.1 255.255.255.0")), 4),
+    "Repeated": (
+        text(
+            *router("a", "interface Vlan1", " ip address 10.0.0.1 255.255.255.0", " ip address 10.0.1.1 255.255.255.0")
+        ),
+        4,
+    ),
     "NoHostname": (text("interface Vlan1", "end"), 2),
     "NoEnd": (text("hostname a", "interface Serial0/0"), 2),
     "SharedName": (text(*router("a"), *router("a")), 3),
@@ -30,11 +36,44 @@ KINDS: dict[str, tuple[bytes, int]] = {
     "InternalPeer": (text(*speaker("a", 65001, " neighbor 10.0.0.2 remote-as 65001")), 3),
     "MixedProtocols": (text(*router("a", "router bgp 65001", "router ospf 1")), 3),
     "OtherArea": (text(*router("a", *AREA, " network 10.0.0.0 0.0.0.3 area 1")), 4),
-    "UndefinedMap": (text(*speaker("a", 65001, " neighbor 10.0.0.2 remote-as 2", " neighbor 10.0.0.2 route-map IN in")), 4),
-    "UndefinedList": (text(*speaker("a", 65001, " neighbor 10.0.0.2 remote-as 2", " neighbor 10.0.0.2 prefix-list NETS in")), 4),
-    "DeleteListForm": (text(*router("a", "ip community-list standard OLD permit 1:1 1:2", "route-map M permit 10", " set comm-list OLD delete")), 2),
-    "SharedAddress": (text(*router("a", "interface Vlan1", " ip address 10.0.0.1 255.255.255.0"), *router("b", "interface Vlan1", " ip address 10.0.0.1 255.255.0.0")), 7),
-    "OverlappingInterfaces": (text(*router("a", "interface Vlan1", " ip address 10.0.0.1 255.255.255.0", "interface Vlan2", " ip address 10.0.0.5 255.255.255.252")), 5),
+    "UndefinedMap": (
+        text(*speaker("a", 65001, " neighbor 10.0.0.2 remote-as 2", " neighbor 10.0.0.2 route-map IN in")),
+        4,
+    ),
+    "UndefinedList": (
+        text(*speaker("a", 65001, " neighbor 10.0.0.2 remote-as 2", " neighbor 10.0.0.2 prefix-list NETS in")),
+        4,
+    ),
+    "DeleteListForm": (
+        text(
+            *router(
+                "a",
+                "ip community-list standard OLD permit 1:1 1:2",
+                "route-map M permit 10",
+                " set comm-list OLD delete",
+            )
+        ),
+        2,
+    ),
+    "SharedAddress": (
+        text(
+            *router("a", "interface Vlan1", " ip address 10.0.0.1 255.255.255.0"),
+            *router("b", "interface Vlan1", " ip address 10.0.0.1 255.255.0.0"),
+        ),
+        7,
+    ),
+    "OverlappingInterfaces": (
+        text(
+            *router(
+                "a",
+                "interface Vlan1",
+                " ip address 10.0.0.1 255.255.255.0",
+                "interface Vlan2",
+                " ip address 10.0.0.5 255.255.255.252",
+            )
+        ),
+        5,
+    ),
     "LoopbackMask": (text(*router("a", "interface Loopback0", " ip address 10.1.0.1 255.255.255.0", *AREA)), 3),
     "NoCost": (text(*router("a", "interface Tunnel0", " ip address 10.0.0.1 255.255.255.252", *AREA)), 3),
     "TooManyRouters": (limits.routers(4097), 8193),
@@ -42,8 +81,18 @@ KINDS: dict[str, tuple[bytes, int]] = {
     "TooManyNeighbors": (limits.neighbors(131_073), 131_075),
     "TooManyLinks": (limits.exact_pairs(1), 8779),
     "PrependForm": (text(*speaker("a", 65001, lists=("route-map M permit 10", " set as-path prepend 65009"))), 4),
-    "PrependIn": (text(*speaker("a", 65001, " neighbor 10.0.0.2 remote-as 2", " neighbor 10.0.0.2 route-map LONGER in",
-                                lists=("route-map LONGER permit 10", " set as-path prepend 65001"))), 4),
+    "PrependIn": (
+        text(
+            *speaker(
+                "a",
+                65001,
+                " neighbor 10.0.0.2 remote-as 2",
+                " neighbor 10.0.0.2 route-map LONGER in",
+                lists=("route-map LONGER permit 10", " set as-path prepend 65001"),
+            )
+        ),
+        4,
+    ),
 }
 
 
@@ -74,10 +123,21 @@ def test_a_kind(kind: str) -> None:
         text(*speaker("a", 65001, " neighbor 10.0.0.2 remote-as 65002", " neighbor 10.0.0.2 send-community")),
         text(*speaker("a", 65001), *speaker("b", 65002)),
         text(*router("a", *AREA, " network 10.0.0.0 0.0.0.3 area 0.0.0.0")),
-        text(*router("a", "interface Vlan1", " ip address 10.0.0.1 255.255.255.0", " shutdown"), *router("b", "interface Vlan1", " ip address 10.0.0.1 255.255.0.0")),
+        text(
+            *router("a", "interface Vlan1", " ip address 10.0.0.1 255.255.255.0", " shutdown"),
+            *router("b", "interface Vlan1", " ip address 10.0.0.1 255.255.0.0"),
+        ),
         text(*router("a", "interface Loopback0", " ip address 10.1.0.1 255.255.255.0")),
         text(*router("a", "interface Tunnel0", " ip address 10.0.0.1 255.255.255.252", " ip ospf cost 5", *AREA)),
-        text(*router("a", "ip community-list standard OLD permit 1:1 1:2", "ip community-list standard NEW permit 1:1", "route-map M permit 10", " set comm-list NEW delete")),
+        text(
+            *router(
+                "a",
+                "ip community-list standard OLD permit 1:1 1:2",
+                "ip community-list standard NEW permit 1:1",
+                "route-map M permit 10",
+                " set comm-list NEW delete",
+            )
+        ),
         text(*speaker("a", 65001, lists=("route-map M permit 10", " set as-path prepend 65001 65001"))),
     ],
 )

@@ -8,7 +8,8 @@ from hostile.tests.texts import one, refusal, router, text
 
 
 def test_lines() -> None:
-    """Newlines cut; one carriage return before an end is no part; a last piece without a newline is a line if it has a byte."""
+    """Newlines cut; one carriage return before an end is no part; a last piece without a newline is a line if it has a
+    byte."""
     assert reading.lines_of(b"a\r\nb\r\r\n\nc") == [b"a", b"b\r", b"", b"c"]
     assert reading.lines_of(b"a\n") == [b"a"] and reading.lines_of(b"") == [] and reading.lines_of(b"\n") == [b""]
 
@@ -45,7 +46,10 @@ def test_comments_close_no_stanza() -> None:
 def test_an_indented_line_needs_a_stanza() -> None:
     """`hostname`, `end` and lists open none; an ignored line opens one whose lines are ignored too."""
     assert refusal(text("hostname a", " shutdown", "end")) == (2, "Misplaced")
-    assert refusal(text(*router("a", "interface Vlan1", "ip prefix-list P seq 5 permit 0.0.0.0/0", " shutdown"))) == (4, "Misplaced")
+    assert refusal(text(*router("a", "interface Vlan1", "ip prefix-list P seq 5 permit 0.0.0.0/0", " shutdown"))) == (
+        4,
+        "Misplaced",
+    )
     assert refusal(text(*router("a"), " shutdown")) == (3, "Misplaced")
     assert refusal(text("\tfrobnicate")) == (1, "Misplaced")
     assert one("line con 0", " frobnicate", "\tlogin", "vlan 7", "  name x").interfaces == {}
@@ -59,18 +63,43 @@ def test_a_stanza_ends_with_the_next_top_line() -> None:
 @pytest.mark.parametrize(
     ("scope", "line", "kind"),
     [
-        ([], "no ip cef", None), ([], "no ip routing", "Unsupported"), ([], "no frobnicate", "UnknownLine"), ([], "ip", "UnknownLine"),
-        ([], "router rip", "Unsupported"), ([], "router bgp x", "BadForm"), ([], "router", "Unsupported"), ([], "ip community-list 100 permit x", "Unsupported"),
-        ([], "ip community-list 501 permit 1:1", "BadForm"), ([], "ip community-list expanded X permit .", "Unsupported"), ([], "ip prefix-list P description x", None),
-        ([], "ip prefix-list description seq 5 permit 0.0.0.0/0", None), ([], "END", "UnknownLine"), ([], "Hostname a", "UnknownLine"),
-        (["interface Vlan1"], "ip ospf priority 3", None), (["interface Vlan1"], "ip ospf network broadcast", "Unsupported"), (["interface Vlan1"], "ip ospf cost x", "BadForm"),
-        (["interface Vlan1"], "ip address 10.0.0.1 255.255.255.0 secondary", "BadForm"), (["interface Vlan1"], "no ip address", None), (["interface Vlan1"], "network 10.0.0.0", "UnknownLine"),
-        (["router bgp 1"], "bgp router-id 1.1.1.1", None), (["router bgp 1"], "bgp always-compare-med", "Unsupported"), (["router bgp 1"], "bgp default ipv4-unicast", "Unsupported"),
-        (["router bgp 1"], "bgp default local-preference", "BadForm"), (["router bgp 1"], "neighbor X description y", None), (["router bgp 1"], "neighbor X send-community extended", None),
-        (["router bgp 1"], "neighbor 1.1.1.1 weight 3", "Unsupported"), (["router bgp 1"], "neighbor X remote-as 3", "BadForm"), (["router bgp 1"], "neighbor", "Unsupported"),
-        (["router ospf 1"], "no passive-interface default", "BadForm"), (["router ospf 1"], "area 0 stub", "Unsupported"), (["router ospf 1"], "router-id 1.1.1.1", None),
-        (["route-map M permit 10"], "match as-path 3", "Unsupported"), (["route-map M permit 10"], "match ip address 7", "Unsupported"),
-        (["route-map M permit 10"], "match ip address prefix-list", "BadForm"), (["route-map M permit 10"], "set metric 3", "Unsupported"), (["route-map M permit 10"], "description x", None),
+        ([], "no ip cef", None),
+        ([], "no ip routing", "Unsupported"),
+        ([], "no frobnicate", "UnknownLine"),
+        ([], "ip", "UnknownLine"),
+        ([], "router rip", "Unsupported"),
+        ([], "router bgp x", "BadForm"),
+        ([], "router", "Unsupported"),
+        ([], "ip community-list 100 permit x", "Unsupported"),
+        ([], "ip community-list 501 permit 1:1", "BadForm"),
+        ([], "ip community-list expanded X permit .", "Unsupported"),
+        ([], "ip prefix-list P description x", None),
+        ([], "ip prefix-list description seq 5 permit 0.0.0.0/0", None),
+        ([], "END", "UnknownLine"),
+        ([], "Hostname a", "UnknownLine"),
+        (["interface Vlan1"], "ip ospf priority 3", None),
+        (["interface Vlan1"], "ip ospf network broadcast", "Unsupported"),
+        (["interface Vlan1"], "ip ospf cost x", "BadForm"),
+        (["interface Vlan1"], "ip address 10.0.0.1 255.255.255.0 secondary", "BadForm"),
+        (["interface Vlan1"], "no ip address", None),
+        (["interface Vlan1"], "network 10.0.0.0", "UnknownLine"),
+        (["router bgp 1"], "bgp router-id 1.1.1.1", None),
+        (["router bgp 1"], "bgp always-compare-med", "Unsupported"),
+        (["router bgp 1"], "bgp default ipv4-unicast", "Unsupported"),
+        (["router bgp 1"], "bgp default local-preference", "BadForm"),
+        (["router bgp 1"], "neighbor X description y", None),
+        (["router bgp 1"], "neighbor X send-community extended", None),
+        (["router bgp 1"], "neighbor 1.1.1.1 weight 3", "Unsupported"),
+        (["router bgp 1"], "neighbor X remote-as 3", "BadForm"),
+        (["router bgp 1"], "neighbor", "Unsupported"),
+        (["router ospf 1"], "no passive-interface default", "BadForm"),
+        (["router ospf 1"], "area 0 stub", "Unsupported"),
+        (["router ospf 1"], "router-id 1.1.1.1", None),
+        (["route-map M permit 10"], "match as-path 3", "Unsupported"),
+        (["route-map M permit 10"], "match ip address 7", "Unsupported"),
+        (["route-map M permit 10"], "match ip address prefix-list", "BadForm"),
+        (["route-map M permit 10"], "set metric 3", "Unsupported"),
+        (["route-map M permit 10"], "description x", None),
     ],
 )
 def test_the_longest_head_decides(scope: list[str], line: str, kind: str | None) -> None:
@@ -93,11 +122,30 @@ def test_the_end() -> None:
 
 def test_notes_of_members() -> None:
     """`! member NAME` notes a member of the router whose `end` comes next."""
-    first, second = reading.read(text("hostname a", "! member a", "! member b", "end", "! member c", "hostname d", "! member d e", "!member f", "end"))
+    first, second = reading.read(
+        text(
+            "hostname a",
+            "! member a",
+            "! member b",
+            "end",
+            "! member c",
+            "hostname d",
+            "! member d e",
+            "!member f",
+            "end",
+        )
+    )
     assert (first.notes, second.notes) == (["a", "b"], ["c"])
 
 
 def test_places_of_lines() -> None:
     """Each value has the line that gives it."""
-    whole = one("router bgp 7", " neighbor 10.0.0.2 remote-as 8", "interface Vlan1", " ip address 10.0.0.1 255.255.255.0")
-    assert (whole.line, whole.bgp.line, whole.bgp.neighbors[10 << 24 | 2].line, whole.interfaces["Vlan1"].line) == (1, 2, 3, 5)
+    whole = one(
+        "router bgp 7", " neighbor 10.0.0.2 remote-as 8", "interface Vlan1", " ip address 10.0.0.1 255.255.255.0"
+    )
+    assert (whole.line, whole.bgp.line, whole.bgp.neighbors[10 << 24 | 2].line, whole.interfaces["Vlan1"].line) == (
+        1,
+        2,
+        3,
+        5,
+    )

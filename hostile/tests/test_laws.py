@@ -8,7 +8,7 @@ import pytest
 from hostile import laws
 from hostile.asking import Asked, Asker, Counts
 from hostile.tests.texts import program
-from roads.program import TOP, Answer, Program
+from bonsainet.ask.program import TOP, Answer, Program
 
 INPUTS = TOP / "examples" / "inputs"
 Edit = Callable[[tuple[str, ...], Answer], Answer]
@@ -29,6 +29,7 @@ class Erring(Program):
 
 def turned(command: str, **parts: object) -> Edit:
     """An edit of the answers of one command that were done."""
+
     def edit(words: tuple[str, ...], answer: Answer) -> Answer:
         if words[0] != command or answer.status:
             return answer
@@ -59,7 +60,9 @@ def _one_group_less(out: bytes) -> bytes:
 CASES = {
     "compressed-is-read": turned("compress", out=lambda out: out.replace(b"\nend", b"\nend all", 1)),
     "compressed-again": turned("groups", out=_one_group_less),
-    "compressed-twice": turned("compress", out=lambda out: out.replace(b"hostname ", b"hostname x-", 1) if out.count(b"! member") <= 3 else out),
+    "compressed-twice": turned(
+        "compress", out=lambda out: out.replace(b"hostname ", b"hostname x-", 1) if out.count(b"! member") <= 3 else out
+    ),
     "check-compressed-is-lift": turned("lift", status=6, err=b"not stable: x not-a-candidate\n"),
     "lifted-from-compressed-is-stable": turned("lift", out=lambda out: out.replace(b" bgp 100 ", b" bgp 101 ", 1)),
     "folded-is-stable-in-compressed": turned("fold", out=lambda out: out.replace(b" bgp 100 ", b" bgp 101 ", 1)),
@@ -77,8 +80,19 @@ def test_a_program_that_errs_breaks_the_law(law: str) -> None:
     assert f"law-{law}" in broken(CASES[law])
 
 
-@pytest.mark.parametrize(("law", "command"), [("permuted-classes", "classes"), ("permuted-groups", "groups"), ("renamed-classes", "classes"), ("renamed-groups", "groups"),
-                                              ("moved-lines-classes", "classes"), ("moved-lines-groups", "groups"), ("renumbered-groups", "groups"), ("rewritten-groups", "groups")])
+@pytest.mark.parametrize(
+    ("law", "command"),
+    [
+        ("permuted-classes", "classes"),
+        ("permuted-groups", "groups"),
+        ("renamed-classes", "classes"),
+        ("renamed-groups", "groups"),
+        ("moved-lines-classes", "classes"),
+        ("moved-lines-groups", "groups"),
+        ("renumbered-groups", "groups"),
+        ("rewritten-groups", "groups"),
+    ],
+)
 def test_a_program_that_looks_at_order_or_names(law: str, command: str) -> None:
     """The second text that it is asked about, as a permuted one, has another answer."""
     seen: list[bytes] = []
@@ -103,11 +117,14 @@ def test_a_program_that_looks_at_order_or_names(law: str, command: str) -> None:
 
 
 class WithCanon(Erring):
-    """The program, with `compress` for `canon`: right over networks of OSPF, and wrong where maps are written in several ways."""
+    """The program, with `compress` for `canon`: right over networks of OSPF, and wrong where maps are written in
+    several ways."""
 
     def ask(self, *words: str, texts: dict[str, str | bytes] | None = None, seconds: float | None = None) -> Answer:
         """The answer as the edit has it."""
-        answer = Asker.ask(program(), *(["compress", *words[1:]] if words[0] == "canon" else words), texts=texts, seconds=seconds)
+        answer = Asker.ask(
+            program(), *(["compress", *words[1:]] if words[0] == "canon" else words), texts=texts, seconds=seconds
+        )
         return self.edit(words, answer)
 
 
@@ -120,7 +137,9 @@ def broken_of_canon(edit: Edit, name: str, seeds: int = 4) -> set[str]:
 def test_canon_is_compress_in_ospf() -> None:
     """No law is broken, and each other text is seen."""
     assert broken_of_canon(lambda words, answer: answer, "campus.cfg") == set()
-    assert "law-canon-is-compress" in broken_of_canon(turned("canon", out=lambda out: out.replace(b"hostname ", b"hostname x-", 1)), "campus.cfg")
+    assert "law-canon-is-compress" in broken_of_canon(
+        turned("canon", out=lambda out: out.replace(b"hostname ", b"hostname x-", 1)), "campus.cfg"
+    )
 
 
 def test_canon_does_not_depend_on_what_is_written() -> None:
@@ -130,16 +149,25 @@ def test_canon_does_not_depend_on_what_is_written() -> None:
 
 def test_canon_has_the_groups_of_compress() -> None:
     """Where a member is left out, and where what is compressed has another canonical text."""
-    found = broken_of_canon(turned("canon", out=lambda out: out.replace(b"! member", b"! ember", 1)), "ring-with-maps.cfg")
+    found = broken_of_canon(
+        turned("canon", out=lambda out: out.replace(b"! member", b"! ember", 1)), "ring-with-maps.cfg"
+    )
     assert {"law-canon-has-the-groups"} <= found
 
 
 def test_a_program_without_canon_is_not_asked_for_it() -> None:
     """Usage says that there is none."""
+
     class Without(Erring):
         def ask(self, *words: str, texts: dict[str, str | bytes] | None = None, seconds: float | None = None) -> Answer:
-            return Answer(2, b"", b"usage: bonsai\n") if words[0] == "canon" else super().ask(*words, texts=texts, seconds=seconds)
+            return (
+                Answer(2, b"", b"usage: bonsai\n")
+                if words[0] == "canon"
+                else super().ask(*words, texts=texts, seconds=seconds)
+            )
 
     counts = Counts()
-    assert not laws.broken(Asked(Without(lambda words, answer: answer), counts), (INPUTS / "fabric.cfg").read_bytes(), 1)
+    assert not laws.broken(
+        Asked(Without(lambda words, answer: answer), counts), (INPUTS / "fabric.cfg").read_bytes(), 1
+    )
     assert "canon" not in counts.commands

@@ -18,7 +18,7 @@ def test_a_limit(case: Case, tmp_path: Path) -> None:
     assert measured(case, tmp_path).wrong == ""
 
 
-@pytest.mark.skipif(shutil.which("gcc") is None, reason="no gcc here")
+@pytest.mark.skipif(shutil.which("gcc") is None, reason="the package gcc is not there: nothing is compiled")
 @pytest.mark.parametrize("case", worst(1), ids=lambda case: case.name)
 def test_a_text_made_to_take_long(case: Case, tmp_path: Path) -> None:
     """The answer is that of a plain text, or `out of memory` where memory is bounded."""
@@ -27,7 +27,7 @@ def test_a_text_made_to_take_long(case: Case, tmp_path: Path) -> None:
     assert measured(case, tmp_path).wrong == ""
 
 
-@pytest.mark.skipif(shutil.which("gcc") is None, reason="no gcc here")
+@pytest.mark.skipif(shutil.which("gcc") is None, reason="the package gcc is not there: nothing is compiled")
 def test_keys_that_meet() -> None:
     """Different names and addresses, as many as were asked for."""
     for kind in ("names", "addresses"):

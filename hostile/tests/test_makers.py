@@ -35,14 +35,30 @@ def test_most_networks_are_read() -> None:
             whole = problem.problem(net, one)
             kinds["lone"] += bool(whole.lone)
             kinds["merged"] += len(groups.groups(whole)) < len(whole.names)
-    assert kinds["refused"] < len(SEEDS) / 10 and min(kinds[name] for name in ("bgp", "ospf", "parallel", "lone", "merged")) > 3, kinds
+    assert (
+        kinds["refused"] < len(SEEDS) / 10
+        and min(kinds[name] for name in ("bgp", "ospf", "parallel", "lone", "merged")) > 3
+    ), kinds
 
 
 def test_policies_have_what_decides() -> None:
     """Exact matches, additive and plain sets, deletion, prepending, preferences, ranges of lengths, denying lines."""
     text = "".join(networks.bgp(random.Random(seed), networks.shape(random.Random(seed))) for seed in SEEDS)
-    for piece in (" exact-match\n", " additive\n", "set community none", "comm-list D delete", "prepend", "local-preference", " ge ", " le ", "deny 65", "send-community\n",
-                  "shutdown", "match ip address", policies.LONG):
+    for piece in (
+        " exact-match\n",
+        " additive\n",
+        "set community none",
+        "comm-list D delete",
+        "prepend",
+        "local-preference",
+        " ge ",
+        " le ",
+        "deny 65",
+        "send-community\n",
+        "shutdown",
+        "match ip address",
+        policies.LONG,
+    ):
         assert text.count(piece) > 2, piece
 
 
@@ -74,7 +90,9 @@ def test_lines_of_forms() -> None:
 def test_planted_faults(seed: int) -> None:
     """At most three lines are put in, taken out, doubled or changed; bytes are changed at a few places."""
     text = networks.text(random.Random(seed))
-    before, after = collections.Counter(text.splitlines()), collections.Counter(faults.planted(random.Random(seed), text).decode("latin-1").splitlines())
+    before, after = collections.Counter(text.splitlines()), collections.Counter(
+        faults.planted(random.Random(seed), text).decode("latin-1").splitlines()
+    )
     assert sum((before - after).values()) <= 3 and sum((after - before).values()) <= 3
     assert faults.planted(random.Random(seed), "") and faults.bytes_changed(random.Random(seed), b"") is not None
 
@@ -84,7 +102,9 @@ def test_planted_faults_are_of_many_kinds() -> None:
     found = set()
     for seed in range(700):
         chance = random.Random(seed)
-        text = faults.planted(chance, networks.text(chance)) if seed % 2 else meant.changed(chance, networks.text(chance))
+        text = (
+            faults.planted(chance, networks.text(chance)) if seed % 2 else meant.changed(chance, networks.text(chance))
+        )
         told = answers.read(text)
         found.add(told.reason.split()[-1] if isinstance(told, answers.Expected) else "read")
     assert len(found) >= 20, found
@@ -93,7 +113,11 @@ def test_planted_faults_are_of_many_kinds() -> None:
 def test_a_line_is_planted_where_it_fits() -> None:
     """Behind the lines of its stanza, or at the top."""
     lines = ["hostname a", "interface Vlan1", " shutdown", "router bgp 1", "end"]
-    assert faults._places(lines, " ip ospf cost 1") == [2, 3] and faults._places(lines, " neighbor 1.1.1.1 shutdown") == [4] and faults._places(lines, "end") == [0, 1, 3, 4]
+    assert (
+        faults._places(lines, " ip ospf cost 1") == [2, 3]
+        and faults._places(lines, " neighbor 1.1.1.1 shutdown") == [4]
+        and faults._places(lines, "end") == [0, 1, 3, 4]
+    )
     assert faults._places(lines, " match community A") == []
 
 
@@ -104,8 +128,16 @@ def test_examples_are_there() -> None:
 
 def whole() -> tuple[problem.Network, problem.Problem]:
     """A network of two routers, with a list of one community."""
-    net = pair(left=(" neighbor 172.16.0.1 route-map IN in",), lists=("ip community-list standard A permit 65000:1", "route-map IN permit 10", " match community A exact-match",
-        " set local-preference 200", "route-map IN permit 20"))
+    net = pair(
+        left=(" neighbor 172.16.0.1 route-map IN in",),
+        lists=(
+            "ip community-list standard A permit 65000:1",
+            "route-map IN permit 10",
+            " match community A exact-match",
+            " set local-preference 200",
+            "route-map IN permit 20",
+        ),
+    )
     return net, problem.problem(net, net.classes[0])
 
 
@@ -120,7 +152,10 @@ def test_labels_are_solutions_of_the_right_form() -> None:
             for _ in range(10):
                 told = labels.fault(made, labels.read(label_maker.Maker(chance, net, made).text(), made))
                 reasons[told[1] if told else "stable"] += 1
-    assert set(reasons) == {"stable", "not-a-candidate", "better-candidate", "none-with-candidate"} and min(reasons.values()) > 10, reasons
+    assert (
+        set(reasons) == {"stable", "not-a-candidate", "better-candidate", "none-with-candidate"}
+        and min(reasons.values()) > 10
+    ), reasons
     net, _ = whole()
     assert label_maker.telling_sets(net) == [frozenset({65000 << 16 | 1})]
 
@@ -152,5 +187,8 @@ def test_broken_certificates() -> None:
 
     _, one = whole()
     text = "bonsai certificate 1\ngroup a\ngroup b\nend\n"
-    kinds = _kinds([certificates.broken(random.Random(seed), text, one.names) for seed in range(400)], lambda data: Judge(one).read(data))
+    kinds = _kinds(
+        [certificates.broken(random.Random(seed), text, one.names) for seed in range(400)],
+        lambda data: Judge(one).read(data),
+    )
     assert {"read", "BadForm", "UnknownRouter", "WrongGroups", "NoEnd", "NoEdge"} <= set(kinds), kinds

@@ -28,7 +28,9 @@ def test_no_line_is_lost(way, seed: int) -> None:
 
 
 def test_routers_change_places() -> None:
-    assert {tuple(heads(permutations.reordered(random.Random(seed), TEXT), "hostname")) for seed in range(20)} > {tuple(NAMES)}
+    assert {tuple(heads(permutations.reordered(random.Random(seed), TEXT), "hostname")) for seed in range(20)} > {
+        tuple(NAMES)
+    }
 
 
 @pytest.mark.parametrize("seed", range(5))
@@ -66,7 +68,25 @@ def test_policies_written_otherwise_do_the_same(seed: int) -> None:
 
 def test_what_is_written_otherwise() -> None:
     """Names, the order of words, an entry in two parts, lines that never decide."""
-    text = b"\n".join([b"hostname a", b"router bgp 1", b" neighbor 10.0.0.1 remote-as 2", b" neighbor 10.0.0.1 route-map M in", b"ip community-list standard A permit 1:1 1:2",
-                       b"ip community-list standard B permit 1:3", b"route-map M permit 10", b" match community A B", b"end", b""])
+    text = b"\n".join(
+        [
+            b"hostname a",
+            b"router bgp 1",
+            b" neighbor 10.0.0.1 remote-as 2",
+            b" neighbor 10.0.0.1 route-map M in",
+            b"ip community-list standard A permit 1:1 1:2",
+            b"ip community-list standard B permit 1:3",
+            b"route-map M permit 10",
+            b" match community A B",
+            b"end",
+            b"",
+        ]
+    )
     found = b"".join(permutations.rewritten(random.Random(seed), text) for seed in range(9))
-    assert b"route-map M-" in found and b" permit 1:2 1:1\n" in found and b" permit 11\n" in found and b" deny 65535\n" in found and b" deny 1:3\n" in found
+    assert (
+        b"route-map M-" in found
+        and b" permit 1:2 1:1\n" in found
+        and b" permit 11\n" in found
+        and b" deny 65535\n" in found
+        and b" deny 1:3\n" in found
+    )

@@ -7,11 +7,14 @@ from pathlib import Path
 
 import pytest
 
-from hostile.planting import copies, expecting, judge_faults, program_faults, record
+from hostile.planting import copies, expecting, judge_faults, program_faults, record, tool_faults, tools
 from hostile.planting.fault import Fault
-from roads.program import TOP
+from bonsainet.ask.program import TOP
 
-ALL = [(TOP / "hostile" / "judge", fault) for fault in judge_faults.FAULTS] + [(TOP / "crates", fault) for fault in program_faults.FAULTS]
+ALL = [(TOP / "hostile" / "judge", fault) for fault in judge_faults.FAULTS] + [
+    (TOP / "crates", fault) for fault in program_faults.FAULTS
+]
+ALL += [(TOP, fault) for fault in tool_faults.FAULTS]
 
 
 @pytest.mark.parametrize(("folder", "fault"), ALL, ids=lambda part: part.name if isinstance(part, Fault) else "in")
@@ -21,7 +24,7 @@ def test_a_fault_fits(folder: Path, fault: Fault, tmp_path: Path) -> None:
     copy.write_text((folder / fault.file).read_text())
     copies.planted(fault, copy)
     assert fault.wrong in copy.read_text() and copy.read_text() != (folder / fault.file).read_text()
-    if folder.name == "judge":
+    if folder.name != "crates":
         compile(copy.read_text(), fault.file, "exec")
 
 
@@ -40,13 +43,25 @@ def test_a_piece_that_is_not_there(tmp_path: Path) -> None:
 
 
 def test_a_fault_of_the_second_reader_is_found(tmp_path: Path) -> None:
-    """The copy expects something else than the right reader over one of the first texts; the right one expects the same over all."""
+    """The copy expects something else than the right reader over one of the first texts; the right one expects the same
+    over all."""
     expecting.keep(tmp_path / "expected", 40, 1)
     assert expecting.first_other(tmp_path / "expected") == (40, "")
     room = tmp_path / "room"
     room.mkdir()
-    script = copies.reader(Fault("all-refused", "words", "words.py", "return 1 <= len(word) <= 63", "return False", "no word names a list"), room)
-    ran = subprocess.run([sys.executable, "-m", "hostile.planting.expecting", str(tmp_path / "expected")], cwd=room, capture_output=True, text=True, check=False)
+    script = copies.reader(
+        Fault(
+            "all-refused", "words", "words.py", "return 1 <= len(word) <= 63", "return False", "no word names a list"
+        ),
+        room,
+    )
+    ran = subprocess.run(
+        [sys.executable, "-m", "hostile.planting.expecting", str(tmp_path / "expected")],
+        cwd=room,
+        capture_output=True,
+        text=True,
+        check=False,
+    )
     assert script.is_file() and ran.returncode == 0 and ran.stdout.split()[1:] == ["classes"], ran.stdout + ran.stderr
 
 
@@ -55,7 +70,9 @@ def test_the_words_of_the_tools(tool: str, faults: list[Fault]) -> None:
     """`--list` names all; a name that is none is refused."""
     path = str(TOP / "hostile" / tool)
     listed = subprocess.run([path, "--list"], capture_output=True, text=True, check=False)
-    assert listed.returncode == 0 and [line.split()[0] for line in listed.stdout.splitlines()] == [fault.name for fault in faults]
+    assert listed.returncode == 0 and [line.split()[0] for line in listed.stdout.splitlines()] == [
+        fault.name for fault in faults
+    ]
     assert subprocess.run([path, "nothing"], capture_output=True, check=False).returncode == 2
 
 
@@ -80,3 +97,22 @@ def test_the_page_has_the_kept_outcomes() -> None:
     """The table of hostile/README.md is the one of the file."""
     told = record.PAGE.read_text("utf-8").partition(record.BEGIN)[2].partition(record.END)[0]
     assert told.strip() == record.table(record.kept())
+
+
+def test_tests_of_the_faults_of_tools_are_there() -> None:
+    assert all((TOP / test).is_file() for fault in tool_faults.FAULTS for test in fault.tests)
+    assert len(tool_faults.FAULTS) >= 16 and len({fault.name for fault in tool_faults.FAULTS}) == len(
+        tool_faults.FAULTS
+    )
+
+
+def test_a_fault_of_the_tools_is_seen(tmp_path: Path) -> None:
+    """By a test of its part; a copy without a fault passes."""
+    fault = next(one for one in tool_faults.FAULTS if one.name == "tools-whole")
+    assert tools.tried(fault).test == "test_a_file_is_written_beside_and_then_moved"
+    page, kept = tmp_path / "page", tmp_path / "kept"
+    page.write_text(f"before\n{tools.BEGIN}\nold\n{tools.END}\nbehind\n")
+    tools.keep(tools.Seen(fault, "test_x", 1.25), kept, page)
+    text = page.read_text()
+    assert "| tools | a file is written in its place | `test_x` | 1 |" in text and "Seen: 1 of 1." in text
+    assert "old" not in text and text.endswith(f"{tools.END}\nbehind\n")

@@ -12,7 +12,7 @@ from hostile import laws, running, shrink
 from hostile.asking import Asked, Asker, Counts
 from hostile.compare import Comparison
 from hostile.judge import answers
-from roads.program import TOP, Answer, Program
+from bonsainet.ask.program import TOP, Answer, Program
 
 
 def test_a_short_run_finds_no_difference(tmp_path: Path) -> None:
@@ -25,10 +25,19 @@ def test_a_short_run_finds_no_difference(tmp_path: Path) -> None:
     assert f"commands {last['asked']}: " in ran.stdout and f"runs {last['texts']}, " in ran.stdout
 
 
+def test_a_run_that_asks_too_little_fails(tmp_path: Path) -> None:
+    run = [str(TOP / "hostile" / "run"), "--seed", "1", "--jobs", "1", "--keep", str(tmp_path)]
+    for words in (["--seconds", "0"], ["--seconds", "2", "--at-least", "100000"]):
+        ran = subprocess.run([*run, *words], capture_output=True, text=True, check=False)
+        assert ran.returncode == 1 and "texts were asked, and " in ran.stderr
+
+
 def test_a_run_ends_where_enough_was_asked(tmp_path: Path, monkeypatch: pytest.MonkeyPatch) -> None:
     """By the number of commands, with answers that are kept or without."""
     monkeypatch.setattr(running, "SLICE", 0.1)
-    runs = [running.run(running.Plan(7, 60, 1, tmp_path, commands=1, answers=tmp_path / "answers"))[0] for _ in range(2)]
+    runs = [
+        running.run(running.Plan(7, 60, 1, tmp_path, commands=1, answers=tmp_path / "answers"))[0] for _ in range(2)
+    ]
     assert all(found.asked > 0 and not found.differences for found in runs)
     assert {*runs[0].counts.commands} & {*runs[1].counts.commands}
 
@@ -53,7 +62,11 @@ class Turned(Asker):
     def ask(self, *words: str, texts: dict[str, str | bytes] | None = None, seconds: float | None = 60) -> Answer:
         """The answer, with `prefix` for `prefixes`."""
         answer = super().ask(*words, texts=texts, seconds=seconds)
-        return Answer(answer.status, answer.out.replace(b" prefixes ", b" prefix ") if words[0] == "classes" else answer.out, answer.err)
+        return Answer(
+            answer.status,
+            answer.out.replace(b" prefixes ", b" prefix ") if words[0] == "classes" else answer.out,
+            answer.err,
+        )
 
 
 def test_a_difference_ends_a_run_and_is_kept(tmp_path: Path, monkeypatch: pytest.MonkeyPatch) -> None:
@@ -66,8 +79,12 @@ def test_a_difference_ends_a_run_and_is_kept(tmp_path: Path, monkeypatch: pytest
     assert (text.stem, told.stem) == (found.differences[0],) * 2 and text.read_bytes().count(b"\n") < 12
     seed = int(told.read_text().split()[1])
     whole, _ = running.run(running.Plan(5, 120, 1, tmp_path / "whole", first=True, unshrunk=True))
-    assert len(next((tmp_path / "whole").glob("*.cfg")).read_bytes()) > len(text.read_bytes()) and whole.runs == found.runs
-    assert running.still_differs(Turned(), text.read_bytes(), seed, "classes") and not running.still_differs(Asker(), text.read_bytes(), seed, "classes")
+    assert (
+        len(next((tmp_path / "whole").glob("*.cfg")).read_bytes()) > len(text.read_bytes()) and whole.runs == found.runs
+    )
+    assert running.still_differs(Turned(), text.read_bytes(), seed, "classes") and not running.still_differs(
+        Asker(), text.read_bytes(), seed, "classes"
+    )
 
 
 def _erring(tmp_path: Path, edit: str) -> Program:
@@ -80,8 +97,14 @@ def _erring(tmp_path: Path, edit: str) -> Program:
 
 def test_a_program_that_errs_is_seen(tmp_path: Path) -> None:
     """A wrong group, a wrong cost and a wrong map differ each at their command."""
-    fabric, ring = (TOP / "examples" / "inputs" / "fabric.cfg").read_bytes(), (TOP / "examples" / "inputs" / "ring-with-maps.cfg").read_bytes()
-    edits = {"groups": (r"s/^group \([0-9]*\): /group \1 lone: /", fabric), "compress": ("s/ send-community$/ shutdown/", ring), "classes": ("s,/24,/25,", fabric)}
+    fabric, ring = (TOP / "examples" / "inputs" / "fabric.cfg").read_bytes(), (
+        TOP / "examples" / "inputs" / "ring-with-maps.cfg"
+    ).read_bytes()
+    edits = {
+        "groups": (r"s/^group \([0-9]*\): /group \1 lone: /", fabric),
+        "compress": ("s/ send-community$/ shutdown/", ring),
+        "classes": ("s,/24,/25,", fabric),
+    }
     for command, (edit, text) in edits.items():
         found = Comparison(Asked(_erring(tmp_path, edit), Counts()), text, 1).run()
         assert command in {one.command for one in found}, command

@@ -12,7 +12,11 @@ from hostile.makers.shapes import LINKS, Shape, mask, own_address, ports, shape
 @pytest.mark.parametrize("seed", range(40))
 def test_both_ends_of_a_link_agree(seed: int) -> None:
     one = shape(random.Random(seed))
-    ends = {(number, place): (far, own, other) for place in range(one.count) for number, far, own, other in ports(one, place)}
+    ends = {
+        (number, place): (far, own, other)
+        for place in range(one.count)
+        for number, far, own, other in ports(one, place)
+    }
     for number, (low, high) in enumerate(one.pairs):
         assert low != high
         assert ends[number, low] == (high, LINKS + 2 * number, LINKS + 2 * number + 1)

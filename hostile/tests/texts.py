@@ -40,8 +40,11 @@ def refusal(data: bytes) -> tuple[int, str]:
     return caught.value.line, caught.value.kind
 
 
-def speaker(name: str, number: int, *lines: str, ports: dict[str, str] | None = None, lists: tuple[str, ...] = ()) -> list[str]:
-    """A BGP router: its interfaces by name with address and mask, the lines of its process, and what stands outside of it."""
+def speaker(
+    name: str, number: int, *lines: str, ports: dict[str, str] | None = None, lists: tuple[str, ...] = ()
+) -> list[str]:
+    """A BGP router: its interfaces by name with address and mask, the lines of its process, and what stands outside of
+    it."""
     found = []
     for port, value in (ports or {}).items():
         found += [f"interface {port}", f" ip address {value}"]
@@ -53,14 +56,34 @@ def network(*routers: list[str]) -> problem.Network:
     return problem.network(reading.read(text(*(line for lines in routers for line in lines))))
 
 
-def pair(left: tuple[str, ...] = (), right: tuple[str, ...] = (), lists: tuple[str, ...] = (), more: tuple[str, ...] = (), sends: bool = True) -> problem.Network:
-    """Two BGP routers over one link: b originates 10.0.0.0/24 and imports nothing. `left` and `right` are further lines of neighbours.
+def pair(
+    left: tuple[str, ...] = (),
+    right: tuple[str, ...] = (),
+    lists: tuple[str, ...] = (),
+    more: tuple[str, ...] = (),
+    sends: bool = True,
+) -> problem.Network:
+    """Two BGP routers over one link: b originates 10.0.0.0/24 and imports nothing. `left` and `right` are further lines
+    of neighbours.
 
     `lists` stand behind the process of a, `more` behind that of b."""
-    a = speaker("a", 65001, " neighbor 172.16.0.1 remote-as 65002", *left, ports={"Serial0": "172.16.0.0 255.255.255.254"}, lists=lists)
+    a = speaker(
+        "a",
+        65001,
+        " neighbor 172.16.0.1 remote-as 65002",
+        *left,
+        ports={"Serial0": "172.16.0.0 255.255.255.254"},
+        lists=lists,
+    )
     sending = [" neighbor 172.16.0.0 send-community"] if sends else []
     b = speaker(
-        "b", 65002, " network 10.0.0.0 mask 255.255.255.0", " neighbor 172.16.0.0 remote-as 65001", *sending, *right,
-        ports={"Serial0": "172.16.0.1 255.255.255.254", "Vlan1": "10.0.0.1 255.255.255.0"}, lists=more,
+        "b",
+        65002,
+        " network 10.0.0.0 mask 255.255.255.0",
+        " neighbor 172.16.0.0 remote-as 65001",
+        *sending,
+        *right,
+        ports={"Serial0": "172.16.0.1 255.255.255.254", "Vlan1": "10.0.0.1 255.255.255.0"},
+        lists=more,
     )
     return network(a, b)

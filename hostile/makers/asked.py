@@ -1,0 +1,87 @@
+"""Words for `bonsai-ask` over a network: right ones, and some that are wrong in a single place."""
+
+from __future__ import annotations
+
+import random
+
+from hostile.judge.problem import Network
+from hostile.judge.words import dotted
+
+COMMUNITIES = ["1:1", "2:2", "9:9", "65538", "7:0"]
+TASKS = ["count", "solutions", "forwards"]
+
+
+class Maker:
+    """Makes the words behind F, over the names and classes of a network."""
+
+    def __init__(self, chance: random.Random, net: Network) -> None:
+        self.chance, self.net = chance, net
+        self.names = [router.name for router in net.routers]
+
+    def words(self) -> list[str]:
+        """The words of one call."""
+        made = [self._classes()]
+        if self.chance.random() < 0.35:
+            made += ["without", self._down()]
+        how = self.chance.random()
+        if how < 0.3:
+            made.append(self.chance.choice(TASKS))
+        else:
+            made += ["failing", self.chance.choice(["links", "routers"])] if how < 0.55 else []
+            made += self._question()
+        return self._spoilt(made) if self.chance.random() < 0.08 else made
+
+    def _classes(self) -> str:
+        count = len(self.net.classes)
+        how = self.chance.random()
+        if how < 0.1 or not count:
+            return self.chance.choice(["*", "1", "0", "99"]) if self.chance.random() < 0.3 else "*"
+        one = self.chance.randint(1, count)
+        if how < 0.6:
+            return str(one)
+        if how < 0.7:
+            return f"{self.chance.randint(1, one)}-{one if self.chance.random() < 0.9 else count + 1}"
+        base, length = self.chance.choice(self.net.classes[one - 1].prefixes)
+        if how < 0.85:
+            return f"{dotted(base + (self.chance.randrange(1 << (32 - length)) if length < 32 else 0))}/{length}"
+        return dotted(base)
+
+    def _some(self) -> str:
+        if not self.names or self.chance.random() < 0.35:
+            return "*"
+        return ",".join(self.chance.sample(self.names, self.chance.randint(1, min(3, len(self.names)))))
+
+    def _down(self) -> str:
+        items = []
+        for _ in range(self.chance.choice([1, 1, 2])):
+            if self.net.links and self.chance.random() < 0.7:
+                low, high, _, _ = self.chance.choice(self.net.links)
+                pair = [self.names[low], self.names[high]]
+                self.chance.shuffle(pair)
+                items.append(":".join(pair))
+            else:
+                items.append(self.chance.choice(self.names or ["a"]))
+        if self.chance.random() < 0.05 and len(self.names) > 1:
+            items.append(":".join(self.chance.sample(self.names, 2)))
+        return ",".join(items)
+
+    def _question(self) -> list[str]:
+        word = self.chance.choice(["route", "isolated", "hops", "through", "avoids", "carries", "lacks"])
+        if word == "hops":
+            return [word, str(self.chance.randint(0, 5)), self._some()]
+        if word in ("through", "avoids"):
+            return [word, self._some(), self._some()]
+        if word in ("carries", "lacks"):
+            return [word, self.chance.choice(COMMUNITIES), self._some()]
+        return [word, self._some()]
+
+    def _spoilt(self, made: list[str]) -> list[str]:
+        at = self.chance.randrange(len(made))
+        how = self.chance.random()
+        if how < 0.3:
+            return made[:at] + made[at + 1 :]
+        if how < 0.5:
+            return made[:at] + [made[at] + self.chance.choice([",", "x", ":r9", "-", "0", ",r99"])] + made[at + 1 :]
+        if how < 0.7:
+            return [*made, self.chance.choice(["r1", "*", "count"])]
+        return made[:at] + [self.chance.choice(["r99", "", "*", "1-0", "no-export", "links"])] + made[at + 1 :]

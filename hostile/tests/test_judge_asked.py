@@ -1,0 +1,138 @@
+"""The second reader of questions: solutions by trying all, ties, failures, words, and what it takes for an answer."""
+
+import random
+
+import pytest
+
+from hostile.judge import answers, asked, asked_words, questions, rests
+from hostile.judge.rests import Down
+from hostile.makers import asked as maker
+from hostile.makers import disputes
+
+NOTHING = Down()
+
+
+def network(name, bad=False, both=True):
+    """A gadget around r0, whose other routers prefer one another."""
+    pairs = disputes.GADGETS[name]
+    count = 1 + max(max(pair) for pair in pairs)
+    one = disputes.Shape(count, list(pairs), {0: [("10.0.0.0", 24)]})
+    lines = []
+    for place in range(count):
+        around = [other for _, other, _, _ in disputes.ports(one, place) if other != 0 and place != 0]
+        prefer = around if both else [other for other in around if (place, other) in pairs]
+        lines += disputes._plain(one, place, prefer, bad)
+    return answers.read("".join(f"{line}\n" for line in lines).encode())
+
+
+@pytest.mark.parametrize(
+    "name, bad, both, count",
+    [("disagree", False, True, 2), ("two pairs", False, True, 4), ("bad gadget", True, False, 0)],
+)
+def test_gadgets_have_as_many_solutions_as_griffin_shepherd_and_wilfong_say(name, bad, both, count):
+    left, found = questions.solutions(network(name, bad, both), 0, NOTHING)
+    assert len(found) == count
+    assert all(rests.keys(left, one) != rests.keys(left, other) for one, other in zip(found, found[1:]))
+
+
+def answer(net, words, status, out):
+    """Whether the answer is taken."""
+    try:
+        asked.judge(net, asked_words.call_of(net, words), status, out)
+    except asked.Differs:
+        return False
+    return True
+
+
+def test_an_answer_is_taken_by_its_verdict_status_and_counterexample():
+    net = network("disagree")
+    assert answer(net, ["1", "count"], 0, "class 1 solutions 2\n")
+    assert not answer(net, ["1", "count"], 0, "class 1 solutions 1\n")
+    assert answer(net, ["1", "route", "*"], 0, "class 1 yes\n")
+    assert not answer(net, ["1", "route", "*"], 8, "class 1 yes\n")
+    assert not answer(net, ["1", "route", "*"], 0, "class 1 none\n")
+    labels = [
+        "r0 bgp 100 path comms\n",
+        "r1 bgp 200 path 65003 65001 comms 9:9\n",
+        "r2 bgp 100 path 65001 comms\n",
+    ]
+    assert answer(net, ["1", "hops", "1", "r1"], 8, "class 1 no\n" + "".join(labels))
+    other = ["r0 bgp 100 path comms\n", "r1 bgp 100 path 65001 comms\n", "r2 bgp 200 path 65002 65001 comms 9:9\n"]
+    assert not answer(net, ["1", "hops", "1", "r1"], 8, "class 1 no\n" + "".join(other))
+    assert not answer(net, ["1", "hops", "1", "r1"], 8, "class 1 no\n" + "".join(labels[:2]))
+
+
+def test_ends_of_a_chain_belong_to_it():
+    net = network("disagree")
+    assert answer(net, ["1", "through", "r0", "*"], 0, "class 1 yes\n")
+    assert answer(net, ["1", "avoids", "r1", "r0"], 0, "class 1 yes\n")
+    verdict = questions.verdict(net, 0, asked_words.call_of(net, ["1", "avoids", "r1", "r1"]).question, NOTHING)
+    assert verdict.word == "no"
+
+
+def test_failures_are_counted_and_named():
+    net = network("disagree")
+    lines = "class 1 yes\nrouter r0 no\nclass 1 failing 1 of 3\n"
+    assert answer(net, ["1", "failing", "routers", "route", "*"], 8, lines)
+    assert not answer(net, ["1", "failing", "routers", "route", "*"], 8, lines.replace("1 of 3", "1 of 2"))
+    assert answer(net, ["1", "failing", "links", "route", "*"], 0, "class 1 yes\nclass 1 failing 0 of 3\n")
+    assert answer(net, ["1", "without", "r1:r0,r1:r2", "route", "r2"], 0, "class 1 yes\n")
+
+
+@pytest.mark.parametrize(
+    "words",
+    [
+        [],
+        ["1"],
+        ["1", "route"],
+        ["1", "route", "r1,r1"],
+        ["1", "route", "r1,"],
+        ["2-1", "count"],
+        ["0-1", "count"],
+        ["1", "without", "r1:r1", "count"],
+        ["1", "without", "r1:r2,r2:r1", "count"],
+        ["1", "failing", "count"],
+        ["1", "hops", "1000000000", "*"],
+        ["1", "carries", "no-export", "*"],
+    ],
+)
+def test_words_of_no_form(words):
+    with pytest.raises(asked_words.NoForm):
+        asked_words.call_of(network("disagree"), words)
+
+
+@pytest.mark.parametrize(
+    "words, why",
+    [
+        (["2", "route", "r9"], "NoClass 2"),
+        (["1-2", "count"], "NoClass 1-2"),
+        (["10.9.9.9", "count"], "NoClass 10.9.9.9"),
+        (["1", "without", "r8", "through", "r7", "r6"], "UnknownRouter r6"),
+        (["1", "without", "r8", "through", "r7", "*"], "UnknownRouter r7"),
+        (["1", "without", "r8:r1", "count"], "UnknownRouter r8"),
+    ],
+)
+def test_refusals_come_in_order(words, why):
+    with pytest.raises(asked_words.Unanswered) as refused:
+        asked_words.call_of(network("disagree"), words)
+    assert str(refused.value) == why
+
+
+def test_a_pair_without_a_link_is_refused_as_it_was_given():
+    with pytest.raises(asked_words.Unanswered, match="NoLink r4:r1"):
+        asked_words.call_of(network("two pairs"), ["1", "without", "r4:r1", "count"])
+
+
+def test_makers_give_texts_and_words_that_are_mostly_right():
+    good = 0
+    for seed in range(40):
+        chance = random.Random(seed)
+        net = answers.read(disputes.text(chance).encode())
+        if isinstance(net, answers.Expected):
+            continue
+        try:
+            asked_words.call_of(net, maker.Maker(chance, net).words())
+            good += 1
+        except (asked_words.NoForm, asked_words.Unanswered):
+            pass
+    assert good > 20

@@ -1,0 +1,1 @@
+"""How the program is asked, and its answers as plain data."""

@@ -1,0 +1,72 @@
+"""Texts that the program accepts, which is what the tools behind it read."""
+from __future__ import annotations
+
+import argparse
+from ipaddress import IPv4Network
+
+from bonsainet.cli.command_line import Refused
+from bonsainet.ask.program import Class, NotAnswered, Program, Status, classes_of
+
+
+def accepted_classes(program: Program, raw: bytes, name: str) -> list[Class]:
+    """The classes of a text. Refused, with its name, the program's reason and the tool for all refusals, where the
+    program does not accept it, or it is empty."""
+    if not raw.strip():
+        raise Refused(f"{name}: no router in it; bonsai-import writes nothing where it refuses a line")
+    answer = program.ask("classes", "F", texts={"F": raw})
+    if answer.status == Status.REFUSED:
+        raise Refused(f"{name}: {answer.reason}; tools/bonsai-refusals tells all refusals")
+    if answer.status != Status.DONE:
+        raise NotAnswered(answer, f"classes {name}")
+    return classes_of(answer.text)
+
+
+def accepted_text(program: Program, raw: bytes, name: str) -> str:
+    """The text of bytes that the program accepts. Refused where it does not."""
+    accepted_classes(program, raw, name)
+    return raw.decode("ascii")
+
+
+Wanted = int | IPv4Network
+
+
+def a_class(word: str) -> Wanted:
+    """A class as a word of the command line names it: by its number, a prefix of it, or an address."""
+    if word.isascii() and word.isdigit():
+        return int(word)
+    try:
+        return IPv4Network(word)
+    except ValueError:
+        raise argparse.ArgumentTypeError(f"neither a number, a prefix nor an address: {word!r}") from None
+
+
+def class_of(classes: list[Class], wanted: Wanted, name: str) -> Class:
+    """The class of a number or a prefix; of an address the class with the longest prefix around it. Refused where the
+    text of this name has none."""
+    if isinstance(wanted, IPv4Network):
+        return _class_with(classes, wanted, name)
+    if not 1 <= wanted <= len(classes):
+        told = (
+            f"the classes are 1 to {len(classes)}"
+            if len(classes) > 1
+            else "the one class is 1"
+            if classes
+            else "the network has no class, since no router originates a prefix"
+        )
+        raise Refused(f"{name}: no class {wanted}: {told}")
+    return classes[wanted - 1]
+
+
+def _class_with(classes: list[Class], wanted: IPv4Network, name: str) -> Class:
+    """The class of a prefix, or around an address."""
+    prefixes = [(IPv4Network(prefix), one) for one in classes for prefix in one.prefixes]
+    is_address = wanted.prefixlen == wanted.max_prefixlen
+    around = [
+        (prefix.prefixlen, one)
+        for prefix, one in prefixes
+        if prefix == wanted or is_address and wanted.subnet_of(prefix)
+    ]
+    if not around:
+        told = f"a prefix around {wanted.network_address}" if is_address else f"the prefix {wanted}"
+        raise Refused(f"{name}: no class has {told}")
+    return max(around, key=lambda found: found[0])[1]

@@ -1,0 +1,87 @@
+"""Which program answers, as the launcher says: its file, whether it is proved, and by which kit it was made."""
+from __future__ import annotations
+
+import dataclasses
+import hashlib
+import os
+import re
+import subprocess
+import sys
+from pathlib import Path
+
+ELF = b"\x7fELF"
+NOTICE = re.compile(rb"bonsai[a-z-]*: this answer is from ")
+
+
+class NoProgram(Exception):
+    """There is no program to ask. The launcher has said why."""
+
+
+@dataclasses.dataclass(frozen=True)
+class Identity:
+    """Which program answers: the checksum of its file, whether it is proved from the sources as they stand, and its kit where that is known."""
+
+    sha256: str
+    is_proved: bool
+    kit: str | None
+
+    @property
+    def plain(self) -> dict[str, object]:
+        """The same as plain data."""
+        return {"sha256": self.sha256, "proved": self.is_proved, "kit": self.kit}
+
+    @property
+    def told(self) -> str:
+        """The same in words."""
+        kind = "the proved program" if self.is_proved else "a program that is not proved"
+        return f"{kind}, SHA-256 {self.sha256[:16]}, {f'made with {self.kit}' if self.kit else 'of a kit that is not known'}"
+
+
+def is_file_of_one(path: str | Path) -> bool:
+    """Whether a file is a program that runs alone, and no script."""
+    try:
+        with open(path, "rb") as file:
+            return file.read(len(ELF)) == ELF
+    except OSError:
+        return False
+
+
+def sum_of(path: str | Path) -> str:
+    """The checksum of a file."""
+    return hashlib.sha256(Path(path).read_bytes()).hexdigest()
+
+
+def identity_of(launcher: str | None, path: str) -> Identity:
+    """Which program a file is, by what the launcher says of it, if that named it."""
+    told: dict[str, str] = {}
+    if launcher:
+        ran = subprocess.run([launcher, "--version"], stdin=subprocess.DEVNULL, capture_output=True, check=False)
+        lines = ran.stdout.decode("utf-8", "replace").splitlines()
+        told = {head: rest for head, _, rest in (line.partition(": ") for line in lines)}
+    kit = told.get("kit")
+    is_proved = told.get("program", "").startswith("proved, ")
+    return Identity(sum_of(path), is_proved, None if kit == "unknown" else kit)
+
+
+def without_notices(told: bytes) -> bytes:
+    """What was written to standard error, without what launchers say of a program that is not proved."""
+    return b"".join(line for line in told.splitlines(keepends=True) if not NOTICE.match(line))
+
+
+def named_by(launcher: str) -> str:
+    """What `--where` of a launcher names. What it says of a program that is not proved goes on to standard error, as it comes."""
+    words = [launcher, "--where"]
+    with subprocess.Popen(words, stdin=subprocess.DEVNULL, stdout=subprocess.PIPE, stderr=subprocess.PIPE) as asked:
+        assert asked.stdout and asked.stderr
+        failure = ""
+        for line in asked.stderr:
+            text = line.decode("utf-8", "backslashreplace")
+            if NOTICE.match(line):
+                sys.stderr.write(text)
+                sys.stderr.flush()
+            else:
+                failure += text
+        named = os.fsdecode(asked.stdout.read())
+    if asked.returncode or not named.endswith("\n"):
+        raise NoProgram(failure.strip() or f"{launcher}: names no program")
+    return named[:-1]

@@ -1,0 +1,1 @@
+"""Measurements that are kept, and what is drawn from them."""

@@ -1,0 +1,76 @@
+"""bench/all: every measurement of two states of the program, kept, and the pages and plots made from it."""
+from __future__ import annotations
+
+import argparse
+import importlib.util
+import os
+import shutil
+import sys
+import time
+from pathlib import Path
+from types import ModuleType
+
+from bonsainet.bench import paper, plot, profile, turns
+from bonsainet.bench.states import add_named, names_of, program_at
+from bonsainet.cli.command_line import Refused, parser
+
+Step = tuple[ModuleType, list[str]]
+
+
+def words() -> argparse.ArgumentParser:
+    """The words of the command line."""
+    made = parser(
+        "all",
+        "Measures two states of the program: `bench/turns --keep`, the same with --memory, `bench/profile --keep`, and `bench/paper --keep` of the state after;"
+        " then `bench/plot` writes the plots and the tables of the pages. A run that ended early goes on where it was. Takes about a quarter of an hour, and longer where"
+        " many rows of the states differ: these get more turns.",
+    )
+    states = "the state before, and the state after: programs that ./build proved, or others with a file PROGRAM.made: how it was made, and its SHA-256 (a line each)"
+    made.add_argument("programs", nargs=2, type=Path, metavar="PROGRAM", help=states)
+    add_named(made)
+    made.add_argument("--runs", type=int, default=5, help="turns of `bench/turns` (default: %(default)s)")
+    made.add_argument("--anew", action="store_true", help="measure again what is kept of these programs")
+    return made
+
+
+def main(argv: list[str] | None = None) -> None:
+    """Runs the tool."""
+    work(words().parse_args(argv))
+
+
+def work(arguments: argparse.Namespace) -> None:
+    """Measures, keeps and writes. What a later step needs is looked for before the first."""
+    if missing := packages():
+        raise Refused(f"programs or modules are not there: install the packages {', '.join(missing)}")
+    for tool, asked in steps(arguments):
+        started = time.monotonic()
+        tool.work(tool.words().parse_args(asked))
+        print(
+            f"all: {tool.__name__.rpartition('.')[2]} {' '.join(asked)}: {time.monotonic() - started:.0f} s",
+            file=sys.stderr,
+        )
+
+
+def packages() -> list[str]:
+    """The packages of what is not there, of all that the steps need."""
+    needed = {
+        "linux-perf": shutil.which("perf"),
+        "time": os.access(paper.TIME, os.X_OK),
+        "python3-matplotlib": importlib.util.find_spec("matplotlib"),
+    }
+    return [package for package, found in needed.items() if not found]
+
+
+def steps(arguments: argparse.Namespace) -> list[Step]:
+    """The tools and their words, in order."""
+    programs = [program_at(program) for program in arguments.programs]
+    names = names_of(arguments.named, programs)
+    both = [*map(str, programs), "--keep", "--named", ",".join(names)]
+    anew = ["--anew"] if arguments.anew else []
+    return [
+        (turns, [*both, *anew, "--runs", str(arguments.runs)]),
+        (turns, [*both, *anew, "--memory", "--runs", "3"]),
+        (profile, both),
+        (paper, ["--keep", "--program", str(programs[1]), "--named", names[1]]),
+        (plot, []),
+    ]

@@ -1,0 +1,196 @@
+"""What all tools share at their command line: `--version`, `-` for standard input, one line for each failure, and exit
+statuses.
+
+0 done, 1 the input was refused, 2 the words are wrong, 3 a file could not be read, 4 the output could not be written,
+130 interrupted.
+"""
+from __future__ import annotations
+
+import argparse
+import codecs
+import contextlib
+import errno
+import io
+import os
+import subprocess
+import sys
+from collections.abc import Callable, Iterable, Iterator
+
+from bonsainet.ask.program import TOP, NotAnswered
+from bonsainet.ask.where import NoProgram
+from bonsainet.cli import streams
+from bonsainet.cli.manual import Manual
+
+
+# (the most that a text may have)
+LONGEST_TEXT = 16_777_216
+
+
+class Refused(Exception):
+    """An input that a tool does not take, with one line that says which and why. `details` are lines to write below it
+    as they stand."""
+
+    def __init__(self, told: str, details: Iterable[str] = ()) -> None:
+        super().__init__(told)
+        self.details = list(details)
+
+
+def version() -> str:
+    """The version of the tools, as git names it, or `unknown` outside a repository."""
+    try:
+        told = subprocess.run(
+            ["git", "-C", str(TOP), "describe", "--always", "--dirty"], capture_output=True, text=True, check=False
+        )
+    except OSError:
+        return "unknown"
+    return told.stdout.strip() or "unknown"
+
+
+def parser(
+    name: str, purpose: str, statuses: tuple[tuple[str, str], ...] = (), **more: object
+) -> argparse.ArgumentParser:
+    """A parser with `--version`, whose help tells the purpose, and with `--manual`, which writes the tool's page of the
+    manual. `statuses` are those that the tool has besides the common ones."""
+    made = argparse.ArgumentParser(
+        prog=name, description=purpose, formatter_class=argparse.RawDescriptionHelpFormatter, **more
+    )
+    made.add_argument("--version", action="version", version=f"{name} {version()}")
+    made.add_argument("--manual", action=Manual)
+    made.set_defaults(statuses=statuses)
+    return made
+
+
+def read_input(name: str, most: int = LONGEST_TEXT + 1) -> bytes:
+    """The bytes of a file, or of standard input where the name is `-`: as many as the program needs to refuse the text
+    as too long, if there are more."""
+    if name == "-":
+        return streams.standard_input(most)
+    try:
+        with open(name, "rb") as file:
+            return file.read(most)
+    except IsADirectoryError as fault:
+        raise IsADirectoryError(
+            fault.errno, f"{fault.strerror}: bonsai-import makes one text of a folder", name
+        ) from None
+
+
+def name_of(file: str) -> str:
+    """What a file of the command line is called."""
+    return "standard input" if file == "-" else shown(file)
+
+
+def write_output(name: str, made: bytes, source: str = "-") -> None:
+    """Writes a file whole or not at all; `-` is standard output. Refused where the file is the one that was read."""
+    if name == "-":
+        sys.stdout.buffer.write(made)
+        sys.stdout.buffer.flush()
+        return
+    if source != "-" and os.path.exists(name) and os.path.samefile(source, name):
+        raise Refused(f"{name}: is the file that is read")
+    with kept(name, made):
+        pass
+
+
+@contextlib.contextmanager
+def kept(name: str, made: bytes) -> Iterator[None]:
+    """Writes a file that is in its place at the end of the context, and nowhere where the context fails. What is no
+    file is written at once."""
+    whole = os.path.realpath(name)
+    part = whole if os.path.exists(whole) and not os.path.isfile(whole) else f"{whole}.{os.getpid()}.part"
+    try:
+        try:
+            with open(part, "xb" if part != whole else "wb") as file:
+                file.write(made)
+        except OSError as fault:
+            raise not_written(name, fault) from None
+        yield
+        if part != whole:
+            os.replace(part, whole)
+    finally:
+        if part != whole and os.path.exists(part):
+            os.unlink(part)
+
+
+def not_written(name: str | os.PathLike[str], fault: OSError) -> OSError:
+    """The fault of a file that was not written, which ends a tool with status 4."""
+    return OSError(fault.errno or errno.EIO, f"{os.fspath(name)}: {fault.strerror}")
+
+
+def shown(text: str) -> str:
+    """The text as a person can read it: a byte that is no letter, as names of files and lines of texts can have it, is
+    `\\xff`."""
+    return "".join(f"\\x{ord(letter) - 0xDC00:02x}" if "\udc80" <= letter <= "\udcff" else letter for letter in text)
+
+
+def _escaped(fault: UnicodeError) -> tuple[str | bytes, int]:
+    """What is written for letters that a stream cannot take: a byte as `shown` has it, another one by its number."""
+    if not isinstance(fault, UnicodeEncodeError):
+        raise fault
+    return shown(fault.object[fault.start : fault.end]).encode("ascii", "backslashreplace").decode("ascii"), fault.end
+
+
+ESCAPED = "bonsainet.escaped"
+codecs.register_error(ESCAPED, _escaped)
+
+
+def printable(text: str) -> str:
+    """The text with all that a terminal would obey, and all that is not to be seen, told by its number."""
+    return "".join(it if it.isprintable() else it.encode("unicode_escape").decode() for it in shown(text))
+
+
+def one_line(text: str) -> str:
+    """The text with `?` for what would end the line or move the cursor, as names of files can have it."""
+    return "".join("?" if letter < " " or "\x7f" <= letter < "\xa0" else letter for letter in text)
+
+
+def run(name: str, work: Callable[[], int | None]) -> int:
+    """Runs a tool's work and turns each failure into one line on standard error and a status."""
+    streams.hold()
+    streams.end_by_signals()
+    for stream in (sys.stdout, sys.stderr):
+        if isinstance(stream, io.TextIOWrapper):
+            stream.reconfigure(errors=ESCAPED)
+    try:
+        return _written(work)
+    except Refused as refused:
+        print(one_line(f"{name}: {refused}"), *refused.details, sep="\n", file=sys.stderr)
+        return 1
+    except (NotAnswered, NoProgram) as fault:
+        print(one_line(f"{name}: {fault}"), file=sys.stderr)
+        return 1
+    except ModuleNotFoundError as fault:
+        return lacking(name, fault)
+    except KeyboardInterrupt:
+        print(f"{name}: interrupted", file=sys.stderr)
+        return 130
+    except BrokenPipeError:
+        os.dup2(os.open(os.devnull, os.O_WRONLY), sys.stdout.fileno())
+        print(f"{name}: write fault", file=sys.stderr)
+        return 4
+    except OSError as fault:
+        is_read = fault.filename is not None
+        told = f"{fault.filename}: {fault.strerror}" if is_read else f"write fault: {fault.strerror}"
+        print(one_line(f"{name}: {told}"), file=sys.stderr)
+        if not is_read:
+            os.dup2(os.open(os.devnull, os.O_WRONLY), sys.stdout.fileno())
+        return 3 if is_read else 4
+
+
+def _written(work: Callable[[], int | None]) -> int:
+    """Runs a tool's work, with what it wrote to standard output written, also where it refused."""
+    try:
+        status = work() or 0
+    except Refused:
+        sys.stdout.flush()
+        raise
+    sys.stdout.flush()
+    return status
+
+
+def lacking(name: str, fault: ModuleNotFoundError) -> int:
+    """Names the package of a Python module that is not there. A module of our own is no package's."""
+    module = (fault.name or "").partition(".")[0]
+    if module in ("", "bonsainet"):
+        raise fault
+    print(f"{name}: the Python module {module} is not there: install the package python3-{module}", file=sys.stderr)
+    return 1

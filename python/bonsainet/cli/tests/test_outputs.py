@@ -1,0 +1,60 @@
+"""What a tool writes is there whole or not at all, and never in the place of what it reads."""
+from __future__ import annotations
+
+import os
+from pathlib import Path
+
+import pytest
+
+from bonsainet.ask.program import TOP
+from bonsainet.cli.command_line import kept, write_output
+from bonsainet.tests.asking import needs, place_of, tool
+
+
+def test_a_file_is_written_beside_and_then_moved(tmp_path: Path) -> None:
+    place = tmp_path / "made"
+    place.write_bytes(b"before")
+    was = os.stat(place).st_ino
+    with kept(str(place), b"after"):
+        assert place.read_bytes() == b"before" and len(list(tmp_path.iterdir())) == 2
+    assert place.read_bytes() == b"after" and os.stat(place).st_ino != was and list(tmp_path.iterdir()) == [place]
+
+
+def test_a_file_stays_where_the_work_fails(tmp_path: Path) -> None:
+    place = tmp_path / "made"
+    place.write_bytes(b"before")
+    with pytest.raises(ZeroDivisionError), kept(str(place), b"after"):
+        raise ZeroDivisionError
+    assert place.read_bytes() == b"before" and list(tmp_path.iterdir()) == [place]
+
+
+def test_a_link_stays_a_link(tmp_path: Path) -> None:
+    (tmp_path / "link").symlink_to("made")
+    write_output(str(tmp_path / "link"), b"after")
+    assert (tmp_path / "link").is_symlink() and (tmp_path / "made").read_bytes() == b"after"
+
+
+@pytest.mark.parametrize("name", ["bonsai-page", "bonsai-draw"])
+@pytest.mark.parametrize("way", ["itself", "link", "hard"])
+def test_the_file_that_is_read_is_not_written_over(name: str, way: str, tmp_path: Path) -> None:
+    needs(name)
+    place, other = tmp_path / "net.svg", tmp_path / "other.svg"
+    place.write_bytes(place_of("two-routers.cfg").read_bytes())
+    if way == "link":
+        other.symlink_to(place)
+    elif way == "hard":
+        os.link(place, other)
+    words = [place, *([1] if name == "bonsai-draw" else []), "-o", place if way == "itself" else other]
+    ran = tool(name, *words)
+    assert ran.returncode == 1 and b"is the file that is read" in ran.stderr
+    assert place.read_bytes() == place_of("two-routers.cfg").read_bytes()
+
+
+def test_a_report_is_not_written_over_what_was_read(tmp_path: Path) -> None:
+    for place in sorted((TOP / "examples/folders/campus/configs").iterdir()):
+        (tmp_path / place.name).write_bytes(place.read_bytes())
+    for name in ("core1.cfg", "./acc1.cfg"):
+        before = (tmp_path / name).read_bytes()
+        ran = tool("bonsai-import", tmp_path, "--report", tmp_path / name)
+        assert ran.returncode == 1 and b"is a file that is read" in ran.stderr
+        assert (tmp_path / name).read_bytes() == before

@@ -1,0 +1,161 @@
+"""Bad inputs and outputs of the tools that show: one line on standard error, and the documented status."""
+import os
+import signal
+import subprocess
+import time
+from pathlib import Path
+
+import pytest
+
+from bonsainet.nets.fat_tree import fat_tree_text
+from bonsainet.ask.program import TOP
+from bonsainet.ask.where import without_notices
+from bonsainet.tests.asking import needs, place_of, tool
+
+TOOLS = {"bonsai-draw": ["1"], "bonsai-json": [], "bonsai-page": [], "bonsai-every": ["all"]}
+WRITERS = {"bonsai-draw": ["1", "-f", "dot"], "bonsai-json": [], "bonsai-page": []}
+
+
+def refused(name: str, place: object, cwd: Path, status: int, told: str) -> None:
+    ran = tool(name, place, *TOOLS[name], cwd=cwd)
+    assert (ran.returncode, ran.stdout) == (status, b"")
+    assert ran.stderr.startswith(f"{name}: ".encode()) and told in ran.stderr.decode() and ran.stderr.count(b"\n") == 1
+
+
+@pytest.fixture(autouse=True)
+def started(name: str) -> None:
+    needs(name)
+
+
+@pytest.mark.parametrize(
+    "name, module", [("bonsai-page", "jinja2"), ("bonsai-draw", "graphviz"), ("round-figures", "matplotlib")]
+)
+def test_a_package_that_is_not_there(name: str, module: str, tmp_path: Path) -> None:
+    (tmp_path / f"{module}.py").write_text(f"raise ModuleNotFoundError('none', name='{module}')\n")
+    words = (
+        [place_of("fabric.cfg"), 1]
+        if name == "bonsai-draw"
+        else [place_of("fabric.cfg")]
+        if name == "bonsai-page"
+        else []
+    )
+    ran = tool(name, *words, env=os.environ | {"PYTHONPATH": str(tmp_path)})
+    assert (ran.returncode, ran.stdout) == (1, b"")
+    assert (
+        ran.stderr
+        == f"{name}: the Python module {module} is not there: install the package python3-{module}\n".encode()
+    )
+
+
+@pytest.mark.parametrize("name", TOOLS)
+def test_a_file_that_is_not_there(name: str, tmp_path: Path) -> None:
+    refused(name, "nowhere.cfg", tmp_path, 3, "nowhere.cfg: No such file or directory")
+
+
+@pytest.mark.parametrize("name", TOOLS)
+def test_a_folder_in_place_of_a_file(name: str, tmp_path: Path) -> None:
+    refused(name, ".", tmp_path, 3, f"{name}: .: Is a directory: bonsai-import makes one text of a folder\n")
+
+
+@pytest.mark.parametrize("name", TOOLS)
+@pytest.mark.skipif(os.geteuid() == 0, reason="root may read every file: permission is not tried")
+def test_a_file_without_permission(name: str, tmp_path: Path) -> None:
+    (tmp_path / "secret.cfg").touch(mode=0)
+    refused(name, "secret.cfg", tmp_path, 3, "Permission denied")
+
+
+@pytest.mark.parametrize("name", TOOLS)
+def test_an_empty_text(name: str, tmp_path: Path) -> None:
+    (tmp_path / "net.cfg").write_text("\n")
+    refused(
+        name,
+        "net.cfg",
+        tmp_path,
+        1,
+        f"{name}: net.cfg: no router in it; bonsai-import writes nothing where it refuses a line\n",
+    )
+
+
+@pytest.mark.parametrize("name", TOOLS)
+@pytest.mark.parametrize(
+    "raw, told",
+    [
+        (b"\xff\xfe\x00", "refused: line 1: NotAscii"),
+        (b"hostname a\n", "refused: line 1: NoEnd"),
+        (b"hello\nend\n", "refused: line 1: UnknownLine"),
+    ],
+)
+def test_a_broken_text(name: str, raw: bytes, told: str, tmp_path: Path) -> None:
+    (tmp_path / "broken.cfg").write_bytes(raw)
+    refused(name, "broken.cfg", tmp_path, 1, f"{name}: broken.cfg: {told}; tools/bonsai-refusals tells all refusals\n")
+
+
+@pytest.mark.parametrize("name", WRITERS)
+def test_an_output_that_is_full(name: str) -> None:
+    with open("/dev/full", "wb") as full:
+        ran = subprocess.run(
+            [TOP / "tools" / name, place_of("fabric.cfg"), *WRITERS[name]],
+            stdout=full,
+            stderr=subprocess.PIPE,
+            check=False,
+        )
+    assert (ran.returncode, without_notices(ran.stderr)) == (
+        4,
+        f"{name}: write fault: No space left on device\n".encode(),
+    )
+
+
+@pytest.mark.parametrize(
+    "name, words", [("bonsai-draw", ["1", "-o", "none/a.svg"]), ("bonsai-page", ["-o", "none/a.html"])]
+)
+def test_an_output_that_cannot_be_made(name: str, words: list[str], tmp_path: Path) -> None:
+    ran = tool(name, place_of("fabric.cfg"), *words, cwd=tmp_path)
+    assert (ran.returncode, ran.stderr) == (
+        4,
+        f"{name}: write fault: {words[-1]}: No such file or directory\n".encode(),
+    )
+
+
+@pytest.mark.parametrize("name", ["bonsai-every"])
+def test_a_folder_that_cannot_be_made(name: str, tmp_path: Path) -> None:
+    (tmp_path / "file").touch()
+    ran = tool(name, place_of("fabric.cfg"), "file/all", cwd=tmp_path)
+    assert (ran.returncode, ran.stderr) == (4, f"{name}: write fault: file/all: Not a directory\n".encode())
+
+
+@pytest.mark.parametrize("name", WRITERS)
+def test_an_output_that_is_closed(name: str) -> None:
+    reader, writer = os.pipe()
+    os.close(reader)
+    ran = subprocess.run(
+        [TOP / "tools" / name, place_of("fabric.cfg"), *WRITERS[name]],
+        stdout=writer,
+        stderr=subprocess.PIPE,
+        check=False,
+    )
+    os.close(writer)
+    assert (ran.returncode, without_notices(ran.stderr)) == (4, f"{name}: write fault\n".encode())
+
+
+@pytest.mark.parametrize("name", ["bonsai-json", "bonsai-page"])
+def test_an_interrupt_ends_soon(name: str, tmp_path: Path) -> None:
+    (tmp_path / "large.cfg").write_text(fat_tree_text(20))
+    started = subprocess.Popen(
+        [TOP / "tools" / name, tmp_path / "large.cfg"], stdout=subprocess.DEVNULL, stderr=subprocess.PIPE
+    )
+    time.sleep(2.5)
+    started.send_signal(signal.SIGINT)
+    begun = time.monotonic()
+    _, told = started.communicate(timeout=60)
+    assert (started.returncode, without_notices(told)) == (130, f"{name}: interrupted\n".encode())
+    assert time.monotonic() - begun < 15
+
+
+@pytest.mark.parametrize("name", ["bonsai-json", "bonsai-refusals"])
+def test_a_text_without_an_end(name: str) -> None:
+    told = b"refused: FileTooLong" if name == "bonsai-json" else b"1 refusal"
+    for words in (["/dev/zero"], ["-"]):
+        with open("/dev/zero", "rb") as endless:
+            command = [str(TOP / "tools" / name), *words]
+            ran = subprocess.run(command, stdin=endless, capture_output=True, timeout=100, check=False)
+        assert ran.returncode == 1 and told in ran.stderr

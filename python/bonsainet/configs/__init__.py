@@ -1,0 +1,1 @@
+"""Configurations as the tools see them: text, records, network, compressed network, changes."""

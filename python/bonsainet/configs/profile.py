@@ -1,0 +1,397 @@
+"""An accepted text as records: what each known line gives, with the line that gave it.
+
+It reads texts that the program accepts, and judges nothing: a line that it does not know has no bearing. The forms are
+those of docs/LINES.md.
+"""
+from __future__ import annotations
+
+import dataclasses
+import re
+from collections.abc import Iterator
+from ipaddress import IPv4Address, IPv4Interface, IPv4Network
+
+from bonsainet.configs.text import Line, Router
+
+DEFAULT_COSTS = {
+    "Loopback": 1,
+    "FastEthernet": 1,
+    "GigabitEthernet": 1,
+    "TenGigabitEthernet": 1,
+    "Vlan": 1,
+    "Ethernet": 10,
+    "Serial": 64,
+}
+
+
+@dataclasses.dataclass
+class Interface:
+    """An interface. `cost` is the one that a line gives. `lines` has the line of each value by the value's name."""
+
+    name: str
+    line: Line
+    address: IPv4Interface | None = None
+    cost: int | None = None
+    is_shut: bool = False
+    descriptions: list[str] = dataclasses.field(default_factory=list)
+    lines: dict[str, Line] = dataclasses.field(default_factory=dict)
+    ignored: list[Line] = dataclasses.field(default_factory=list)
+
+    @property
+    def is_up(self) -> bool:
+        """Whether it has an address and is not shut."""
+        return self.address is not None and not self.is_shut
+
+    @property
+    def kind(self) -> str:
+        """The name up to its first digit."""
+        return re.split(r"\d", self.name, maxsplit=1)[0]
+
+    @property
+    def cost_in_area(self) -> int | None:
+        """The cost in OSPF: that of its line, else that of its kind."""
+        return self.cost if self.cost is not None else DEFAULT_COSTS.get(self.kind)
+
+
+@dataclasses.dataclass
+class Neighbor:
+    """A neighbour of a BGP process."""
+
+    address: IPv4Address
+    remote: int
+    line: Line
+    is_shut: bool = False
+    sends_communities: bool = False
+    list_in: str | None = None
+    list_out: str | None = None
+    map_in: str | None = None
+    map_out: str | None = None
+    descriptions: list[str] = dataclasses.field(default_factory=list)
+    lines: dict[str, Line] = dataclasses.field(default_factory=dict)
+    ignored: list[Line] = dataclasses.field(default_factory=list)
+
+
+@dataclasses.dataclass
+class Bgp:
+    """A BGP process."""
+
+    number: int
+    line: Line
+    preference: int | None = None
+    preference_line: Line | None = None
+    networks: dict[IPv4Network, Line] = dataclasses.field(default_factory=dict)
+    neighbors: dict[IPv4Address, Neighbor] = dataclasses.field(default_factory=dict)
+
+
+@dataclasses.dataclass(frozen=True)
+class AreaLine:
+    """A `network` line of OSPF: an address, the bits that may differ, and the area."""
+
+    address: int
+    wildcard: int
+    area: int
+    line: Line
+
+    def covers(self, address: IPv4Address) -> bool:
+        """Whether the address agrees in all bits where the wildcard has 0."""
+        return not (int(address) ^ self.address) & ~self.wildcard & 0xFFFFFFFF
+
+
+@dataclasses.dataclass
+class Ospf:
+    """An OSPF process."""
+
+    number: int
+    line: Line
+    is_passive_by_default: bool = False
+    passive: list[str] = dataclasses.field(default_factory=list)
+    not_passive: list[str] = dataclasses.field(default_factory=list)
+    areas: list[AreaLine] = dataclasses.field(default_factory=list)
+    passive_lines: list[Line] = dataclasses.field(default_factory=list)
+
+    def is_passive(self, interface: str) -> bool:
+        """Whether an interface of this name is passive."""
+        return interface not in self.not_passive if self.is_passive_by_default else interface in self.passive
+
+
+@dataclasses.dataclass(frozen=True)
+class PrefixEntry:
+    """An entry of a prefix list."""
+
+    sequence: int
+    is_permit: bool
+    prefix: IPv4Network
+    least: int | None
+    most: int | None
+    line: Line
+
+
+@dataclasses.dataclass(frozen=True)
+class CommunityLine:
+    """A line of a community list: it holds for routes that carry all its communities."""
+
+    is_permit: bool
+    communities: tuple[int, ...]
+    line: Line
+
+
+@dataclasses.dataclass
+class MapEntry:
+    """An entry of a route map. `communities` is empty for `none`, and absent where no line sets any."""
+
+    sequence: int
+    is_permit: bool
+    line: Line
+    preference: int | None = None
+    communities: tuple[int, ...] | None = None
+    is_additive: bool = False
+    delete_list: str | None = None
+    prepended: tuple[int, ...] = ()
+    lines: dict[str, Line] = dataclasses.field(default_factory=dict)
+
+    @property
+    def prefix_list_names(self) -> list[str]:
+        """The prefix lists that the entry matches."""
+        return self.lines["prefix lists"].words[4:] if "prefix lists" in self.lines else []
+
+    @property
+    def is_exact(self) -> bool:
+        """Whether the match on communities is exact."""
+        return self._community_words[-1:] == ["exact-match"]
+
+    @property
+    def _community_words(self) -> list[str]:
+        return self.lines["community lists"].words[2:] if "community lists" in self.lines else []
+
+    @property
+    def community_list_names(self) -> list[str]:
+        """The community lists that the entry matches."""
+        return self._community_words[:-1] if self.is_exact else self._community_words
+
+
+@dataclasses.dataclass
+class Device:
+    """A router of the network. A stub is one that `bonsai-import --stub` added."""
+
+    name: str
+    line: Line
+    members: list[str] = dataclasses.field(default_factory=list)
+    interfaces: list[Interface] = dataclasses.field(default_factory=list)
+    bgp: Bgp | None = None
+    ospf: Ospf | None = None
+    prefix_lists: dict[str, list[PrefixEntry]] = dataclasses.field(default_factory=dict)
+    community_lists: dict[str, list[CommunityLine]] = dataclasses.field(default_factory=dict)
+    maps: dict[str, list[MapEntry]] = dataclasses.field(default_factory=dict)
+    ignored: list[Line] = dataclasses.field(default_factory=list)
+    is_stub: bool = False
+
+    @property
+    def up_interfaces(self) -> Iterator[Interface]:
+        """The interfaces that are up."""
+        return (interface for interface in self.interfaces if interface.is_up)
+
+
+def community(word: str) -> int:
+    """The value of a community `A:B` or of a number."""
+    high, _, low = word.rpartition(":")
+    return (int(high) << 16 | int(low)) if high else int(low)
+
+
+def community_text(value: int) -> str:
+    """A community as `A:B`."""
+    return f"{value >> 16}:{value & 0xFFFF}"
+
+
+def device_of(router: Router) -> Device:
+    """What the lines of an accepted router give."""
+    reader = _Reader(Device(router.name, next(iter(router.lines))))
+    for line in router.lines:
+        reader.take(line)
+    for entries in (*reader.device.prefix_lists.values(), *reader.device.maps.values()):
+        entries.sort(key=lambda entry: entry.sequence)
+    return reader.device
+
+
+class _Reader:
+    """Takes the lines of a router in order, and keeps which stanza is open."""
+
+    def __init__(self, device: Device) -> None:
+        self.device = device
+        self.take_indented = self._ignore
+
+    def take(self, line: Line) -> None:
+        words = line.words
+        if line.is_blank:
+            if words[:2] == ["!", "member"] and len(words) == 3:
+                self.device.members.append(words[2])
+            self.device.is_stub |= words[:3] == ["!", "assumed:", "a"] and words[-1] == "(--stub)"
+        elif line.is_indented:
+            self.take_indented(line, words)
+        else:
+            self.take_indented = self._ignore
+            self._top(line, words)
+
+    def _ignore(self, line: Line, _words: list[str]) -> None:
+        self.device.ignored.append(line)
+
+    def _top(self, line: Line, words: list[str]) -> None:
+        device = self.device
+        match words:
+            case ["hostname", _]:
+                device.line = line
+            case ["interface", name]:
+                device.interfaces.append(Interface(name, line))
+                self.take_indented = self._interface
+            case ["router", "bgp", number]:
+                device.bgp = Bgp(int(number), line)
+                self.take_indented = self._bgp
+            case ["router", "ospf", number]:
+                device.ospf = Ospf(int(number), line)
+                self.take_indented = self._ospf
+            case ["ip", "prefix-list", name, "seq", number, act, prefix, *more]:
+                bounds = dict(zip(more[::2], map(int, more[1::2])))
+                entry = PrefixEntry(
+                    int(number),
+                    act == "permit",
+                    IPv4Network(prefix, strict=False),
+                    bounds.get("ge"),
+                    bounds.get("le"),
+                    line,
+                )
+                device.prefix_lists.setdefault(name, []).append(entry)
+            case ["ip", "community-list", "standard", name, act, *communities] | [
+                "ip",
+                "community-list",
+                name,
+                act,
+                *communities,
+            ]:
+                found = CommunityLine(act == "permit", tuple(map(community, communities)), line)
+                device.community_lists.setdefault(name, []).append(found)
+            case ["route-map", name, act, number]:
+                device.maps.setdefault(name, []).append(MapEntry(int(number), act == "permit", line))
+                self.map_entry = device.maps[name][-1]
+                self.take_indented = self._entry
+            case _:
+                self._ignore(line, words)
+
+    def _interface(self, line: Line, words: list[str]) -> None:
+        interface = self.device.interfaces[-1]
+        match words:
+            case ["ip", "address", address, mask]:
+                interface.address = IPv4Interface(f"{address}/{mask}")
+                interface.lines["address"] = line
+            case ["ip", "ospf", "cost", cost]:
+                interface.cost = int(cost)
+                interface.lines["cost"] = line
+            case ["shutdown"]:
+                interface.is_shut = True
+                interface.lines.setdefault("shut", line)
+            case ["description", *words_told]:
+                interface.descriptions.append(" ".join(words_told))
+                interface.lines.setdefault("description", line)
+            case _:
+                interface.ignored.append(line)
+                self._ignore(line, words)
+
+    def _bgp(self, line: Line, words: list[str]) -> None:
+        process = self.device.bgp
+        match words:
+            case ["bgp", "default", "local-preference", value]:
+                process.preference = int(value)
+                process.preference_line = line
+            case ["network", address]:
+                process.networks[IPv4Network(f"{address}/{_classful(address)}")] = line
+            case ["network", address, "mask", mask]:
+                process.networks[IPv4Network(f"{address}/{mask}")] = line
+            case ["neighbor", address, "remote-as", number]:
+                process.neighbors[IPv4Address(address)] = Neighbor(IPv4Address(address), int(number), line)
+            case ["neighbor", address, *rest]:
+                self._neighbor(line, address, rest)
+            case _:
+                self._ignore(line, words)
+
+    def _neighbor(self, line: Line, address: str, words: list[str]) -> None:
+        neighbor = self.device.bgp.neighbors.get(_address(address))
+        match words if neighbor else None:
+            case ["shutdown"]:
+                neighbor.is_shut = True
+                neighbor.lines.setdefault("shut", line)
+            case ["send-community"] | ["send-community", "standard" | "both"]:
+                neighbor.sends_communities = True
+                neighbor.lines.setdefault("sends", line)
+            case ["prefix-list", name, "in"]:
+                neighbor.list_in = name
+                neighbor.lines.setdefault("list in", line)
+            case ["prefix-list", name, "out"]:
+                neighbor.list_out = name
+                neighbor.lines.setdefault("list out", line)
+            case ["route-map", name, "in"]:
+                neighbor.map_in = name
+                neighbor.lines.setdefault("map in", line)
+            case ["route-map", name, "out"]:
+                neighbor.map_out = name
+                neighbor.lines.setdefault("map out", line)
+            case ["description", *told]:
+                neighbor.descriptions.append(" ".join(told))
+                neighbor.lines.setdefault("description", line)
+            case _:
+                if neighbor:
+                    neighbor.ignored.append(line)
+                self._ignore(line, words or [])
+
+    def _ospf(self, line: Line, words: list[str]) -> None:
+        process = self.device.ospf
+        match words:
+            case ["passive-interface", "default"]:
+                process.is_passive_by_default = True
+                process.passive_lines.append(line)
+            case ["passive-interface", name]:
+                process.passive.append(name)
+                process.passive_lines.append(line)
+            case ["no", "passive-interface", name]:
+                process.not_passive.append(name)
+                process.passive_lines.append(line)
+            case ["network", address, wildcard, "area", area]:
+                number = int(area) if area.isdigit() else int(IPv4Address(area))
+                process.areas.append(AreaLine(int(IPv4Address(address)), int(IPv4Address(wildcard)), number, line))
+            case _:
+                self._ignore(line, words)
+
+    def _entry(self, line: Line, words: list[str]) -> None:
+        entry = self.map_entry
+        match words:
+            case ["match", "ip", "address", "prefix-list", *_]:
+                entry.lines["prefix lists"] = line
+            case ["match", "community", *_]:
+                entry.lines["community lists"] = line
+            case ["set", "local-preference", value]:
+                entry.preference = int(value)
+                entry.lines["preference"] = line
+            case ["set", "community", "none"]:
+                entry.communities = ()
+                entry.lines["communities"] = line
+            case ["set", "community", *communities]:
+                entry.is_additive = communities[-1] == "additive"
+                entry.communities = tuple(map(community, communities[: -1 if entry.is_additive else None]))
+                entry.lines["communities"] = line
+            case ["set", "comm-list", name, "delete"]:
+                entry.delete_list = name
+                entry.lines["deletions"] = line
+            case ["set", "as-path", "prepend", *numbers]:
+                entry.prepended = tuple(map(int, numbers))
+                entry.lines["prepended"] = line
+            case _:
+                self._ignore(line, words)
+
+
+def _classful(address: str) -> int:
+    """The length that the first number of an address gives."""
+    first = int(address.split(".")[0])
+    return 8 if first < 128 else 16 if first < 192 else 24
+
+
+def _address(word: str) -> IPv4Address | None:
+    try:
+        return IPv4Address(word)
+    except ValueError:
+        return None

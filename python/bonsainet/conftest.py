@@ -1,0 +1,28 @@
+"""What all tests share: signals that reach the tools, and the program that is asked.
+
+Signals reach the tools that tests start, also where the tests run behind `nohup` or in the background of a shell.
+"""
+import signal
+
+import pytest
+
+from bonsainet.cli.command_line import Refused
+from bonsainet.ask.native import native
+from bonsainet.ask.program import Program
+
+for number, handler in (
+    (signal.SIGINT, signal.default_int_handler),
+    (signal.SIGHUP, signal.SIG_DFL),
+    (signal.SIGTERM, signal.SIG_DFL),
+):
+    if signal.getsignal(number) == signal.SIG_IGN:
+        signal.signal(number, handler)
+
+
+@pytest.fixture(scope="session")
+def program() -> Program:
+    """The program as one file. A test that asks it is skipped where there is none, with what makes one."""
+    try:
+        return Program(str(native(Program())))
+    except (Refused, OSError) as fault:
+        pytest.skip(str(fault))

@@ -1,0 +1,1 @@
+"""The networks of FRR's topology tests, imported and run."""

@@ -1,0 +1,208 @@
+"""A folder of FRR's configurations run on FRR itself, in network namespaces, and compared with the labels of its
+import.
+
+It is run by hand, as root. Interfaces in one subnet share a bridge. What it starts it ends: daemons by their numbers,
+and then the namespaces.
+"""
+from __future__ import annotations
+
+import contextlib
+import dataclasses
+import json
+import os
+import re
+import shutil
+import signal
+import subprocess
+import tempfile
+import time
+from collections.abc import Iterator
+from ipaddress import IPv4Interface
+from pathlib import Path
+
+from bonsainet.cli.command_line import Refused
+from bonsainet.importing.folder import Source
+from bonsainet.importing.read import read_folder
+from bonsainet.ask.program import Program
+
+DAEMONS = ("zebra", "bgpd", "ospfd", "staticd")
+PLACE = Path("/usr/lib/frr")
+OWN = re.compile(r"\b42000000\d\d\b")
+
+
+@dataclasses.dataclass
+class Rested:
+    """How many labels were compared, those that differ, and those that have the key of the label and another path."""
+
+    labels: int
+    differing: list[str]
+    tied: list[str]
+
+
+def run_on_frr(folder: Path, text: str, program: Program, seconds: int, shared: str = "") -> Rested:
+    """Runs a folder, waits, and compares each router's best BGP route for each prefix with its label at rest.
+
+    `shared` is the AS number that `--own-as` parted, put back into the paths of the labels. Refused without root or
+    FRR.
+    """
+    if os.geteuid() != 0 or not PLACE.is_dir():
+        raise Refused("to run FRR takes root and the package frr")
+    routers = read_folder(str(folder)).routers
+    signal.signal(signal.SIGTERM, _interrupt)
+    with contextlib.ExitStack() as ends:
+        room = Path(ends.enter_context(tempfile.TemporaryDirectory(prefix="bonsai-run-")))
+        room.chmod(0o755)
+        spaces = [
+            ends.enter_context(_namespace(f"bonsai-{os.getpid()}-{number}")) for number in range(len(routers) + 1)
+        ]
+        _join(routers, spaces)
+        for router, space in zip(routers, spaces):
+            ends.enter_context(_daemons(folder, router, space, room / router.name))
+        time.sleep(seconds)
+        return _compare(routers, room, text, program, shared)
+
+
+@contextlib.contextmanager
+def _namespace(name: str) -> Iterator[str]:
+    _do("ip", "netns", "add", name)
+    try:
+        _do("ip", "-n", name, "link", "set", "lo", "up")
+        yield name
+    finally:
+        subprocess.run(["ip", "netns", "del", name], check=False)
+
+
+def _join(routers: list[Source], spaces: list[str]) -> None:
+    """Gives each interface with an address a wire to the bridge of its subnet, in the last namespace."""
+    switch = spaces[-1]
+    bridges: dict[str, str] = {}
+    count = 0
+    for router, space in zip(routers, spaces):
+        for stanza in router.stanzas:
+            words = stanza.head.words
+            address = next(
+                (
+                    line.words[2]
+                    for line in stanza.body
+                    if line.words[:1] == ["ip"] and line.words[1] in ("address", "addr") and "/" in line.text
+                ),
+                None,
+            )
+            if words[0] not in ("int", "interface") or words[1] == "lo" or len(words) > 2 or address is None:
+                continue
+            subnet = str(IPv4Interface(address).network)
+            if subnet not in bridges:
+                bridges[subnet] = f"b{len(bridges)}"
+                _do("ip", "-n", switch, "link", "add", bridges[subnet], "type", "bridge")
+                _do("ip", "-n", switch, "link", "set", bridges[subnet], "up")
+            count += 1
+            _do(
+                "ip", "-n", switch, "link", "add", f"w{count}", "type", "veth", "peer", "name", words[1], "netns", space
+            )
+            _do("ip", "-n", switch, "link", "set", f"w{count}", "master", bridges[subnet], "up")
+            _do("ip", "-n", space, "link", "set", words[1], "up")
+
+
+@contextlib.contextmanager
+def _daemons(folder: Path, router: Source, space: str, room: Path) -> Iterator[None]:
+    """FRR's daemons of a router, with the files of the folder."""
+    room.mkdir()
+    shutil.chown(room, "frr", "frr")
+    try:
+        for daemon, file in _files(folder, router):
+            own = room / f"{daemon}.conf"
+            own.write_bytes(file.read_bytes() if file else b"")
+            shutil.chown(own, "frr", "frr")
+            words = (
+                "-d",
+                "-f",
+                str(own),
+                "-i",
+                f"{room}/{daemon}.pid",
+                "-z",
+                f"{room}/zserv.api",
+                "--vty_socket",
+                str(room),
+                "-A",
+                "127.0.0.1",
+            )
+            _do("ip", "netns", "exec", space, str(PLACE / daemon), *words)
+        yield
+    finally:
+        for file in sorted(room.glob("*.pid")):
+            with contextlib.suppress(ValueError, ProcessLookupError):
+                os.kill(int(file.read_text()), signal.SIGTERM)
+
+
+def _files(folder: Path, router: Source) -> Iterator[tuple[str, Path | None]]:
+    """The file of each daemon that a router needs."""
+    top = folder / "configs" if (folder / "configs").is_dir() else folder
+    place = top / router.file
+    for daemon in DAEMONS:
+        whole = place if place.is_file() else place / "frr.conf"
+        own = place / f"{daemon}.conf"
+        if own.is_file() or (whole.is_file() and daemon != "staticd"):
+            yield daemon, own if own.is_file() else whole
+        elif daemon == "zebra":
+            yield daemon, None
+
+
+def _compare(routers: list[Source], room: Path, text: str, program: Program, shared: str) -> Rested:
+    found = Rested(0, [], [])
+    prefixes = [prefix for one in program.classes(text) for prefix in one.prefixes]
+    held = {router.name: _held(room / router.name, prefixes) for router in routers}
+    for one in program.classes(text):
+        lines = program.done("run", "F", str(one.number), "S", texts={"F": text, "S": "*\n" * 20}).splitlines()[1:]
+        labels = {line.split()[0]: " ".join(line.split()[1:]) for line in lines}
+        for router in routers:
+            for prefix in one.prefixes:
+                label = OWN.sub(shared, labels[router.name]) if shared else labels[router.name]
+                other = held[router.name][prefix]
+                found.labels += 1
+                if other != label:
+                    told = f"{router.name} {prefix}: {label} here, {other} on FRR"
+                    (found.tied if _key(other) == _key(label) else found.differing).append(told)
+    return found
+
+
+def _held(room: Path, prefixes: list[str]) -> dict[str, str]:
+    """The best route of a router for each prefix, written as a label."""
+    words = [word for prefix in prefixes for word in ("-c", f"show bgp ipv4 unicast {prefix} json")]
+    told = subprocess.run(
+        ["vtysh", "--vty_socket", str(room), *words], capture_output=True, text=True, check=False
+    ).stdout.strip()
+    found = {}
+    for prefix in prefixes:
+        answer, end = json.JSONDecoder().raw_decode(told) if told.startswith("{") else ({}, 0)
+        told = told[end:].lstrip()
+        found[prefix] = _label(answer.get("paths", []))
+    return found
+
+
+def _label(paths: list[dict]) -> str:
+    """The best of some paths as a label."""
+    best = next((path for path in paths if path.get("bestpath", {}).get("overall")), None)
+    if best is None:
+        return "none"
+    path = best.get("aspath", {}).get("string", "").replace("Local", "")
+    communities = " ".join(best.get("community", {}).get("list", []))
+    return " ".join(f"bgp {best.get('locPrf', 100)} path {path} comms {communities}".split())
+
+
+def _key(label: str) -> tuple[object, ...]:
+    """Preference, length and communities of a label."""
+    words = label.split()
+    if words[0] != "bgp":
+        return (label,)
+    at = words.index("comms")
+    return words[1], at - 3, tuple(words[at + 1 :])
+
+
+def _interrupt(_number: int, _frame: object) -> None:
+    raise KeyboardInterrupt
+
+
+def _do(*words: str) -> None:
+    told = subprocess.run(words, capture_output=True, text=True, check=False)
+    if told.returncode:
+        raise Refused(f"{' '.join(words[:4])}: {(told.stderr.strip().splitlines() or ['failed'])[-1]}")

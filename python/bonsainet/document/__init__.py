@@ -1,0 +1,1 @@
+"""All classes of a network in one JSON document."""

@@ -1,0 +1,151 @@
+"""The document says what the program says, and fits its schema."""
+import json
+import os
+from pathlib import Path
+
+import pytest
+from hypothesis import given, settings
+from hypothesis import strategies as st
+
+from bonsainet.configs.compressed import asked
+from bonsainet.document import tool as document_tool
+from bonsainet.document.build import document
+from bonsainet.document.tool import check
+from bonsainet.doubts.tests.test_ties import SETS, text_of
+from bonsainet.drawing.graph import large, large_by_groups, small
+from bonsainet.ask.program import Program
+from bonsainet.nets.random_networks import random_text
+from bonsainet.tests.asking import bytes_of, compressed, example, place_of, tool
+
+NAMES = [
+    "campus.cfg",
+    "fabric.cfg",
+    "edge-and-provider.cfg",
+    "two-lone-routers.cfg",
+    "two-routers.cfg",
+    "fat-tree-4.cfg",
+    "many-communities.cfg",
+]
+
+
+def made(name: str) -> dict:
+    text = example(name)
+    return document(text, [compressed(name, found.number) for found in text.classes], Program().identity)
+
+
+@pytest.mark.parametrize("name", NAMES)
+def test_each_example_fits_the_schema(name: str) -> None:
+    pytest.importorskip(
+        "jsonschema", reason="the package python3-jsonschema is not there: no document is checked by the schema"
+    )
+    check(made(name))
+
+
+@pytest.mark.parametrize("name", ["fabric.cfg", "two-lone-routers.cfg", "edge-and-provider.cfg"])
+def test_it_says_what_json_says(name: str) -> None:
+    whole = made(name)
+    told = json.loads(Program().done("json", "F", "1", texts={"F": bytes_of(name)}))
+    found = whole["classes"][0]
+    assert (found["routers"], found["links"]) == (told["routers"], told["links"])
+    assert [{key: group[key] for key in ("lone", "members", "name", "origin")} for group in found["groups"]] == told[
+        "groups"
+    ]
+    assert [{key: each[key] for key in ("address", "router")} for each in whole["unmatched"]] == told["unmatched"]
+
+
+@given(st.integers(0, 10_000))
+@settings(max_examples=12, deadline=None)
+def test_random_networks(seed: int) -> None:
+    """The document says of every class what the program's own JSON says, and its pictures have its links."""
+    raw = random_text(seed).encode()
+    text = asked(Program(), raw, "F")
+    for number in range(1, min(3, len(text.classes)) + 1):
+        each = text.compress(Program(), number)
+        found = document(text, [each], Program().identity)["classes"][0]
+        told = json.loads(Program().done("json", "F", str(number), texts={"F": raw}))
+        assert (found["routers"], found["links"]) == (told["routers"], told["links"])
+        assert [group["members"] for group in found["groups"]] == [group["members"] for group in told["groups"]]
+        assert len(found["edges"]) == found["links"]["after"] == sum(edge.count for edge in small(each).edges)
+        assert sum(edge.count for edge in large(text.network, each).edges) == sum(
+            edge.count for edge in large_by_groups(text.network, each).edges
+        )
+
+
+def test_edges_and_policies_are_those_of_the_compressed_text() -> None:
+    found = made("two-lone-routers.cfg")["classes"][0]
+    assert len(found["edges"]) == found["links"]["after"]
+    named = {(end["group"], end["in"]) for edge in found["edges"] for end in (edge["low"], edge["high"]) if end["in"]}
+    assert all(policy in found["policies"][group] for group, policy in named)
+    assert ["route-map POLICY-1 permit 10", " set local-preference 200"] in [*found["policies"]["x"].values()]
+
+
+def test_costs_in_ospf() -> None:
+    edge = made("campus.cfg")["classes"][0]["edges"][-1]
+    assert (edge["low"]["group"], edge["low"]["cost"], edge["high"]["cost"]) == ("dist2", 5, 5)
+
+
+def test_one_class_on_one_line() -> None:
+    ran = tool("bonsai-json", place_of("campus.cfg"), "--class", 10, "--compact", "--check")
+    assert ran.returncode == 0 and ran.stdout.count(b"\n") == 1
+    assert [found["class"] for found in json.loads(ran.stdout)["classes"]] == [10]
+
+
+def test_a_class_that_compress_refuses_keeps_its_groups() -> None:
+    text = b"hostname a\ninterface Vlan1\n ip address 100.64.0.1 255.255.255.0\nrouter bgp 1\n network 100.64.0.0 mask 255.255.255.0\nend\n"
+    ran = tool("bonsai-json", "-", "--check", raw=text)
+    found = json.loads(ran.stdout)["classes"][0]
+    assert (found["refused"], found["groups"][0]["members"]) == ("line 3: PoolOverlap", ["a"])
+    assert "edges" not in found
+
+
+def test_a_network_without_classes() -> None:
+    ran = tool("bonsai-json", "-", "--check", raw=b"hostname a\nend\n")
+    assert ran.returncode == 0
+    assert json.loads(ran.stdout)["classes"] == []
+
+
+def test_ties_stand_before_groups() -> None:
+    """u holds the route without communities, by m1 or m2, and the one with a community ties with it."""
+    raw = text_of({"m1 u": "route-map OUT out"}, {"m1": SETS}).encode()
+    ran = tool("bonsai-json", "-", "--check", raw=raw)
+    assert ran.returncode == 0, ran.stderr
+    found = json.loads(ran.stdout)["classes"][0]
+    over = [["m1", "m2"], ["o"]]
+    assert found["ties"] == [
+        {
+            "group": "u",
+            "members": ["u"],
+            "decided": ["communities"],
+            "held": {"over": over, "communities": []},
+            "others": [{"over": over, "communities": ["1:1"]}],
+        }
+    ]
+    assert list(found).index("ties") < list(found).index("groups")
+    assert "ties" not in json.loads(tool("bonsai-json", "-", "--no-ties", raw=raw).stdout)["classes"][0]
+
+
+def test_ties_are_no_matter_of_ospf() -> None:
+    ran = tool("bonsai-json", place_of("campus.cfg"), "--class", 10)
+    assert "ties" not in json.loads(ran.stdout)["classes"][0]
+
+
+@pytest.mark.parametrize("name", ["campus.cfg", "two-routers.cfg", "full-mesh.cfg"])
+@pytest.mark.parametrize("indent", [None, 1])
+def test_pieces_are_the_whole(name: str, indent: int | None, monkeypatch: pytest.MonkeyPatch) -> None:
+    monkeypatch.setattr(document_tool, "AT_A_TIME", 3)
+    text, program = example(name), Program()
+    numbers = [found.number for found in text.classes]
+    for chosen in (numbers, numbers[:1], []):
+        found = text.compress_each(program, chosen)
+        whole = json.dumps(document(text, found, program.identity), indent=indent)
+        assert "".join(document_tool.pieces(text, program, chosen, indent, False, False)) == whole
+
+
+def test_nothing_is_written_where_a_class_fails(tmp_path: Path) -> None:
+    failing = tmp_path / "failing"
+    failing.write_text(
+        f'#!/bin/sh\n[ "$1 $3" = "compress 9" ] && {{ echo "out of memory" >&2; exit 5; }}\nexec {Program().path} "$@"\n'
+    )
+    failing.chmod(0o755)
+    ran = tool("bonsai-json", place_of("campus.cfg"), env={**os.environ, "BONSAI_PROGRAM": str(failing)})
+    assert (ran.returncode, ran.stdout) == (1, b"") and b"out of memory" in ran.stderr

@@ -1,0 +1,1 @@
+"""What a text says that is accepted and likely not meant."""

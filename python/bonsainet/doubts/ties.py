@@ -1,0 +1,220 @@
+"""Ties: routers at rest with two routes of one preference and length, between which communities or lone numbers
+decided.
+
+Real routers break such ties by age or identifier, and may rest elsewhere. The program is asked on the compressed
+network of a class: by `run` for the labels at rest and for the route that each session brings, the router's other
+sessions shut, and by `check` whether such a route is beaten.
+"""
+from __future__ import annotations
+
+import dataclasses
+from collections.abc import Iterator, Sequence
+
+from bonsainet.configs.compressed import Asked, Compressed, side_by_side
+from bonsainet.doubts.finding import Doubt, doubt
+from bonsainet.ask.labels import BgpLabel, Label, read_solution, solution_text
+from bonsainet.configs.network import End, Network
+from bonsainet.configs.profile import community_text
+from bonsainet.ask.program import Answer, NotAnswered, Program, Status
+from bonsainet.configs.text import read_text, text_of
+
+MOST_ROUNDS = 64
+MOST_TOLD = 6
+MOST_NAMED = 4
+COMMUNITIES = "communities"
+LONE_NUMBERS = "lone numbers"
+
+
+@dataclasses.dataclass(frozen=True)
+class Tie:
+    """A router of a compressed network, the route that it holds, and one that it holds not, with the neighbours that
+    offer them."""
+
+    router: str
+    held: BgpLabel
+    held_from: str
+    other: BgpLabel
+    other_from: str
+
+    @property
+    def decided(self) -> str:
+        """What decided."""
+        return COMMUNITIES if self.held.communities != self.other.communities else LONE_NUMBERS
+
+
+@dataclasses.dataclass(frozen=True)
+class Route:
+    """A route of a tie, in the names of the network: the groups that it passes, nearest first, and its communities. The
+    numbers on the path of a compressed network are those of first members, and no router of the network need hold
+    them together."""
+
+    over: tuple[tuple[str, ...], ...]
+    communities: tuple[str, ...]
+
+    @property
+    def told(self) -> str:
+        """The route in words."""
+        return f"over {' '.join(map(_one_of, self.over))}{' with ' + ' '.join(self.communities) if self.communities else ''}"
+
+
+@dataclasses.dataclass(frozen=True)
+class Tied:
+    """A group that holds a tied route: the routers, what decided, the route that they hold in the profile, and the
+    others, which real routers may hold as well."""
+
+    members: tuple[str, ...]
+    decided: tuple[str, ...]
+    held: Route
+    others: tuple[Route, ...]
+
+    @property
+    def told(self) -> str:
+        """The tie in words."""
+        shown = "; ".join(route.told for route in self.others[:MOST_TOLD])
+        more = f"; and {len(self.others) - MOST_TOLD} more" if len(self.others) > MOST_TOLD else ""
+        return f"{' and '.join(self.decided)} decided for the route {self.held.told}, and real routers may hold the one {shown}{more}"
+
+
+def doubts_of_ties(program: Program, asked: Asked, numbers: list[int]) -> Iterator[Doubt]:
+    """The ties of some classes; of classes whose compressed networks are alike but for their prefixes the first is
+    asked."""
+    if asked.network.protocol != "bgp":
+        return
+    for classes, found in ties_of_each(program, asked.compress_each(program, numbers)):
+        yield from _doubts(asked, classes, found)
+
+
+def ties_of_each(program: Program, found: Sequence[Compressed]) -> list[tuple[list[Compressed], list[Tied] | str]]:
+    """The ties of some classes of BGP, or why they were not asked, once for all classes that are alike but for their
+    prefixes."""
+    shapes: dict[object, list[Compressed]] = {}
+    for small in found:
+        shapes.setdefault(small.shape, []).append(small)
+    alike = list(shapes.values())
+    return list(zip(alike, side_by_side(lambda classes: tied_groups(program, classes[0]), alike)))
+
+
+def ties_by_class(program: Program, asked: Asked, found: Sequence[Compressed]) -> dict[int, list[Tied] | str]:
+    """For each class the groups that hold a tied route, or why they were not asked. Empty where the network has no
+    BGP."""
+    if asked.network.protocol != "bgp":
+        return {}
+    return {one.number: ties for classes, ties in ties_of_each(program, found) for one in classes}
+
+
+def _doubts(asked: Asked, classes: list[Compressed], found: list[Tied] | str) -> Iterator[Doubt]:
+    small = classes[0]
+    told = f"class {small.number}" if len(classes) == 1 else f"classes {' '.join(str(one.number) for one in classes)}"
+    if isinstance(found, str):
+        yield Doubt("tie-not-asked", "", None, "", f"{told}: {found}")
+        return
+    for tied in found:
+        line = asked.network.by_name[tied.members[0]].bgp.line
+        yield doubt("tie", " ".join(tied.members), line, f"{told}: {tied.told}")
+
+
+def _one_of(members: Sequence[str]) -> str:
+    """The name of a router, or in brackets those of which one is meant."""
+    if len(members) == 1:
+        return members[0]
+    more = f" and {len(members) - MOST_NAMED} more" if len(members) > MOST_NAMED else ""
+    return f"({' '.join(members[:MOST_NAMED])}{more})"
+
+
+def tied_groups(program: Program, small: Compressed) -> list[Tied] | str:
+    """The groups of a class that hold a tied route, or why they were not asked."""
+    found = ties_of(program, small)
+    if isinstance(found, str):
+        return found
+    members = {group.members[0]: group.members for group in small.groups}
+    by_number = {device.bgp.number: device.name for device in small.network.devices if device.bgp}
+
+    def route(label: BgpLabel) -> Route:
+        over = dict.fromkeys(by_number[number] for number in label.path)
+        return Route(tuple(members.get(name, (name,)) for name in over), tuple(map(community_text, label.communities)))
+
+    tied = []
+    for name in dict.fromkeys(tie.router for tie in found):
+        those = [tie for tie in found if tie.router == name]
+        decided = tuple(sorted({tie.decided for tie in those}))
+        others = tuple(dict.fromkeys(route(tie.other) for tie in those))
+        tied.append(Tied(members[name], decided, route(those[0].held), others))
+    return tied
+
+
+def ties_of(program: Program, small: Compressed) -> list[Tie] | str:
+    """The ties of a class, or why they were not asked."""
+    if small.refusal:
+        return f"`compress` refused it: {small.refusal}"
+    rounds = "* " * min(MOST_ROUNDS, 2 * len(small.groups) + 2)
+    told = _run(program, small.text, rounds)
+    if not told.startswith("rest\n"):
+        return f"it does not rest after {len(rounds.split())} rounds of all groups"
+    labels = read_solution(told.partition("\n")[2])
+    return [tie for name in labels for tie in _at(program, small, labels, name)]
+
+
+def _at(program: Program, small: Compressed, labels: dict[str, Label], name: str) -> Iterator[Tie]:
+    """The ties at a router."""
+    held = labels[name]
+    ends = [far for near, far in _ends(small.network) if near.device.name == name]
+    if not isinstance(held, BgpLabel) or not held.path or len(ends) < 2:
+        return
+    brought = [(far.device.name, _brought(program, small, labels, name, far)) for far in ends]
+    giver = next((neighbour for neighbour, label in brought if label == held), "another")
+    for neighbour, label in brought:
+        is_even = (
+            isinstance(label, BgpLabel) and label.preference == held.preference and len(label.path) == len(held.path)
+        )
+        if is_even and label != held and _is_beaten(program, small.text, {**labels, name: label}, name):
+            yield Tie(name, held, giver, label, neighbour)
+
+
+def _ends(network: Network) -> Iterator[tuple[End, End]]:
+    """Both ends of each session, from each side."""
+    for link in network.links:
+        yield from ((link.low, link.high), (link.high, link.low))
+
+
+def _brought(program: Program, small: Compressed, labels: dict[str, Label], name: str, far: End) -> Label:
+    """The route that one session brings: the routers on its path are activated in order, and then this one, its other
+    sessions shut."""
+    offered = labels[far.device.name]
+    if not isinstance(offered, BgpLabel):
+        return None
+    by_number = {device.bgp.number: device.name for device in small.network.devices if device.bgp}
+    path = dict.fromkeys([far.device.name, *(by_number[number] for number in offered.path)])
+    if name in path:
+        return None
+    told = _run(program, _with_one_session(small.text, name, str(far.address)), " ".join([*reversed(path), name]))
+    return read_solution(told.partition("\n")[2])[name]
+
+
+def _with_one_session(text: str, name: str, address: str) -> str:
+    """The text in which a router's neighbours but for one are shut."""
+    routers = read_text(text, "F")
+    for router in routers:
+        for stanza in router.with_head("router", "bgp") if router.name == name else ():
+            others = [
+                line
+                for line in stanza.body
+                if line.words[:1] == ["neighbor"] and line.words[2:3] == ["remote-as"] and line.words[1] != address
+            ]
+            stanza.body += [line.with_text(f" neighbor {line.words[1]} shutdown") for line in others]
+    return text_of(routers)
+
+
+def _is_beaten(program: Program, text: str, labels: dict[str, Label], name: str) -> bool:
+    """Whether `check` says of a router's route that another beats it. The router stands first in the text, so that it
+    is judged first."""
+    routers = sorted(read_text(text, "F"), key=lambda router: router.name != name)
+    answer = program.ask("check", "F", "1", "S", texts={"F": text_of(routers), "S": solution_text(labels)})
+    return answer.reason == f"not stable: {name} better-candidate"
+
+
+def _run(program: Program, text: str, schedule: str) -> str:
+    """What `run` writes."""
+    answer: Answer = program.ask("run", "F", "1", "S", texts={"F": text, "S": f"{schedule}\n"})
+    if answer.status != Status.DONE:
+        raise NotAnswered(answer, "run")
+    return answer.text

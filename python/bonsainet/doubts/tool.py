@@ -1,0 +1,114 @@
+"""bonsai-doubts: what is accepted and likely not meant."""
+from __future__ import annotations
+
+import argparse
+import json
+from collections.abc import Iterator
+
+from bonsainet.ask.accepted import Wanted, a_class, class_of
+from bonsainet.cli.command_line import name_of, parser, printable, read_input
+from bonsainet.configs.compressed import Asked, asked
+from bonsainet.doubts.agreement import doubts_of_agreement
+from bonsainet.doubts.finding import SORTS, Doubt
+from bonsainet.doubts.links import doubts_of_links
+from bonsainet.doubts.numbers import doubts_of_numbers
+from bonsainet.doubts.policies import doubts_of_policies
+from bonsainet.doubts.suggested import doubts_of_folder
+from bonsainet.doubts.ties import doubts_of_ties
+from bonsainet.importing.read import add_skip, read_folder
+from bonsainet.ask.program import Program
+from bonsainet.ask.where import Identity
+
+PURPOSE = """Lists what a text says that Bonsai accepts and that is likely not meant.
+
+Lines that originate nothing, neighbours in no session, interfaces in the area without a neighbour, routers without links, links whose
+ends differ in timers, authentication, MTU or password, which Bonsai takes to agree, lists and maps that nothing uses, entries that
+nothing reaches, each with the reason. Ties: where at rest two routes of a router have one preference and one length, and communities
+or lone numbers decided. Real routers break these by age or identifier, and may rest elsewhere; the program is asked for them on the
+compressed network of each class, by `run` and `check`. Paths that pass two routers of one AS number, where bonsai-import --own-as gave
+them numbers of their own. With --folder: links that the raw folder suggests, by two interfaces in one subnet, and the text has not. A
+doubt is no fault: the status is 0."""
+
+
+def words() -> argparse.ArgumentParser:
+    """The words of the command line."""
+    made = parser("bonsai-doubts", PURPOSE)
+    made.add_argument("file", metavar="F", help="the configurations of the network, or - for standard input")
+    made.add_argument(
+        "--folder", metavar="FOLDER", help="the folder that the text was imported from, for the links that it suggests"
+    )
+    add_skip(made)
+    made.add_argument(
+        "--class",
+        dest="numbers",
+        metavar="N",
+        type=a_class,
+        action="append",
+        help="ask for the ties and numbers of this class alone; may be repeated",
+    )
+    made.add_argument("--no-ties", action="store_true", help="ask neither for ties nor for numbers")
+    made.add_argument("--json", action="store_true", help="write one JSON object")
+    return made
+
+
+def main(argv: list[str] | None = None) -> None:
+    """Runs the tool."""
+    work(words().parse_args(argv))
+
+
+def work(arguments: argparse.Namespace) -> None:
+    """Writes the doubts."""
+    program = Program()
+    name = name_of(arguments.file)
+    text = asked(program, read_input(arguments.file), name)
+    folder = read_folder(arguments.folder, arguments.skip) if arguments.folder else None
+    found = [*doubts_of_links(text.network), *doubts_of_agreement(text.network), *doubts_of_policies(text.network)]
+    if not arguments.no_ties:
+        numbers = chosen(text, arguments.numbers)
+        found += [*doubts_of_ties(program, text, numbers), *doubts_of_numbers(program, text, numbers)]
+    if folder:
+        found += doubts_of_folder(text.network, folder)
+    print(
+        json.dumps(as_json(name, found, program.identity), indent=1)
+        if arguments.json
+        else "\n".join(as_text(name, found))
+    )
+
+
+def chosen(text: Asked, numbers: list[Wanted] | None) -> list[int]:
+    """The classes that are asked for: all, where none is named. Refused where there is no such class."""
+    wanted = numbers or [one.number for one in text.classes]
+    return list(dict.fromkeys(class_of(text.classes, one, text.name).number for one in wanted))
+
+
+def as_json(name: str, found: list[Doubt], program: Identity) -> dict[str, object]:
+    """The doubts as one object."""
+    return {"form": 1, "program": program.plain, "input": name, "doubts": [_one_json(one) for one in found]}
+
+
+def as_text(name: str, found: list[Doubt]) -> Iterator[str]:
+    """The doubts for a person, sort by sort."""
+    yield f"{name}: {len(found)} {'doubt' if len(found) == 1 else 'doubts'}"
+    for sort, title in SORTS.items():
+        those = [one for one in found if one.sort == sort]
+        alike: dict[tuple[str, str], list[Doubt]] = {}
+        for one in those:
+            alike.setdefault((one.told, one.text), []).append(one)
+        if those:
+            yield from ("", f"{title}: {len(those)}")
+            yield from (f"  {_told(doubts)}" for doubts in alike.values())
+
+
+def _told(doubts: list[Doubt]) -> str:
+    """One doubt, or several that say the same of the same line on several routers."""
+    one = doubts[0]
+    place = f"{one.place}: " if one.place else ""
+    names = " ".join(name for name in dict.fromkeys(each.router for each in doubts) if name)
+    text = f"{one.text}: " if one.text else ""
+    more = f" (and at {', '.join(str(each.place.line) for each in doubts[1:] if each.place)})" if doubts[1:] else ""
+    return printable(f"{place}{f'{names}: ' if names else ''}{text}{one.told}{more}")
+
+
+def _one_json(one: Doubt) -> dict[str, object]:
+    place = {"file": one.place.file, "line": one.place.line} if one.place else {"file": None, "line": None}
+    return {"sort": one.sort, "routers": one.router.split(), **place, "text": one.text, "told": one.told}

@@ -1,0 +1,1 @@
+"""A command for all classes, by many processors and machines."""

@@ -1,0 +1,204 @@
+"""bonsai-every on a disk that is full, ended or killed at any moment, and resumed: an answer that is there is whole, and none is lost."""
+from __future__ import annotations
+
+import hashlib
+import json
+import os
+import shutil
+import signal
+import subprocess
+import time
+from collections.abc import Callable, Iterator
+from pathlib import Path
+
+import pytest
+
+from bonsainet.ask.program import TOP, Program
+from bonsainet.nets.fat_tree import fat_tree_text
+from bonsainet.tests.asking import place_of, tool
+
+pytestmark = pytest.mark.skipif(
+    not shutil.which("parallel"), reason="the package parallel is not there: bonsai-every is not tried"
+)
+FEW = ["--each", "--jobs", "2"]
+
+
+@pytest.fixture(name="text", scope="module")
+def text_fixture(tmp_path_factory: pytest.TempPathFactory) -> Path:
+    """The fat tree of 12, with 72 classes."""
+    made = tmp_path_factory.mktemp("text") / "fat-tree-12.cfg"
+    made.write_text(fat_tree_text(12))
+    return made
+
+
+@pytest.fixture(name="small_disk")
+def small_disk_fixture(tmp_path: Path) -> Iterator[Callable[[int], Path]]:
+    """A file system of as many KiB as is asked; asked again, it grows."""
+    place = tmp_path / "disk"
+    place.mkdir()
+    if subprocess.run(
+        ["mount", "-t", "tmpfs", "-o", "size=16k", "none", place], capture_output=True, check=False
+    ).returncode:
+        pytest.skip("a file system of its own needs root")
+
+    def of_size(size: int) -> Path:
+        subprocess.run(["mount", "-o", f"remount,size={size}k", place], check=True)
+        return place
+
+    try:
+        yield of_size
+    finally:
+        subprocess.run(["umount", "-l", place], check=True)
+
+
+def must_be_whole(folder: Path, text: Path, count: int) -> None:
+    """Each answer that is there is that of the program, and `count` are there."""
+    found = list(folder.glob("class-*.cfg"))
+    program = Program(str(folder / "bonsai"))
+    assert len(found) >= count
+    for answer in found[:: max(1, len(found) // 4)]:
+        assert answer.read_text() == program.compress(text.read_bytes(), int(answer.stem.split("-")[1]))
+    assert all(answer.read_bytes().endswith(b"end\n") for answer in found)
+
+
+def test_a_disk_that_gets_full(small_disk: Callable[[int], Path], text: Path) -> None:
+    need = (Path(Program().path).stat().st_size + text.stat().st_size) // 1024
+    for size in (20, need // 2, need + 16, need + 400):
+        folder = small_disk(size) / "all"
+        ran = tool("bonsai-every", text, folder, *FEW, *(["--resume"] if (folder / "plan.json").exists() else []))
+        assert ran.returncode in (1, 4) and b"Traceback" not in ran.stderr
+        if folder.exists() and list(folder.glob("class-*.cfg")):
+            must_be_whole(folder, text, 1)
+    folder = small_disk(need + 20000) / "all"
+    ran = tool("bonsai-every", text, folder, *FEW, "--resume")
+    assert (ran.returncode, ran.stderr.splitlines()[-1]) == (0, b"bonsai-every: 72 of 72 answered")
+    must_be_whole(folder, text, 72)
+
+
+def test_a_copy_of_the_program_that_does_not_fit(small_disk: Callable[[int], Path], text: Path) -> None:
+    size = text.stat().st_size // 1024 + 100
+    ran = tool("bonsai-every", text, small_disk(size) / "all", *FEW)
+    assert ran.returncode == 4 and b"/all/bonsai: No space left on device" in ran.stderr
+    assert not (small_disk(size) / "all/bonsai").exists()
+
+
+@pytest.mark.parametrize("number", [signal.SIGTERM, signal.SIGHUP, signal.SIGKILL, signal.SIGINT])
+def test_ended_and_resumed(number: signal.Signals, text: Path, tmp_path: Path) -> None:
+    folder = tmp_path / "all"
+    words = [str(TOP / "tools/bonsai-every"), str(text), str(folder), *FEW]
+    started = subprocess.Popen(words, stderr=subprocess.DEVNULL, start_new_session=True)
+    wait_for(lambda: len(list(folder.glob("class-*.part"))) > 4)
+    started.send_signal(number)
+    started.wait(60)
+    if number != signal.SIGKILL:
+        assert not at_work(folder) and not list(folder.glob("class-*.part"))
+        must_be_whole(folder, text, 1)
+    wait_for(lambda: not at_work(folder))
+    ran = tool("bonsai-every", text, folder, *FEW, "--resume")
+    assert (ran.returncode, ran.stderr) == (0, b"bonsai-every: 72 of 72 answered\n")
+    must_be_whole(folder, text, 72)
+    assert not list(folder.glob("*.part*"))
+
+
+def wait_for(found: Callable[[], object]) -> None:
+    """Waits at most a minute until there is something."""
+    until = time.monotonic() + 60
+    while not found() and time.monotonic() < until:
+        time.sleep(0.02)
+    assert found()
+
+
+def at_work(folder: Path) -> list[str]:
+    """The processes that are run in a folder."""
+    found = []
+    for process in Path("/proc").glob("[0-9]*"):
+        try:
+            if os.readlink(process / "cwd") == str(folder):
+                found.append((process / "cmdline").read_text("utf-8", "replace"))
+        except OSError:
+            continue
+    return found
+
+
+def test_two_runs_at_once(text: Path, tmp_path: Path) -> None:
+    folder = tmp_path / "all"
+    started = subprocess.Popen([TOP / "tools/bonsai-every", text, folder, *FEW], stderr=subprocess.DEVNULL)
+    wait_for(lambda: list(folder.glob("class-*.part")))
+    ran = tool("bonsai-every", text, folder, *FEW, "--resume")
+    assert ran.returncode == 1 and b"another run, or the last jobs of one, is at work there" in ran.stderr
+    assert started.wait(120) == 0
+    must_be_whole(folder, text, 72)
+
+
+@pytest.mark.parametrize(
+    "harm",
+    [
+        lambda place: place.unlink(),
+        lambda place: place.write_bytes(b""),
+        lambda place: os.truncate(place, place.stat().st_size - 10),
+        lambda place: place.write_bytes(place.read_bytes().replace(b"hostname", b"hostnome", 1)),
+    ],
+    ids=["gone", "empty", "cut", "changed"],
+)
+def test_an_answer_that_was_harmed_is_asked_again(harm: Callable[[Path], object], tmp_path: Path) -> None:
+    folder, place = tmp_path / "all", place_of("fabric.cfg")
+    assert tool("bonsai-every", place, folder, "--jobs", "1").returncode == 0
+    before = (folder / "class-1.cfg").read_bytes()
+    harm(folder / "class-1.cfg")
+    ran = tool("bonsai-every", place, folder, "--jobs", "1", "--resume")
+    assert (ran.returncode, ran.stderr.splitlines()[-1]) == (0, b"bonsai-every: 2 of 2 answered")
+    assert (folder / "class-1.cfg").read_bytes() == before
+
+
+def test_a_foreign_program_in_the_folder_is_not_run(tmp_path: Path) -> None:
+    folder, place = tmp_path / "all", place_of("fabric.cfg")
+    assert tool("bonsai-every", place, folder, "--jobs", "1").returncode == 0
+    before = (folder / "class-1.cfg").read_bytes()
+    (folder / "bonsai").write_text("#!/bin/sh\necho FOREIGN PROGRAM\n")
+    (folder / "class-1.cfg").unlink()
+    assert tool("bonsai-every", place, folder, "--jobs", "1", "--resume").returncode == 0
+    assert (folder / "class-1.cfg").read_bytes() == before
+
+
+def test_a_log_that_was_cut(tmp_path: Path) -> None:
+    folder, place = tmp_path / "all", place_of("fabric.cfg")
+    assert tool("bonsai-every", place, folder, "--jobs", "1").returncode == 0
+    for name in ("jobs.log", "answers.tsv"):
+        os.truncate(folder / name, (folder / name).stat().st_size - 9)
+    ran = tool("bonsai-every", place, folder, "--jobs", "1", "--resume")
+    assert (ran.returncode, ran.stderr.splitlines()[-1]) == (0, b"bonsai-every: 2 of 2 answered")
+    assert tool("bonsai-every", place, folder, "--jobs", "1", "--resume").returncode == 0
+
+
+@pytest.mark.parametrize("words", [["--command", "groups"], ["--then", "wc -l"]])
+def test_a_folder_of_another_command(words: list[str], tmp_path: Path) -> None:
+    place = place_of("fabric.cfg")
+    assert tool("bonsai-every", place, tmp_path / "all", "--jobs", "1").returncode == 0
+    ran = tool("bonsai-every", place, tmp_path / "all", "--resume", *words)
+    assert ran.returncode == 1 and b"it was begun with another command" in ran.stderr
+
+
+def test_a_folder_of_another_program(tmp_path: Path) -> None:
+    place = place_of("fabric.cfg")
+    assert tool("bonsai-every", place, tmp_path / "all", "--jobs", "1").returncode == 0
+    other = tmp_path / "other"
+    other.write_bytes(Path(Program().path).read_bytes() + b"\0")
+    other.chmod(0o755)
+    env = {**os.environ, "BONSAI_PROGRAM": str(other)}
+    ran = tool("bonsai-every", place, tmp_path / "all", "--resume", env=env)
+    assert ran.returncode == 1 and b"it was begun with another program" in ran.stderr
+
+
+def test_the_plan_says_which_program_answers(tmp_path: Path) -> None:
+    assert tool("bonsai-every", place_of("fabric.cfg"), tmp_path / "all", "--jobs", "1").returncode == 0
+    told = json.loads((tmp_path / "all/plan.json").read_text())
+    assert told["program"] == hashlib.sha256((tmp_path / "all/bonsai").read_bytes()).hexdigest()
+    assert told["identity"] == Program().identity.plain
+
+
+def test_what_stands_behind_then_is_left_as_it_is(tmp_path: Path) -> None:
+    shell = """cat > /dev/null; echo "{} | {#} | {%} | {.} | {= 1 + 1 =} | $CLASS"; echo '$x "y"'; printf x"""
+    env = {**os.environ, "PARALLEL": "--dry-run", "PARALLEL_SHELL": "/bin/false"}
+    ran = tool("bonsai-every", place_of("fabric.cfg"), tmp_path / "all", "--jobs", "1", "--then", shell, env=env)
+    assert ran.returncode == 0
+    assert (tmp_path / "all/class-1.out").read_text() == '{} | {#} | {%} | {.} | {= 1 + 1 =} | 1\n$x "y"\nx'

@@ -1,0 +1,188 @@
+"""Every class is asked once, here and over ssh, and an interrupted run goes on where it stopped."""
+import getpass
+import os
+import shutil
+import signal
+import socket
+import subprocess
+import time
+from collections.abc import Iterator
+from pathlib import Path
+
+import pytest
+
+from bonsainet.ask.program import TOP, Program
+from bonsainet.ask.where import without_notices
+from bonsainet.every.plan import first_of_equals
+from bonsainet.nets.fat_tree import fat_tree_text
+from bonsainet.tests.asking import TWO_ALIKE, compressed, example, place_of, tool
+
+SSHD = shutil.which("sshd") or "/usr/sbin/sshd"
+
+
+pytestmark = [
+    pytest.mark.skipif(
+        not shutil.which("parallel"), reason="the package parallel is not there: bonsai-every is not tried"
+    ),
+]
+
+
+def test_classes_of_one_shape_have_one_answer() -> None:
+    assert first_of_equals([1, 2, 3], ["one", "two", "one"]) == {1: 1, 2: 2, 3: 1}
+
+
+def test_classes_of_equal_groups_and_other_costs_are_asked_both() -> None:
+    one, other = compressed("campus.cfg", 11), compressed("campus.cfg", 12)
+    assert one.groups == other.groups and one.shape != other.shape
+
+
+def test_answers_are_those_of_the_program(tmp_path: Path) -> None:
+    folder = tmp_path / "all"
+    ran = tool("bonsai-every", place_of("campus.cfg"), folder)
+    begun = (
+        b"bonsai-every: 16 classes: first it is asked which are alike but for their prefixes; --each leaves that out\n"
+    )
+    assert (ran.returncode, ran.stderr) == (0, begun + b"bonsai-every: 16 of 16 answered\n")
+    assert {path.name for path in folder.glob("class-*")} == {f"class-{number}.cfg" for number in range(1, 17)}
+    assert all(
+        (folder / f"class-{number}.cfg").read_text() == compressed("campus.cfg", number).text for number in range(1, 17)
+    )
+
+
+def test_one_answer_stands_for_classes_that_are_alike(tmp_path: Path) -> None:
+    ran = tool("bonsai-every", "-", tmp_path, raw=TWO_ALIKE.encode())
+    assert ran.returncode == 0 and b"2 classes, 1 asked" in ran.stderr
+    assert (tmp_path / "index.tsv").read_text() == "class\tanswer\tprefixes\n1\t1\t10.1.0.0/24\n2\t1\t10.2.0.0/24\n"
+    assert not (tmp_path / "class-2.cfg").exists()
+
+
+def test_each_class_and_a_command_behind(tmp_path: Path) -> None:
+    ran = tool("bonsai-every", place_of("campus.cfg"), tmp_path, "--each", "--then", "grep -c ^hostname; echo $CLASS")
+    assert ran.returncode == 0
+    assert (tmp_path / "class-12.out").read_text() == "5\n12\n"
+
+
+def test_a_folder_that_has_anything_and_a_folder_of_another_text(tmp_path: Path) -> None:
+    place = place_of("fabric.cfg")
+    assert tool("bonsai-every", place, tmp_path).returncode == 0
+    ran = tool("bonsai-every", place, tmp_path)
+    assert (ran.returncode, ran.stderr) == (
+        1,
+        f"bonsai-every: {tmp_path}: the folder is not empty: --resume goes on with what it has\n".encode(),
+    )
+    ran = tool("bonsai-every", place_of("campus.cfg"), tmp_path, "--resume")
+    assert ran.returncode == 1 and b"it was begun with another" in ran.stderr
+    assert tool("bonsai-every", place, tmp_path, "--resume").returncode == 0
+
+
+def test_a_job_that_fails_is_told_and_asked_again(tmp_path: Path) -> None:
+    words = ["bonsai-every", place_of("fabric.cfg"), tmp_path / "all", "--then", f"test -e {tmp_path}/there && wc -l"]
+    ran = tool(*words)
+    assert ran.returncode == 1 and b"0 of 2 answered; " in ran.stderr
+    assert not (tmp_path / "all" / "class-1.out").exists()
+    (tmp_path / "there").touch()
+    assert tool(*words, "--resume").returncode == 0
+    assert (tmp_path / "all" / "class-1.out").read_text().strip() == "75"
+
+
+def test_interrupted_and_resumed(tmp_path: Path) -> None:
+    """The fat tree of 20, with 200 classes, ended after some answers, then resumed: no class is asked twice."""
+    text, folder = tmp_path / "fat-tree-20.cfg", tmp_path / "all"
+    text.write_text(fat_tree_text(20))
+    words = [TOP / "tools/bonsai-every", text, folder, "--each"]
+    started = subprocess.Popen(words, stderr=subprocess.PIPE, start_new_session=True)
+    log = folder / "jobs.log"
+    deadline = time.monotonic() + 60
+    while time.monotonic() < deadline and not (log.exists() and log.read_text().count("\n") > 20):
+        time.sleep(0.05)
+    started.send_signal(signal.SIGINT)
+    _, told = started.communicate(timeout=30)
+    assert (started.returncode, without_notices(told)) == (130, b"bonsai-every: interrupted\n")
+    before = {path.name for path in folder.glob("class-*.cfg")}
+    assert 20 <= len(before) < 200
+    assert all((folder / name).read_text().endswith("end\n") for name in before)
+    assert tool("bonsai-every", text, folder, "--each", "--resume").returncode == 0
+    lines = [line.split("\t") for line in log.read_text().splitlines()]
+    finished = [line[8].split(" ")[3] for line in lines if line[6:8] == ["0", "0"]]
+    assert len(finished) == len(set(finished))
+    # An answer may have got its place just before the end, and its line in the log not.
+    unlogged = {path.name for path in folder.glob("class-*.cfg")} - {f"class-{number}.cfg" for number in finished}
+    assert unlogged <= before and len(unlogged) <= 4
+    assert len(list(folder.glob("class-*.cfg"))) == 200
+    assert (folder / "class-200.cfg").read_text() == Program(str(folder / "bonsai")).compress(fat_tree_text(20), 200)
+
+
+@pytest.fixture
+def machines(tmp_path: Path) -> Iterator[tuple[str, str]]:
+    """Two ssh servers on the loopback address, as two machines: the words for --sshlogin and --ssh."""
+    if not os.access(SSHD, os.X_OK):
+        pytest.skip("the package openssh-server is not there: no machine is reached by ssh")
+    if not shutil.which("rsync"):
+        pytest.skip("the package rsync is not there: no machine is reached by ssh")
+    if os.geteuid() == 0:
+        Path("/run/sshd").mkdir(exist_ok=True)
+    for name in ("host", "user"):
+        subprocess.run(["ssh-keygen", "-q", "-t", "ed25519", "-N", "", "-f", tmp_path / name], check=True)
+    (tmp_path / "allowed").write_text((tmp_path / "user.pub").read_text())
+    servers, entries = [], []
+    for name in ("east", "west"):
+        with socket.socket() as free:
+            free.bind(("127.0.0.1", 0))
+            port = free.getsockname()[1]
+        words = [
+            "ListenAddress=127.0.0.1",
+            "UsePAM=no",
+            "StrictModes=no",
+            "PasswordAuthentication=no",
+            "PermitRootLogin=prohibit-password",
+            "MaxStartups=100",
+        ]
+        words += [
+            f"Port={port}",
+            f"HostKey={tmp_path}/host",
+            f"AuthorizedKeysFile={tmp_path}/allowed",
+            f"PidFile={tmp_path}/{name}.pid",
+        ]
+        servers.append(
+            subprocess.Popen(
+                [SSHD, "-D", "-f", "/dev/null", *(f"-o{word}" for word in words)], stderr=subprocess.DEVNULL
+            )
+        )
+        entries.append(f"Host {name}\n HostName 127.0.0.1\n Port {port}\n")
+    options = f"Host *\n User {getpass.getuser()}\n IdentityFile {tmp_path}/user\n StrictHostKeyChecking no\n UserKnownHostsFile /dev/null\n LogLevel ERROR\n"
+    (tmp_path / "config").write_text("".join(entries) + options)
+    try:
+        _wait_for(tmp_path / "config")
+        yield "2/east,2/west", f"ssh -F {tmp_path}/config"
+    finally:
+        for server in servers:
+            server.terminate()
+            server.wait()
+
+
+def _wait_for(config: Path) -> None:
+    for name in ("east", "west"):
+        for _ in range(50):
+            if (
+                subprocess.run(
+                    ["ssh", "-F", config, name, "true"], stdin=subprocess.DEVNULL, capture_output=True, check=False
+                ).returncode
+                == 0
+            ):
+                break
+            time.sleep(0.1)
+        else:
+            pytest.fail(f"the ssh server {name} that the test started does not answer")
+
+
+def test_over_two_machines(machines: tuple[str, str], tmp_path: Path) -> None:
+    logins, ssh = machines
+    folder = tmp_path / "all"
+    ran = tool("bonsai-every", place_of("campus.cfg"), folder, "--each", "--sshlogin", logins, "--ssh", ssh)
+    assert (ran.returncode, ran.stderr.decode()) == (0, "bonsai-every: 16 of 16 answered\n")
+    hosts = {line.split("\t")[1] for line in (folder / "jobs.log").read_text().splitlines()[1:]}
+    assert {host.removeprefix("2/") for host in hosts} == {"east", "west"}
+    assert all(
+        (folder / f"class-{found.number}.cfg").read_text() == compressed("campus.cfg", found.number).text
+        for found in example("campus.cfg").classes
+    )

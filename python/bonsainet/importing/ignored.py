@@ -1,0 +1,50 @@
+"""The heads that the program ignores, as docs/LINES.md lists them: a rule cuts no line that the program passes over.
+
+Nothing hangs on this table but how short a report is: what stands in the text is judged by the program.
+"""
+from __future__ import annotations
+
+import functools
+import re
+
+from bonsainet.ask.program import TOP
+
+PAGE = TOP / "docs" / "LINES.md"
+SCOPES = {"top": "top", "interface": "interface", "router bgp": "bgp", "router ospf": "ospf", "route-map": "entry"}
+Heads = dict[str, dict[int, set[tuple[str, ...]]]]
+
+
+@functools.cache
+def heads_of(title: str) -> dict[str, tuple[tuple[str, ...], ...]]:
+    """The heads of a table of the page, by scope."""
+    text = PAGE.read_text("utf-8") if PAGE.is_file() else ""
+    part = text.partition(f"## {title}")[2].partition("\n## ")[0]
+    found: dict[str, tuple[tuple[str, ...], ...]] = {}
+    for row in part.splitlines():
+        cells = [cell.strip() for cell in row.strip().strip("|").split("|")]
+        if len(cells) > 1 and cells[0] in SCOPES:
+            heads = [tuple(head.split()) for head in re.findall(r"`([^`]+)`", cells[1])]
+            if cells[0] == "router bgp":
+                heads = [head for head in heads if head != ("neighbor", "ADDRESS") and head != ("ADDRESS",)]
+                behind = cells[1].partition("`neighbor ADDRESS` with")[2]
+                own = {tuple(head.split()) for head in re.findall(r"`([^`]+)`", behind)}
+                heads = [("neighbor", "*", *head) if head in own and head != ("ADDRESS",) else head for head in heads]
+            found[SCOPES[cells[0]]] = tuple(heads)
+    return found
+
+
+def longest(words: list[str], heads: tuple[tuple[str, ...], ...]) -> int:
+    """The length of the longest head that begins the words, 0 where none does. `*` and `NAME` stand for any word."""
+    fitting = (
+        len(head)
+        for head in heads
+        if len(words) >= len(head) and all(want in ("*", "NAME", word) for want, word in zip(head, words))
+    )
+    return max(fitting, default=0)
+
+
+def is_ignored(scope: str, text: str) -> bool:
+    """Whether the program passes over a line of a scope."""
+    words = text.split()
+    ignored = longest(words, heads_of("Ignored lines").get(scope, ()))
+    return ignored > 0 and ignored >= longest(words, heads_of("Refused lines, and what to do with them").get(scope, ()))

@@ -1,0 +1,184 @@
+"""The report: each line of the folder that did not reach the text unchanged, what became of it, and by which rules."""
+from __future__ import annotations
+
+import dataclasses
+import json
+from collections import Counter, defaultdict
+
+from bonsainet.ask.where import Identity
+from bonsainet.configs.change import Change
+from bonsainet.cli.command_line import Refused, printable, shown
+from bonsainet.importing.folder import Folder
+from bonsainet.importing.rule import RULES, Assumption, Refusal
+from bonsainet.importing.scrubbing import hidden
+from bonsainet.configs.text import Place
+
+
+FAILED = "No report: bonsai-import ended before it"
+TITLES = {"Refused", "Assumed", "Told", "Decisions that nothing matched", "Lines", "Rules", "Warned"}
+
+
+class Silent(Refused):
+    """A line changed and no rule says why: a fault of the tool."""
+
+
+@dataclasses.dataclass
+class Report:
+    """What the import came to."""
+
+    changes: list[Change]
+    folder: Folder
+    program: Identity | None = None
+    is_scrubbed: bool = False
+
+    @property
+    def counts(self) -> list[tuple[str, int]]:
+        """How many lines each rule touched, most first."""
+        found = Counter(name for change in self.changes for name in change.rule.split(", "))
+        return sorted(found.items(), key=lambda item: (-item[1], item[0]))
+
+    @property
+    def refused(self) -> list[Refusal]:
+        """The refusals with the lines as they stand in the folder, which patterns of decisions are compared with."""
+        return [self._as_read(found) for found in self.folder.log.refusals]
+
+    def _as_read(self, found: Refusal) -> Refusal:
+        raw, now = (
+            self._shown(" ".join(text.split())) for text in (self.folder.raw.get(found.place, found.text), found.text)
+        )
+        return (
+            dataclasses.replace(found, text=now)
+            if raw == now
+            else dataclasses.replace(found, text=raw, reason=f"{found.reason} (written as `{now}`)")
+        )
+
+    def _shown(self, text: str) -> str:
+        """A line as the report tells it."""
+        return hidden(text) if self.is_scrubbed else text
+
+    @property
+    def shown_changes(self) -> list[Change]:
+        """The changes as the report tells them."""
+        return [
+            dataclasses.replace(
+                change, before=self._shown(change.before), after=tuple(self._shown(text) for text in change.after)
+            )
+            for change in self.changes
+        ]
+
+    @property
+    def shown_assumptions(self) -> list[Assumption]:
+        """The assumptions as the report tells them."""
+        return [dataclasses.replace(found, text=self._shown(found.text)) for found in self.folder.log.assumptions]
+
+    @property
+    def text(self) -> str:
+        """The report as text. What a terminal would obey, as lines and names of files can have it, is told by its number."""
+        log, unused = self.folder.log, self.folder.decisions.unused
+        parts: list[tuple[str, list[list[str]]]] = [
+            (
+                "Refused",
+                [
+                    [_line(found.place, found.text), f"refused by {found.name}: {found.reason}"]
+                    for found in self.refused
+                ],
+            ),
+            ("Assumed", [[_line(found.place, found.text), found.reason] for found in self.shown_assumptions]),
+            ("Told", [[remark] for remark in log.remarks]),
+            (
+                "Decisions that nothing matched",
+                [[f"line {found.line}: {found.verb} {found.pattern!r}"] for found in unused],
+            ),
+            (
+                "Lines",
+                [
+                    [_line(change.place, change.before.strip()), f"{_became(change)} [{change.rule}]"]
+                    for change in self.shown_changes
+                ],
+            ),
+            ("Rules", [[f"{count:6} {name}: {RULES[name].reason}"] for name, count in self.counts]),
+        ]
+        lines = [it for part in parts for it in _part(*part)]
+        lines += [f"Judged by {self.program.told}", ""] if self.program else []
+        lines += _part("Warned", [[warning] for warning in log.warnings])
+        return "\n".join(lines).rstrip("\n") + "\n"
+
+    @property
+    def json(self) -> str:
+        """The report as one JSON object."""
+        log = self.folder.log
+        told = {
+            "program": self.program.plain if self.program else None,
+            "refused": [_plain(found) for found in self.refused],
+            "assumed": [_plain(found) for found in self.shown_assumptions],
+            "told": [shown(remark) for remark in log.remarks],
+            "unused": [
+                {"line": found.line, "verb": found.verb, "pattern": found.pattern}
+                for found in self.folder.decisions.unused
+            ],
+            "warned": [shown(warning) for warning in log.warnings],
+            "lines": [_plain(change) for change in self.shown_changes],
+            "rules": [
+                {"rule": name, "lines": count, "reason": RULES[name].reason, "source": RULES[name].source}
+                for name, count in self.counts
+            ],
+        }
+        return json.dumps(told, indent=1, ensure_ascii=True) + "\n"
+
+
+def report_of(folder: Folder) -> Report:
+    """Compares what was read with what stands now. Silent where a line changed and no rule says why."""
+    after: dict[Place, list[str]] = defaultdict(list)
+    for router in folder.routers:
+        for line in router.lines:
+            after[line.place].append(" ".join(line.words))
+    refused = {found.place for found in folder.log.refusals}
+    changes = []
+    for place, raw in folder.raw.items():
+        before = " ".join(raw.split())
+        rules = folder.log.touched.get(place, [])
+        if not before or (before[0] in "!#" and not rules) or after[place] == [before]:
+            continue
+        if before == "end" and rules:
+            continue
+        if not rules and place not in refused:
+            raise Silent(
+                f"{place}: {before!r} became {after[place]!r} and no rule says why; this is a fault of bonsai-import"
+            )
+        changes.append(
+            Change(
+                place,
+                raw,
+                tuple(after[place]),
+                ", ".join(found.name for found in rules),
+                "; ".join(found.reason for found in rules),
+            )
+        )
+    return Report([change for change in changes if change.rule], folder)
+
+
+def place_text(place: Place) -> str:
+    """A place as file and line, or the file alone for a line that no file has."""
+    return str(place) if place.line else place.file
+
+
+def _line(place: Place, text: str) -> str:
+    """A line with its place."""
+    return f"{place_text(place)}: {text}"
+
+
+def _part(title: str, told: list[list[str]]) -> list[str]:
+    """A part of the report. What is told of one line stands indented below it."""
+    lines = [f"{'    ' if number else ''}{printable(text)}" for one in told for number, text in enumerate(one)]
+    return [f"{title} ({len(told)})", *lines, ""] if told else []
+
+
+def _became(change: Change) -> str:
+    notes = [text for text in change.after if not text.startswith("!")]
+    return "became " + " / ".join(notes) if notes else "left out"
+
+
+def _plain(found: object) -> dict[str, object]:
+    told = dataclasses.asdict(found)
+    place = told.pop("place")
+    return {**place, "file": shown(place["file"]), **told}

@@ -1,0 +1,175 @@
+"""OSPF costs that follow from reference bandwidth, bandwidth, speed and the type of the interface, written as `ip ospf
+cost`."""
+from __future__ import annotations
+
+from bonsainet.importing.decisions import note
+from bonsainet.importing.folder import Dialect, Folder, Source, first, has, indented, kind_of, name_of
+from bonsainet.importing.rewriting import cut_lines
+from bonsainet.importing.rule import rule
+from bonsainet.importing.rules.options import Options
+from bonsainet.importing.rules.ospf import in_area
+from bonsainet.configs.text import Line, Stanza
+
+COST = rule(
+    "ospf-cost",
+    "the cost is the reference bandwidth over that of the interface, at least 1",
+    "RFC 2328 section C.3; Cisco IOS OSPF, `auto-cost reference-bandwidth`",
+)
+BANDWIDTH = rule(
+    "bandwidth",
+    "the bandwidth of an interface has a bearing on its OSPF cost alone, and that is written out",
+    "Cisco IOS Interface, `bandwidth`",
+)
+DECIDED_COST = rule("decided-cost", "a person gave the bandwidth or the cost of this interface", "the decisions file")
+FRR_LOOPBACK = rule(
+    "frr-loopback-cost",
+    "FRR announces a loopback with cost 0, and the profile has costs from 1: each router's cost to this prefix is 1 more, and all next hops are the same",
+    "FRR user guide, OSPF, `ip ospf cost`; RFC 2328 section 12.4.1",
+)
+NO_COST = "ospf-cost"
+
+KBITS = {
+    "Loopback": 8_000_000,
+    "Ethernet": 10_000,
+    "FastEthernet": 100_000,
+    "GigabitEthernet": 1_000_000,
+    "TwoGigabitEthernet": 2_500_000,
+    "FiveGigabitEthernet": 5_000_000,
+    "TenGigabitEthernet": 10_000_000,
+    "TwentyFiveGigE": 25_000_000,
+    "FortyGigabitEthernet": 40_000_000,
+    "FiftyGigE": 50_000_000,
+    "HundredGigE": 100_000_000,
+    "FourHundredGigE": 400_000_000,
+    "Serial": 1_544,
+    "Vlan": 1_000_000,
+}
+PROFILE_COSTS = {
+    "Loopback": 1,
+    "FastEthernet": 1,
+    "GigabitEthernet": 1,
+    "TenGigabitEthernet": 1,
+    "Vlan": 1,
+    "Ethernet": 10,
+    "Serial": 64,
+}
+LARGEST = 65_535
+IOS_REFERENCE = 100
+FRR_REFERENCE = 100_000
+
+
+def write_costs(folder: Folder, _options: Options) -> None:
+    """Writes the cost of each interface in the area that has no `ip ospf cost` and another cost than the profile gives
+    it."""
+    for router in folder.routers:
+        for stanza in list(router.interfaces):
+            if in_area(router, stanza):
+                _write_cost(folder, router, stanza)
+            cut_lines(stanza, folder.log, BANDWIDTH, lambda line: line.words[0] == "bandwidth")
+        for process in router.with_head("router", "ospf"):
+            cut_lines(process, folder.log, COST, lambda line: line.words[0] == "auto-cost")
+
+
+def reference_of(router: Source) -> int:
+    """The reference bandwidth of a router in Mbit/s."""
+    for process in router.with_head("router", "ospf"):
+        found = first(process, "auto-cost", "reference-bandwidth")
+        if found and found.words[2:] and found.words[2].isdigit():
+            return int(found.words[2])
+    return FRR_REFERENCE if router.dialect is Dialect.FRR else IOS_REFERENCE
+
+
+def _write_cost(folder: Folder, router: Source, stanza: Stanza) -> None:
+    if has(stanza, "ip", "ospf", "cost"):
+        return
+    name = name_of(stanza)
+    line = first(stanza, "ip", "address") or stanza.head
+    at = stanza.body.index(line) + 1
+    if decided := folder.decisions.find("cost", line, name) or folder.decisions.find("bandwidth", line, name):
+        cost = int(decided.value) if decided.verb == "cost" else _cost(router, int(decided.value))
+        folder.log.by(line, DECIDED_COST)
+        folder.log.assume(line.with_text(f"{decided.verb} of {name} is {decided.value}"), decided.reason)
+        told = note(line.with_text(f"{decided.verb} of {name} is {decided.value}"), decided.reason, " ")
+        stanza.body[at:at] = [indented(line, f"ip ospf cost {cost}"), told]
+        return
+    if router.dialect is Dialect.FRR and router.is_loopback(stanza):
+        folder.log.by(line, FRR_LOOPBACK)
+        folder.log.assume(line, FRR_LOOPBACK.reason)
+        stanza.body[at:at] = [note(line, "its cost is 0 in FRR and 1 here", " "), indented(line, "ip ospf cost 1")]
+        return
+    kbits = _kbits(folder, router, stanza, line)
+    if kbits is None:
+        return
+    cost = _cost(router, kbits)
+    if cost > 1 and kind_of(name) == "Loopback" and not has(stanza, "bandwidth"):
+        folder.log.refuse(
+            line,
+            NO_COST,
+            f"with this reference bandwidth the cost of a loopback is {cost} or 1, by its network type and the version: decide `cost`",
+        )
+        return
+    if cost != PROFILE_COSTS.get(kind_of(name)):
+        folder.log.by(line, COST)
+        stanza.body.insert(at, indented(line, f"ip ospf cost {cost}"))
+
+
+def _cost(router: Source, kbits: int) -> int:
+    if router.dialect is Dialect.FRR:
+        cost = int(reference_of(router) * 1000 / kbits + 0.5)
+    else:
+        cost = reference_of(router) * 1000 // kbits
+    return min(max(cost, 1), LARGEST)
+
+
+def _kbits(folder: Folder, router: Source, stanza: Stanza, line: Line) -> int | None:
+    """The bandwidth of an interface in kbit/s, or none with a refusal where the folder does not tell it."""
+    name = name_of(stanza)
+    given = next(
+        (
+            found
+            for found in stanza.body
+            if found.words[:1] == ["bandwidth"]
+            and found.words[1:2]
+            and found.words[1].isdigit()
+            and int(found.words[1])
+        ),
+        None,
+    )
+    if router.dialect is Dialect.FRR:
+        if not given:
+            folder.log.refuse(
+                line,
+                NO_COST,
+                "FRR takes the bandwidth from the kernel, and the folder does not tell it: decide `bandwidth` or `cost`",
+            )
+            return None
+        return int(given.words[1]) * 1000
+    if given:
+        return int(given.words[1])
+    main = _main_interface(router, name)
+    if main and (has(main, "bandwidth") or _speed(main)):
+        folder.log.refuse(
+            line,
+            NO_COST,
+            f"the bandwidth of {name_of(main)} is set, and whether {name} has it is not told: decide `bandwidth` or `cost`",
+        )
+        return None
+    if has(stanza, "bandwidth", "inherit") or kind_of(name) not in KBITS:
+        folder.log.refuse(
+            line, NO_COST, f"the bandwidth of {name} does not follow from its type: decide `bandwidth` or `cost`"
+        )
+        return None
+    speed = _speed(stanza)
+    return speed * 1000 if speed else KBITS[kind_of(name)]
+
+
+def _speed(stanza: Stanza) -> int | None:
+    """The speed in Mbit/s that a line sets, or none."""
+    found = first(stanza, "speed")
+    return int(found.words[1]) if found and found.words[1:] and found.words[1].isdigit() else None
+
+
+def _main_interface(router: Source, name: str) -> Stanza | None:
+    """The interface that a subinterface belongs to, or none."""
+    main, point, _ = name.partition(".")
+    return next((stanza for stanza in router.interfaces if point and name_of(stanza) == main), None)

@@ -1,0 +1,81 @@
+"""Lines that are cut short: they are refused, and set aside with those that were refused on reading, so that no rule
+reads them."""
+from __future__ import annotations
+
+from bonsainet.importing.folder import Folder
+from bonsainet.importing.rules.options import Options
+from bonsainet.configs.text import Line
+
+CUT_SHORT = "cut-short"
+TOP = {
+    "access-list": 3,
+    "interface": 2,
+    "ip access-list": 4,
+    "ip community-list": 4,
+    "ip prefix-list": 4,
+    "ip route": 4,
+    "route-map": 4,
+    "router": 2,
+    "router bgp": 3,
+}
+INSIDE = {
+    "address-family": 2,
+    "area": 3,
+    "auto-cost": 2,
+    "bandwidth": 2,
+    "channel-group": 2,
+    "distance": 2,
+    "distribute-list": 3,
+    "export": 2,
+    "import": 2,
+    "inherit": 3,
+    "ip address": 3,
+    "ip ospf": 3,
+    "ip ospf cost": 4,
+    "match": 3,
+    "neighbor": 3,
+    "neighbor * distribute-list": 5,
+    "neighbor * filter-list": 5,
+    "neighbor * inherit": 5,
+    "neighbor * prefix-list": 5,
+    "neighbor * remote-as": 4,
+    "neighbor * route-map": 5,
+    "neighbor * update-source": 4,
+    "network": 2,
+    "no neighbor": 4,
+    "no passive-interface": 3,
+    "passive-interface": 2,
+    "redistribute": 2,
+    "set": 3,
+    "template": 3,
+}
+
+
+def refuse_short(folder: Folder, _options: Options) -> None:
+    """Refuses lines that have fewer words than their kind."""
+    for router in folder.routers:
+        short = [stanza.head for stanza in router.stanzas if _is_short(stanza.head, TOP)]
+        short += [line for stanza in router.stanzas for line in stanza.body if _is_short(line, INSIDE)]
+        for line in short:
+            folder.log.refuse(line, CUT_SHORT, "the line has fewer words than a line of its kind")
+        refused = {found.place: found.name for found in folder.log.refusals}
+        gone = {id(line) for line in router.lines if line.place in refused}
+        for stanza in [stanza for stanza in router.stanzas if id(stanza.head) in gone]:
+            for line in [line for line in stanza.body if not line.is_blank]:
+                folder.log.refuse(line, refused[stanza.head.place], "the first line of its stanza is refused")
+        router.stanzas = [stanza for stanza in router.stanzas if id(stanza.head) not in gone]
+        for stanza in router.stanzas:
+            stanza.body = [line for line in stanza.body if id(line) not in gone]
+
+
+def _is_short(line: Line, known: dict[str, int]) -> bool:
+    return not line.is_blank and len(line.words) < _least(line, known)
+
+
+def _least(line: Line, known: dict[str, int]) -> int:
+    """How many words a line of this kind has at least."""
+    words = line.words
+    heads = [" ".join(words[:count]) for count in (1, 2, 3)]
+    if words[0] == "neighbor" and len(words) > 2:
+        heads.append(f"neighbor * {words[2]}")
+    return max((known.get(head, 1) for head in heads), default=1)

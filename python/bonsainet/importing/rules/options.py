@@ -1,0 +1,30 @@
+"""What the command line asks of the rules."""
+from __future__ import annotations
+
+import dataclasses
+from ipaddress import IPv4Address, IPv4Network
+
+from bonsainet.cli.command_line import Refused
+
+
+@dataclasses.dataclass(frozen=True)
+class Options:
+    """Whether routers get AS numbers of their own, which stubs are added, for a peer's address its prefixes, and whether
+    secrets are left out."""
+
+    own_as: bool = False
+    stubs: tuple[tuple[IPv4Address, tuple[IPv4Network, ...]], ...] = ()
+    scrub: bool = False
+
+    @staticmethod
+    def of(own_as: bool, stubs: list[str], scrub: bool = False) -> Options:
+        """The options of words `PEER=PREFIX,..`."""
+        return Options(own_as, tuple(_stub(word) for word in stubs), scrub)
+
+
+def _stub(word: str) -> tuple[IPv4Address, tuple[IPv4Network, ...]]:
+    peer, sign, prefixes = word.partition("=")
+    try:
+        return IPv4Address(peer), tuple(IPv4Network(prefix) for prefix in prefixes.split(",") if sign)
+    except ValueError as fault:
+        raise Refused(f"--stub {word}: {fault}") from fault

@@ -1,0 +1,113 @@
+"""VRFs and IPv6: tables apart from the global IPv4 table, cut whole."""
+from __future__ import annotations
+
+import re
+
+from bonsainet.importing.folder import Folder, Source, has
+from bonsainet.importing.rewriting import cut_lines
+from bonsainet.importing.rule import rule
+from bonsainet.importing.rules.options import Options
+from bonsainet.configs.text import Line, Stanza
+
+VRF = rule(
+    "vrf",
+    "a VRF is a table of its own: its interfaces, processes and routes are none of the global table",
+    "RFC 4364; Cisco IOS, `vrf forwarding`",
+)
+IPV6 = rule("ipv6", "IPv6 routes are no IPv4 routes", "RFC 4760, RFC 5340")
+LEAK = "vrf-leak"
+IN_VRF = (["vrf", "forwarding"], ["ip", "vrf", "forwarding"], ["vrf", "member"])
+
+
+def cut_vrfs(folder: Folder, _options: Options) -> None:
+    """Cuts all VRFs other than the global table, with their interfaces, processes and routes."""
+    for router in folder.routers:
+        kept = []
+        for stanza in router.stanzas:
+            if _is_of_vrf(stanza):
+                folder.log.cut(stanza.lines, VRF)
+                _refuse_leaks(folder, stanza)
+            else:
+                kept.append(stanza)
+        router.stanzas = kept
+        for process in router.with_head("router", "bgp"):
+            _refuse_imports(folder, process)
+            _cut_families(folder, process)
+
+
+def _is_of_vrf(stanza: Stanza) -> bool:
+    words = stanza.head.words
+    if words[:1] == ["interface"]:
+        return "vrf" in words[2:] or any(line.words[: len(head)] == head for line in stanza.body for head in IN_VRF)
+    if words[:1] == ["router"]:
+        return "vrf" in words[2:]
+    if words[:2] in (["ip", "route"], ["ip", "mroute"], ["ipv6", "route"]):
+        return words[2:3] == ["vrf"] or ("/" in "".join(words[2:3]) and "vrf" in words[3:])
+    return words[:1] in (["vrf"], ["exit-vrf"]) or words[:2] == ["ip", "vrf"]
+
+
+def _refuse_leaks(folder: Folder, stanza: Stanza) -> None:
+    for line in stanza.body:
+        if line.words[:1] == ["export"] and line.words[1:2] in (["ipv4"], ["map"]) and "ipv4" in line.words:
+            folder.log.refuse(line, LEAK, "routes of the VRF go into the global table here")
+    if stanza.starts("ip", "route") and stanza.head.words[-1] == "global":
+        return
+    if stanza.starts("router") and has(stanza, "redistribute", "vrf"):
+        folder.log.refuse(stanza.head, LEAK, "routes go from one table into another here")
+
+
+def _refuse_imports(folder: Folder, process: Stanza) -> None:
+    for line in process.body:
+        if line.words[:2] in (["import", "vrf"], ["import", "vpn"]):
+            folder.log.refuse(line, LEAK, "routes of a VRF or VPN go into the global table here")
+
+
+def _cut_families(folder: Folder, process: Stanza) -> None:
+    """Cuts the families of VRFs inside a process."""
+    inside = False
+
+    def is_cut(line: Line) -> bool:
+        nonlocal inside
+        if line.words[:1] == ["address-family"]:
+            inside = "vrf" in line.words
+            return inside
+        if line.words[:1] == ["exit-address-family"] and inside:
+            inside = False
+            return True
+        return inside
+
+    cut_lines(process, folder.log, VRF, is_cut)
+
+
+def cut_ipv6(folder: Folder, _options: Options) -> None:
+    """Cuts lines and processes of IPv6."""
+    for router in folder.routers:
+        kept = []
+        for stanza in router.stanzas:
+            if _is_ipv6(stanza) and not folder.takes("top", stanza.head.text):
+                folder.log.cut(stanza.lines, IPV6)
+            else:
+                kept.append(stanza)
+        router.stanzas = kept
+        for stanza in router.interfaces:
+            cut_lines(stanza, folder.log, IPV6, _is_ipv6_line)
+        _cut_entries(folder, router)
+
+
+def _is_ipv6(stanza: Stanza) -> bool:
+    """Whether a stanza speaks of IPv6 alone. OSPFv3 carries IPv4 routes too where it has the family (RFC 5838)."""
+    words = stanza.head.words
+    if words[:2] == ["router", "ospfv3"]:
+        return not has(stanza, "address-family", "ipv4")
+    return words[:1] == ["ipv6"] or words[:2] in (["no", "ipv6"], ["router", "ospf6"], ["router", "ripng"])
+
+
+def _is_ipv6_line(line: Line) -> bool:
+    words = line.words
+    return words[0] == "ipv6" or words[:2] == ["no", "ipv6"] or (words[0] == "ospfv3" and "ipv4" not in words)
+
+
+def _cut_entries(folder: Folder, router: Source) -> None:
+    """Cuts lines of IPv6 in route maps that set something for IPv6 routes alone."""
+    for stanza in router.with_head("route-map"):
+        cut_lines(stanza, folder.log, IPV6, lambda line: bool(re.match(r"set ipv6 next-hop\b", " ".join(line.words))))

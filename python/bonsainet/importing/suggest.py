@@ -1,0 +1,98 @@
+"""A skeleton of decisions: for each refused line one that a person can complete, with what the refusal says.
+
+All lines are comments, so nothing is decided before somebody takes out a `#` and gives the reason.
+"""
+from __future__ import annotations
+
+import re
+from collections.abc import Iterator
+
+from bonsainet.cli.command_line import printable
+from bonsainet.importing.decisions import GUARDED, PROTECTED
+from bonsainet.importing.folder import Folder, Source, first, kind_of, name_of
+from bonsainet.importing.names import SAME
+from bonsainet.importing.rule import Refusal
+from bonsainet.importing.rules.costs import KBITS, NO_COST
+from bonsainet.importing.rules.neighbors import INTERNAL, MASKS, MULTIHOP
+from bonsainet.importing.rules.own_as import SHARED
+from bonsainet.importing.rules.undefined import UNDEFINED
+from bonsainet.configs.text import Stanza
+
+HEAD = """# Decisions for bonsai-import --decisions. Each is about a refused line, and none counts yet: take out the # before
+# the last line of each, complete it and give the reason. What is dropped is gone from the network that is asked about.
+"""
+SESSIONS = (INTERNAL, MASKS, MULTIHOP, "ipv6-peer")
+WHOLE = (["match"], ["set"], ["ip", "address"], ["vrf"], ["ip", "vrf"])
+REASON = 'because ""'
+
+
+def skeleton(folder: Folder, refused: list[Refusal]) -> str:
+    """The skeleton for some refusals, as the report has them."""
+    parts = [HEAD]
+    for found in refused:
+        place = f"{found.place}" if found.place.line else found.place.file
+        lines = [f"{place}: {found.text}", f"  {found.reason}", *_decisions(folder, found)]
+        parts.append("\n" + "".join(f"# {printable(line)}\n" for line in lines))
+    return "".join(parts)
+
+
+def _decisions(folder: Folder, found: Refusal) -> Iterator[str]:
+    """What a person can decide of a refused line."""
+    at = f"at {_quoted(found.place.file)}"
+    router, stanza = _around(folder, found)
+    words = found.text.split()
+    if found.name == SHARED:
+        yield "  run with --own-as, or leave the router's file out by --skip"
+    elif found.name == SAME:
+        yield f"  run with --skip {_quoted(found.place.file)}"
+    elif found.name == NO_COST and router and stanza:
+        yield from _of_cost(router, stanza, found, at)
+    elif found.name == UNDEFINED:
+        yield f"undefined {at} {_quoted(found.reason.partition(' ')[0], True)} permit|deny {REASON}"
+    elif found.name in SESSIONS and words[:1] == ["neighbor"]:
+        yield f"drop {at} {_quoted(f'neighbor {words[1]} *', True)} {REASON}"
+    elif stanza and (found.name == PROTECTED or any(words[: len(head)] == head for head in WHOLE)):
+        yield f"drop {at} {_quoted(' '.join(stanza.head.words), True)} {REASON}"
+    else:
+        yield f"{'drop!' if found.name == GUARDED else 'drop'} {at} {_quoted(' '.join(words), True)} {REASON}"
+
+
+def _of_cost(router: Source, stanza: Stanza, found: Refusal, at: str) -> Iterator[str]:
+    name = name_of(stanza)
+    values = re.search(r"the cost of a loopback is (\d+) or 1", found.reason)
+    if values:
+        yield f"cost {at} {_quoted(name, True)} {values[1]}|1 {REASON}"
+        return
+    members = _members(router, name)
+    if members:
+        yield f"  its {len(members)} members have {sum(members)} kbit/s together"
+    yield f"bandwidth {at} {_quoted(name, True)} {sum(members) if members else 'KBITS'} {REASON}"
+
+
+def _members(router: Source, name: str) -> list[int]:
+    """The bandwidths of the members of a bundle by their types, none where one does not tell."""
+    number = re.fullmatch(r"Port-channel(\d+)", name)
+    found = []
+    for stanza in router.interfaces if number else ():
+        line = first(stanza, "channel-group")
+        if line and number and line.words[1:2] == [number[1]]:
+            if kind_of(name_of(stanza)) not in KBITS or first(stanza, "speed"):
+                return []
+            found.append(KBITS[kind_of(name_of(stanza))])
+    return found
+
+
+def _around(folder: Folder, found: Refusal) -> tuple[Source | None, Stanza | None]:
+    """The router and the stanza in which a refused line stands, where it does."""
+    for router in folder.routers:
+        for stanza in router.stanzas:
+            if any(line.place == found.place for line in stanza.lines):
+                return router, stanza
+    return None, None
+
+
+def _quoted(text: str, always: bool = False) -> str:
+    """A word of a decision, in quotes where it needs them."""
+    if not always and re.fullmatch(r"[\w./:@+-]+", text, re.ASCII):
+        return text
+    return '"' + text.replace("\\", "\\\\").replace('"', '\\"') + '"'

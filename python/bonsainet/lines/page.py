@@ -1,0 +1,80 @@
+"""The tables of docs/LINES.md that are made from data, each between two marks on the page."""
+from __future__ import annotations
+
+import re
+from collections.abc import Callable, Iterable
+
+from bonsainet.cli.command_line import parser
+from bonsainet.lines.kinds import KINDS
+from bonsainet.lines.remedies import OTHER, REFUSED, UNKNOWN, Remedy
+from bonsainet.configs.profile import DEFAULT_COSTS
+from bonsainet.ask.program import TOP
+
+PAGE = TOP / "docs" / "LINES.md"
+
+
+def kinds_table() -> str:
+    """A row for each kind."""
+    rows = [f"| {kind.name} | {kind.stands} | `{_cell(kind.example)}` | {kind.remedy} |" for kind in KINDS]
+    return _table("| kind | stands at | such a line | what to do |", rows)
+
+
+def costs_table() -> str:
+    """A row for each default cost, with the types of interfaces that have it."""
+    costs = sorted(set(DEFAULT_COSTS.values()))
+    return _table(
+        "| cost | type: the name up to its first digit |",
+        [
+            f"| {cost} | {' '.join(f'`{kind}`' for kind, given in DEFAULT_COSTS.items() if given == cost)} |"
+            for cost in costs
+        ],
+    )
+
+
+def refused_table() -> str:
+    """A row for each refused head or several of one remedy."""
+    return _table("| where | head | what to do |", map(_row, REFUSED))
+
+
+def unknown_table() -> str:
+    """A row for the unknown heads that are met most, and for all others."""
+    return _table("| where | head | what to do |", [*map(_row, UNKNOWN), f"| | any other | {OTHER} |"])
+
+
+TABLES: dict[str, Callable[[], str]] = {
+    "kinds": kinds_table,
+    "costs": costs_table,
+    "refused": refused_table,
+    "unknown": unknown_table,
+}
+
+
+def with_tables(page: str) -> str:
+    """The page with its tables as the data have them."""
+    for name, table in TABLES.items():
+        page = re.sub(
+            rf"(<!-- {name}: begin -->\n).*?(<!-- {name}: end -->)",
+            lambda found, made=table(): found[1] + made + found[2],
+            page,
+            flags=re.DOTALL,
+        )
+    return page
+
+
+def main(words: list[str] | None = None) -> None:
+    """Writes the tables of docs/LINES.md that python/bonsainet/lines has as data."""
+    parser("lines-page", main.__doc__ or "").parse_args(words)
+    PAGE.write_text(with_tables(PAGE.read_text("utf-8")), "utf-8")
+
+
+def _row(remedy: Remedy) -> str:
+    return f"| {remedy.scope} | {' '.join(f'`{head}`' for head in remedy.heads)} | {remedy.told} |"
+
+
+def _table(head: str, rows: Iterable[str]) -> str:
+    rule = "|" + "---|" * (head.count("|") - 1)
+    return "".join(f"{line}\n" for line in (head, rule, *rows))
+
+
+def _cell(text: str) -> str:
+    return text.strip().replace("|", "\\|")

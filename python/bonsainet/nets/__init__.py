@@ -1,0 +1,1 @@
+"""Texts of networks that follow a rule or chance."""

@@ -1,0 +1,1 @@
+"""One page that a browser opens without a network."""

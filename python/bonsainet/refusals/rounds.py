@@ -1,0 +1,116 @@
+"""Rounds of asking: a text is judged, the refused line or its stanza is set aside, and the rest is judged again.
+
+Where a refusal is that something lacks, it is put there and not taken away: a host name for NoHostname, an `end` for
+NoEnd.
+"""
+from __future__ import annotations
+
+import copy
+import dataclasses
+import re
+from collections.abc import Sequence
+
+from bonsainet.ask.program import NotAnswered, Program, Status
+from bonsainet.refusals.causes import cause_of
+from bonsainet.refusals.layout import END, openers, stanza_at
+
+ADDED_NAME = "hostname name-added-here"
+
+
+@dataclasses.dataclass(frozen=True)
+class Verdict:
+    """A refusal by the program: its kind, and its line from 1, or none where the text as a whole is refused."""
+
+    kind: str
+    line: int | None
+
+
+@dataclasses.dataclass(frozen=True)
+class Found:
+    """A refusal at a line of a router, by its place from 0, and the place of the line set aside of which it is the
+    consequence."""
+
+    place: int
+    kind: str
+    cause: int | None = None
+
+
+def verdict(program: Program, text: str) -> Verdict | None:
+    """What `classes` says of a text, or none where it is read. NotAnswered where the program could not judge."""
+    answer = program.ask("classes", "F", texts={"F": text})
+    if answer.status == Status.DONE:
+        return None
+    at_line = re.fullmatch(r"refused: line (\d+): (\w+)", answer.reason)
+    whole = re.fullmatch(r"refused: (\w+)", answer.reason)
+    if answer.status != Status.REFUSED or not (at_line or whole):
+        raise NotAnswered(answer, "classes")
+    return Verdict(at_line[2], int(at_line[1])) if at_line else Verdict(whole[1], None)
+
+
+class Rest:
+    """What stays of a router's lines. `put` has the lines that stand in the place of refused ones."""
+
+    def __init__(self, texts: list[str]) -> None:
+        self.texts = texts
+        self.aside: set[int] = set()
+        self.refused: list[Found] = []
+        self.put: dict[int, str] = {}
+        self.is_named = self.is_ended = True
+
+    def copy(self) -> Rest:
+        """The same, so that what is set aside in one is not in the other."""
+        made = copy.copy(self)
+        made.aside, made.refused, made.put = set(self.aside), list(self.refused), dict(self.put)
+        return made
+
+    def numbered(self) -> list[tuple[int, str]]:
+        """The lines that stay, each with its place; what was added has the place of the first or the last line."""
+        kept = [(place, self.put.get(place, text)) for place, text in enumerate(self.texts) if place not in self.aside]
+        first = [] if self.is_named else [(0, ADDED_NAME)]
+        return [*first, *kept, *([] if self.is_ended else [(len(self.texts) - 1, END)])]
+
+    def refuse(self, place: int, kind: str) -> None:
+        """Notes a refusal and sets its line aside, or adds what is lacking."""
+        self.refused.append(Found(place, kind, cause_of(kind, self.texts, place, self.refused)))
+        if kind == "NoHostname":
+            self.is_named = False
+        elif kind == "NoEnd":
+            self.is_ended = False
+        elif self.texts[place].split()[:1] == [END] and openers(self.texts)[place] == place:
+            self.put[place] = END
+        else:
+            self.aside.update(stanza_at(self.texts, place))
+
+
+def text_of(rests: Sequence[Rest]) -> str:
+    """The text of what stays."""
+    return "".join(f"{text}\n" for rest in rests for _, text in rest.numbered())
+
+
+def judge(program: Program, rests: Sequence[Rest], only_last: bool = False) -> str | None:
+    """Judges routers as one text until nothing is refused. The kind where the text as a whole cannot be judged, else
+    none.
+
+    With `only_last` it stops at a refusal in another router than the last.
+    """
+    before: tuple[int, int, str] | None = None
+    while found := verdict(program, text_of(rests)):
+        at = _at(rests, found.line) if found.line is not None else None
+        if at is None or (*at, found.kind) == before:
+            return found.kind
+        number, place = at
+        if only_last and number != len(rests) - 1:
+            return None
+        rests[number].refuse(place, found.kind)
+        before = (number, place, found.kind)
+    return None
+
+
+def _at(rests: Sequence[Rest], line: int) -> tuple[int, int] | None:
+    """The router and the place in it of a line of the text of what stays."""
+    for number, rest in enumerate(rests):
+        lines = rest.numbered()
+        if line <= len(lines):
+            return number, lines[line - 1][0]
+        line -= len(lines)
+    return None

@@ -1,0 +1,1 @@
+"""Tools for who maintains the repository: building, packaging, checks of examples and pages."""

@@ -1,0 +1,102 @@
+"""The launcher and its program where standard streams are closed, and `-`, which is standard input whatever that is."""
+from __future__ import annotations
+
+import socket
+import subprocess
+from pathlib import Path
+
+import pytest
+
+from bonsainet.repo.tests.launching import beside, launch, make_clone, script
+
+# What stands for the program: it leaves a file for each standard stream that it has, tells that it was asked, and fails where it cannot.
+ASKED = """#!/bin/sh
+for number in 0 1 2; do [ ! -e /proc/$$/fd/$number ] || touch "$ROOM/has-$number"; done
+echo "asked: $*" || { echo "write fault" >&2; exit 4; }
+"""
+
+
+@pytest.fixture(name="clone")
+def clone_fixture(tmp_path: Path) -> Path:
+    """A repository with the launcher, and beside it a kit."""
+    return make_clone(tmp_path)
+
+
+def run_closed(clone: Path, words: str, closing: str, **more: str) -> tuple[int, bytes, bytes]:
+    """What the launcher came to where the shell closes a stream. Standard output and error go to files, as a pipe would be one more stream."""
+    room = clone.parent
+    command = f'"$0"/bonsai {words} {closing}'
+    with open(room / "out", "wb") as out, open(room / "err", "wb") as err:
+        ran = subprocess.run(
+            ["/bin/sh", "-c", command, clone],
+            stdin=subprocess.DEVNULL,
+            stdout=out,
+            stderr=err,
+            env=beside(clone, **more),
+            check=False,
+        )
+    return ran.returncode, (room / "out").read_bytes(), (room / "err").read_bytes()
+
+
+@pytest.fixture(name="given")
+def given_fixture(clone: Path) -> dict[str, str]:
+    """An environment whose program is the one above."""
+    return {"BONSAI_PROGRAM": str(script(clone.parent / "program", ASKED)), "ROOM": str(clone.parent)}
+
+
+def test_no_notice_stands_before_an_answer(clone: Path) -> None:
+    for _ in range(2):
+        assert run_closed(clone, "classes F", "2>&-") == (0, b"words: classes F\n", b"")
+
+
+@pytest.mark.parametrize("words", ["--help", "--version", "--where"])
+def test_own_answers_on_a_closed_output(clone: Path, words: str) -> None:
+    launch(clone, "classes", "F")
+    status, out, err = run_closed(clone, words, ">&-")
+    assert (status, out) == (4, b"") and err.endswith(b"write fault\n")
+
+
+@pytest.mark.parametrize(
+    ("closing", "status"), [("<&-", 0), (">&-", 4), ("2>&-", 0), ("<&- 2>&-", 0), ("<&- >&- 2>&-", 4)]
+)
+def test_the_program_has_the_streams_that_were_given(
+    clone: Path, given: dict[str, str], closing: str, status: int
+) -> None:
+    ran = run_closed(clone, "classes F", closing, **given)
+    assert ran[:2] == (status, b"asked: classes F\n" if status == 0 else b"")
+    closed = {{"<": "has-0", ">": "has-1", "2": "has-2"}[word[0]] for word in closing.split()}
+    assert {path.name for path in clone.parent.glob("has-*")} == {"has-0", "has-1", "has-2"} - closed
+
+
+def test_dash_where_standard_input_is_closed(clone: Path, given: dict[str, str]) -> None:
+    status, out, err = run_closed(clone, "classes -", "<&-", **given)
+    assert (status, out, err.splitlines()[-1]) == (3, b"", b"read fault: standard input")
+    assert not list(clone.parent.glob("has-*"))
+
+
+@pytest.mark.parametrize("closing", ["<&-", ">&-", "2>&-"])
+def test_a_build_where_a_stream_is_closed(clone: Path, closing: str) -> None:
+    status, out, _ = run_closed(clone, "classes F", closing)
+    assert (status, out) == (0, b"words: classes F\n") or closing == ">&-" and out == b""
+
+
+def test_dash_is_a_socket(clone: Path) -> None:
+    ours, theirs = socket.socketpair()
+    ours.sendall(b"hostname a\n")
+    ours.shutdown(socket.SHUT_WR)
+    assert launch(clone, "classes", "-", stdin=theirs).stdout.splitlines()[1:] == [b"hostname a"]
+
+
+def test_dash_is_the_rest_of_a_file_that_was_read_in_part(clone: Path) -> None:
+    (clone.parent / "two").write_bytes(b"first\nsecond\n")
+    with open(clone.parent / "two", "rb", buffering=0) as file:
+        file.read(6)
+        assert launch(clone, "classes", "-", stdin=file).stdout.splitlines()[1:] == [b"second"]
+
+
+def test_dash_does_not_take_a_standard_stream(clone: Path, given: dict[str, str]) -> None:
+    command = 'echo text | "$0"/bonsai classes - 2>&-'
+    ran = subprocess.run(
+        ["/bin/sh", "-c", command, clone], stdout=subprocess.PIPE, env=beside(clone, **given), check=False
+    )
+    assert int(ran.stdout.decode().split("/")[-1]) > 2
