@@ -1,1 +1,0 @@
-"""The roads to and from Bonsai: tools that ask the proved program and decide nothing that it decides."""

@@ -1,1 +1,0 @@
-"""Measurements that are kept, and what is drawn from them."""

@@ -1,1 +1,0 @@
-"""All classes of a network in one JSON document."""

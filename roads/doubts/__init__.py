@@ -1,1 +1,0 @@
-"""What a text says that is accepted and likely not meant."""

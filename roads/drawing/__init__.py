@@ -1,1 +1,0 @@
-"""Pictures of a network before and after compression."""

@@ -1,1 +1,0 @@
-"""A command for all classes, by many processors and machines."""

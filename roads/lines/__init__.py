@@ -1,1 +1,0 @@
-"""What docs/LINES.md says of kinds of refusals and of heads, as data for the page and the tools."""

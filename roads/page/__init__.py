@@ -1,1 +1,0 @@
-"""One page that a browser opens without a network."""

@@ -1,1 +1,0 @@
-"""All refusals of a text at once, each the verdict of the proved program on a text that is told."""
