@@ -1,4 +1,4 @@
-"""Laws between commands, tried on texts without any judge: the rounds of docs/WORKFLOW.md."""
+"""Laws between commands, tried on texts without any judge: the rounds of docs/use/WORKFLOW.md."""
 from __future__ import annotations
 
 import random

@@ -1,4 +1,4 @@
-"""Devices that fail: what a command must end with, by the table of statuses in docs/COMMANDS.md."""
+"""Devices that fail: what a command must end with, by the table of statuses in docs/use/COMMANDS.md."""
 from __future__ import annotations
 
 import contextlib

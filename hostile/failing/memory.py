@@ -1,7 +1,7 @@
 """Each allocation fails in turn: `out of memory`, status 5 and nothing written, or the answer as without the fault.
 Never a crash.
 
-Where memory runs out before the program has its words, status 5 comes without a line: docs/COMMANDS.md says so. How
+Where memory runs out before the program has its words, status 5 comes without a line: docs/use/COMMANDS.md says so. How
 many allocations that are is counted over as many words that are no command."""
 from __future__ import annotations
 

@@ -1,4 +1,4 @@
-"""Certificates of docs/FORMATS.md: read line by line, each split made on blocks."""
+"""Certificates of docs/use/FORMATS.md: read line by line, each split made on blocks."""
 from __future__ import annotations
 
 from hostile.judge import words

@@ -1,4 +1,4 @@
-"""The heads of lines. The known ones stand here; refused and ignored ones are read from the tables of docs/LINES.md."""
+"""The heads of lines. The known ones stand here; refused and ignored ones are read from the tables of docs/use/LINES.md."""
 from __future__ import annotations
 
 import functools
@@ -7,7 +7,7 @@ from pathlib import Path
 
 from hostile.judge import words
 
-PAGE = Path(__file__).resolve().parents[2] / "docs" / "LINES.md"
+PAGE = Path(__file__).resolve().parents[2] / "docs" / "use" / "LINES.md"
 SCOPES = {"top": "top", "interface": "interface", "router bgp": "bgp", "router ospf": "ospf", "route-map": "entry"}
 KNOWN = {
     "top": [

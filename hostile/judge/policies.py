@@ -1,4 +1,4 @@
-"""What lists and maps answer: RFC 4271 section 9.1 with the lists of docs/GLOSSARY.md's import."""
+"""What lists and maps answer: RFC 4271 section 9.1 with the lists of docs/use/GLOSSARY.md's import."""
 from __future__ import annotations
 
 import functools

@@ -1,4 +1,4 @@
-"""Words of a configuration, as the table of words in docs/LINES.md has them. None is: not such a word."""
+"""Words of a configuration, as the table of words in docs/use/LINES.md has them. None is: not such a word."""
 from __future__ import annotations
 
 import re

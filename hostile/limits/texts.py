@@ -77,7 +77,7 @@ ONE = b"hostname a\ninterface Vlan1\n ip address 10.0.0.1 255.255.255.0\nrouter 
 
 
 def cases() -> Iterator[Case]:
-    """All limits of the README and of docs/FORMATS.md."""
+    """All limits of the README and of docs/use/FORMATS.md."""
     one = ("classes", "F")
     yield Case("bytes", one, lambda: long_text(16_777_216))
     yield Case("bytes and 1", one, lambda: long_text(16_777_217), 1, TOO_LONG, 0)

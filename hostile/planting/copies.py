@@ -69,7 +69,7 @@ def reader(fault: Fault, room: Path) -> Path:
     leave = shutil.ignore_patterns("__pycache__", "tests", "out")
     for name in ("hostile", "python", "examples"):
         shutil.copytree(TOP / name, room / name, ignore=leave)
-    (room / "docs").mkdir()
-    shutil.copy2(TOP / "docs" / "LINES.md", room / "docs")
+    (room / "docs" / "use").mkdir(parents=True)
+    shutil.copy2(TOP / "docs" / "use" / "LINES.md", room / "docs" / "use")
     planted(fault, room / "hostile" / "judge" / fault.file)
     return room / "hostile" / "run"

@@ -21,7 +21,17 @@ BEGIN, END = (
     "<!-- tool faults: this table is written by hostile/plant --tools --record -->",
     "<!-- tool faults: end -->",
 )
-COPIED = ("bonsai", "build", "HANDLES", "README.md", "VERSION", "crates.txt", "pyproject.toml", "setup.cfg")
+COPIED = (
+    "bonsai",
+    "build",
+    "HANDLES",
+    "README.md",
+    "CONTRIBUTING.md",
+    "VERSION",
+    "crates.txt",
+    "pyproject.toml",
+    "setup.cfg",
+)
 FOLDERS = ("python", "hostile", "tools", "dev", "docs", "examples", "bench")
 
 

@@ -1,4 +1,4 @@
-"""Failing devices and failing memory, with the ends that docs/COMMANDS.md has."""
+"""Failing devices and failing memory, with the ends that docs/use/COMMANDS.md has."""
 from __future__ import annotations
 
 import os

@@ -1,4 +1,4 @@
-"""The forms of known lines, as docs/LINES.md has them: what a line gives, and which lines fit no form."""
+"""The forms of known lines, as docs/use/LINES.md has them: what a line gives, and which lines fit no form."""
 from __future__ import annotations
 
 import pytest

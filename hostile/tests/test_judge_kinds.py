@@ -1,4 +1,4 @@
-"""Each of the 29 kinds of refusals of docs/LINES.md on a text of its own: the second reader and the program meet it at
+"""Each of the 29 kinds of refusals of docs/use/LINES.md on a text of its own: the second reader and the program meet it at
 the same line."""
 from __future__ import annotations
 

@@ -1,4 +1,4 @@
-"""Faults of the whole network: which lines have them, and which of several decides, as docs/LINES.md has it."""
+"""Faults of the whole network: which lines have them, and which of several decides, as docs/use/LINES.md has it."""
 from __future__ import annotations
 
 import pytest

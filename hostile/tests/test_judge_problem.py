@@ -1,4 +1,4 @@
-"""Links, classes, originators, acts and lone routers: "What the lines mean" in docs/LINES.md, RFC 4271 section 9.1, RFC
+"""Links, classes, originators, acts and lone routers: "What the lines mean" in docs/use/LINES.md, RFC 4271 section 9.1, RFC
 2328."""
 from __future__ import annotations
 

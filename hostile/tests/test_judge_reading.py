@@ -1,4 +1,4 @@
-"""How a text is cut and read: docs/LINES.md, its first paragraphs and "What the lines mean"."""
+"""How a text is cut and read: docs/use/LINES.md, its first paragraphs and "What the lines mean"."""
 from __future__ import annotations
 
 import pytest

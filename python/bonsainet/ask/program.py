@@ -1,7 +1,7 @@
 """How the proved program is asked: a command over texts, and its answer as plain data.
 
 `Program.ask` runs one command. The functions below it read what the commands write. The forms are those of
-docs/FORMATS.md.
+docs/use/FORMATS.md.
 """
 from __future__ import annotations
 

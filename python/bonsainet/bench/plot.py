@@ -14,8 +14,8 @@ from bonsainet.bench.tables import memory_text, turns_text
 from bonsainet.cli.command_line import Refused, parser
 from bonsainet.ask.program import TOP
 
-PICTURES = TOP / "docs" / "pictures"
-PAGES = (TOP / "README.md", TOP / "docs" / "MEASURED.md")
+PICTURES = TOP / "docs" / "data"
+PAGES = (TOP / "README.md", TOP / "docs" / "inside" / "MEASURED.md")
 SHOWN = {("fat tree", 20), ("fat tree", 30), ("fat tree", 40), ("ring", 1000), ("ring", 4000), ("full mesh", 362)}
 MARKS = {"fat tree": ("o", "#1b7837"), "ring": ("s", "#762a83"), "full mesh": ("^", "#b35806")}
 PLOTS = (
@@ -28,13 +28,13 @@ def words() -> argparse.ArgumentParser:
     """The words of the command line."""
     made = parser(
         "plot",
-        "Draws time and memory against size from bench/measured/paper.csv, and writes the tables of README.md and docs/MEASURED.md from all files there.",
+        "Draws time and memory against size from bench/measured/paper.csv, and writes the tables of README.md and docs/inside/MEASURED.md from all files there.",
     )
     made.add_argument(
         "--into",
         metavar="DIR",
         type=Path,
-        help="draw into this folder, and leave the pages alone (default: docs/pictures)",
+        help="draw into this folder, and leave the pages alone (default: docs/data)",
     )
     return made
 

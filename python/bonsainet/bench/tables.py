@@ -1,4 +1,4 @@
-"""The tables of docs/MEASURED.md from the rows that `bench/turns --keep` keeps: two states of the program, and what is
+"""The tables of docs/inside/MEASURED.md from the rows that `bench/turns --keep` keeps: two states of the program, and what is
 slower or grows fast."""
 from __future__ import annotations
 

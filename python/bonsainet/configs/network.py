@@ -1,6 +1,6 @@
 """What an accepted text means to a tool: interfaces on subnets, sessions, adjacencies, costs and origins.
 
-The rules are those of the proved program (docs/LINES.md and `crates/cfg_ast/specs/meaning/`): a link is a BGP session
+The rules are those of the proved program (docs/use/LINES.md and `crates/cfg_ast/specs/meaning/`): a link is a BGP session
 or a pair of adjacent OSPF interfaces. Tests compare the counts with the program's. Groups, classes and routes are the
 program's to say.
 """

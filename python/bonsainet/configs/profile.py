@@ -1,7 +1,7 @@
 """An accepted text as records: what each known line gives, with the line that gave it.
 
 It reads texts that the program accepts, and judges nothing: a line that it does not know has no bearing. The forms are
-those of docs/LINES.md.
+those of docs/use/LINES.md.
 """
 from __future__ import annotations
 

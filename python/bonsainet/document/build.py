@@ -1,4 +1,4 @@
-"""The document: plain data with the fields that docs/bonsai.schema.json gives."""
+"""The document: plain data with the fields that docs/data/bonsai.schema.json gives."""
 from __future__ import annotations
 
 from typing import Any

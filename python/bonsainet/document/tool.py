@@ -18,7 +18,7 @@ from bonsainet.doubts.ties import ties_by_class
 from bonsainet.ask.program import TOP, Program
 
 AT_A_TIME = 64
-SCHEMA = TOP / "docs" / "bonsai.schema.json"
+SCHEMA = TOP / "docs" / "data" / "bonsai.schema.json"
 
 
 def words() -> argparse.ArgumentParser:
@@ -39,7 +39,7 @@ def words() -> argparse.ArgumentParser:
     made.add_argument("--no-ties", action="store_true", help="do not ask which routers hold a tied route")
     made.add_argument("--compact", action="store_true", help="write the document on one line")
     made.add_argument(
-        "--check", action="store_true", help="check the document by docs/bonsai.schema.json before it is written"
+        "--check", action="store_true", help="check the document by docs/data/bonsai.schema.json before it is written"
     )
     return made
 

@@ -26,7 +26,7 @@ def doubts_of_numbers(program: Program, asked: Asked, numbers: list[int]) -> Ite
     found = side_by_side(lambda number: _of_class(program, asked, originals, number), numbers)
     yield from (one for one in found if one)
     sure = sum(one is None for one in found)
-    told = f"in {sure} of {len(found)} classes no path at rest passes two routers of one original number: these labels, with the original numbers, are stable there too (docs/IMPORT.md says what that shows)"
+    told = f"in {sure} of {len(found)} classes no path at rest passes two routers of one original number: these labels, with the original numbers, are stable there too (docs/use/IMPORT.md says what that shows)"
     yield Doubt("own-number", "", None, "", told)
 
 

@@ -24,7 +24,7 @@ def main(argv: list[str] | None = None) -> int:
     made = parser(
         "bonsai-export",
         main.__doc__ or "",
-        epilog="exit status: 0 done, 1 refused, 2 usage, 3 read fault, 4 write fault; see docs/EXPORT.md",
+        epilog="exit status: 0 done, 1 refused, 2 usage, 3 read fault, 4 write fault; see docs/use/EXPORT.md",
     )
     made.add_argument("--to", choices=("frr", "ios", "batfish"), required=True, help="the target")
     made.add_argument(

@@ -1,4 +1,4 @@
-"""The heads that the program ignores, as docs/LINES.md lists them: a rule cuts no line that the program passes over.
+"""The heads that the program ignores, as docs/use/LINES.md lists them: a rule cuts no line that the program passes over.
 
 Nothing hangs on this table but how short a report is: what stands in the text is judged by the program.
 """
@@ -9,7 +9,7 @@ import re
 
 from bonsainet.ask.program import TOP
 
-PAGE = TOP / "docs" / "LINES.md"
+PAGE = TOP / "docs" / "use" / "LINES.md"
 SCOPES = {"top": "top", "interface": "interface", "router bgp": "bgp", "router ospf": "ospf", "route-map": "entry"}
 Heads = dict[str, dict[int, set[tuple[str, ...]]]]
 

@@ -73,9 +73,9 @@ def _of_network(folder: Folder, program: Program) -> None:
 
 
 def _why(kind: str, scope: str, line: Line, where: str = "") -> str:
-    """The kind, and what docs/LINES.md says of such a line. Where it names a rule of the import, that rule did not
+    """The kind, and what docs/use/LINES.md says of such a line. Where it names a rule of the import, that rule did not
     take this line."""
-    told = LINK.sub(r"\1 (docs/LINES.md)", remedy_of(kind, scope, line.words)).replace(IMPORT, NO_RULE)
+    told = LINK.sub(r"\1 (docs/use/LINES.md)", remedy_of(kind, scope, line.words)).replace(IMPORT, NO_RULE)
     return f"the program refuses this line{where}: {kind}: {told}"
 
 

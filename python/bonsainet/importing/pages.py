@@ -1,4 +1,4 @@
-"""The table of rules, as docs/IMPORT.md has it."""
+"""The table of rules, as docs/use/IMPORT.md has it."""
 from __future__ import annotations
 
 from bonsainet.importing.rule import RULES

@@ -21,7 +21,7 @@ RULES: dict[str, Rule] = {}
 
 
 def rule(name: str, reason: str, source: str) -> Rule:
-    """Makes a rule and lists it, so that docs/IMPORT.md and the report can name it."""
+    """Makes a rule and lists it, so that docs/use/IMPORT.md and the report can name it."""
     if name in RULES:
         raise ValueError(f"two rules are named {name}")
     RULES[name] = Rule(name, reason, source)

@@ -33,7 +33,7 @@ PURPOSE = """Reads the running configurations of routers (Cisco IOS, FRR) and wr
 
 Only what says the same is written otherwise; each line that did not reach the text unchanged stands in the report, which goes
 to standard error. Where a line can change routes and no rule can write it, nothing is written and the status is 1; a file of
-decisions can drop such lines, each with a reason. docs/IMPORT.md lists the rules."""
+decisions can drop such lines, each with a reason. docs/use/IMPORT.md lists the rules."""
 
 
 def import_folder(

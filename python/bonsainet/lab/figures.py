@@ -19,9 +19,9 @@ from bonsainet.lab.lab import Waiting
 from bonsainet.lab.round_trip import MEBI, Round, Run, run_round
 from bonsainet.ask.program import TOP, Program
 
-RECORDS = TOP / "docs" / "rounds.json"
-PLOT = TOP / "docs" / "rounds.svg"
-PAGES = (TOP / "docs" / "ROUND-TRIP.md", TOP / "README.md")
+RECORDS = TOP / "docs" / "data" / "rounds.json"
+PLOT = TOP / "docs" / "data" / "rounds.svg"
+PAGES = (TOP / "docs" / "use" / "ROUND-TRIP.md", TOP / "README.md")
 BEGIN, END = "<!-- rounds: this table is written by dev/round-figures -->", "<!-- rounds: end -->"
 PANELS = (
     ("rest", 1, "seconds until rest"),

@@ -12,7 +12,7 @@ from bonsainet.lab.round_trip import run_round, table
 from bonsainet.lab.tools import tell
 from bonsainet.ask.program import TOP, Program
 
-KEPT = TOP / "docs" / "rounds.txt"
+KEPT = TOP / "docs" / "data" / "rounds.txt"
 ROUNDS = [
     *(("fat-tree-4", number) for number in (1, 2, 3)),
     *(("campus", number) for number in (1, 10)),
@@ -24,7 +24,7 @@ ROUNDS = [
 
 
 def main(argv: list[str] | None = None) -> int:
-    """Runs the rounds of the examples and keeps what they print in docs/rounds.txt."""
+    """Runs the rounds of the examples and keeps what they print in docs/data/rounds.txt."""
     parser("keep-rounds", main.__doc__ or "").parse_args(argv)
     refuse_unless_able()
     program = Program()
@@ -39,5 +39,5 @@ def main(argv: list[str] | None = None) -> int:
         parts.append(f"$ dev/round-trip examples/inputs/{name}.cfg {number}\n{table(found)}")
     KEPT.write_text("\n".join(parts))
     if not agree:
-        raise Refused("not every round ends with agreement; see docs/rounds.txt")
+        raise Refused("not every round ends with agreement; see docs/data/rounds.txt")
     return 0

@@ -1,1 +1,1 @@
-"""What docs/LINES.md says of kinds of refusals and of heads, as data for the page and the tools."""
+"""What docs/use/LINES.md says of kinds of refusals and of heads, as data for the page and the tools."""

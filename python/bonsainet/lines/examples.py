@@ -1,4 +1,4 @@
-"""A text for each kind of refusal, which the program refuses with this kind at the line that docs/LINES.md shows."""
+"""A text for each kind of refusal, which the program refuses with this kind at the line that docs/use/LINES.md shows."""
 from __future__ import annotations
 
 from collections.abc import Iterator

@@ -1,4 +1,4 @@
-"""The tables of docs/LINES.md that are made from data, each between two marks on the page."""
+"""The tables of docs/use/LINES.md that are made from data, each between two marks on the page."""
 from __future__ import annotations
 
 import re
@@ -10,7 +10,7 @@ from bonsainet.lines.remedies import OTHER, REFUSED, UNKNOWN, Remedy
 from bonsainet.configs.profile import DEFAULT_COSTS
 from bonsainet.ask.program import TOP
 
-PAGE = TOP / "docs" / "LINES.md"
+PAGE = TOP / "docs" / "use" / "LINES.md"
 
 
 def kinds_table() -> str:
@@ -62,7 +62,7 @@ def with_tables(page: str) -> str:
 
 
 def main(words: list[str] | None = None) -> None:
-    """Writes the tables of docs/LINES.md that python/bonsainet/lines has as data."""
+    """Writes the tables of docs/use/LINES.md that python/bonsainet/lines has as data."""
     parser("lines-page", main.__doc__ or "").parse_args(words)
     PAGE.write_text(with_tables(PAGE.read_text("utf-8")), "utf-8")
 

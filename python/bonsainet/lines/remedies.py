@@ -1,7 +1,7 @@
 """What to do with a line whose head is refused or in no table.
 
 The refused heads are those of `crates/cfg_ast/specs/text/Heads.antt`; a test compares them. Scopes have the names of
-docs/LINES.md. `IMPORT` marks what `tools/bonsai-import` does by a rule of docs/IMPORT.md, where the rule's condition
+docs/use/LINES.md. `IMPORT` marks what `tools/bonsai-import` does by a rule of docs/use/IMPORT.md, where the rule's condition
 holds.
 """
 from __future__ import annotations

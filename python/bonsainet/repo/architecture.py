@@ -20,8 +20,8 @@ from bonsainet.cli.command_line import Refused
 from bonsainet.repo.proving import uses_of
 
 CRATES = TOP / "crates.txt"
-PAGE = TOP / "docs" / "ARCHITECTURE.md"
-PICTURE = TOP / "docs" / "crates.svg"
+PAGE = TOP / "docs" / "inside" / "ARCHITECTURE.md"
+PICTURE = TOP / "docs" / "data" / "crates.svg"
 BEGIN, END = "<!-- dev/architecture: begin -->\n", "<!-- dev/architecture: end -->\n"
 HEADING = re.compile(r"# == (?P<name>[a-z ]+): (?P<about>.+)")
 CRATES_IN_A_ROW = 5
@@ -168,12 +168,15 @@ def main(words: list[str] | None = None) -> int:
     before, begins, rest = page.partition(BEGIN)
     _, ends, after = rest.partition(END)
     if not begins or not ends:
-        raise Refused("docs/ARCHITECTURE.md lacks the marks of dev/architecture")
+        raise Refused("docs/inside/ARCHITECTURE.md lacks the marks of dev/architecture")
     wanted, source = before + BEGIN + table(layers, uses) + END + after, drawing(layers, uses)
     if given.check:
         stale = [
             name
-            for name, is_stale in (("docs/ARCHITECTURE.md", page != wanted), ("docs/crates.svg", not _is_drawn(source)))
+            for name, is_stale in (
+                ("docs/inside/ARCHITECTURE.md", page != wanted),
+                ("docs/data/crates.svg", not _is_drawn(source)),
+            )
             if is_stale
         ]
         if stale:
@@ -181,7 +184,7 @@ def main(words: list[str] | None = None) -> int:
         return 0
     PAGE.write_text(wanted)
     if not (shutil.which("dot") and shutil.which("tred")):
-        raise Refused("docs/crates.svg is left as it was: Graphviz is not there")
+        raise Refused("docs/data/crates.svg is left as it was: Graphviz is not there")
     draw(source)
     return 0
 

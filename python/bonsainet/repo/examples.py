@@ -12,9 +12,9 @@ answers/NAME.out, with NAME.err and NAME.status where these are not empty and 0.
   page       each command line of a page writes what the page shows
   code       the code that a page quotes from a file stands there
   picture    the picture of README is what bonsai-draw draws
-  definitions  docs/PROVED.md lists the definitions that dev/reading-list prints, each name once
+  definitions  docs/inside/PROVED.md lists the definitions that dev/reading-list prints, each name once
   names      no name is defined by more than one file of definitions, except those of scripts/doubled-names, which only shrinks
-  crates     docs/ARCHITECTURE.md has the table that dev/architecture makes
+  crates     docs/inside/ARCHITECTURE.md has the table that dev/architecture makes
 """
 from __future__ import annotations
 
@@ -230,11 +230,9 @@ def faults_of_picture() -> list[str]:
     )
     if drawn.returncode:
         return [drawn.stderr.decode("utf-8", "replace").strip()]
-    same = said_in(drawn.stdout) == said_in((TOP / "docs" / "pictures" / "fat-tree-4.svg").read_bytes())
+    same = said_in(drawn.stdout) == said_in((TOP / "docs" / "data" / "fat-tree-4.svg").read_bytes())
     return (
-        []
-        if same
-        else ["tools/bonsai-draw examples/inputs/fat-tree-4.cfg 1 -o docs/pictures/fat-tree-4.svg draws it anew"]
+        [] if same else ["tools/bonsai-draw examples/inputs/fat-tree-4.cfg 1 -o docs/data/fat-tree-4.svg draws it anew"]
     )
 
 
@@ -246,9 +244,9 @@ def said_in(picture: bytes) -> list[bytes]:
 def faults_of_definitions() -> list[str]:
     """The page of what is proved lists the definitions that a reader has to believe, and each name is defined once."""
     listed = subprocess.run([sys.executable, TOP / "dev" / "reading-list"], stdout=subprocess.PIPE, check=False)
-    page = (TOP / "docs" / "PROVED.md").read_bytes()
+    page = (TOP / "docs" / "inside" / "PROVED.md").read_bytes()
     if listed.returncode != 0 or b"```\n%s```\n" % listed.stdout not in page:
-        return ["docs/PROVED.md has not what dev/reading-list prints"]
+        return ["docs/inside/PROVED.md has not what dev/reading-list prints"]
     names = [name for line in listed.stdout.decode().splitlines() for name in line.partition(".antt: ")[2].split()]
     return [f"{name} is defined twice" for name in sorted(set(names)) if names.count(name) > 1]
 
@@ -303,9 +301,9 @@ def checks(asked: Asked) -> Iterator[Check]:
             yield Check(name, f"the command lines of {name}", lambda name=name: asked.page(name))
     yield Check("code", "the code that pages quote", faults_of_code)
     yield Check("picture", "the picture of README.md", faults_of_picture)
-    yield Check("definitions", "the list of definitions in docs/PROVED.md", faults_of_definitions)
+    yield Check("definitions", "the list of definitions in docs/inside/PROVED.md", faults_of_definitions)
     yield Check("names", "the names that several files define", faults_of_names)
-    yield Check("crates", "the table of crates in docs/ARCHITECTURE.md", faults_of_crates)
+    yield Check("crates", "the table of crates in docs/inside/ARCHITECTURE.md", faults_of_crates)
 
 
 def run(chosen: list[Check]) -> int:

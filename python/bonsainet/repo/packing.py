@@ -19,7 +19,7 @@ PARTS = (
     ("tools/completions/{name}.bash", "share/bash-completion/completions/{name}", 0o644),
     ("tools/completions/_{name}", "share/zsh/site-functions/_{name}", 0o644),
 )
-MANUAL = ("docs/{name}.1", "share/man/man1/{name}.1.gz")
+MANUAL = ("docs/man/{name}.1", "share/man/man1/{name}.1.gz")
 
 COPYRIGHT = """Bonsai, made from the repository of the Bonsai maintainers <maintainers@users.noreply.feltersienna.example>.
 

@@ -94,7 +94,11 @@ def quoted_in(page: str, text: str) -> list[Quoted]:
 
 def pages() -> list[str]:
     """The pages of the repository."""
-    return ["README.md", *sorted(f"docs/{path.name}" for path in (TOP / "docs").glob("*.md"))]
+    return [
+        "README.md",
+        "CONTRIBUTING.md",
+        *sorted(str(path.relative_to(TOP)) for path in (TOP / "docs").glob("*/*.md")),
+    ]
 
 
 def fits(wanted: list[str], found: list[str]) -> bool:

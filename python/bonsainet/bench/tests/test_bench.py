@@ -63,5 +63,5 @@ def test_plots_are_those_of_the_kept_measurements(tmp_path) -> None:
     pytest.importorskip("matplotlib", reason="the package python3-matplotlib is not there: no plot is drawn")
     draw(tmp_path)
     for name in ("time.svg", "memory.svg"):
-        assert (tmp_path / name).read_bytes() == (PICTURES / name).read_bytes(), "bench/plot draws docs/pictures anew"
+        assert (tmp_path / name).read_bytes() == (PICTURES / name).read_bytes(), "bench/plot draws docs/data anew"
     assert KEPT.read_text().startswith("# load ")

@@ -11,14 +11,14 @@ from bonsainet.ask.program import TOP
 from bonsainet.tests.asking import needs, place_of, tool
 
 TOOLS = sorted(path.name for path in (TOP / "tools").glob("bonsai-*"))
-PAGES = sorted((TOP / "docs").glob("*.1"))
+PAGES = sorted((TOP / "docs" / "man").glob("*.1"))
 COMPLETIONS = TOP / "tools" / "completions"
 
 
 @pytest.mark.parametrize("name", TOOLS)
 def test_the_page_is_current(name: str) -> None:
     needs(name)
-    assert (TOP / "docs" / f"{name}.1").read_bytes() == tool(name, "--manual").stdout, "dev/manual writes the pages"
+    assert (TOP / "docs" / "man" / f"{name}.1").read_bytes() == tool(name, "--manual").stdout, "dev/manual writes the pages"
 
 
 @pytest.mark.parametrize("page", PAGES, ids=lambda page: page.name)

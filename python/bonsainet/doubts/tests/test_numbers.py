@@ -24,7 +24,7 @@ def shared(text: str, *numbers: int) -> str:
 
 
 def test_no_path_passes_two() -> None:
-    counted = "in 1 of 1 classes no path at rest passes two routers of one original number: these labels, with the original numbers, are stable there too (docs/IMPORT.md says what that shows)"
+    counted = "in 1 of 1 classes no path at rest passes two routers of one original number: these labels, with the original numbers, are stable there too (docs/use/IMPORT.md says what that shows)"
     assert told(shared(text_of({}, {}), 65002, 65003)) == [("", counted)]
 
 

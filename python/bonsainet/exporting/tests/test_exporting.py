@@ -158,7 +158,7 @@ def test_each_line_of_a_text_is_written_or_told(path: Path, target: object) -> N
 
 @pytest.mark.parametrize("target", TARGETS.values(), ids=TARGETS)
 def test_each_rule_stands_on_the_page(target: object) -> None:
-    page = " ".join((TOP / "docs" / "EXPORT.md").read_text().split())
+    page = " ".join((TOP / "docs" / "use" / "EXPORT.md").read_text().split())
     for rule, reason in target.RULES.items():
         assert f"`{rule}`" in page, rule
         assert " ".join(reason.split()) in page, reason

@@ -1,4 +1,4 @@
-"""docs/IMPORT.md names every rule with its reason, and every refusal."""
+"""docs/use/IMPORT.md names every rule with its reason, and every refusal."""
 from __future__ import annotations
 
 import re
@@ -8,7 +8,7 @@ import bonsainet.importing.tool
 from bonsainet.importing.pages import rules_table
 from bonsainet.ask.program import TOP
 
-PAGE = (TOP / "docs" / "IMPORT.md").read_text()
+PAGE = (TOP / "docs" / "use" / "IMPORT.md").read_text()
 SOURCES = [
     path.read_text()
     for path in sorted(Path(bonsainet.importing.tool.__file__).parent.rglob("*.py"))

@@ -1,4 +1,4 @@
-"""docs/LINES.md has the kinds and heads of the sources, and the program refuses each example with its kind at its
+"""docs/use/LINES.md has the kinds and heads of the sources, and the program refuses each example with its kind at its
 line."""
 from __future__ import annotations
 

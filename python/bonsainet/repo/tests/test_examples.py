@@ -88,7 +88,7 @@ def test_code_of_a_page(tmp_path: Path) -> None:
 
 
 def test_each_page_is_read() -> None:
-    assert "README.md" in pages.pages() and "docs/PROVED.md" in pages.pages()
+    assert "README.md" in pages.pages() and "docs/inside/PROVED.md" in pages.pages()
     assert shown_in("README.md", (TOP / "README.md").read_text("utf-8"))
 
 

@@ -69,7 +69,7 @@ def test_help_comes_at_once() -> None:
 
 
 def test_help_names_each_command_and_status_of_the_pages() -> None:
-    pages = "".join(path.read_text("utf-8") for path in [TOP / "README.md", *sorted(TOP.glob("docs/*.md"))])
+    pages = "".join(path.read_text("utf-8") for path in [TOP / "README.md", *sorted(TOP.glob("docs/*/*.md"))])
     told = launch("--help").stdout.decode()
     forms = re.findall(r"^\| `([a-z]+(?: [A-Z])+)` \|", pages, re.M)
     statuses = re.findall(r"^\| (\d+) ([A-Z][a-z]\w+) \|", pages, re.M)

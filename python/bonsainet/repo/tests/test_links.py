@@ -6,7 +6,7 @@ import pytest
 
 from bonsainet.ask.program import TOP
 
-PAGES = [TOP / "README.md", *sorted((TOP / "docs").glob("*.md"))]
+PAGES = [TOP / "README.md", TOP / "CONTRIBUTING.md", *sorted((TOP / "docs").glob("*/*.md"))]
 
 
 def anchors(page: Path) -> set[str]:
