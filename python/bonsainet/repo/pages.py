@@ -19,6 +19,7 @@ from bonsainet.ask.where import without_notices
 
 SET_UP = (
     "./build",
+    "./test",
     ".ci/run",
     "rt ",
     "tools/setup",
