@@ -6,9 +6,11 @@ import argparse
 import collections
 import concurrent.futures
 import dataclasses
+import importlib
 import json
 import os
 import random
+import shutil
 import signal
 import subprocess
 import time
@@ -16,15 +18,18 @@ from pathlib import Path
 
 from bonsainet.ask.program import Answer
 from hostile.asking import Asker
-from hostile.judge import answers, asked, asked_words
+from hostile.judge import answers, asked, asked_words, questions
 from hostile.judge.problem import Network
 from hostile.judge.rests import TooLarge
 from hostile.makers import asked as maker
 from hostile.makers import disputes, networks
 
 CALLS = 8
+READERS = ("search", "solver")
 SLICE = 5.0
 USAGE = 2
+MEASURED = Path(__file__).resolve().parent / "measured"
+KEPT = MEASURED / "asked.json"
 
 
 @dataclasses.dataclass
@@ -36,6 +41,11 @@ class Found:
     ends: collections.Counter[str] = dataclasses.field(default_factory=collections.Counter)
     too_large: int = 0
     differences: list[str] = dataclasses.field(default_factory=list)
+
+    @property
+    def asked(self) -> int:
+        """How many commands were asked and judged."""
+        return sum(self.calls.values())
 
     def add(self, other: Found) -> None:
         """Takes what another job found to this."""
@@ -51,8 +61,10 @@ def text_of(chance: random.Random) -> bytes:
     return (disputes.text(chance) if chance.random() < 0.7 else networks.text(chance)).encode()
 
 
-def fault(net: Network | answers.Expected, words: list[str], answer: Answer) -> str | None:
-    """Why an answer is not allowed, or None. TooLarge where the judge cannot tell."""
+def fault(
+    net: Network | answers.Expected, words: list[str], answer: Answer, reader: asked.Reader = questions
+) -> str | None:
+    """Why an answer is not allowed by what a reader finds, or None. TooLarge where the reader cannot tell."""
     is_refused = isinstance(net, answers.Expected)
     try:
         call = asked_words.call_of(EMPTY if isinstance(net, answers.Expected) else net, words)
@@ -66,7 +78,7 @@ def fault(net: Network | answers.Expected, words: list[str], answer: Answer) -> 
     if answer.status not in (0, 8):
         return "an answer"
     try:
-        asked.judge(net, call, answer.status, answer.text)
+        asked.judge(net, call, answer.status, answer.text, reader)
     except asked.Differs as why:
         return str(why)
     return None
@@ -79,7 +91,23 @@ def _refusal_fault(wanted: str, answer: Answer) -> str | None:
 EMPTY = Network([], "none", [], [], [])
 
 
-def over_text(program: Asker, text: bytes, start: int, found: Found, keep: Path) -> None:
+@dataclasses.dataclass(frozen=True)
+class How:
+    """How a run asks: the program, the reader that judges, how many calls a text gets, and where differences go."""
+
+    path: str
+    seed: int
+    reader: str
+    calls: int
+    keep: Path
+
+
+def reader_of(name: str) -> asked.Reader:
+    """The reader of a name. The solver is loaded where it is asked for."""
+    return questions if name == "search" else importlib.import_module("hostile.solver.reader")
+
+
+def over_text(program: Asker, text: bytes, start: int, found: Found, how: How) -> None:
     """Asks several questions over one text."""
     chance = random.Random(start)
     net = answers.read(text)
@@ -87,11 +115,11 @@ def over_text(program: Asker, text: bytes, start: int, found: Found, keep: Path)
         return
     found.texts += 1
     made = maker.Maker(chance, EMPTY if isinstance(net, answers.Expected) else net)
-    for _ in range(CALLS if not isinstance(net, answers.Expected) else 1):
+    for _ in range(how.calls if not isinstance(net, answers.Expected) else 1):
         words = made.words()
         try:
             answer = program.ask("F", *words, texts={"F": text})
-            why = fault(net, words, answer)
+            why = fault(net, words, answer, reader_of(how.reader))
         except TooLarge:
             found.too_large += 1
             continue
@@ -101,7 +129,7 @@ def over_text(program: Asker, text: bytes, start: int, found: Found, keep: Path)
         found.calls[("failing " if "failing" in words else "") + ("without " if "without" in words else "") + task] += 1
         found.ends[f"status {answer.status}" + (" tied" if b" tied " in answer.out else "")] += 1
         if why:
-            found.differences.append(_kept(keep, text, start, words, why, answer))
+            found.differences.append(_kept(how.keep, text, start, words, why, answer))
 
 
 TASKS = {*maker.TASKS, "route", "isolated", "hops", "through", "avoids", "carries", "lacks"}
@@ -116,28 +144,28 @@ def _kept(folder: Path, text: bytes, start: int, words: list[str], why: str, ans
     return name
 
 
-def part_of_job(path: str, seed: int, number: int, turn: int, seconds: float, keep: Path) -> tuple[Found, int]:
+def part_of_job(how: How, number: int, turn: int, seconds: float) -> tuple[Found, int]:
     """A job's texts from a turn on, for some time, and the next turn."""
     signal.signal(signal.SIGINT, signal.SIG_IGN)
-    program, found, until = Asker(path), Found(), time.monotonic() + seconds
+    program, found, until = Asker(how.path), Found(), time.monotonic() + seconds
     try:
         while time.monotonic() < until:
             turn += 1
-            start = seed * 1_000_003 + number * 100_000_007 + turn
-            over_text(program, text_of(random.Random(start)), start, found, keep)
+            start = how.seed * 1_000_003 + number * 100_000_007 + turn
+            over_text(program, text_of(random.Random(start)), start, found, how)
     finally:
         program.close()
     return found, turn
 
 
-def run(path: str, seed: int, seconds: float, jobs: int, keep: Path, texts: int | None) -> Found:
-    """All jobs until their time is over, or as many texts were asked."""
+def run(how: How, seconds: float, jobs: int, texts: int | None, commands: int | None) -> Found:
+    """All jobs until their time is over, or as many texts or commands were asked."""
     begun, found = time.monotonic(), Found()
     with concurrent.futures.ProcessPoolExecutor(jobs) as pool:
 
         def part(number: int, turn: int) -> concurrent.futures.Future[tuple[Found, int]]:
             left = max(0.0, seconds - (time.monotonic() - begun))
-            return pool.submit(part_of_job, path, seed, number, turn, min(SLICE, left), keep)
+            return pool.submit(part_of_job, how, number, turn, min(SLICE, left))
 
         waiting = {part(number, 0): number for number in range(jobs)}
         while waiting:
@@ -146,7 +174,10 @@ def run(path: str, seed: int, seconds: float, jobs: int, keep: Path, texts: int 
                 number = waiting.pop(one)
                 more, turn = one.result()
                 found.add(more)
-                if time.monotonic() - begun < seconds and (texts is None or found.texts < texts):
+                is_full = (texts is not None and found.texts >= texts) or (
+                    commands is not None and found.asked >= commands
+                )
+                if time.monotonic() - begun < seconds and not is_full:
                     waiting[part(number, turn)] = number
     return found
 
@@ -157,20 +188,42 @@ def main(arguments: list[str] | None = None) -> int:
     parser.add_argument("--program", required=True, help="the program bonsai-ask")
     parser.add_argument("--seconds", type=float, default=20, help="how long (default 20)")
     parser.add_argument("--texts", type=int, help="end when so many texts were asked")
+    parser.add_argument("--commands", type=int, help="end when so many commands were asked and judged")
+    parser.add_argument("--calls", type=int, default=CALLS, help="how many commands a text gets (default %(default)s)")
+    parser.add_argument(
+        "--by",
+        choices=READERS,
+        default="search",
+        help="who finds the solutions: exhaustive search (default), or Z3 (package z3)",
+    )
+    parser.add_argument("--record", metavar="NAME", help=f"keep the counts in {MEASURED.name}/asked.json by this name")
     parser.add_argument("--jobs", type=int, default=2, help="how many processes (default 2)")
     parser.add_argument("--seed", type=int, help="the same seed makes the same texts in the same order")
     parser.add_argument("--keep", type=Path, default=Path("out/hostile"), help="the folder for what differs")
     given = parser.parse_args(arguments)
     seed = given.seed if given.seed is not None else int.from_bytes(os.urandom(3), "big")
-    found = run(os.path.abspath(given.program), seed, given.seconds, given.jobs, given.keep, given.texts)
+    if given.by == "solver" and not shutil.which("z3"):
+        print("ask: left out: the program z3 is not there: install the package z3")
+        return 0
+    how = How(os.path.abspath(given.program), seed, given.by, given.calls, given.keep)
+    load, begun = os.getloadavg()[0], time.monotonic()
+    found = run(how, given.seconds, given.jobs, given.texts, given.commands)
     table = {
+        "date": time.strftime("%Y-%m-%d"),
+        "reader": given.by,
+        "seconds": round(time.monotonic() - begun),
+        "jobs": given.jobs,
+        "load": [round(load, 1), round(os.getloadavg()[0], 1)],
         "seed": seed,
         "texts": found.texts,
-        "calls": sum(found.calls.values()),
+        "calls": found.asked,
         "by_task": dict(sorted(found.calls.items())),
         "by_end": dict(sorted(found.ends.items())),
         "too_large": found.too_large,
         "differences": found.differences,
     }
     print(json.dumps(table, indent=1))
+    if given.record:
+        kept = json.loads(KEPT.read_text("utf-8")) if KEPT.is_file() else {}
+        KEPT.write_text(json.dumps({**kept, given.record: table}, indent=1) + "\n", "utf-8")
     return 1 if found.differences else 0

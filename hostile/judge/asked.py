@@ -5,12 +5,13 @@ from __future__ import annotations
 import dataclasses
 import re
 from collections import Counter
+from typing import Protocol
 
-from hostile.judge import labels, questions
+from hostile.judge import labels, questions, rests
 from hostile.judge.network import Refused
-from hostile.judge.problem import Network
-from hostile.judge.questions import Question
-from hostile.judge.rests import Down, keys
+from hostile.judge.problem import Network, Problem, problem
+from hostile.judge.questions import Question, Verdict
+from hostile.judge.rests import Down
 
 TIED = r"(?: tied (?P<router>\S+) (?:communities|path))?"
 
@@ -29,6 +30,20 @@ class Call:
     task: str
     question: Question | None = None
     failing: str | None = None
+
+
+class Reader(Protocol):
+    """Who finds all solutions of a class without something: by trying all (`hostile.judge.questions`), or by a solver
+    (`hostile.solver.reader`)."""
+
+    def keys(self, net: Network, number: int, down: Down) -> list[str]:
+        """The keys of each solution, as text."""
+
+    def forwards(self, net: Network, number: int, down: Down) -> list[str]:
+        """The lines of `forwards` for each solution."""
+
+    def verdict(self, net: Network, number: int, question: Question, down: Down) -> Verdict:
+        """The answer to a question, and whether ties matter."""
 
 
 class Lines:
@@ -57,48 +72,93 @@ class Lines:
         return taken
 
 
-def judge(net: Network, call: Call, status: int, out: str, with_labels: bool = True) -> None:
-    """Raises Differs where the output and status are none that are allowed."""
-    lines = Lines(out)
-    is_good = True
-    for number in call.numbers:
-        is_good &= _class(net, call, number, lines, with_labels)
-    if lines.rest:
-        raise Differs(f"no line {lines.rest[0]!r}")
-    if status != (0 if is_good else 8):
-        raise Differs(f"status {0 if is_good else 8}")
+@dataclasses.dataclass(frozen=True)
+class Judge:
+    """Judges answers over a network by what a reader finds."""
+
+    net: Network
+    reader: Reader
+
+    def judge(self, call: Call, status: int, out: str) -> None:
+        """Raises Differs where the output and status are none that are allowed."""
+        lines = Lines(out)
+        is_good = True
+        for number in call.numbers:
+            is_good &= self._class(call, number, lines)
+        if lines.rest:
+            raise Differs(f"no line {lines.rest[0]!r}")
+        if status != (0 if is_good else 8):
+            raise Differs(f"status {0 if is_good else 8}")
+
+    def _class(self, call: Call, number: int, lines: Lines) -> bool:
+        head = f"class {number + 1} "
+        if call.task in ("solutions", "forwards"):
+            self._listed(call, number, lines, "" if call.is_single else head)
+            return True
+        if call.task == "count":
+            found = self.reader.keys(self.net, number, call.down)
+            lines.take(re.escape(f"{head}solutions {len(found)}"))
+            return True
+        return self._asked(call, number, lines)
+
+    def _listed(self, call: Call, number: int, lines: Lines, head: str) -> None:
+        are_forwards = call.task == "forwards"
+        wanted = (self.reader.forwards if are_forwards else self.reader.keys)(self.net, number, call.down)
+        left = self._left(number, call.down)
+        told = []
+        for place in range(1, len(wanted) + 1):
+            lines.take(re.escape(f"{head}solution {place}"))
+            block = lines.many(len(left.names))
+            told.append("\n".join(block) if are_forwards else repr(rests.keys(left, read(left, block))))
+        if Counter(wanted) != Counter(told):
+            raise Differs(f"{call.task} {sorted(wanted)}")
+
+    def _left(self, number: int, down: Down) -> Problem:
+        return rests.without(problem(self.net, self.net.classes[number]), down)
+
+    def _asked(self, call: Call, number: int, lines: Lines) -> bool:
+        assert call.question
+        whole = self.reader.verdict(self.net, number, call.question, call.down)
+        tie = "" if whole.word == "no" else TIED
+        found = lines.take(re.escape(f"class {number + 1} {whole.word}") + tie)
+        if whole.word != "no" and whole.ties_matter and not found["router"]:
+            raise Differs("a line with `tied`")
+        is_good = whole.word == "yes"
+        if call.failing:
+            return self._failing(call, number, lines) and is_good
+        if whole.word == "no" and call.is_single:
+            left = self._left(number, call.down)
+            held = read(left, lines.many(len(left.names)))
+            if questions.is_true(left, held, call.question, call.down):
+                raise Differs("labels that make the question false")
+        return is_good
+
+    def _failing(self, call: Call, number: int, lines: Lines) -> bool:
+        assert call.question
+        cases = failures(self.net, call)
+        bad, least_tied, most_tied = 0, 0, 0
+        for head, down in cases:
+            one = self.reader.verdict(self.net, number, call.question, down)
+            if one.word != "yes":
+                lines.take(re.escape(f"{head} {one.word}"))
+                bad += 1
+            least_tied += one.word != "no" and one.ties_matter
+            most_tied += one.word != "no"
+        last = lines.take(
+            re.escape(f"class {number + 1} failing {bad} of {len(cases)}") + r"(?: tied (?P<tied>[1-9][0-9]*))?"
+        )
+        if not least_tied <= int(last["tied"] or 0) <= most_tied:
+            raise Differs(f"from {least_tied} to {most_tied} tied problems")
+        return bad == 0
 
 
-def _class(net: Network, call: Call, number: int, lines: Lines, with_labels: bool) -> bool:
-    head = f"class {number + 1} "
-    if call.task in ("solutions", "forwards"):
-        _listed(net, call, number, lines, "" if call.is_single else head)
-        return True
-    if call.task == "count":
-        _, found = questions.solutions(net, number, call.down)
-        lines.take(re.escape(f"{head}solutions {len(found)}"))
-        return True
-    return _asked(net, call, number, lines, with_labels)
+def judge(net: Network, call: Call, status: int, out: str, reader: Reader = questions) -> None:
+    """Raises Differs where the output and status are none that are allowed by what a reader finds."""
+    Judge(net, reader).judge(call, status, out)
 
 
-def _listed(net: Network, call: Call, number: int, lines: Lines, head: str) -> None:
-    left, found = questions.solutions(net, number, call.down)
-    wanted: Counter[str] = Counter()
-    told: Counter[str] = Counter()
-    for place, given in enumerate(found, 1):
-        lines.take(re.escape(f"{head}solution {place}"))
-        block = lines.many(len(left.names))
-        if call.task == "forwards":
-            wanted["\n".join(questions.forward_lines(left, given))] += 1
-            told["\n".join(block)] += 1
-        else:
-            wanted[repr(keys(left, given))] += 1
-            told[repr(keys(left, _read(left, block)))] += 1
-    if wanted != told:
-        raise Differs(f"{call.task} {sorted(wanted)}")
-
-
-def _read(left, block: list[str]) -> list[labels.Label]:
+def read(left: Problem, block: list[str]) -> list[labels.Label]:
+    """The labels that lines have, in the order of the routers. Raises Differs where they are not stable."""
     try:
         held = labels.read("".join(f"{line}\n" for line in block).encode(), left)
     except Refused as refused:
@@ -111,50 +171,16 @@ def _read(left, block: list[str]) -> list[labels.Label]:
     return held
 
 
-def _asked(net: Network, call: Call, number: int, lines: Lines, with_labels: bool) -> bool:
-    assert call.question
-    whole = questions.verdict(net, number, call.question, call.down)
-    tie = "" if whole.word == "no" else TIED
-    found = lines.take(re.escape(f"class {number + 1} {whole.word}") + tie)
-    if whole.word != "no" and whole.ties_matter and not found["router"]:
-        raise Differs("a line with `tied`")
-    is_good = whole.word == "yes"
-    if call.failing:
-        return _failing(net, call, number, lines) and is_good
-    if whole.word == "no" and call.is_single and with_labels:
-        left, _ = questions.solutions(net, number, call.down)
-        held = _read(left, lines.many(len(left.names)))
-        if questions.is_true(left, held, call.question, call.down):
-            raise Differs("labels that make the question false")
-    return is_good
-
-
-def _failing(net: Network, call: Call, number: int, lines: Lines) -> bool:
-    assert call.question
-    cases: list[tuple[str, Down]] = []
+def failures(net: Network, call: Call) -> list[tuple[str, Down]]:
+    """What `failing` takes away, one after another: the head of its line, and what is down then."""
     if call.failing == "links":
         lost = questions.links_down(net, call.down)
         names = questions.link_names(net)
-        cases = [
+        return [
             (f"link {names[link]}", call.down.with_link(link)) for link in range(len(net.links)) if link not in lost
         ]
-    else:
-        cases = [
-            (f"router {router.name}", call.down.with_router(place))
-            for place, router in enumerate(net.routers)
-            if place not in call.down.routers
-        ]
-    bad, least_tied, most_tied = 0, 0, 0
-    for head, down in cases:
-        one = questions.verdict(net, number, call.question, down)
-        if one.word != "yes":
-            lines.take(re.escape(f"{head} {one.word}"))
-            bad += 1
-        least_tied += one.word != "no" and one.ties_matter
-        most_tied += one.word != "no"
-    last = lines.take(
-        re.escape(f"class {number + 1} failing {bad} of {len(cases)}") + r"(?: tied (?P<tied>[1-9][0-9]*))?"
-    )
-    if not least_tied <= int(last["tied"] or 0) <= most_tied:
-        raise Differs(f"from {least_tied} to {most_tied} tied problems")
-    return bad == 0
+    return [
+        (f"router {router.name}", call.down.with_router(place))
+        for place, router in enumerate(net.routers)
+        if place not in call.down.routers
+    ]

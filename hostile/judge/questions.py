@@ -86,6 +86,18 @@ def solutions(net: Network, number: int, down: Down) -> tuple[Problem, list[list
     return left, found
 
 
+def keys(net: Network, number: int, down: Down) -> list[str]:
+    """The keys of each solution, as text."""
+    left, found, _ = _rests(net, number, down)
+    return [repr(rests.keys(left, given)) for given in found]
+
+
+def forwards(net: Network, number: int, down: Down) -> list[str]:
+    """The lines of `forwards` for each solution."""
+    left, found, _ = _rests(net, number, down)
+    return ["\n".join(forward_lines(left, given)) for given in found]
+
+
 def verdict(net: Network, number: int, question: Question, down: Down) -> Verdict:
     """The answer to a question about a class without something."""
     left, found, ties = _rests(net, number, down)

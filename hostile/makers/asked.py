@@ -28,7 +28,7 @@ class Maker:
             made.append(self.chance.choice(TASKS))
         else:
             made += ["failing", self.chance.choice(["links", "routers"])] if how < 0.55 else []
-            made += self._question()
+            made += self.question()
         return self._spoilt(made) if self.chance.random() < 0.08 else made
 
     def _classes(self) -> str:
@@ -65,7 +65,8 @@ class Maker:
             items.append(":".join(self.chance.sample(self.names, 2)))
         return ",".join(items)
 
-    def _question(self) -> list[str]:
+    def question(self) -> list[str]:
+        """The words of a question."""
         word = self.chance.choice(["route", "isolated", "hops", "through", "avoids", "carries", "lacks"])
         if word == "hops":
             return [word, str(self.chance.randint(0, 5)), self._some()]

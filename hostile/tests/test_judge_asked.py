@@ -35,13 +35,18 @@ def test_gadgets_have_as_many_solutions_as_griffin_shepherd_and_wilfong_say(name
     assert all(rests.keys(left, one) != rests.keys(left, other) for one, other in zip(found, found[1:]))
 
 
-def answer(net, words, status, out):
-    """Whether the answer is taken."""
+def answer_by(reader, net, words, status, out):
+    """Whether the answer is taken by what a reader finds."""
     try:
-        asked.judge(net, asked_words.call_of(net, words), status, out)
+        asked.judge(net, asked_words.call_of(net, words), status, out, reader)
     except asked.Differs:
         return False
     return True
+
+
+def answer(net, words, status, out):
+    """Whether the answer is taken by what exhaustive search finds."""
+    return answer_by(questions, net, words, status, out)
 
 
 def test_an_answer_is_taken_by_its_verdict_status_and_counterexample():
