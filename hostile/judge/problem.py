@@ -85,17 +85,23 @@ def _sessions(routers: list[Router]) -> list[tuple[int, int, Neighbor, Neighbor]
     lines = [
         (place, other) for place, router in enumerate(routers) if router.bgp for other in router.bgp.neighbors.values()
     ]
+    of: dict[int, list[Neighbor]] = {}
+    for place, other in lines:
+        of.setdefault(place, []).append(other)
     found = []
-    for (u, one), (v, two) in itertools.combinations(sorted(lines, key=lambda pair: pair[1].line), 2):
-        far, near = owner.get(one.address), owner.get(two.address)
-        if u == v or one.shut or two.shut or far is None or near is None or (far[0], near[0]) != (v, u):
-            continue
-        if (
-            far[1].subnet == near[1].subnet
-            and one.number == routers[v].bgp.number
-            and two.number == routers[u].bgp.number
-        ):
-            found.append((u, v, one, two))
+    for u, one in lines:
+        far = owner.get(one.address)
+        v = far[0] if far else u
+        for two in of.get(v, []):
+            near = owner.get(two.address)
+            if u == v or one.line > two.line or one.shut or two.shut or far is None or near is None or near[0] != u:
+                continue
+            if (
+                far[1].subnet == near[1].subnet
+                and one.number == routers[v].bgp.number
+                and two.number == routers[u].bgp.number
+            ):
+                found.append((u, v, one, two))
     return sorted(found, key=lambda link: (link[2].line, link[3].line))
 
 

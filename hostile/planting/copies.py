@@ -39,9 +39,10 @@ def launcher_of(folder: Path) -> ModuleType:
     return made
 
 
-def program(fault: Fault | None, folder: Path) -> Path:
-    """The program with a fault of its sources, or without one, kept in a folder and built where it is not there."""
-    kept = folder.resolve() / (fault.name if fault else "as-it-is")
+def program(fault: Fault | None, folder: Path, called: str = "bonsai") -> Path:
+    """The program of a name with a fault of its sources, or without one, kept in a folder and built where it is not
+    there."""
+    kept = folder.resolve() / (fault.name if fault else "as-it-is" if called == "bonsai" else f"{called}-as-it-is")
     if kept.is_file():
         return kept
     folder.mkdir(parents=True, exist_ok=True)
@@ -56,7 +57,7 @@ def program(fault: Fault | None, folder: Path) -> Path:
         if not launcher.kit():
             raise Unfit("the command rt of the Rattle kit is not on the path")
         try:
-            asked = launcher.Program("bonsai")
+            asked = launcher.Program(called)
             kept.write_bytes(launcher.built(asked, launcher.kit(), launcher.code_of(asked), str(room / "build")))
             kept.chmod(0o755)
         except launcher.NoProgram as why:

@@ -17,10 +17,6 @@ class NoSolver(Exception):
     """The program z3 is not there: install the package z3."""
 
 
-class TooHard(Exception):
-    """The solver gave no answer in the time that it had."""
-
-
 def is_there() -> bool:
     """Whether the program is there."""
     return shutil.which(PROGRAM) is not None
@@ -39,28 +35,17 @@ class Solver:
         self.process.kill()
         self.process.communicate()
 
-    def begin(self, lines: Iterable[str], seconds: float | None = None) -> None:
-        """A new problem: declarations and definitions. With `seconds` each question is given up after so long."""
-        limit = [f"(set-option :timeout {max(1, int(1000 * seconds))})"] if seconds is not None else []
-        self._send(["(reset)", *limit, "(set-logic QF_LIA)", *lines])
+    def begin(self, lines: Iterable[str]) -> None:
+        """A new problem: declarations and definitions."""
+        self._send(["(reset)", "(set-logic QF_LIA)", *lines])
 
     def add(self, formulas: Iterable[Formula]) -> None:
         """Formulas that must hold."""
         self._send(f"(assert {text_of(one)})" for one in formulas if one is not True)
 
-    def mark(self) -> None:
-        """What is added from here on is forgotten by `back`."""
-        self._send(["(push)"])
-
-    def back(self) -> None:
-        """Forgets what was added behind the last mark."""
-        self._send(["(pop)"])
-
     def is_satisfiable(self) -> bool:
-        """Whether all formulas can hold. TooHard where the time was over."""
+        """Whether all formulas can hold."""
         answer = self._ask("(check-sat)")
-        if answer == "unknown":
-            raise TooHard("no answer in time")
         if answer not in ("sat", "unsat"):
             raise ValueError(f"z3 answers {answer}")
         return answer == "sat"

@@ -8,7 +8,7 @@ from hostile.judge.problem import Network
 from hostile.judge.questions import Question
 from hostile.judge.rests import Down
 from hostile.solver.encoding import Encoding, Held, encoded, keys_differ, same_weakly
-from hostile.solver.formulas import Formula, conjunction, disjunction, negation, same
+from hostile.solver.formulas import Formula, conjunction, disjunction, negation, same, text_of
 from hostile.solver.smt import Solver
 
 Keys = tuple[object, ...]
@@ -24,10 +24,10 @@ class Solution:
 
 
 class Problem:
-    """A class without something, as a solver sees it. With `seconds` each question is given up after so long."""
+    """A class without something, as a solver sees it."""
 
-    def __init__(self, solver: Solver, net: Network, number: int, down: Down, seconds: float | None = None) -> None:
-        self.solver, self.down, self.seconds = solver, down, seconds
+    def __init__(self, solver: Solver, net: Network, number: int, down: Down) -> None:
+        self.solver, self.down = solver, down
         self.encoding: Encoding = encoded(net, number, down)
         self.places = range(len(net.routers))
         self.forward = [self._forward(place, is_weak=False) for place in self.places]
@@ -48,7 +48,7 @@ class Problem:
         return {other: made.writer.formula(disjunction(parts)) for other, parts in ahead.items()}
 
     def _begin(self, formulas: list[Formula]) -> None:
-        self.solver.begin(self.encoding.writer.lines, self.seconds)
+        self.solver.begin(self.encoding.writer.lines)
         self.solver.add(formulas)
 
     def solutions(self) -> list[Solution]:
@@ -90,17 +90,6 @@ class Problem:
             self.solver.add([disjunction([keys_differ(self.encoding, one.keys), *others])])
         return self.solver.is_satisfiable()
 
-    def route_everywhere(self) -> str:
-        """The answer to `route *`, by two questions to the solver and no list of solutions."""
-        labels = [label for at, label in enumerate(self.encoding.labels) if at not in self.down.routers]
-        self._begin(self.encoding.stable)
-        self.solver.mark()
-        self.solver.add([disjunction(negation(label.is_there) for label in labels)])
-        if self.solver.is_satisfiable():
-            return "no"
-        self.solver.back()
-        return "yes" if self.solver.is_satisfiable() else "none"
-
     def is_true(self, one: Solution, question: Question) -> bool:
         """Whether a question is true in a solution. Routers that are down are not asked."""
         asked = set(question.routers) - self.down.routers
@@ -124,6 +113,18 @@ class Problem:
             case "through":
                 return not _ahead(one, asked, way) & set(self.encoding.initial)
         raise ValueError(question.word)
+
+
+def route_texts(net: Network, number: int, down: Down) -> list[str]:
+    """Two texts in SMT-LIB from which the answer to `route *` follows: whether some stable labels leave a router without
+    a route, and whether there are stable labels."""
+    made = encoded(net, number, down)
+    lacking = disjunction(negation(one.is_there) for at, one in enumerate(made.labels) if at not in down.routers)
+    found = []
+    for more in (lacking, True):
+        told = [f"(assert {text_of(one)})" for one in [*made.stable, more] if one is not True]
+        found.append("".join(f"{line}\n" for line in ["(set-logic QF_LIA)", *made.writer.lines, *told, "(check-sat)"]))
+    return found
 
 
 def _parts(label: Held) -> list[Formula | int]:

@@ -2,6 +2,7 @@
 
 import itertools
 import random
+import subprocess
 
 import pytest
 
@@ -11,7 +12,7 @@ from hostile.judge.questions import Question
 from hostile.judge.rests import Down, TooLarge
 from hostile.makers import disputes
 from hostile.solver import command, encoding, formulas, reader, smt
-from hostile.solver.solving import Problem
+from hostile.solver.solving import route_texts
 from hostile.tests.test_judge_asked import answer_by, network
 
 NOTHING = Down()
@@ -42,11 +43,8 @@ def test_values_of_a_model_are_read(solver):
     solver.add(["a", formulas.equal("n", -7)])
     assert solver.is_satisfiable()
     assert solver.values(["a", "n"]) == {"a": True, "n": -7}
-    solver.mark()
     solver.add(["(not a)"])
     assert not solver.is_satisfiable()
-    solver.back()
-    assert solver.is_satisfiable()
 
 
 def test_a_formula_that_is_used_twice_has_one_name():
@@ -84,13 +82,22 @@ def test_ties_matter_where_only_communities_order_two_routes():
     assert found == {True, False}
 
 
-@pytest.mark.parametrize("down, word", [(NOTHING, "yes"), (Down(routers=frozenset([0])), "no")])
-def test_route_everywhere_needs_no_list_of_solutions(solver, down, word):
-    assert Problem(solver, network("two pairs"), 0, down).route_everywhere() == word
+def answers_of(texts):
+    """What Z3 says to texts in SMT-LIB."""
+    run = [subprocess.run(["z3", "-in"], input=text, capture_output=True, text=True, check=True) for text in texts]
+    return [one.stdout.strip() for one in run]
 
 
-def test_route_everywhere_in_a_network_without_a_solution(solver):
-    assert Problem(solver, network("bad gadget", True, False), 0, NOTHING).route_everywhere() == "none"
+@pytest.mark.parametrize(
+    "name, down, told",
+    [
+        ("two pairs", NOTHING, ["unsat", "sat"]),
+        ("two pairs", Down(routers=frozenset([0])), ["sat", "sat"]),
+        ("bad gadget", NOTHING, ["unsat", "unsat"]),
+    ],
+)
+def test_route_everywhere_follows_from_two_texts(name, down, told):
+    assert answers_of(route_texts(network(name, name == "bad gadget", name != "bad gadget"), 0, down)) == told
 
 
 def test_who_is_lone_follows_from_what_is_left():
