@@ -1,7 +1,9 @@
-"""What all tests share: signals that reach the tools, and the program that is asked.
+"""What all tests share: signals that reach the tools, the program that is asked, and how Hypothesis tries examples.
 
 Signals reach the tools that tests start, also where the tests run behind `nohup` or in the background of a shell.
+Hypothesis tries the same examples each time, however slow the machine is.
 """
+import contextlib
 import signal
 
 import pytest
@@ -17,6 +19,18 @@ for number, handler in (
 ):
     if signal.getsignal(number) == signal.SIG_IGN:
         signal.signal(number, handler)
+
+
+with contextlib.suppress(ModuleNotFoundError):
+    import hypothesis
+
+    hypothesis.settings.register_profile(
+        "any machine",
+        deadline=None,
+        derandomize=True,
+        suppress_health_check=[hypothesis.HealthCheck.too_slow],
+    )
+    hypothesis.settings.load_profile("any machine")
 
 
 @pytest.fixture(scope="session")

@@ -5,6 +5,8 @@ import functools
 import importlib.util
 import re
 import subprocess
+import time
+from collections.abc import Callable
 from pathlib import Path
 from typing import Any
 
@@ -14,6 +16,9 @@ from bonsainet.configs.compressed import Asked, Compressed, asked
 from bonsainet.ask.program import TOP, Program
 from bonsainet.ask.where import without_notices
 
+
+LATEST = 300.0
+"""Seconds after which a test fails that waits for something: many more than a slow machine takes."""
 
 TWO_ALIKE = (
     "hostname a\ninterface Vlan1\n ip address 10.1.0.1 255.255.255.0\ninterface Vlan2\n ip address 10.2.0.1 255.255.255.0\n"
@@ -66,3 +71,19 @@ def tool(name: str, *words: object, raw: bytes = b"", **more: Any) -> subprocess
         [str(TOP / folder / name), *map(str, words)], input=raw, capture_output=True, check=False, **more
     )
     return subprocess.CompletedProcess(ran.args, ran.returncode, ran.stdout, without_notices(ran.stderr))
+
+
+def wait_for(found: Callable[[], object]) -> None:
+    """Waits until there is something. Fails where that never is."""
+    until = time.monotonic() + LATEST
+    while not found():
+        assert time.monotonic() < until, "waited for in vain"
+        time.sleep(0.02)
+
+
+def slow_program(program: Program, room: Path, seconds: str) -> Path:
+    """Makes a program `slow` in a folder that waits before it answers, and gives the file to which it adds the words of each call."""
+    slow, asked = room / "slow", room / "asked"
+    slow.write_text(f"""#!/bin/sh\necho "$*" >> '{asked}'\nsleep {seconds}\nexec '{program.path}' "$@"\n""")
+    slow.chmod(0o755)
+    return asked

@@ -8,7 +8,7 @@ import pytest
 
 from bonsainet.ask.program import TOP
 from bonsainet.ask.where import without_notices
-from bonsainet.tests.asking import needs, place_of
+from bonsainet.tests.asking import LATEST, needs, place_of
 
 REFUSED = "hostname R1\nbogus line here\ninterface Vlan1\n ip address 10.0.0.1 255.255.255.0\nrouter ospf 1\n network 0.0.0.0 255.255.255.255 area 0\nend\n"
 # The words of each tool: an accepted text is TEXT, a refused one BAD, a folder of it BAD-FOLDER, and what is made MADE.
@@ -45,7 +45,7 @@ def ran(name: str, room: Path, closing: str) -> tuple[int, bytes, bytes]:
     words = " ".join(f"'{named.get(word, word)}'" for word in TOOLS[name].split())
     with open(room / "out", "wb") as out, open(room / "err", "wb") as err:
         command = ["/bin/sh", "-c", f'"$0" {words} {closing}', str(TOP / "tools" / name)]
-        done = subprocess.run(command, stdin=subprocess.DEVNULL, stdout=out, stderr=err, timeout=120, check=False)
+        done = subprocess.run(command, stdin=subprocess.DEVNULL, stdout=out, stderr=err, timeout=LATEST, check=False)
     told = (room / "out").read_bytes().replace(str(made).encode(), b"MADE")
     return done.returncode, told, without_notices((room / "err").read_bytes()).replace(str(made).encode(), b"MADE")
 
@@ -81,6 +81,6 @@ def test_dash_where_standard_input_is_closed(name: str, tmp_path: Path) -> None:
         for word in TOOLS[name].split()
     ]
     command = ["/bin/sh", "-c", f'"$0" {" ".join(words)} <&-', str(TOP / "tools" / name)]
-    done = subprocess.run(command, capture_output=True, timeout=120, check=False)
+    done = subprocess.run(command, capture_output=True, timeout=LATEST, check=False)
     told = without_notices(done.stderr).decode()
     assert (done.returncode, done.stdout, told) == (3, b"", f"{name}: standard input: Bad file descriptor\n")

@@ -4,15 +4,12 @@ from __future__ import annotations
 import os
 import signal
 import subprocess
-import time
-from collections.abc import Callable
 from pathlib import Path
 
 import pytest
 
 from bonsainet.ask.program import TOP, Program
-
-SLOW = "#!/bin/sh\nsleep 0.5\nexec '{program}' \"$@\"\n"
+from bonsainet.tests.asking import LATEST, slow_program, wait_for
 
 
 def workers_of(process: int) -> list[int]:
@@ -28,14 +25,6 @@ def workers_of(process: int) -> list[int]:
     return found
 
 
-def wait_for(found: Callable[[], object]) -> None:
-    """Waits at most a minute until there is something."""
-    until = time.monotonic() + 60
-    while not found() and time.monotonic() < until:
-        time.sleep(0.05)
-    assert found()
-
-
 def is_alive(process: int) -> bool:
     """Whether a process runs, and is no zombie."""
     try:
@@ -47,18 +36,17 @@ def is_alive(process: int) -> bool:
 @pytest.mark.parametrize("number", [signal.SIGTERM, signal.SIGHUP, signal.SIGKILL])
 @pytest.mark.parametrize("tool", ["tools/bonsai-refusals", "hostile/run"])
 def test_workers_end_with_their_tool(tool: str, number: signal.Signals, tmp_path: Path, program: Program) -> None:
-    slow = tmp_path / "slow"
-    slow.write_text(SLOW.format(program=program.path))
-    slow.chmod(0o755)
+    slow_program(program, tmp_path, "0.5")
     text = tmp_path / "text.cfg"
     text.write_text("".join(f"hostname r{at}\nno such line\nend\n" for at in range(200)))
     words = [str(text)] if tool.endswith("refusals") else ["--seconds", "60", "--jobs", "3"]
-    env = {**os.environ, "BONSAI_PROGRAM": str(slow)}
+    env = {**os.environ, "BONSAI_PROGRAM": str(tmp_path / "slow")}
     started = subprocess.Popen(
         [TOP / tool, *words], stdout=subprocess.DEVNULL, stderr=subprocess.DEVNULL, env=env, cwd=tmp_path
     )
-    wait_for(lambda: len(workers_of(started.pid)) >= 4)
+    # (on one processor a worker asks through a shell that sleeps)
+    wait_for(lambda: len(workers_of(started.pid)) >= 3)
     below = workers_of(started.pid)
     started.send_signal(number)
-    assert started.wait(30) == (-number if number == signal.SIGKILL else 128 + number)
+    assert started.wait(LATEST) == (-number if number == signal.SIGKILL else 128 + number)
     wait_for(lambda: not [process for process in below if is_alive(process)])

@@ -2,15 +2,14 @@
 import os
 import signal
 import subprocess
-import time
 from pathlib import Path
 
 import pytest
 
 from bonsainet.nets.fat_tree import fat_tree_text
-from bonsainet.ask.program import TOP
+from bonsainet.ask.program import TOP, Program
 from bonsainet.ask.where import without_notices
-from bonsainet.tests.asking import needs, place_of, tool
+from bonsainet.tests.asking import LATEST, needs, place_of, slow_program, tool, wait_for
 
 TOOLS = {"bonsai-draw": ["1"], "bonsai-json": [], "bonsai-page": [], "bonsai-every": ["all"]}
 WRITERS = {"bonsai-draw": ["1", "-f", "dot"], "bonsai-json": [], "bonsai-page": []}
@@ -138,17 +137,18 @@ def test_an_output_that_is_closed(name: str) -> None:
 
 
 @pytest.mark.parametrize("name", ["bonsai-json", "bonsai-page"])
-def test_an_interrupt_ends_soon(name: str, tmp_path: Path) -> None:
-    (tmp_path / "large.cfg").write_text(fat_tree_text(20))
-    started = subprocess.Popen(
-        [TOP / "tools" / name, tmp_path / "large.cfg"], stdout=subprocess.DEVNULL, stderr=subprocess.PIPE
-    )
-    time.sleep(2.5)
+def test_an_interrupt_ends_before_all_is_asked(name: str, tmp_path: Path, program: Program) -> None:
+    """Of 32 classes a few are asked, each for half a second; then the tool is interrupted."""
+    (tmp_path / "net.cfg").write_text(fat_tree_text(8))
+    asked = slow_program(program, tmp_path, "0.5")
+    env = os.environ | {"BONSAI_PROGRAM": str(tmp_path / "slow")}
+    command = [TOP / "tools" / name, tmp_path / "net.cfg"]
+    started = subprocess.Popen(command, stdout=subprocess.DEVNULL, stderr=subprocess.PIPE, env=env)
+    wait_for(lambda: asked.exists() and asked.read_bytes().count(b"compress") > 1)
     started.send_signal(signal.SIGINT)
-    begun = time.monotonic()
-    _, told = started.communicate(timeout=60)
+    _, told = started.communicate(timeout=LATEST)
     assert (started.returncode, without_notices(told)) == (130, f"{name}: interrupted\n".encode())
-    assert time.monotonic() - begun < 15
+    assert asked.read_bytes().count(b"compress") < 32
 
 
 @pytest.mark.parametrize("name", ["bonsai-json", "bonsai-refusals"])
@@ -157,5 +157,5 @@ def test_a_text_without_an_end(name: str) -> None:
     for words in (["/dev/zero"], ["-"]):
         with open("/dev/zero", "rb") as endless:
             command = [str(TOP / "tools" / name), *words]
-            ran = subprocess.run(command, stdin=endless, capture_output=True, timeout=100, check=False)
+            ran = subprocess.run(command, stdin=endless, capture_output=True, timeout=LATEST, check=False)
         assert ran.returncode == 1 and told in ran.stderr

@@ -5,7 +5,6 @@ import shutil
 import signal
 import socket
 import subprocess
-import time
 from collections.abc import Iterator
 from pathlib import Path
 
@@ -15,7 +14,7 @@ from bonsainet.ask.program import TOP, Program
 from bonsainet.ask.where import without_notices
 from bonsainet.every.plan import first_of_equals
 from bonsainet.nets.fat_tree import fat_tree_text
-from bonsainet.tests.asking import TWO_ALIKE, compressed, example, place_of, tool
+from bonsainet.tests.asking import LATEST, TWO_ALIKE, compressed, example, place_of, tool, wait_for
 
 SSHD = shutil.which("sshd") or "/usr/sbin/sshd"
 
@@ -86,30 +85,32 @@ def test_a_job_that_fails_is_told_and_asked_again(tmp_path: Path) -> None:
 
 
 def test_interrupted_and_resumed(tmp_path: Path) -> None:
-    """The fat tree of 20, with 200 classes, ended after some answers, then resumed: no class is asked twice."""
-    text, folder = tmp_path / "fat-tree-20.cfg", tmp_path / "all"
-    text.write_text(fat_tree_text(20))
-    words = [TOP / "tools/bonsai-every", text, folder, "--each"]
-    started = subprocess.Popen(words, stderr=subprocess.PIPE, start_new_session=True)
+    """72 classes, ended after some answers, then resumed: no class is asked twice. Each job waits, so that it is not done before."""
+    text, folder = tmp_path / "fat-tree-12.cfg", tmp_path / "all"
+    text.write_text(fat_tree_text(12))
+    words = [text, folder, "--each", "--jobs", "2", "--then", "cat; sleep 0.1"]
+    started = subprocess.Popen(
+        [TOP / "tools/bonsai-every", *words], stdout=subprocess.DEVNULL, stderr=subprocess.PIPE, start_new_session=True
+    )
     log = folder / "jobs.log"
-    deadline = time.monotonic() + 60
-    while time.monotonic() < deadline and not (log.exists() and log.read_text().count("\n") > 20):
-        time.sleep(0.05)
+    wait_for(lambda: log.exists() and log.read_text().count("\n") > 20)
     started.send_signal(signal.SIGINT)
-    _, told = started.communicate(timeout=30)
+    _, told = started.communicate(timeout=LATEST)
     assert (started.returncode, without_notices(told)) == (130, b"bonsai-every: interrupted\n")
-    before = {path.name for path in folder.glob("class-*.cfg")}
-    assert 20 <= len(before) < 200
+    before = {path.name for path in folder.glob("class-*.out")}
+    assert 20 <= len(before) < 72
     assert all((folder / name).read_text().endswith("end\n") for name in before)
-    assert tool("bonsai-every", text, folder, "--each", "--resume").returncode == 0
-    lines = [line.split("\t") for line in log.read_text().splitlines()]
-    finished = [line[8].split(" ")[3] for line in lines if line[6:8] == ["0", "0"]]
+    assert tool("bonsai-every", *words, "--resume").returncode == 0
+    finished = [line[8] for line in map(_fields, log.read_text().splitlines()) if line[6:8] == ["0", "0"]]
     assert len(finished) == len(set(finished))
-    # An answer may have got its place just before the end, and its line in the log not.
-    unlogged = {path.name for path in folder.glob("class-*.cfg")} - {f"class-{number}.cfg" for number in finished}
-    assert unlogged <= before and len(unlogged) <= 4
-    assert len(list(folder.glob("class-*.cfg"))) == 200
-    assert (folder / "class-200.cfg").read_text() == Program(str(folder / "bonsai")).compress(fat_tree_text(20), 200)
+    # (an answer may have got its place just before the end, and its line in the log not; two are asked at once)
+    assert len(before) - 2 <= len(finished) - (72 - len(before)) <= len(before)
+    assert len(list(folder.glob("class-*.out"))) == 72
+    assert (folder / "class-72.out").read_text() == Program(str(folder / "bonsai")).compress(fat_tree_text(12), 72)
+
+
+def _fields(line: str) -> list[str]:
+    return line.split("\t")
 
 
 @pytest.fixture
@@ -161,18 +162,12 @@ def machines(tmp_path: Path) -> Iterator[tuple[str, str]]:
 
 
 def _wait_for(config: Path) -> None:
+    """Waits until the ssh servers that the test started answer."""
     for name in ("east", "west"):
-        for _ in range(50):
-            if (
-                subprocess.run(
-                    ["ssh", "-F", config, name, "true"], stdin=subprocess.DEVNULL, capture_output=True, check=False
-                ).returncode
-                == 0
-            ):
-                break
-            time.sleep(0.1)
-        else:
-            pytest.fail(f"the ssh server {name} that the test started does not answer")
+        command = ["ssh", "-F", config, name, "true"]
+        wait_for(
+            lambda: not subprocess.run(command, stdin=subprocess.DEVNULL, capture_output=True, check=False).returncode
+        )
 
 
 def test_over_two_machines(machines: tuple[str, str], tmp_path: Path) -> None:

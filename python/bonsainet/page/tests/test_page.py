@@ -225,14 +225,15 @@ def test_the_fat_tree_of_twenty_is_small_and_opens_soon(browser: object, tmp_pat
     place = tmp_path / "fat-tree-20.html"
     assert tool("bonsai-page", text, "-o", place).returncode == 0
     assert place.stat().st_size < 5_000_000
-    start = time.monotonic()
+    browser.execute_cdp_cmd("Performance.enable", {"timeDomain": "threadTicks"})
     browser.get(place.as_uri())
     assert shown(browser, "#shown") == ["200 of 200 rows"]
     browser.find_elements("css selector", "#classes tbody tr")[3].click()
     assert shown(browser, "#open h2") == ["Class 4"]
-    seconds = time.monotonic() - start
-    print(f"opened after {seconds:.2f} seconds")
-    assert seconds < 6, "two seconds on a machine that does nothing else"
+    told = browser.execute_cdp_cmd("Performance.getMetrics", {})["metrics"]
+    worked = next(one["value"] for one in told if one["name"] == "TaskDuration")
+    print(f"the page took {worked:.2f} processor seconds")
+    assert worked < 10, "under one on most machines"
 
 
 @pytest.mark.parametrize("is_proved", [True, False])

@@ -19,7 +19,7 @@ from bonsainet.refusals.causes import cause_of
 from bonsainet.refusals.collect import Refusals, collect
 from bonsainet.refusals.layout import Input, parts_of, read, stanza_at
 from bonsainet.refusals.rounds import Found, verdict
-from bonsainet.tests.asking import bytes_of, tool
+from bonsainet.tests.asking import bytes_of, slow_program, tool, wait_for
 from bonsainet.configs.text import lines_of
 
 TWO = "hostname {}\ninterface Serial0/0\n ip address 10.0.0.{} 255.255.255.252\nrouter bgp {}\n neighbor 10.0.0.{} remote-as {}\n{}end\n"
@@ -153,7 +153,7 @@ def test_the_command() -> None:
 
 def test_no_refusal_and_no_file() -> None:
     ran = tool("bonsai-refusals", "-", raw=(A + B).encode())
-    assert (ran.returncode, ran.stdout, ran.stderr) == (0, b"-: nothing is refused\n", b"")
+    assert (ran.returncode, ran.stdout.splitlines()[:2], ran.stderr) == (0, [b"-: nothing is refused", b""], b"")
     ran = tool("bonsai-refusals", "/nowhere")
     assert (ran.returncode, ran.stderr) == (3, b"bonsai-refusals: /nowhere: No such file or directory\n")
 
@@ -208,9 +208,7 @@ def test_bytes_outside_ascii_are_written_as_escapes(sort: str) -> None:
 
 
 def test_an_interrupt_is_one_line(tmp_path) -> None:
-    slow = tmp_path / "slow"
-    slow.write_text(f'#!/bin/sh\nsleep 0.05\nexec "{Program().path}" "$@"\n')
-    slow.chmod(0o755)
+    asked = slow_program(Program(), tmp_path, "0.5")
     text = fat_tree_text(16).replace("end\n", "ip route x\nmpls ip\nip vrf x\nend\n")
     command = [str(TOP / "tools" / "bonsai-refusals"), "-"]
     with subprocess.Popen(
@@ -219,11 +217,11 @@ def test_an_interrupt_is_one_line(tmp_path) -> None:
         stdout=subprocess.PIPE,
         stderr=subprocess.PIPE,
         start_new_session=True,
-        env={**os.environ, "BONSAI_PROGRAM": str(slow)},
+        env={**os.environ, "BONSAI_PROGRAM": str(tmp_path / "slow")},
     ) as ran:
         ran.stdin.write(text.encode())
         ran.stdin.close()
-        time.sleep(2)
+        wait_for(lambda: asked.exists() and asked.read_bytes().count(b"\n") > 4)
         os.killpg(ran.pid, signal.SIGINT)
         told = without_notices(ran.stderr.read())
         assert (ran.wait(), ran.stdout.read(), told) == (130, b"", b"bonsai-refusals: interrupted\n")
@@ -321,4 +319,4 @@ def test_of_a_folder_it_tells_what_the_import_leaves(tmp_path) -> None:
     decided = tmp_path / "decisions" / "decisions.json"
     decided.write_text('drop "aggregate-address *" because "nobody asks about it"\n')
     ran = tool("bonsai-refusals", tmp_path, "--decisions", decided)
-    assert (ran.returncode, ran.stdout) == (0, f"{tmp_path}: nothing is refused\n".encode())
+    assert (ran.returncode, ran.stdout.splitlines()[0]) == (0, f"{tmp_path}: nothing is refused".encode())

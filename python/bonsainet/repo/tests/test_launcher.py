@@ -59,13 +59,15 @@ def test_own_answers(words: list[str]) -> None:
     assert ran.stdout.startswith(b"bonsai " if words == ["--version"] else b"Usage: bonsai ")
 
 
-def test_help_comes_at_once() -> None:
-    def seconds() -> float:
-        start = time.monotonic()
-        launch("--help")
-        return time.monotonic() - start
-
-    assert min(seconds() for _ in range(5)) < 0.2
+def test_help_loads_few_modules() -> None:
+    """Help comes at once: it loads no module but those that each start of the interpreter loads."""
+    loaded = subprocess.run(
+        ["/usr/bin/python3", "-X", "importtime", "-IS", TOP / "bonsai", "--help"], capture_output=True, check=True
+    )
+    plain = subprocess.run(
+        ["/usr/bin/python3", "-X", "importtime", "-IS", "-c", "import os"], capture_output=True, check=True
+    )
+    assert loaded.stderr.count(b"\n") <= plain.stderr.count(b"\n")
 
 
 def test_help_names_each_command_and_status_of_the_pages() -> None:

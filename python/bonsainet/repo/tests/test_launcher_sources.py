@@ -6,12 +6,12 @@ import os
 import signal
 import subprocess
 import time
-from collections.abc import Callable
 from pathlib import Path
 
 import pytest
 
 from bonsainet.repo.tests.launching import beside, builds, calls, launch, make_clone, make_kit, proved, script
+from bonsainet.tests.asking import LATEST, wait_for
 
 ANSWER = b"words: classes F\n"
 
@@ -20,14 +20,6 @@ ANSWER = b"words: classes F\n"
 def clone_fixture(tmp_path: Path) -> Path:
     """A repository with the launcher, and beside it a kit."""
     return make_clone(tmp_path)
-
-
-def wait_for(found: Callable[[], object]) -> None:
-    """Waits at most ten seconds until there is something."""
-    until = time.monotonic() + 10
-    while not found() and time.monotonic() < until:
-        time.sleep(0.02)
-    assert found()
 
 
 def code_of(clone: Path) -> bytes:
@@ -189,14 +181,14 @@ def test_many_answers_while_old_builds_go(clone: Path) -> None:
 def test_a_build_that_is_ended_leaves_nothing(clone: Path, number: signal.Signals) -> None:
     started = subprocess.Popen(
         [clone / "bonsai", "classes", "F"],
-        env=beside(clone, SECONDS="60"),
+        env=beside(clone, SECONDS="600"),
         stdout=subprocess.PIPE,
         stderr=subprocess.PIPE,
     )
     wait_for(lambda: calls(clone))
     process = Path("/proc") / calls(clone)[0][1]
     started.send_signal(number)
-    out, _ = started.communicate(timeout=20)
+    out, _ = started.communicate(timeout=LATEST)
     assert out == b"" and started.returncode not in (0, 1)
     wait_for(lambda: not process.exists())
     assert launch(clone, "classes", "F").stdout == ANSWER
