@@ -173,7 +173,7 @@ FAULTS = [
     _fault(
         "tools-whole",
         "cli/command_line.py",
-        'else f"{whole}.{os.getpid()}.part"',
+        "else beside(whole)",
         "else whole",
         "a file is written in its place",
         "cli/tests/test_outputs.py",

@@ -96,19 +96,31 @@ def kept(name: str, made: bytes) -> Iterator[None]:
     """Writes a file that is in its place at the end of the context, and nowhere where the context fails. What is no
     file is written at once."""
     whole = os.path.realpath(name)
-    part = whole if os.path.exists(whole) and not os.path.isfile(whole) else f"{whole}.{os.getpid()}.part"
+    part = whole if os.path.exists(whole) and not os.path.isfile(whole) else beside(whole)
     try:
-        try:
-            with open(part, "xb" if part != whole else "wb") as file:
-                file.write(made)
-        except OSError as fault:
-            raise not_written(name, fault) from None
+        with writing(name), open(part, "xb" if part != whole else "wb") as file:
+            file.write(made)
         yield
         if part != whole:
-            os.replace(part, whole)
+            with writing(name):
+                os.replace(part, whole)
     finally:
         if part != whole and os.path.exists(part):
             os.unlink(part)
+
+
+def beside(place: str | os.PathLike[str]) -> str:
+    """A name beside a file or folder, for what is moved there when it is whole. It is short: the place may have the longest name that there can be."""
+    return os.path.join(os.path.dirname(place), f".bonsai-{os.urandom(6).hex()}.part")
+
+
+@contextlib.contextmanager
+def writing(name: str | os.PathLike[str]) -> Iterator[None]:
+    """What fails in the context is that a file is written, which ends a tool with status 4."""
+    try:
+        yield
+    except OSError as fault:
+        raise not_written(name, fault) from None
 
 
 def not_written(name: str | os.PathLike[str], fault: OSError) -> OSError:

@@ -81,7 +81,8 @@ def run(folder: Path, made: Plan, executable: Path, where: Where, lock: Lock) ->
     _put_program(folder, made, executable)
     put(folder / THEN, made.then.encode())
     answers.collect(folder, made)
-    left = [number for number in made.asked if number not in answers.kept(folder, made)]
+    done = answers.kept(folder, made)
+    left = [number for number in made.asked if number not in done]
     with tempfile.TemporaryDirectory(prefix="bonsai-every-") as room:
         for name in (PROGRAM, TEXT, THEN) if where.sshlogin else ():
             shutil.copy(folder / name, room)

@@ -9,7 +9,7 @@ from collections import Counter
 from collections.abc import Hashable
 from pathlib import Path
 
-from bonsainet.cli.command_line import Refused, not_written
+from bonsainet.cli.command_line import Refused, beside, not_written
 from bonsainet.configs.compressed import asked, side_by_side
 from bonsainet.ask.program import Class, Program
 
@@ -21,6 +21,7 @@ PROGRAM = "bonsai"
 THEN = "then.sh"
 LOCK = "lock"
 ANSWERS = "answers.tsv"
+BEFORE = (LOCK, TEXT, INDEX)
 
 
 @dataclasses.dataclass(frozen=True)
@@ -63,29 +64,38 @@ def first_of_equals(numbers: list[int], shapes: list[Hashable]) -> dict[int, int
 
 
 def make(folder: Path, is_resumed: bool) -> None:
-    """Makes the folder. Refused where it has anything and is not resumed."""
+    """Makes the folder. Refused where it has anything and is not resumed, or has no plan and more than a run writes before it."""
     try:
         folder.mkdir(parents=True, exist_ok=True)
     except OSError as fault:
         raise not_written(folder, fault) from None
-    # (a run that could not write its plan leaves what stands before it)
-    if not is_resumed and any(path.name not in (LOCK, TEXT, INDEX) for path in folder.iterdir()):
-        hint = ": --resume goes on with what it has" if (folder / PLAN).exists() else ""
-        raise Refused(f"{folder}: the folder is not empty{hint}")
+    has_plan = (folder / PLAN).exists()
+    has_others = any(path.name not in BEFORE and not is_part(path) for path in folder.iterdir())
+    if has_plan and not is_resumed:
+        raise Refused(f"{folder}: the folder is not empty: --resume goes on with what it has")
+    if has_others and not has_plan:
+        raise Refused(f"{folder}: " + (f"nothing to resume: no {PLAN}" if is_resumed else "the folder is not empty"))
 
 
-def begin(folder: Path, made: Plan, classes: list[Class], raw: bytes, is_resumed: bool) -> None:
+def begin(folder: Path, made: Plan, classes: list[Class], raw: bytes) -> None:
     """Writes the plan into the folder, or sees that it is that of the same plan. Refused where it is not."""
-    if is_resumed:
+    if (folder / PLAN).exists():
         _must_be_of(folder, made)
+    for part in filter(is_part, folder.iterdir()):
+        part.unlink()
     put(folder / TEXT, raw)
     put(folder / INDEX, "".join(f"{line}\n" for line in _index(made, classes)).encode())
     put(folder / PLAN, f"{json.dumps(made.plain, indent=1)}\n".encode())
 
 
+def is_part(path: Path) -> bool:
+    """Whether a file of the folder is one of `put` that a run which was killed has left."""
+    return path.name.startswith(".bonsai-") and path.suffix == ".part"
+
+
 def put(place: Path, data: bytes, mode: int = 0o644) -> None:
     """Writes a file whole or not at all."""
-    part = place.with_name(f".{place.name}.{os.getpid()}.part")
+    part = Path(beside(place))
     try:
         part.write_bytes(data)
         part.chmod(mode)
@@ -111,7 +121,9 @@ def _must_be_of(folder: Path, made: Plan) -> None:
     try:
         kept = json.loads((folder / PLAN).read_text())
     except (OSError, ValueError):
-        raise Refused(f"{folder}: nothing to resume: no {PLAN} of bonsai-every") from None
+        kept = None
+    if not isinstance(kept, dict):
+        raise Refused(f"{folder}: nothing to resume: its {PLAN} is none of bonsai-every")
     names = {
         "command": "command",
         "then": "command behind --then",

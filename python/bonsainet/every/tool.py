@@ -8,7 +8,7 @@ from pathlib import Path
 from bonsainet.ask.accepted import accepted_classes
 from bonsainet.cli.command_line import name_of, parser, read_input
 from bonsainet.every.jobs import Lock, Where, must_have_parallel, run
-from bonsainet.every.plan import begin, make, plan
+from bonsainet.every.plan import PLAN, begin, make, plan
 from bonsainet.ask.native import native
 from bonsainet.ask.program import Program
 from bonsainet.cli.words import counted
@@ -72,11 +72,13 @@ def work(arguments: argparse.Namespace) -> int:
     classes = accepted_classes(program, raw, name_of(arguments.file))
     make(arguments.folder, arguments.resume)
     with Lock(arguments.folder) as lock:
+        if arguments.resume and not (arguments.folder / PLAN).exists():
+            tell(f"{arguments.folder}: no {PLAN} is there, so no class was asked: the run begins with the first")
         if len(classes) > 1 and not arguments.each:
             told = f"{len(classes)} classes: first it is asked which are alike but for their prefixes"
             tell(f"{told}; --each leaves that out")
         made = plan(program, raw, classes, arguments.command, arguments.then, arguments.each)
-        begin(arguments.folder, made, classes, raw, arguments.resume)
+        begin(arguments.folder, made, classes, raw)
         if not made.asked:
             tell("the network has no class, so nothing is asked")
             return 0

@@ -11,11 +11,12 @@ from pathlib import Path
 
 from bonsainet.configs.change import Change
 from bonsainet.ask.accepted import accepted_text
-from bonsainet.cli.command_line import Refused, kept, name_of, not_written, parser, read_input
+from bonsainet.cli.command_line import Refused, beside, kept, name_of, parser, read_input, writing
 from bonsainet.exporting import batfish, frr, ios
 from bonsainet.exporting.writer import Exported, NotExported
 from bonsainet.configs.network import read_network
 from bonsainet.ask.program import Program
+from bonsainet.ask.where import Identity, judged_by
 from bonsainet.cli.words import counted
 
 
@@ -39,7 +40,8 @@ def main(argv: list[str] | None = None) -> int:
         made.error("--switches goes with --to ios")
     text = read_input(words.text)
     name = name_of(words.text)
-    network = read_network(accepted_text(Program(), text, name), name)
+    program = Program()
+    network = read_network(accepted_text(program, text, name), name)
     try:
         exported = (
             ios.export(network, words.switches)
@@ -49,7 +51,7 @@ def main(argv: list[str] | None = None) -> int:
     except NotExported as cause:
         raise Refused(str(cause)) from None
     folder = Path(words.folder)
-    report = json_text(exported) if words.json else report_text(exported)
+    report = json_text(exported, program.identity) if words.json else report_text(exported, program.identity)
     if words.report and Path(words.report).resolve().is_relative_to(folder.resolve()):
         raise Refused(f"{words.report}: the report goes beside {folder}, not into it")
     with kept(words.report, report.encode()) if words.report else contextlib.nullcontext():
@@ -62,22 +64,22 @@ def main(argv: list[str] | None = None) -> int:
 
 def write_folder(folder: Path, files: dict[str, str]) -> None:
     """Writes all files, or none. Refused where the folder holds something. A folder that is there stays the same one."""
-    if folder.exists() and (not folder.is_dir() or any(folder.iterdir())):
-        raise Refused(f"{folder}: not an empty folder")
+    with writing(folder):
+        if folder.exists() and (not folder.is_dir() or any(folder.iterdir())):
+            raise Refused(f"{folder}: not an empty folder")
     whole = Path(os.path.abspath(folder))
-    partial = whole.with_name(f"{whole.name}.partial-{os.getpid()}")
+    partial = Path(beside(whole))
     try:
-        partial.mkdir()
-        for name, text in files.items():
-            place = partial / name
-            place.parent.mkdir(parents=True, exist_ok=True)
-            place.write_text(text)
-        if whole.is_dir():
-            _move_all(partial, whole)
-        else:
-            os.rename(partial, whole)
-    except OSError as cause:
-        raise not_written(folder, cause) from None
+        with writing(folder):
+            partial.mkdir()
+            for name, text in files.items():
+                place = partial / name
+                place.parent.mkdir(parents=True, exist_ok=True)
+                place.write_text(text)
+            if whole.is_dir():
+                _move_all(partial, whole)
+            else:
+                os.rename(partial, whole)
     finally:
         shutil.rmtree(partial, ignore_errors=True)
 
@@ -95,9 +97,9 @@ def _move_all(source: Path, to: Path) -> None:
         raise
 
 
-def report_text(exported: Exported) -> str:
-    """What changed and what the target may take otherwise, rule by rule: its reason, and each line by its place."""
-    return _by_rule("Lines", exported.changes) + _by_rule("Doubts", exported.doubts)
+def report_text(exported: Exported, program: Identity) -> str:
+    """What changed and what the target may take otherwise, rule by rule: its reason, and each line by its place. At the end which program read the text."""
+    return f"{_by_rule('Lines', exported.changes)}{_by_rule('Doubts', exported.doubts)}{judged_by(program)}\n"
 
 
 def _by_rule(title: str, changes: list[Change]) -> str:
@@ -121,9 +123,11 @@ def told(change: Change) -> str:
     return f"`{change.before}` became {after}" if change.after else f"left out `{change.before}`"
 
 
-def json_text(exported: Exported) -> str:
-    """Files, changes and doubts as JSON."""
+def json_text(exported: Exported, program: Identity) -> str:
+    """Files, changes and doubts as JSON, and which program read the text."""
     record = {
+        "form": 1,
+        "program": program.plain,
         "files": sorted(exported.files),
         "changes": [dataclasses.asdict(change) for change in exported.changes],
         "doubts": [dataclasses.asdict(change) for change in exported.doubts],

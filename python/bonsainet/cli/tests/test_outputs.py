@@ -28,6 +28,36 @@ def test_a_file_stays_where_the_work_fails(tmp_path: Path) -> None:
     assert place.read_bytes() == b"before" and list(tmp_path.iterdir()) == [place]
 
 
+LONGEST = 255
+
+
+@pytest.mark.parametrize(
+    "words",
+    [
+        ["bonsai-page", "TEXT", "-o"],
+        ["bonsai-draw", "TEXT", "1", "-f", "dot", "-o"],
+        ["bonsai-import", "FOLDER", "--report"],
+        ["bonsai-import", "FOLDER", "--suggest"],
+        ["bonsai-export", "TEXT", "--to", "frr"],
+        ["bonsai-every", "TEXT"],
+    ],
+    ids=" ".join,
+)
+def test_the_longest_name_that_there_can_be(words: list[str], tmp_path: Path) -> None:
+    """A name of 255 bytes is made, and one of 256 refused by its name."""
+    needs(words[0])
+    named = {"TEXT": place_of("two-routers.cfg"), "FOLDER": TOP / "examples/folders/campus/configs"}
+    command = [named.get(word, word) for word in words]
+    longest, longer = tmp_path / ("n" * LONGEST), tmp_path / ("n" * (LONGEST + 1))
+    # (the import refuses lines of its folder, and writes its report)
+    assert tool(*command, longest).returncode == (words[0] == "bonsai-import") and [
+        path.name for path in tmp_path.iterdir()
+    ] == [longest.name]
+    ran = tool(*command, longer)
+    assert ran.returncode == 4 and ran.stderr.decode().splitlines()[-1].endswith(f"{longer}: File name too long")
+    assert [path.name for path in tmp_path.iterdir()] == [longest.name]
+
+
 def test_a_link_stays_a_link(tmp_path: Path) -> None:
     (tmp_path / "link").symlink_to("made")
     write_output(str(tmp_path / "link"), b"after")

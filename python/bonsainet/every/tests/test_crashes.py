@@ -7,7 +7,6 @@ import os
 import shutil
 import signal
 import subprocess
-import time
 from collections.abc import Callable, Iterator
 from pathlib import Path
 
@@ -15,7 +14,7 @@ import pytest
 
 from bonsainet.ask.program import TOP, Program
 from bonsainet.nets.fat_tree import fat_tree_text
-from bonsainet.tests.asking import place_of, tool
+from bonsainet.tests.asking import LATEST, place_of, tool, wait_for
 
 pytestmark = pytest.mark.skipif(
     not shutil.which("parallel"), reason="the package parallel is not there: bonsai-every is not tried"
@@ -61,18 +60,61 @@ def must_be_whole(folder: Path, text: Path, count: int) -> None:
     assert all(answer.read_bytes().endswith(b"end\n") for answer in found)
 
 
-def test_a_disk_that_gets_full(small_disk: Callable[[int], Path], text: Path) -> None:
-    need = (Path(Program().path).stat().st_size + text.stat().st_size) // 1024
-    for size in (20, need // 2, need + 16, need + 400):
+def test_a_disk_that_gets_full(small_disk: Callable[[int], Path], text: Path, tmp_path: Path) -> None:
+    """The disk gets full at each stage: before the plan is written, while the program is copied, and among the answers."""
+    assert tool("bonsai-every", text, tmp_path / "whole", *FEW).returncode == 0
+    whole = taken(tmp_path / "whole")
+    before = whole - taken(tmp_path / "whole", "class-*")
+    program = Path(Program().path).stat().st_size // 1024
+    plan = before - program
+    for size in (
+        plan // 4,
+        plan // 2,
+        before - program // 2,
+        before + (whole - before) // 4,
+        before + (whole - before) // 2,
+    ):
         folder = small_disk(size) / "all"
-        ran = tool("bonsai-every", text, folder, *FEW, *(["--resume"] if (folder / "plan.json").exists() else []))
+        ran = tool("bonsai-every", text, folder, *FEW, "--resume")
         assert ran.returncode in (1, 4) and b"Traceback" not in ran.stderr
-        if folder.exists() and list(folder.glob("class-*.cfg")):
+        if list(folder.glob("class-*.cfg")):
             must_be_whole(folder, text, 1)
-    folder = small_disk(need + 20000) / "all"
+    folder = small_disk(2 * whole + 20000) / "all"
     ran = tool("bonsai-every", text, folder, *FEW, "--resume")
     assert (ran.returncode, ran.stderr.splitlines()[-1]) == (0, b"bonsai-every: 72 of 72 answered")
     must_be_whole(folder, text, 72)
+
+
+@pytest.mark.parametrize("words", [[], ["--resume"]], ids=["again", "resumed"])
+def test_a_run_that_could_not_write_its_plan(words: list[str], tmp_path: Path) -> None:
+    """The next one begins, and says so where it was to go on."""
+    folder, place = tmp_path / "all", place_of("fabric.cfg")
+    folder.mkdir()
+    for name in ("lock", "input.cfg", ".bonsai-0123.part"):
+        (folder / name).write_bytes(b"half")
+    ran = tool("bonsai-every", place, folder, "--each", *words)
+    begins = f"bonsai-every: {folder}: no plan.json is there, so no class was asked: the run begins with the first\n"
+    assert ran.returncode == 0
+    assert ran.stderr.decode() == (begins if words else "") + "bonsai-every: 2 of 2 answered\n"
+    assert (folder / "input.cfg").read_bytes() == place.read_bytes() and not list(folder.glob(".bonsai-*"))
+
+
+@pytest.mark.parametrize("plan", [None, "", "[]", '{"command": "compress"'])
+def test_answers_without_a_plan_are_not_asked_again_in_silence(plan: str | None, tmp_path: Path) -> None:
+    place = place_of("fabric.cfg")
+    (tmp_path / "class-1.cfg").write_text("kept\n")
+    if plan is not None:
+        (tmp_path / "plan.json").write_text(plan)
+    for words in ([], ["--resume"]):
+        ran = tool("bonsai-every", place, tmp_path, "--each", *words)
+        told = "nothing to resume: " if words else "the folder is not empty"
+        assert ran.returncode == 1 and f"{tmp_path}: {told}" in ran.stderr.decode() and ran.stderr.count(b"\n") == 1
+        assert (tmp_path / "class-1.cfg").read_text() == "kept\n"
+
+
+def taken(folder: Path, pattern: str = "*") -> int:
+    """The KiB that the files of a folder take on a disk of pages of 4 KiB."""
+    return sum(4 * -(-path.stat().st_size // 4096) for path in folder.glob(pattern))
 
 
 def test_a_copy_of_the_program_that_does_not_fit(small_disk: Callable[[int], Path], text: Path) -> None:
@@ -89,7 +131,7 @@ def test_ended_and_resumed(number: signal.Signals, text: Path, tmp_path: Path) -
     started = subprocess.Popen(words, stderr=subprocess.DEVNULL, start_new_session=True)
     wait_for(lambda: len(list(folder.glob("class-*.part"))) > 4)
     started.send_signal(number)
-    started.wait(60)
+    started.wait(LATEST)
     if number != signal.SIGKILL:
         assert not at_work(folder) and not list(folder.glob("class-*.part"))
         must_be_whole(folder, text, 1)
@@ -98,14 +140,6 @@ def test_ended_and_resumed(number: signal.Signals, text: Path, tmp_path: Path) -
     assert (ran.returncode, ran.stderr) == (0, b"bonsai-every: 72 of 72 answered\n")
     must_be_whole(folder, text, 72)
     assert not list(folder.glob("*.part*"))
-
-
-def wait_for(found: Callable[[], object]) -> None:
-    """Waits at most a minute until there is something."""
-    until = time.monotonic() + 60
-    while not found() and time.monotonic() < until:
-        time.sleep(0.02)
-    assert found()
 
 
 def at_work(folder: Path) -> list[str]:
@@ -121,13 +155,16 @@ def at_work(folder: Path) -> list[str]:
 
 
 def test_two_runs_at_once(text: Path, tmp_path: Path) -> None:
-    folder = tmp_path / "all"
-    started = subprocess.Popen([TOP / "tools/bonsai-every", text, folder, *FEW], stderr=subprocess.DEVNULL)
+    """The first run's jobs wait until the second run has ended."""
+    folder, go = tmp_path / "all", tmp_path / "go"
+    words = [text, folder, *FEW, "--then", f"while ! test -e '{go}'; do sleep 0.05; done; cat"]
+    started = subprocess.Popen([TOP / "tools/bonsai-every", *words], stderr=subprocess.DEVNULL)
     wait_for(lambda: list(folder.glob("class-*.part")))
-    ran = tool("bonsai-every", text, folder, *FEW, "--resume")
+    ran = tool("bonsai-every", *words, "--resume")
+    go.touch()
     assert ran.returncode == 1 and b"another run, or the last jobs of one, is at work there" in ran.stderr
-    assert started.wait(120) == 0
-    must_be_whole(folder, text, 72)
+    assert started.wait(LATEST) == 0
+    assert len(list(folder.glob("class-*.out"))) == 72
 
 
 @pytest.mark.parametrize(
