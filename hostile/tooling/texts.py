@@ -90,7 +90,7 @@ def faults_of_others(text: Asked, program: Program, numbers: list[int]) -> Itera
             made = export()
         except NotExported:
             continue
-        report_text(made)
+        report_text(made, program.identity)
         if len(made.files) < len(text.network.devices):
             yield "a router has no configuration"
     found = [*doubts_of_links(network), *doubts_of_agreement(network), *doubts_of_policies(network)]

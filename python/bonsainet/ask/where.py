@@ -37,6 +37,11 @@ class Identity:
         return f"{kind}, SHA-256 {self.sha256[:16]}, {f'made with {self.kit}' if self.kit else 'of a kit that is not known'}"
 
 
+def judged_by(program: Identity) -> str:
+    """The line that a report for a person has of the program that answered."""
+    return f"Judged by {program.told}"
+
+
 def is_file_of_one(path: str | Path) -> bool:
     """Whether a file is a program that runs alone, and no script."""
     try:

@@ -17,7 +17,7 @@ from bonsainet.doubts.suggested import doubts_of_folder
 from bonsainet.doubts.ties import doubts_of_ties
 from bonsainet.importing.read import add_skip, read_folder
 from bonsainet.ask.program import Program
-from bonsainet.ask.where import Identity
+from bonsainet.ask.where import Identity, judged_by
 
 PURPOSE = """Lists what a text says that Bonsai accepts and that is likely not meant.
 
@@ -71,7 +71,7 @@ def work(arguments: argparse.Namespace) -> None:
     print(
         json.dumps(as_json(name, found, program.identity), indent=1)
         if arguments.json
-        else "\n".join(as_text(name, found))
+        else "\n".join([*as_text(name, found), "", judged_by(program.identity)])
     )
 
 

@@ -5,7 +5,7 @@ import dataclasses
 import json
 from collections import Counter, defaultdict
 
-from bonsainet.ask.where import Identity
+from bonsainet.ask.where import Identity, judged_by
 from bonsainet.configs.change import Change
 from bonsainet.cli.command_line import Refused, printable, shown
 from bonsainet.importing.folder import Folder
@@ -99,7 +99,7 @@ class Report:
             ("Rules", [[f"{count:6} {name}: {RULES[name].reason}"] for name, count in self.counts]),
         ]
         lines = [it for part in parts for it in _part(*part)]
-        lines += [f"Judged by {self.program.told}", ""] if self.program else []
+        lines += [judged_by(self.program), ""] if self.program else []
         lines += _part("Warned", [[warning] for warning in log.warnings])
         return "\n".join(lines).rstrip("\n") + "\n"
 

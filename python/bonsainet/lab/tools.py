@@ -13,6 +13,7 @@ from bonsainet.lab.round_trip import MEBI, outcome, run_round, table
 from bonsainet.lab.ties import run_with_ties
 from bonsainet.ask.labels import solution_text
 from bonsainet.ask.program import Program
+from bonsainet.ask.where import judged_by
 from bonsainet.nets.random_networks import PREFIX, random_text
 from bonsainet.cli.words import counted
 
@@ -71,6 +72,7 @@ def lab(argv: list[str] | None = None) -> int:
         )
     sizes = f"{counted(len(case.network.devices), 'router')}, {counted(rested.processes, 'daemon')}"
     tell(f"{sizes}, {rested.memory / MEBI:.0f} MiB, at rest after {rested.rest:.1f} s: {verdict.word}")
+    tell(judged_by(program.identity))
     if verdict.tie:
         tell(f"tie: {verdict.tie}")
     return 0 if verdict.is_stable else STATUS_NOT_STABLE
@@ -121,4 +123,5 @@ def round_trip(argv: list[str] | None = None) -> int:
         tell,
     )
     sys.stdout.write(table(found))
+    tell(judged_by(program.identity))
     return 0 if found.agrees else STATUS_NOT_STABLE

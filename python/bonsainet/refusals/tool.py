@@ -11,7 +11,7 @@ from itertools import groupby
 from bonsainet.cli.command_line import Refused, parser, shown
 from bonsainet.importing.read import add_skip
 from bonsainet.ask.program import Program
-from bonsainet.ask.where import Identity
+from bonsainet.ask.where import Identity, judged_by
 from bonsainet.refusals.collect import Entry, Refusals, collect
 from bonsainet.refusals.layout import read
 from bonsainet.refusals.left import left_by_import
@@ -57,7 +57,8 @@ def work(arguments: argparse.Namespace) -> None:
         found = left_by_import(program, arguments.file, arguments.skip, arguments.decisions)
     else:
         found = collect(program, read(arguments.file, arguments.skip))
-    print(json.dumps(as_json(found, program.identity), indent=1) if arguments.json else "\n".join(as_text(found)))
+    lines = [*as_text(found), "", judged_by(program.identity)]
+    print(json.dumps(as_json(found, program.identity), indent=1) if arguments.json else "\n".join(lines))
     if found.entries:
         raise Refused(_counted(found))
 

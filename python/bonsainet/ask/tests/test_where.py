@@ -10,8 +10,8 @@ from pathlib import Path
 import pytest
 
 from bonsainet.ask.program import TOP, Program
-from bonsainet.ask.where import Identity, NoProgram, identity_of, named_by, without_notices
-from bonsainet.tests.asking import needs, place_of, tool
+from bonsainet.ask.where import Identity, NoProgram, identity_of, judged_by, named_by, without_notices
+from bonsainet.tests.asking import LATEST, needs, place_of, tool
 
 LAUNCHER = """#!/bin/sh
 case $1 in
@@ -63,7 +63,7 @@ def test_no_descriptor_of_a_standard_stream_is_handed_over(tmp_path: Path, progr
     words = f"import sys; sys.path.insert(0, {str(TOP / 'python')!r}); from bonsainet.ask.program import Program\n"
     words += f"answer = Program({program.path!r}).ask('classes', 'F', texts={{'F': b'bogus'}}); sys.exit(answer.status)"
     command = ["/bin/sh", "-c", 'exec /usr/bin/python3 -c "$0" <&- >&- 2>&-', words]
-    assert subprocess.run(command, check=False, timeout=60, cwd=tmp_path).returncode == 1
+    assert subprocess.run(command, check=False, timeout=LATEST, cwd=tmp_path).returncode == 1
 
 
 @pytest.mark.parametrize("name", ["bonsai-json", "bonsai-refusals", "bonsai-doubts", "bonsai-page", "bonsai-import"])
@@ -83,6 +83,20 @@ def test_documents_say_which_program_answered(name: str, program: Program) -> No
     words = [] if name == "bonsai-json" else ["--json"]
     told = json.loads(tool(name, place_of("two-routers.cfg"), *words).stdout)["program"]
     assert told == Program().identity.plain and set(told) == {"sha256", "proved", "kit"}
+
+
+@pytest.mark.parametrize("name", ["bonsai-refusals", "bonsai-doubts"])
+def test_texts_say_which_program_answered(name: str, program: Program) -> None:
+    lines = tool(name, place_of("two-routers.cfg")).stdout.decode().splitlines()
+    assert lines[-2:] == ["", judged_by(Program().identity)]
+
+
+def test_reports_of_exports_say_which_program_read(tmp_path: Path, program: Program) -> None:
+    words = ["--to", "frr", place_of("two-routers.cfg")]
+    told = tool("bonsai-export", *words, tmp_path / "one").stderr.decode()
+    assert told.splitlines()[-1] == judged_by(Program().identity)
+    told = json.loads(tool("bonsai-export", "--json", *words, tmp_path / "two").stderr)
+    assert told["program"] == Program().identity.plain
 
 
 def test_reports_of_imports_say_which_program_judged(tmp_path: Path, program: Program) -> None:

@@ -18,6 +18,7 @@ from bonsainet.ask.labels import BgpLabel
 from bonsainet.configs.network import read_network
 from bonsainet.configs.profile import PrefixEntry
 from bonsainet.ask.program import TOP
+from bonsainet.ask.where import Identity
 from bonsainet.configs.text import Line, Place
 from bonsainet.tests.asking import place_of, tool
 
@@ -277,7 +278,7 @@ def test_secrets_are_not_told() -> None:
         " neighbor 10.0.0.1 route-map M in\n",
         " neighbor 10.0.0.1 route-map M in\n neighbor 10.0.0.1 password 7 0822455D0A16\n",
     )
-    told = report_text(ios.export(read_network(text)))
+    told = report_text(ios.export(read_network(text)), Identity("0" * 64, False, None))
     assert "left out `neighbor 10.0.0.1 password ...`" in told and "0822455D0A16" not in told
 
 

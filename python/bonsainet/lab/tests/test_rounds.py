@@ -8,13 +8,14 @@ import pytest
 from bonsainet.nets.campus import campus_text
 from bonsainet.cli.command_line import Refused
 from bonsainet.exporting import frr, tool
-from bonsainet.lab import enclosure, figures
+from bonsainet.lab import enclosure, figures, tools
 from bonsainet.lab.imports import compare_imports, with_one_neighbor
 from bonsainet.lab.lab import Case, Rested, Verdict, judge, tie_at
 from bonsainet.lab.round_trip import Round, Run, carry_back, outcome, table
-from bonsainet.ask.labels import BgpLabel
+from bonsainet.ask.labels import BgpLabel, read_solution
 from bonsainet.configs.network import read_network
 from bonsainet.ask.program import TOP, Answer, Class, Program
+from bonsainet.ask.where import Identity
 from bonsainet.nets.random_networks import random_text
 from bonsainet.exporting.tests.test_exporting import said_by_vtysh
 from bonsainet.configs.text import read_text
@@ -36,6 +37,7 @@ def fake(answers: dict[str, Answer], asked: list | None = None) -> Program:
     class Fake(Program):
         def __init__(self) -> None:
             self.path = "none"
+            self.identity = Identity("0" * 64, True, "kit-1")
 
         def ask(self, *words: str, texts: dict | None = None, seconds: float | None = None) -> Answer:
             if asked is not None:
@@ -128,6 +130,24 @@ def test_no_agreement_where_labels_are_not_stable() -> None:
 RECORDS = [figures.record_of("fat-tree-4", round_of(), 1.25)]
 
 
+def test_a_lab_says_which_program_judged(
+    monkeypatch: pytest.MonkeyPatch, tmp_path: Path, capsys: pytest.CaptureFixture
+) -> None:
+    answers = {
+        "classes": Answer(0, f"class 1 prefixes {PREFIX} origins a\n".encode(), b""),
+        "groups": Answer(0, b"group 1 origin: a\ngroup 2: b c\n", b""),
+        "check": Answer(0, b"stable\n", b""),
+    }
+    monkeypatch.setattr(tools, "Program", lambda: fake(answers))
+    monkeypatch.setattr(tools, "refuse_unless_able", lambda: None)
+    monkeypatch.setattr(tools, "run_lab", lambda *_: rested_with(LABELS, HELD))
+    (tmp_path / "chain.cfg").write_text(CHAIN)
+    assert tools.lab([str(tmp_path / "chain.cfg"), "1"]) == 0
+    told = capsys.readouterr()
+    assert told.err.splitlines()[-1] == "Judged by the proved program, SHA-256 0000000000000000, made with kit-1"
+    assert read_solution(told.out) == LABELS
+
+
 def test_the_table_of_records() -> None:
     row = figures.table_of(RECORDS).splitlines()[2]
     assert row == "| fat-tree-4 | 3, 3 | 3, 3 | 2.0, 2.0 | 1.5, 1.5 | 6, 6 | 3, 3 | stable | - | 3 of 3 | 1.2 |"
@@ -199,6 +219,7 @@ def test_an_export_is_told(monkeypatch: pytest.MonkeyPatch, tmp_path: Path, caps
     assert tool.main(words) == 0
     assert capsys.readouterr().out == f"2 configurations in {tmp_path / 'out'}\n"
     record = json.loads((tmp_path / "report").read_text())
+    assert record["program"] == {"sha256": "0" * 64, "proved": True, "kit": "kit-1"}
     assert record["files"] == sorted(path.name for path in (tmp_path / "out").iterdir())
     assert {change["rule"] for change in record["changes"]} <= set(frr.RULES)
 
