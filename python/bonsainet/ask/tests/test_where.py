@@ -95,8 +95,8 @@ def test_reports_of_exports_say_which_program_read(tmp_path: Path, program: Prog
     words = ["--to", "frr", place_of("two-routers.cfg")]
     told = tool("bonsai-export", *words, tmp_path / "one").stderr.decode()
     assert told.splitlines()[-1] == judged_by(Program().identity)
-    told = json.loads(tool("bonsai-export", "--json", *words, tmp_path / "two").stderr)
-    assert told["program"] == Program().identity.plain
+    record = json.loads(tool("bonsai-export", "--json", *words, tmp_path / "two").stderr)
+    assert record["program"] == Program().identity.plain
 
 
 def test_reports_of_imports_say_which_program_judged(tmp_path: Path, program: Program) -> None:

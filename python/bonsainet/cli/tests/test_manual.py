@@ -18,7 +18,9 @@ COMPLETIONS = TOP / "tools" / "completions"
 @pytest.mark.parametrize("name", TOOLS)
 def test_the_page_is_current(name: str) -> None:
     needs(name)
-    assert (TOP / "docs" / "man" / f"{name}.1").read_bytes() == tool(name, "--manual").stdout, "dev/manual writes the pages"
+    assert (TOP / "docs" / "man" / f"{name}.1").read_bytes() == tool(
+        name, "--manual"
+    ).stdout, "dev/manual writes the pages"
 
 
 @pytest.mark.parametrize("page", PAGES, ids=lambda page: page.name)

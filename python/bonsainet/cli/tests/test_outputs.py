@@ -47,13 +47,13 @@ def test_the_longest_name_that_there_can_be(words: list[str], tmp_path: Path) ->
     """A name of 255 bytes is made, and one of 256 refused by its name."""
     needs(words[0])
     named = {"TEXT": place_of("two-routers.cfg"), "FOLDER": TOP / "examples/folders/campus/configs"}
-    command = [named.get(word, word) for word in words]
+    name, *command = (str(named.get(word, word)) for word in words)
     longest, longer = tmp_path / ("n" * LONGEST), tmp_path / ("n" * (LONGEST + 1))
     # (the import refuses lines of its folder, and writes its report)
-    assert tool(*command, longest).returncode == (words[0] == "bonsai-import") and [
+    assert tool(name, *command, longest).returncode == (name == "bonsai-import") and [
         path.name for path in tmp_path.iterdir()
     ] == [longest.name]
-    ran = tool(*command, longer)
+    ran = tool(name, *command, longer)
     assert ran.returncode == 4 and ran.stderr.decode().splitlines()[-1].endswith(f"{longer}: File name too long")
     assert [path.name for path in tmp_path.iterdir()] == [longest.name]
 

@@ -105,9 +105,8 @@ def test_answers_without_a_plan_are_not_asked_again_in_silence(plan: str | None,
     (tmp_path / "class-1.cfg").write_text("kept\n")
     if plan is not None:
         (tmp_path / "plan.json").write_text(plan)
-    for words in ([], ["--resume"]):
-        ran = tool("bonsai-every", place, tmp_path, "--each", *words)
-        told = "nothing to resume: " if words else "the folder is not empty"
+    for more, told in (("--each", "the folder is not empty"), ("--resume", "nothing to resume: ")):
+        ran = tool("bonsai-every", place, tmp_path, "--each", more)
         assert ran.returncode == 1 and f"{tmp_path}: {told}" in ran.stderr.decode() and ran.stderr.count(b"\n") == 1
         assert (tmp_path / "class-1.cfg").read_text() == "kept\n"
 
@@ -157,7 +156,7 @@ def at_work(folder: Path) -> list[str]:
 def test_two_runs_at_once(text: Path, tmp_path: Path) -> None:
     """The first run's jobs wait until the second run has ended."""
     folder, go = tmp_path / "all", tmp_path / "go"
-    words = [text, folder, *FEW, "--then", f"while ! test -e '{go}'; do sleep 0.05; done; cat"]
+    words = [str(text), str(folder), *FEW, "--then", f"while ! test -e '{go}'; do sleep 0.05; done; cat"]
     started = subprocess.Popen([TOP / "tools/bonsai-every", *words], stderr=subprocess.DEVNULL)
     wait_for(lambda: list(folder.glob("class-*.part")))
     ran = tool("bonsai-every", *words, "--resume")

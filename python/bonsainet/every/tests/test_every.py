@@ -88,7 +88,7 @@ def test_interrupted_and_resumed(tmp_path: Path) -> None:
     """72 classes, ended after some answers, then resumed: no class is asked twice. Each job waits, so that it is not done before."""
     text, folder = tmp_path / "fat-tree-12.cfg", tmp_path / "all"
     text.write_text(fat_tree_text(12))
-    words = [text, folder, "--each", "--jobs", "2", "--then", "cat; sleep 0.1"]
+    words = [str(text), str(folder), "--each", "--jobs", "2", "--then", "cat; sleep 0.1"]
     started = subprocess.Popen(
         [TOP / "tools/bonsai-every", *words], stdout=subprocess.DEVNULL, stderr=subprocess.PIPE, start_new_session=True
     )
