@@ -29,7 +29,8 @@ class Source(Router):
 
     `loopback` is the name that FRR's interface `lo` has in the text: on FRR no other interface is a loopback.
     `unread` are the protocols whose daemons' files stand beside and were not read. A stub is a router that `--stub`
-    adds.
+    adds. `carried` are the communities with which it originates a prefix, and the line that says so. `preferences` are,
+    for those of the text that stand for weights too, those of the device.
     """
 
     dialect: Dialect = Dialect.IOS
@@ -37,6 +38,8 @@ class Source(Router):
     loopback: str = ""
     unread: tuple[str, ...] = ()
     is_stub: bool = False
+    carried: dict[IPv4Network, tuple[frozenset[str], Line]] = dataclasses.field(default_factory=dict)
+    preferences: dict[int, int] = dataclasses.field(default_factory=dict)
 
     def is_loopback(self, stanza: Stanza) -> bool:
         """Whether an interface is a loopback, by its type on IOS and by its old name on FRR."""
@@ -68,7 +71,8 @@ Up = dict[IPv4Address, tuple[Source, Stanza]]
 class Folder:
     """All routers, the raw text of each line by its place, the log and the decisions.
 
-    `takes` says whether the program takes a line in a scope as one that it ignores or knows.
+    `takes` says whether the program takes a line in a scope as one that it ignores or knows. `held` are the well-known
+    communities that a line sets, each with the one that stands for it.
     """
 
     routers: list[Source]
@@ -76,6 +80,7 @@ class Folder:
     log: Log = dataclasses.field(default_factory=Log)
     decisions: Decisions | None = None
     takes: Callable[[str, str], bool] = lambda _scope, _text: False
+    held: dict[str, str] = dataclasses.field(default_factory=dict)
 
     @property
     def up(self) -> Up:

@@ -32,6 +32,7 @@ LOOKED_AT = (
 )
 HARMLESS = {subject.rule.name for subject in SUBJECTS} | {
     "absent-peer",
+    "area",
     "banner",
     "below-shut",
     "certificate",
@@ -40,6 +41,8 @@ HARMLESS = {subject.rule.name for subject in SUBJECTS} | {
     "distance-alone",
     "end",
     "exit",
+    "frr-unknown",
+    "idle-address",
     "ipv6",
     "list-numbers",
     "list-unused",
@@ -93,7 +96,12 @@ def guarded(folder: Folder, program: Program, options: Options, excuse: Excuse) 
 def _copy(folder: Folder) -> Folder:
     """The folder with its notes, on which rules can work, without drops."""
     routers = [
-        dataclasses.replace(router, stanzas=[Stanza(stanza.head, list(stanza.body)) for stanza in router.stanzas])
+        dataclasses.replace(
+            router,
+            stanzas=[Stanza(stanza.head, list(stanza.body)) for stanza in router.stanzas],
+            carried={},
+            preferences={},
+        )
         for router in folder.routers
     ]
     log = Log(defaultdict(list, {place: list(rules) for place, rules in folder.log.touched.items()}))

@@ -99,6 +99,11 @@ def command_line() -> argparse.ArgumentParser:
         help="add a router at the address PEER that announces these prefixes",
     )
     made.add_argument(
+        "--area",
+        metavar="N",
+        help="keep one area of OSPF of several: its routers, links and prefixes; what is lost is told at the end",
+    )
+    made.add_argument(
         "--scrub",
         action="store_true",
         help="leave passwords, keys and communities of SNMP out of text and report, as where they leave the machine",
@@ -147,7 +152,10 @@ def _imported_by(words: argparse.Namespace) -> Report:
             decisions = read_decisions(file.read(), words.decisions)
     program = Program()
     report = imported(
-        read_given(words.given, words.skip), program, decisions, Options.of(words.own_as, words.stub, words.scrub)
+        read_given(words.given, words.skip),
+        program,
+        decisions,
+        Options.of(words.own_as, words.stub, words.scrub, words.area),
     )
     report.program = program.identity
     return report

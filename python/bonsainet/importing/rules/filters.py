@@ -11,8 +11,10 @@ from bonsainet.importing.folder import Dialect, Folder, Source
 from bonsainet.importing.rewriting import rewrite
 from bonsainet.importing.rule import Rule, rule
 from bonsainet.importing.rules import lists
+from bonsainet.importing.rules.communities import Communities, spelled, value_of
 from bonsainet.importing.rules.neighbors import all_prefixes
 from bonsainet.importing.rules.options import Options
+from bonsainet.importing.rules.regex import Unread, machine_of
 from bonsainet.configs.text import Line, Place, Stanza
 
 ACCESS = rule(
@@ -35,7 +37,7 @@ COMMUNITY = rule(
 )
 EXPANDED = rule(
     "community-list-expanded",
-    "`_A:B_` holds for routes that carry A:B, as a standard list does",
+    "the expression looks at one community at a time, and these are the communities of the folder in which it is found",
     "Cisco IOS BGP, `ip community-list`, regular expressions",
 )
 EVERY_PEER = rule(
@@ -51,6 +53,8 @@ SPENT = rule(
 )
 NameFor = Callable[[str, Line], str | None]
 WHOLE = re.compile(r"_(\d+:\d+)_")
+# An expression without what can take in a blank, but for `_` at its ends: so it is found inside of one community.
+ALONE = re.compile(r"_?(?:[0-9:|()*+?a-zA-Z-]|\[[0-9-]+\])+_?")
 
 
 def prefix_list_forms(folder: Folder, _options: Options) -> None:
@@ -82,23 +86,71 @@ def _next_number(router: Source, last: int) -> int:
 
 
 def community_lists(folder: Folder, _options: Options) -> None:
-    """Writes community lists with numbers, and expanded ones that name whole communities, as standard lists."""
+    """Writes community lists with numbers, and expanded ones that look at communities one by one, as standard lists."""
+    held = {word: name for name, word in folder.held.items()}
+    used = sorted(_communities(folder), key=value_of)
     for router in folder.routers:
         _order_by_number(folder, router)
+        kept: list[Stanza] = []
         for stanza in router.stanzas:
-            words = stanza.head.words
-            if words[:2] != ["ip", "community-list"]:
+            made = _standard(router, stanza, used, held) if stanza.starts("ip", "community-list") else None
+            if made is None:
+                kept.append(stanza)
                 continue
-            name, rest = (words[3], words[4:]) if words[2] == "expanded" else (words[2], words[3:])
-            is_expanded = words[2] == "expanded" or (words[2].isdigit() and 100 <= int(words[2]) <= 500)
-            if is_expanded and len(rest) == 2 and (found := WHOLE.fullmatch(rest[1])) and _all_whole(router, name):
-                folder.log.by(stanza.head, EXPANDED)
-                stanza.head = stanza.head.with_text(f"ip community-list standard {name} {rest[0]} {found[1]}")
+            folder.log.by(stanza.head, EXPANDED)
+            kept += [Stanza(stanza.head.with_text(text)) for text in made]
+        router.stanzas = kept
 
 
-def _all_whole(router: Source, name: str) -> bool:
-    lines = [stanza.head.words for stanza in router.with_head("ip", "community-list") if name in stanza.head.words[2:4]]
-    return all(WHOLE.fullmatch(words[-1]) or words[2] == "standard" for words in lines)
+def _communities(folder: Folder) -> Communities:
+    """All communities that routes of the folder can carry: those that some line sets."""
+    found = {
+        found
+        for router in folder.routers
+        for stanza in router.with_head("route-map")
+        for line in stanza.body
+        if line.words[:2] == ["set", "community"]
+        for word in line.words[2:]
+        if (found := spelled(word)) and ":" in found
+    }
+    return frozenset(
+        found | {word for router in folder.routers for held, _ in router.carried.values() for word in held}
+    )
+
+
+def _is_expanded(words: list[str]) -> bool:
+    return words[2:3] == ["expanded"] or (len(words) > 2 and words[2].isdigit() and 100 <= int(words[2]) <= 500)
+
+
+def _standard(router: Source, stanza: Stanza, used: list[str], held: dict[str, str]) -> list[str] | None:
+    """The lines of a standard list that answer as a line of an expanded one does; none where it is none, or where an
+    expression looks at several communities at once, or exact-match names the list."""
+    words = stanza.head.words
+    name, rest = (words[3], words[4:]) if words[2:3] == ["expanded"] and len(words) > 4 else (words[2], words[3:])
+    if not _is_expanded(words) or len(rest) < 2 or _is_exact(router, name):
+        return None
+    text = " ".join(rest[1:])
+    whole = WHOLE.fullmatch(text)
+    core = re.sub(r"^(?:\.\*)+|(?:\.\*)+$", "", text)
+    if not whole and not ALONE.fullmatch(core):
+        return None
+    try:
+        machine = machine_of(core)
+    except Unread:
+        return None
+    found = [word for word in used if machine.searches(held.get(word, word))]
+    found = [whole[1]] if whole and not found else found
+    act = rest[0] if found else "deny"
+    return [f"ip community-list standard {name} {act} {word}" for word in found or ["1:1"]]
+
+
+def _is_exact(router: Source, name: str) -> bool:
+    """Whether a match that asks for the exact communities names a list."""
+    return any(
+        line.words[:2] == ["match", "community"] and line.words[-1] == "exact-match" and name in line.words[2:-1]
+        for stanza in router.with_head("route-map")
+        for line in stanza.body
+    )
 
 
 def _order_by_number(folder: Folder, router: Source) -> None:

@@ -28,6 +28,11 @@ POLICY = rule(
     "without a policy FRR takes and gives no routes over external sessions, unless told otherwise",
     "RFC 8212; FRR user guide, `bgp ebgp-requires-policy`",
 )
+UNKNOWN = rule(
+    "frr-unknown",
+    "FRR does not know this line, logs it and goes on; `passive-interface` is the word",
+    "FRR user guide, OSPF, `passive-interface`; FRR 8.4.4, lib/command.c",
+)
 NO_POLICY = "NO-POLICY"
 
 
@@ -91,6 +96,8 @@ def _in_ospf(line: Line) -> tuple[Rule, list[str]] | None:
     words = line.words
     if words[0] == "network" and len(words) == 4 and words[2] == "area" and (found := a_prefix(words[1])):
         return SYNTAX, [f"network {found.network_address} {found.hostmask} area {words[3]}"]
+    if words[:2] == ["passive", "interface"]:
+        return UNKNOWN, []
     if words[:2] == ["ospf", "router-id"]:
         return SYNTAX, [" ".join(words[1:])]
     return None

@@ -1,4 +1,4 @@
-"""What prefix lists, access lists and route maps answer for one prefix, so that a rule can ask before it rewrites."""
+"""What prefix lists, access lists and match lines answer for one prefix, so that a rule can ask before it rewrites."""
 from __future__ import annotations
 
 import dataclasses
@@ -155,27 +155,9 @@ def prefix_permits(rungs: list[Rung], prefix: IPv4Network) -> bool:
     return next((rung.is_permit for rung in rungs if rung.holds(prefix)), False)
 
 
-def map_permits(router: Source, name: str, prefix: IPv4Network, interface: str) -> bool | None:
-    """Whether a route map lets a connected prefix through unchanged; none where it sets something, or matches what is
-    no prefix."""
-    entries = [
-        stanza
-        for stanza in router.with_head("route-map", name)
-        if len(stanza.head.words) == 4 and stanza.head.words[3].isdigit()
-    ]
-    if not entries:
-        return None
-    for entry in sorted(entries, key=lambda stanza: int(stanza.head.words[3])):
-        answers = [_match(router, line.words, prefix, interface) for line in entry.body if line.words[:1] == ["match"]]
-        if any(answer is None for answer in answers):
-            return None
-        if all(answers):
-            is_changed = any(line.words[:1] in (["set"], ["continue"], ["on-match"], ["call"]) for line in entry.body)
-            return None if is_changed and entry.head.words[2] == "permit" else entry.head.words[2] == "permit"
-    return False
-
-
-def _match(router: Source, words: list[str], prefix: IPv4Network, interface: str) -> bool | None:
+def match_holds(router: Source, words: list[str], prefix: IPv4Network, interface: str) -> bool | None:
+    """Whether a match line of a route map holds for a prefix, and the interface of a connected one; none where it asks
+    for something else, or names a list that is not known."""
     if words[:4] == ["match", "ip", "address", "prefix-list"]:
         lists = [prefix_list(router, name) for name in words[4:]]
         return None if any(found is None for found in lists) else any(prefix_permits(found, prefix) for found in lists)

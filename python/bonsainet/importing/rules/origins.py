@@ -1,6 +1,7 @@
 """What a BGP process originates: connected subnets and null routes, written as `network` lines over interfaces."""
 from __future__ import annotations
 
+import dataclasses
 from collections import defaultdict
 from collections.abc import Iterator
 from ipaddress import IPv4Address, IPv4Network
@@ -19,9 +20,11 @@ from bonsainet.importing.folder import (
 )
 from bonsainet.importing.rewriting import cut_lines, rewrite
 from bonsainet.importing.rule import Rule, rule
-from bonsainet.importing.rules import filters, lists
+from bonsainet.importing.rules import filters
+from bonsainet.importing.rules.carried import CARRIED
 from bonsainet.importing.rules.frr import by_default_since_7_4, free_name
 from bonsainet.importing.rules.options import Options
+from bonsainet.importing.rules.outcomes import Outcome, Route, outcome_of
 from bonsainet.importing.rules.redistribution import static_prefix
 from bonsainet.configs.text import Line, Stanza
 
@@ -47,22 +50,53 @@ CHECKED = rule(
 )
 MAPPED = rule(
     "network-map",
-    "the route map lets the prefix through unchanged, or denies it",
+    "the route map lets the prefix through, or denies it",
     "Cisco IOS BGP, `network route-map`; FRR user guide, BGP",
 )
 REDISTRIBUTED = "redistribute"
 NETWORK = "network"
+MAP = "network-map"
 NOWHERE = ("Null0", "null0", "blackhole", "reject")
 
 
 def connected(folder: Folder, _options: Options) -> None:
     """Writes `redistribute connected` of BGP as `network` lines."""
-    named = _named(folder)
-    for router in folder.routers:
-        process = router.process("bgp")
-        line = first(process, "redistribute", "connected") if process else None
-        if line:
-            _connected(folder, router, process, line, named)
+    found = [redistributed for router in folder.routers if (redistributed := _redistributed(folder, router))]
+    igp = _named(folder)
+    incomplete: dict[IPv4Network, list[Source]] = defaultdict(list)
+    for one in found:
+        for prefix, outcome in one.outcomes.items():
+            (igp if outcome.origin == "igp" else incomplete)[prefix].append(one.router)
+    for one in found:
+        others = {True: incomplete, False: igp}
+        clash = next(
+            (
+                (prefix, other)
+                for prefix, outcome in one.outcomes.items()
+                for other in others[outcome.origin == "igp"].get(prefix, [])
+                if other is not one.router
+            ),
+            None,
+        )
+        if clash:
+            folder.log.refuse(
+                one.line,
+                REDISTRIBUTED,
+                f"{clash[0]} is originated here and by {clash[1].name}, by one with origin IGP, which wins, and by the other with origin incomplete; the profile has no origins",
+            )
+        else:
+            _write_connected(folder, one)
+
+
+@dataclasses.dataclass
+class Redistributed:
+    """A line `redistribute connected`: the prefixes that it alone originates, each with what its map makes of it."""
+
+    router: Source
+    process: Stanza
+    line: Line
+    name: str | None
+    outcomes: dict[IPv4Network, Outcome]
 
 
 def _named(folder: Folder) -> dict[IPv4Network, list[Source]]:
@@ -76,41 +110,44 @@ def _named(folder: Folder) -> dict[IPv4Network, list[Source]]:
     return found
 
 
-def _connected(
-    folder: Folder, router: Source, process: Stanza, line: Line, named: dict[IPv4Network, list[Source]]
-) -> None:
+def _redistributed(folder: Folder, router: Source) -> Redistributed | None:
+    """What `redistribute connected` of a router brings in; none without such a line, or where it is refused."""
+    process = router.process("bgp")
+    line = first(process, "redistribute", "connected") if process else None
+    if process is None or line is None:
+        return None
     words = line.words[2:]
     name = words[1] if words[:1] == ["route-map"] and len(words) == 2 else None
     if words and name is None:
         folder.log.refuse(line, REDISTRIBUTED, "a metric of redistributed routes has no place in the profile")
-        return
-    permitted = []
-    for stanza, prefix in _subnets(router):
-        answer = lists.map_permits(router, name, prefix, name_of(stanza)) if name else True
-        if answer is None:
-            folder.log.refuse(
-                line, REDISTRIBUTED, f"the route map {name} sets something, or matches what is no prefix, for {prefix}"
-            )
-            return
-        if answer:
-            permitted.append(prefix)
+        return None
     own = {network_of(found) for found in process.body if found.words[:1] == ["network"]}
-    for prefix in permitted:
-        if prefix not in own and (
-            other := next((found for found in named.get(prefix, []) if found is not router), None)
-        ):
+    found = Redistributed(router, process, line, name, {})
+    for stanza, prefix in _subnets(router):
+        outcome = outcome_of(router, name, Route(prefix, interface=name_of(stanza))) if name else Outcome(True)
+        if outcome is None or outcome.prepended or (outcome.origin == "igp" and prefix in own):
             folder.log.refuse(
                 line,
                 REDISTRIBUTED,
-                f"{prefix} is originated here with origin incomplete, and by {other.name} with origin IGP, which wins; the profile has no origins",
+                f"the route map {name} sets or matches what has no place in the profile, for {prefix}",
             )
-            return
-    texts = [f"network {prefix.network_address} mask {prefix.netmask}" for prefix in permitted if prefix not in own]
-    rewrite(process, folder.log, lambda found: (CONNECTED, texts) if found is line else None)
-    if name:
-        filters.leave_out_spent(folder, router, name)
-    process.body = [found for found in process.body if found.words[:1] != ["neighbor"]] + [
-        found for found in process.body if found.words[:1] == ["neighbor"]
+            return None
+        if outcome.passes and prefix not in own:
+            found.outcomes[prefix] = outcome
+    return found
+
+
+def _write_connected(folder: Folder, one: Redistributed) -> None:
+    texts = [f"network {prefix.network_address} mask {prefix.netmask}" for prefix in one.outcomes]
+    carried = {prefix: (it.communities, one.line) for prefix, it in one.outcomes.items() if it.communities}
+    one.router.carried.update(carried)
+    if carried:
+        folder.log.by(one.line, CARRIED)
+    rewrite(one.process, folder.log, lambda found: (CONNECTED, texts) if found is one.line else None)
+    if one.name:
+        filters.leave_out_spent(folder, one.router, one.name)
+    one.process.body = [found for found in one.process.body if found.words[:1] != ["neighbor"]] + [
+        found for found in one.process.body if found.words[:1] == ["neighbor"]
     ]
 
 
@@ -124,7 +161,7 @@ def _subnets(router: Source) -> Iterator[tuple[Stanza, IPv4Network]]:
 
 
 def mapped(folder: Folder, _options: Options) -> None:
-    """Writes `network` lines whose route map lets them through unchanged as plain ones, and cuts those that it
+    """Writes `network` lines with a route map as plain ones, with the communities that it sets, and cuts those that it
     denies."""
     for router in folder.routers:
         for process in list(router.with_head("router", "bgp")):
@@ -133,18 +170,26 @@ def mapped(folder: Folder, _options: Options) -> None:
                 for line in process.body
                 if line.words[:1] == ["network"] and line.words[-2:-1] == ["route-map"]
             )
-            rewrite(process, folder.log, lambda line, router=router: _mapped(router, line))
+            rewrite(process, folder.log, lambda line, router=router: _mapped(folder, router, line))
             for name in names:
                 filters.leave_out_spent(folder, router, name)
 
 
-def _mapped(router: Source, line: Line) -> tuple[Rule, list[str]] | None:
+def _mapped(folder: Folder, router: Source, line: Line) -> tuple[Rule, list[str]] | None:
     words = line.words
     if words[0] != "network" or words[-2:-1] != ["route-map"]:
         return None
     prefix = network_of(line.with_text(" ".join(words[:-2])))
-    answer = lists.map_permits(router, words[-1], prefix, "") if prefix else None
-    return None if answer is None else (MAPPED, [" ".join(words[:-2])] if answer else [])
+    outcome = outcome_of(router, words[-1], Route(prefix)) if prefix else None
+    if prefix is None or outcome is None or outcome.prepended or outcome.origin == "incomplete":
+        folder.log.refuse(
+            line, MAP, f"the route map {words[-1]} is not defined, or sets or matches what has no place in the profile"
+        )
+        return None
+    if outcome.communities:
+        router.carried[prefix] = (outcome.communities, line)
+        folder.log.by(line, CARRIED)
+    return MAPPED, [" ".join(words[:-2])] if outcome.passes else []
 
 
 def null_routes(folder: Folder, _options: Options) -> None:

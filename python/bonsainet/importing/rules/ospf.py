@@ -120,11 +120,12 @@ def in_area(router: Source, stanza: Stanza) -> bool:
     """Whether an up interface is in the area of an OSPF process of its router."""
     address = address_of(stanza)
     return address is not None and any(
-        _covers(line, address) for process in router.with_head("router", "ospf") for line in process.body
+        covers(line, address) for process in router.with_head("router", "ospf") for line in process.body
     )
 
 
-def _covers(line: Line, address: IPv4Interface) -> bool:
+def covers(line: Line, address: IPv4Interface) -> bool:
+    """Whether a `network` line puts an address in an area."""
     words = line.words
     if words[:1] != ["network"] or len(words) < 5 or words[3] != "area":
         return False
@@ -361,7 +362,7 @@ def one_area(folder: Folder, _options: Options) -> None:
     """Cuts lines about borders and external routes, where there are none."""
     processes = [process for router in folder.routers for process in router.with_head("router", "ospf")]
     named = {
-        _area_value(line.words[4])
+        area_value(line.words[4])
         for process in processes
         for line in process.body
         if line.words[:1] == ["network"] and len(line.words) > 4
@@ -415,6 +416,7 @@ def _stub_kind(line: Line) -> str | None:
     )
 
 
-def _area_value(word: str) -> int | str:
+def area_value(word: str) -> int | str:
+    """The number of an area, which can be written as an address."""
     address = an_address(word)
     return int(word) if word.isdigit() else int(address) if address else word

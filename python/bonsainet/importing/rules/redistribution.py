@@ -1,9 +1,10 @@
 """Redistribution that brings in nothing: it is cut. What brings in routes is a person's to decide."""
 from __future__ import annotations
 
+from collections.abc import Iterator
 from ipaddress import IPv4Network
 
-from bonsainet.importing.folder import Folder, Source, a_prefix, address_of, interface_address
+from bonsainet.importing.folder import Folder, Source, a_prefix, address_of, interface_address, network_of
 from bonsainet.importing.rewriting import begins, cut_lines
 from bonsainet.importing.rule import rule
 from bonsainet.importing.rules.neighbors import all_prefixes
@@ -56,7 +57,7 @@ def behind_connected(folder: Folder, _options: Options) -> None:
 
 def static_routes(folder: Folder, _options: Options) -> None:
     """Cuts static routes that touch no route of BGP or OSPF, and tells what they mean for packets."""
-    announced = all_prefixes(folder)
+    announced = _announced(folder)
     inside: list[str] = []
     for router in folder.routers:
         if any(_takes_up(line) for process in router.with_head("router") for line in process.body):
@@ -75,6 +76,29 @@ def static_routes(folder: Folder, _options: Options) -> None:
         folder.log.remarks.append(
             f"static routes inside of announced prefixes send packets of a part elsewhere, and routes of the whole say nothing of that part: {_first(inside)}"
         )
+
+
+def _announced(folder: Folder) -> set[IPv4Network]:
+    """The prefixes that routes of BGP or OSPF have: those of `network` lines, and subnets in an area. Where a
+    redistribution is left, all that occur."""
+    if any(line.words[:1] == ["redistribute"] for router in folder.routers for line in _process_lines(router)):
+        return all_prefixes(folder)
+    found = {
+        prefix
+        for router in folder.routers
+        for line in _process_lines(router)
+        if line.words[:1] == ["network"] and "area" not in line.words and (prefix := network_of(line))
+    }
+    return found | {
+        address.network
+        for router in folder.routers
+        for stanza in router.interfaces
+        if (address := address_of(stanza)) and in_area(router, stanza)
+    }
+
+
+def _process_lines(router: Source) -> Iterator[Line]:
+    return (line for process in router.with_head("router") for line in process.body)
 
 
 def default_routes(folder: Folder, _options: Options) -> None:

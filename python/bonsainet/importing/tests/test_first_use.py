@@ -43,9 +43,7 @@ def test_what_people_write_names_no_map(tmp_path: Path, program: Program) -> Non
 
 
 def test_a_comment_of_a_decision_names_no_map(tmp_path: Path, program: Program) -> None:
-    lines = (
-        " redistribute connected route-map CONN\nroute-map CONN permit 10\n set community 1:1\n match interface Vlan1\n"
-    )
+    lines = " redistribute connected route-map CONN\nroute-map CONN permit 10\n set weight 5\n match interface Vlan1\n"
     assert refused(report(tmp_path, program, (A_BGP + lines, B_BGP)))
     dropped = 'drop "redistribute connected *" because "none of these is asked about"\n'
     assert not refused(report(tmp_path, program, (A_BGP + lines, B_BGP), dropped))

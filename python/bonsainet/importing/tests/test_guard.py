@@ -47,7 +47,7 @@ def test_a_drop_that_makes_another_network(
         ((A_BGP + " bgp dampening\n", B_BGP), "bgp dampening"),
         ((A_BGP + " default-information originate\n", B_BGP), "default-information *"),
         ((A_BGP + "snmp-server location here\n", B_BGP), "snmp-server *"),
-        ((A_BGP + " neighbor 172.16.0.2 weight 5\n", B_BGP), "neighbor * weight *"),
+        ((A_BGP + " neighbor 172.16.0.2 local-as 65099\n", B_BGP), "neighbor * local-as *"),
         ((A_BGP + " neighbor 10.9.9.9 remote-as 65001\n", B_BGP), "neighbor 10.9.9.9 *"),
         (
             (

@@ -83,7 +83,7 @@ BGP = {
         B_BGP,
     ),
     "characters": (A_BGP.replace("hostname a\n", "hostname a\ninterface Gigabit\u00e9\n"), B_BGP),
-    "program": (A_BGP + " neighbor 172.16.0.2 weight 5\n", B_BGP),
+    "program": (A_BGP + " neighbor 172.16.0.2 local-as 65099\n", B_BGP),
     "set-order": (
         "frr version 8.4\n"
         + A_BGP.replace("0.1 255.255.255.252", "0.1/30").replace("10.1.0.1 255.255.255.0", "10.1.0.1/24")
@@ -182,7 +182,9 @@ def test_lines_of_idle_interfaces_go(tmp_path: Path, program: Program) -> None:
 
 def test_the_report_as_json(tmp_path: Path, program: Program) -> None:
     told = json.loads(
-        report(tmp_path, program, (A_BGP + " neighbor 172.16.0.2 bfd\n neighbor 172.16.0.2 weight 5\n", B_BGP)).json
+        report(
+            tmp_path, program, (A_BGP + " neighbor 172.16.0.2 bfd\n neighbor 172.16.0.2 local-as 65099\n", B_BGP)
+        ).json
     )
     assert (
         told["lines"][0]["file"] == "r0.cfg"
@@ -259,12 +261,10 @@ def test_values_out_of_range_are_refused(value: str) -> None:
 
 
 def test_a_star_alone_stands_for_anything(tmp_path: Path, program: Program) -> None:
-    text = A_BGP + " neighbor 172.16.0.2 weight 5\nip route 0.0.0.0 0.0.0.0 10.1.0.9 name up[1]\n"
-    decisions = (
-        'drop "ip route * name up[1]" because "asked so"\ndrop "neighbor ?????????? weight 5" because "asked so"\n'
-    )
+    text = A_BGP + " neighbor 172.16.0.2 local-as 65099\nip route 0.0.0.0 0.0.0.0 10.1.0.9 name up[1]\n"
+    decisions = 'drop "ip route * name up[1]" because "asked so"\ndrop "neighbor ?????????? local-as 65099" because "asked so"\n'
     found = report(tmp_path, program, (text, B_BGP), decisions)
-    assert [one.text for one in found.folder.log.refusals] == ["neighbor 172.16.0.2 weight 5"]
+    assert [one.text for one in found.folder.log.refusals] == ["neighbor 172.16.0.2 local-as 65099"]
 
 
 def test_the_report_is_not_written_over_what_is_read(tmp_path: Path, program: Program) -> None:
@@ -285,7 +285,7 @@ def test_what_is_no_file_is_told(tmp_path: Path, program: Program) -> None:
 
 
 def test_a_name_with_a_line_end_is_one_line(tmp_path: Path, program: Program) -> None:
-    (tmp_path / "a\nb.cfg").write_text(A_BGP + " neighbor 172.16.0.2 weight 5\n")
+    (tmp_path / "a\nb.cfg").write_text(A_BGP + " neighbor 172.16.0.2 local-as 65099\n")
     told = run_tool(str(tmp_path), "--report", "/dev/null").stderr
     assert told.splitlines() == [
         "bonsai-import: 1 line is refused, the first at a?b.cfg:9; what is left to you can be told by --decisions, of which --suggest FILE writes a skeleton"
@@ -293,13 +293,13 @@ def test_a_name_with_a_line_end_is_one_line(tmp_path: Path, program: Program) ->
 
 
 def test_a_refused_line_is_told_as_it_stands(tmp_path: Path, program: Program) -> None:
-    group = " neighbor G peer-group\n neighbor G weight 5\n neighbor 172.16.0.2 peer-group G\n"
+    group = " neighbor G peer-group\n neighbor G local-as 65099\n neighbor 172.16.0.2 peer-group G\n"
     found = report(tmp_path, program, (A_BGP + group, B_BGP))
-    told = "r0.cfg:10: neighbor G weight 5\n    refused by program: the program refuses this line: Unsupported: unfold peer"
-    assert told in found.text and "(written as `neighbor 172.16.0.2 weight 5`)" in found.text
-    assert json.loads(found.json)["refused"][0]["text"] == "neighbor G weight 5"
+    told = "r0.cfg:10: neighbor G local-as 65099\n    refused by program: the program refuses this line: Unsupported: unfold peer"
+    assert told in found.text and "(written as `neighbor 172.16.0.2 local-as 65099`)" in found.text
+    assert json.loads(found.json)["refused"][0]["text"] == "neighbor G local-as 65099"
     assert not refused(
-        report(tmp_path, program, (A_BGP + group, B_BGP), 'drop "neighbor G weight 5" because "asked so"\n')
+        report(tmp_path, program, (A_BGP + group, B_BGP), 'drop "neighbor G local-as 65099" because "asked so"\n')
     )
 
 

@@ -39,6 +39,7 @@ OF_BGP += (
     unwrite_more.words,
     unwrite_more.nameless,
     unwrite_more.static_routes,
+    unwrite_more.idle_addresses,
 )
 OF_OSPF = (
     unwrite.interface_areas,
@@ -57,6 +58,7 @@ OF_OSPF += (
     unwrite_more.loopbacks_by_bandwidth,
     unwrite_more.static_routes,
     unwrite_more.router_ids,
+    unwrite_more.idle_addresses,
 )
 
 
@@ -150,6 +152,16 @@ def test_own_as(text: str, program: Program) -> None:
     found = imported(program, routers, Options(own_as=True))
     assert found.count("! assumed: AS number") == 2
     assert [one[:3] for one in answers(program, found)] == [one[:3] for one in answers(program, text)]
+
+
+@given(text=ospf_texts())
+@FEW
+def test_one_area(text: str, program: Program) -> None:
+    """One area of two has the classes, groups and labels of the text that has this area alone."""
+    lines = ["hostname x", "interface Vlan1", " ip address 10.201.0.1 255.255.255.0", "router ospf 1"]
+    other = "\n".join([*lines, " network 0.0.0.0 255.255.255.255 area 5", "end", ""])
+    found = imported(program, [*text_with(text, unwrite_more.other_areas), ("x", other)], Options(area=0))
+    assert answers(program, found) == answers(program, text)
 
 
 def together(*ways: Unwrite) -> Unwrite:

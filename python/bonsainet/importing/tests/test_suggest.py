@@ -42,7 +42,10 @@ def test_the_campus_is_imported_by_what_is_suggested(program: Program) -> None:
             ),
             'drop at r0.cfg "route-map M permit 10" because',
         ),
-        ((A_BGP + " neighbor 172.16.0.2 weight 5\n", B_BGP), 'drop at r0.cfg "neighbor 172.16.0.2 weight 5" because'),
+        (
+            (A_BGP + " neighbor 172.16.0.2 local-as 65099\n", B_BGP),
+            'drop at r0.cfg "neighbor 172.16.0.2 local-as 65099" because',
+        ),
         ((A_OSPF.replace("Vlan1", "Tunnel1"), B_OSPF), 'bandwidth at r0.cfg "Tunnel1" KBITS because'),
     ],
 )
@@ -56,15 +59,15 @@ def test_a_decision_for_each(texts: tuple[str, str], decision: str, tmp_path: Pa
 def test_the_command(tmp_path: Path) -> None:
     room, kept = tmp_path / "folder", tmp_path / "decisions"
     room.mkdir()
-    (room / "a.cfg").write_text(A_BGP + " neighbor 172.16.0.2 weight 5\nend\n")
+    (room / "a.cfg").write_text(A_BGP + " neighbor 172.16.0.2 local-as 65099\nend\n")
     words = [str(room), "--report", str(tmp_path / "report"), "--suggest", str(kept)]
     with pytest.raises(Refused, match="1 line is refused"):
         main(words)
-    assert '# drop at a.cfg "neighbor 172.16.0.2 weight 5" because ""' in kept.read_text().splitlines()
-    kept.write_text('drop "neighbor * weight *" because "mine"\n')
+    assert '# drop at a.cfg "neighbor 172.16.0.2 local-as 65099" because ""' in kept.read_text().splitlines()
+    kept.write_text('drop "neighbor * local-as *" because "mine"\n')
     with pytest.raises(Refused, match="a skeleton would take their place"):
         main(words)
-    assert kept.read_text() == 'drop "neighbor * weight *" because "mine"\n'
+    assert kept.read_text() == 'drop "neighbor * local-as *" because "mine"\n'
 
 
 def test_a_refusal_by_the_program_says_what_to_do(tmp_path: Path, program: Program) -> None:

@@ -174,3 +174,24 @@ def router_ids(router: Router) -> None:
     part = bgp(router)
     if part:
         part.body.append(line(" bgp dampening 15 750 2000 60"))
+
+
+def idle_addresses(router: Router) -> None:
+    """An address that all routers have and none uses."""
+    router.stanzas.insert(1, stanza("interface Vlan200", "ip address 192.0.2.1 255.255.255.0"))
+
+
+def other_areas(router: Router) -> None:
+    """An area beside the one of the text, and routes from outside."""
+    part = ospf(router)
+    number = int(router.name[1:]) + 1
+    router.stanzas.insert(
+        1, stanza("interface Vlan201", f"ip address 10.200.{number}.1 255.255.255.0", "ip ospf cost 2")
+    )
+    part.body += [
+        line(f" network 10.200.{number}.1 0.0.0.0 area 0.0.0.5"),
+        line(" area 5 stub no-summary"),
+        line(" area 0 range 10.0.0.0 255.0.0.0"),
+        line(" redistribute static subnets"),
+        line(" default-information originate always"),
+    ]
