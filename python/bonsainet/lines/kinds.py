@@ -54,7 +54,7 @@ KINDS = (
         "WellKnown",
         "a line that fits its form but for a well-known community",
         " set community no-export",
-        "Bonsai does not model what such a community does: write it with lists and maps on the sessions where it acts",
+        "Bonsai does not model what such a community does: write it with lists and maps on the sessions where it acts. `tools/bonsai-import` does so for `no-export`, `no-advertise` and `local-AS`",
     ),
     Kind(
         "Misplaced",
@@ -103,7 +103,7 @@ KINDS = (
         "OtherArea",
         "an OSPF `network` line with another area than the first such line",
         " network 10.0.0.0 0.0.0.3 area 1",
-        "ask about each area by itself: its routers, with the interfaces of that area",
+        "ask about each area by itself: its routers, with the interfaces of that area. `tools/bonsai-import --area N` keeps one",
     ),
     Kind(
         "UndefinedMap",

@@ -30,14 +30,18 @@ REFUSED = (
     _of(
         "top",
         "ip route",
-        "a static route is no route of BGP or OSPF. It may go where nothing redistributes it and the destinations asked about do not follow it. A `network` line that leans on a route to `Null0` needs an interface with that subnet",
+        f"a static route is no route of BGP or OSPF. It may go where nothing redistributes it and no router announces its prefix. {IMPORT}. A `network` line that leans on a route to `Null0` needs an interface with that subnet",
     ),
     _of("top", "ip vrf | vrf", f"cut the VRF whole: its interfaces, its processes and families. {IMPORT}"),
-    _of("top", "ip as-path", f"Bonsai has no filters by path. {OTHERWISE}"),
+    _of(
+        "top",
+        "ip as-path",
+        f"write it as a prefix list where each path of a prefix, or none, has what it asks for. {IMPORT}; else: {ELSE}",
+    ),
     _of(
         "top",
         "ip community-list expanded | ip community-list 100-500",
-        f"write `_A:B_` as a standard list. {IMPORT}; other patterns are outside the profile",
+        f"write the communities of the network in which it is found as a standard list. {IMPORT}; expressions over several communities are outside the profile",
     ),
     _of("top", "ip extcommunity-list", f"extended communities are outside the profile. {OTHERWISE}"),
     _of("top", "ip policy-list", "write its match and set lines into the entries that name it"),
@@ -89,7 +93,7 @@ REFUSED = (
     _of(
         "router bgp",
         "neighbor",
-        f"unfold peer groups and templates, and write a filter by access list as a prefix list. {IMPORT}. `update-source`, `ebgp-multihop`, `allowas-in`, `remove-private-as`, weights and reflectors are outside the profile",
+        f"unfold peer groups and templates, and write a filter by access list as a prefix list. {IMPORT}. `update-source`, `ebgp-multihop`, `allowas-in`, `remove-private-as` and reflectors are outside the profile; weights are preferences where nothing originates with more weight",
     ),
     _of("router bgp", "aggregate-address", f"it adds a route, and with `summary-only` takes others. {OTHERWISE}"),
     _of(
@@ -146,12 +150,12 @@ REFUSED = (
     _of(
         "router ospf",
         "area",
-        f"authentication may go. Stub areas, ranges and virtual links are outside the profile. {OTHERWISE}",
+        f"authentication may go. Of several areas `tools/bonsai-import --area N` keeps one. Ranges and virtual links are outside the profile. {OTHERWISE}",
     ),
     _of(
         "router ospf",
         "max-metric",
-        "the router is no transit: write cost 65535 on each interface with a neighbour, or ask without the router",
+        "the router is no transit: write cost 65535 on each interface with a neighbour, or ask without the router. The prefix of a point-to-point link keeps its cost on devices: ask about other prefixes",
     ),
     _of("router ospf", "distribute-list", f"it filters the table of the device. {OTHERWISE}"),
     _of("router ospf", "maximum-paths", f"a router may hold any of the best routes here: it may go. {IMPORT}"),
@@ -164,12 +168,12 @@ REFUSED = (
     _of(
         "route-map",
         "match",
-        f"write `match ip address` of an access list as a prefix list. {IMPORT}. Do not delete it: its entry then holds for every route. Other matches are outside the profile: cut the entry by decision",
+        f"write `match ip address` of an access list, and `match as-path` where paths are decided, as a prefix list. {IMPORT}. Do not delete it: its entry then holds for every route. Other matches are outside the profile: cut the entry by decision",
     ),
     _of(
         "route-map",
         "set",
-        "MEDs, weights, next hops and origins are outside the profile. Where they choose between routes of this network, the answer is another one",
+        f"write weights as preferences. {IMPORT}. MEDs, next hops and origins are outside the profile. Where they choose between routes of this network, the answer is another one",
     ),
     _of("route-map", "continue", "write the entries out: one for each way through the map"),
 )
