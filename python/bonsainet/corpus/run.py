@@ -21,12 +21,15 @@ from ipaddress import IPv4Interface
 from pathlib import Path
 
 from bonsainet.cli.command_line import Refused
-from bonsainet.importing.folder import Source
+from bonsainet.importing.folder import Folder, Source
 from bonsainet.importing.read import read_folder
 from bonsainet.ask.program import Program
+from bonsainet.configs.text import text_of
 
 DAEMONS = ("zebra", "bgpd", "ospfd", "staticd")
 PLACE = Path("/usr/lib/frr")
+# FRR's JSON has names of its own for well-known communities.
+NAMES = {"noExport": "no-export", "noAdvertise": "no-advertise", "localAs": "local-AS"}
 OWN = re.compile(r"\b42000000\d\d\b")
 
 
@@ -39,8 +42,9 @@ class Rested:
     tied: list[str]
 
 
-def run_on_frr(folder: Path, text: str, program: Program, seconds: int, shared: str = "") -> Rested:
-    """Runs a folder, waits, and compares each router's best BGP route for each prefix with its label at rest.
+def run_on_frr(folder: Path, given: Folder, program: Program, seconds: int, shared: str = "") -> Rested:
+    """Runs a folder, waits, and compares each router's best BGP route for each prefix with its label at rest in the
+    text that was imported from it, with the device's preferences and well-known communities put back.
 
     `shared` is the AS number that `--own-as` parted, put back into the paths of the labels. Refused without root or
     FRR.
@@ -59,7 +63,7 @@ def run_on_frr(folder: Path, text: str, program: Program, seconds: int, shared: 
         for router, space in zip(routers, spaces):
             ends.enter_context(_daemons(folder, router, space, room / router.name))
         time.sleep(seconds)
-        return _compare(routers, room, text, program, shared)
+        return _compare(routers, room, given, program, shared)
 
 
 @contextlib.contextmanager
@@ -147,8 +151,10 @@ def _files(folder: Path, router: Source) -> Iterator[tuple[str, Path | None]]:
             yield daemon, None
 
 
-def _compare(routers: list[Source], room: Path, text: str, program: Program, shared: str) -> Rested:
+def _compare(routers: list[Source], room: Path, given: Folder, program: Program, shared: str) -> Rested:
     found = Rested(0, [], [])
+    text = text_of(given.routers)
+    preferences = {router.name: router.preferences for router in given.routers}
     prefixes = [prefix for one in program.classes(text) for prefix in one.prefixes]
     held = {router.name: _held(room / router.name, prefixes) for router in routers}
     for one in program.classes(text):
@@ -157,9 +163,10 @@ def _compare(routers: list[Source], room: Path, text: str, program: Program, sha
         for router in routers:
             for prefix in one.prefixes:
                 label = OWN.sub(shared, labels[router.name]) if shared else labels[router.name]
+                label = _of_device(label, preferences[router.name], given.held)
                 other = held[router.name][prefix]
                 found.labels += 1
-                if other != label:
+                if other != label and not (_is_own(other) and _is_own(label)):
                     told = f"{router.name} {prefix}: {label} here, {other} on FRR"
                     (found.tied if _key(other) == _key(label) else found.differing).append(told)
     return found
@@ -185,8 +192,33 @@ def _label(paths: list[dict]) -> str:
     if best is None:
         return "none"
     path = best.get("aspath", {}).get("string", "").replace("Local", "")
-    communities = " ".join(best.get("community", {}).get("list", []))
+    communities = " ".join(NAMES.get(word, word) for word in best.get("community", {}).get("list", []))
     return " ".join(f"bgp {best.get('locPrf', 100)} path {path} comms {communities}".split())
+
+
+def _of_device(label: str, preferences: dict[int, int], held: dict[str, str]) -> str:
+    """A label with the preference and the well-known communities that the device has for those of the text, and its
+    path written out."""
+    words = label.split()
+    if words[0] != "bgp":
+        return label
+    at = words.index("comms")
+    path = [number for word in words[3:at] for number in [word.partition("*")[0]] * int(word.partition("*")[2] or 1)]
+    back = {word: name for name, word in held.items()}
+    known = sorted((back.get(word, word) for word in words[at + 1 :]), key=_order)
+    return " ".join(["bgp", str(preferences.get(int(words[1]), int(words[1]))), "path", *path, "comms", *known])
+
+
+def _order(word: str) -> tuple[int, int]:
+    """The order in which FRR shows communities: by value, and well-known ones behind all others."""
+    high, _, low = word.partition(":")
+    return (int(high), int(low)) if low else (0x10000, 0)
+
+
+def _is_own(label: str) -> bool:
+    """Whether a label is that of a router's own route, whose preference and communities are told where it leaves."""
+    words = label.split()
+    return words[0] == "bgp" and words[3:4] == ["comms"]
 
 
 def _key(label: str) -> tuple[object, ...]:

@@ -73,6 +73,8 @@ def outcome(folder: Path, program: Program) -> Outcome:
     how = "accepted"
     if {found.name for found in report.folder.log.refusals} == {"shared-as"}:
         report, how = _import(folder, program, Options(own_as=True)), "accepted with --own-as"
+    if any(found.kind == "OtherArea" for found in report.folder.log.refusals):
+        report, how = _of_one_area(folder, program, report)
     log = report.folder.log
     if log.refusals:
         counted = Counter(reason_of(found.name, found.text, found.kind) for found in log.refusals)
@@ -91,6 +93,16 @@ def outcome(folder: Path, program: Program) -> Outcome:
     return Outcome(
         folder.name, len(report.folder.routers), how, len(classes), [], compare(folder, report.folder.routers, program)
     )
+
+
+def _of_one_area(folder: Path, program: Program, whole: Report) -> tuple[Report, str]:
+    """The import of the first area that is accepted alone, else that of the whole network."""
+    text = "".join(file.read_text("latin-1") for file in sorted(folder.glob("*/*.conf")))
+    for number in sorted({int(found) for found in re.findall(r"(?m)^ .*\barea (\d+)$", text)}):
+        report = _import(folder, program, Options(area=number))
+        if not report.folder.log.refusals:
+            return report, f"area {number} accepted with --area"
+    return whole, "accepted"
 
 
 def _import(folder: Path, program: Program, options: Options) -> Report:
@@ -181,9 +193,7 @@ def _run(folder: Path, program: Program, seconds: int) -> str:
     if report.folder.log.refusals:
         raise Refused(f"{folder.name}: it is not accepted")
     parted = {found.text.split()[2] for found in report.folder.log.assumptions if "--own-as" in found.reason}
-    found = run_on_frr(
-        folder, text_of(report.folder.routers), program, seconds, parted.pop() if len(parted) == 1 else ""
-    )
+    found = run_on_frr(folder, report.folder, program, seconds, parted.pop() if len(parted) == 1 else "")
     lines = [
         f"{folder.name}: {found.labels} labels, {len(found.differing)} differ, {len(found.tied)} have the same key over another path"
     ]
