@@ -114,10 +114,11 @@ def _import(folder: Path, program: Program, options: Options) -> Report:
 def table(found: list[Outcome]) -> str:
     """The outcomes as a page."""
     accepted = [one for one in found if one.status != "refused"]
+    areas = sum(one.status.startswith("area ") for one in accepted)
     with_classes = sum(one.classes > 0 for one in accepted)
     lines = [
-        f"Of {len(found)} networks {len(accepted)} are accepted, with nothing left out but by rules that say the same; {with_classes} of them originate",
-        "an IPv4 prefix in the global table. In the others all routes are those of VRFs or of IPv6.",
+        f"Of {len(found)} networks {len(accepted) - areas} are accepted, with nothing left out but by rules that say the same, and of {areas} more one area.",
+        f"{with_classes} of them originate an IPv4 prefix in the global table. In the others all routes are those of VRFs or of IPv6.",
         "",
     ]
     lines += ["| network | routers | outcome | classes | routes compared | reasons |", "|---|---|---|---|---|---|"]
