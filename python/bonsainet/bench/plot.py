@@ -16,7 +16,7 @@ from bonsainet.ask.program import TOP
 
 PICTURES = TOP / "docs" / "data"
 PAGES = (TOP / "README.md", TOP / "docs" / "inside" / "MEASURED.md")
-SHOWN = {("fat tree", 20), ("fat tree", 30), ("fat tree", 40), ("ring", 1000), ("ring", 4000), ("full mesh", 362)}
+SHOWN = {("fat tree", 40), ("ring", 4000), ("full mesh", 362)}
 MARKS = {"fat tree": ("o", "#1b7837"), "ring": ("s", "#762a83"), "full mesh": ("^", "#b35806")}
 PLOTS = (
     ("time.svg", "seconds", "Time for one class more (filled), and to read and find all classes (hollow)"),

@@ -36,14 +36,17 @@ class Refused(Exception):
 
 
 def version() -> str:
-    """The version of the tools, as git names it, or `unknown` outside a repository."""
+    """The version of the tools: that of the file VERSION, and in a repository the commit by git."""
+    number = (TOP / "VERSION").read_text("utf-8").strip()
+    if not (TOP / ".git").exists():
+        return number
     try:
         told = subprocess.run(
             ["git", "-C", str(TOP), "describe", "--always", "--dirty"], capture_output=True, text=True, check=False
         )
     except OSError:
-        return "unknown"
-    return told.stdout.strip() or "unknown"
+        return number
+    return f"{number} ({told.stdout.strip()})" if told.stdout.strip() else number
 
 
 def parser(

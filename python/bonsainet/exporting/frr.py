@@ -1,4 +1,4 @@
-"""Configurations for FRRouting, as it stands in version 8.4.4: one file `NAME.conf` for each router, for zebra, bgpd
+"""Configurations for FRRouting: one file `NAME.conf` for each router, for zebra, bgpd
 and ospfd.
 
 `RULES` is the table of rewritings. Each line that is not the text's own names the rule that wrote it.
@@ -24,6 +24,9 @@ from bonsainet.exporting.writer import (
 from bonsainet.configs.network import Network, is_in_area
 from bonsainet.configs.profile import AreaLine, Device, Interface, MapEntry, Neighbor, community_text
 from bonsainet.configs.text import Line
+
+# The version of FRR that the exports are written for and were tried with.
+FRR = "8.4.4"
 
 RULES = {
     "frr-header": "A file for all daemons of one router starts with the version and the defaults that it is written for.",
@@ -147,7 +150,7 @@ class _Router:
     def text(self) -> str:
         """The configuration."""
         writer, device = self.writer, self.device
-        writer.add("frr version 8.4.4", device.line, "frr-header")
+        writer.add(f"frr version {FRR}", device.line, "frr-header")
         writer.add("frr defaults traditional", device.line, "frr-header")
         writer.put(f"hostname {device.name}", device.line, "frr-header")
         for member in device.members:

@@ -21,7 +21,7 @@ from bonsainet.ask.program import TOP, Program
 
 RECORDS = TOP / "docs" / "data" / "rounds.json"
 PLOT = TOP / "docs" / "data" / "rounds.svg"
-PAGES = (TOP / "docs" / "use" / "ROUND-TRIP.md", TOP / "README.md")
+PAGES = (TOP / "docs" / "use" / "ROUND-TRIP.md",)
 BEGIN, END = "<!-- rounds: this table is written by dev/round-figures -->", "<!-- rounds: end -->"
 PANELS = (
     ("rest", 1, "seconds until rest"),

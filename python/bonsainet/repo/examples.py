@@ -32,7 +32,7 @@ from pathlib import Path
 
 from bonsainet.cli import command_line
 from bonsainet.cli.command_line import Refused
-from bonsainet.repo.pages import lend, pages, quoted_in, run_shown, shown_in
+from bonsainet.repo.pages import Room, pages, quoted_in, run_shown, shown_in
 from bonsainet.ask.program import TOP
 from bonsainet.ask.where import without_notices
 
@@ -168,9 +168,9 @@ class Asked:
         """The command lines of a page write what it shows."""
         faults: list[str] = []
         with tempfile.TemporaryDirectory(prefix="bonsai-page-") as folder:
-            lend(Path(folder))
+            room = Room.of(Path(folder))
             for shown in shown_in(name, (TOP / name).read_text("utf-8")):
-                kind, said = run_shown(shown, Path(folder), self.program)
+                kind, said = run_shown(shown, room, self.program)
                 if kind != "ok":
                     faults += [f"{kind}: line {shown.line}: {shown.command}", *(f"{kind}:   {line}" for line in said)]
         return faults

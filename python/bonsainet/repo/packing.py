@@ -9,45 +9,68 @@ import os
 import shutil
 import subprocess
 import tempfile
+from collections.abc import Iterator
 from pathlib import Path
 
 from bonsainet.cli.command_line import Refused
 
 LAUNCHER = "bonsai"
+AUTHORS = "The Bonsai developers"
+MAINTAINER = f"{AUTHORS} <maintainers@users.noreply.feltersienna.example>"
 # What is installed of each program NAME, if the repository has it: the source and the place below the prefix.
 PARTS = (
     ("tools/completions/{name}.bash", "share/bash-completion/completions/{name}", 0o644),
     ("tools/completions/_{name}", "share/zsh/site-functions/_{name}", 0o644),
 )
 MANUAL = ("docs/man/{name}.1", "share/man/man1/{name}.1.gz")
+# The tools beside the programs, which begin in the Python package. `SHARE` stands for the repository: it has what the tools read of it.
+SHARE, MODULES = "share/bonsai", "python/bonsainet"
+READ = ("VERSION", "docs/data/bonsai.schema.json", "docs/use/*.md")
+OF_MAINTAINERS = ("repo", "bench", "corpus", "tests", "__pycache__", "conftest.py")
+IN_REPOSITORY, INSTALLED = 'parent.parent / "python"', 'parent.parent / "share" / "bonsai" / "python"'
+COMPLETION = (("bonsai-tools.bash", "share/bash-completion/completions"), ("_bonsai-tools", "share/zsh/site-functions"))
+EXAMPLE, EXAMPLES = "examples/folders/campus", "share/doc/bonsai/examples/campus"
 
-COPYRIGHT = """Bonsai, made from the repository of the Bonsai maintainers <maintainers@users.noreply.feltersienna.example>.
+COPYRIGHT = f"""Format: https://www.debian.org/doc/packaging-manuals/copyright-format/1.0/
+Upstream-Name: bonsai
+Upstream-Contact: {MAINTAINER}
 
-Copyright: the Bonsai maintainers. The repository states no licence: whoever wants to pass the package on asks them.
+Files: *
+Copyright: 2026 {AUTHORS}
+License: none-chosen
+ No licence has been chosen yet, so no right to copy or to change this program
+ is given. Whoever wants to pass the package on asks the developers.
 """
-CHANGES = """bonsai ({version}) unstable; urgency=medium
+CHANGES = f"""bonsai ({{version}}) unstable; urgency=medium
 
-  * The history of changes is that of the repository.
+  * CHANGELOG.md of the repository has the changes.
 
- -- Bonsai maintainers <maintainers@users.noreply.feltersienna.example>  {date}
+ -- {MAINTAINER}  {{date}}
 """
 # (the program is installed as it was linked, byte for byte)
 OVERRIDES = "".join(
     f"bonsai: unstripped-binary-or-object [usr/lib/bonsai/{name}]\n" for name in ("bonsai", "bonsai-ask", "bonsai-all")
 )
-CONTROL = """Package: bonsai
-Version: {version}
+CONTROL = f"""Package: bonsai
+Version: {{version}}
 Architecture: amd64
-Maintainer: Bonsai maintainers <maintainers@users.noreply.feltersienna.example>
-Depends: libc6 (>= 2.34), python3 (>= 3.8)
-Installed-Size: {size}
+Maintainer: {MAINTAINER}
+Depends: libc6 (>= 2.34), python3 (>= 3.11), graphviz, python3-graphviz, python3-jinja2
+Recommends: python3-jsonschema
+Suggests: frr, iproute2, openssh-client, parallel, rsync
+Installed-Size: {{size}}
 Section: net
 Priority: optional
 Description: makes a large network small for those who analyse it
  Reads the configurations of all routers of a network and a class of destination
  prefixes, and writes those of a smaller network that routes to them in the same
- way. The program is proved with {kit}.
+ way. The program is proved with {{kit}}.
 """
+# (byte code that the system's Python keeps beside modules comes and goes with the package)
+SCRIPTS = {
+    "postinst": "py3compile -p bonsai /usr/share/bonsai/python",
+    "prerm": "py3clean -p bonsai /usr/share/bonsai/python",
+}
 
 
 def sum_of(path: Path) -> str:
@@ -66,11 +89,12 @@ class Parts:
 
 
 def version_of(top: Path) -> str:
-    """The version by git, in a form that Debian takes: the time and name of the commit, and `.dirty` where files differ from it."""
+    """The version of the file VERSION, and behind it the time and name of the commit by git, and `.dirty` where files differ from it."""
+    number = (top / "VERSION").read_text("utf-8").strip()
     told = _git(top, "log", "-1", "--format=%cd.%h", "--date=format-local:%Y%m%d%H%M%S")
     if not told:
-        return "0+unknown"
-    return f"0+{told}" + (".dirty" if _git(top, "status", "--porcelain", "-uno") else "")
+        return number
+    return f"{number}+{told}" + (".dirty" if _git(top, "status", "--porcelain", "-uno") else "")
 
 
 def _git(top: Path, *words: str) -> str:
@@ -101,7 +125,7 @@ def write(path: Path, data: bytes, mode: int) -> Path:
 
 
 def install(parts: Parts, prefix: Path) -> list[Path]:
-    """Installs launcher, programs, pages of the manual and completions below the prefix, and returns the files."""
+    """Installs launcher, programs and tools, their pages of the manual and completions, and an example below the prefix, and returns the files."""
     made = [
         write(prefix / "lib/bonsai/version", f"{parts.version}\n".encode(), 0o644),
         write(prefix / "lib/bonsai/kit", f"{parts.kit}\n".encode(), 0o644),
@@ -115,10 +139,48 @@ def install(parts: Parts, prefix: Path) -> list[Path]:
                 made.append(
                     write(prefix / place.format(name=name), (parts.top / source.format(name=name)).read_bytes(), mode)
                 )
-        page, place = parts.top / MANUAL[0].format(name=name), MANUAL[1].format(name=name)
-        if page.is_file():
-            made.append(write(prefix / place, gzip.compress(page.read_bytes(), mtime=0), 0o644))
-    return made
+        made += _manual(parts.top, name, prefix)
+    return [*made, *_tools(parts.top, prefix), *_modules(parts.top, prefix), *_example(parts.top, prefix)]
+
+
+def _manual(top: Path, name: str, prefix: Path) -> Iterator[Path]:
+    """The page of the manual, where there is one."""
+    page = top / MANUAL[0].format(name=name)
+    if page.is_file():
+        yield write(prefix / MANUAL[1].format(name=name), gzip.compress(page.read_bytes(), mtime=0), 0o644)
+
+
+def _tools(top: Path, prefix: Path) -> Iterator[Path]:
+    """The scripts that start the tools, with their pages and completions. bash looks a completion up by the name of the command."""
+    scripts = sorted((top / "tools").glob("bonsai-*"))
+    (in_bash, bash), (in_zsh, zsh) = COMPLETION
+    for script in scripts:
+        text = script.read_text("utf-8")
+        if IN_REPOSITORY not in text:
+            raise Refused(f"{script}: does not say where the Python package is")
+        yield write(prefix / "bin" / script.name, text.replace(IN_REPOSITORY, INSTALLED).encode(), 0o755)
+        yield from _manual(top, script.name, prefix)
+        yield write(prefix / bash / script.name, (top / "tools/completions" / in_bash).read_bytes(), 0o644)
+    if scripts:
+        yield write(prefix / zsh / in_zsh, (top / "tools/completions" / in_zsh).read_bytes(), 0o644)
+
+
+def _modules(top: Path, prefix: Path) -> Iterator[Path]:
+    """The Python package without what only maintainers use, and the files of the repository that it reads."""
+    for folder, below, names in os.walk(top / MODULES):
+        below[:] = sorted(name for name in below if name not in OF_MAINTAINERS)
+        for name in sorted(name for name in names if name not in OF_MAINTAINERS):
+            file = Path(folder, name)
+            yield write(prefix / SHARE / file.relative_to(top), file.read_bytes(), 0o644)
+    for pattern in READ:
+        for file in sorted(top.glob(pattern)):
+            yield write(prefix / SHARE / file.relative_to(top), file.read_bytes(), 0o644)
+
+
+def _example(top: Path, prefix: Path) -> Iterator[Path]:
+    """The folder of the README's steps: its configurations and its decisions."""
+    for file in sorted([*(top / EXAMPLE).glob("decisions"), *(top / EXAMPLE).glob("configs/*")]):
+        yield write(prefix / EXAMPLES / file.relative_to(top / EXAMPLE), file.read_bytes(), 0o644)
 
 
 def make_deb(parts: Parts, folder: Path) -> Path:
@@ -134,6 +196,8 @@ def make_deb(parts: Parts, folder: Path) -> Path:
         size = sum(file.stat().st_size for file in files) // 1024 + 1
         control = CONTROL.format(version=parts.version, size=size, kit=parts.kit.partition(" ")[0])
         write(tree / "DEBIAN/control", control.encode(), 0o644)
+        for name, command in SCRIPTS.items():
+            write(tree / "DEBIAN" / name, f"#!/bin/sh\nset -e\n{command}\n".encode(), 0o755)
         for at, _, _ in os.walk(tree):
             os.chmod(at, 0o755)
         # (times of files are those of the commit, or earlier)

@@ -1,8 +1,9 @@
 """The command lines of the pages, run as they stand there.
 
 In a code block a line `$ COMMAND` is a command, and the lines up to the next one are what it writes to standard output and
-standard error; a line `...` stands for any lines. The commands of a page are run in order in one folder, which has the
-repository's `bonsai`, `examples`, `tools` and `docs`. Those of SET_UP are run by the gate itself.
+standard error; a line `...` stands for any lines. The commands of a page are run in order, each in the folder where the one
+before it ended. The first folder has the repository's `bonsai`, `examples`, `tools` and `docs`, and these programs are on the
+path. Those of SET_UP are run by the gate itself.
 
 A code block that opens with a language and a file, as "rust crates/library_uses/src/values.rt", quotes lines of that file.
 """
@@ -27,6 +28,8 @@ SET_UP = (
     "git clone",
     "apt-get",
     "sudo ",
+    "export PATH=",
+    "cp -r /usr/share/",
     "examples/check",
 )
 LENT = ("bonsai", "examples", "tools", "dev", "docs", "python", "README.md", "crates", "crates.txt")
@@ -118,22 +121,45 @@ def lend(room: Path) -> None:
             (room / name).symlink_to(TOP / name)
 
 
-def run_shown(shown: Shown, room: Path, program: str) -> tuple[str, list[str]]:
+@dataclasses.dataclass
+class Room:
+    """Where the commands of a page run: the folder that has the parts of the repository, and the one of the next command."""
+
+    top: Path
+    now: Path
+
+    @staticmethod
+    def of(top: Path) -> Room:
+        """A folder with the parts of the repository, and a home that is empty."""
+        lend(top)
+        (top / "home").mkdir()
+        return Room(top, top)
+
+    def surroundings(self, program: str) -> dict[str, str]:
+        """The environment of a command."""
+        cache = os.environ.get("XDG_CACHE_HOME") or os.path.expanduser("~/.cache")
+        path = f"{self.top}:{self.top / 'tools'}:{os.environ['PATH']}"
+        own = {"HOME": str(self.top / "home"), "XDG_CACHE_HOME": cache, "PATH": path}
+        return {**os.environ, **own, "BONSAI_PROGRAM": program, "LC_ALL": "C.UTF-8"}
+
+
+def run_shown(shown: Shown, room: Room, program: str) -> tuple[str, list[str]]:
     """Runs a command line. Returns `ok`, `left out` or `not as shown`, and what there is to say."""
     if shown.is_set_up:
         return "left out", ["it is part of the set-up"]
-    env = {**os.environ, "BONSAI_PROGRAM": program, "LC_ALL": "C.UTF-8"}
+    end = room.top / "folder"
     try:
         ran = subprocess.run(
-            ["bash", "-c", shown.command],
-            cwd=room,
-            env=env,
+            ["bash", "-c", f"trap 'pwd >{end}' EXIT\n{shown.command}"],
+            cwd=room.now,
+            env=room.surroundings(program),
             stdin=subprocess.DEVNULL,
             stdout=subprocess.PIPE,
             stderr=subprocess.STDOUT,
             timeout=SECONDS,
             check=False,
         )
+        room.now = Path(end.read_text("utf-8").strip())
     except subprocess.TimeoutExpired:
         return "not as shown", [f"it had not ended after {SECONDS} seconds"]
     found = [line.rstrip() for line in without_notices(ran.stdout).decode("utf-8", "replace").splitlines()]

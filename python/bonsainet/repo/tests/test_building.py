@@ -139,7 +139,7 @@ def test_the_package(tmp_path: Path) -> None:
     assert told.stdout.splitlines()[0] == "bonsai 0+1.abc" and told.stdout.splitlines()[2] == "kit: kit-1"
     wanted = ["Package", "Version", "Depends"]
     fields = subprocess.run(["dpkg-deb", "--field", package, *wanted], capture_output=True, text=True, check=True)
-    assert fields.stdout == "Package: bonsai\nVersion: 0+1.abc\nDepends: libc6 (>= 2.34), python3 (>= 3.8)\n"
+    assert fields.stdout.startswith("Package: bonsai\nVersion: 0+1.abc\nDepends: libc6 (>= 2.34), python3 (>= 3.11), ")
 
 
 @pytest.mark.skipif(not shutil.which("dpkg-deb"), reason="no dpkg-deb here")
@@ -168,6 +168,7 @@ def test_lintian_finds_no_error(tmp_path: Path) -> None:
 
 def test_versions_ascend_within_a_day(tmp_path: Path) -> None:
     versions = []
+    (tmp_path / "VERSION").write_text("0.1.0\n")
     for time_of in ("2026-11-28T01:30:00+02:00", "2026-11-28T00:10:00+00:00", "2026-11-28T09:00:00+00:00"):
         env = {**os.environ, "GIT_AUTHOR_DATE": time_of, "GIT_COMMITTER_DATE": time_of}
         for words in (
@@ -176,7 +177,7 @@ def test_versions_ascend_within_a_day(tmp_path: Path) -> None:
         ):
             subprocess.run(["git", "-C", tmp_path, *words], check=True, env=env)
         versions.append(packing.version_of(tmp_path))
-    assert versions == sorted(versions) and versions[0].startswith("0+20261127233000.")
+    assert versions == sorted(versions) and versions[0].startswith("0.1.0+20261127233000.")
 
 
 # What stands for the kit's rt: it proves all crates of the folder that it is run in, from nothing and with their edits, but what BROKEN names.
@@ -230,7 +231,7 @@ def clone_fixture(tmp_path: Path) -> Path:
     """A repository with ./build, the launcher and two crates, and beside it a kit."""
     clone = tmp_path / "clone"
     shutil.copytree(building.TOP / "python", clone / "python", ignore=shutil.ignore_patterns("tests", "__pycache__"))
-    for name in ("build", "bonsai", "HANDLES"):
+    for name in ("build", "bonsai", "HANDLES", "VERSION"):
         shutil.copy(building.TOP / name, clone / name)
     (clone / "crates.txt").write_text("low:\nbonsai: low\nother: low\n", "utf-8")
     for path in (

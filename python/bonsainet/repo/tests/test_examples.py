@@ -7,7 +7,7 @@ from pathlib import Path
 import pytest
 
 from bonsainet.repo import examples, pages
-from bonsainet.repo.pages import Quoted, Shown, fits, quoted_in, run_shown, shown_in
+from bonsainet.repo.pages import Quoted, Room, Shown, fits, quoted_in, run_shown, shown_in
 from bonsainet.ask.program import TOP
 
 PAGE = """Text.
@@ -72,8 +72,13 @@ def test_a_command_line(tmp_path: Path, command: str, output: list[str], kind: s
     program = tmp_path / "program"
     program.write_text('#!/bin/sh\necho "$@"\n', "utf-8")
     program.chmod(0o755)
-    pages.lend(tmp_path)
-    assert run_shown(Shown("P", 1, command, output), tmp_path, str(program))[0] == kind
+    assert run_shown(Shown("P", 1, command, output), Room.of(tmp_path), str(program))[0] == kind
+
+
+def test_a_command_runs_where_the_one_before_it_ended(tmp_path: Path) -> None:
+    room = Room.of(tmp_path)
+    for command, output in (("mkdir ~/mine && cd ~/mine", []), ("pwd", [str(tmp_path / "home" / "mine")])):
+        assert run_shown(Shown("P", 1, command, output), room, "bonsai")[0] == "ok"
 
 
 def test_code_of_a_page(tmp_path: Path) -> None:
