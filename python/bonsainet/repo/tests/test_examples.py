@@ -77,8 +77,8 @@ def test_a_command_line(tmp_path: Path, command: str, output: list[str], kind: s
 
 def test_a_command_runs_where_the_one_before_it_ended(tmp_path: Path) -> None:
     room = Room.of(tmp_path)
-    for command, output in (("mkdir ~/mine && cd ~/mine", []), ("pwd", [str(tmp_path / "home" / "mine")])):
-        assert run_shown(Shown("P", 1, command, output), room, "bonsai")[0] == "ok"
+    steps = [Shown("P", 1, "mkdir ~/mine && cd ~/mine", []), Shown("P", 2, "pwd", [str(tmp_path / "home" / "mine")])]
+    assert [run_shown(step, room, "bonsai")[0] for step in steps] == ["ok", "ok"]
 
 
 def test_code_of_a_page(tmp_path: Path) -> None:
