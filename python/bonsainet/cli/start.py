@@ -105,6 +105,11 @@ def round_trip(words: list[str] | None = None) -> int:
     return start("round-trip", "bonsainet.lab.tools:round_trip", words)
 
 
+def sentences(words: list[str] | None = None) -> int:
+    """Runs `dev/sentences`."""
+    return start("sentences", "bonsainet.repo.sentences:main", words)
+
+
 def skips(words: list[str] | None = None) -> int:
     """Runs `dev/skips`."""
     return start("skips", "bonsainet.repo.skips:main", words)
