@@ -1,7 +1,12 @@
 """Layers of crates: headings, order, and a picture that is current."""
 
+from __future__ import annotations
+
+import re
+
 import pytest
 
+from bonsainet.ask.program import TOP
 from bonsainet.cli.command_line import Refused
 from bonsainet.repo import architecture
 
@@ -41,3 +46,25 @@ def test_a_drawing_has_a_box_for_each_layer_and_arrows_downward(monkeypatch):
 
 def test_the_mark_of_a_picture_depends_on_its_drawing():
     assert architecture.mark_of("one") != architecture.mark_of("two")
+
+
+def taken(crate: str, of: str) -> set[str]:
+    """What the code of a crate takes from another one by its `use` lines."""
+    names: set[str] = set()
+    for file in (TOP / "crates" / crate / "src").rglob("*.rt"):
+        if "tests" not in file.stem:
+            for found in re.findall(rf"^use {of}::(?:\{{([^}}]*)\}}|(\w+));", file.read_text("utf-8"), re.M | re.S):
+                names |= {name.strip() for name in (found[0] or found[1]).split(",")}
+    return names
+
+
+def test_the_picture_names_functions_that_its_crates_call() -> None:
+    picture = (TOP / "docs/inside/ARCHITECTURE.md").read_text("utf-8").split("```")[1]
+    steps = [
+        (caller[1], crate, name)
+        for line in picture.splitlines()
+        if (caller := re.search(r"\[(\w+)\]", line))
+        for crate, name in re.findall(r"(\w+)::(\w+)", line)
+    ]
+    assert len(steps) > 15
+    assert [step for step in steps if step[2] not in taken(step[0], step[1])] == []
