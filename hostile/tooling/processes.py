@@ -161,15 +161,14 @@ def resumed(chance: random.Random, room: Path, _program: Program) -> list[str]:
     folder = room / "all"
     words = "TEXT MADE --each --jobs 2"
     faults: list[str] = []
-    for _ in range(chance.randint(1, 3)):
-        again = " --resume" if (folder / "plan.json").exists() else ""
+    for turn in range(chance.randint(1, 3)):
+        again = " --resume" if turn else ""
         Run("bonsai-every", words + again, room, folder).killed(chance.choice(SIGNALS), chance.random() * 4)
         faults += _halves(folder, wanted)
         if chance.random() < 0.3:
             _harm(chance, folder)
     for _ in range(20):
-        again = " --resume" if (folder / "plan.json").exists() else ""
-        status, _, err = Run("bonsai-every", words + again, room, folder).whole()
+        status, _, err = Run("bonsai-every", f"{words} --resume", room, folder).whole()
         if b"is at work there" not in err:
             break
         time.sleep(0.5)

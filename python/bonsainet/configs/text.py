@@ -62,7 +62,9 @@ class Stanza:
 
     def starts(self, *words: str) -> bool:
         """Whether the head begins with these words."""
-        return self.head.words[: len(words)] == list(words)
+        text = self.head.text
+        # (most heads begin with another word, which is seen sooner than the words are cut)
+        return not words or words[0] in text and text.split(None, len(words))[: len(words)] == list(words)
 
 
 @dataclasses.dataclass
