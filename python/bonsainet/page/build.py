@@ -13,6 +13,7 @@ from bonsainet.doubts.ties import Tied
 from bonsainet.drawing.graph import Graph, Node, large, small
 from bonsainet.drawing.layout import CLOSED, NotLaidOut, color_of, laid_out, picture
 from bonsainet.drawing.tool import LINKS_DRAWN, ROUTERS_DRAWN, graphs
+from bonsainet.page.members import Numbers, folded
 from bonsainet.ask.program import Group
 from bonsainet.ask.where import Identity
 from bonsainet.cli.command_line import printable
@@ -70,10 +71,9 @@ class Row:
         return f"{self.first.size.routers / self.first.size.groups:.1f}"
 
     @property
-    def colors(self) -> dict[str, str]:
-        """The colour of each router, for the picture of the large network."""
-        colors = color_of(self.first.groups)
-        return {member: colors[group.number] for group in self.first.groups for member in group.members}
+    def colors(self) -> dict[int, str]:
+        """The colour of each group, for the picture of the large network."""
+        return color_of(self.first.groups)
 
 
 def rows(text: Asked, found: list[Compressed], ties: dict[int, list[Tied] | str] | None = None) -> list[Row]:
@@ -97,7 +97,11 @@ def everything(
 ) -> dict[str, Any]:
     """All that the template is given."""
     shown = rows(text, found, ties)
+    numbers = Numbers(text.network.by_name)
     return {
+        "names": numbers.names,
+        "runs": numbers.runs,
+        "folded": folded,
         "program": program,
         "name": printable(text.name).rpartition("/")[2],
         "protocol": {"bgp": "BGP", "ospf": "OSPF", None: "no protocol"}[text.network.protocol],

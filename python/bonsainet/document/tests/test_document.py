@@ -14,6 +14,7 @@ from bonsainet.document.tool import check
 from bonsainet.doubts.tests.test_ties import SETS, text_of
 from bonsainet.drawing.graph import large, large_by_groups, small
 from bonsainet.ask.program import Program
+from bonsainet.nets.campus import campus_text
 from bonsainet.nets.random_networks import random_text
 from bonsainet.tests.asking import bytes_of, compressed, example, place_of, tool
 
@@ -33,6 +34,11 @@ def made(name: str) -> dict:
     return document(text, [compressed(name, found.number) for found in text.classes], Program().identity)
 
 
+def members(whole: dict, group: dict) -> list[str]:
+    """The names of the routers of a group."""
+    return [whole["routers"][number - 1]["name"] for number in group["members"]]
+
+
 @pytest.mark.parametrize("name", NAMES)
 def test_each_example_fits_the_schema(name: str) -> None:
     pytest.importorskip(
@@ -47,10 +53,18 @@ def test_it_says_what_json_says(name: str) -> None:
     told = json.loads(Program().done("json", "F", "1", texts={"F": bytes_of(name)}))
     found = whole["classes"][0]
     assert (found["routers"], found["links"]) == (told["routers"], told["links"])
-    assert [{key: group[key] for key in ("lone", "members", "name", "origin")} for group in found["groups"]] == told[
-        "groups"
-    ]
-    assert [{key: each[key] for key in ("address", "router")} for each in whole["unmatched"]] == told["unmatched"]
+    assert [
+        {
+            "lone": group["lone"],
+            "members": members(whole, group),
+            "name": members(whole, group)[0],
+            "origin": group["origin"],
+        }
+        for group in found["groups"]
+    ] == told["groups"]
+    names = [router["name"] for router in whole["routers"]]
+    unmatched = [{"address": each["address"], "router": names[each["router"] - 1]} for each in whole["unmatched"]]
+    assert unmatched == told["unmatched"]
 
 
 @given(st.integers(0, 10_000))
@@ -61,10 +75,11 @@ def test_random_networks(seed: int) -> None:
     text = asked(Program(), raw, "F")
     for number in range(1, min(3, len(text.classes)) + 1):
         each = text.compress(Program(), number)
-        found = document(text, [each], Program().identity)["classes"][0]
+        whole = document(text, [each], Program().identity)
+        found = whole["classes"][0]
         told = json.loads(Program().done("json", "F", str(number), texts={"F": raw}))
         assert (found["routers"], found["links"]) == (told["routers"], told["links"])
-        assert [group["members"] for group in found["groups"]] == [group["members"] for group in told["groups"]]
+        assert [members(whole, group) for group in found["groups"]] == [group["members"] for group in told["groups"]]
         assert len(found["edges"]) == found["links"]["after"] == sum(edge.count for edge in small(each).edges)
         assert sum(edge.count for edge in large(text.network, each).edges) == sum(
             edge.count for edge in large_by_groups(text.network, each).edges
@@ -72,16 +87,32 @@ def test_random_networks(seed: int) -> None:
 
 
 def test_edges_and_policies_are_those_of_the_compressed_text() -> None:
-    found = made("two-lone-routers.cfg")["classes"][0]
+    whole = made("two-lone-routers.cfg")
+    found = whole["classes"][0]
     assert len(found["edges"]) == found["links"]["after"]
     named = {(end["group"], end["in"]) for edge in found["edges"] for end in (edge["low"], edge["high"]) if end["in"]}
-    assert all(policy in found["policies"][group] for group, policy in named)
-    assert ["route-map POLICY-1 permit 10", " set local-preference 200"] in [*found["policies"]["x"].values()]
+    assert all(policy in found["policies"][str(group)] for group, policy in named)
+    x = next(group["group"] for group in found["groups"] if members(whole, group)[0] == "x")
+    assert ["route-map POLICY-1 permit 10", " set local-preference 200"] in [*found["policies"][str(x)].values()]
 
 
 def test_costs_in_ospf() -> None:
-    edge = made("campus.cfg")["classes"][0]["edges"][-1]
-    assert (edge["low"]["group"], edge["low"]["cost"], edge["high"]["cost"]) == ("dist2", 5, 5)
+    whole = made("campus.cfg")
+    edge = whole["classes"][0]["edges"][-1]
+    assert (edge["low"]["cost"], edge["high"]["cost"]) == (5, 5)
+    assert members(whole, whole["classes"][0]["groups"][edge["low"]["group"] - 1]) == ["dist2"]
+
+
+def test_names_stand_once_however_many_the_classes_are() -> None:
+    """What a class adds for a router is a number, so of twice the routers a class is twice as long, and no more."""
+    lengths = []
+    for access in (8, 16, 32):
+        text = asked(Program(), campus_text(4, access).encode(), "F", [1, 2])
+        told = json.dumps(document(text, text.compress_each(Program(), [1, 2]), Program().identity))
+        assert all(told.count(f'"{name}"') == 1 for name in text.network.by_name)
+        one = json.dumps(json.loads(told)["classes"][1]["groups"])
+        lengths.append(len(one) / len(text.network.by_name))
+    assert max(lengths) < 60 and lengths[2] < lengths[0]
 
 
 def test_one_class_on_one_line() -> None:
@@ -94,7 +125,7 @@ def test_a_class_that_compress_refuses_keeps_its_groups() -> None:
     text = b"hostname a\ninterface Vlan1\n ip address 100.64.0.1 255.255.255.0\nrouter bgp 1\n network 100.64.0.0 mask 255.255.255.0\nend\n"
     ran = tool("bonsai-json", "-", "--check", raw=text)
     found = json.loads(ran.stdout)["classes"][0]
-    assert (found["refused"], found["groups"][0]["members"]) == ("line 3: PoolOverlap", ["a"])
+    assert (found["refused"], found["groups"][0]["members"]) == ("line 3: PoolOverlap", [1])
     assert "edges" not in found
 
 
@@ -109,12 +140,13 @@ def test_ties_stand_before_groups() -> None:
     raw = text_of({"m1 u": "route-map OUT out"}, {"m1": SETS}).encode()
     ran = tool("bonsai-json", "-", "--check", raw=raw)
     assert ran.returncode == 0, ran.stderr
-    found = json.loads(ran.stdout)["classes"][0]
-    over = [["m1", "m2"], ["o"]]
+    whole = json.loads(ran.stdout)
+    found = whole["classes"][0]
+    number_of = {" ".join(members(whole, group)): group["group"] for group in found["groups"]}
+    over = [number_of["m1 m2"], number_of["o"]]
     assert found["ties"] == [
         {
-            "group": "u",
-            "members": ["u"],
+            "group": number_of["u"],
             "decided": ["communities"],
             "held": {"over": over, "communities": []},
             "others": [{"over": over, "communities": ["1:1"]}],

@@ -3,6 +3,7 @@ const table = document.getElementById("classes");
 const body = table.tBodies[0];
 const search = document.getElementById("search");
 const place = document.getElementById("open");
+const routers = JSON.parse(document.getElementById("routers").textContent);
 
 function valueOf(row, column) {
   const cell = row.cells[column];
@@ -31,8 +32,32 @@ function filter() {
   document.getElementById("shown").textContent = `${shown} of ${body.rows.length} ${body.rows.length === 1 ? "row" : "rows"}`;
 }
 
-function color(picture, {colors, origins, lone}) {
-  const fill = JSON.parse(colors);
+// The names of routers whose numbers are told as runs, as in "1-3 7".
+function named(runs) {
+  return runs.split(" ").flatMap((run) => {
+    const [first, last = first] = run.split("-").map(Number);
+    return routers.slice(first - 1, last);
+  });
+}
+
+// Puts the names of routers where their numbers stand, and gives the groups by their numbers.
+function name(part) {
+  const groups = new Map();
+  for (const cell of part.querySelectorAll("[data-members]")) {
+    const names = named(cell.dataset.members);
+    cell.textContent = names.join(" ");
+    if (cell.dataset.group) groups.set(cell.dataset.group, names);
+  }
+  for (const text of part.querySelectorAll("pre")) {
+    const lines = (number) => groups.get(number).map((member) => `! member ${member}`).join("\n");
+    text.textContent = text.textContent.replace(/^! members (\d+)$/gm, (_, number) => lines(number));
+  }
+  return groups;
+}
+
+function color(picture, groups, {colors, origins, lone}) {
+  const fill = {};
+  for (const [number, color] of Object.entries(JSON.parse(colors))) for (const member of groups.get(number)) fill[member] = color;
   const [isOrigin, isLone] = [origins, lone].map((names) => new Set(names.split(" ")));
   for (const node of picture.querySelectorAll("g.node")) {
     const name = node.querySelector("text").textContent;
@@ -47,11 +72,12 @@ function open(row) {
   for (const each of body.rows) each.classList.toggle("is-open", each === row);
   place.replaceChildren(document.getElementById(`row-${row.dataset.row}`).content.cloneNode(true));
   place.hidden = false;
+  const groups = name(place);
   const large = document.getElementById("large");
   const pictures = place.querySelector(".pictures");
   if (large && pictures) {
     pictures.prepend(large.content.cloneNode(true));
-    color(pictures.firstElementChild, pictures.dataset);
+    color(pictures.firstElementChild, groups, pictures.dataset);
   }
   history.replaceState(null, "", `#class-${row.cells[0].dataset.value}`);
 }

@@ -16,10 +16,12 @@ from bonsainet.doubts.tests.test_ties import SETS, text_of
 from bonsainet.doubts.ties import ties_by_class
 from bonsainet.drawing.layout import CLOSED
 from bonsainet.page.build import everything, inline, rows
+from bonsainet.page.members import Numbers, folded, unfolded
 from bonsainet.page.tool import html as page_of, read_report
+from bonsainet.nets.campus import campus_text
 from bonsainet.nets.fat_tree import fat_tree_text
 from bonsainet.configs.compressed import asked
-from bonsainet.ask.program import Program
+from bonsainet.ask.program import Group, Program
 from bonsainet.ask.where import Identity
 from bonsainet.tests.asking import TWO_ALIKE, compressed, example, place_of, tool
 
@@ -44,12 +46,40 @@ def test_classes_of_equal_groups_and_other_costs_have_rows_of_their_own() -> Non
     assert [row.numbers for row in found] == [str(number) for number in range(1, 17)]
 
 
-def test_each_compressed_text_stands_on_the_page_as_it_is() -> None:
-    made = page("campus.cfg")
-    told = [html.unescape(found) for found in re.findall(r"<pre>(.*?)</pre>", made, re.S)]
-    assert sorted(told) == sorted(
-        compressed("campus.cfg", found.number).text for found in example("campus.cfg").classes
-    )
+def test_each_compressed_text_stands_on_the_page_with_its_members_by_number() -> None:
+    told = [html.unescape(found) for found in re.findall(r"<pre>(.*?)</pre>", page("campus.cfg"), re.S)]
+    whole = [compressed("campus.cfg", found.number) for found in example("campus.cfg").classes]
+    assert [unfolded(text, found.groups) for text, found in zip(told, whole, strict=True)] == [
+        found.text for found in whole
+    ]
+    assert all("! member " not in text for text in told)
+
+
+@pytest.mark.parametrize("text", ["hostname a\n! member a\n! member c\nend\n", "hostname a\n! members 1\nend\n"])
+def test_lines_that_are_none_of_a_group_stay(text: str) -> None:
+    groups = [Group(1, True, False, ("a", "b"))]
+    assert folded(text, groups) == text
+    assert unfolded(folded("! member a\n! member b\n", groups), groups) == "! member a\n! member b\n"
+
+
+def test_numbers_of_routers() -> None:
+    numbers = Numbers(["a", "b", "c", "d"])
+    assert numbers.runs(["a", "b", "d"]) == "1-2 4" and numbers.runs(["c"]) == "3" and numbers.runs(["b", "a"]) == "2 1"
+
+
+def test_names_stand_once_however_many_the_classes_are() -> None:
+    """Of twice the routers, with twice the classes, a row is as long, and the page not more than twice."""
+    lengths = []
+    for access in (3, 6):
+        text = asked(Program(), campus_text(2, access).encode(), "F")
+        found = text.compress_each(Program(), [each.number for each in text.classes])
+        made = page_of(everything(text, found, None, Program().identity))
+        origins = {router for each in text.classes for router, _ in each.origins}
+        shown = re.sub(r"<svg.*?</svg>", "", made, flags=re.S)
+        # (the page names a router once, and each that is the first of its group in compressed texts)
+        assert all(shown.count(f'"{name}"') <= 1 + 3 * (name in origins) for name in text.network.by_name)
+        lengths.append(len(shown) / len(found))
+    assert lengths[1] < 1.3 * lengths[0]
 
 
 def test_names_stay_as_they_are_in_pictures() -> None:
@@ -71,7 +101,11 @@ def test_ties_are_told_first() -> None:
     found = text.compress_each(Program(), [1])
     made = page_of(everything(text, found, None, Program().identity, ties_by_class(Program(), text, found)))
     assert "In 1 of 1 classes routers hold a tied route" in made
-    row = "<tr><td>u</td><td>communities</td><td>over (m1 m2) o</td><td>over (m1 m2) o with 1:1</td></tr>"
+    number = [*text.network.by_name].index("u") + 1
+    row = (
+        f'<tr><td data-members="{number}"></td>'
+        "<td>communities</td><td>over (m1 m2) o</td><td>over (m1 m2) o with 1:1</td></tr>"
+    )
     assert 0 < made.index(row) < made.index("<h3>Groups</h3>")
 
 
@@ -204,7 +238,7 @@ def test_sorting_searching_and_opening(browser: object, tmp_path: Path) -> None:
     assert fills["core1"] == fills["core2"] != "#ffffff" and fills["dist1"] == "#ffffff" and len(fills) == 6
     assert len(browser.find_elements("css selector", "#open figure:nth-child(2) g.node")) == 5
     browser.find_element("css selector", "#open summary").click()
-    assert shown(browser, "#open pre")[0].startswith("hostname core1")
+    assert shown(browser, "#open pre")[0] == compressed("campus.cfg", 10).text.strip()
     browser.find_element("css selector", "#open button.copy").click()
     deadline = time.monotonic() + 10
     while shown(browser, "#open button.copy") == ["Copy"] and time.monotonic() < deadline:
