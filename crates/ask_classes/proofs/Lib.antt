@@ -1,0 +1,3 @@
+mod Losses
+mod Parts
+mod Trying

@@ -1,0 +1,4 @@
+pub mod Failing
+pub mod Scenes
+pub mod Tasks
+pub mod Tries

@@ -1,0 +1,107 @@
+//! The answers of a class without each one link more.
+
+ghost use Rattle.std.specs.Prelude.{◌≡◌, ◌<◌, ◌≤◌, ◌^◌, ◌++◌, IfOk, OnOk, length};
+ghost use Rattle.ask_classes.specs.Failing.{is_link_left, link_losses, loss_of_link, link_rank, trial_line};
+ghost use Rattle.ask_classes.specs.Scenes.{IsAsking};
+ghost use Rattle.ask_classes.specs.Tries.{StepsOver, trial_of, WritesTrials};
+
+use crate::asking::{Asking, is_marked, with_mark};
+use crate::tally::Tally;
+use ask_names::name_at;
+use base_kit::NoMemory;
+use cfg_ast::Link;
+use solution_answers::{Answer, is_yes, put, verdict_word};
+use std::alloc::Global;
+
+// Neither the link nor a router at its ends is down.
+fn is_link_left(routers: &[bool], links: &[bool], place: usize, link: Link) -> bool
+    ensures { result ≡ is_link_left routers.now links.now (place, link) }
+{
+    !is_marked(links, place)
+        && !is_marked(routers, link.low as usize)
+        && !is_marked(routers, link.high as usize)
+}
+
+// Which of the links between its routers a link is, counted from 1.
+fn link_rank(links: &[Link], place: usize, link: Link) -> usize
+    requires { place < length links.now }
+    ensures { result ≡ link_rank links.now place link }
+{
+    links[..place + 1]
+        .iter()
+        .filter(|other| link.low == other.low && link.high == other.high)
+        .count()
+}
+
+// Appends the line of a trial if its answer is not `yes`.
+fn put_trial(
+    alloc: Global,
+    bytes: &mut Vec<u8>,
+    asking: &Asking,
+    place: usize,
+    link: Link,
+    answer: &Answer,
+) -> Result<(), NoMemory>
+    requires asking { IsAsking asking.now }
+    requires place { place < length asking.now.scene.now.links.now }
+    ensures { OnOk result (bytes.new.items ≡ bytes.old.items ++ trial_line (loss_of_link asking.now.problems.now.whole.now.names asking.now.scene.now.links.now asking.now.scene.now.routers_down.now asking.now.scene.now.links_down.now (place, link), trial_of answer.now)) }
+{
+    if is_yes(answer.verdict) {
+        return Ok(());
+    }
+    let low = name_at(asking.scene.network, link.low);
+    let high = name_at(asking.scene.network, link.high);
+    let rank = link_rank(asking.scene.links, place, link);
+    let word = verdict_word(answer.verdict);
+    let line = format!(in alloc; "link {low} {high} {rank} {word}\n")?;
+    put(bytes, line.as_bytes())
+}
+
+// Tries the loss of a link, if it is left.
+fn try_link(
+    alloc: Global,
+    bytes: &mut Vec<u8>,
+    asking: &Asking,
+    place: usize,
+    link: Link,
+    tally: Tally,
+) -> Result<Tally, NoMemory>
+    requires asking { IsAsking asking.now }
+    requires place { place < length asking.now.scene.now.links.now }
+    requires tried { tally.tried < 2 ^ 32 }
+    requires failed { tally.failed ≤ tally.tried }
+    requires tied { tally.tied ≤ tally.tried }
+    ensures { IfOk result (StepsOver asking.now.problems.now.whole.now asking.now.asks.now (is_link_left asking.now.scene.now.routers_down.now asking.now.scene.now.links_down.now (place, link))
+        (loss_of_link asking.now.problems.now.whole.now.names asking.now.scene.now.links.now asking.now.scene.now.routers_down.now asking.now.scene.now.links_down.now (place, link)) bytes.old.items bytes.new.items tally) }
+{
+    let routers = asking.scene.routers_down;
+    let links = asking.scene.links_down;
+    if !is_link_left(routers, links, place, link) {
+        return Ok(tally);
+    }
+    let more = with_mark(alloc, links, place)?;
+    let answer = asking.without(alloc, routers, &more)?;
+    put_trial(alloc, bytes, asking, place, link, &answer)?;
+    Ok(tally.with(&answer))
+}
+
+/// Appends the lines of the links without which the answer is not `yes`.
+///
+/// # Errors
+/// Out of memory.
+pub(crate) fn put_link_trials(
+    alloc: Global,
+    bytes: &mut Vec<u8>,
+    asking: &Asking,
+) -> Result<Tally, NoMemory>
+    requires { IsAsking asking.now }
+    ensures { IfOk result (WritesTrials asking.now.problems.now.whole.now asking.now.asks.now
+        (link_losses asking.now.problems.now.whole.now.names asking.now.scene.now.links.now asking.now.scene.now.routers_down.now asking.now.scene.now.links_down.now) bytes.old.items bytes.new.items) }
+{
+    let links = asking.scene.links;
+    let mut tally = Tally::none();
+    for place in 0..links.len() {
+        tally = try_link(alloc, bytes, asking, place, links[place], tally)?;
+    }
+    Ok(tally)
+}
