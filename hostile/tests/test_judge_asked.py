@@ -4,10 +4,11 @@ import random
 
 import pytest
 
+from hostile.asked_run import text_of
 from hostile.judge import answers, asked, asked_words, questions, rests
 from hostile.judge.rests import Down
 from hostile.makers import asked as maker
-from hostile.makers import disputes
+from hostile.makers import disputes, shut
 
 NOTHING = Down()
 
@@ -141,3 +142,29 @@ def test_makers_give_texts_and_words_that_are_mostly_right():
         except (asked_words.NoForm, asked_words.Unanswered):
             pass
     assert good > 20
+
+
+def test_a_loss_is_what_the_text_says_in_which_the_session_is_shut_or_the_interface_is_passive():
+    """`without A:B` against the text with `neighbor .. shutdown` (BGP) or `passive-interface` (OSPF)."""
+    seen = {"bgp": 0, "ospf": 0}
+    for seed in range(150):
+        chance = random.Random(seed)
+        text = text_of(chance)
+        net = answers.read(text)
+        if isinstance(net, answers.Expected) or answers.has_many_communities(net) or not net.classes:
+            continue
+        pair = shut.pair_to_lose(chance, net)
+        if pair is None:
+            continue
+        less = answers.read(shut.shut(text, net, pair))
+        assert not isinstance(less, answers.Expected)
+        lost = [number for number, link in enumerate(net.links) if {link[0], link[1]} == set(pair)]
+        assert len(less.links) == len(net.links) - len(lost) and len(less.classes) == len(net.classes)
+        try:
+            for number in range(len(net.classes)):
+                kept = questions.keys(net, number, Down(links=frozenset(lost)))
+                assert sorted(kept) == sorted(questions.keys(less, number, NOTHING))
+                seen[net.protocol] += 1
+        except rests.TooLarge:
+            pass
+    assert min(seen.values()) > 10
